@@ -1,0 +1,2 @@
+pub mod Color
+pub mod Blending

@@ -1,0 +1,73 @@
+// One frame, and its spelling in bytes.
+ghost use Rattle.std.specs.Prelude.{◌≡◌, ◌<◌, ◌^◌, ◌++◌, length, OnOk, OnErr};
+ghost use Rattle.dp_frame.specs.Frames.{IsFrame, spelling};
+
+use crate::Octets;
+use byteorder::{BigEndian, ByteOrder};
+use std::alloc::AllocError;
+use std::marker::Model;
+
+/// A frame: its type byte, its context byte and its payload of at most 65,535 bytes.
+#[derive(Drop, Debug)]
+pub struct Frame {
+    kind: u8,
+    user: u8,
+    body: Octets,
+}
+
+impl Model for Frame {
+    ghost use Rattle.dp_frame.specs.Frames.{FrameParts};
+    ghost use Rattle.std.specs.Prelude.{◌<◌, ◌^◌, length};
+
+    ghost Value = { FrameParts };
+
+    ghost view = { λ f. record { kind = f.kind; user = f.user; body = f.body } };
+
+    ghost invariant = { λ f. length f.body < 2 ^ 16 };
+}
+
+impl Frame {
+    /// The frame of this type byte, context byte and payload.
+    pub fn new(kind: u8, user: u8, body: Octets) -> Frame
+        requires { length body < 2 ^ 16 }
+        ensures { result ≡ record { kind = kind; user = user; body = body } }
+    {
+        Frame { kind, user, body }
+    }
+
+    /// The type byte.
+    pub fn kind(&self) -> u8
+        ensures value { result ≡ self.now.kind }
+        ensures fits { IsFrame self.now }
+    {
+        self.kind
+    }
+
+    /// The context byte.
+    pub fn user(&self) -> u8
+        ensures value { result ≡ self.now.user }
+        ensures fits { IsFrame self.now }
+    {
+        self.user
+    }
+
+    /// The payload.
+    pub fn body(&self) -> &Octets
+        ensures value { result.now ≡ self.now.body }
+        ensures fits { IsFrame self.now }
+    {
+        &self.body
+    }
+}
+
+/// Adds the bytes of the frame at the end. An error, want of memory, changes nothing.
+/// The rule: docs/protocol.md, "Frames".
+pub fn write_frame(frame: &Frame, out: &mut Octets) -> Result<(), AllocError>
+    ensures ok { OnOk result (out.new ≡ out.old ++ spelling frame.now) }
+    ensures err { OnErr result (out.new ≡ out.old) }
+{
+    let body = frame.body.as_slice();
+    let mut header = [0, 0, frame.kind, frame.user];
+    BigEndian::write_u16(&mut header, body.len() as u16);
+    out.append_both(&header, body)
+}

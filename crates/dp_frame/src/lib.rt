@@ -1,0 +1,15 @@
+//! The frames of a stream of bytes: a frame is the length of its payload in two bytes (big-endian,
+//! the four bytes of the header not counted), a type byte, a context byte, and the payload.
+#![tactic(auto)]
+
+mod frame;
+mod laws;
+mod octets;
+mod splitter;
+#[cfg(test)]
+mod tests;
+
+pub use frame::{Frame, write_frame};
+pub use laws::one_splitting;
+pub use octets::Octets;
+pub use splitter::Splitter;

@@ -1,0 +1,116 @@
+// Bytes that come in pieces, taken as frames.
+ghost use Rattle.std.specs.Prelude.{◌≡◌, ◌+◌, ◌<◌, ◌^◌, ◌++◌, [], length, IfSome, IfNone, IfOk, OnOk, OnErr};
+ghost use Rattle.dp_frame.specs.Frames.{IsFrame, spelling, HoldsNoFrame, IsFrameLength};
+
+use crate::{Frame, Octets};
+use byteorder::{BigEndian, ByteOrder};
+use bytes::BytesMut;
+use std::alloc::{AllocError, Global};
+use std::marker::Model;
+
+// The length in two bytes, the type byte and the context byte.
+pub(crate) const HEADER_LEN: usize = 4;
+
+/// Bytes that come in pieces, given back as frames, in whatever pieces they came.
+/// The rule: docs/protocol.md, "Frames".
+#[derive(Drop, Debug)]
+pub struct Splitter {
+    buffer: BytesMut,
+    at: u64,
+}
+
+impl Model for Splitter {
+    ghost use Rattle.std.specs.Prelude.{◌+◌, ◌<◌, ◌^◌, length};
+    ghost use Rattle.dp_frame.specs.Stream.{Stream};
+
+    ghost Value = { Stream };
+
+    ghost view = { λ s. record { held = s.buffer.items; at = s.at } };
+
+    ghost invariant = { λ s. s.at + length s.buffer.items < 2 ^ 64 };
+}
+
+impl Splitter {
+    /// Holds no byte, and has taken none.
+    pub fn new(alloc: Global) -> Splitter
+        ensures held { result.held ≡ [] }
+        ensures at { result.at ≡ 0 }
+    {
+        Splitter {
+            buffer: BytesMut::new(alloc),
+            at: 0,
+        }
+    }
+
+    /// Adds the bytes behind those that are held. An error, want of memory, changes nothing.
+    pub fn feed(&mut self, bytes: &[u8]) -> Result<(), AllocError>
+        requires { self.old.at + length self.old.held + length bytes.now < 2 ^ 64 }
+        ensures ok { OnOk result (self.new.held ≡ self.old.held ++ bytes.now) }
+        ensures at { self.new.at ≡ self.old.at }
+        ensures err { OnErr result (self.new ≡ self.old) }
+    {
+        self.buffer.extend_from_slice(bytes)
+    }
+
+    /// Takes the first frame, if a whole one is held. An error, want of memory, changes nothing.
+    pub fn take_frame(&mut self) -> Result<Option<Frame>, AllocError>
+        // The frame is the front of what was held, and the rest is kept.
+        ensures front { IfOk result (λ taken. IfSome taken
+            (λ f. self.old.held ≡ spelling f ++ self.new.held)) }
+        ensures fits { IfOk result (λ taken. IfSome taken IsFrame) }
+        ensures raised { IfOk result (λ taken. IfSome taken
+            (λ f. self.new.at ≡ self.old.at + length (spelling f))) }
+
+        // There is none only where no whole frame is held.
+        ensures none { IfOk result (λ taken. IfNone taken (HoldsNoFrame self.old.held)) }
+        ensures kept { IfOk result (λ taken. IfNone taken (self.new ≡ self.old)) }
+        ensures err { OnErr result (self.new ≡ self.old) }
+    {
+        let held = self.buffer.as_slice();
+        let Some(len) = whole_len(held) else {
+            return Ok(None);
+        };
+        let frame = read_frame(*self.buffer.allocator(), &held[..len])?;
+        self.buffer.advance(len);
+        self.at += len as u64;
+        Ok(Some(frame))
+    }
+
+    /// How many bytes are held.
+    pub fn rest_len(&self) -> usize
+        ensures value { result ≡ length self.now.held }
+        ensures fits { self.now.at + length self.now.held < 2 ^ 64 }
+    {
+        self.buffer.len()
+    }
+
+    /// How many bytes were taken as frames.
+    pub fn at(&self) -> u64
+        ensures value { result ≡ self.now.at }
+        ensures fits { self.now.at + length self.now.held < 2 ^ 64 }
+    {
+        self.at
+    }
+}
+
+// How many bytes the frame has that stands in front, if it is whole.
+fn whole_len(bytes: &[u8]) -> Option<usize>
+    ensures whole { IfSome result (λ len. IsFrameLength bytes.now len) }
+    ensures none { IfNone result (HoldsNoFrame bytes.now) }
+{
+    if bytes.len() < HEADER_LEN {
+        return None;
+    }
+    let len = HEADER_LEN + BigEndian::read_u16(bytes) as usize;
+    if len <= bytes.len() { Some(len) } else { None }
+}
+
+// The frame that the bytes spell.
+fn read_frame(alloc: Global, bytes: &[u8]) -> Result<Frame, AllocError>
+    requires { IsFrameLength bytes.now (length bytes.now) }
+    ensures value { IfOk result (λ f. bytes.now ≡ spelling f) }
+    ensures fits { IfOk result IsFrame }
+{
+    let body = Vec::from_slice(alloc, &bytes[HEADER_LEN..])?;
+    Ok(Frame::new(bytes[2], bytes[3], Octets::from_vec(body)))
+}

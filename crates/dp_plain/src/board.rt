@@ -1,0 +1,70 @@
+// The board, kept as a plain list of pixels for each layer.
+ghost use Rattle.std.specs.Prelude.{◌≡◌};
+ghost use Rattle.dp_plain.specs.Board.{empty_board};
+
+use dp_blend::Pixel;
+use dp_msg_draw::Title;
+use std::alloc::Global;
+use std::marker::Model;
+
+/// A layer: its id, its title, and its pixels, row by row from the top, each from the left.
+#[derive(Debug, Drop)]
+pub struct PlainRow {
+    pub id: u16,
+    pub title: Title,
+    pub pixels: Vec<Pixel>,
+}
+
+impl Model for PlainRow {
+    ghost use Rattle.dp_plain.specs.Board.{Row};
+
+    ghost Value = { Row };
+
+    ghost view = { λ r. record { id = r.id; title = r.title; pixels = r.pixels.items } };
+}
+
+/// The canvas with its layers, the bottom one first. It is seen as a `Board`; its sides are at most
+/// 4096 pixels, it has at most 256 layers, and each layer has a pixel for each place.
+#[derive(Debug, Drop)]
+pub struct PlainBoard {
+    pub(crate) width: u32,
+    pub(crate) height: u32,
+    pub(crate) rows: Vec<PlainRow>,
+}
+
+impl Model for PlainBoard {
+    ghost use Rattle.dp_plain.specs.Board.{Board, IsWhole};
+
+    ghost Value = { Board };
+
+    ghost view = { λ b. record { width = b.width; height = b.height; rows = b.rows.items } };
+
+    ghost invariant = { λ b. IsWhole (record { width = b.width; height = b.height; rows = b.rows.items }) };
+}
+
+impl PlainBoard {
+    /// The board before anything is drawn: 0 by 0, without layers.
+    pub fn new(alloc: Global) -> Self
+        ensures { result ≡ empty_board }
+    {
+        PlainBoard {
+            width: 0,
+            height: 0,
+            rows: Vec::new(alloc),
+        }
+    }
+
+    /// The width in pixels.
+    pub fn width(&self) -> u32
+        ensures { result ≡ self.now.width }
+    {
+        self.width
+    }
+
+    /// The height in pixels.
+    pub fn height(&self) -> u32
+        ensures { result ≡ self.now.height }
+    {
+        self.height
+    }
+}
