@@ -1,13 +1,13 @@
-// A library with one function.
+//! The program: its words, its status, what it reads and what it writes.
 #![tactic(auto)]
 
-ghost use Rattle.std.specs.Prelude.{◌≡◌};
-ghost use Rattle.dp_app.specs.Echo.{echo_of};
+mod history;
+mod program;
+mod reading;
+mod replay;
+mod run_end;
+mod saying;
+mod words;
 
-// The `ensures` clause is the contract: what `echo` returns is `echo_of` of its argument, a definition
-// in `specs/Echo.antt`, which a caller's clause can cite too.
-pub fn echo(x: usize) -> usize
-    ensures { result ≡ echo_of x }
-{
-    x
-}
+pub use program::{Outcome, drawpile};
+pub use run_end::RunEnd;

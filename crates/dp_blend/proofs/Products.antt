@@ -1,5 +1,5 @@
 -- Products of numbers of which 32768 is one.
-use Rattle.std.proofs.Common.{◌≡◌, ℕ, ◌+◌, ◌-◌, ◌*◌, ◌/◌, ◌≤◌, arith}
+use Rattle.std.proofs.Common.{ℕ, ◌+◌, ◌-◌, ◌*◌, ◌≤◌, arith}
 use Rattle.std.proofs.Math.Nat.{mul-add, mul_comm, div-mul-le_self, mul-le-mul_left, mul-le-mul_right}
 use Rattle.dp_blend.specs.Color.{mul}
 use Rattle.dp_blend.specs.Blending.{over}
@@ -21,3 +21,17 @@ multiply_within sc sa dc da p q r s =
     let source : mul sc dc + mul sc (32768 - da) ≤ sc = mul_parts sc dc (32768 - da) (omega arith) in
     let rest : mul dc (32768 - sa) ≤ mul da (32768 - sa) = mul_mono dc da (32768 - sa) r in
     omega (arith, source, rest)
+
+-- the part of the source that the destination lets through, and the rest of the destination, stay within its alpha
+pub recolor_within : (sc sa dc da : ℕ) → sc ≤ sa → sa ≤ 32768 → dc ≤ da → mul sc da + mul dc (32768 - sa) ≤ da
+recolor_within sc sa dc da p q r =
+    let source : mul da sc + mul da (32768 - sa) ≤ da = mul_parts da sc (32768 - sa) (omega arith) in
+    let rest : mul dc (32768 - sa) ≤ mul da (32768 - sa) = mul_mono dc da (32768 - sa) r in
+    omega (arith, source, rest, mul_comm sc da)
+
+-- a part of one does not make a number greater
+pub mul_le : (a m : ℕ) → m ≤ 32768 → mul a m ≤ a
+mul_le a m h = omega (arith, mul_parts a m 0 (omega arith))
+
+pub mul_le_right : (a m : ℕ) → a ≤ 32768 → mul a m ≤ m
+mul_le_right a m h = rw (mul_comm a m) (mul_le m a h)

@@ -22,3 +22,12 @@ pub row_blended-more : (mode : Mode) (src : Channels) (mask : List ℕ) (row now
 row_blended-more mode src mask row now k d e h i blended here written =
     let step = row_blended-take-suc mode src mask row k d h i in
     rw (written, add-one) (sym (rw (← blended, ← here) at step))
+
+-- at each place stands the pixel that the mask and the old pixel there give
+pub get_or-row_blended : (mode : Mode) (src : Channels) (mask : List ℕ) (row : List Channels) (k : ℕ) (d : Channels)
+    → k < length mask → k < length row
+    → get_or (row_blended mode src mask row) k d ≡ masked mode src (get_or mask k 0) (get_or row k d)
+get_or-row_blended mode src [] row k d h i = absurd (omega arith)
+get_or-row_blended mode src (m ∷ ms) [] k d h i = absurd (omega arith)
+get_or-row_blended mode src (m ∷ ms) (e ∷ es) zero d h i = refl
+get_or-row_blended mode src (m ∷ ms) (e ∷ es) (suc k) d h i = get_or-row_blended mode src ms es k d (omega arith) (omega arith)

@@ -1,11 +1,12 @@
-ghost use Rattle.std.specs.Prelude.{◌≡◌, ◌≤◌, ℕ, length, All};
-ghost use Rattle.dp_blend.specs.Color.{IsPixel};
+ghost use Rattle.std.specs.Prelude.{◌≡◌, ◌<◌, ◌≤◌, ℕ, length, slice_index, slice_index_or, All};
+ghost use Rattle.dp_blend.specs.Color.{Channels, IsPixel};
 ghost use Rattle.dp_blend.specs.Blending.{blend, channel_blended, masked, row_blended, over};
 
-use crate::color::{Pixel, fade, mul};
+use crate::color::{ONE, Pixel, fade, mul};
 use crate::modes::Mode;
 
 /// The destination after blending the source with it.
+/// The rule: docs/protocol.md, "Numbers and blending".
 #[inline]
 pub fn blend(mode: Mode, src: Pixel, dst: Pixel) -> Pixel
     ensures value { result ≡ blend mode src dst }
@@ -26,7 +27,7 @@ fn erased(src: Pixel, dst: Pixel) -> Pixel
     ensures value { result ≡ blend Mode.Erase src dst }
     ensures pixel { IsPixel result }
 {
-    fade(dst, 32768 - src.a())
+    fade(dst, ONE - src.a())
 }
 
 #[inline]
@@ -34,7 +35,7 @@ fn normal(src: Pixel, dst: Pixel) -> Pixel
     ensures value { result ≡ blend Mode.Normal src dst }
     ensures pixel { IsPixel result }
 {
-    let rest = 32768 - src.a();
+    let rest = ONE - src.a();
     Pixel::of(
         src.r() + mul(dst.r(), rest),
         src.g() + mul(dst.g(), rest),
@@ -53,7 +54,7 @@ fn channel_multiplied(sc: u16, sa: u16, dc: u16, da: u16) -> u16
     ensures value { result ≡ channel_blended Mode.Multiply sc sa dc da }
     ensures within { result ≤ over sa da }
 {
-    mul(sc, dc) + mul(sc, 32768 - da) + mul(dc, 32768 - sa)
+    mul(sc, dc) + mul(sc, ONE - da) + mul(dc, ONE - sa)
 }
 
 #[inline]
@@ -66,7 +67,7 @@ fn multiplied(src: Pixel, dst: Pixel) -> Pixel
         channel_multiplied(src.r(), sa, dst.r(), da),
         channel_multiplied(src.g(), sa, dst.g(), da),
         channel_multiplied(src.b(), sa, dst.b(), da),
-        sa + mul(da, 32768 - sa),
+        sa + mul(da, ONE - sa),
     )
 }
 
@@ -75,7 +76,7 @@ fn added(src: Pixel, dst: Pixel) -> Pixel
     ensures value { result ≡ blend Mode.Add src dst }
     ensures pixel { IsPixel result }
 {
-    let a = src.a() + mul(dst.a(), 32768 - src.a());
+    let a = src.a() + mul(dst.a(), ONE - src.a());
     Pixel::of(
         src.r().saturating_add(dst.r()).min(a),
         src.g().saturating_add(dst.g()).min(a),
@@ -94,7 +95,7 @@ fn channel_recolored(sc: u16, sa: u16, dc: u16, da: u16) -> u16
     ensures value { result ≡ channel_blended Mode.Recolor sc sa dc da }
     ensures within { result ≤ da }
 {
-    mul(sc, da) + mul(dc, 32768 - sa)
+    mul(sc, da) + mul(dc, ONE - sa)
 }
 
 #[inline]
@@ -128,7 +129,10 @@ fn masked(mode: Mode, src: Pixel, by: u16, dst: Pixel) -> Pixel
 pub fn row_blend(mode: Mode, src: Pixel, mask: &[u16], row: &mut [Pixel])
     requires same_length { length mask.now ≡ length row.old }
     requires within { All (λ m. m ≤ 32768) mask.now }
-    ensures { row.new ≡ row_blended mode src mask.now row.old }
+    ensures value { row.new ≡ row_blended mode src mask.now row.old }
+    ensures places { (k : ℕ) (d : Channels) → k < length row.old →
+        slice_index_or row.new k d
+        ≡ masked mode src (slice_index mask.now k) (slice_index_or row.old k d) }
 {
     for k in 0..row.len() {
         row[k] = masked(mode, src, mask[k], row[k]);

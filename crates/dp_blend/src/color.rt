@@ -1,5 +1,5 @@
 ghost use Rattle.std.specs.Prelude.{◌≡◌, ◌≤◌, ◌↔◌, IsSome, IfSome};
-ghost use Rattle.dp_blend.specs.Color.{IsPixel, clear, white, mul, from8, to8, fade, of_argb};
+ghost use Rattle.dp_blend.specs.Color.{IsPixel, clear, mul, from8, to8, fade, of_argb};
 
 use std::marker::Model;
 
@@ -57,6 +57,7 @@ impl Pixel {
     }
 
     /// The pixel with these channels and this alpha, which make one.
+    #[inline]
     pub(crate) fn of(r: u16, g: u16, b: u16, a: u16) -> Pixel
         requires { IsPixel (record { r = r; g = g; b = b; a = a }) }
         ensures value { result ≡ record { r = r; g = g; b = b; a = a } }
@@ -64,7 +65,8 @@ impl Pixel {
         Pixel { r, g, b, a }
     }
 
-    /// The red channel.
+    /// The red channel, at most alpha.
+    #[inline]
     pub fn r(self) -> u16
         ensures value { result ≡ self.r }
         ensures pixel { IsPixel self }
@@ -72,7 +74,8 @@ impl Pixel {
         self.r
     }
 
-    /// The green channel.
+    /// The green channel, at most alpha.
+    #[inline]
     pub fn g(self) -> u16
         ensures value { result ≡ self.g }
         ensures pixel { IsPixel self }
@@ -80,7 +83,8 @@ impl Pixel {
         self.g
     }
 
-    /// The blue channel.
+    /// The blue channel, at most alpha.
+    #[inline]
     pub fn b(self) -> u16
         ensures value { result ≡ self.b }
         ensures pixel { IsPixel self }
@@ -88,12 +92,21 @@ impl Pixel {
         self.b
     }
 
-    /// The alpha.
+    /// Alpha, at most 32768.
+    #[inline]
     pub fn a(self) -> u16
         ensures value { result ≡ self.a }
         ensures pixel { IsPixel self }
     {
         self.a
+    }
+}
+
+impl Default for Pixel {
+    ghost is_default = { λ p. p ≡ clear };
+
+    fn default() -> Self {
+        Pixel::CLEAR
     }
 }
 

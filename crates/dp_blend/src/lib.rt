@@ -1,12 +1,17 @@
 //! Pixels with premultiplied alpha, and the six ways to blend them.
 //!
 //! A channel or an alpha is a number from 0 to 32768, which stands for one.
+//! The rule: docs/protocol.md, "Numbers and blending".
 #![tactic(auto)]
 
 mod blending;
 mod color;
+pub mod laws;
 mod modes;
 
 pub use blending::{blend, row_blend};
-pub use color::{Pixel, fade, from8, of_argb, to8};
+pub use color::{ONE, Pixel, fade, from8, of_argb, to8};
 pub use modes::Mode;
+
+#[cfg(test)]
+mod tests;

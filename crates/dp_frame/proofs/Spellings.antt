@@ -1,15 +1,16 @@
 -- One frame and the bytes behind it.
-use Rattle.std.proofs.Common.{◌≡◌, ℕ, ◌+◌, ◌*◌, ◌/◌, ◌%◌, ◌^◌, ◌<◌, ◌≤◌, List, [], ◌∷◌, ◌++◌, length, take, drop, get_or, slice_index, refl, sym, ap, ◌∙◌, subst, arith, length-append}
-use Rattle.std.proofs.lemmas.List.{take_at, drop_at, take-append-drop}
+use Rattle.std.proofs.Common.{◌≡◌, ℕ, ◌+◌, ◌*◌, ◌/◌, ◌%◌, ◌<◌, ◌≤◌, List, [], ◌∷◌, ◌++◌, length, get_or, take, drop, refl, sym, ap, ◌∙◌, arith, length-append}
+use Rattle.std.proofs.lemmas.List.{take_at, drop_at, take-append-drop, length-take-le}
 use Rattle.byteorder.specs.Endian.{big_number}
 use Rattle.dp_frame.specs.Frames.{FrameParts, IsFrame, spelling, HoldsNoFrame}
 
 -- two joined lists are one, and so are their front parts of one length
-append_same : (as bs xs ys : List ℕ) → length as ≡ length bs → as ++ xs ≡ bs ++ ys → (as ≡ bs) × (xs ≡ ys)
-append_same as bs xs ys lengths whole =
-    let n = length bs in
-    (sym (take_at as xs n lengths) ∙ ap (take n) whole ∙ take_at bs ys n refl,
-     sym (drop_at as xs n lengths) ∙ ap (drop n) whole ∙ drop_at bs ys n refl)
+append_same : (fs gs xs ys : List ℕ) → length fs ≡ length gs → fs ++ xs ≡ gs ++ ys → (fs ≡ gs) × (xs ≡ ys)
+append_same fs gs xs ys lengths whole =
+    let n = length gs in (
+      sym (take_at fs xs n lengths) ∙ ap (take n) whole ∙ take_at gs ys n refl,
+      sym (drop_at fs xs n lengths) ∙ ap (drop n) whole ∙ drop_at gs ys n refl,
+    )
 
 -- frames with the same parts are one
 same_frame : (f g : FrameParts) → f.kind ≡ g.kind → f.user ≡ g.user → f.body ≡ g.body → f ≡ g
@@ -49,20 +50,33 @@ no_frame_partial bytes partial f more fits whole =
     let number : big_number 2 bytes ≡ length f.body = ap (big_number 2) whole ∙ first_number f more fits in
     omega (arith, ap length whole, length-append (spelling f) more)
 
--- the frame whose header and payload the bytes are
-abbrev pub frame_of : List ℕ → FrameParts
-frame_of bytes = record { kind = slice_index bytes 2; user = slice_index bytes 3; body = drop 4 bytes }
+-- a header with the payload that it announces behind it is a frame, and the rest follows
+pub frame_in_front : (a b c d : ℕ) (tail : List ℕ) → a < 256 → b < 256 → a * 256 + b ≤ length tail → (f : FrameParts) × (more : List ℕ) × IsFrame f × (a ∷ b ∷ c ∷ d ∷ tail ≡ spelling f ++ more)
+frame_in_front a b c d tail small_a small_b enough =
+    let n = a * 256 + b in
+    let body = take n tail in
+    let len : length body ≡ n = length-take-le n tail enough in
+    let high : a ≡ length body / 256 % 256 = omega arith in
+    let low : b ≡ length body % 256 = omega arith in (
+      record { kind = c; user = d; body = body },
+      drop n tail,
+      omega arith,
+      ap (λ (x : ℕ). x ∷ b ∷ c ∷ d ∷ tail) high
+          ∙ ap (λ (x : ℕ). (length body / 256 % 256) ∷ x ∷ c ∷ d ∷ tail) low
+          ∙ ap (λ (t : List ℕ). (length body / 256 % 256) ∷ (length body % 256) ∷ c ∷ d ∷ t) (sym (take-append-drop n tail)),
+    )
 
--- bytes that are a header and the payload that it announces spell a frame
-pub frame_whole : (bytes : List ℕ) → ((i : ℕ) → get_or bytes i 0 < 256) → 4 ≤ length bytes → length bytes ≡ big_number 2 bytes + 4 → IsFrame (frame_of bytes) × (bytes ≡ spelling (frame_of bytes))
-frame_whole [] small long number = absurd (omega arith)
-frame_whole (a ∷ []) small long number = absurd (omega arith)
-frame_whole (a ∷ b ∷ []) small long number = absurd (omega arith)
-frame_whole (a ∷ b ∷ c ∷ []) small long number = absurd (omega arith)
-frame_whole (a ∷ b ∷ c ∷ d ∷ body) small long number =
-    let high : a < 256 = small 0 in
-    let low : b < 256 = small 1 in
-    let first : a ≡ length body / 256 % 256 = omega arith in
-    let second : b ≡ length body % 256 = omega arith in
-    (omega arith,
-     ap (λ (x : ℕ). x ∷ b ∷ c ∷ d ∷ body) first ∙ ap (λ (x : ℕ). (length body / 256 % 256) ∷ x ∷ c ∷ d ∷ body) second)
+-- bytes that have all that the header announces hold a frame
+pub holds_frame : (bytes : List ℕ) → ((i : ℕ) → get_or bytes i 0 < 256) → 4 ≤ length bytes → big_number 2 bytes + 4 ≤ length bytes → HoldsNoFrame bytes → ⊥
+holds_frame [] small long enough none = absurd (omega arith)
+holds_frame (a ∷ []) small long enough none = absurd (omega arith)
+holds_frame (a ∷ b ∷ []) small long enough none = absurd (omega arith)
+holds_frame (a ∷ b ∷ c ∷ []) small long enough none = absurd (omega arith)
+holds_frame (a ∷ b ∷ c ∷ d ∷ tail) small long enough none =
+    let found = frame_in_front a b c d tail (small 0) (small 1) (omega arith) in
+    none found.0 found.1 found.2 found.3
+
+-- what is taken from the front is a frame, and the rest is behind it
+pub frame_and_rest : (held rest : List ℕ) (len : ℕ) (f : FrameParts) → take len held ≡ spelling f → rest ≡ drop len held → held ≡ spelling f ++ rest
+frame_and_rest held rest len f front back =
+    sym (take-append-drop len held) ∙ ap (λ (b : List ℕ). b ++ drop len held) front ∙ ap (λ (b : List ℕ). spelling f ++ b) (sym back)

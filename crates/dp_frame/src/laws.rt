@@ -8,5 +8,33 @@ pub fn one_splitting()
     ensures { (bytes : List ℕ) (frames others : List FrameParts) (rest last : List ℕ)
         → Splits bytes frames rest → Splits bytes others last
         → (frames ≡ others) × (rest ≡ last) }
-{
-}
+{}
+
+/// Each list of bytes has a splitting.
+pub fn every_splitting()
+    ensures { (bytes : List ℕ) → All (λ byte. byte < 256) bytes
+        → (frames : List FrameParts) × (rest : List ℕ) × Splits bytes frames rest }
+{}
+
+/// Bytes that hold no frame are no frames and themselves as the rest.
+pub fn no_frames()
+    ensures { (bytes : List ℕ) → HoldsNoFrame bytes → Splits bytes [] bytes }
+{}
+
+/// A frame stands in front of bytes exactly where it is the first of the frames: the bytes behind it
+/// have the other frames and the same rest.
+pub fn first_frame()
+    ensures put { (f : FrameParts) (bytes : List ℕ) (frames : List FrameParts) (rest : List ℕ)
+        → IsFrame f → Splits bytes frames rest → Splits (spelling f ++ bytes) (f ∷ frames) rest }
+    ensures taken { (f : FrameParts) (bytes : List ℕ) (frames : List FrameParts) (rest : List ℕ)
+        → IsFrame f → Splits (spelling f ++ bytes) frames rest
+        → (others : List FrameParts) × (frames ≡ f ∷ others) × Splits bytes others rest }
+{}
+
+/// Where more bytes come, the frames so far stay, and the rest with those bytes has the frames that
+/// come behind them.
+pub fn further_frames()
+    ensures { (bytes more : List ℕ) (frames others : List FrameParts) (rest last : List ℕ)
+        → Splits bytes frames rest → Splits (rest ++ more) others last
+        → Splits (bytes ++ more) (frames ++ others) last }
+{}

@@ -1,5 +1,5 @@
 // Bytes that come in pieces, taken as frames.
-ghost use Rattle.std.specs.Prelude.{◌≡◌, ◌+◌, ◌<◌, ◌^◌, ◌++◌, [], length, IfSome, IfNone, IfOk, OnOk, OnErr};
+ghost use Rattle.std.specs.Prelude.{◌≡◌, ◌+◌, ◌<◌, ◌^◌, ◌++◌, [], length, IfSome, IfNone, OnSome, IfOk, OnOk, OnErr};
 ghost use Rattle.dp_frame.specs.Frames.{IsFrame, spelling, HoldsNoFrame, IsFrameLength};
 
 use crate::{Frame, Octets};
@@ -64,7 +64,13 @@ impl Splitter {
         // There is none only where no whole frame is held.
         ensures none { IfOk result (λ taken. IfNone taken (HoldsNoFrame self.old.held)) }
         ensures kept { IfOk result (λ taken. IfNone taken (self.new ≡ self.old)) }
+
+        // It asks for memory only where a whole frame is held.
+        ensures memory { OnErr result (¬ HoldsNoFrame self.old.held) }
         ensures err { OnErr result (self.new ≡ self.old) }
+
+        // No byte is lost or counted twice.
+        ensures count { self.new.at + length self.new.held ≡ self.old.at + length self.old.held }
     {
         let held = self.buffer.as_slice();
         let Some(len) = whole_len(held) else {
@@ -96,6 +102,7 @@ impl Splitter {
 // How many bytes the frame has that stands in front, if it is whole.
 fn whole_len(bytes: &[u8]) -> Option<usize>
     ensures whole { IfSome result (λ len. IsFrameLength bytes.now len) }
+    ensures some { OnSome result (¬ HoldsNoFrame bytes.now) }
     ensures none { IfNone result (HoldsNoFrame bytes.now) }
 {
     if bytes.len() < HEADER_LEN {

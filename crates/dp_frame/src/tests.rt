@@ -1,0 +1,96 @@
+use super::*;
+use std::process::Abort;
+use std::test::Fail;
+
+// Three frames of user 1, at the places 0, 20 and 29: kinds 0x81, 0x82 and 0x89, with payloads of 16,
+// 5 and 23 bytes.
+const STREAM: [u8; 56] = [
+    0x00, 0x10, 0x81, 0x01, 0x00, 0x00, 0x00, 0x00, 0x00, 0x00, 0x00, 0x02, 0x00, 0x00, 0x00, 0x01,
+    0x00, 0x00, 0x00, 0x00, 0x00, 0x05, 0x82, 0x01, 0x01, 0x01, 0x00, 0x00, 0x00, 0x00, 0x17, 0x89,
+    0x01, 0x01, 0x01, 0x01, 0x00, 0x00, 0x00, 0x00, 0x00, 0x00, 0x00, 0x00, 0x00, 0x00, 0x00, 0x01,
+    0x00, 0x00, 0x00, 0x01, 0xff, 0xff, 0x00, 0x00,
+];
+
+// Feeds a piece to a splitter that holds little.
+fn feed(rt: &impl Abort, splitter: &mut Splitter, piece: &[u8]) -> Result<(), Fail> {
+    assert!(rt; splitter.at() < 1_000_000 && splitter.rest_len() < 1_000_000);
+    splitter.feed(piece)?;
+    Ok(())
+}
+
+// Takes the frames that are whole, and compares each with the next one of the stream.
+fn take_frames(rt: &impl Abort, splitter: &mut Splitter, mut seen: usize) -> Result<usize, Fail> {
+    let expected = [(0x81, 4, 20), (0x82, 24, 29), (0x89, 33, 56)];
+    for _ in 0..4 {
+        let Some(frame) = splitter.take_frame()? else {
+            break;
+        };
+        assert!(rt; seen < expected.len());
+        let (kind, start, end) = expected[seen];
+        assert!(rt; start <= end && end <= STREAM.len());
+        assert_eq!(rt; (frame.kind(), frame.user()), (kind, 1));
+        assert_eq!(rt; frame.body().as_slice(), &STREAM[start..end]);
+        seen += 1;
+    }
+    Ok(seen)
+}
+
+#[test]
+fn the_frames_do_not_depend_on_the_pieces(rt: HostRuntime) -> Result<(), Fail> {
+    for piece_len in 1..58 {
+        // The last byte is missing, and then it is not.
+        for (end, frames, at, rest) in [(55, 2, 29, 26), (56, 3, 56, 0)] {
+            let mut splitter = Splitter::new(rt.alloc());
+            let mut seen = 0;
+            for piece in STREAM[..end].chunks(piece_len) {
+                feed(&rt, &mut splitter, piece)?;
+                seen = take_frames(&rt, &mut splitter, seen)?;
+            }
+            assert_eq!(rt; seen, frames, "pieces of {piece_len} of {end} bytes");
+            assert_eq!(rt; (splitter.at(), splitter.rest_len()), (at, rest));
+        }
+    }
+    Ok(())
+}
+
+#[test]
+fn frames_are_written_as_they_are_read(rt: HostRuntime) -> Result<(), Fail> {
+    let mut splitter = Splitter::new(rt.alloc());
+    feed(&rt, &mut splitter, &STREAM)?;
+    let mut out = Octets::new(rt.alloc());
+    assert!(rt; out.is_empty());
+    for _ in 0..3 {
+        let frame = splitter.take_frame()?.ok_or("a frame")?;
+        write_frame(&frame, &mut out)?;
+    }
+    assert_eq!(rt; out.as_slice(), STREAM.as_slice());
+    assert_eq!(rt; out.copy()?.as_slice(), STREAM.as_slice());
+    out.append(&[7])?;
+    assert_eq!(rt; out.len(), 57);
+    Ok(())
+}
+
+#[test]
+fn payloads_of_the_least_and_greatest_length(rt: HostRuntime) -> Result<(), Fail> {
+    for (len, header) in [
+        (0, [0x00, 0x00, 0x80, 0x01]),
+        (65_535, [0xff, 0xff, 0x80, 0x01]),
+    ] {
+        let body = vec![in rt.alloc(); 9u8; len]?;
+        let mut out = Octets::new(rt.alloc());
+        write_frame(&Frame::new(0x80, 1, Octets::from_vec(body)), &mut out)?;
+        assert_eq!(rt; out.len(), len + 4);
+        assert_eq!(rt; &out.as_slice()[..4], header.as_slice());
+
+        let mut splitter = Splitter::new(rt.alloc());
+        feed(&rt, &mut splitter, out.as_slice())?;
+        let frame = splitter.take_frame()?.ok_or("a frame")?;
+        assert_eq!(rt;
+            (frame.kind(), frame.user(), frame.body().len()),
+            (0x80, 1, len)
+        );
+        assert!(rt; frame.body().as_slice().iter().all(|byte| *byte == 9));
+        assert_eq!(rt; splitter.rest_len(), 0);
+    }
+    Ok(())
+}

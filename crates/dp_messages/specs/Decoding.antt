@@ -1,10 +1,10 @@
--- What a frame tells, and what decoding it answers.
-use Rattle.std.specs.Prelude.{◌≡◌, ℕ, List, ◌⊎◌, false, IsTrue, Result, Ok, Err, ⊤}
+-- What a frame carries, and why it carries nothing that is built.
+use Rattle.std.specs.Prelude.{◌≡◌, ℕ, ◌⊎◌, false, IsTrue, Result, Ok, Err, ⊤}
 use Rattle.dp_frame.specs.Frames.{FrameParts}
-use Rattle.dp_messages.specs.declared.msg.Msg.{Msg}
-use Rattle.dp_messages.specs.declared.msg.Entry.{Entry}
-use Rattle.dp_messages.specs.declared.decode.DecodeError.{DecodeError}
-use Rattle.dp_messages.specs.declared.decode.DecodeError.TheVariants.{Unknown, Malformed, Unbuilt, Memory}
+use Rattle.dp_messages.specs.declared.message.Msg.{Msg}
+use Rattle.dp_messages.specs.declared.message.Entry.{Entry}
+use Rattle.dp_messages.specs.declared.decoding.DecodeError.{DecodeError}
+use Rattle.dp_messages.specs.declared.decoding.DecodeError.TheVariants.{Unknown, Malformed, Unbuilt, Memory}
 use Rattle.dp_messages.specs.Messages.{Spells, IsBuilt, is_unknown, is_built_kind}
 
 -- the frame carries the entry: its context id is the sender, and its payload spells the message, which is built
@@ -26,3 +26,11 @@ abbrev pub IsUnbuilt : FrameParts → Type 0
 IsUnbuilt frame =
     ((is_unknown frame.kind ≡ false) × (is_built_kind frame.kind ≡ false))
     ⊎ ((m : Msg) × Spells frame.kind frame.body m × (IsBuilt m → ⊥))
+
+-- what decoding a frame answers
+abbrev pub Answers : FrameParts → Result Msg DecodeError → Type 0
+Answers frame (Ok m) = Spells frame.kind frame.body m × IsBuilt m
+Answers frame (Err (Unknown k)) = (k ≡ frame.kind) × IsTrue (is_unknown k)
+Answers frame (Err (Malformed k)) = (k ≡ frame.kind) × IsTrue (is_built_kind k) × SpellsNothing frame
+Answers frame (Err (Unbuilt k)) = (k ≡ frame.kind) × IsUnbuilt frame
+Answers frame (Err Memory) = ⊤

@@ -1,30 +1,25 @@
 -- The messages of a session: their type numbers, their payloads, and which of them are built.
-use Rattle.std.specs.Prelude.{◌≡◌, ℕ, ◌<◌, Bool, true, false, ◌&&◌, ◌||◌, nat_lt, ◌==◌, List, [], ◌∷◌, ⊤, IsTrue}
-use Rattle.dp_messages.specs.declared.msg.Msg.{Msg}
-use Rattle.dp_messages.specs.declared.msg.Msg.TheVariants as msg
+use Rattle.std.specs.Prelude.{◌≡◌, ℕ, ◌<◌, Bool, false, ◌&&◌, ◌||◌, nat_lt, ◌==◌, List, [], ◌∷◌, ⊤}
+use Rattle.dp_messages.specs.declared.message.Msg.{Msg}
+use Rattle.dp_messages.specs.declared.message.Msg.TheVariants as msg
 use Rattle.dp_msg_draw.specs.declared.draw.Draw.{Draw}
 use Rattle.dp_msg_draw.specs.declared.draw.Draw.TheVariants.{CanvasResize, LayerCreate, FillRect}
-use Rattle.dp_msg_draw.specs.Spells as draw
-
--- the byte of a flag
-abbrev pub flag : Bool → ℕ
-flag false = 0
-flag true = 1
+use Rattle.dp_msg_draw.specs.Limits.{flag}
+use Rattle.dp_msg_draw.specs.Spelling as drawing
 
 -- the type number of a message
 abbrev pub kind_of : Msg → ℕ
 kind_of msg.Point = 128
 kind_of (msg.Undo target redo) = 255
-kind_of (msg.Draw command) = draw.kind_number command
+kind_of (msg.Draw command) = drawing.kind_number command
 
 -- the payload of this type spells the message
 abbrev pub Spells : ℕ → List ℕ → Msg → Type 0
 Spells kind payload msg.Point = (kind ≡ 128) × (payload ≡ [])
 Spells kind payload (msg.Undo target redo) = (kind ≡ 255) × (target < 256) × (payload ≡ target ∷ flag redo ∷ [])
-Spells kind payload (msg.Draw command) = draw.Spells kind payload command
+Spells kind payload (msg.Draw command) = drawing.Spells kind payload command
 
--- Of the drawing commands these are built: a resize, a layer that is no group and stands below none, and a fill that
--- blends by mode 1.
+-- Of the drawing commands these are built: a resize, a layer that is no group and is below none, and a fill of mode 1.
 abbrev pub IsBuiltCommand : Draw → Type 0
 IsBuiltCommand (CanvasResize top right bottom left) = ⊤
 IsBuiltCommand (LayerCreate id parent group title) = (parent ≡ 0) × (group ≡ false)

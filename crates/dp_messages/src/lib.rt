@@ -1,10 +1,10 @@
 //! The messages of a session, and the frames that carry them.
 #![tactic(auto)]
 
-mod decode;
-mod encode;
-mod msg;
+mod decoding;
+mod encoding;
+mod message;
 
-pub use decode::{DecodeError, decode};
-pub use encode::encode;
-pub use msg::{Entry, Msg};
+pub use decoding::{DecodeError, decode};
+pub use encoding::encode;
+pub use message::{Entry, Msg};

@@ -1,9 +1,319 @@
-use crate::Title;
+//! The drawing messages.
 
+ghost use Rattle.std.specs.Prelude.{◌≡◌, ◌↔◌, IsTrue, IfOk};
+ghost use Rattle.dp_msg_draw.specs.Limits.{IsListedKind, IsListedMode};
+ghost use Rattle.dp_msg_draw.specs.Spelling.{kind_number};
+
+use crate::lists::{Colors, Dabs, TilePixel, TilePixels, Title};
+use std::alloc::AllocError;
+
+/// What a tile is filled with.
+#[derive(Debug, Drop)]
+pub enum TileContent {
+    /// Each pixel is this one.
+    Solid(TilePixel),
+    /// The pixels, row by row.
+    Pixels(TilePixels),
+}
+
+/// A drawing message. Each is relayed to everybody and drawn by each client.
+/// The rule: docs/protocol.md, Drawing messages.
 #[derive(Debug, Drop)]
 pub enum Draw {
-    CanvasResize { top: i32, right: i32, bottom: i32, left: i32 },
-    LayerCreate { id: u16, parent: u16, group: bool, title: Title },
-    LayerDelete { id: u16 },
-    FillRect { layer: u16, mode: u8, x: u32, y: u32, w: u32, h: u32, color: u32 },
+    /// The canvas grows by this many pixels on each side, or shrinks where a number is negative.
+    CanvasResize {
+        top: i32,
+        right: i32,
+        bottom: i32,
+        left: i32,
+    },
+    LayerCreate {
+        id: u16,
+        parent: u16,
+        group: bool,
+        title: Title,
+    },
+    LayerAttr {
+        id: u16,
+        opacity: u8,
+        mode: u8,
+        hidden: bool,
+    },
+    LayerTitle {
+        id: u16,
+        title: Title,
+    },
+    LayerMove {
+        id: u16,
+        parent: u16,
+        above: u16,
+    },
+    LayerDelete {
+        id: u16,
+    },
+    /// An image of w by h colours, row by row.
+    PutImage {
+        layer: u16,
+        mode: u8,
+        x: u32,
+        y: u32,
+        w: u32,
+        h: u32,
+        colors: Colors,
+    },
+    FillRect {
+        layer: u16,
+        mode: u8,
+        x: u32,
+        y: u32,
+        w: u32,
+        h: u32,
+        color: u32,
+    },
+    /// The tile at a column and a row, and `repeat` further ones.
+    PutTile {
+        layer: u16,
+        col: u16,
+        row: u16,
+        repeat: u16,
+        content: TileContent,
+    },
+    /// The colour below the layers, an ARGB number.
+    Background {
+        color: u32,
+    },
+    DabsRound {
+        layer: u16,
+        x: i32,
+        y: i32,
+        r: u8,
+        g: u8,
+        b: u8,
+        mode: u8,
+        dabs: Dabs,
+    },
+    DabsSquare {
+        layer: u16,
+        x: i32,
+        y: i32,
+        r: u8,
+        g: u8,
+        b: u8,
+        mode: u8,
+        dabs: Dabs,
+    },
+    /// The rectangle of w by h pixels at (sx, sy) goes to (tx, ty).
+    MoveRect {
+        layer: u16,
+        sx: u32,
+        sy: u32,
+        w: u32,
+        h: u32,
+        tx: i32,
+        ty: i32,
+    },
+}
+
+impl TileContent {
+    /// Equal content.
+    pub fn copy(&self) -> Result<TileContent, AllocError>
+        ensures { IfOk result (λ c. c ≡ self.now) }
+    {
+        match self {
+            TileContent::Solid(pixel) => Ok(TileContent::Solid(*pixel)),
+            TileContent::Pixels(pixels) => Ok(TileContent::Pixels(pixels.copy()?)),
+        }
+    }
+}
+
+impl Draw {
+    /// An equal message.
+    pub fn copy(&self) -> Result<Draw, AllocError>
+        ensures { IfOk result (λ m. m ≡ self.now) }
+    {
+        match self {
+            Draw::CanvasResize {
+                top,
+                right,
+                bottom,
+                left,
+            } => Ok(Draw::CanvasResize {
+                top: *top,
+                right: *right,
+                bottom: *bottom,
+                left: *left,
+            }),
+            Draw::LayerCreate {
+                id,
+                parent,
+                group,
+                title,
+            } => Ok(Draw::LayerCreate {
+                id: *id,
+                parent: *parent,
+                group: *group,
+                title: title.copy()?,
+            }),
+            Draw::LayerAttr {
+                id,
+                opacity,
+                mode,
+                hidden,
+            } => Ok(Draw::LayerAttr {
+                id: *id,
+                opacity: *opacity,
+                mode: *mode,
+                hidden: *hidden,
+            }),
+            Draw::LayerTitle { id, title } => Ok(Draw::LayerTitle {
+                id: *id,
+                title: title.copy()?,
+            }),
+            Draw::LayerMove { id, parent, above } => Ok(Draw::LayerMove {
+                id: *id,
+                parent: *parent,
+                above: *above,
+            }),
+            Draw::LayerDelete { id } => Ok(Draw::LayerDelete { id: *id }),
+            Draw::PutImage {
+                layer,
+                mode,
+                x,
+                y,
+                w,
+                h,
+                colors,
+            } => Ok(Draw::PutImage {
+                layer: *layer,
+                mode: *mode,
+                x: *x,
+                y: *y,
+                w: *w,
+                h: *h,
+                colors: colors.copy()?,
+            }),
+            Draw::FillRect {
+                layer,
+                mode,
+                x,
+                y,
+                w,
+                h,
+                color,
+            } => Ok(Draw::FillRect {
+                layer: *layer,
+                mode: *mode,
+                x: *x,
+                y: *y,
+                w: *w,
+                h: *h,
+                color: *color,
+            }),
+            Draw::PutTile {
+                layer,
+                col,
+                row,
+                repeat,
+                content,
+            } => Ok(Draw::PutTile {
+                layer: *layer,
+                col: *col,
+                row: *row,
+                repeat: *repeat,
+                content: content.copy()?,
+            }),
+            Draw::Background { color } => Ok(Draw::Background { color: *color }),
+            Draw::DabsRound {
+                layer,
+                x,
+                y,
+                r,
+                g,
+                b,
+                mode,
+                dabs,
+            } => Ok(Draw::DabsRound {
+                layer: *layer,
+                x: *x,
+                y: *y,
+                r: *r,
+                g: *g,
+                b: *b,
+                mode: *mode,
+                dabs: dabs.copy()?,
+            }),
+            Draw::DabsSquare {
+                layer,
+                x,
+                y,
+                r,
+                g,
+                b,
+                mode,
+                dabs,
+            } => Ok(Draw::DabsSquare {
+                layer: *layer,
+                x: *x,
+                y: *y,
+                r: *r,
+                g: *g,
+                b: *b,
+                mode: *mode,
+                dabs: dabs.copy()?,
+            }),
+            Draw::MoveRect {
+                layer,
+                sx,
+                sy,
+                w,
+                h,
+                tx,
+                ty,
+            } => Ok(Draw::MoveRect {
+                layer: *layer,
+                sx: *sx,
+                sy: *sy,
+                w: *w,
+                h: *h,
+                tx: *tx,
+                ty: *ty,
+            }),
+        }
+    }
+}
+
+/// Whether a kind is one of the drawing messages.
+pub fn is_listed(kind: u8) -> bool
+    ensures { IsTrue result ↔ IsListedKind kind }
+{
+    matches!(kind, 129..=134 | 136 | 137 | 146 | 147 | 149 | 150 | 152)
+}
+
+/// Whether a number is that of a blend mode.
+pub(crate) fn is_listed_mode(mode: u8) -> bool
+    ensures { IsTrue result ↔ IsListedMode mode }
+{
+    matches!(mode, 0 | 1 | 2 | 9 | 10 | 255)
+}
+
+/// The number of a message's kind.
+pub fn kind_of_draw(m: &Draw) -> u8
+    ensures kind { result ≡ kind_number m.now }
+    ensures listed { IsListedKind result }
+{
+    match m {
+        Draw::CanvasResize { .. } => 129,
+        Draw::LayerCreate { .. } => 130,
+        Draw::LayerAttr { .. } => 131,
+        Draw::LayerTitle { .. } => 132,
+        Draw::LayerMove { .. } => 133,
+        Draw::LayerDelete { .. } => 134,
+        Draw::PutImage { .. } => 136,
+        Draw::FillRect { .. } => 137,
+        Draw::PutTile { .. } => 146,
+        Draw::Background { .. } => 147,
+        Draw::DabsRound { .. } => 149,
+        Draw::DabsSquare { .. } => 150,
+        Draw::MoveRect { .. } => 152,
+    }
 }

@@ -1,24 +1,21 @@
+//! The drawing messages of the protocol: what each is, and its one spelling as a payload.
 #![tactic(auto)]
 
-ghost use Rattle.std.specs.Prelude.{◌≡◌, ◌≤◌, length, ℕ, List};
-
+mod cursor;
 mod draw;
+mod error;
+mod field;
+mod laws;
+mod lists;
+mod reading;
+mod writing;
 
-pub use draw::Draw;
+pub use draw::{Draw, TileContent, is_listed, kind_of_draw};
+pub use error::PayloadError;
+pub use laws::one_spelling;
+pub use lists::{Colors, Dab, Dabs, TilePixel, TilePixels, Title};
+pub use reading::read_draw;
+pub use writing::write_draw;
 
-use std::alloc::{AllocError, Global};
-use std::marker::Model;
-
-#[derive(Debug, Drop)]
-pub struct Title {
-    bytes: Vec<u8>,
-}
-
-impl Model for Title {
-    ghost Value = { List ℕ };
-
-    ghost view = { λ t. t.bytes.items };
-
-    ghost invariant = { λ t. length t.bytes.items ≤ 255 };
-}
-
+#[cfg(test)]
+mod tests;

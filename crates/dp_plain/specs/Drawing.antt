@@ -38,11 +38,11 @@ resized board top right bottom left =
     let width = pos board.width +ℤ left +ℤ right in
     let height = pos board.height +ℤ top +ℤ bottom in
     if is_side width && is_side height then
-        record {
-          width = side width;
-          height = side height;
-          rows = map (λ (row : Row). with_pixels row (pixels_moved board.width board.height row.pixels (side width) (side height) left top)) board.rows;
-        }
+    record {
+      width = side width;
+      height = side height;
+      rows = map (λ (row : Row). with_pixels row (pixels_moved board.width board.height row.pixels (side width) (side height) left top)) board.rows;
+    }
     else board
 
 -- a layer of the id is present
@@ -59,9 +59,9 @@ can_create board id parent group =
 abbrev pub created : Board → ℕ → ℕ → Bool → List ℕ → Board
 created board id parent group title =
     if can_create board id parent group then
-        record board {
-          rows = board.rows ++ record { id = id; title = title; pixels = canvas_of board.width board.height (λ x y. clear) } ∷ [];
-        }
+    record board {
+      rows = board.rows ++ record { id = id; title = title; pixels = canvas_of board.width board.height (λ x y. clear) } ∷ [];
+    }
     else board
 
 -- a place is in the rectangle of this corner and these sides
@@ -72,8 +72,8 @@ is_inside x y w h px py = nat_le x px && nat_lt px (x + w) && nat_le y py && nat
 abbrev pub pixels_filled : ℕ → ℕ → List Channels → Mode → Channels → ℕ → ℕ → ℕ → ℕ → List Channels
 pixels_filled width height pixels mode source x y w h =
     canvas_of width height (λ px py.
-        let old = pixel_at width pixels px py in
-        if is_inside x y w h px py then blend mode source old else old)
+    let old = pixel_at width pixels px py in
+    if is_inside x y w h px py then blend mode source old else old)
 
 -- the pixels of the layer of this id become what change makes of them
 abbrev pub layer_changed : Board → ℕ → (List Channels → List Channels) → Board

@@ -1,3 +1,8 @@
 pub mod Board
 pub mod Drawing
+pub mod Memory
+pub mod Moving
 pub mod Picture
+pub mod Places
+pub mod Replay
+pub mod Kinds

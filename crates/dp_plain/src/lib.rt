@@ -2,5 +2,12 @@
 #![tactic(auto)]
 
 mod board;
+mod draw;
+mod fill;
+mod picture;
+mod replay;
+mod resize;
 
 pub use board::PlainBoard;
+pub use picture::plain_p6;
+pub use replay::plain_replay;

@@ -1,0 +1,81 @@
+-- What the program answers: its status, what it writes, and the line that it says.
+use Rattle.std.specs.Prelude.{◌≡◌, ℕ, ◌⊎◌, List, [], ◌∷◌, ◌++◌, codes, decimal, map, string_bytes, Option, IfSome}
+use Rattle.std_heap.specs.declared.Global.{Global}
+use Rattle.std.specs.declared.string.String.{String}
+use Rattle.std.specs.Io.KnownBytes.{Appends, Keeps}
+use Rattle.dp_io.specs.Faults.{Rose}
+use Rattle.dp_io.specs.Streams.{GrowsByPrefix}
+use Rattle.dp_messages.specs.declared.message.Entry.{Entry}
+use Rattle.dp_plain.specs.Replay.{shown}
+use Rattle.dp_plain.specs.Picture.{p6}
+use Rattle.dp_app.specs.declared.run_end.RunEnd.{RunEnd}
+use Rattle.dp_app.specs.declared.run_end.RunEnd.TheVariants.{Done, ReadFault, WriteFault, Memory, Long, Truncated, BadMessage}
+use Rattle.dp_app.specs.Input.{ComesTo}
+
+-- the words are the single word `replay`
+abbrev pub IsReplay : List (String Global) → Type 0
+IsReplay words = map string_bytes words ≡ codes "replay" ∷ []
+
+-- the status of a run that ends so
+abbrev pub status_of : RunEnd → ℕ
+status_of Done = 0
+status_of ReadFault = 3
+status_of WriteFault = 4
+status_of Memory = 7
+status_of Long = 8
+status_of (Truncated n) = 9
+status_of (BadMessage n) = 10
+
+-- the line that is said of it
+abbrev pub line_of : RunEnd → List ℕ
+line_of Done = []
+line_of ReadFault = codes "read fault\n"
+line_of WriteFault = codes "write fault\n"
+line_of Memory = codes "out of memory\n"
+line_of Long = codes "input too long\n"
+line_of (Truncated n) = codes "truncated at " ++ decimal n ++ codes "\n"
+line_of (BadMessage n) = codes "bad message at " ++ decimal n ++ codes "\n"
+
+-- the line that is said of words that are no command
+abbrev pub usage_line : List ℕ
+usage_line = codes "usage: drawpile replay, world, play, join, serve or drill\n"
+
+-- an input that tells its bytes comes to this end
+abbrev pub Comes : Option (List ℕ) → RunEnd → Type 0
+Comes input end = IfSome input (λ bytes. (entries : List Entry) × ComesTo bytes entries end)
+
+-- the output grew by the picture of what an input that tells its bytes shows, which comes to this end
+abbrev pub ShowsWhole : Option (List ℕ) → Option (List ℕ) → Option (List ℕ) → RunEnd → Type 0
+ShowsWhole input old new end =
+    IfSome input (λ bytes. (entries : List Entry) × ComesTo bytes entries end × Appends old new (p6 (shown entries)))
+
+-- the output grew by a front of that picture
+abbrev pub ShowsPart : Option (List ℕ) → Option (List ℕ) → Option (List ℕ) → Type 0
+ShowsPart input old new =
+    IfSome input (λ bytes. (entries : List Entry) × (end : RunEnd) × ComesTo bytes entries end × GrowsByPrefix old new (p6 (shown entries)))
+
+-- what a run that ends so leaves on the output: the picture of the whole frames, a front of it, or nothing
+abbrev pub Leaves : Option (List ℕ) → Option (List ℕ) → Option (List ℕ) → RunEnd → Type 0
+Leaves input old new Done = ShowsWhole input old new Done
+Leaves input old new ReadFault = Keeps old new
+Leaves input old new WriteFault = ShowsPart input old new
+Leaves input old new Memory = Keeps old new
+Leaves input old new Long = Keeps old new × Comes input Long
+Leaves input old new (Truncated n) = ShowsWhole input old new (Truncated n)
+Leaves input old new (BadMessage n) = Keeps old new × Comes input (BadMessage n)
+
+-- the line of the end is said, and the status is the end's; or diag failed behind a front of the line, and it is 4
+abbrev pub Says : Option (List ℕ) → Option (List ℕ) → ℕ → ℕ → ℕ → RunEnd → Type 0
+Says old new before now status end =
+    ((status ≡ status_of end) × Appends old new (line_of end))
+    ⊎ ((status ≡ 4) × Rose before now × GrowsByPrefix old new (line_of end))
+
+-- the same of the line about the words, with status 1
+abbrev pub SaysUsage : Option (List ℕ) → Option (List ℕ) → ℕ → ℕ → ℕ → Type 0
+SaysUsage old new before now status =
+    ((status ≡ 1) × Appends old new usage_line)
+    ⊎ ((status ≡ 4) × Rose before now × GrowsByPrefix old new usage_line)
+
+-- the statuses that the bytes of an input fix
+abbrev pub IsDueStatus : ℕ → Type 0
+IsDueStatus status = (status ≡ 0) ⊎ (status ≡ 8) ⊎ (status ≡ 9) ⊎ (status ≡ 10)

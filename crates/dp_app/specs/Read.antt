@@ -1,0 +1,32 @@
+-- What was read of an input.
+use Rattle.std.specs.Prelude.{◌≡◌, ℕ, List, ◌++◌, ◌==◌, length, Option, Some, if◌then◌else◌}
+use Rattle.dp_frame.specs.Stream.{Stream}
+use Rattle.dp_messages.specs.declared.message.Entry.{Entry}
+use Rattle.dp_app.specs.declared.run_end.RunEnd.{RunEnd}
+use Rattle.dp_app.specs.declared.run_end.RunEnd.TheVariants.{Done, ReadFault, WriteFault, Memory, Long, Truncated, BadMessage}
+use Rattle.dp_app.specs.Input.{ComesTo}
+use Rattle.dp_app.specs.History.{Follows}
+
+-- of an input that tells its bytes these are read, and the rest is left
+pub record HasRead (input : List ℕ) (left : Option (List ℕ)) (entries : List Entry) (stream : Stream) : Type 0 where
+  pub read : List ℕ
+  pub rest : List ℕ
+  pub left_is : left ≡ Some rest
+  pub whole : input ≡ read ++ rest
+  pub follows : Follows read entries stream
+
+-- how reading an input ended: by its bytes, by a fault or for want of memory
+abbrev pub EndsReading : List ℕ → List Entry → RunEnd → Type 0
+EndsReading input entries Memory = Unit {0}
+EndsReading input entries ReadFault = Unit {0}
+EndsReading input entries end = ComesTo input entries end
+
+-- the input is read to its end
+abbrev pub ReadsToEnd : RunEnd → Type 0
+ReadsToEnd Done = Unit {0}
+ReadsToEnd (Truncated n) = Unit {0}
+ReadsToEnd _ = ⊥
+
+-- the end of an input of which these bytes are held behind the last whole frame
+abbrev pub end_of : Stream → RunEnd
+end_of stream = if length stream.held == 0 then Done else Truncated stream.at

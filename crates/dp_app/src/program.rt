@@ -1,0 +1,63 @@
+//! The program's top call.
+
+ghost use Rattle.std.specs.Prelude.{◌≡◌, ◌≢◌, ◌⊎◌, ◌≤◌, IsSome};
+ghost use Rattle.std.specs.Io.KnownBytes.{Keeps, IsAtEnd};
+ghost use Rattle.dp_io.specs.Faults.{Rose};
+ghost use Rattle.dp_app.specs.declared.run_end.RunEnd.{RunEnd as run_end};
+ghost use Rattle.dp_app.specs.Answer.{IsReplay, Leaves, Says, SaysUsage, IsDueStatus};
+
+use crate::replay::run_replay;
+use crate::saying::{say, say_usage};
+use crate::words::is_replay;
+use dp_io::{Failed, Sink, Source};
+use std::alloc::Global;
+
+/// What the program ends with.
+#[derive(Clone, Copy, Debug, PartialEq, Eq)]
+pub struct Outcome {
+    /// The exit status. The table: docs/protocol.md, "Statuses".
+    pub status: u8,
+}
+
+/// The program: its words behind its name, its input, its output, and where it says why it ended.
+/// Nothing else is read or written.
+pub fn drawpile<I: Source, O: Sink, E: Sink>(
+    alloc: Global,
+    words: &[String],
+    input: &mut I,
+    output: &mut O,
+    diag: &mut E,
+) -> Outcome
+    // Words that are no command are refused, and touch neither input nor output.
+    ensures usage { result.status ≡ 1 → ¬ IsReplay words.now }
+    ensures other_words { ¬ IsReplay words.now → SaysUsage (E.held diag.old) (E.held diag.new) (E.faults diag.old) (E.faults diag.new) result.status }
+    ensures untouched { ¬ IsReplay words.now → Keeps (I.left input.old) (I.left input.new) × Keeps (O.held output.old) (O.held output.new) }
+
+    // `replay` ends in one of the ways of a run: what the input comes to decides what is written, and the status and the line
+    // on diag tell it.
+    ensures replay { IsReplay words.now → (end : run_end)
+        × Leaves (I.left input.old) (O.held output.old) (O.held output.new) end
+        × Says (E.held diag.old) (E.held diag.new) (E.faults diag.old) (E.faults diag.new) result.status end }
+    ensures to_end { result.status ≡ 0 → IsAtEnd (I.left input.new) }
+
+    // Faults have their causes.
+    ensures read_fault { result.status ≡ 3 → Rose (I.faults input.old) (I.faults input.new) }
+    ensures write_fault { result.status ≡ 4 → Rose (O.faults output.old) (O.faults output.new) ⊎ Rose (E.faults diag.old) (E.faults diag.new) }
+    ensures input_later { I.faults input.old ≤ I.faults input.new }
+    ensures output_later { O.faults output.old ≤ O.faults output.new }
+    ensures diag_later { E.faults diag.old ≤ E.faults diag.new }
+
+    // Where nothing failed, the status is the one that the input's bytes fix, or 7.
+    ensures complete { IsReplay words.now → ¬ Rose (I.faults input.old) (I.faults input.new) → ¬ Rose (O.faults output.old) (O.faults output.new)
+        → ¬ Rose (E.faults diag.old) (E.faults diag.new) → result.status ≢ 7 → IsDueStatus result.status }
+{
+    if !is_replay(words) {
+        return Outcome {
+            status: say_usage(diag),
+        };
+    }
+    let end = run_replay(alloc, input, output);
+    Outcome {
+        status: say(diag, end),
+    }
+}

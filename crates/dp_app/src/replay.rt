@@ -1,0 +1,45 @@
+//! The command `replay`: frames on the input, a picture on the output.
+
+ghost use Rattle.std.specs.Prelude.{◌≡◌, ◌≤◌};
+ghost use Rattle.std.specs.Io.KnownBytes.{IsAtEnd};
+ghost use Rattle.dp_io.specs.Faults.{Rose};
+ghost use Rattle.dp_app.specs.Answer.{Leaves};
+ghost use Rattle.dp_app.specs.Read.{ReadsToEnd};
+ghost use Rattle.dp_app.specs.Shown.{WritesShown};
+
+use crate::RunEnd;
+use crate::reading::{Reading, read_entries};
+use dp_io::{Failed, Sink, Source};
+use dp_messages::Entry;
+use dp_plain::{plain_p6, plain_replay};
+use std::alloc::Global;
+
+/// Reads frames to the input's end, and writes the picture of what they show.
+pub(crate) fn run_replay<I: Source, O: Sink>(alloc: Global, input: &mut I, output: &mut O) -> RunEnd
+    ensures leaves { Leaves (I.left input.old) (O.held output.old) (O.held output.new) result }
+    ensures read_fault { result ≡ RunEnd.ReadFault → Rose (I.faults input.old) (I.faults input.new) }
+    ensures write_fault { result ≡ RunEnd.WriteFault → Rose (O.faults output.old) (O.faults output.new) }
+    ensures input_later { I.faults input.old ≤ I.faults input.new }
+    ensures output_later { O.faults output.old ≤ O.faults output.new }
+    ensures to_end { ReadsToEnd result → IsAtEnd (I.left input.new) }
+{
+    let Reading { entries, end } = read_entries(alloc, input);
+    match end {
+        RunEnd::Done | RunEnd::Truncated(_) => write_shown(alloc, &entries, output, end),
+        _ => end,
+    }
+}
+
+/// Writes the picture of what the entries show. Ends as given where it is written.
+fn write_shown<O: Sink>(alloc: Global, entries: &[Entry], output: &mut O, end: RunEnd) -> RunEnd
+    ensures shown { WritesShown (O.held output.old) (O.held output.new) (O.faults output.old) (O.faults output.new) entries.now end result }
+    ensures later { O.faults output.old ≤ O.faults output.new }
+{
+    let Ok(board) = plain_replay(alloc, entries) else {
+        return RunEnd::Memory;
+    };
+    match plain_p6(&board, output) {
+        Ok(()) => end,
+        Err(Failed) => RunEnd::WriteFault,
+    }
+}

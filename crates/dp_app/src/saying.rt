@@ -1,0 +1,60 @@
+//! The lines that are said on diag.
+
+ghost use Rattle.std.specs.Prelude.{◌≡◌, ◌≤◌, ◌++◌, ℕ, List, codes, decimal, OnOk};
+ghost use Rattle.std.specs.Io.KnownBytes.{Appends};
+ghost use Rattle.dp_io.specs.Faults.{HasCause};
+ghost use Rattle.dp_io.specs.Streams.{GrowsByPrefix};
+ghost use Rattle.dp_app.specs.Answer.{line_of, Says, SaysUsage};
+
+use crate::RunEnd;
+use dp_io::{Failed, Sink, put_all};
+use itoa::Buffer;
+
+/// Says how the run ended, and answers the program's status: 4 where diag fails.
+pub(crate) fn say<E: Sink>(diag: &mut E, end: RunEnd) -> u8
+    ensures says { Says (E.held diag.old) (E.held diag.new) (E.faults diag.old) (E.faults diag.new) result end }
+    ensures later { E.faults diag.old ≤ E.faults diag.new }
+{
+    match put_line(diag, end) {
+        Ok(()) => end.status(),
+        Err(Failed) => RunEnd::WriteFault.status(),
+    }
+}
+
+/// Says what the words may be, and answers the program's status: 4 where diag fails.
+pub(crate) fn say_usage<E: Sink>(diag: &mut E) -> u8
+    ensures says { SaysUsage (E.held diag.old) (E.held diag.new) (E.faults diag.old) (E.faults diag.new) result }
+    ensures later { E.faults diag.old ≤ E.faults diag.new }
+{
+    match put_all(diag, b"usage: drawpile replay, world, play, join, serve or drill\n") {
+        Ok(()) => 1,
+        Err(Failed) => RunEnd::WriteFault.status(),
+    }
+}
+
+fn put_line<E: Sink>(diag: &mut E, end: RunEnd) -> Result<(), Failed>
+    ensures line { OnOk result (Appends (E.held diag.old) (E.held diag.new) (line_of end)) }
+    ensures prefix { GrowsByPrefix (E.held diag.old) (E.held diag.new) (line_of end) }
+    ensures cause { HasCause (E.faults diag.old) (E.faults diag.new) result }
+{
+    match end {
+        RunEnd::Done => Ok(()),
+        RunEnd::ReadFault => put_all(diag, b"read fault\n"),
+        RunEnd::WriteFault => put_all(diag, b"write fault\n"),
+        RunEnd::Memory => put_all(diag, b"out of memory\n"),
+        RunEnd::Long => put_all(diag, b"input too long\n"),
+        RunEnd::Truncated(at) => put_place(diag, b"truncated at ", at),
+        RunEnd::BadMessage(at) => put_place(diag, b"bad message at ", at),
+    }
+}
+
+fn put_place<E: Sink>(diag: &mut E, words: &[u8], at: u64) -> Result<(), Failed>
+    ensures line { OnOk result (Appends (E.held diag.old) (E.held diag.new) (words.now ++ decimal at ++ codes "\n")) }
+    ensures prefix { GrowsByPrefix (E.held diag.old) (E.held diag.new) (words.now ++ decimal at ++ codes "\n") }
+    ensures cause { HasCause (E.faults diag.old) (E.faults diag.new) result }
+{
+    let mut digits = Buffer::new();
+    put_all(diag, words)?;
+    put_all(diag, digits.format(at).as_bytes())?;
+    put_all(diag, b"\n")
+}

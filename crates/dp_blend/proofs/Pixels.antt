@@ -1,0 +1,38 @@
+-- What is made of pixels is a pixel.
+use Rattle.std.proofs.Common.{ℕ, ◌-◌, ◌≤◌, arith}
+use Rattle.dp_blend.specs.Color.{Channels, IsPixel}
+use Rattle.dp_blend.specs.Blending.{blend, over, channel_blended, alpha_blended}
+use Rattle.dp_blend.specs.declared.modes.Mode.{Mode}
+use Rattle.dp_blend.specs.declared.modes.Mode.TheVariants.{Erase, Normal, Multiply, Add, Recolor, Replace}
+use Rattle.dp_blend.proofs.Products.{mul_mono, mul_le_right, multiply_within, recolor_within}
+
+-- the alpha of a source over a destination is at most one
+pub over_within : (sa da : ℕ) → sa ≤ 32768 → da ≤ 32768 → over sa da ≤ 32768
+over_within sa da p q = omega (arith, mul_le_right da (32768 - sa) q)
+
+-- after blending, alpha is at most one
+pub alpha_within : (mode : Mode) (sa da : ℕ) → sa ≤ 32768 → da ≤ 32768 → alpha_blended mode sa da ≤ 32768
+alpha_within Erase sa da p q = omega (arith, mul_le_right da (32768 - sa) q)
+alpha_within Normal sa da p q = over_within sa da p q
+alpha_within Multiply sa da p q = over_within sa da p q
+alpha_within Add sa da p q = over_within sa da p q
+alpha_within Recolor sa da p q = q
+alpha_within Replace sa da p q = p
+
+-- after blending, a channel is at most alpha
+pub channel_within : (mode : Mode) (sc sa dc da : ℕ) → sc ≤ sa → sa ≤ 32768 → dc ≤ da → da ≤ 32768
+    → channel_blended mode sc sa dc da ≤ alpha_blended mode sa da
+channel_within Erase sc sa dc da p q r s = mul_mono dc da (32768 - sa) r
+channel_within Normal sc sa dc da p q r s = omega (arith, mul_mono dc da (32768 - sa) r)
+channel_within Multiply sc sa dc da p q r s = multiply_within sc sa dc da p q r s
+channel_within Add sc sa dc da p q r s = omega arith
+channel_within Recolor sc sa dc da p q r s = recolor_within sc sa dc da p q r
+channel_within Replace sc sa dc da p q r s = p
+
+pub blend-IsPixel : (mode : Mode) (s d : Channels) → IsPixel s → IsPixel d → IsPixel (blend mode s d)
+blend-IsPixel mode s d h k = record {
+  r = channel_within mode s.r s.a d.r d.a h.r h.a k.r k.a;
+  g = channel_within mode s.g s.a d.g d.a h.g h.a k.g k.a;
+  b = channel_within mode s.b s.a d.b d.a h.b h.a k.b k.a;
+  a = alpha_within mode s.a d.a h.a k.a;
+}

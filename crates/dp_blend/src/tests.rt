@@ -1,0 +1,109 @@
+use crate::{Mode, Pixel, blend, from8, of_argb, row_blend, to8};
+use std::process::Abort;
+
+/// The pixel with these channels and this alpha; the test ends where they make none.
+fn pixel(rt: &impl Abort, (r, g, b, a): (u16, u16, u16, u16)) -> Pixel {
+    Pixel::new(r, g, b, a).expect(rt, "no pixel")
+}
+
+#[test]
+fn blends_in_each_mode(rt: HostRuntime) {
+    let src = pixel(&rt, (0, 8192, 0, 8192));
+    let dst = pixel(&rt, (16384, 0, 0, 16384));
+    for (mode, want) in [
+        (Mode::Erase, (12288, 0, 0, 12288)),
+        (Mode::Normal, (12288, 8192, 0, 20480)),
+        (Mode::Multiply, (12288, 4096, 0, 20480)),
+        (Mode::Add, (16384, 8192, 0, 20480)),
+        (Mode::Recolor, (12288, 4096, 0, 16384)),
+        (Mode::Replace, (0, 8192, 0, 8192)),
+    ] {
+        assert_eq!(rt; blend(mode, src, dst), pixel(&rt, want), "at {mode:?}");
+    }
+}
+
+#[test]
+fn blends_a_half_red_on_white(rt: HostRuntime) {
+    let red = of_argb(0x80ff_0000);
+    assert_eq!(rt; red, pixel(&rt, (16448, 0, 0, 16448)));
+    let white = of_argb(0xffff_ffff);
+    assert_eq!(rt; white, pixel(&rt, (32768, 32768, 32768, 32768)));
+    let shown = blend(Mode::Normal, red, white);
+    assert_eq!(rt;
+        (to8(shown.r()), to8(shown.g()), to8(shown.b())),
+        (0xff, 0x7f, 0x7f)
+    );
+    assert_eq!(rt; of_argb(0x00ff_ffff), Pixel::default());
+    assert_eq!(rt; of_argb(0xff01_0203), pixel(&rt, (129, 257, 386, 32768)));
+}
+
+#[test]
+fn takes_each_byte_to_a_channel_and_back(rt: HostRuntime) {
+    for byte in 0..=255 {
+        assert_eq!(rt; to8(from8(byte)), byte);
+    }
+    for (byte, channel) in [(0, 0), (128, 16448), (255, 32768)] {
+        assert_eq!(rt; from8(byte), channel, "at {byte}");
+    }
+}
+
+#[test]
+fn numbers_the_modes(rt: HostRuntime) {
+    for (number, mode) in [
+        (0, Mode::Erase),
+        (1, Mode::Normal),
+        (2, Mode::Multiply),
+        (9, Mode::Add),
+        (10, Mode::Recolor),
+        (255, Mode::Replace),
+    ] {
+        assert_eq!(rt; Mode::from_u8(number), Some(mode), "at {number}");
+        assert_eq!(rt; mode.number(), number);
+    }
+    for number in [3, 8, 11, 254] {
+        assert_eq!(rt; Mode::from_u8(number), None, "at {number}");
+    }
+}
+
+#[test]
+fn makes_pixels_within_their_alpha(rt: HostRuntime) {
+    for ((r, g, b, a), want) in [
+        ((0, 0, 0, 0), true),
+        ((32768, 0, 1, 32768), true),
+        ((5, 4, 5, 5), true),
+        ((6, 5, 5, 5), false),
+        ((5, 6, 5, 5), false),
+        ((5, 5, 6, 5), false),
+        ((0, 0, 0, 32769), false),
+    ] {
+        assert_eq!(rt;
+            Pixel::new(r, g, b, a).is_some(),
+            want,
+            "at {r} {g} {b} {a}"
+        );
+    }
+    let made = pixel(&rt, (1, 2, 3, 4));
+    assert_eq!(rt; (made.r(), made.g(), made.b(), made.a()), (1, 2, 3, 4));
+}
+
+#[test]
+fn blends_a_row_through_a_mask(rt: HostRuntime) {
+    let src = pixel(&rt, (0, 8192, 0, 8192));
+    let dst = pixel(&rt, (16384, 0, 0, 16384));
+    for (mode, whole, half) in [
+        (
+            Mode::Normal,
+            (12288, 8192, 0, 20480),
+            (14328, 4112, 0, 18440),
+        ),
+        (Mode::Replace, (0, 8192, 0, 8192), (0, 4112, 0, 4112)),
+    ] {
+        let mut row = [dst; 3];
+        row_blend(mode, src, &[0, 32768, 16448], &mut row);
+        assert_eq!(rt;
+            row,
+            [dst, pixel(&rt, whole), pixel(&rt, half)],
+            "at {mode:?}"
+        );
+    }
+}

@@ -1,0 +1,29 @@
+/// What an entry of the history does to strokes.
+#[derive(Debug, Drop)]
+pub enum Act<Op> {
+    /// Opens a group of the sender.
+    Point,
+    /// Takes back the last done group of the user `who`.
+    Undo {
+        /// The user whose group it is, by context id.
+        who: u8,
+    },
+    /// Brings back an undone group of the user `who`.
+    Redo {
+        /// The user whose group it is, by context id.
+        who: u8,
+    },
+    /// A command of the sender.
+    Draw(Op),
+    /// An entry that has no effect on strokes.
+    Other,
+}
+
+/// An act with the user who sent it.
+#[derive(Debug, Drop)]
+pub struct UserAct<Op> {
+    /// The sender, by context id.
+    pub user: u8,
+    /// What the entry does.
+    pub act: Act<Op>,
+}

@@ -1,0 +1,36 @@
+//! Which acts are commands that are drawn.
+
+ghost use Rattle.std.specs.Prelude.{◌≡◌, length, map, IfOk};
+ghost use Rattle.dp_board.specs.Strokes.{kept_flags};
+ghost use Rattle.dp_board.specs.History.{is_join_drawn};
+
+use crate::act::UserAct;
+use crate::history::{History, is_drawn};
+use crate::join::Join;
+use crate::sorted::SortedGroups;
+use std::alloc::{AllocError, Global};
+
+/// Whether what each act joined is drawn, where `done` has the done groups of each user at the end.
+fn flags_of(alloc: Global, done: &[SortedGroups], joins: &[Join]) -> Result<Vec<bool>, AllocError>
+    requires { length done.now ≡ 256 }
+    ensures { IfOk result (λ flags. flags.items ≡ map (is_join_drawn done.now) joins.now) }
+{
+    joins
+        .iter()
+        .map(|join| is_drawn(done, *join))
+        .collect(alloc)
+}
+
+/// For each act whether it is a command that is drawn at the end: one of group 0, or of a group
+/// that is done then. A point is in reach of undo and redo while it is among the last `depth`
+/// points of all users. The time is in proportion to the number of acts, but for the sorting of
+/// each user's groups. The rule: docs/protocol.md, strokes, undo and replay.
+///
+/// The only error is want of memory.
+pub fn kept<Op>(alloc: Global, depth: u32, acts: &[UserAct<Op>]) -> Result<Vec<bool>, AllocError>
+    ensures { IfOk result (λ flags. flags.items ≡ kept_flags depth acts.now) }
+{
+    let (history, joins) = History::read(alloc, depth, acts)?;
+    let done = history.done(alloc)?;
+    flags_of(alloc, &done, &joins)
+}

@@ -1,0 +1,20 @@
+//! A history read as acts, and which of its commands are drawn after undo and redo.
+//!
+//! Each user has groups of commands. A point opens a group, a command joins the last done group of
+//! its user, and undo and redo move a whole group. A command of a user without a done group is in
+//! group 0, which is never undone. The rule: docs/protocol.md, strokes, undo and replay.
+#![tactic(auto)]
+
+mod act;
+mod flags;
+mod groups;
+mod history;
+mod join;
+mod laws;
+mod sorted;
+#[cfg(test)]
+mod tests;
+
+pub use act::{Act, UserAct};
+pub use flags::kept;
+pub use laws::commands_do_not_count;

@@ -1,0 +1,153 @@
+use crate::act::{Act, UserAct};
+use crate::flags::kept;
+use crate::laws::commands_do_not_count;
+use std::alloc::{AllocError, Global};
+use std::process::Abort;
+use std::test::Fail;
+
+/// The acts of a script: a word is the user, the act (Point, Draw, Undo, Redo, Other) and the user
+/// of an Undo or a Redo. A Draw that is expected to be drawn ends in `+`.
+fn push_acts(acts: &mut Vec<UserAct<u8>>, script: &str) -> Result<(), AllocError> {
+    for word in script.split_whitespace() {
+        if let [user, kind, last] = word.as_bytes() {
+            let act = match kind {
+                b'P' => Act::Point,
+                b'D' => Act::Draw(*last),
+                b'U' => Act::Undo { who: *last },
+                b'R' => Act::Redo { who: *last },
+                _ => Act::Other,
+            };
+            acts.push(UserAct { user: *user, act })?;
+        }
+    }
+    Ok(())
+}
+
+/// What is expected of acts that `push_acts` made.
+fn expected(alloc: Global, acts: &[UserAct<u8>]) -> Result<Vec<bool>, AllocError> {
+    acts.iter()
+        .map(|act| matches!(act.act, Act::Draw(b'+')))
+        .collect(alloc)
+}
+
+/// Checks a history of one script, points of user 2 and another script.
+fn check(rt: &impl Abort, alloc: Global, front: &str, points: u32, back: &str) -> Result<(), Fail> {
+    let mut acts = Vec::new(alloc);
+    push_acts(&mut acts, front)?;
+    for _ in 0..points {
+        acts.push(UserAct {
+            user: b'2',
+            act: Act::Point,
+        })?;
+    }
+    push_acts(&mut acts, back)?;
+    let flags = kept(alloc, 30, &acts)?;
+    assert_eq!(rt;
+        flags,
+        expected(alloc, &acts)?,
+        "{front} and {points} points and {back}"
+    );
+    Ok(())
+}
+
+#[test]
+fn scripts(rt: HostRuntime) -> Result<(), Fail> {
+    for script in [
+        "",
+        "1P. 1D- 1U1",
+        "1P. 1D- 1D- 1U1",
+        "1D+ 1P. 1D- 1U1",
+        // Group 0 is never undone.
+        "1D+ 1U1 1U1",
+        "1D+ 1P. 1D- 1U1 1U1",
+        // The same history after each of its acts.
+        "1P. 1D+",
+        "1P. 1D- 1U1",
+        "1P. 1D+ 1U1 1R1",
+        "1P. 1D+ 1U1 1R1 1R1",
+        "1P. 1D- 1U1 1R1 1R1 1U1",
+        "1P. 1D- 1U1 1R1 1R1 1U1 1D+",
+        "1P. 1D- 1U1 1R1 1R1 1U1 1D+ 1R1",
+        // Undo and redo of another user's group.
+        "1P. 1D- 2U1",
+        "2P. 2D- 1P. 1D+ 1U2",
+        "1P. 1D+ 2U1 2R1",
+        // A point and a command of the user empty the undone groups; those of another do not.
+        "1P. 1D- 1U1 1P. 1R1 1D+",
+        "1P. 1D- 1U1 1D+ 1R1",
+        "1P. 1D+ 1U1 2P. 2D+ 1R1",
+        // The latest undone group comes back first, and a command joins the last done group.
+        "1P. 1D+ 1P. 1D- 1U1 1U1 1R1",
+        "1P. 1D+ 1P. 1D- 1U1 1D+",
+        "1P. 1D- 1P. 1D- 1U1 1D- 1U1",
+        "1P. 2P. 1D- 2D+ 1D- 2D+ 1U1",
+        "1O. 1P. 1O. 1D+ 1O.",
+    ] {
+        check(&rt, rt.alloc(), script, 0, "")?;
+    }
+    Ok(())
+}
+
+#[test]
+fn window(rt: HostRuntime) -> Result<(), Fail> {
+    for (front, points, back) in [
+        ("1P. 1D-", 29, "1U1"),
+        ("1P. 1D+", 30, "1U1"),
+        ("1P. 1D+", 30, ""),
+        ("1P. 1D+ 1U1", 29, "1R1"),
+        ("1P. 1D- 1U1", 30, "1R1"),
+        // Redo passes over a group that is out of reach.
+        ("1P. 1D+ 1P. 1D- 1U1 1U1", 28, "1R1"),
+        ("1P. 1D- 1P. 1D+ 1U1 1U1", 29, "1R1"),
+        ("1P. 1D- 1P. 1D- 1U1 1U1", 30, "1R1"),
+    ] {
+        check(&rt, rt.alloc(), front, points, back)?;
+    }
+    Ok(())
+}
+
+/// Ten thousand groups of ten commands. Every third is undone, and every second of these comes back.
+#[test]
+fn many(rt: HostRuntime) -> Result<(), Fail> {
+    let mut acts = Vec::new(rt.alloc());
+    for number in 0..10_000_u32 {
+        push_acts(&mut acts, "1P. 1D. 1D. 1D. 1D. 1D. 1D. 1D. 1D. 1D. 1D.")?;
+        if number % 3 == 0 {
+            push_acts(&mut acts, "1U1")?;
+        }
+        if number % 6 == 0 {
+            push_acts(&mut acts, "1R1")?;
+        }
+    }
+    let flags = kept(rt.alloc(), 30, &acts)?;
+    assert_eq!(rt; flags.iter().filter(|flag| **flag).count(), 83_330);
+    Ok(())
+}
+
+#[test]
+fn without_commands(rt: HostRuntime) -> Result<(), Fail> {
+    commands_do_not_count::<u8, ()>();
+    let acts = [
+        UserAct {
+            user: 1,
+            act: Act::Point,
+        },
+        UserAct {
+            user: 1,
+            act: Act::Draw(()),
+        },
+        UserAct {
+            user: 1,
+            act: Act::Undo { who: 1 },
+        },
+        UserAct {
+            user: 1,
+            act: Act::Draw(()),
+        },
+    ];
+    assert_eq!(rt;
+        kept(rt.alloc(), 30, &acts)?.as_slice(),
+        [false, false, false, true].as_slice()
+    );
+    Ok(())
+}

@@ -1,0 +1,4 @@
+pub mod Faults
+pub mod Streams
+pub mod Memory
+pub mod Adapters

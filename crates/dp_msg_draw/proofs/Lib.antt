@@ -1,0 +1,7 @@
+pub mod FieldLaws
+pub mod Rows
+pub mod OneSpelling
+pub mod Payloads
+pub mod Keeping
+pub mod Lengths
+pub mod Parts

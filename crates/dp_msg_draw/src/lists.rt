@@ -1,0 +1,239 @@
+//! The lists that messages carry. Each is short enough that its message fits in a payload of at most
+//! 65,535 bytes.
+
+ghost use Rattle.std.specs.Prelude.{◌≡◌, ◌≤◌, ◌↔◌, ◌^◌, [], length, replicate, IfOk, IfSome, IsSome};
+ghost use Rattle.std.specs.Vec.{vec_len};
+ghost use Rattle.dp_msg_draw.specs.Limits.{IsTitle};
+
+use std::alloc::{AllocError, Global};
+use std::marker::Model;
+
+/// The title of a layer: at most 255 bytes of UTF-8.
+#[derive(Debug, Drop)]
+pub struct Title {
+    bytes: Vec<u8>,
+}
+
+impl Model for Title {
+    ghost use Rattle.std.specs.Prelude.{List, ℕ};
+    ghost use Rattle.dp_msg_draw.specs.Limits.{IsTitle};
+
+    ghost Value = { List ℕ };
+
+    ghost view = { λ t. t.bytes.items };
+
+    ghost invariant = { λ t. IsTitle t.bytes.items };
+}
+
+impl Title {
+    /// The empty title.
+    pub fn new(alloc: Global) -> Title
+        ensures { result ≡ [] }
+    {
+        Title {
+            bytes: Vec::new(alloc),
+        }
+    }
+
+    /// The title of these bytes, where they are one.
+    pub fn from_vec(bytes: Vec<u8>) -> Option<Title>
+        ensures title { IsSome result ↔ IsTitle bytes.items }
+        ensures value { IfSome result (λ t. t ≡ bytes.items) }
+    {
+        if bytes.len() > 255 || str::from_utf8(&bytes).is_err() {
+            return None;
+        }
+        Some(Title { bytes })
+    }
+
+    /// The bytes of the title.
+    pub fn as_slice(&self) -> &[u8]
+        ensures value { result.now ≡ self.now }
+        ensures title { IsTitle self.now }
+    {
+        &self.bytes
+    }
+
+    /// An equal title.
+    pub fn copy(&self) -> Result<Title, AllocError>
+        ensures { IfOk result (λ t. t ≡ self.now) }
+    {
+        let bytes = Vec::from_slice(*self.bytes.allocator(), &self.bytes)?;
+        Ok(Title { bytes })
+    }
+}
+
+/// One dab of a brush. Its place is that of the dab before it, or of the message, moved by `dx` and `dy`.
+#[derive(Clone, Copy, Debug, PartialEq, Eq)]
+pub struct Dab {
+    pub dx: i8,
+    pub dy: i8,
+    /// The diameter in pixels.
+    pub size: u8,
+    /// From 0, clear, to 255.
+    pub opacity: u8,
+}
+
+/// At most 16,380 dabs.
+#[derive(Debug, Drop)]
+pub struct Dabs {
+    dabs: Vec<Dab>,
+}
+
+impl Model for Dabs {
+    ghost use Rattle.std.specs.Prelude.{List, ◌≤◌, length};
+    ghost use Rattle.dp_msg_draw.specs.declared.lists.Dab.{Dab};
+
+    ghost Value = { List Dab };
+
+    ghost view = { λ d. d.dabs.items };
+
+    ghost invariant = { λ d. length d.dabs.items ≤ 16380 };
+}
+
+impl Dabs {
+    /// No dabs.
+    pub fn new(alloc: Global) -> Dabs
+        ensures { result ≡ [] }
+    {
+        Dabs {
+            dabs: Vec::new(alloc),
+        }
+    }
+
+    pub fn from_vec(dabs: Vec<Dab>) -> Dabs
+        requires { length dabs.items ≤ 16380 }
+        ensures { result ≡ dabs.items }
+    {
+        Dabs { dabs }
+    }
+
+    pub fn as_slice(&self) -> &[Dab]
+        ensures value { result.now ≡ self.now }
+        ensures short { length self.now ≤ 16380 }
+    {
+        &self.dabs
+    }
+
+    /// Equal dabs.
+    pub fn copy(&self) -> Result<Dabs, AllocError>
+        ensures { IfOk result (λ d. d ≡ self.now) }
+    {
+        let dabs = Vec::from_slice(*self.dabs.allocator(), &self.dabs)?;
+        Ok(Dabs { dabs })
+    }
+}
+
+/// At most 16,379 colours, each an ARGB number with alpha in its highest byte.
+#[derive(Debug, Drop)]
+pub struct Colors {
+    colors: Vec<u32>,
+}
+
+impl Model for Colors {
+    ghost use Rattle.std.specs.Prelude.{List, ℕ, ◌≤◌, length};
+
+    ghost Value = { List ℕ };
+
+    ghost view = { λ c. c.colors.items };
+
+    ghost invariant = { λ c. length c.colors.items ≤ 16379 };
+}
+
+impl Colors {
+    /// No colours.
+    pub fn new(alloc: Global) -> Colors
+        ensures { result ≡ [] }
+    {
+        Colors {
+            colors: Vec::new(alloc),
+        }
+    }
+
+    pub fn from_vec(colors: Vec<u32>) -> Colors
+        requires { length colors.items ≤ 16379 }
+        ensures { result ≡ colors.items }
+    {
+        Colors { colors }
+    }
+
+    pub fn as_slice(&self) -> &[u32]
+        ensures value { result.now ≡ self.now }
+        ensures short { length self.now ≤ 16379 }
+    {
+        &self.colors
+    }
+
+    /// Equal colours.
+    pub fn copy(&self) -> Result<Colors, AllocError>
+        ensures { IfOk result (λ c. c ≡ self.now) }
+    {
+        let colors = Vec::from_slice(*self.colors.allocator(), &self.colors)?;
+        Ok(Colors { colors })
+    }
+}
+
+/// A pixel of a tile, premultiplied: 32768 is one, in a well-formed message no channel is above alpha,
+/// and alpha is at most one.
+#[derive(Clone, Copy, Debug, PartialEq, Eq)]
+pub struct TilePixel {
+    pub r: u16,
+    pub g: u16,
+    pub b: u16,
+    pub a: u16,
+}
+
+/// The 4096 pixels of a tile, row by row.
+#[derive(Debug, Drop)]
+pub struct TilePixels {
+    pixels: Vec<TilePixel>,
+}
+
+impl Model for TilePixels {
+    ghost use Rattle.std.specs.Prelude.{List, ◌≡◌, length};
+    ghost use Rattle.dp_msg_draw.specs.declared.lists.TilePixel.{TilePixel};
+
+    ghost Value = { List TilePixel };
+
+    ghost view = { λ p. p.pixels.items };
+
+    ghost invariant = { λ p. length p.pixels.items ≡ 4096 };
+}
+
+impl TilePixels {
+    /// 4096 clear pixels, since a tile has no fewer.
+    pub fn new(alloc: Global) -> Result<TilePixels, AllocError>
+        ensures { IfOk result (λ p. p ≡ replicate 4096 (record { r = 0; g = 0; b = 0; a = 0 })) }
+    {
+        let clear = TilePixel {
+            r: 0,
+            g: 0,
+            b: 0,
+            a: 0,
+        };
+        let pixels = vec![in alloc; clear; 4096]?;
+        Ok(TilePixels { pixels })
+    }
+
+    pub fn from_vec(pixels: Vec<TilePixel>) -> TilePixels
+        requires { length pixels.items ≡ 4096 }
+        ensures { result ≡ pixels.items }
+    {
+        TilePixels { pixels }
+    }
+
+    pub fn as_slice(&self) -> &[TilePixel]
+        ensures value { result.now ≡ self.now }
+        ensures whole { length self.now ≡ 4096 }
+    {
+        &self.pixels
+    }
+
+    /// Equal pixels.
+    pub fn copy(&self) -> Result<TilePixels, AllocError>
+        ensures { IfOk result (λ p. p ≡ self.now) }
+    {
+        let pixels = Vec::from_slice(*self.pixels.allocator(), &self.pixels)?;
+        Ok(TilePixels { pixels })
+    }
+}

@@ -1,0 +1,10 @@
+use Rattle.std.proofs.Common.{◌∙◌, arith}
+use Rattle.dp_msg_meta.proofs.FieldLaws.{is_text_read, no_text}
+use Rattle.dp_msg_meta.proofs.fields.take_text.Goals as goal
+
+pub returns-in_ok-from_str-in-Ok : goal.returns-in_ok-from_str-in-Ok
+returns-in_ok-from_str-in-Ok c =
+    is_text_read _ _ (c.in_ok-from_str-in-Ok.ensures ∙ c.in-Ok.ensures.cases.0) c.in-Ok.ensures.cases.1 (omega arith)
+
+pub returns-in-Err : goal.returns-in-Err
+returns-in-Err c = no_text c.args.bytes.now c.in-Err.ensures.cases.0

@@ -1,0 +1,35 @@
+-- The bytes that are written for a message, whether or not its fields meet their conditions.
+use Rattle.std.specs.Prelude.{ℕ, nat_le, if◌then◌else◌, List, [], ◌++◌, length}
+use Rattle.dp_msg_meta.specs.declared.message.Control.{Control}
+use Rattle.dp_msg_meta.specs.declared.message.Control.TheVariants.{Hello, Disconnect, Ping, Ack, Welcome, ResetBegin, ResetEnd}
+use Rattle.dp_msg_meta.specs.declared.message.Meta.{Meta}
+use Rattle.dp_msg_meta.specs.declared.message.Meta.TheVariants.{Join, Leave, Owners, Chat, Trusted, ResetMark, Laser, MovePointer, UserAcl, LayerAcl, FeatureTiers, Filtered}
+use Rattle.dp_msg_meta.specs.Fields.{one_byte, two_bytes, four_bytes, four_signed, flag_byte}
+use Rattle.dp_msg_meta.specs.Payloads.{tier_bytes}
+
+abbrev pub welcome_bytes : ℕ → ℕ → ℕ → ℕ → List ℕ
+welcome_bytes version user epoch at = two_bytes version ++ one_byte user ++ four_bytes epoch ++ four_bytes at
+
+abbrev pub control_bytes : Control → List ℕ
+control_bytes (Hello name) = name
+control_bytes (Disconnect reason) = one_byte reason
+control_bytes (Ping pong) = flag_byte pong
+control_bytes (Ack epoch) = four_bytes epoch
+control_bytes (Welcome version user epoch at) = welcome_bytes version user epoch at
+control_bytes ResetBegin = []
+control_bytes ResetEnd = []
+
+-- a name that is too long for a Join is not written
+abbrev pub meta_bytes : Meta → List ℕ
+meta_bytes (Join registered name) = if nat_le (length name) 32 then flag_byte registered ++ name else []
+meta_bytes Leave = []
+meta_bytes (Owners ids) = ids
+meta_bytes (Chat text) = text
+meta_bytes (Trusted ids) = ids
+meta_bytes (ResetMark epoch carried) = four_bytes epoch ++ four_bytes carried
+meta_bytes (Laser x y) = four_signed x ++ four_signed y
+meta_bytes (MovePointer x y) = four_signed x ++ four_signed y
+meta_bytes (UserAcl ids) = ids
+meta_bytes (LayerAcl layer locked tier ids) = two_bytes layer ++ flag_byte locked ++ one_byte tier ++ ids
+meta_bytes (FeatureTiers tiers) = tier_bytes tiers
+meta_bytes (Filtered filtered) = one_byte filtered

@@ -1,0 +1,47 @@
+//! Writing the payloads of the control messages.
+
+ghost use Rattle.std.specs.Prelude.{◌≡◌, ◌≤◌, ◌++◌, length};
+ghost use Rattle.dp_msg_meta.specs.Fields.{Adds};
+ghost use Rattle.dp_msg_meta.specs.Writing.{control_bytes, welcome_bytes};
+
+use crate::message::Control;
+use crate::output::{put, put_u32};
+use byteorder::{BigEndian, ByteOrder};
+use std::alloc::AllocError;
+
+fn write_welcome(
+    out: &mut Vec<u8>,
+    version: u16,
+    user: u8,
+    epoch: u32,
+    at: u32,
+) -> Result<(), AllocError>
+    ensures { Adds out.old.items out.new.items result (welcome_bytes version user epoch at) }
+{
+    let mut bytes = [0; 11];
+    BigEndian::write_u16(&mut bytes, version);
+    bytes[2] = user;
+    BigEndian::write_u32(&mut bytes[3..], epoch);
+    BigEndian::write_u32(&mut bytes[7..], at);
+    put(out, &bytes)
+}
+
+/// Adds a message's payload.
+pub(crate) fn write(m: &Control, out: &mut Vec<u8>) -> Result<(), AllocError>
+    ensures added { Adds out.old.items out.new.items result (control_bytes m.now) }
+    ensures short { length (control_bytes m.now) ≤ 65535 }
+{
+    match m {
+        Control::Hello { name } => put(out, name.as_slice()),
+        Control::Disconnect { reason } => put(out, &[*reason]),
+        Control::Ping { pong } => put(out, &[u8::from(*pong)]),
+        Control::Ack { epoch } => put_u32(out, *epoch),
+        Control::Welcome {
+            version,
+            user,
+            epoch,
+            at,
+        } => write_welcome(out, *version, *user, *epoch, *at),
+        Control::ResetBegin | Control::ResetEnd => Ok(()),
+    }
+}

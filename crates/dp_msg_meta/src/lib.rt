@@ -1,0 +1,27 @@
+//! The messages that draw nothing, and their payloads: reading and writing.
+#![tactic(auto)]
+
+mod control_reader;
+mod control_writer;
+mod error;
+mod fields;
+mod kinds;
+mod laws;
+mod lists;
+mod message;
+mod meta_reader;
+mod meta_writer;
+mod output;
+mod reading;
+mod writing;
+
+pub use error::PayloadError;
+pub use kinds::{is_control_kind, is_meta_kind, kind_of_control, kind_of_meta};
+pub use laws::{one_control, one_meta};
+pub use lists::{Ids, NameBytes, Text};
+pub use message::{Control, Meta, Tiers};
+pub use reading::{read_control, read_meta};
+pub use writing::{write_control, write_meta};
+
+#[cfg(test)]
+mod tests;

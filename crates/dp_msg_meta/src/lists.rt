@@ -1,0 +1,180 @@
+//! Lists of bytes that messages hold.
+
+ghost use Rattle.std.specs.Prelude.{◌≡◌, ◌≤◌, ◌↔◌, List, ℕ, [], length, IfOk, IfSome, IsSome, string_bytes, vec_len};
+ghost use Rattle.dp_msg_meta.specs.Fields.{IsText};
+
+use std::alloc::{AllocError, Global};
+use std::marker::Model;
+
+/// User ids, at most 255 of them.
+#[derive(Debug, Drop)]
+pub struct Ids {
+    ids: Vec<u8>,
+}
+
+impl Model for Ids {
+    ghost Value = { List ℕ };
+
+    ghost view = { λ l. l.ids.items };
+
+    ghost invariant = { λ l. length l.ids.items ≤ 255 };
+}
+
+impl Ids {
+    /// No ids.
+    pub fn new(alloc: Global) -> Ids
+        ensures { result ≡ [] }
+    {
+        Ids {
+            ids: Vec::new(alloc),
+        }
+    }
+
+    /// The ids of a vector.
+    pub fn from_vec(ids: Vec<u8>) -> Ids
+        requires { vec_len ids ≤ 255 }
+        ensures { result ≡ ids.items }
+    {
+        Ids { ids }
+    }
+
+    /// The ids as a slice.
+    pub fn as_slice(&self) -> &[u8]
+        ensures value { result.now ≡ self.now }
+        ensures short { length self.now ≤ 255 }
+    {
+        self.ids.as_slice()
+    }
+
+    /// The same ids again.
+    pub fn copy(&self) -> Result<Ids, AllocError>
+        ensures { IfOk result (λ ids. ids ≡ self.now) }
+    {
+        Ok(Ids {
+            ids: self.ids.clone()?,
+        })
+    }
+}
+
+/// The name of a Hello: any bytes, at most 32 of them.
+#[derive(Debug, Drop)]
+pub struct NameBytes {
+    bytes: Vec<u8>,
+}
+
+impl Model for NameBytes {
+    ghost Value = { List ℕ };
+
+    ghost view = { λ n. n.bytes.items };
+
+    ghost invariant = { λ n. length n.bytes.items ≤ 32 };
+}
+
+impl NameBytes {
+    /// The empty name.
+    pub fn new(alloc: Global) -> NameBytes
+        ensures { result ≡ [] }
+    {
+        NameBytes {
+            bytes: Vec::new(alloc),
+        }
+    }
+
+    /// The name of these bytes.
+    pub fn from_vec(bytes: Vec<u8>) -> NameBytes
+        requires { vec_len bytes ≤ 32 }
+        ensures { result ≡ bytes.items }
+    {
+        NameBytes { bytes }
+    }
+
+    /// The bytes of the name.
+    pub fn as_slice(&self) -> &[u8]
+        ensures value { result.now ≡ self.now }
+        ensures short { length self.now ≤ 32 }
+    {
+        self.bytes.as_slice()
+    }
+
+    /// The same name again.
+    pub fn copy(&self) -> Result<NameBytes, AllocError>
+        ensures { IfOk result (λ name. name ≡ self.now) }
+    {
+        Ok(NameBytes {
+            bytes: self.bytes.clone()?,
+        })
+    }
+}
+
+/// A text: UTF-8, at most 65,535 bytes of it.
+#[derive(Debug, Drop)]
+pub struct Text {
+    text: String,
+}
+
+impl Model for Text {
+    ghost Value = { List ℕ };
+
+    ghost view = { λ t. string_bytes t.text };
+
+    ghost invariant = { λ t. length (string_bytes t.text) ≤ 65535 };
+}
+
+impl Text {
+    /// The empty text.
+    pub fn new(alloc: Global) -> Text
+        ensures { result ≡ [] }
+    {
+        Text {
+            text: String::new(alloc),
+        }
+    }
+
+    /// The text of these bytes. `None` exactly where they are no UTF-8 or too many.
+    pub fn from_vec(bytes: Vec<u8>) -> Option<Text>
+        ensures valid { IsSome result ↔ IsText bytes.items }
+        ensures value { IfSome result (λ text. text ≡ bytes.items) }
+    {
+        if bytes.len() > 65535 {
+            return None;
+        }
+        match String::from_utf8(bytes) {
+            Ok(text) => Some(Text { text }),
+            Err(_) => None,
+        }
+    }
+
+    /// A text with a copy of these characters.
+    pub fn from_str(alloc: Global, text: &str) -> Result<Text, AllocError>
+        requires { length text.now ≤ 65535 }
+        ensures { IfOk result (λ made. made ≡ text.now) }
+    {
+        Ok(Text {
+            text: String::from_str(alloc, text)?,
+        })
+    }
+
+    /// The bytes of the text.
+    pub fn as_slice(&self) -> &[u8]
+        ensures value { result.now ≡ self.now }
+        ensures text { IsText self.now }
+    {
+        self.text.as_bytes()
+    }
+
+    /// The text.
+    pub fn as_str(&self) -> &str
+        ensures { result.now ≡ self.now }
+    {
+        self.text.as_str()
+    }
+
+    /// The same text again.
+    pub fn copy(&self) -> Result<Text, AllocError>
+        ensures { IfOk result (λ text. text ≡ self.now) }
+    {
+        Ok(Text {
+            text: self.text.clone()?,
+        })
+    }
+}

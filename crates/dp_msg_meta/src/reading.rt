@@ -1,0 +1,41 @@
+//! Reading a payload.
+
+ghost use Rattle.std.specs.Prelude.{◌≡◌, IfOk, MatchResult};
+ghost use Rattle.dp_msg_meta.specs.Payloads.{IsControlKind, IsMetaKind, SpellsControl, SpellsMeta};
+
+use crate::error::PayloadError;
+use crate::message::{Control, Meta};
+use crate::{control_reader, meta_reader};
+use std::alloc::Global;
+
+/// The control message that a payload of its kind spells. `Malformed` comes exactly where it spells
+/// none, and `Memory` only for want of memory.
+///
+/// The rule: docs/protocol.md, "Messages".
+pub fn read_control(alloc: Global, kind: u8, payload: &[u8]) -> Result<Control, PayloadError>
+    requires { IsControlKind kind }
+    // What is read is spelled so.
+    ensures found { IfOk result (λ m. SpellsControl kind payload.now m) }
+    // What is spelled so is read, unless memory runs out.
+    ensures only { (m : Control) → SpellsControl kind payload.now m → MatchResult result (λ found. found ≡ m) (λ e. e ≡ PayloadError.Memory) }
+    // What is refused spells nothing.
+    ensures malformed { result ≡ Err PayloadError.Malformed → (m : Control) → SpellsControl kind payload.now m → ⊥ }
+{
+    control_reader::read(alloc, kind, payload)
+}
+
+/// The meta message that a payload of its kind spells. `Malformed` comes exactly where it spells
+/// none, and `Memory` only for want of memory.
+///
+/// The rule: docs/protocol.md, "Messages".
+pub fn read_meta(alloc: Global, kind: u8, payload: &[u8]) -> Result<Meta, PayloadError>
+    requires { IsMetaKind kind }
+    // What is read is spelled so.
+    ensures found { IfOk result (λ m. SpellsMeta kind payload.now m) }
+    // What is spelled so is read, unless memory runs out.
+    ensures only { (m : Meta) → SpellsMeta kind payload.now m → MatchResult result (λ found. found ≡ m) (λ e. e ≡ PayloadError.Memory) }
+    // What is refused spells nothing.
+    ensures malformed { result ≡ Err PayloadError.Malformed → (m : Meta) → SpellsMeta kind payload.now m → ⊥ }
+{
+    meta_reader::read(alloc, kind, payload)
+}

@@ -1,0 +1,9 @@
+pub mod Canvas
+pub mod Fills
+pub mod Moves
+pub mod Resizes
+pub mod Whole
+pub mod Pieces
+pub mod Places
+pub mod Prefixes
+pub mod Replays

@@ -1,0 +1,88 @@
+-- A canvas that moves, and its sides.
+use Rattle.std.proofs.Common.{◌≡◌, ℕ, ◌+◌, ◌*◌, ◌<◌, ◌≤◌, List, [], ◌∷◌, ◌++◌, length, get_or, map, cond, Bool, Some, None, Option, refl, sym, ◌∙◌, ap, arith, ◌⊎◌, inl, inr, ⊎_elim}
+use Rattle.std.specs.Prelude.{ℤ, pos, negsuc, ◌-ℤ◌, ◌+ℤ◌, ◌≤ℤ◌, ◌<ℤ◌, replicate}
+use Rattle.std.proofs.lemmas.Bool.Decides.{nat_tests}
+use Rattle.std.proofs.lemmas.Int.{ints}
+use Rattle.std.proofs.lemmas.List.{append_assoc, length-replicate, get_or-replicate}
+use Rattle.std.proofs.lemmas.Nat.{mul-add-lt}
+use Rattle.std.proofs.Math.Nat.{mul_comm}
+use Rattle.std.proofs.Common.{to_z, of_z, w32, w64}
+use lib.IntN.{nat_abs}
+use Rattle.dp_blend.specs.Color.{Channels, clear}
+use Rattle.dp_plain.specs.Board.{below, canvas_of}
+use Rattle.dp_plain.specs.Drawing.{is_side, side, old_pixel, pixels_moved}
+use Rattle.dp_plain.specs.Moving.{pixel_in, row_moved}
+use Rattle.dp_plain.proofs.Canvas.{is_canvas_of, canvas_of-more, row_more}
+
+-- ---- sides
+
+-- a whole number from 1 to 4096 is the length of a side
+side_in_range : (n : ℤ) → pos 1 ≤ℤ n → n ≤ℤ pos 4096 → Some (nat_abs n) ≡ cond (is_side n) (Some (side n)) None
+side_in_range (pos n) low high =
+    let at_least : 1 ≤ n = omega (arith, ints) in
+    let at_most : n ≤ 4096 = omega (arith, ints) in
+    let test : is_side (pos n) ≡ Bool.true = grind (arith, nat_tests) in
+    rw test refl
+side_in_range (negsuc n) low high = absurd (omega (arith, ints))
+
+-- the sum of a side and two offsets, as the code computes it
+abbrev pub grown : ℕ → ℤ → ℤ → ℤ
+grown old before after =
+    to_z w64 (of_z w64 (to_z w64 (of_z w64 (to_z w64 old +ℤ to_z w64 (of_z w64 (to_z w32 (of_z w32 before))))) +ℤ to_z w64 (of_z w64 (to_z w32 (of_z w32 after)))))
+
+pub side_from_range : (m n : ℤ) → m ≡ n → pos 1 ≤ℤ n → n ≤ℤ pos 4096 → Some (nat_abs m) ≡ cond (is_side n) (Some (side n)) None
+side_from_range m n is low high = ap (λ (z : ℤ). Some (nat_abs z)) is ∙ side_in_range n low high
+
+-- another whole number is no length of a side
+pub none_below_side : (n : ℤ) → n <ℤ pos 1 → None ≡ cond (is_side n) (Some (side n)) None
+none_below_side (pos n) low =
+    let at_most : n < 1 = omega (arith, ints) in
+    let test : is_side (pos n) ≡ Bool.false = grind (arith, nat_tests) in
+    rw test refl
+none_below_side (negsuc n) low = refl
+
+pub none_above_side : (n : ℤ) → pos 4096 <ℤ n → None ≡ cond (is_side n) (Some (side n)) None
+none_above_side (pos n) high =
+    let at_least : 4096 < n = omega (arith, ints) in
+    let test : is_side (pos n) ≡ Bool.false = grind (arith, nat_tests) in
+    rw test refl
+none_above_side (negsuc n) high = refl
+
+-- ---- rows
+
+map-same : {A B : Type 0} (f g : A → B) (xs : List A) → ((x : A) → f x ≡ g x) → map f xs ≡ map g xs
+map-same f g [] same = refl
+map-same f g (x ∷ xs) same = ap (λ y. y ∷ map f xs) (same x) ∙ ap (λ ys. g x ∷ ys) (map-same f g xs same)
+
+-- the difference of a place and an offset, as the code computes it
+abbrev pub difference : ℕ → ℤ → ℤ
+difference place offset = to_z w64 (of_z w64 (to_z w64 place -ℤ to_z w64 (of_z w64 (to_z w32 (of_z w32 offset)))))
+
+-- one pixel more of a row that moves
+pub row_moved_more : (before now row : List Channels) (left place : ℤ) (n : ℕ) (p : Channels) → now ≡ before ++ row_moved n row left
+    → p ≡ pixel_in row place → place ≡ pos n -ℤ left → now ++ p ∷ [] ≡ before ++ row_moved (n + 1) row left
+row_moved_more before now row left place n p is pixel at =
+    ap (λ ps. ps ++ p ∷ []) is
+    ∙ (append_assoc before (row_moved n row left) (p ∷ [])
+    ∙ (ap (λ q. before ++ (row_moved n row left ++ q ∷ [])) (pixel ∙ ap (λ z. pixel_in row z) at)
+    ∙ ap (λ ps. before ++ ps) (sym (row_more (λ x. pixel_in row (pos x -ℤ left)) n))))
+
+-- one row more of a canvas that moves
+pub pixels_moved_more : (width height : ℕ) (pixels now row : List Channels) (new_width k : ℕ) (left top y : ℤ)
+    → now ≡ pixels_moved width height pixels new_width k left top → y ≡ pos k -ℤ top
+    → ((x : ℤ) → pixel_in row x ≡ old_pixel width height pixels x y)
+    → now ++ row_moved new_width row left ≡ pixels_moved width height pixels new_width (k + 1) left top
+pixels_moved_more width height pixels now row new_width k left top y is place same =
+    let moved : row_moved new_width row left ≡ map (λ x. old_pixel width height pixels (pos x -ℤ left) (pos k -ℤ top)) (below new_width) =
+    map-same _ _ (below new_width) (λ x. same (pos x -ℤ left) ∙ ap (λ z. old_pixel width height pixels (pos x -ℤ left) z) place) in
+    ap (λ ps. ps ++ row_moved new_width row left) is
+    ∙ (ap (λ ps. pixels_moved width height pixels new_width k left top ++ ps) moved
+    ∙ sym (canvas_of-more new_width k (λ x y. old_pixel width height pixels (pos x -ℤ left) (pos y -ℤ top))))
+
+-- ---- clear canvases
+
+-- a canvas of one colour
+pub replicate-canvas : (width height : ℕ) (p : Channels) → replicate (width * height) p ≡ canvas_of width height (λ x y. p)
+replicate-canvas width height p =
+    is_canvas_of width height (λ x y. p) (replicate (width * height) p) (length-replicate (width * height) p) (λ x y in_x in_y.
+    get_or-replicate (width * height) (y * width + x) p clear (omega (arith, mul-add-lt y width x height in_y in_x)))

@@ -1,0 +1,52 @@
+-- The board on new sides.
+use Rattle.std.proofs.Common.{◌≡◌, ℕ, ◌≤◌, List, map, cond, Bool, true, false, ◌&&◌, Some, None, Option, refl, sym, ◌∙◌, ap, arith, ◌⊎◌, ⊎_elim}
+use Rattle.std.specs.Prelude.{ℤ, pos, negsuc, ◌+ℤ◌, nat_le, nat_lt, nat_eq, not, length, ◌<◌}
+use Rattle.std.proofs.lemmas.Bool.{and_from, and_left, and_right, and_parts, false_from_ne_true, cond-true, cond-false, leb-true, ltb-true}
+use Rattle.std.proofs.lemmas.Option.{cond_some, none-some}
+use Rattle.dp_plain.specs.Board.{Row, Board}
+use Rattle.dp_plain.specs.Drawing.{is_side, side, pixels_moved, with_pixels, resized, has_layer, can_create}
+
+-- the length of a side, where the whole number is one
+abbrev pub side_if : ℤ → Option ℕ
+side_if n = cond (is_side n) (Some (side n)) None
+
+not_side : (n : ℤ) → None ≡ side_if n → is_side n ≡ false
+not_side n h = false_from_ne_true (is_side n) (λ t. none-some (side n) (h ∙ cond-true (is_side n) (Some (side n)) None t))
+
+-- a side is at most 4096 long
+pub side_fits : (n : ℤ) (m : ℕ) → Some m ≡ side_if n → m ≤ 4096
+side_fits (pos n) m found =
+    let chosen = cond_some (is_side (pos n)) (side (pos n)) m (sym found) in
+    let bounds = and_parts (nat_le 1 n) (nat_le n 4096) chosen.0 in
+    rw chosen.1 at (leb-true n 4096 bounds.1)
+side_fits (negsuc n) m found = absurd (none-some m (sym found))
+
+-- with both sides the board is resized
+pub resized_to : (board : Board) (top right bottom left : ℤ) (width height : ℕ) (rows : List Row)
+    → Some width ≡ side_if (pos board.width +ℤ left +ℤ right) → Some height ≡ side_if (pos board.height +ℤ top +ℤ bottom)
+    → rows ≡ map (λ (row : Row). with_pixels row (pixels_moved board.width board.height row.pixels width height left top)) board.rows
+    → record { width = width; height = height; rows = rows } ≡ resized board top right bottom left
+resized_to board top right bottom left width height rows is_width is_height is =
+    let w = cond_some (is_side (pos board.width +ℤ left +ℤ right)) (side (pos board.width +ℤ left +ℤ right)) width (sym is_width) in
+    let h = cond_some (is_side (pos board.height +ℤ top +ℤ bottom)) (side (pos board.height +ℤ top +ℤ bottom)) height (sym is_height) in
+    rw (w.0, h.0, w.1, h.1) (ap (λ (rs : List Row). record { width = width; height = height; rows = rs }) is)
+
+-- with one that is no side it stays
+pub resized_not : (board : Board) (top right bottom left : ℤ)
+    → (None ≡ side_if (pos board.width +ℤ left +ℤ right)) ⊎ (None ≡ side_if (pos board.height +ℤ top +ℤ bottom))
+    → board ≡ resized board top right bottom left
+resized_not board top right bottom left none =
+    let width : ℤ = pos board.width +ℤ left +ℤ right in
+    let height : ℤ = pos board.height +ℤ top +ℤ bottom in
+    let test : (is_side width && is_side height) ≡ false =
+    ⊎_elim (λ (h : None ≡ side_if width). and_left (is_side width) (is_side height) (not_side width h))
+    (λ (h : None ≡ side_if height). and_right (is_side width) (is_side height) (not_side height h)) none in
+    sym (cond-false (is_side width && is_side height) _ board test)
+
+-- where a layer may be created, fewer than 256 stand
+pub few_from_can_create : (board : Board) (id parent : ℕ) (group : Bool) → can_create board id parent group ≡ true → length board.rows < 256
+few_from_can_create board id parent group can =
+    let front = and_parts _ (not group) can in
+    let places = and_parts _ (nat_eq parent 0) front.0 in
+    let fronts = and_parts _ (nat_lt (length board.rows) 256) places.0 in
+    ltb-true (length board.rows) 256 fronts.1

@@ -1,0 +1,15 @@
+use Rattle.std.proofs.Common.{◌-◌, ◌≤◌}
+use Rattle.std.specs.Io.KnownBytes.{Appends}
+use Rattle.dp_plain.specs.Places.{bytes_from}
+use Rattle.dp_plain.proofs.picture.put_pixels.Given as goal
+
+-- the pixels before the place were written, and no count fell
+abbrev pub invariant-loop-from : goal.invariant-loop-from
+invariant-loop-from g l = record {
+  within : l.from ≤ l.places;
+  written : Appends (g.S.Sink.held l.initial.out) (g.S.Sink.held l.out) (bytes_from l.rows 0 l.from);
+  later : g.S.Sink.faults l.initial.out ≤ g.S.Sink.faults l.out;
+}
+
+abbrev pub decreases-loop-from : goal.decreases-loop-from
+decreases-loop-from g l = l.places - l.from

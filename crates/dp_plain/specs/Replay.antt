@@ -1,0 +1,40 @@
+-- The replay of a history: the commands that are drawn after undo and redo, on an empty board.
+use Rattle.std.specs.Prelude.{ℕ, ◌==◌, Bool, true, false, List, map, if◌then◌else◌}
+use Rattle.dp_msg_draw.specs.declared.draw.Draw.{Draw}
+use Rattle.dp_messages.specs.declared.message.Msg.{Msg}
+use Rattle.dp_messages.specs.declared.message.Msg.TheVariants as msg
+use Rattle.dp_messages.specs.declared.message.Entry.{Entry}
+use Rattle.dp_board.specs.declared.act.Act.{Act}
+use Rattle.dp_board.specs.declared.act.Act.TheVariants as act
+use Rattle.dp_board.specs.declared.act.UserAct.{UserAct}
+use Rattle.dp_board.specs.Commands.{drawn}
+use Rattle.dp_plain.specs.Board.{Board, empty_board}
+use Rattle.dp_plain.specs.Drawing.{draw_all}
+
+-- the user whose group an undo or a redo moves: the target, or the sender where it is 0
+abbrev pub moved_user : ℕ → ℕ → ℕ
+moved_user sender target = if target == 0 then sender else target
+
+-- what a message of a sender does to strokes
+abbrev pub act_of_message : ℕ → Msg → Act Draw
+act_of_message sender msg.Point = act.Point
+act_of_message sender (msg.Undo target false) = act.Undo (moved_user sender target)
+act_of_message sender (msg.Undo target true) = act.Redo (moved_user sender target)
+act_of_message sender (msg.Draw command) = act.Draw command
+
+-- what an entry does to strokes
+abbrev pub act_of : Entry → UserAct Draw
+act_of entry = record { user = entry.user; act = act_of_message entry.user entry.msg }
+
+-- a group can be undone and redone while its point is among the last 30
+abbrev pub undo_depth : ℕ
+undo_depth = 30
+
+-- the commands of a history that are drawn at its end, on an empty board, in its order
+abbrev pub replay : List Entry → Board
+replay entries = draw_all empty_board (drawn undo_depth (map act_of entries))
+
+-- What a history shows: the replay of its entries behind the last mark of a reset. No such mark is built yet, so
+-- these are all its entries.
+abbrev pub shown : List Entry → Board
+shown entries = replay entries

@@ -1,0 +1,148 @@
+// The drawing commands, each on the whole board.
+ghost use Rattle.std.specs.Prelude.{◌≡◌, ◌*◌, ◌≤◌, false, length, map, All, IfOk, OnOk, OnErr, IsOk};
+ghost use Rattle.dp_blend.specs.Color.{clear};
+ghost use Rattle.dp_blend.specs.Blending.{mode_numbered};
+ghost use Rattle.dp_plain.specs.Board.{canvas_of};
+ghost use Rattle.dp_plain.specs.Drawing.{draw, resized, has_layer, can_create, created, filled};
+ghost use Rattle.dp_plain.specs.Memory.{takes_memory};
+
+use crate::board::{PlainBoard, PlainRow};
+use crate::fill::{Rectangle, Sides, fill_rows};
+use crate::resize::{Resize, moved_rows, new_side};
+use dp_blend::{Mode, Pixel, of_argb};
+use dp_msg_draw::{Draw, Title};
+use std::alloc::{AllocError, Global};
+
+/// How many layers a board may have.
+const MAX_LAYERS: usize = 256;
+
+/// The pixels of a clear canvas.
+fn clear_pixels(alloc: Global, width: usize, height: usize) -> Result<Vec<Pixel>, AllocError>
+    requires wide { width ≤ 4096 }
+    requires high { height ≤ 4096 }
+    ensures { IfOk result (λ pixels. pixels.items ≡ canvas_of width height (λ x y. clear)) }
+{
+    vec![in alloc; Pixel::CLEAR; width * height]
+}
+
+impl PlainBoard {
+    /// Draws the command on the board. A command that has no effect here, as one on a layer that is absent,
+    /// leaves the board as it is.
+    ///
+    /// # Errors
+    ///
+    /// Where memory runs out. The board is then as it was. Only a new size and a new layer take memory.
+    pub fn draw(&mut self, command: &Draw) -> Result<(), AllocError>
+        ensures ok { OnOk result (self.new ≡ draw self.old command.now) }
+        ensures err { OnErr result (self.new ≡ self.old) }
+        ensures memory { takes_memory command.now ≡ false → IsOk result }
+    {
+        match command {
+            Draw::CanvasResize {
+                top,
+                right,
+                bottom,
+                left,
+            } => self.resize(*top, *right, *bottom, *left),
+            Draw::LayerCreate {
+                id,
+                parent,
+                group,
+                title,
+            } => self.create(*id, *parent, *group, title),
+            Draw::FillRect {
+                layer,
+                mode,
+                x,
+                y,
+                w,
+                h,
+                color,
+            } => {
+                let area = Rectangle {
+                    x: *x,
+                    y: *y,
+                    w: *w,
+                    h: *h,
+                };
+                self.fill(*layer, *mode, area, *color);
+                Ok(())
+            }
+            _ => Ok(()),
+        }
+    }
+
+    /// Gives the canvas its new sides, where both are sides.
+    fn resize(&mut self, top: i32, right: i32, bottom: i32, left: i32) -> Result<(), AllocError>
+        ensures ok { OnOk result (self.new ≡ resized self.old top right bottom left) }
+        ensures err { OnErr result (self.new ≡ self.old) }
+    {
+        let (Some(width), Some(height)) = (
+            new_side(self.width, left, right),
+            new_side(self.height, top, bottom),
+        ) else {
+            return Ok(());
+        };
+        let resize = Resize {
+            width: self.width as usize,
+            height: self.height as usize,
+            new_width: width as usize,
+            new_height: height as usize,
+            left,
+            top,
+        };
+        let rows = moved_rows(*self.rows.allocator(), &self.rows, resize)?;
+        self.width = width;
+        self.height = height;
+        self.rows = rows;
+        Ok(())
+    }
+
+    /// A layer of the id is present.
+    fn has_layer(&self, id: u16) -> bool
+        ensures { result ≡ has_layer self.now.rows id }
+    {
+        self.rows.iter().any(|row| row.id == id)
+    }
+
+    /// A layer may be created.
+    fn can_create(&self, id: u16, parent: u16, group: bool) -> bool
+        ensures { result ≡ can_create self.now id parent group }
+    {
+        id != 0 && !self.has_layer(id) && self.rows.len() < MAX_LAYERS && parent == 0 && !group
+    }
+
+    /// Puts a new layer last, with all its pixels clear, where it may be created.
+    fn create(&mut self, id: u16, parent: u16, group: bool, title: &Title) -> Result<(), AllocError>
+        ensures ok { OnOk result (self.new ≡ created self.old id parent group title.now) }
+        ensures err { OnErr result (self.new ≡ self.old) }
+    {
+        if !self.can_create(id, parent, group) {
+            return Ok(());
+        }
+        let title = title.copy()?;
+        let pixels = clear_pixels(
+            *self.rows.allocator(),
+            self.width as usize,
+            self.height as usize,
+        )?;
+        self.rows.push(PlainRow { id, title, pixels })?;
+        Ok(())
+    }
+
+    /// Fills the rectangle on the layer of this id, if the mode is one.
+    fn fill(&mut self, layer: u16, mode: u8, area: Rectangle, color: u32)
+        ensures { self.new ≡ filled self.old layer (mode_numbered mode) area.x area.y area.w area.h color }
+    {
+        let sides = Sides {
+            width: self.width as usize,
+            height: self.height as usize,
+        };
+        if let Some(mode) = Mode::from_u8(mode) {
+            fill_rows(&mut self.rows, sides, layer, mode, of_argb(color), area);
+        }
+    }
+}
+
+#[cfg(test)]
+mod tests;
