@@ -1,6 +1,5 @@
 -- What the program answers: its status, what it writes, and the line that it says.
 use Rattle.std.specs.Prelude.{◌≡◌, ℕ, ◌⊎◌, List, [], ◌∷◌, ◌++◌, codes, decimal, map, string_bytes, Option, IfSome}
-use Rattle.std_heap.specs.declared.Global.{Global}
 use Rattle.std.specs.declared.string.String.{String}
 use Rattle.std.specs.Io.KnownBytes.{Appends, Keeps}
 use Rattle.dp_io.specs.Faults.{Rose}
@@ -12,9 +11,13 @@ use Rattle.dp_app.specs.declared.run_end.RunEnd.{RunEnd}
 use Rattle.dp_app.specs.declared.run_end.RunEnd.TheVariants.{Done, ReadFault, WriteFault, Memory, Long, Truncated, BadMessage}
 use Rattle.dp_app.specs.Input.{ComesTo}
 
+-- the command's word
+abbrev pub replay_word : List ℕ
+replay_word = codes "replay"
+
 -- the words are the single word `replay`
-abbrev pub IsReplay : List (String Global) → Type 0
-IsReplay words = map string_bytes words ≡ codes "replay" ∷ []
+abbrev pub IsReplay : {A : Type 0} → List (String A) → Type 0
+IsReplay words = map string_bytes words ≡ replay_word ∷ []
 
 -- the status of a run that ends so
 abbrev pub status_of : RunEnd → ℕ

@@ -2,7 +2,7 @@
 
 ghost use Rattle.std.specs.Prelude.{◌≡◌, ℕ, ◌+◌, ◌^◌, ◌<◌, ◌++◌, [], List, length, OnOk, IfOk, IfErr};
 ghost use Rattle.dp_frame.specs.Frames.{HoldsNoFrame};
-ghost use Rattle.dp_app.specs.History.{Follows, StopsAt, IsRefusedAt};
+ghost use Rattle.dp_app.specs.History.{Follows, StopsAt, IsStop, IsRefusedAt, IsStopFor};
 ghost use Rattle.dp_app.specs.Read.{end_of};
 ghost use Rattle.dp_messages.specs.Decoding.{Carries};
 
@@ -21,7 +21,7 @@ pub(crate) struct History {
 impl History {
     /// Of no bytes.
     pub fn new(alloc: Global) -> Self
-        ensures { Follows [] result.entries.items result.splitter }
+        ensures none { Follows [] result.entries.items result.splitter }
         ensures at { result.splitter.at + length result.splitter.held ≡ 0 }
     {
         History {
@@ -42,6 +42,7 @@ impl History {
             ≡ self.old.splitter.at + length self.old.splitter.held + length bytes.now) }
         ensures stopped { IfErr result (λ end. (read : List ℕ) → Follows read self.old.entries.items self.old.splitter
             → StopsAt (read ++ bytes.now) self.new.entries.items end) }
+        ensures stop { IfErr result IsStop }
     {
         if self.splitter.feed(bytes).is_err() {
             return Err(RunEnd::Memory);
@@ -58,15 +59,19 @@ impl History {
             ≡ self.old.splitter.at + length self.old.splitter.held }
         ensures stopped { IfErr result (λ end. (read : List ℕ) → Follows read self.old.entries.items self.old.splitter
             → StopsAt read self.new.entries.items end) }
+        ensures stop { IfErr result IsStop }
     {
-        loop {
+        'frames: loop {
             let at = self.splitter.at();
             let frame = match self.splitter.take_frame() {
                 Ok(Some(frame)) => frame,
                 Ok(None) => return Ok(()),
                 Err(AllocError) => return Err(RunEnd::Memory),
             };
-            let entry = entry_of(alloc, &frame, at)?;
+            let entry = match entry_of(alloc, &frame, at) {
+                Ok(entry) => entry,
+                Err(end) => return Err(end),
+            };
             if self.entries.push(entry).is_err() {
                 return Err(RunEnd::Memory);
             }
@@ -94,7 +99,18 @@ fn entry_of(alloc: Global, frame: &Frame, at: u64) -> Result<Entry, RunEnd>
 {
     match decode(alloc, frame) {
         Ok(entry) => Ok(entry),
-        Err(DecodeError::Memory) => Err(RunEnd::Memory),
-        Err(_) => Err(RunEnd::BadMessage(at)),
+        Err(error) => Err(stop_for(error, at)),
+    }
+}
+
+/// How reading stops at a frame that gives no entry.
+fn stop_for(error: DecodeError, at: u64) -> RunEnd
+    ensures { IsStopFor error at result }
+{
+    match error {
+        DecodeError::Unknown(_) => RunEnd::BadMessage(at),
+        DecodeError::Malformed(_) => RunEnd::BadMessage(at),
+        DecodeError::Unbuilt(_) => RunEnd::BadMessage(at),
+        DecodeError::Memory => RunEnd::Memory,
     }
 }

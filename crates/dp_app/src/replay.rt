@@ -23,10 +23,11 @@ pub(crate) fn run_replay<I: Source, O: Sink>(alloc: Global, input: &mut I, outpu
     ensures output_later { O.faults output.old ≤ O.faults output.new }
     ensures to_end { ReadsToEnd result → IsAtEnd (I.left input.new) }
 {
-    let Reading { entries, end } = read_entries(alloc, input);
-    match end {
-        RunEnd::Done | RunEnd::Truncated(_) => write_shown(alloc, &entries, output, end),
-        _ => end,
+    let Reading { history, end } = read_entries(alloc, input);
+    if end.reads_to_end() {
+        write_shown(alloc, &history.entries, output, end)
+    } else {
+        end
     }
 }
 

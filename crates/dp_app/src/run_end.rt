@@ -1,6 +1,6 @@
 //! How a run ends.
 
-ghost use Rattle.std.specs.Prelude.{◌≡◌};
+ghost use Rattle.std.specs.Prelude.{◌≡◌, IsTrue};
 
 /// How a run ends.
 #[derive(Clone, Copy, Debug, PartialEq, Eq)]
@@ -23,6 +23,7 @@ pub enum RunEnd {
 
 impl RunEnd {
     ghost use Rattle.dp_app.specs.Answer.{status_of};
+    ghost use Rattle.dp_app.specs.Read.{ReadsToEnd};
 
     /// The program's status.
     pub fn status(self) -> u8
@@ -37,5 +38,13 @@ impl RunEnd {
             RunEnd::Truncated(_) => 9,
             RunEnd::BadMessage(_) => 10,
         }
+    }
+
+    /// Whether the input was read to its end.
+    pub(crate) fn reads_to_end(self) -> bool
+        ensures yes { IsTrue result → ReadsToEnd self }
+        ensures no { ReadsToEnd self → IsTrue result }
+    {
+        matches!(self, RunEnd::Done | RunEnd::Truncated(_))
     }
 }

@@ -1,12 +1,13 @@
 //! The lines that are said on diag.
 
-ghost use Rattle.std.specs.Prelude.{◌≡◌, ◌≤◌, ◌++◌, ℕ, List, codes, decimal, OnOk};
+ghost use Rattle.std.specs.Prelude.{◌≡◌, ◌≤◌, ◌++◌, length, codes, decimal, OnOk};
 ghost use Rattle.std.specs.Io.KnownBytes.{Appends};
 ghost use Rattle.dp_io.specs.Faults.{HasCause};
 ghost use Rattle.dp_io.specs.Streams.{GrowsByPrefix};
 ghost use Rattle.dp_app.specs.Answer.{line_of, Says, SaysUsage};
 
 use crate::RunEnd;
+use arrayvec::ArrayString;
 use dp_io::{Failed, Sink, put_all};
 use itoa::Buffer;
 
@@ -43,18 +44,20 @@ fn put_line<E: Sink>(diag: &mut E, end: RunEnd) -> Result<(), Failed>
         RunEnd::WriteFault => put_all(diag, b"write fault\n"),
         RunEnd::Memory => put_all(diag, b"out of memory\n"),
         RunEnd::Long => put_all(diag, b"input too long\n"),
-        RunEnd::Truncated(at) => put_place(diag, b"truncated at ", at),
-        RunEnd::BadMessage(at) => put_place(diag, b"bad message at ", at),
+        RunEnd::Truncated(at) => put_all(diag, place_line("truncated at ", at).as_bytes()),
+        RunEnd::BadMessage(at) => put_all(diag, place_line("bad message at ", at).as_bytes()),
     }
 }
 
-fn put_place<E: Sink>(diag: &mut E, words: &[u8], at: u64) -> Result<(), Failed>
-    ensures line { OnOk result (Appends (E.held diag.old) (E.held diag.new) (words.now ++ decimal at ++ codes "\n")) }
-    ensures prefix { GrowsByPrefix (E.held diag.old) (E.held diag.new) (words.now ++ decimal at ++ codes "\n") }
-    ensures cause { HasCause (E.faults diag.old) (E.faults diag.new) result }
+/// The words, and then the place in decimal, as a line.
+fn place_line(words: &str, at: u64) -> ArrayString<96>
+    requires { length words.now ≤ 32 }
+    ensures { result.bytes ≡ words.now ++ decimal at ++ codes "\n" }
 {
     let mut digits = Buffer::new();
-    put_all(diag, words)?;
-    put_all(diag, digits.format(at).as_bytes())?;
-    put_all(diag, b"\n")
+    let mut line = ArrayString::new();
+    line.push_str(words);
+    line.push_str(digits.format(at));
+    line.push_str("\n");
+    line
 }

@@ -1,5 +1,5 @@
 -- A rectangle of a canvas that is filled row by row.
-use Rattle.std.proofs.Common.{◌≡◌, ℕ, ◌+◌, ◌-◌, ◌*◌, ◌<◌, ◌≤◌, min, List, [], ◌∷◌, ◌++◌, length, get_or, take, drop, map, cond, Bool, true, false, ◌&&◌, nat_lt, nat_le, ltb, leb, refl, sym, ◌∙◌, ap, arith, inl, inr, ⊎_elim, length-append}
+use Rattle.std.proofs.Common.{◌≡◌, ℕ, ◌+◌, ◌-◌, ◌*◌, ◌<◌, ◌≤◌, min, List, ◌++◌, length, get_or, take, drop, map, cond, true, false, ◌&&◌, nat_lt, nat_le, ltb, leb, refl, ◌∙◌, ap, arith, ⊎_elim}
 use Rattle.std.proofs.lemmas.Bool.{cases_lt, cases_order}
 use Rattle.std.proofs.lemmas.Bool.Decides.{nat_tests}
 use Rattle.std.proofs.lemmas.List.{get_or_append_left, get_or-append_right, get_or-take, get_or-drop, get_or-map, length-take-le, length-take, length-drop, length-map}
@@ -7,7 +7,7 @@ use Rattle.std.proofs.Math.Nat.{mul_comm, mul-le-mul_right}
 use Rattle.dp_blend.specs.Color.{Channels, clear}
 use Rattle.dp_blend.specs.Blending.{blend}
 use Rattle.dp_blend.specs.declared.modes.Mode.{Mode}
-use Rattle.dp_plain.specs.Board.{canvas_of, pixel_at}
+use Rattle.dp_plain.specs.Board.{pixel_at}
 use Rattle.dp_plain.specs.Drawing.{is_inside, pixels_filled}
 use Rattle.dp_plain.proofs.Canvas.{is_canvas_of, get_or-canvas_of, length-canvas_of, canvas_of-same}
 use borrow.Rule.Slice.PartMut.{mid_of, post_of, put_mid, same_len_mid}

@@ -1,10 +1,10 @@
 -- The board on new sides.
-use Rattle.std.proofs.Common.{◌≡◌, ℕ, ◌≤◌, List, map, cond, Bool, true, false, ◌&&◌, Some, None, Option, refl, sym, ◌∙◌, ap, arith, ◌⊎◌, ⊎_elim}
+use Rattle.std.proofs.Common.{◌≡◌, ℕ, ◌≤◌, List, map, cond, Bool, true, false, ◌&&◌, Some, None, Option, sym, ◌∙◌, ap, ◌⊎◌, ⊎_elim}
 use Rattle.std.specs.Prelude.{ℤ, pos, negsuc, ◌+ℤ◌, nat_le, nat_lt, nat_eq, not, length, ◌<◌}
-use Rattle.std.proofs.lemmas.Bool.{and_from, and_left, and_right, and_parts, false_from_ne_true, cond-true, cond-false, leb-true, ltb-true}
+use Rattle.std.proofs.lemmas.Bool.{and_left, and_right, and_parts, false_from_ne_true, cond-true, cond-false, leb-true, ltb-true}
 use Rattle.std.proofs.lemmas.Option.{cond_some, none-some}
 use Rattle.dp_plain.specs.Board.{Row, Board}
-use Rattle.dp_plain.specs.Drawing.{is_side, side, pixels_moved, with_pixels, resized, has_layer, can_create}
+use Rattle.dp_plain.specs.Drawing.{is_side, side, pixels_moved, with_pixels, resized, can_create}
 
 -- the length of a side, where the whole number is one
 abbrev pub side_if : ℤ → Option ℕ

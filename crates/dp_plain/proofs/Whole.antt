@@ -1,12 +1,12 @@
 -- What is drawn on a whole board leaves it whole.
-use Rattle.std.proofs.Common.{◌≡◌, ℕ, ◌+◌, ◌*◌, ◌<◌, ◌≤◌, List, [], ◌∷◌, ◌++◌, length, get_or, map, cond, Bool, true, false, nat_eq, refl, sym, ◌∙◌, ap, arith, All}
+use Rattle.std.proofs.Common.{◌≡◌, ℕ, ◌*◌, ◌<◌, ◌≤◌, List, [], ◌∷◌, ◌++◌, length, get_or, map, cond, nat_eq, arith}
 use Rattle.std.specs.Prelude.{ℤ}
 use Rattle.std.proofs.lemmas.Bool.{cond_both}
 use Rattle.std.proofs.lemmas.List.{length_push, length-map}
 use Rattle.std.proofs.lemmas.List.Elements.{All-push, All-map}
 use Rattle.dp_blend.specs.Color.{Channels}
 use Rattle.dp_blend.specs.declared.modes.Mode.{Mode}
-use Rattle.dp_plain.specs.Board.{Row, Board, IsWhole}
+use Rattle.dp_plain.specs.Board.{Row, IsWhole}
 use Rattle.dp_plain.specs.Drawing.{with_pixels, pixels_moved, pixels_filled}
 use Rattle.dp_plain.proofs.Canvas.{length-canvas_of}
 

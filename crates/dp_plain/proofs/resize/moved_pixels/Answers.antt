@@ -1,4 +1,4 @@
-use Rattle.std.proofs.Common.{arith, rules, ◌≡◌, ◌∙◌, ◌++◌, ap, to_z, of_z, w32}
+use Rattle.std.proofs.Common.{arith, rules, ◌∙◌, ◌++◌, ap, w32}
 use Rattle.std.specs.Prelude.{ℤ, FitsSigned}
 use Rattle.std.proofs.lemmas.Int.{ints, to_z-of_z}
 use Rattle.dp_plain.specs.Moving.{row_moved}

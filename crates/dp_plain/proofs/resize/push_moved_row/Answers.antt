@@ -1,4 +1,4 @@
-use Rattle.std.proofs.Common.{arith, ◌≡◌, ◌∙◌, to_z, of_z, w32}
+use Rattle.std.proofs.Common.{arith, ◌∙◌, to_z, of_z, w32}
 use Rattle.std.specs.Prelude.{ℤ}
 use Rattle.std.proofs.lemmas.Int.{ints}
 use Rattle.dp_plain.proofs.Moves.{difference, row_moved_more}

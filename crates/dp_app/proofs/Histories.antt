@@ -1,0 +1,100 @@
+-- Histories, a frame at a time.
+use Rattle.std.proofs.Common.{◌≡◌, ℕ, ◌+◌, List, [], ◌∷◌, ◌++◌, length, refl, sym, ap, ◌∙◌, subst, append_assoc, length-append, arith}
+use Rattle.std.specs.List.{AllZip, AllByRecursion, flat_map}
+use Rattle.std.proofs.lemmas.Grind.{flat_map-append}
+use Rattle.dp_frame.specs.Frames.{FrameParts, IsFrame, spelling, HoldsNoFrame, Splits}
+use Rattle.dp_frame.specs.Stream.{Stream}
+use Rattle.dp_messages.specs.declared.message.Entry.{Entry}
+use Rattle.dp_messages.specs.Decoding.{Carries, CarriesNothing}
+use Rattle.dp_messages.specs.declared.decoding.DecodeError.{DecodeError}
+use Rattle.dp_messages.specs.declared.decoding.DecodeError.TheVariants as refusal
+use Rattle.dp_app.specs.declared.run_end.RunEnd.{RunEnd}
+use Rattle.dp_app.specs.declared.run_end.RunEnd.TheVariants.{Done, ReadFault, WriteFault, Memory, Long, Truncated, BadMessage}
+use Rattle.dp_app.specs.Input.{Tells, TellsUpTo}
+use Rattle.dp_app.specs.History.{Follows, IsStop, StopsAt, IsRefusedAt, IsStopFor}
+
+each_more : (frames : List FrameParts) (f : FrameParts) → AllByRecursion IsFrame frames → IsFrame f → AllByRecursion IsFrame (frames ++ f ∷ [])
+each_more [] f each fits = (fits, tt)
+each_more (g ∷ frames) f each fits = (each.0, each_more frames f each.1 fits)
+
+carry_more : (frames : List FrameParts) (entries : List Entry) (f : FrameParts) (e : Entry) → AllZip Carries frames entries → Carries f e → AllZip Carries (frames ++ f ∷ []) (entries ++ e ∷ [])
+carry_more [] [] f e carry c = (c, tt)
+carry_more [] (d ∷ entries) f e carry c = absurd carry
+carry_more (g ∷ frames) [] f e carry c = absurd carry
+carry_more (g ∷ frames) (d ∷ entries) f e carry c = (carry.0, carry_more frames entries f e carry.1 c)
+
+-- the bytes of frames and one more
+spelled_more : (frames : List FrameParts) (f : FrameParts) → flat_map spelling (frames ++ f ∷ []) ≡ flat_map spelling frames ++ spelling f
+spelled_more frames f = flat_map-append spelling frames (f ∷ []) ∙ ap (λ (xs : List ℕ). flat_map spelling frames ++ xs) (append_nil (spelling f))
+  where
+  append_nil : (xs : List ℕ) → xs ++ [] ≡ xs
+  append_nil [] = refl
+  append_nil (x ∷ xs) = ap (λ (ys : List ℕ). x ∷ ys) (append_nil xs)
+
+-- a frame is taken off, and its entry is kept
+pub follows_more : (read : List ℕ) (entries : List Entry) (e : Entry) (f : FrameParts) (old new : Stream) →
+    IsFrame f → Carries f e → old.held ≡ spelling f ++ new.held → new.at ≡ old.at + length (spelling f) →
+    Follows read entries old → Follows read (entries ++ e ∷ []) new
+follows_more read entries e f old new fits c held at h =
+    let more : flat_map spelling (h.frames ++ f ∷ []) ≡ flat_map spelling h.frames ++ spelling f = spelled_more h.frames f in
+    record {
+      frames = h.frames ++ f ∷ [];
+      each = each_more h.frames f h.each fits;
+      carry = carry_more h.frames entries f e h.carry c;
+      whole =
+          h.whole ∙ ap (λ (xs : List ℕ). flat_map spelling h.frames ++ xs) held
+          ∙ sym (append_assoc (flat_map spelling h.frames) (spelling f) new.held)
+          ∙ ap (λ (xs : List ℕ). xs ++ new.held) (sym more);
+      at =
+          at ∙ ap (λ (n : ℕ). n + length (spelling f)) h.at
+          ∙ sym (length-append (flat_map spelling h.frames) (spelling f)) ∙ ap length (sym more);
+    }
+
+-- a frame that carries nothing is at hand
+pub stops_at_frame : (read : List ℕ) (entries : List Entry) (f : FrameParts) (old : Stream) (rest : List ℕ) (end : RunEnd) →
+    IsFrame f → old.held ≡ spelling f ++ rest → IsRefusedAt f old.at end → Follows read entries old → StopsAt read entries end
+stops_at_frame read entries f old rest Memory fits held refused h = tt
+stops_at_frame read entries f old rest (BadMessage n) fits held refused h =
+    record {
+      frames = h.frames;
+      bad = f;
+      more = rest;
+      carry = h.carry;
+      fits = fits;
+      nothing = refused.1;
+      whole = h.whole ∙ ap (λ (xs : List ℕ). flat_map spelling h.frames ++ xs) held;
+      place = refused.0 ∙ h.at;
+    }
+stops_at_frame read entries f old rest _ fits held refused h = absurd refused
+
+pub refused_stops : (f : FrameParts) (n : ℕ) (end : RunEnd) → IsRefusedAt f n end → IsStop end
+refused_stops f n Memory refused = tt
+refused_stops f n (BadMessage m) refused = tt
+refused_stops f n _ refused = absurd refused
+
+-- the splitter is given more bytes
+pub follows_fed : (read bytes : List ℕ) (entries : List Entry) (old new : Stream) →
+    new.held ≡ old.held ++ bytes → new.at ≡ old.at → Follows read entries old → Follows (read ++ bytes) entries new
+follows_fed read bytes entries old new held at h =
+    record {
+      frames = h.frames;
+      each = h.each;
+      carry = h.carry;
+      whole =
+          ap (λ (xs : List ℕ). xs ++ bytes) h.whole ∙ append_assoc (flat_map spelling h.frames) old.held bytes
+          ∙ ap (λ (xs : List ℕ). flat_map spelling h.frames ++ xs) (sym held);
+      at = at ∙ h.at;
+    }
+
+-- where the splitter holds no whole frame, the bytes tell the entries
+pub follows_tells : (read : List ℕ) (entries : List Entry) (stream : Stream) → HoldsNoFrame stream.held → Follows read entries stream → Tells read entries stream.held
+follows_tells read entries stream none h =
+    record { frames = h.frames; carry = h.carry; splits = record { whole = h.whole; each = h.each; partial = none } }
+
+-- a frame that is refused, but for want of memory, is a bad message
+pub refused_at : (f : FrameParts) (error : DecodeError) (n : ℕ) (end : RunEnd) →
+    ((error ≡ refusal.Memory → ⊥) → CarriesNothing f) → IsStopFor error n end → IsRefusedAt f n end
+refused_at f (refusal.Unknown k) n end nothing stop = subst (λ (e : RunEnd). IsRefusedAt f n e) (sym stop) (refl, nothing (λ e. cc))
+refused_at f (refusal.Malformed k) n end nothing stop = subst (λ (e : RunEnd). IsRefusedAt f n e) (sym stop) (refl, nothing (λ e. cc))
+refused_at f (refusal.Unbuilt k) n end nothing stop = subst (λ (e : RunEnd). IsRefusedAt f n e) (sym stop) (refl, nothing (λ e. cc))
+refused_at f refusal.Memory n end nothing stop = subst (λ (e : RunEnd). IsRefusedAt f n e) (sym stop) tt
