@@ -21,25 +21,42 @@ fn frame_of(rt: &impl Abort, alloc: Global, kind: u8, payload: &[u8]) -> Result<
     Ok(Frame::new(kind, 7, Octets::from_vec(body)))
 }
 
-/// The answer to the frame. What is read is copied, and written with the same bytes again.
-fn answer(rt: &impl Abort, alloc: Global, kind: u8, payload: &[u8]) -> Result<Answer, Fail> {
-    let (answer, refused) = match decode(alloc, &frame_of(rt, alloc, kind, payload)?) {
-        Ok(entry) => {
-            let copy = entry.copy()?;
-            assert_eq!(rt; (copy.user, copy.msg.kind()), (7, kind));
-            assert!(rt; same(&copy.msg, &entry.msg));
-            let written = encode(alloc, &copy)?;
-            assert_eq!(rt; (written.kind(), written.user()), (kind, 7));
-            assert_eq!(rt; written.body().as_slice(), payload);
-            (Answer::Read, kind)
-        }
-        Err(DecodeError::Unknown(refused)) => (Answer::Unknown, refused),
-        Err(DecodeError::Malformed(refused)) => (Answer::Malformed, refused),
-        Err(DecodeError::Unbuilt(refused)) => (Answer::Unbuilt, refused),
-        Err(DecodeError::Memory) => return Err("out of memory".into()),
+/// The error as an answer about this type.
+fn refusal(rt: &impl Abort, kind: u8, error: &DecodeError) -> Answer {
+    let (answer, refused) = match error {
+        DecodeError::Unknown(refused) => (Answer::Unknown, *refused),
+        DecodeError::Malformed(refused) => (Answer::Malformed, *refused),
+        DecodeError::Unbuilt(refused) => (Answer::Unbuilt, *refused),
+        DecodeError::Memory => panic!(rt; "out of memory"),
     };
     assert_eq!(rt; refused, kind);
-    Ok(answer)
+    answer
+}
+
+/// The entry is written with this type and these bytes.
+fn is_written(
+    rt: &impl Abort,
+    alloc: Global,
+    entry: &Entry,
+    kind: u8,
+    payload: &[u8],
+) -> Result<(), Fail> {
+    let frame = encode(alloc, entry)?;
+    assert_eq!(rt; (frame.kind(), frame.user()), (kind, 7));
+    assert_eq!(rt; frame.body().as_slice(), payload);
+    Ok(())
+}
+
+/// The answer to the frame. What is read is written with the same bytes again.
+fn answer_to(rt: &impl Abort, alloc: Global, kind: u8, payload: &[u8]) -> Result<Answer, Fail> {
+    let frame = frame_of(rt, alloc, kind, payload)?;
+    match decode(alloc, &frame) {
+        Ok(entry) => {
+            is_written(rt, alloc, &entry, kind, payload)?;
+            Ok(Answer::Read)
+        }
+        Err(error) => Ok(refusal(rt, kind, &error)),
+    }
 }
 
 #[test]
@@ -88,7 +105,7 @@ fn payloads(rt: HostRuntime) -> Result<(), Fail> {
         (136, b"", Answer::Unbuilt),
     ];
     for (kind, payload, expected) in table {
-        let found = answer(&rt, rt.alloc(), kind, payload)?;
+        let found = answer_to(&rt, rt.alloc(), kind, payload)?;
         assert_eq!(rt; found, expected, "{payload:?} of type {kind}");
     }
     Ok(())
@@ -97,42 +114,54 @@ fn payloads(rt: HostRuntime) -> Result<(), Fail> {
 #[test]
 fn types_of_no_message_that_is_built(rt: HostRuntime) -> Result<(), Fail> {
     for kind in [8, 20, 31, 38, 63] {
-        let found = answer(&rt, rt.alloc(), kind, b"\0")?;
+        let found = answer_to(&rt, rt.alloc(), kind, b"\0")?;
         assert_eq!(rt; found, Answer::Unknown, "type {kind}");
     }
     for kind in [0, 7, 32, 37, 64, 131, 136, 200] {
-        let found = answer(&rt, rt.alloc(), kind, b"\0")?;
+        let found = answer_to(&rt, rt.alloc(), kind, b"\0")?;
         assert_eq!(rt; found, Answer::Unbuilt, "type {kind}");
     }
     Ok(())
 }
 
+/// The frame is read as user 7's message, and so is its copy.
+fn is_read(
+    rt: &impl Abort,
+    alloc: Global,
+    kind: u8,
+    payload: &[u8],
+    msg: &Msg,
+) -> Result<(), Fail> {
+    let frame = frame_of(rt, alloc, kind, payload)?;
+    let entry = decode(alloc, &frame)?.copy()?;
+    assert_eq!(rt; (entry.user, entry.msg.kind()), (7, kind));
+    assert!(rt; same(&entry.msg, msg));
+    Ok(())
+}
+
 #[test]
-fn messages(rt: HostRuntime) -> Result<(), Fail> {
-    let redo = Msg::Undo {
-        target: 3,
-        redo: true,
-    };
+fn undo_and_redo(rt: HostRuntime) -> Result<(), Fail> {
     let undo = Msg::Undo {
         target: 3,
         redo: false,
     };
+    is_read(&rt, rt.alloc(), 255, b"\x03\0", &undo)?;
+    let redo = Msg::Undo {
+        target: 3,
+        redo: true,
+    };
+    is_read(&rt, rt.alloc(), 255, b"\x03\x01", &redo)?;
+    assert!(rt; !same(&redo, &undo));
+    Ok(())
+}
+
+#[test]
+fn a_layer(rt: HostRuntime) -> Result<(), Fail> {
     let layer = Msg::Draw(Draw::LayerCreate {
         id: 0x0101,
         parent: 0,
         group: false,
         title: Title::new(rt.alloc()),
     });
-    let expected: [(u8, &[u8], &Msg); 3] = [
-        (255, b"\x03\x01", &redo),
-        (255, b"\x03\0", &undo),
-        (130, b"\x01\x01\0\0\0", &layer),
-    ];
-    for (kind, payload, msg) in expected {
-        let entry = decode(rt.alloc(), &frame_of(&rt, rt.alloc(), kind, payload)?)?;
-        assert_eq!(rt; entry.user, 7);
-        assert!(rt; same(&entry.msg, msg), "{payload:?} of type {kind}");
-    }
-    assert!(rt; !same(&redo, &undo) && !same(&Msg::Point, &undo));
-    Ok(())
+    is_read(&rt, rt.alloc(), 130, b"\x01\x01\0\0\0", &layer)
 }
