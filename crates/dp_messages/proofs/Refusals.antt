@@ -71,7 +71,7 @@ refused_carries_nothing law frame (Malformed k) a unless entry c = a.2 entry.msg
 refused_carries_nothing law frame (Unbuilt k) a unless entry c =
     let known = kind_known frame.kind frame.body entry.msg c.spelled c.built in
     elim a.1 as (λ _. ⊥) [
-      inl neither ↦ never (is_built_kind frame.kind) known.built neither.1
-    | inr other ↦ not_built law frame.kind frame.body other.0 entry.msg other.1 other.2 c.spelled c.built
+      | inl neither ↦ never (is_built_kind frame.kind) known.built neither.1
+      | inr other ↦ not_built law frame.kind frame.body other.0 entry.msg other.1 other.2 c.spelled c.built
     ]
 refused_carries_nothing law frame Memory a unless entry c = unless refl

@@ -5,3 +5,4 @@ pub mod Payloads
 pub mod Keeping
 pub mod Lengths
 pub mod Parts
+pub mod Comparing

@@ -3,6 +3,7 @@
 
 mod cursor;
 mod draw;
+mod equality;
 mod error;
 mod field;
 mod laws;
@@ -11,6 +12,7 @@ mod reading;
 mod writing;
 
 pub use draw::{Draw, TileContent, is_listed, kind_of_draw};
+pub use equality::same_draw;
 pub use error::PayloadError;
 pub use laws::one_spelling;
 pub use lists::{Colors, Dab, Dabs, TilePixel, TilePixels, Title};

@@ -9,4 +9,4 @@ returns-clause-spelling c = λ payload spelled.
     ap (λ (f : FrameParts). f.body) c.new.ensures
     ∙ c.from_vec.ensures
     ∙ c.in_ok-payload.ensures.spelling payload
-        (subst (λ (k : ℕ). Spells k payload c.args.entry.now.msg) kind spelled)
+    (subst (λ (k : ℕ). Spells k payload c.args.entry.now.msg) kind spelled)

@@ -7,5 +7,5 @@ pub returns-in_ok-write_draw-in-Draw-clause-spelling :
     goal.returns-in_ok-write_draw-in-Draw-clause-spelling
 returns-in_ok-write_draw-in-Draw-clause-spelling c = λ payload spelled.
     c.in_ok-write_draw-in-Draw.ensures.ok payload
-        (subst (λ (m : Msg). Spells (kind_of m) payload m) c.in-Draw.is spelled)
+    (subst (λ (m : Msg). Spells (kind_of m) payload m) c.in-Draw.is spelled)
     ∙ ap (λ (xs : List ℕ). xs ++ payload) c.new-payload.ensures.items
