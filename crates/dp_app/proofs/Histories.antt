@@ -1,16 +1,16 @@
 -- Histories, a frame at a time.
-use Rattle.std.proofs.Common.{◌≡◌, ℕ, ◌+◌, List, [], ◌∷◌, ◌++◌, length, refl, sym, ap, ◌∙◌, subst, append_assoc, length-append, arith}
+use Rattle.std.proofs.Common.{◌≡◌, ℕ, ◌+◌, List, [], ◌∷◌, ◌++◌, length, refl, sym, ap, ◌∙◌, subst, append_assoc, length-append}
 use Rattle.std.specs.List.{AllZip, AllByRecursion, flat_map}
 use Rattle.std.proofs.lemmas.Grind.{flat_map-append}
-use Rattle.dp_frame.specs.Frames.{FrameParts, IsFrame, spelling, HoldsNoFrame, Splits}
+use Rattle.dp_frame.specs.Frames.{FrameParts, IsFrame, spelling, HoldsNoFrame}
 use Rattle.dp_frame.specs.Stream.{Stream}
 use Rattle.dp_messages.specs.declared.message.Entry.{Entry}
 use Rattle.dp_messages.specs.Decoding.{Carries, CarriesNothing}
 use Rattle.dp_messages.specs.declared.decoding.DecodeError.{DecodeError}
 use Rattle.dp_messages.specs.declared.decoding.DecodeError.TheVariants as refusal
 use Rattle.dp_app.specs.declared.run_end.RunEnd.{RunEnd}
-use Rattle.dp_app.specs.declared.run_end.RunEnd.TheVariants.{Done, ReadFault, WriteFault, Memory, Long, Truncated, BadMessage}
-use Rattle.dp_app.specs.Input.{Tells, TellsUpTo}
+use Rattle.dp_app.specs.declared.run_end.RunEnd.TheVariants.{Memory, BadMessage}
+use Rattle.dp_app.specs.Input.{Tells}
 use Rattle.dp_app.specs.History.{Follows, IsStop, StopsAt, IsRefusedAt, IsStopFor}
 
 each_more : (frames : List FrameParts) (f : FrameParts) → AllByRecursion IsFrame frames → IsFrame f → AllByRecursion IsFrame (frames ++ f ∷ [])
@@ -27,9 +27,9 @@ carry_more (g ∷ frames) (d ∷ entries) f e carry c = (carry.0, carry_more fra
 spelled_more : (frames : List FrameParts) (f : FrameParts) → flat_map spelling (frames ++ f ∷ []) ≡ flat_map spelling frames ++ spelling f
 spelled_more frames f = flat_map-append spelling frames (f ∷ []) ∙ ap (λ (xs : List ℕ). flat_map spelling frames ++ xs) (append_nil (spelling f))
   where
-  append_nil : (xs : List ℕ) → xs ++ [] ≡ xs
-  append_nil [] = refl
-  append_nil (x ∷ xs) = ap (λ (ys : List ℕ). x ∷ ys) (append_nil xs)
+    append_nil : (xs : List ℕ) → xs ++ [] ≡ xs
+    append_nil [] = refl
+    append_nil (x ∷ xs) = ap (λ (ys : List ℕ). x ∷ ys) (append_nil xs)
 
 -- a frame is taken off, and its entry is kept
 pub follows_more : (read : List ℕ) (entries : List Entry) (e : Entry) (f : FrameParts) (old new : Stream) →

@@ -4,16 +4,16 @@ use Rattle.std.specs.Prelude.{Option, Some, None, IfSome, Ok, ◌-◌, ◌==◌}
 use Rattle.std.specs.List.{flat_map}
 use lib.Dec.{eqb-suc-zero}
 use Rattle.std.proofs.Math.Seq.{take-append-add}
-use Rattle.std.proofs.lemmas.List.{append-nil, take-append-drop, length-take}
+use Rattle.std.proofs.lemmas.List.{append-nil, take-append-drop}
 use Rattle.std.specs.Io.KnownBytes.{Consumes}
 use Rattle.dp_io.specs.declared.source.Failed.{Failed}
 use Rattle.dp_io.specs.Streams.{EndsExactly}
-use Rattle.dp_frame.specs.Frames.{FrameParts, spelling, HoldsNoFrame}
+use Rattle.dp_frame.specs.Frames.{spelling, HoldsNoFrame}
 use Rattle.dp_frame.specs.Stream.{Stream}
 use Rattle.dp_messages.specs.declared.message.Entry.{Entry}
 use Rattle.dp_app.specs.declared.run_end.RunEnd.{RunEnd}
-use Rattle.dp_app.specs.declared.run_end.RunEnd.TheVariants.{Done, ReadFault, WriteFault, Memory, Long, Truncated, BadMessage}
-use Rattle.dp_app.specs.Input.{Tells, TellsUpTo, ComesTo, input_limit}
+use Rattle.dp_app.specs.declared.run_end.RunEnd.TheVariants.{Done, WriteFault, Memory, Long, Truncated, BadMessage}
+use Rattle.dp_app.specs.Input.{Tells, TellsUpTo, input_limit}
 use Rattle.dp_app.specs.History.{Follows, IsStop, StopsAt}
 use Rattle.dp_app.specs.Read.{HasRead, EndsReading, end_of}
 use Rattle.dp_app.proofs.Histories.{follows_tells}
@@ -27,13 +27,13 @@ pub ends_read : (input : List ℕ) (entries : List Entry) (stream : Stream) → 
     Follows input entries stream → EndsReading input entries (end_of stream)
 ends_read input entries stream none short h = at_held stream.held refl
   where
-  at_held : (held : List ℕ) → stream.held ≡ held → EndsReading input entries (end_of stream)
-  at_held [] e =
-      let tells = subst (λ (xs : List ℕ). Tells input entries xs) e (follows_tells input entries stream none h) in
-      rw e (tells, short)
-  at_held (b ∷ bs) e =
-      let held : stream.held ≢ [] = λ f. let g : b ∷ bs ≡ [] = sym e ∙ f in cc in
-      rw (e, eqb-suc-zero (length bs)) (stream.held, follows_tells input entries stream none h, held, sym (read_len input entries stream h), short)
+    at_held : (held : List ℕ) → stream.held ≡ held → EndsReading input entries (end_of stream)
+    at_held [] e =
+        let tells = subst (λ (xs : List ℕ). Tells input entries xs) e (follows_tells input entries stream none h) in
+        rw e (tells, short)
+    at_held (b ∷ bs) e =
+        let held : stream.held ≢ [] = λ f. let g : b ∷ bs ≡ [] = sym e ∙ f in cc in
+        rw (e, eqb-suc-zero (length bs)) (stream.held, follows_tells input entries stream none h, held, sym (read_len input entries stream h), short)
 
 -- an input of which a chunk was read behind what was read before
 record Chunked (input : List ℕ) (left : Option (List ℕ)) (entries : List Entry) (stream : Stream) (chunk : List ℕ) : Type 0 where
@@ -47,16 +47,16 @@ chunked : (input : List ℕ) (now new : Option (List ℕ)) (entries : List Entry
     HasRead input now entries stream → Consumes now new chunk → Chunked input new entries stream chunk
 chunked input now new entries stream chunk h consumes = at_new new (subst (λ (o : Option (List ℕ)). Consumes o new chunk) h.left_is consumes)
   where
-  at_new : (new : Option (List ℕ)) → Consumes (Some h.rest) new chunk → Chunked input new entries stream chunk
-  at_new None impossible = absurd impossible
-  at_new (Some rest) e =
-      record {
-        read = h.read;
-        rest = rest;
-        left_is = refl;
-        whole = h.whole ∙ ap (λ (xs : List ℕ). h.read ++ xs) e;
-        follows = h.follows;
-      }
+    at_new : (new : Option (List ℕ)) → Consumes (Some h.rest) new chunk → Chunked input new entries stream chunk
+    at_new None impossible = absurd impossible
+    at_new (Some rest) e =
+        record {
+          read = h.read;
+          rest = rest;
+          left_is = refl;
+          whole = h.whole ∙ ap (λ (xs : List ℕ). h.read ++ xs) e;
+          follows = h.follows;
+        }
 
 -- the first bytes of a front and a rest
 take_front : (xs ys : List ℕ) (m n : ℕ) → m ≡ length xs + n → take m (xs ++ ys) ≡ xs ++ take n ys
@@ -105,12 +105,12 @@ told_at_stop (Some input) now new entries later stream room chunk piece more (Ba
     let n_read = read_len c.read entries stream c.follows in
     let tail : List ℕ = more ++ c.rest in
     let whole : input ≡ (c.read ++ piece) ++ tail =
-        c.whole ∙ ap (λ (xs : List ℕ). c.read ++ (xs ++ c.rest)) parts
-        ∙ ap (λ (xs : List ℕ). c.read ++ xs) (append_assoc piece more c.rest) ∙ sym (append_assoc c.read piece tail) in
+    c.whole ∙ ap (λ (xs : List ℕ). c.read ++ (xs ++ c.rest)) parts
+    ∙ ap (λ (xs : List ℕ). c.read ++ xs) (append_assoc piece more c.rest) ∙ sym (append_assoc c.read piece tail) in
     let front : take (2 ^ 30) ((c.read ++ piece) ++ tail) ≡ (c.read ++ piece) ++ take (room - length piece) tail =
-        take_front (c.read ++ piece) tail (2 ^ 30) (room - length piece) (omega (arith, length-append c.read piece, n_read)) in
+    take_front (c.read ++ piece) tail (2 ^ 30) (room - length piece) (omega (arith, length-append c.read piece, n_read)) in
     subst (λ (xs : List ℕ). TellsUpTo xs later n) (sym (ap (λ (xs : List ℕ). take (2 ^ 30) xs) whole ∙ front))
-        (up_to_more (c.read ++ piece) (take (room - length piece) tail) later n (stops c.read c.follows))
+    (up_to_more (c.read ++ piece) (take (room - length piece) tail) later n (stops c.read c.follows))
 told_at_stop (Some input) now new entries later stream room chunk piece more _ h fits consumes parts short stop stops = absurd stop
 
 -- the input has more bytes than count
@@ -125,15 +125,15 @@ told_too_long (Some input) now new entries later stream last room chunk piece mo
     let n_read = read_len c.read entries stream c.follows in
     let tail : List ℕ = more ++ c.rest in
     let whole : input ≡ (c.read ++ piece) ++ tail =
-        c.whole ∙ ap (λ (xs : List ℕ). c.read ++ (xs ++ c.rest)) parts
-        ∙ ap (λ (xs : List ℕ). c.read ++ xs) (append_assoc piece more c.rest) ∙ sym (append_assoc c.read piece tail) in
+    c.whole ∙ ap (λ (xs : List ℕ). c.read ++ (xs ++ c.rest)) parts
+    ∙ ap (λ (xs : List ℕ). c.read ++ xs) (append_assoc piece more c.rest) ∙ sym (append_assoc c.read piece tail) in
     let front : take (2 ^ 30) ((c.read ++ piece) ++ tail) ≡ (c.read ++ piece) ++ take 0 tail =
-        take_front (c.read ++ piece) tail (2 ^ 30) 0 (omega (arith, length-append c.read piece, n_read)) in
+    take_front (c.read ++ piece) tail (2 ^ 30) 0 (omega (arith, length-append c.read piece, n_read)) in
     let seen : c.read ++ piece ≡ take (2 ^ 30) input =
-        sym (append-nil (c.read ++ piece)) ∙ sym front ∙ sym (ap (λ (xs : List ℕ). take (2 ^ 30) xs) whole) in
-    ( last.held
-    , subst (λ (xs : List ℕ). Tells xs later last.held) seen (follows_tells (c.read ++ piece) later last none (fed c.read c.follows))
-    , omega (arith, ap length c.whole, length-append c.read (chunk ++ c.rest), length-append chunk c.rest, n_read)
+    sym (append-nil (c.read ++ piece)) ∙ sym front ∙ sym (ap (λ (xs : List ℕ). take (2 ^ 30) xs) whole) in (
+      last.held,
+      subst (λ (xs : List ℕ). Tells xs later last.held) seen (follows_tells (c.read ++ piece) later last none (fed c.read c.follows)),
+      omega (arith, ap length c.whole, length-append c.read (chunk ++ c.rest), length-append chunk c.rest, n_read),
     )
 
 -- the chunk is all counted, and the reading goes on
@@ -166,9 +166,9 @@ two_parts m n xs h = sym (take-append-drop m (take n xs)) ∙ ap (λ (ys : List 
 pub end_by_input : (stream : Stream) → end_of stream ≡ WriteFault → ⊥
 end_by_input stream e = by_test (length stream.held == 0) refl
   where
-  by_test : (b : Bool) → (length stream.held == 0) ≡ b → ⊥
-  by_test true t = let f : Done ≡ WriteFault = (rw t at e) in cc
-  by_test false t = let f : Truncated stream.at ≡ WriteFault = (rw t at e) in cc
+    by_test : (b : Bool) → (length stream.held == 0) ≡ b → ⊥
+    by_test true t = let f : Done ≡ WriteFault = (rw t at e) in cc
+    by_test false t = let f : Truncated stream.at ≡ WriteFault = (rw t at e) in cc
 
 -- nor is want of memory or a bad message
 pub stop_by_input : (end : RunEnd) → IsStop end → end ≡ WriteFault → ⊥

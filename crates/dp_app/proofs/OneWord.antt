@@ -1,5 +1,5 @@
 -- A single word.
-use Rattle.std.proofs.Common.{◌≡◌, ℕ, ◌<◌, ◌≤◌, List, [], ◌∷◌, length, get_or, map, refl, sym, ap, ◌∙◌, suc, arith, true, Bool, eqb}
+use Rattle.std.proofs.Common.{◌≡◌, ℕ, ◌<◌, ◌≤◌, List, [], ◌∷◌, length, get_or, sym, ap, ◌∙◌, arith, Bool, eqb}
 use Rattle.std.specs.Cmp.Lexicographic.{bytes_decides, pointwise}
 use Rattle.std.specs.Prelude.{String, string_bytes, IsTrue}
 use Rattle.dp_app.specs.Answer.{IsReplay, replay_word}
@@ -11,8 +11,8 @@ pub one_word : {A : Type 0} (words : List (String A)) (word : String A) (test : 
 one_word [] word test w least most t = absurd (omega arith)
 one_word (first ∷ []) word test w least most t =
     let same = bytes_decides (string_bytes word) replay_word in
-    let here = ap string_bytes w in
-    ( λ yes. ap (λ (bytes : List ℕ). bytes ∷ []) (sym here ∙ same.0 (sym t ∙ yes))
-    , λ is. t ∙ same.1 (here ∙ (let e : string_bytes first ≡ replay_word = cc in e))
+    let here = ap string_bytes w in (
+      λ yes. ap (λ (bytes : List ℕ). bytes ∷ []) (sym here ∙ same.0 (sym t ∙ yes)),
+      λ is. t ∙ same.1 (here ∙ (let e : string_bytes first ≡ replay_word = cc in e)),
     )
 one_word (first ∷ second ∷ words) word test w least most t = absurd (omega arith)

@@ -1,5 +1,5 @@
 -- What a run leaves on the output.
-use Rattle.std.proofs.Common.{◌≡◌, ◌⊎◌, ℕ, List, refl, sym, ◌∙◌, subst, inl, inr}
+use Rattle.std.proofs.Common.{◌≡◌, ℕ, List, refl, sym, ◌∙◌, subst, inl, inr}
 use Rattle.std.specs.Prelude.{Option, Some, None, IfSome}
 use Rattle.std.specs.Io.KnownBytes.{Appends, Keeps}
 use Rattle.dp_io.specs.Faults.{Rose}
@@ -9,9 +9,8 @@ use Rattle.dp_plain.specs.Replay.{shown}
 use Rattle.dp_plain.specs.Picture.{p6}
 use Rattle.dp_app.specs.declared.run_end.RunEnd.{RunEnd}
 use Rattle.dp_app.specs.declared.run_end.RunEnd.TheVariants.{Done, ReadFault, WriteFault, Memory, Long, Truncated, BadMessage}
-use Rattle.dp_app.specs.Input.{ComesTo}
 use Rattle.dp_app.specs.Read.{EndsReading, ReadsToEnd}
-use Rattle.dp_app.specs.Answer.{Leaves, ShowsWhole, ShowsPart}
+use Rattle.dp_app.specs.Answer.{Leaves, ShowsPart}
 use Rattle.dp_app.specs.Shown.{WritesShown}
 
 keeps_same : (old : Option (List ℕ)) → Keeps old old

@@ -11,3 +11,6 @@ mod words;
 
 pub use program::{Outcome, drawpile};
 pub use run_end::RunEnd;
+
+#[cfg(test)]
+mod tests;

@@ -27,7 +27,10 @@ pub(crate) fn say_usage<E: Sink>(diag: &mut E) -> u8
     ensures says { SaysUsage (E.held diag.old) (E.held diag.new) (E.faults diag.old) (E.faults diag.new) result }
     ensures later { E.faults diag.old ≤ E.faults diag.new }
 {
-    match put_all(diag, b"usage: drawpile replay, world, play, join, serve or drill\n") {
+    match put_all(
+        diag,
+        b"usage: drawpile replay, world, play, join, serve or drill\n",
+    ) {
         Ok(()) => 1,
         Err(Failed) => RunEnd::WriteFault.status(),
     }

@@ -24,7 +24,7 @@ fn flags_of(alloc: Global, done: &[SortedGroups], joins: &[Join]) -> Result<Vec<
 /// For each act whether it is a command that is drawn at the end: one of group 0, or of a group
 /// that is done then. A point is in reach of undo and redo while it is among the last `depth`
 /// points of all users. The time is in proportion to the number of acts, but for the sorting of
-/// each user's groups. The rule: docs/protocol.md, strokes, undo and replay.
+/// each user's groups. The rule: docs/protocol.md, "Strokes, undo and redo".
 ///
 /// The only error is want of memory.
 pub fn kept<Op>(alloc: Global, depth: u32, acts: &[UserAct<Op>]) -> Result<Vec<bool>, AllocError>

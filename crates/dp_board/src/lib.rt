@@ -2,7 +2,7 @@
 //!
 //! Each user has groups of commands. A point opens a group, a command joins the last done group of
 //! its user, and undo and redo move a whole group. A command of a user without a done group is in
-//! group 0, which is never undone. The rule: docs/protocol.md, strokes, undo and replay.
+//! group 0, which is never undone. The rule: docs/protocol.md, "Strokes, undo and redo".
 #![tactic(auto)]
 
 mod act;

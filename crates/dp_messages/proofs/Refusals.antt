@@ -1,16 +1,15 @@
 -- A frame that is refused, but for want of memory, carries nothing.
-use Rattle.std.proofs.Common.{◌≡◌, ℕ, ◌<◌, ◌+◌, List, Bool, true, false, IsTrue, inl, inr, refl, sym, ◌∙◌, ap, subst, arith}
+use Rattle.std.proofs.Common.{◌≡◌, ℕ, ◌<◌, List, Bool, true, false, inl, inr, refl, sym, ◌∙◌, ap, subst, arith}
 use Rattle.dp_frame.specs.Frames.{FrameParts}
 use Rattle.dp_msg_draw.specs.declared.draw.Draw.{Draw}
 use Rattle.dp_msg_draw.specs.declared.draw.Draw.TheVariants.{CanvasResize, LayerCreate, LayerAttr, LayerTitle, LayerMove, LayerDelete, PutImage, FillRect, PutTile, Background, DabsRound, DabsSquare, MoveRect}
 use Rattle.dp_msg_draw.specs.Spelling as drawing
 use Rattle.dp_messages.specs.declared.message.Msg.{Msg}
 use Rattle.dp_messages.specs.declared.message.Msg.TheVariants as msg
-use Rattle.dp_messages.specs.declared.message.Entry.{Entry}
 use Rattle.dp_messages.specs.declared.decoding.DecodeError.{DecodeError}
 use Rattle.dp_messages.specs.declared.decoding.DecodeError.TheVariants.{Unknown, Malformed, Unbuilt, Memory}
 use Rattle.dp_messages.specs.Messages.{Spells, IsBuilt, IsBuiltCommand, is_unknown, is_built_kind}
-use Rattle.dp_messages.specs.Decoding.{Carries, CarriesNothing, Answers}
+use Rattle.dp_messages.specs.Decoding.{CarriesNothing, Answers}
 use Rattle.std.specs.Prelude.{Err}
 
 -- a kind that has built messages, and isn't unknown

@@ -1,5 +1,5 @@
 -- What a frame carries, and why it carries nothing that is built.
-use Rattle.std.specs.Prelude.{◌≡◌, ℕ, ◌⊎◌, false, IsTrue, Result, Ok, Err, ⊤}
+use Rattle.std.specs.Prelude.{◌≡◌, ◌⊎◌, false, IsTrue, Result, Ok, Err, ⊤}
 use Rattle.dp_frame.specs.Frames.{FrameParts}
 use Rattle.dp_messages.specs.declared.message.Msg.{Msg}
 use Rattle.dp_messages.specs.declared.message.Entry.{Entry}

@@ -6,7 +6,3 @@ pub keeps_after : (a b c d : List ℕ) → b ≡ a ++ d → take (length b) c �
 keeps_after a b c d e keeps =
     let whole : c ≡ a ++ (d ++ drop (length b) c) = sym (take-append-drop (length b) c) ∙ ap (λ (x : List ℕ). x ++ drop (length b) c) (keeps ∙ e) ∙ append_assoc a d (drop (length b) c) in
     ap (take (length a)) whole ∙ take_at a (d ++ drop (length b) c) (length a) refl
-
-pub keeps_through : (a b c : List ℕ) → take (length a) b ≡ a → take (length b) c ≡ b → take (length a) c ≡ a
-keeps_through a b c first second =
-    keeps_after a b c (drop (length a) b) (sym (take-append-drop (length a) b) ∙ ap (λ (x : List ℕ). x ++ drop (length a) b) first) second

@@ -3,6 +3,5 @@ pub mod Rows
 pub mod OneSpelling
 pub mod Payloads
 pub mod Keeping
-pub mod Lengths
 pub mod Parts
 pub mod Comparing

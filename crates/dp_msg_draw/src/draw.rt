@@ -17,7 +17,7 @@ pub enum TileContent {
 }
 
 /// A drawing message. Each is relayed to everybody and drawn by each client.
-/// The rule: docs/protocol.md, Drawing messages.
+/// The rule: docs/protocol.md, "Drawing messages".
 #[derive(Debug, Drop)]
 pub enum Draw {
     /// The canvas grows by this many pixels on each side, or shrinks where a number is negative.

@@ -1,5 +1,5 @@
 -- The picture of a board, and its text.
-use Rattle.std.specs.Prelude.{ℕ, List, [], ◌∷◌, ◌++◌, codes, decimal, map}
+use Rattle.std.specs.Prelude.{ℕ, List, [], ◌∷◌, ◌++◌, codes, decimal}
 use Rattle.std.specs.List.{flat_map}
 use Rattle.dp_blend.specs.Color.{Channels, clear, white, to8}
 use Rattle.dp_blend.specs.Blending.{blend}

@@ -1,5 +1,5 @@
 -- The replay of a history: the commands that are drawn after undo and redo, on an empty board.
-use Rattle.std.specs.Prelude.{ℕ, ◌==◌, Bool, true, false, List, map, if◌then◌else◌}
+use Rattle.std.specs.Prelude.{ℕ, ◌==◌, true, false, List, map, if◌then◌else◌}
 use Rattle.dp_msg_draw.specs.declared.draw.Draw.{Draw}
 use Rattle.dp_messages.specs.declared.message.Msg.{Msg}
 use Rattle.dp_messages.specs.declared.message.Msg.TheVariants as msg

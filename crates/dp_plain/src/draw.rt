@@ -27,7 +27,7 @@ fn clear_pixels(alloc: Global, width: usize, height: usize) -> Result<Vec<Pixel>
 
 impl PlainBoard {
     /// Draws the command on the board. A command that has no effect here, as one on a layer that is absent,
-    /// leaves the board as it is. The rule: docs/protocol.md, The board and its layers.
+    /// leaves the board as it is. The rule: docs/protocol.md, "The board".
     ///
     /// # Errors
     ///

@@ -18,7 +18,7 @@ const PIECE: usize = 1024;
 
 /// Writes the P6 text of the board's picture. It takes no memory.
 ///
-/// At `Failed` a prefix of it was written. The rule: docs/protocol.md, Picture.
+/// At `Failed` a prefix of it was written. The rule: docs/protocol.md, "The picture".
 pub fn plain_p6<S: Sink>(board: &PlainBoard, out: &mut S) -> Result<(), Failed>
     ensures written { OnOk result (Appends (S.held out.old) (S.held out.new) (p6 board.now)) }
     ensures prefix { GrowsByPrefix (S.held out.old) (S.held out.new) (p6 board.now) }

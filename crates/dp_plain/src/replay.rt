@@ -42,7 +42,10 @@ fn kind_of_entry(entry: &Entry) -> UserAct<()>
     let user = entry.user;
     let act = match &entry.msg {
         Msg::Point => Act::Point,
-        Msg::Undo { target, redo: false } => Act::Undo {
+        Msg::Undo {
+            target,
+            redo: false,
+        } => Act::Undo {
             who: moved_user(user, *target),
         },
         Msg::Undo { target, redo: true } => Act::Redo {

@@ -1,5 +1,5 @@
-use Rattle.std.proofs.Common.{◌≡◌, ℕ, ◌<◌, ◌≤◌, length, take, drop, sym, ◌∙◌, subst, arith}
-use Rattle.std.specs.Prelude.{IfSome, min}
+use Rattle.std.proofs.Common.{◌≡◌, ◌<◌, ◌≤◌, length, take, sym, ◌∙◌, subst, arith}
+use Rattle.std.specs.Prelude.{IfSome}
 use Rattle.std.proofs.lemmas.List.{length-take}
 use Rattle.dp_app.specs.declared.run_end.RunEnd.{RunEnd}
 use Rattle.dp_app.specs.Read.{EndsReading}
@@ -10,8 +10,8 @@ pub returns-then-count-eq0-clause-told : goal.returns-then-count-eq0-clause-told
 returns-then-count-eq0-clause-told g c =
     let long : 0 < length c.read.new.buf = omega arith in
     subst (λ (end : RunEnd). IfSome (g.I.Source.left c.args.input.now) (λ input. EndsReading input c.reads.history.entries.items end)) (sym c.end-end.ensures)
-        (told_at_end (g.I.Source.left c.args.input.now) (g.I.Source.left c.reads.input) c.reads.history.entries.items c.reads.history.splitter
-            c.reads.room c.in-Ok.count c.read.new.buf c.reads.invariant.told c.reads.invariant.drained c.reads.invariant.room c.in-Ok.ensures.end long c.if-count-eq0.true)
+    (told_at_end (g.I.Source.left c.args.input.now) (g.I.Source.left c.reads.input) c.reads.history.entries.items c.reads.history.splitter
+    c.reads.room c.in-Ok.count c.read.new.buf c.reads.invariant.told c.reads.invariant.drained c.reads.invariant.room c.in-Ok.ensures.end long c.if-count-eq0.true)
 
 pub returns-in-Err-feed-clause-told : goal.returns-in-Err-feed-clause-told
 returns-in-Err-feed-clause-told g c =
@@ -19,9 +19,9 @@ returns-in-Err-feed-clause-told g c =
     let least : counted ≤ c.in-Ok.count = omega arith in
     let short : length (take counted c.read.new.buf) ≤ c.reads.room = omega (arith, length-take counted c.read.new.buf, c.in-Ok.ensures.bound) in
     told_at_stop (g.I.Source.left c.args.input.now) (g.I.Source.left c.reads.input) (g.I.Source.left c.read.new.self) c.reads.history.entries.items
-        c.feed.new.self.entries.items c.reads.history.splitter c.reads.room (take c.in-Ok.count c.read.new.buf) (take counted c.read.new.buf) _ c.in-Err-feed.end
-        c.reads.invariant.told c.reads.invariant.room c.in-Ok.ensures.bytes.0 (two_parts counted c.in-Ok.count c.read.new.buf least) short
-        c.in-Err-feed.ensures.stop c.in-Err-feed.ensures.stopped
+    c.feed.new.self.entries.items c.reads.history.splitter c.reads.room (take c.in-Ok.count c.read.new.buf) (take counted c.read.new.buf) _ c.in-Err-feed.end
+    c.reads.invariant.told c.reads.invariant.room c.in-Ok.ensures.bytes.0 (two_parts counted c.in-Ok.count c.read.new.buf least) short
+    c.in-Err-feed.ensures.stop c.in-Err-feed.ensures.stopped
 
 pub returns-then-counted-count-clause-told : goal.returns-then-counted-count-clause-told
 returns-then-counted-count-clause-told g c =
@@ -29,11 +29,11 @@ returns-then-counted-count-clause-told g c =
     let least : counted ≤ c.in-Ok.count = omega arith in
     let full : length (take counted c.read.new.buf) ≡ c.reads.room = omega (arith, length-take counted c.read.new.buf, c.in-Ok.ensures.bound) in
     let over : length (take counted c.read.new.buf) < length (take c.in-Ok.count c.read.new.buf) =
-        omega (arith, length-take counted c.read.new.buf, length-take c.in-Ok.count c.read.new.buf, c.in-Ok.ensures.bound) in
+    omega (arith, length-take counted c.read.new.buf, length-take c.in-Ok.count c.read.new.buf, c.in-Ok.ensures.bound) in
     told_too_long (g.I.Source.left c.args.input.now) (g.I.Source.left c.reads.input) (g.I.Source.left c.read.new.self) c.reads.history.entries.items
-        c.feed.new.self.entries.items c.reads.history.splitter c.feed.new.self.splitter c.reads.room (take c.in-Ok.count c.read.new.buf) (take counted c.read.new.buf) _
-        c.reads.invariant.told c.reads.invariant.room c.in-Ok.ensures.bytes.0 (two_parts counted c.in-Ok.count c.read.new.buf least) full over
-        c.in_default.ensures.drained c.in_default.ensures.ok
+    c.feed.new.self.entries.items c.reads.history.splitter c.feed.new.self.splitter c.reads.room (take c.in-Ok.count c.read.new.buf) (take counted c.read.new.buf) _
+    c.reads.invariant.told c.reads.invariant.room c.in-Ok.ensures.bytes.0 (two_parts counted c.in-Ok.count c.read.new.buf least) full over
+    c.in_default.ensures.drained c.in_default.ensures.ok
 
 pub reads-preserved : goal.reads-preserved
 reads-preserved g c =
@@ -41,8 +41,8 @@ reads-preserved g c =
     record {
       told =
           told_further (g.I.Source.left c.args.input.now) (g.I.Source.left c.reads.input) (g.I.Source.left c.read.new.self) c.reads.history.entries.items
-              c.feed.new.self.entries.items c.reads.history.splitter c.feed.new.self.splitter (take c.in-Ok.count c.read.new.buf)
-              c.reads.invariant.told c.in-Ok.ensures.bytes.0 (rw (← all) c.in_default.ensures.ok);
+          c.feed.new.self.entries.items c.reads.history.splitter c.feed.new.self.splitter (take c.in-Ok.count c.read.new.buf)
+          c.reads.invariant.told c.in-Ok.ensures.bytes.0 (rw (← all) c.in_default.ensures.ok);
       drained = c.in_default.ensures.drained;
       room = omega (arith, c.in_default.ensures.len, length-take c.min-counted.result c.read.new.buf, c.in-Ok.ensures.bound, c.reads.invariant.room);
       later = omega (arith, c.reads.invariant.later, c.in-Ok.ensures.cause.later);

@@ -8,4 +8,4 @@ use Rattle.dp_app.proofs.words.is_replay.Goals as goal
 pub returns-in-len1 : goal.returns-in-len1
 returns-in-len1 c =
     one_word c.args.words.now c.word-item.result c.eq.result c.word-item.is c.in-len1.len_at_least c.in-len1.len_below
-        (c.eq.ensures ∙ ap (λ (bytes : List ℕ). pointwise eqb bytes replay_word) c.as_str.ensures.value)
+    (c.eq.ensures ∙ ap (λ (bytes : List ℕ). pointwise eqb bytes replay_word) c.as_str.ensures.value)

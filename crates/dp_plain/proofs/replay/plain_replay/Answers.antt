@@ -5,12 +5,12 @@ use Rattle.dp_plain.proofs.replay.plain_replay.Goals as goal
 pub draw_kept-requires : goal.draw_kept-requires
 draw_kept-requires c =
     flags_fit 30 c.args.entries.now c.deref-2.result.now
-        (flags_of_acts c.commands_do_not_count.ensures 30 c.args.entries.now c.deref.result.now c.deref-2.result.now
-            (c.deref.ensures.value ∙ c.in_ok-kinds.ensures) (c.deref-2.ensures.value ∙ c.in_ok-flags.ensures))
+    (flags_of_acts c.commands_do_not_count.ensures 30 c.args.entries.now c.deref.result.now c.deref-2.result.now
+    (c.deref.ensures.value ∙ c.in_ok-kinds.ensures) (c.deref-2.ensures.value ∙ c.in_ok-flags.ensures))
 
 pub returns : goal.returns
 returns c =
     drawn_is_shown c.draw_kept.result c.args.entries.now c.deref-2.result.now
-        (flags_of_acts c.commands_do_not_count.ensures 30 c.args.entries.now c.deref.result.now c.deref-2.result.now
-            (c.deref.ensures.value ∙ c.in_ok-kinds.ensures) (c.deref-2.ensures.value ∙ c.in_ok-flags.ensures))
-        c.draw_kept.ensures
+    (flags_of_acts c.commands_do_not_count.ensures 30 c.args.entries.now c.deref.result.now c.deref-2.result.now
+    (c.deref.ensures.value ∙ c.in_ok-kinds.ensures) (c.deref-2.ensures.value ∙ c.in_ok-flags.ensures))
+    c.draw_kept.ensures

@@ -1,0 +1,293 @@
+//! Worked runs of the program, through its top call.
+
+use super::*;
+use dp_io::{MemSink, MemSource};
+use std::alloc::Global;
+use std::process::Abort;
+use std::test::Fail;
+
+/// The frame that a word of a row stands for, in hexadecimal. Other words stand for themselves.
+/// A 2 by 1 canvas, a layer, and fills of one pixel; `POINT2`, `BLUE2` and `UNDO1` are of user 2,
+/// all else of user 1; `UNDO1` is of user 1's group.
+fn frame(word: &str) -> &str {
+    match word {
+        "SIZE" => "0010810100000000000000020000000100000000",
+        "LAYER" => "000582010101000000",
+        "RED0" => "0017890101010100000000000000000000000100000001ffff0000",
+        "BLUE1" => "0017890101010100000001000000000000000100000001ff0000ff",
+        "BLUE2" => "0017890201010100000001000000000000000100000001ff0000ff",
+        "HALF0" => "001789010101010000000000000000000000010000000180ff0000",
+        "POINT" => "00008001",
+        "UNDO" => "0002ff010000",
+        "REDO" => "0002ff010001",
+        "POINT2" => "00008002",
+        "UNDO1" => "0002ff020100",
+        other => other,
+    }
+}
+
+/// Status, line on diag, frames, the head of the picture (none is written where there is none), its pixels.
+fn rows() -> &'static str {
+    "0|||0 0|
+0||SIZE LAYER RED0|2 1|ff0000ffffff
+0||SIZE LAYER HALF0|2 1|ff7f7fffffff
+0||SIZE LAYER POINT RED0 UNDO|2 1|ffffffffffff
+0||SIZE LAYER POINT RED0 UNDO REDO|2 1|ff0000ffffff
+0||SIZE LAYER POINT RED0 UNDO REDO REDO|2 1|ff0000ffffff
+0||SIZE LAYER POINT RED0 UNDO REDO REDO UNDO|2 1|ffffffffffff
+0||SIZE LAYER POINT RED0 UNDO REDO REDO UNDO BLUE1|2 1|ffffff0000ff
+0||SIZE LAYER POINT RED0 UNDO REDO REDO UNDO BLUE1 REDO|2 1|ffffff0000ff
+0||SIZE LAYER POINT RED0 POINT2 BLUE2 UNDO1|2 1|ffffff0000ff
+0||SIZE LAYER RED0 POINT UNDO UNDO|2 1|ff0000ffffff
+0||SIZE LAYER POINT RED0 POINT2 POINT2 POINT2 POINT2 POINT2 POINT2 POINT2 POINT2 POINT2 POINT2 POINT2 POINT2 POINT2 POINT2 POINT2 POINT2 POINT2 POINT2 POINT2 POINT2 POINT2 POINT2 POINT2 POINT2 POINT2 POINT2 POINT2 POINT2 POINT2 UNDO|2 1|ffffffffffff
+0||SIZE LAYER POINT RED0 POINT2 POINT2 POINT2 POINT2 POINT2 POINT2 POINT2 POINT2 POINT2 POINT2 POINT2 POINT2 POINT2 POINT2 POINT2 POINT2 POINT2 POINT2 POINT2 POINT2 POINT2 POINT2 POINT2 POINT2 POINT2 POINT2 POINT2 POINT2 POINT2 POINT2 UNDO|2 1|ff0000ffffff
+9|truncated at 29|SIZE LAYER 0017890101010100000000000000000000000100000001ffff00|2 1|ffffffffffff
+9|truncated at 0|00|0 0|
+9|truncated at 20|SIZE 00058201|2 1|ffffffffffff
+10|bad message at 0|00001401||
+10|bad message at 20|SIZE 00001401 LAYER||
+10|bad message at 29|SIZE LAYER 001789010101030000000000000000000000010000000100000000||
+10|bad message at 0|00001401 0000||
+10|bad message at 0|0000c801||
+10|bad message at 20|SIZE 000582010101000001||"
+}
+
+fn digit(c: u8) -> u8 {
+    match c {
+        b'0'..=b'9' => c - b'0',
+        b'a'..=b'f' => c - b'a' + 10,
+        _ => 0,
+    }
+}
+
+fn push_hex(bytes: &mut Vec<u8>, text: &str) -> Result<(), Fail> {
+    for pair in text.as_bytes().chunks(2) {
+        if let [high, low] = pair {
+            bytes.push(digit(*high).wrapping_mul(16).wrapping_add(digit(*low)))?;
+        }
+    }
+    Ok(())
+}
+
+/// The bytes of these frames.
+fn input_of(alloc: Global, words: &str) -> Result<Vec<u8>, Fail> {
+    let mut bytes = Vec::new(alloc);
+    for word in words.split_whitespace() {
+        push_hex(&mut bytes, frame(word))?;
+    }
+    Ok(bytes)
+}
+
+/// The picture of this head and these pixels, or nothing.
+fn picture_of(alloc: Global, head: &str, pixels: &str) -> Result<Vec<u8>, Fail> {
+    let mut bytes = Vec::new(alloc);
+    if !head.is_empty() {
+        bytes.extend_from_slice(b"P6\n")?;
+        bytes.extend_from_slice(head.as_bytes())?;
+        bytes.extend_from_slice(b"\n255\n")?;
+        push_hex(&mut bytes, pixels)?;
+    }
+    Ok(bytes)
+}
+
+/// The calls that fail, by their numbers from 1, of a run's input, output and diag.
+#[derive(Clone, Copy)]
+struct Faults<'a> {
+    input: &'a [u64],
+    output: &'a [u64],
+    diag: &'a [u64],
+}
+
+const NO_FAULTS: Faults<'static> = Faults {
+    input: &[],
+    output: &[],
+    diag: &[],
+};
+
+/// What a run leaves.
+#[derive(Drop)]
+struct Run {
+    status: u8,
+    output: MemSink,
+    diag: MemSink,
+}
+
+/// Runs `replay` on the input in pieces of this length, and writes in pieces of this length.
+fn replay(
+    rt: &impl Abort,
+    alloc: Global,
+    input: &[u8],
+    piece: usize,
+    faults: Faults<'_>,
+) -> Result<Run, Fail> {
+    assert!(rt; piece >= 1);
+    let words = [String::from_str(alloc, "replay")?];
+    let mut source = MemSource::new(
+        Vec::from_slice(alloc, input)?,
+        piece,
+        Vec::from_slice(alloc, faults.input)?,
+    );
+    let mut output = MemSink::new(alloc, 1000, piece, Vec::from_slice(alloc, faults.output)?)?;
+    let mut diag = MemSink::new(alloc, 1000, piece, Vec::from_slice(alloc, faults.diag)?)?;
+    let status = drawpile(alloc, &words, &mut source, &mut output, &mut diag).status;
+    Ok(Run {
+        status,
+        output,
+        diag,
+    })
+}
+
+/// One row, in pieces of every length.
+fn check_row(rt: &impl Abort, alloc: Global, row: &str) -> Result<(), Fail> {
+    let mut parts = row.split('|');
+    let status = parts.next().unwrap_or("").parse::<u8>()?;
+    let line = parts.next().unwrap_or("");
+    let input = input_of(alloc, parts.next().unwrap_or(""))?;
+    let head = parts.next().unwrap_or("");
+    let picture = picture_of(alloc, head, parts.next().unwrap_or(""))?;
+    for piece in 1..=input.len().min(300) + 1 {
+        let run = replay(rt, alloc, &input, piece, NO_FAULTS)?;
+        assert_eq!(rt; run.status, status, "{row} in pieces of {piece}");
+        assert_eq!(rt;
+            run.output.as_slice(),
+            picture.as_slice(),
+            "{row} in pieces of {piece}"
+        );
+        let said = run.diag.as_slice();
+        assert_eq!(rt;
+            said.len(),
+            if line.is_empty() { 0 } else { line.len() + 1 },
+            "{row}"
+        );
+        assert!(rt; said.starts_with(line.as_bytes()), "{row}");
+    }
+    Ok(())
+}
+
+#[test]
+fn worked_rows_in_pieces_of_every_length(rt: HostRuntime) -> Result<(), Fail> {
+    for row in rows().lines() {
+        check_row(&rt, rt.alloc(), row)?;
+    }
+    Ok(())
+}
+
+#[test]
+fn words_that_are_no_command(rt: HostRuntime) -> Result<(), Fail> {
+    let alloc = rt.alloc();
+    for words in [
+        "",
+        "replays",
+        "Replay",
+        "world",
+        "replay replay",
+        "replay x",
+        "--help",
+    ] {
+        let mut list = Vec::new(alloc);
+        for word in words.split_whitespace() {
+            list.push(String::from_str(alloc, word)?)?;
+        }
+        let mut source = MemSource::new(Vec::new(alloc), 1, Vec::new(alloc));
+        let mut output = MemSink::new(alloc, 100, 1, Vec::new(alloc))?;
+        let mut diag = MemSink::new(alloc, 100, 1, Vec::new(alloc))?;
+        let outcome = drawpile(alloc, &list, &mut source, &mut output, &mut diag);
+        assert_eq!(rt; outcome, Outcome { status: 1 }, "{words}");
+        assert!(rt; output.as_slice().is_empty(), "{words}");
+        assert_eq!(rt;
+            diag.as_slice(),
+            b"usage: drawpile replay, world, play, join, serve or drill\n".as_slice()
+        );
+    }
+    Ok(())
+}
+
+#[test]
+fn a_failing_read(rt: HostRuntime) -> Result<(), Fail> {
+    let alloc = rt.alloc();
+    let input = input_of(alloc, "SIZE 00001401 LAYER")?;
+    // In pieces of 20 bytes: the first read gives SIZE, the second the bad frame and LAYER.
+    for (call, status, line) in [
+        (1, 3, b"read fault\n".as_slice()),
+        (2, 3, b"read fault\n".as_slice()),
+        (3, 10, b"bad message at 20\n".as_slice()),
+    ] {
+        let calls = [call];
+        let run = replay(
+            &rt,
+            alloc,
+            &input,
+            20,
+            Faults {
+                input: &calls,
+                ..NO_FAULTS
+            },
+        )?;
+        assert_eq!(rt; run.status, status, "at call {call}");
+        assert_eq!(rt; run.diag.as_slice(), line, "at call {call}");
+        assert!(rt; run.output.as_slice().is_empty(), "at call {call}");
+    }
+    Ok(())
+}
+
+#[test]
+fn a_write_that_fails_at_each_call(rt: HostRuntime) -> Result<(), Fail> {
+    let alloc = rt.alloc();
+    let input = input_of(alloc, "SIZE LAYER RED0")?;
+    let picture = picture_of(alloc, "2 1", "ff0000ffffff")?;
+    // A byte at a time: the call that fails has the bytes before it written.
+    for call in 1..=picture.len() as u64 {
+        let calls = [call];
+        let run = replay(
+            &rt,
+            alloc,
+            &input,
+            1,
+            Faults {
+                output: &calls,
+                ..NO_FAULTS
+            },
+        )?;
+        assert_eq!(rt; run.status, 4, "at call {call}");
+        assert_eq!(rt; run.output.as_slice().len() as u64 + 1, call);
+        assert!(rt;
+            picture.starts_with(run.output.as_slice()),
+            "at call {call}"
+        );
+        assert_eq!(rt;
+            run.diag.as_slice(),
+            b"write fault\n".as_slice(),
+            "at call {call}"
+        );
+    }
+    Ok(())
+}
+
+#[test]
+fn a_diag_that_fails(rt: HostRuntime) -> Result<(), Fail> {
+    let alloc = rt.alloc();
+    let input = input_of(alloc, "SIZE LAYER 00")?;
+    for call in [1, 2, 16] {
+        let calls = [call];
+        let run = replay(
+            &rt,
+            alloc,
+            &input,
+            1,
+            Faults {
+                diag: &calls,
+                ..NO_FAULTS
+            },
+        )?;
+        assert_eq!(rt; run.status, 4, "at call {call}");
+        assert_eq!(rt;
+            run.output.as_slice(),
+            picture_of(alloc, "2 1", "ffffffffffff")?.as_slice()
+        );
+        assert!(rt;
+            b"truncated at 29\n".starts_with(run.diag.as_slice()),
+            "at call {call}"
+        );
+    }
+    Ok(())
+}
