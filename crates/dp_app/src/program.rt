@@ -30,11 +30,13 @@ pub fn drawpile<I: Source, O: Sink, E: Sink>(
 ) -> Outcome
     // Words that are no command are refused, and touch neither input nor output.
     ensures usage { result.status ≡ 1 → ¬ IsReplay words.now }
-    ensures other_words { ¬ IsReplay words.now → SaysUsage (E.held diag.old) (E.held diag.new) (E.faults diag.old) (E.faults diag.new) result.status }
-    ensures untouched { ¬ IsReplay words.now → Keeps (I.left input.old) (I.left input.new) × Keeps (O.held output.old) (O.held output.new) }
+    ensures other_words { ¬ IsReplay words.now
+        → SaysUsage (E.held diag.old) (E.held diag.new) (E.faults diag.old) (E.faults diag.new) result.status }
+    ensures untouched { ¬ IsReplay words.now
+        → Keeps (I.left input.old) (I.left input.new) × Keeps (O.held output.old) (O.held output.new) }
 
-    // `replay` ends in one of the ways of a run: what the input comes to decides what is written, and the status and the line
-    // on diag tell it.
+    // `replay` ends in one of the ways of a run: what the input comes to decides what is written, and
+    // the status and the line on diag tell it.
     ensures replay { IsReplay words.now → (end : run_end)
         × Leaves (I.left input.old) (O.held output.old) (O.held output.new) end
         × Says (E.held diag.old) (E.held diag.new) (E.faults diag.old) (E.faults diag.new) result.status end }
@@ -42,14 +44,16 @@ pub fn drawpile<I: Source, O: Sink, E: Sink>(
 
     // Faults have their causes.
     ensures read_fault { result.status ≡ 3 → Rose (I.faults input.old) (I.faults input.new) }
-    ensures write_fault { result.status ≡ 4 → Rose (O.faults output.old) (O.faults output.new) ⊎ Rose (E.faults diag.old) (E.faults diag.new) }
+    ensures write_fault { result.status ≡ 4
+        → Rose (O.faults output.old) (O.faults output.new) ⊎ Rose (E.faults diag.old) (E.faults diag.new) }
     ensures input_later { I.faults input.old ≤ I.faults input.new }
     ensures output_later { O.faults output.old ≤ O.faults output.new }
     ensures diag_later { E.faults diag.old ≤ E.faults diag.new }
 
     // Where nothing failed, the status is the one that the input's bytes fix, or 7.
-    ensures complete { IsReplay words.now → ¬ Rose (I.faults input.old) (I.faults input.new) → ¬ Rose (O.faults output.old) (O.faults output.new)
-        → ¬ Rose (E.faults diag.old) (E.faults diag.new) → result.status ≢ 7 → IsDueStatus result.status }
+    ensures complete { IsReplay words.now → ¬ Rose (I.faults input.old) (I.faults input.new)
+        → ¬ Rose (O.faults output.old) (O.faults output.new) → ¬ Rose (E.faults diag.old) (E.faults diag.new)
+        → result.status ≢ 7 → IsDueStatus result.status }
 {
     if !is_replay(words) {
         return Outcome {

@@ -31,6 +31,8 @@ fn rows() -> &'static str {
     "0|||0 0|
 0||SIZE LAYER RED0|2 1|ff0000ffffff
 0||SIZE LAYER HALF0|2 1|ff7f7fffffff
+0||SIZE LAYER POINT|2 1|ffffffffffff
+0||SIZE LAYER POINT RED0|2 1|ff0000ffffff
 0||SIZE LAYER POINT RED0 UNDO|2 1|ffffffffffff
 0||SIZE LAYER POINT RED0 UNDO REDO|2 1|ff0000ffffff
 0||SIZE LAYER POINT RED0 UNDO REDO REDO|2 1|ff0000ffffff

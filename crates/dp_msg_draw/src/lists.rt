@@ -101,6 +101,7 @@ impl Dabs {
         }
     }
 
+    /// These dabs, at most 16,380.
     pub fn from_vec(dabs: Vec<Dab>) -> Dabs
         requires { length dabs.items ≤ 16380 }
         ensures { result ≡ dabs.items }
@@ -108,6 +109,7 @@ impl Dabs {
         Dabs { dabs }
     }
 
+    /// The dabs in order.
     pub fn as_slice(&self) -> &[Dab]
         ensures value { result.now ≡ self.now }
         ensures short { length self.now ≤ 16380 }
@@ -150,6 +152,7 @@ impl Colors {
         }
     }
 
+    /// These colours, at most 16,379.
     pub fn from_vec(colors: Vec<u32>) -> Colors
         requires { length colors.items ≤ 16379 }
         ensures { result ≡ colors.items }
@@ -157,6 +160,7 @@ impl Colors {
         Colors { colors }
     }
 
+    /// The colours in order.
     pub fn as_slice(&self) -> &[u32]
         ensures value { result.now ≡ self.now }
         ensures short { length self.now ≤ 16379 }
@@ -215,6 +219,7 @@ impl TilePixels {
         Ok(TilePixels { pixels })
     }
 
+    /// These pixels, which have to be 4096.
     pub fn from_vec(pixels: Vec<TilePixel>) -> TilePixels
         requires { length pixels.items ≡ 4096 }
         ensures { result ≡ pixels.items }
@@ -222,6 +227,7 @@ impl TilePixels {
         TilePixels { pixels }
     }
 
+    /// The 4096 pixels, row by row.
     pub fn as_slice(&self) -> &[TilePixel]
         ensures value { result.now ≡ self.now }
         ensures whole { length self.now ≡ 4096 }
