@@ -1,5 +1,6 @@
 -- Histories, a frame at a time.
-use Rattle.std.proofs.Common.{◌≡◌, ℕ, ◌+◌, List, [], ◌∷◌, ◌++◌, length, refl, sym, ap, ◌∙◌, subst, append_assoc, length-append}
+use Rattle.std.proofs.Common.{◌≡◌, ◌⊎◌, inl, inr, ℕ, ◌+◌, List, [], ◌∷◌, ◌++◌, length, refl, sym, ap, ◌∙◌, subst, append_assoc, length-append}
+use Rattle.std.specs.Prelude.{Result, Ok, Err}
 use Rattle.std.specs.List.{AllZip, AllByRecursion, flat_map}
 use Rattle.std.proofs.lemmas.Grind.{flat_map-append}
 use Rattle.dp_frame.specs.Frames.{FrameParts, IsFrame, spelling, HoldsNoFrame}
@@ -59,6 +60,7 @@ stops_at_frame read entries f old rest (BadMessage n) fits held refused h =
       frames = h.frames;
       bad = f;
       more = rest;
+      each = h.each;
       carry = h.carry;
       fits = fits;
       nothing = refused.1;
@@ -91,10 +93,14 @@ pub follows_tells : (read : List ℕ) (entries : List Entry) (stream : Stream) �
 follows_tells read entries stream none h =
     record { frames = h.frames; carry = h.carry; splits = record { whole = h.whole; each = h.each; partial = none } }
 
+-- decoding gives an entry, unless memory runs out
+abbrev pub Gives : Result Entry DecodeError → Entry → Type 0
+Gives result entry = (result ≡ Ok entry) ⊎ (result ≡ Err refusal.Memory)
+
 -- a frame that is refused, but for want of memory, is a bad message
 pub refused_at : (f : FrameParts) (error : DecodeError) (n : ℕ) (end : RunEnd) →
-    ((error ≡ refusal.Memory → ⊥) → CarriesNothing f) → IsStopFor error n end → IsRefusedAt f n end
-refused_at f (refusal.Unknown k) n end nothing stop = subst (λ (e : RunEnd). IsRefusedAt f n e) (sym stop) (refl, nothing (λ e. cc))
-refused_at f (refusal.Malformed k) n end nothing stop = subst (λ (e : RunEnd). IsRefusedAt f n e) (sym stop) (refl, nothing (λ e. cc))
-refused_at f (refusal.Unbuilt k) n end nothing stop = subst (λ (e : RunEnd). IsRefusedAt f n e) (sym stop) (refl, nothing (λ e. cc))
-refused_at f refusal.Memory n end nothing stop = subst (λ (e : RunEnd). IsRefusedAt f n e) (sym stop) tt
+    ((entry : Entry) → Carries f entry → Gives (Err error) entry) → IsStopFor error n end → IsRefusedAt f n end
+refused_at f (refusal.Unknown k) n end gives stop = subst (λ (e : RunEnd). IsRefusedAt f n e) (sym stop) (refl, λ entry c. elim (gives entry c) as (λ _. ⊥) [ inl e ↦ cc | inr e ↦ cc ])
+refused_at f (refusal.Malformed k) n end gives stop = subst (λ (e : RunEnd). IsRefusedAt f n e) (sym stop) (refl, λ entry c. elim (gives entry c) as (λ _. ⊥) [ inl e ↦ cc | inr e ↦ cc ])
+refused_at f (refusal.Unbuilt k) n end gives stop = subst (λ (e : RunEnd). IsRefusedAt f n e) (sym stop) (refl, λ entry c. elim (gives entry c) as (λ _. ⊥) [ inl e ↦ cc | inr e ↦ cc ])
+refused_at f refusal.Memory n end gives stop = subst (λ (e : RunEnd). IsRefusedAt f n e) (sym stop) tt

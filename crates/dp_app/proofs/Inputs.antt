@@ -5,14 +5,14 @@ use Rattle.std.specs.List.{flat_map}
 use lib.Dec.{eqb-suc-zero}
 use Rattle.std.proofs.Math.Seq.{take-append-add}
 use Rattle.std.proofs.lemmas.List.{append-nil, take-append-drop}
-use Rattle.std.specs.Io.KnownBytes.{Consumes}
+use Rattle.std.specs.Io.KnownBytes.{Consumes, Keeps}
 use Rattle.dp_io.specs.declared.source.Failed.{Failed}
 use Rattle.dp_io.specs.Streams.{EndsExactly}
 use Rattle.dp_frame.specs.Frames.{spelling, HoldsNoFrame}
 use Rattle.dp_frame.specs.Stream.{Stream}
 use Rattle.dp_messages.specs.declared.message.Entry.{Entry}
 use Rattle.dp_app.specs.declared.run_end.RunEnd.{RunEnd}
-use Rattle.dp_app.specs.declared.run_end.RunEnd.TheVariants.{Done, WriteFault, Memory, Long, Truncated, BadMessage}
+use Rattle.dp_app.specs.declared.run_end.RunEnd.TheVariants.{Done, ReadFault, WriteFault, Memory, Long, Truncated, BadMessage}
 use Rattle.dp_app.specs.Input.{Tells, TellsUpTo, input_limit}
 use Rattle.dp_app.specs.History.{Follows, IsStop, StopsAt}
 use Rattle.dp_app.specs.Read.{HasRead, EndsReading, end_of}
@@ -23,11 +23,11 @@ pub read_len : (read : List ℕ) (entries : List Entry) (stream : Stream) → Fo
 read_len read entries stream h = omega (arith, ap length h.whole, length-append (flat_map spelling h.frames) stream.held, h.at)
 
 -- an input of which all is read
-pub ends_read : (input : List ℕ) (entries : List Entry) (stream : Stream) → HoldsNoFrame stream.held → length input ≤ input_limit →
-    Follows input entries stream → EndsReading input entries (end_of stream)
-ends_read input entries stream none short h = at_held stream.held refl
+pub ends_read : (input : List ℕ) (left : Option (List ℕ)) (entries : List Entry) (stream : Stream) → HoldsNoFrame stream.held → length input ≤ input_limit →
+    Follows input entries stream → EndsReading input left entries (end_of stream)
+ends_read input left entries stream none short h = at_held stream.held refl
   where
-    at_held : (held : List ℕ) → stream.held ≡ held → EndsReading input entries (end_of stream)
+    at_held : (held : List ℕ) → stream.held ≡ held → EndsReading input left entries (end_of stream)
     at_held [] e =
         let tells = subst (λ (xs : List ℕ). Tells input entries xs) e (follows_tells input entries stream none h) in
         rw e (tells, short)
@@ -69,6 +69,7 @@ up_to_more bytes more entries n t =
       frames = t.frames;
       bad = t.bad;
       more = t.more ++ more;
+      each = t.each;
       carry = t.carry;
       fits = t.fits;
       nothing = t.nothing;
@@ -79,25 +80,47 @@ up_to_more bytes more entries n t =
       place = t.place;
     }
 
+-- the input failed, and what is left of it stays
+pub told_at_fault : (told now new : Option (List ℕ)) (entries : List Entry) (stream : Stream) (room : ℕ) →
+    IfSome told (λ input. HasRead input now entries stream) → HoldsNoFrame stream.held →
+    stream.at + length stream.held + room ≡ 2 ^ 30 → Keeps now new →
+    IfSome told (λ input. EndsReading input new entries ReadFault)
+told_at_fault None now new entries stream room h none fits keeps = tt
+told_at_fault (Some input) now new entries stream room h none fits keeps =
+    record {
+      taken = h.read;
+      untaken = h.rest;
+      left_is = kept new (subst (λ (o : Option (List ℕ)). Keeps o new) h.left_is keeps);
+      whole = h.whole;
+      entries = entries;
+      rest = stream.held;
+      tells = follows_tells h.read entries stream none h.follows;
+      counts = omega (arith, read_len h.read entries stream h.follows);
+    }
+  where
+    kept : (new : Option (List ℕ)) → Keeps (Some h.rest) new → new ≡ Some h.rest
+    kept None impossible = absurd impossible
+    kept (Some rest) e = ap Some e
+
 -- all of the input is read
-pub told_at_end : (told now : Option (List ℕ)) (entries : List Entry) (stream : Stream) (room count : ℕ) (buf : List ℕ) →
+pub told_at_end : (told now new : Option (List ℕ)) (entries : List Entry) (stream : Stream) (room count : ℕ) (buf : List ℕ) →
     IfSome told (λ input. HasRead input now entries stream) → HoldsNoFrame stream.held →
     stream.at + length stream.held + room ≡ 2 ^ 30 → EndsExactly {E = Failed} now (Ok count) buf → 0 < length buf → count ≡ 0 →
-    IfSome told (λ input. EndsReading input entries (end_of stream))
-told_at_end None now entries stream room count buf told none fits ends long given = tt
-told_at_end (Some input) now entries stream room count buf h none fits ends long given =
+    IfSome told (λ input. EndsReading input new entries (end_of stream))
+told_at_end None now new entries stream room count buf told none fits ends long given = tt
+told_at_end (Some input) now new entries stream room count buf h none fits ends long given =
     let exact = subst (λ (o : Option (List ℕ)). EndsExactly {E = Failed} o (Ok count) buf) h.left_is ends in
     let nothing : h.rest ≡ [] = (exact long).0 given in
     let all : input ≡ h.read = h.whole ∙ ap (λ (xs : List ℕ). h.read ++ xs) nothing ∙ append-nil h.read in
     let short : length input ≤ 2 ^ 30 = omega (arith, ap length all, read_len h.read entries stream h.follows) in
-    ends_read input entries stream none short (subst (λ (xs : List ℕ). Follows xs entries stream) (sym all) h.follows)
+    ends_read input new entries stream none short (subst (λ (xs : List ℕ). Follows xs entries stream) (sym all) h.follows)
 
 -- reading stops at the counted bytes of a chunk
 pub told_at_stop : (told now new : Option (List ℕ)) (entries later : List Entry) (stream : Stream) (room : ℕ) (chunk piece more : List ℕ) (end : RunEnd) →
     IfSome told (λ input. HasRead input now entries stream) → stream.at + length stream.held + room ≡ 2 ^ 30 →
     Consumes now new chunk → chunk ≡ piece ++ more → length piece ≤ room → IsStop end →
     ((read : List ℕ) → Follows read entries stream → StopsAt (read ++ piece) later end) →
-    IfSome told (λ input. EndsReading input later end)
+    IfSome told (λ input. EndsReading input new later end)
 told_at_stop None now new entries later stream room chunk piece more end h fits consumes parts short stop stops = tt
 told_at_stop (Some input) now new entries later stream room chunk piece more Memory h fits consumes parts short stop stops = tt
 told_at_stop (Some input) now new entries later stream room chunk piece more (BadMessage n) h fits consumes parts short stop stops =
@@ -118,7 +141,7 @@ pub told_too_long : (told now new : Option (List ℕ)) (entries later : List Ent
     IfSome told (λ input. HasRead input now entries stream) → stream.at + length stream.held + room ≡ 2 ^ 30 →
     Consumes now new chunk → chunk ≡ piece ++ more → length piece ≡ room → length piece < length chunk → HoldsNoFrame last.held →
     ((read : List ℕ) → Follows read entries stream → Follows (read ++ piece) later last) →
-    IfSome told (λ input. EndsReading input later Long)
+    IfSome told (λ input. EndsReading input new later Long)
 told_too_long None now new entries later stream last room chunk piece more h fits consumes parts full over none fed = tt
 told_too_long (Some input) now new entries later stream last room chunk piece more h fits consumes parts full over none fed =
     let c = chunked input now new entries stream chunk h consumes in

@@ -9,7 +9,7 @@ use Rattle.dp_plain.specs.Replay.{shown}
 use Rattle.dp_plain.specs.Picture.{p6}
 use Rattle.dp_app.specs.declared.run_end.RunEnd.{RunEnd}
 use Rattle.dp_app.specs.declared.run_end.RunEnd.TheVariants.{Done, ReadFault, WriteFault, Memory, Long, Truncated, BadMessage}
-use Rattle.dp_app.specs.Input.{ComesTo}
+use Rattle.dp_app.specs.Input.{ComesTo, HoldsNoCause}
 
 -- the command's word
 abbrev pub replay_word : List ℕ
@@ -43,6 +43,32 @@ line_of (BadMessage n) = codes "bad message at " ++ decimal n ++ codes "\n"
 abbrev pub usage_line : List ℕ
 usage_line = codes "usage: drawpile replay, world, play, join, serve or drill\n"
 
+-- what the output is due: the picture of the whole frames where the input is read to its end, else nothing
+abbrev pub text_of : List Entry → RunEnd → List ℕ
+text_of entries Done = p6 (shown entries)
+text_of entries (Truncated n) = p6 (shown entries)
+text_of entries _ = []
+
+-- an answer: the status, the text on the output, and the line on diag
+pub record Answer : Type 0 where
+  pub status : ℕ
+  pub text : List ℕ
+  pub line : List ℕ
+
+-- The answer that the words and the input's bytes are due: that of what the input comes to for `replay`, and the line about
+-- the words where they are no command.
+abbrev pub IsDue : {A : Type 0} → List (String A) → List ℕ → Answer → Type 0
+IsDue words input answer =
+    (IsReplay words × (entries : List Entry) × (end : RunEnd) × ComesTo input entries end
+    × (answer ≡ record { status = status_of end; text = text_of entries end; line = line_of end }))
+    ⊎ (¬ IsReplay words × (answer ≡ record { status = 1; text = []; line = usage_line }))
+
+-- the answer is given: the exit status is its own, and the output and diag, as they were and as they are, grew by its text and line
+pub record IsGiven (answer : Answer) (code : ℕ) (output printed diag said : Option (List ℕ)) : Type 0 where
+  pub status : code ≡ answer.status
+  pub text : Appends output printed answer.text
+  pub line : Appends diag said answer.line
+
 -- an input that tells its bytes comes to this end
 abbrev pub Comes : Option (List ℕ) → RunEnd → Type 0
 Comes input end = IfSome input (λ bytes. (entries : List Entry) × ComesTo bytes entries end)
@@ -55,17 +81,19 @@ ShowsWhole input old new end =
 -- the output grew by a front of that picture
 abbrev pub ShowsPart : Option (List ℕ) → Option (List ℕ) → Option (List ℕ) → Type 0
 ShowsPart input old new =
-    IfSome input (λ bytes. (entries : List Entry) × (end : RunEnd) × ComesTo bytes entries end × GrowsByPrefix old new (p6 (shown entries)))
+    IfSome input (λ bytes. (entries : List Entry) × (end : RunEnd) × ComesTo bytes entries end
+    × GrowsByPrefix old new (text_of entries end))
 
--- what a run that ends so leaves on the output: the picture of the whole frames, a front of it, or nothing
-abbrev pub Leaves : Option (List ℕ) → Option (List ℕ) → Option (List ℕ) → RunEnd → Type 0
-Leaves input old new Done = ShowsWhole input old new Done
-Leaves input old new ReadFault = Keeps old new
-Leaves input old new WriteFault = ShowsPart input old new
-Leaves input old new Memory = Keeps old new
-Leaves input old new Long = Keeps old new × Comes input Long
-Leaves input old new (Truncated n) = ShowsWhole input old new (Truncated n)
-Leaves input old new (BadMessage n) = Keeps old new × Comes input (BadMessage n)
+-- What a run that ends so leaves of an input and on the output: the picture of the whole frames, a front of it, or nothing.
+-- Where the input failed, what was taken of it before holds no cause.
+abbrev pub Leaves : Option (List ℕ) → Option (List ℕ) → Option (List ℕ) → Option (List ℕ) → RunEnd → Type 0
+Leaves input left old new Done = ShowsWhole input old new Done
+Leaves input left old new ReadFault = Keeps old new × IfSome input (λ bytes. HoldsNoCause bytes left)
+Leaves input left old new WriteFault = ShowsPart input old new
+Leaves input left old new Memory = Keeps old new
+Leaves input left old new Long = Keeps old new × Comes input Long
+Leaves input left old new (Truncated n) = ShowsWhole input old new (Truncated n)
+Leaves input left old new (BadMessage n) = Keeps old new × Comes input (BadMessage n)
 
 -- the line of the end is said, and the status is the end's; or diag failed behind a front of the line, and it is 4
 abbrev pub Says : Option (List ℕ) → Option (List ℕ) → ℕ → ℕ → ℕ → RunEnd → Type 0
@@ -78,7 +106,3 @@ abbrev pub SaysUsage : Option (List ℕ) → Option (List ℕ) → ℕ → ℕ �
 SaysUsage old new before now status =
     ((status ≡ 1) × Appends old new usage_line)
     ⊎ ((status ≡ 4) × Rose before now × GrowsByPrefix old new usage_line)
-
--- the statuses that the bytes of an input fix
-abbrev pub IsDueStatus : ℕ → Type 0
-IsDueStatus status = (status ≡ 0) ⊎ (status ≡ 8) ⊎ (status ≡ 9) ⊎ (status ≡ 10)

@@ -4,7 +4,7 @@ use Rattle.dp_frame.specs.Stream.{Stream}
 use Rattle.dp_messages.specs.declared.message.Entry.{Entry}
 use Rattle.dp_app.specs.declared.run_end.RunEnd.{RunEnd}
 use Rattle.dp_app.specs.declared.run_end.RunEnd.TheVariants.{Done, ReadFault, Memory, Truncated}
-use Rattle.dp_app.specs.Input.{ComesTo}
+use Rattle.dp_app.specs.Input.{ComesTo, HoldsNoCause}
 use Rattle.dp_app.specs.History.{Follows}
 
 -- of an input that tells its bytes these are read, and the rest is left
@@ -15,11 +15,11 @@ pub record HasRead (input : List ℕ) (left : Option (List ℕ)) (entries : List
   pub whole : input ≡ read ++ rest
   pub follows : Follows read entries stream
 
--- how reading an input ended: by its bytes, by a fault or for want of memory
-abbrev pub EndsReading : List ℕ → List Entry → RunEnd → Type 0
-EndsReading input entries Memory = Unit {0}
-EndsReading input entries ReadFault = Unit {0}
-EndsReading input entries end = ComesTo input entries end
+-- how reading an input ended of which these bytes are left: by its bytes, by a fault or for want of memory
+abbrev pub EndsReading : List ℕ → Option (List ℕ) → List Entry → RunEnd → Type 0
+EndsReading input left entries Memory = Unit {0}
+EndsReading input left entries ReadFault = HoldsNoCause input left
+EndsReading input left entries end = ComesTo input entries end
 
 -- the input is read to its end
 abbrev pub ReadsToEnd : RunEnd → Type 0

@@ -108,9 +108,7 @@ fn stop_for(error: DecodeError, at: u64) -> RunEnd
     ensures { IsStopFor error at result }
 {
     match error {
-        DecodeError::Unknown(_) => RunEnd::BadMessage(at),
-        DecodeError::Malformed(_) => RunEnd::BadMessage(at),
-        DecodeError::Unbuilt(_) => RunEnd::BadMessage(at),
         DecodeError::Memory => RunEnd::Memory,
+        _ => RunEnd::BadMessage(at),
     }
 }

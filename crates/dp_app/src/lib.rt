@@ -2,6 +2,7 @@
 #![tactic(auto)]
 
 mod history;
+mod laws;
 mod program;
 mod reading;
 mod replay;
@@ -9,6 +10,7 @@ mod run_end;
 mod saying;
 mod words;
 
+pub use laws::one_reading;
 pub use program::{Outcome, drawpile};
 pub use run_end::RunEnd;
 

@@ -1,11 +1,12 @@
 //! The program's top call.
 
-ghost use Rattle.std.specs.Prelude.{◌≡◌, ◌≢◌, ◌⊎◌, ◌≤◌, IsSome};
+ghost use Rattle.std.specs.Prelude.{◌≡◌, ◌≢◌, ◌⊎◌, ◌≤◌, IfSome};
 ghost use Rattle.std.specs.Io.KnownBytes.{Keeps, IsAtEnd};
 ghost use Rattle.dp_io.specs.Faults.{Rose};
 ghost use Rattle.dp_app.specs.declared.run_end.RunEnd.{RunEnd as run_end};
-ghost use Rattle.dp_app.specs.Answer.{IsReplay, Leaves, Says, SaysUsage, IsDueStatus};
+ghost use Rattle.dp_app.specs.Answer.{Answer, IsReplay, IsDue, IsGiven, Leaves, Says, SaysUsage};
 
+use crate::laws::one_reading;
 use crate::replay::run_replay;
 use crate::saying::{say, say_usage};
 use crate::words::is_replay;
@@ -38,9 +39,9 @@ pub fn drawpile<I: Source, O: Sink, E: Sink>(
     // `replay` ends in one of the ways of a run: what the input comes to decides what is written, and
     // the status and the line on diag tell it.
     ensures replay { IsReplay words.now → (end : run_end)
-        × Leaves (I.left input.old) (O.held output.old) (O.held output.new) end
+        × Leaves (I.left input.old) (I.left input.new) (O.held output.old) (O.held output.new) end
         × Says (E.held diag.old) (E.held diag.new) (E.faults diag.old) (E.faults diag.new) result.status end }
-    ensures to_end { result.status ≡ 0 → IsAtEnd (I.left input.new) }
+    ensures to_end { (result.status ≡ 0) ⊎ (result.status ≡ 9) → IsAtEnd (I.left input.new) }
 
     // Faults have their causes.
     ensures read_fault { result.status ≡ 3 → Rose (I.faults input.old) (I.faults input.new) }
@@ -50,11 +51,20 @@ pub fn drawpile<I: Source, O: Sink, E: Sink>(
     ensures output_later { O.faults output.old ≤ O.faults output.new }
     ensures diag_later { E.faults diag.old ≤ E.faults diag.new }
 
-    // Where nothing failed, the status is the one that the input's bytes fix, or 7.
-    ensures complete { IsReplay words.now → ¬ Rose (I.faults input.old) (I.faults input.new)
+    // Where nothing failed and memory sufficed, the answer is given that the words and the input's bytes are due:
+    // there is one, and none but the one given.
+    ensures complete { ¬ Rose (I.faults input.old) (I.faults input.new)
         → ¬ Rose (O.faults output.old) (O.faults output.new) → ¬ Rose (E.faults diag.old) (E.faults diag.new)
-        → result.status ≢ 7 → IsDueStatus result.status }
+        → result.status ≢ 7
+        → IfSome (I.left input.old) (λ bytes. (answer : Answer) × IsDue words.now bytes answer
+        × IsGiven answer result.status (O.held output.old) (O.held output.new) (E.held diag.old) (E.held diag.new)) }
+    ensures exact { ¬ Rose (I.faults input.old) (I.faults input.new)
+        → ¬ Rose (O.faults output.old) (O.faults output.new) → ¬ Rose (E.faults diag.old) (E.faults diag.new)
+        → result.status ≢ 7
+        → IfSome (I.left input.old) (λ bytes. (answer : Answer) → IsDue words.now bytes answer
+        → IsGiven answer result.status (O.held output.old) (O.held output.new) (E.held diag.old) (E.held diag.new)) }
 {
+    one_reading();
     if !is_replay(words) {
         return Outcome {
             status: say_usage(diag),

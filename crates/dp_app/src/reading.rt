@@ -22,7 +22,8 @@ pub(crate) struct Reading {
 
 /// Reads the input to its end, to the first frame that carries nothing, or to the limit.
 pub(crate) fn read_entries<I: Source>(alloc: Global, input: &mut I) -> Reading
-    ensures told { IfSome (I.left input.old) (λ bytes. EndsReading bytes result.history.entries.items result.end) }
+    ensures told { IfSome (I.left input.old)
+        (λ bytes. EndsReading bytes (I.left input.new) result.history.entries.items result.end) }
     ensures later { I.faults input.old ≤ I.faults input.new }
     ensures fault { result.end ≡ RunEnd.ReadFault → Rose (I.faults input.old) (I.faults input.new) }
     ensures by_input { result.end ≡ RunEnd.WriteFault → ⊥ }

@@ -16,7 +16,7 @@ use std::alloc::Global;
 
 /// Reads frames to the input's end, and writes the picture of what they show.
 pub(crate) fn run_replay<I: Source, O: Sink>(alloc: Global, input: &mut I, output: &mut O) -> RunEnd
-    ensures leaves { Leaves (I.left input.old) (O.held output.old) (O.held output.new) result }
+    ensures leaves { Leaves (I.left input.old) (I.left input.new) (O.held output.old) (O.held output.new) result }
     ensures read_fault { result ≡ RunEnd.ReadFault → Rose (I.faults input.old) (I.faults input.new) }
     ensures write_fault { result ≡ RunEnd.WriteFault → Rose (O.faults output.old) (O.faults output.new) }
     ensures input_later { I.faults input.old ≤ I.faults input.new }
@@ -33,7 +33,8 @@ pub(crate) fn run_replay<I: Source, O: Sink>(alloc: Global, input: &mut I, outpu
 
 /// Writes the picture of what the entries show. Ends as given where it is written.
 fn write_shown<O: Sink>(alloc: Global, entries: &[Entry], output: &mut O, end: RunEnd) -> RunEnd
-    ensures shown { WritesShown (O.held output.old) (O.held output.new) (O.faults output.old) (O.faults output.new) entries.now end result }
+    ensures shown { WritesShown (O.held output.old) (O.held output.new)
+        (O.faults output.old) (O.faults output.new) entries.now end result }
     ensures later { O.faults output.old ≤ O.faults output.new }
 {
     let Ok(board) = plain_replay(alloc, entries) else {

@@ -10,6 +10,13 @@ pub fn one_splitting()
         → (frames ≡ others) × (rest ≡ last) }
 {}
 
+/// Bytes begin with at most one frame.
+pub fn one_front()
+    ensures { (f g : FrameParts) (bytes others : List ℕ)
+        → IsFrame f → IsFrame g → spelling f ++ bytes ≡ spelling g ++ others
+        → (f ≡ g) × (bytes ≡ others) }
+{}
+
 /// Each list of bytes has a splitting.
 pub fn every_splitting()
     ensures { (bytes : List ℕ) → All (λ byte. byte < 256) bytes

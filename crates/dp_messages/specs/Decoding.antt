@@ -27,10 +27,15 @@ IsUnbuilt frame =
     ((is_unknown frame.kind ≡ false) × (is_built_kind frame.kind ≡ false))
     ⊎ ((m : Msg) × Spells frame.kind frame.body m × (IsBuilt m → ⊥))
 
--- what decoding a frame answers
+-- why a frame carries nothing: its type is unknown, no message of the type has its payload, or what it spells isn't built
+abbrev pub IsRefused : FrameParts → DecodeError → Type 0
+IsRefused frame (Unknown k) = (k ≡ frame.kind) × IsTrue (is_unknown k)
+IsRefused frame (Malformed k) = (k ≡ frame.kind) × IsTrue (is_built_kind k) × SpellsNothing frame
+IsRefused frame (Unbuilt k) = (k ≡ frame.kind) × IsUnbuilt frame
+IsRefused frame Memory = ⊥
+
+-- what reading a frame's message answers
 abbrev pub Answers : FrameParts → Result Msg DecodeError → Type 0
 Answers frame (Ok m) = Spells frame.kind frame.body m × IsBuilt m
-Answers frame (Err (Unknown k)) = (k ≡ frame.kind) × IsTrue (is_unknown k)
-Answers frame (Err (Malformed k)) = (k ≡ frame.kind) × IsTrue (is_built_kind k) × SpellsNothing frame
-Answers frame (Err (Unbuilt k)) = (k ≡ frame.kind) × IsUnbuilt frame
 Answers frame (Err Memory) = ⊤
+Answers frame (Err e) = IsRefused frame e

@@ -1,12 +1,15 @@
 //! Frames as entries.
 
-ghost use Rattle.std.specs.Prelude.{◌≡◌, ◌==◌, ◌||◌, ℕ, IfOk, IfErr, IsTrue};
-ghost use Rattle.dp_messages.specs.Messages.{is_unknown, is_built_kind, IsBuiltCommand};
-ghost use Rattle.dp_messages.specs.Decoding.{Carries, CarriesNothing, SpellsNothing, IsUnbuilt, Answers};
+ghost use Rattle.std.specs.Prelude.{◌≡◌, ◌==◌, ◌||◌, ◌⊎◌, IfOk, IfErr, IsTrue};
+ghost use Rattle.dp_messages.specs.declared.message.Entry.{Entry as Item};
+ghost use Rattle.dp_messages.specs.declared.decoding.DecodeError.{DecodeError as Refusal};
+ghost use Rattle.dp_messages.specs.Messages.{IsBuiltCommand};
+ghost use Rattle.dp_messages.specs.Decoding.{Carries, IsRefused, Answers};
 
+use crate::laws::one_answer;
 use crate::{Entry, Msg};
 use dp_frame::Frame;
-use dp_msg_draw::{Draw, PayloadError, one_spelling, read_draw};
+use dp_msg_draw::{Draw, PayloadError, read_draw};
 use std::alloc::Global;
 use thiserror::Error;
 
@@ -29,19 +32,16 @@ pub enum DecodeError {
 
 /// The entry that the frame carries. The rule: docs/protocol.md, "Messages".
 pub fn decode(alloc: Global, frame: &Frame) -> Result<Entry, DecodeError>
-    ensures entry { IfOk result (λ e. Carries frame.now e) }
+    ensures entry { IfOk result (Carries frame.now) }
+    ensures refused { IfErr result (λ why. (why ≡ DecodeError.Memory) ⊎ IsRefused frame.now why) }
 
-    // A type is refused as unknown only where it is, a payload as malformed only where no message has it, and as
-    // unbuilt only where its message isn't built.
-    ensures unknown { (k : ℕ) → result ≡ Err (DecodeError.Unknown k) → (k ≡ frame.now.kind) × IsTrue (is_unknown k) }
-    ensures malformed { (k : ℕ) → result ≡ Err (DecodeError.Malformed k)
-        → (k ≡ frame.now.kind) × IsTrue (is_built_kind k) × SpellsNothing frame.now }
-    ensures unbuilt { (k : ℕ) → result ≡ Err (DecodeError.Unbuilt k) → (k ≡ frame.now.kind) × IsUnbuilt frame.now }
-
-    // But for want of memory, a frame is refused only where it carries nothing.
-    ensures refused { IfErr result (λ e. (e ≡ DecodeError.Memory → ⊥) → CarriesNothing frame.now) }
+    // The entry that it carries, or why it carries none, is answered, unless memory runs out.
+    ensures carried { (e : Item) → Carries frame.now e
+        → (result ≡ Ok e) ⊎ (result ≡ Err DecodeError.Memory) }
+    ensures due { (why : Refusal) → IsRefused frame.now why
+        → (result ≡ Err why) ⊎ (result ≡ Err DecodeError.Memory) }
 {
-    one_spelling();
+    one_answer();
     let msg = match read_msg(alloc, frame) {
         Ok(msg) => msg,
         Err(error) => return Err(error),

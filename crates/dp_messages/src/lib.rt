@@ -4,11 +4,13 @@
 mod decoding;
 mod encoding;
 mod equality;
+mod laws;
 mod message;
 
 pub use decoding::{DecodeError, decode};
 pub use encoding::encode;
 pub use equality::same;
+pub use laws::{one_answer, one_message};
 pub use message::{Entry, Msg};
 
 #[cfg(test)]

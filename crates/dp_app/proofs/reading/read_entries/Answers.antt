@@ -3,14 +3,14 @@ use Rattle.std.specs.Prelude.{IfSome}
 use Rattle.std.proofs.lemmas.List.{length-take}
 use Rattle.dp_app.specs.declared.run_end.RunEnd.{RunEnd}
 use Rattle.dp_app.specs.Read.{EndsReading}
-use Rattle.dp_app.proofs.Inputs.{told_at_end, told_at_stop, told_too_long, told_further, two_parts, end_by_input, stop_by_input}
+use Rattle.dp_app.proofs.Inputs.{told_at_fault, told_at_end, told_at_stop, told_too_long, told_further, two_parts, end_by_input, stop_by_input}
 use Rattle.dp_app.proofs.reading.read_entries.Goals as goal
 
 pub returns-then-count-eq0-clause-told : goal.returns-then-count-eq0-clause-told
 returns-then-count-eq0-clause-told g c =
     let long : 0 < length c.read.new.buf = omega arith in
-    subst (λ (end : RunEnd). IfSome (g.I.Source.left c.args.input.now) (λ input. EndsReading input c.reads.history.entries.items end)) (sym c.end-end.ensures)
-    (told_at_end (g.I.Source.left c.args.input.now) (g.I.Source.left c.reads.input) c.reads.history.entries.items c.reads.history.splitter
+    subst (λ (end : RunEnd). IfSome (g.I.Source.left c.args.input.now) (λ input. EndsReading input (g.I.Source.left c.read.new.self) c.reads.history.entries.items end)) (sym c.end-end.ensures)
+    (told_at_end (g.I.Source.left c.args.input.now) (g.I.Source.left c.reads.input) (g.I.Source.left c.read.new.self) c.reads.history.entries.items c.reads.history.splitter
     c.reads.room c.in-Ok.count c.read.new.buf c.reads.invariant.told c.reads.invariant.drained c.reads.invariant.room c.in-Ok.ensures.end long c.if-count-eq0.true)
 
 pub returns-in-Err-feed-clause-told : goal.returns-in-Err-feed-clause-told
@@ -53,3 +53,8 @@ returns-then-count-eq0-clause-by_input g c = λ e. end_by_input c.reads.history.
 
 pub returns-in-Err-feed-clause-by_input : goal.returns-in-Err-feed-clause-by_input
 returns-in-Err-feed-clause-by_input g c = stop_by_input c.in-Err-feed.end c.in-Err-feed.ensures.stop
+
+pub returns-in-Err-clause-told : goal.returns-in-Err-clause-told
+returns-in-Err-clause-told g c =
+    told_at_fault (g.I.Source.left c.args.input.now) (g.I.Source.left c.reads.input) (g.I.Source.left c.read.new.self) c.reads.history.entries.items
+    c.reads.history.splitter c.reads.room c.reads.invariant.told c.reads.invariant.drained c.reads.invariant.room c.in-Err.ensures.bytes

@@ -10,7 +10,7 @@ pub returns-then-reads_to_end-clause-leaves : goal.returns-then-reads_to_end-cla
 returns-then-reads_to_end-clause-leaves g c =
     let told = g.I.Source.left c.args.input.now in
     let read = c.read_entries-history in
-    shown_leaves told (g.O.Sink.held c.args.output.now) (g.O.Sink.held c.write_shown.new.output)
+    shown_leaves told (g.I.Source.left c.read_entries-history.new.input) (g.O.Sink.held c.args.output.now) (g.O.Sink.held c.write_shown.new.output)
     (g.O.Sink.faults c.args.output.now) (g.O.Sink.faults c.write_shown.new.output) c.deref.result.now read.result.end c.write_shown.result
-    (subst (λ (entries : List Entry). IfSome told (λ input. EndsReading input entries read.result.end)) (sym c.deref.ensures.value) read.ensures.told)
+    (subst (λ (entries : List Entry). IfSome told (λ input. EndsReading input (g.I.Source.left c.read_entries-history.new.input) entries read.result.end)) (sym c.deref.ensures.value) read.ensures.told)
     (c.reads_to_end.ensures.yes c.if-reads_to_end.true) c.write_shown.ensures.shown

@@ -1,0 +1,21 @@
+//! Laws of inputs, each the contract of a function that does nothing.
+
+ghost use Rattle.std.specs.Prelude.{◌≡◌, ℕ, List};
+ghost use Rattle.dp_messages.specs.declared.message.Entry.{Entry};
+ghost use Rattle.dp_app.specs.declared.run_end.RunEnd.{RunEnd};
+ghost use Rattle.dp_app.specs.Input.{ComesTo};
+
+use dp_frame::{one_front, one_splitting};
+use dp_messages::one_answer;
+
+/// An input comes to at most one end, with one list of entries.
+pub fn one_reading()
+    ensures entries { (input : List ℕ) (entries others : List Entry) (end other : RunEnd)
+        → ComesTo input entries end → ComesTo input others other → entries ≡ others }
+    ensures end { (input : List ℕ) (entries others : List Entry) (end other : RunEnd)
+        → ComesTo input entries end → ComesTo input others other → end ≡ other }
+{
+    one_front();
+    one_splitting();
+    one_answer();
+}
