@@ -6,7 +6,7 @@ use Rattle.std.proofs.lemmas.Grind.{flat_map-append}
 use Rattle.dp_frame.specs.Frames.{FrameParts, IsFrame, spelling, HoldsNoFrame}
 use Rattle.dp_frame.specs.Stream.{Stream}
 use Rattle.dp_messages.specs.declared.message.Entry.{Entry}
-use Rattle.dp_messages.specs.Decoding.{Carries, CarriesNothing}
+use Rattle.dp_messages.specs.Decoding.{Carries}
 use Rattle.dp_messages.specs.declared.decoding.DecodeError.{DecodeError}
 use Rattle.dp_messages.specs.declared.decoding.DecodeError.TheVariants as refusal
 use Rattle.dp_app.specs.declared.run_end.RunEnd.{RunEnd}

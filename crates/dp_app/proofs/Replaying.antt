@@ -1,7 +1,7 @@
 -- What a run leaves on the output.
-use Rattle.std.proofs.Common.{◌≡◌, ℕ, List, refl, sym, ◌∙◌, subst, inl, inr}
+use Rattle.std.proofs.Common.{◌≡◌, ℕ, List, sym, ◌∙◌, subst, inl, inr}
 use Rattle.std.specs.Prelude.{Option, Some, None, IfSome}
-use Rattle.std.specs.Io.KnownBytes.{Appends, Keeps}
+use Rattle.std.specs.Io.KnownBytes.{Appends}
 use Rattle.dp_io.specs.Faults.{Rose}
 use Rattle.dp_io.specs.Streams.{GrowsByPrefix}
 use Rattle.dp_messages.specs.declared.message.Entry.{Entry}
@@ -10,7 +10,7 @@ use Rattle.dp_plain.specs.Picture.{p6}
 use Rattle.dp_app.specs.declared.run_end.RunEnd.{RunEnd}
 use Rattle.dp_app.specs.declared.run_end.RunEnd.TheVariants.{Done, ReadFault, WriteFault, Memory, Long, Truncated, BadMessage}
 use Rattle.dp_app.specs.Read.{EndsReading, ReadsToEnd}
-use Rattle.dp_app.specs.Answer.{Leaves, ShowsPart, text_of}
+use Rattle.dp_app.specs.Answer.{Leaves, ShowsPart}
 use Rattle.dp_app.specs.Shown.{WritesShown}
 use Rattle.dp_app.proofs.Completeness.{keeps_same}
 

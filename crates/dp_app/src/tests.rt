@@ -1,7 +1,9 @@
 //! Worked runs of the program, through its top call.
 
+ghost use Rattle.std.specs.Prelude.{◌≤◌, None, length};
+
 use super::*;
-use dp_io::{MemSink, MemSource};
+use dp_io::{Failed, MemSink, MemSource, Source};
 use std::alloc::Global;
 use std::process::Abort;
 use std::test::Fail;
@@ -290,6 +292,102 @@ fn a_diag_that_fails(rt: HostRuntime) -> Result<(), Fail> {
             b"truncated at 29\n".starts_with(run.diag.as_slice()),
             "at call {call}"
         );
+    }
+    Ok(())
+}
+
+/// The same frames again and again, made as they are read, and then some last bytes. It tells none of them.
+#[derive(Drop)]
+struct LongSource {
+    /// Whole frames.
+    frames: Vec<u8>,
+    /// How often they are still to come.
+    times: usize,
+    last: Vec<u8>,
+    at: usize,
+}
+
+/// Moves bytes from a place on into the buffer, as far as it takes them, and answers how many.
+fn give(bytes: &[u8], at: usize, buf: &mut [u8]) -> usize
+    ensures { result ≤ length buf.new }
+{
+    let rest = &bytes[at.min(bytes.len())..];
+    let count = rest.len().min(buf.len());
+    buf[..count].copy_from_slice(&rest[..count]);
+    count
+}
+
+impl Source for LongSource {
+    ghost left = { λ _. None };
+
+    ghost faults = { λ _. 0 };
+
+    fn read(&mut self, buf: &mut [u8]) -> Result<usize, Failed> {
+        if self.times == 0 {
+            let count = give(&self.last, self.at, buf);
+            self.at = self.at.saturating_add(count);
+            return Ok(count);
+        }
+        let count = give(&self.frames, self.at, buf);
+        self.at = self.at.saturating_add(count);
+        if self.at >= self.frames.len() {
+            self.times -= 1;
+            self.at = 0;
+        }
+        Ok(count)
+    }
+}
+
+/// Adds a LayerCreate of user 1, with a title of this length: a frame of 9 more bytes.
+fn push_layer(bytes: &mut Vec<u8>, title: u8) -> Result<(), Fail> {
+    bytes.extend_from_slice(&[0, title.saturating_add(5), 0x82, 1, 1, 1, 0, 0, 0])?;
+    for _ in 0..title {
+        bytes.push(b'a')?;
+    }
+    Ok(())
+}
+
+/// So many frames of 256 bytes.
+fn layers(alloc: Global, count: u8) -> Result<Vec<u8>, Fail> {
+    let mut bytes = Vec::new(alloc);
+    for _ in 0..count {
+        push_layer(&mut bytes, 247)?;
+    }
+    Ok(bytes)
+}
+
+/// A source of 1 GiB less 256 bytes of whole frames, then a layer with a title of this length, and then these bytes.
+fn long_source(alloc: Global, title: u8, behind: &str) -> Result<LongSource, Fail> {
+    let mut last = layers(alloc, 63)?;
+    push_layer(&mut last, title)?;
+    push_hex(&mut last, behind)?;
+    Ok(LongSource {
+        frames: layers(alloc, 64)?,
+        times: 65_535,
+        last,
+        at: 0,
+    })
+}
+
+#[test]
+fn inputs_about_the_limit(rt: HostRuntime) -> Result<(), Fail> {
+    let alloc = rt.alloc();
+    let words = [String::from_str(alloc, "replay")?];
+    // Frames of exactly 1 GiB; a bad frame that is whole with the last byte of it, and a byte behind; a bad frame that
+    // is whole a byte later.
+    for (title, behind, status, line) in [
+        (247, "", 0, ""),
+        (243, "0000140100", 10, "bad message at 1073741820\n"),
+        (244, "00001401", 8, "input too long\n"),
+    ] {
+        let mut source = long_source(alloc, title, behind)?;
+        let mut output = MemSink::new(alloc, 100, 100, Vec::new(alloc))?;
+        let mut diag = MemSink::new(alloc, 100, 100, Vec::new(alloc))?;
+        let outcome = drawpile(alloc, &words, &mut source, &mut output, &mut diag);
+        assert_eq!(rt; outcome, Outcome { status });
+        assert_eq!(rt; diag.as_slice(), line.as_bytes());
+        let picture = picture_of(alloc, if status == 0 { "0 0" } else { "" }, "")?;
+        assert_eq!(rt; output.as_slice(), picture.as_slice());
     }
     Ok(())
 }

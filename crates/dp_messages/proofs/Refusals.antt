@@ -9,10 +9,10 @@ use Rattle.dp_messages.specs.declared.message.Msg.{Msg}
 use Rattle.dp_messages.specs.declared.message.Msg.TheVariants as msg
 use Rattle.dp_messages.specs.declared.decoding.DecodeError.{DecodeError}
 use Rattle.dp_messages.specs.declared.decoding.DecodeError.TheVariants.{Unknown, Malformed, Unbuilt, Memory}
-use Rattle.dp_messages.specs.Messages.{Spells, IsBuilt, IsBuiltCommand, is_unknown, is_built_kind}
+use Rattle.dp_messages.specs.Messages.{Spells, IsBuilt, is_unknown, is_built_kind}
 use Rattle.dp_messages.specs.declared.message.Entry.{Entry}
 use Rattle.dp_messages.specs.Decoding.{Carries, IsRefused, Answers}
-use Rattle.std.specs.Prelude.{Result, Ok, Err, slice_index}
+use Rattle.std.specs.Prelude.{Err, slice_index}
 use Rattle.dp_msg_draw.specs.Limits.{flag}
 
 -- a kind that has built messages, and isn't unknown
