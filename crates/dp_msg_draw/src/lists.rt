@@ -1,7 +1,7 @@
-//! The lists that messages carry. Each is short enough that its message fits in a payload of at most
-//! 65,535 bytes.
+//! The lists that messages carry. Each is short enough that its message fits in a payload of at
+//! most 65,535 bytes.
 
-ghost use Rattle.std.specs.Prelude.{◌≡◌, ◌≤◌, ◌↔◌, ◌^◌, [], length, replicate, IfOk, IfSome, IsSome};
+ghost use Rattle.std.specs.Prelude.{◌≡◌, ◌≤◌, ◌↔◌, [], length, replicate, IfOk, IfSome, IsSome};
 ghost use Rattle.std.specs.Bool.{◌==◌};
 ghost use Rattle.std.specs.Cmp.{partial_equiv_from_equiv};
 ghost use Rattle.std.specs.Cmp.Lexicographic.{pointwise, nat_list_eq_equiv, lists_per};
@@ -85,7 +85,8 @@ impl PartialEq for Title {
     }
 }
 
-/// One dab of a brush. Its place is that of the dab before it, or of the message, moved by `dx` and `dy`.
+/// One dab of a brush. Its place is that of the dab before it, or of the message, moved by `dx`
+/// and `dy`.
 #[derive(Clone, Copy, Debug, PartialEq, Eq)]
 pub struct Dab {
     pub dx: i8,
@@ -235,8 +236,8 @@ impl PartialEq for Colors {
     }
 }
 
-/// A pixel of a tile, premultiplied: 32768 is one, in a well-formed message no channel is above alpha,
-/// and alpha is at most one.
+/// A pixel of a tile, premultiplied: 32768 is one, in a well-formed message no channel is above
+/// alpha, and alpha is at most one.
 #[derive(Clone, Copy, Debug, PartialEq, Eq)]
 pub struct TilePixel {
     pub r: u16,
