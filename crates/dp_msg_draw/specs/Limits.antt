@@ -8,12 +8,15 @@ IsTitle bytes = (length bytes ≤ 255) × IsUtf8 bytes
 
 -- the numbers of the blend modes: erase, normal, multiply, add, recolor, replace
 abbrev pub IsListedMode : ℕ → Type 0
-IsListedMode mode = (mode ≡ 0) ⊎ (mode ≡ 1) ⊎ (mode ≡ 2) ⊎ (mode ≡ 9) ⊎ (mode ≡ 10) ⊎ (mode ≡ 255)
+IsListedMode mode =
+    (mode ≡ 0) ⊎ (mode ≡ 1) ⊎ (mode ≡ 2) ⊎ (mode ≡ 9) ⊎ (mode ≡ 10) ⊎ (mode ≡ 255)
 
 -- the kinds of the drawing messages
 abbrev pub IsListedKind : ℕ → Type 0
-IsListedKind kind = (kind ≡ 129) ⊎ (kind ≡ 130) ⊎ (kind ≡ 131) ⊎ (kind ≡ 132) ⊎ (kind ≡ 133) ⊎ (kind ≡ 134)
-    ⊎ (kind ≡ 136) ⊎ (kind ≡ 137) ⊎ (kind ≡ 146) ⊎ (kind ≡ 147) ⊎ (kind ≡ 149) ⊎ (kind ≡ 150) ⊎ (kind ≡ 152)
+IsListedKind kind =
+    (kind ≡ 129) ⊎ (kind ≡ 130) ⊎ (kind ≡ 131) ⊎ (kind ≡ 132) ⊎ (kind ≡ 133) ⊎ (kind ≡ 134)
+    ⊎ (kind ≡ 136) ⊎ (kind ≡ 137) ⊎ (kind ≡ 146) ⊎ (kind ≡ 147)
+    ⊎ (kind ≡ 149) ⊎ (kind ≡ 150) ⊎ (kind ≡ 152)
 
 -- a flag's byte
 abbrev pub flag : Bool → ℕ

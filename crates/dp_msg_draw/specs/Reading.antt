@@ -14,9 +14,11 @@ Answers kind payload (Err Malformed) = (m : Draw) → Spells kind payload m → 
 Answers kind payload (Err Memory) = Unit {0}
 
 -- the same for a part of a payload that has these fields and meets this condition
-abbrev pub AnswersPart : {X : Type 0} → (X → List Field) → (X → Type 0) → List ℕ → Result X PayloadError → Type 0
+abbrev pub AnswersPart : {X : Type 0} → (X → List Field) → (X → Type 0)
+    → List ℕ → Result X PayloadError → Type 0
 AnswersPart fields Meets bytes (Ok x) = Reads bytes (fields x) [] × Meets x
-AnswersPart {X = X} fields Meets bytes (Err Malformed) = (x : X) → Reads bytes (fields x) [] → Meets x → ⊥
+AnswersPart {X = X} fields Meets bytes (Err Malformed) =
+    (x : X) → Reads bytes (fields x) [] → Meets x → ⊥
 AnswersPart fields Meets bytes (Err Memory) = Unit {0}
 
 -- the same for bytes that are a text as they stand

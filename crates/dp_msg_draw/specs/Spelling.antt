@@ -8,7 +8,21 @@ use Rattle.dp_msg_draw.specs.declared.lists.TilePixel.{TilePixel}
 use Rattle.dp_msg_draw.specs.declared.draw.TileContent.{TileContent}
 use Rattle.dp_msg_draw.specs.declared.draw.TileContent.TheVariants.{Solid, Pixels}
 use Rattle.dp_msg_draw.specs.declared.draw.Draw.{Draw}
-use Rattle.dp_msg_draw.specs.declared.draw.Draw.TheVariants.{CanvasResize, LayerCreate, LayerAttr, LayerTitle, LayerMove, LayerDelete, PutImage, FillRect, PutTile, Background, DabsRound, DabsSquare, MoveRect}
+use Rattle.dp_msg_draw.specs.declared.draw.Draw.TheVariants.{
+  CanvasResize,
+  LayerCreate,
+  LayerAttr,
+  LayerTitle,
+  LayerMove,
+  LayerDelete,
+  PutImage,
+  FillRect,
+  PutTile,
+  Background,
+  DabsRound,
+  DabsSquare,
+  MoveRect,
+}
 use Rattle.dp_msg_draw.specs.Fields.{Reads}
 use Rattle.dp_msg_draw.specs.Limits.{IsTitle, IsListedMode, flag}
 
@@ -82,7 +96,8 @@ Spells kind payload (CanvasResize top right bottom left) =
 Spells kind payload (LayerCreate id parent group title) =
     (kind ≡ 130) × IsTitle title × Holds payload (U16 id ∷ U16 parent ∷ U8 (flag group) ∷ []) title
 Spells kind payload (LayerAttr id opacity mode hidden) =
-    (kind ≡ 131) × IsListedMode mode × Holds payload (U16 id ∷ U8 opacity ∷ U8 mode ∷ U8 (flag hidden) ∷ []) []
+    (kind ≡ 131) × IsListedMode mode
+    × Holds payload (U16 id ∷ U8 opacity ∷ U8 mode ∷ U8 (flag hidden) ∷ []) []
 Spells kind payload (LayerTitle id title) =
     (kind ≡ 132) × IsTitle title × Holds payload (U16 id ∷ []) title
 Spells kind payload (LayerMove id parent above) =
@@ -91,7 +106,8 @@ Spells kind payload (LayerDelete id) =
     (kind ≡ 134) × Holds payload (U16 id ∷ []) []
 Spells kind payload (PutImage layer mode x y w h colors) =
     (kind ≡ 136) × IsListedMode mode × IsImage w h colors
-    × Holds payload (U16 layer ∷ U8 mode ∷ U32 x ∷ U32 y ∷ U32 w ∷ U32 h ∷ flat_map color_fields colors) []
+    × Holds payload
+    (U16 layer ∷ U8 mode ∷ U32 x ∷ U32 y ∷ U32 w ∷ U32 h ∷ flat_map color_fields colors) []
 Spells kind payload (FillRect layer mode x y w h color) =
     (kind ≡ 137) × IsListedMode mode
     × Holds payload (U16 layer ∷ U8 mode ∷ U32 x ∷ U32 y ∷ U32 w ∷ U32 h ∷ U32 color ∷ []) []
@@ -102,9 +118,12 @@ Spells kind payload (Background color) =
     (kind ≡ 147) × Holds payload (U32 color ∷ []) []
 Spells kind payload (DabsRound layer x y r g b mode dabs) =
     (kind ≡ 149) × IsListedMode mode × AreDabs dabs
-    × Holds payload (U16 layer ∷ I32 x ∷ I32 y ∷ U8 r ∷ U8 g ∷ U8 b ∷ U8 mode ∷ flat_map dab_fields dabs) []
+    × Holds payload
+    (U16 layer ∷ I32 x ∷ I32 y ∷ U8 r ∷ U8 g ∷ U8 b ∷ U8 mode ∷ flat_map dab_fields dabs) []
 Spells kind payload (DabsSquare layer x y r g b mode dabs) =
     (kind ≡ 150) × IsListedMode mode × AreDabs dabs
-    × Holds payload (U16 layer ∷ I32 x ∷ I32 y ∷ U8 r ∷ U8 g ∷ U8 b ∷ U8 mode ∷ flat_map dab_fields dabs) []
+    × Holds payload
+    (U16 layer ∷ I32 x ∷ I32 y ∷ U8 r ∷ U8 g ∷ U8 b ∷ U8 mode ∷ flat_map dab_fields dabs) []
 Spells kind payload (MoveRect layer sx sy w h tx ty) =
-    (kind ≡ 152) × Holds payload (U16 layer ∷ U32 sx ∷ U32 sy ∷ U32 w ∷ U32 h ∷ I32 tx ∷ I32 ty ∷ []) []
+    (kind ≡ 152)
+    × Holds payload (U16 layer ∷ U32 sx ∷ U32 sy ∷ U32 w ∷ U32 h ∷ I32 tx ∷ I32 ty ∷ []) []

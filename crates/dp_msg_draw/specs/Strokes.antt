@@ -9,7 +9,9 @@ use Rattle.dp_msg_draw.specs.Spelling.{AreDabs, dab_fields}
 
 -- where a stroke is drawn and how, and then its dabs
 abbrev pub stroke_fields : Stroke → List Field
-stroke_fields s = U16 s.layer ∷ I32 s.x ∷ I32 s.y ∷ U8 s.r ∷ U8 s.g ∷ U8 s.b ∷ U8 s.mode ∷ flat_map dab_fields s.dabs
+stroke_fields s =
+    U16 s.layer ∷ I32 s.x ∷ I32 s.y ∷ U8 s.r ∷ U8 s.g ∷ U8 s.b ∷ U8 s.mode
+    ∷ flat_map dab_fields s.dabs
 
 abbrev pub IsStroke : Stroke → Type 0
 IsStroke s = IsListedMode s.mode × AreDabs s.dabs

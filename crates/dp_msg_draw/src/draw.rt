@@ -8,7 +8,7 @@ use crate::lists::{Colors, Dabs, TilePixel, TilePixels, Title};
 use std::alloc::AllocError;
 
 /// What a tile is filled with.
-#[derive(Debug, Drop)]
+#[derive(Clone, Debug, Drop, PartialEq)]
 pub enum TileContent {
     /// Each pixel is this one.
     Solid(TilePixel),
@@ -18,7 +18,7 @@ pub enum TileContent {
 
 /// A drawing message. Each is relayed to everybody and drawn by each client.
 /// The rule: docs/protocol.md, "Drawing messages".
-#[derive(Debug, Drop)]
+#[derive(Clone, Debug, Drop, PartialEq)]
 pub enum Draw {
     /// The canvas grows by this many pixels on each side, or shrinks where a number is negative.
     CanvasResize {
@@ -119,10 +119,7 @@ impl TileContent {
     pub fn copy(&self) -> Result<TileContent, AllocError>
         ensures { IfOk result (λ c. c ≡ self.now) }
     {
-        match self {
-            TileContent::Solid(pixel) => Ok(TileContent::Solid(*pixel)),
-            TileContent::Pixels(pixels) => Ok(TileContent::Pixels(pixels.copy()?)),
-        }
+        self.clone()
     }
 }
 
@@ -131,154 +128,7 @@ impl Draw {
     pub fn copy(&self) -> Result<Draw, AllocError>
         ensures { IfOk result (λ m. m ≡ self.now) }
     {
-        match self {
-            Draw::CanvasResize {
-                top,
-                right,
-                bottom,
-                left,
-            } => Ok(Draw::CanvasResize {
-                top: *top,
-                right: *right,
-                bottom: *bottom,
-                left: *left,
-            }),
-            Draw::LayerCreate {
-                id,
-                parent,
-                group,
-                title,
-            } => Ok(Draw::LayerCreate {
-                id: *id,
-                parent: *parent,
-                group: *group,
-                title: title.copy()?,
-            }),
-            Draw::LayerAttr {
-                id,
-                opacity,
-                mode,
-                hidden,
-            } => Ok(Draw::LayerAttr {
-                id: *id,
-                opacity: *opacity,
-                mode: *mode,
-                hidden: *hidden,
-            }),
-            Draw::LayerTitle { id, title } => Ok(Draw::LayerTitle {
-                id: *id,
-                title: title.copy()?,
-            }),
-            Draw::LayerMove { id, parent, above } => Ok(Draw::LayerMove {
-                id: *id,
-                parent: *parent,
-                above: *above,
-            }),
-            Draw::LayerDelete { id } => Ok(Draw::LayerDelete { id: *id }),
-            Draw::PutImage {
-                layer,
-                mode,
-                x,
-                y,
-                w,
-                h,
-                colors,
-            } => Ok(Draw::PutImage {
-                layer: *layer,
-                mode: *mode,
-                x: *x,
-                y: *y,
-                w: *w,
-                h: *h,
-                colors: colors.copy()?,
-            }),
-            Draw::FillRect {
-                layer,
-                mode,
-                x,
-                y,
-                w,
-                h,
-                color,
-            } => Ok(Draw::FillRect {
-                layer: *layer,
-                mode: *mode,
-                x: *x,
-                y: *y,
-                w: *w,
-                h: *h,
-                color: *color,
-            }),
-            Draw::PutTile {
-                layer,
-                col,
-                row,
-                repeat,
-                content,
-            } => Ok(Draw::PutTile {
-                layer: *layer,
-                col: *col,
-                row: *row,
-                repeat: *repeat,
-                content: content.copy()?,
-            }),
-            Draw::Background { color } => Ok(Draw::Background { color: *color }),
-            Draw::DabsRound {
-                layer,
-                x,
-                y,
-                r,
-                g,
-                b,
-                mode,
-                dabs,
-            } => Ok(Draw::DabsRound {
-                layer: *layer,
-                x: *x,
-                y: *y,
-                r: *r,
-                g: *g,
-                b: *b,
-                mode: *mode,
-                dabs: dabs.copy()?,
-            }),
-            Draw::DabsSquare {
-                layer,
-                x,
-                y,
-                r,
-                g,
-                b,
-                mode,
-                dabs,
-            } => Ok(Draw::DabsSquare {
-                layer: *layer,
-                x: *x,
-                y: *y,
-                r: *r,
-                g: *g,
-                b: *b,
-                mode: *mode,
-                dabs: dabs.copy()?,
-            }),
-            Draw::MoveRect {
-                layer,
-                sx,
-                sy,
-                w,
-                h,
-                tx,
-                ty,
-            } => Ok(Draw::MoveRect {
-                layer: *layer,
-                sx: *sx,
-                sy: *sy,
-                w: *w,
-                h: *h,
-                tx: *tx,
-                ty: *ty,
-            }),
-        }
+        self.clone()
     }
 }
 

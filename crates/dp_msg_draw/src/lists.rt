@@ -1,9 +1,13 @@
-//! The lists that messages carry. Each is short enough that its message fits in a payload of at most
-//! 65,535 bytes.
+//! The lists that messages carry. Each is short enough that its message fits in a payload of at
+//! most 65,535 bytes.
 
-ghost use Rattle.std.specs.Prelude.{◌≡◌, ◌≤◌, ◌↔◌, ◌^◌, [], length, replicate, IfOk, IfSome, IsSome};
-ghost use Rattle.std.specs.Vec.{vec_len};
+ghost use Rattle.std.specs.Prelude.{◌≡◌, ◌≤◌, ◌↔◌, [], length, replicate, IfOk, IfSome, IsSome};
+ghost use Rattle.std.specs.Bool.{◌==◌};
+ghost use Rattle.std.specs.Cmp.{partial_equiv_from_equiv};
+ghost use Rattle.std.specs.Cmp.Lexicographic.{pointwise, nat_list_eq_equiv, lists_per};
 ghost use Rattle.dp_msg_draw.specs.Limits.{IsTitle};
+ghost use Rattle.dp_msg_draw.specs.contracts.lists.DabPartialEq.TheImpl.Laws as dab;
+ghost use Rattle.dp_msg_draw.specs.contracts.lists.TilePixelPartialEq.TheImpl.Laws as pixel;
 
 use std::alloc::{AllocError, Global};
 use std::marker::Model;
@@ -58,12 +62,31 @@ impl Title {
     pub fn copy(&self) -> Result<Title, AllocError>
         ensures { IfOk result (λ t. t ≡ self.now) }
     {
+        self.clone()
+    }
+}
+
+impl Clone for Title {
+    ghost is_clone = { λ a b. b ≡ a };
+
+    fn clone(&self) -> Result<Title, AllocError> {
         let bytes = Vec::from_slice(*self.bytes.allocator(), &self.bytes)?;
         Ok(Title { bytes })
     }
 }
 
-/// One dab of a brush. Its place is that of the dab before it, or of the message, moved by `dx` and `dy`.
+impl PartialEq for Title {
+    ghost eq = { pointwise ◌==◌ };
+
+    ghost laws = { partial_equiv_from_equiv nat_list_eq_equiv };
+
+    fn eq(&self, other: &Title) -> bool {
+        self.bytes == other.bytes
+    }
+}
+
+/// One dab of a brush. Its place is that of the dab before it, or of the message, moved by `dx`
+/// and `dy`.
 #[derive(Clone, Copy, Debug, PartialEq, Eq)]
 pub struct Dab {
     pub dx: i8,
@@ -121,8 +144,26 @@ impl Dabs {
     pub fn copy(&self) -> Result<Dabs, AllocError>
         ensures { IfOk result (λ d. d ≡ self.now) }
     {
+        self.clone()
+    }
+}
+
+impl Clone for Dabs {
+    ghost is_clone = { λ a b. b ≡ a };
+
+    fn clone(&self) -> Result<Dabs, AllocError> {
         let dabs = Vec::from_slice(*self.dabs.allocator(), &self.dabs)?;
         Ok(Dabs { dabs })
+    }
+}
+
+impl PartialEq for Dabs {
+    ghost eq = { pointwise ⟦<Dab as PartialEq>⟧.eq };
+
+    ghost laws = { lists_per dab.laws-law };
+
+    fn eq(&self, other: &Dabs) -> bool {
+        self.dabs == other.dabs
     }
 }
 
@@ -172,13 +213,31 @@ impl Colors {
     pub fn copy(&self) -> Result<Colors, AllocError>
         ensures { IfOk result (λ c. c ≡ self.now) }
     {
+        self.clone()
+    }
+}
+
+impl Clone for Colors {
+    ghost is_clone = { λ a b. b ≡ a };
+
+    fn clone(&self) -> Result<Colors, AllocError> {
         let colors = Vec::from_slice(*self.colors.allocator(), &self.colors)?;
         Ok(Colors { colors })
     }
 }
 
-/// A pixel of a tile, premultiplied: 32768 is one, in a well-formed message no channel is above alpha,
-/// and alpha is at most one.
+impl PartialEq for Colors {
+    ghost eq = { pointwise ◌==◌ };
+
+    ghost laws = { partial_equiv_from_equiv nat_list_eq_equiv };
+
+    fn eq(&self, other: &Colors) -> bool {
+        self.colors == other.colors
+    }
+}
+
+/// A pixel of a tile, premultiplied: 32768 is one, in a well-formed message no channel is above
+/// alpha, and alpha is at most one.
 #[derive(Clone, Copy, Debug, PartialEq, Eq)]
 pub struct TilePixel {
     pub r: u16,
@@ -239,7 +298,25 @@ impl TilePixels {
     pub fn copy(&self) -> Result<TilePixels, AllocError>
         ensures { IfOk result (λ p. p ≡ self.now) }
     {
+        self.clone()
+    }
+}
+
+impl Clone for TilePixels {
+    ghost is_clone = { λ a b. b ≡ a };
+
+    fn clone(&self) -> Result<TilePixels, AllocError> {
         let pixels = Vec::from_slice(*self.pixels.allocator(), &self.pixels)?;
         Ok(TilePixels { pixels })
+    }
+}
+
+impl PartialEq for TilePixels {
+    ghost eq = { pointwise ⟦<TilePixel as PartialEq>⟧.eq };
+
+    ghost laws = { lists_per pixel.laws-law };
+
+    fn eq(&self, other: &TilePixels) -> bool {
+        self.pixels == other.pixels
     }
 }

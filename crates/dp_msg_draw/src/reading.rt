@@ -47,7 +47,8 @@ fn message_at(alloc: Global, kind: u8, payload: &[u8]) -> Result<Draw, PayloadEr
 pub fn read_draw(alloc: Global, kind: u8, payload: &[u8]) -> Result<Draw, PayloadError>
     requires { IsListedKind kind }
     ensures ok { IfOk result (Spells kind payload.now) }
-    ensures malformed { IsErrOf result PayloadError.Malformed → (m : Message) → Spells kind payload.now m → ⊥ }
+    ensures malformed { IsErrOf result PayloadError.Malformed
+        → (m : Message) → Spells kind payload.now m → ⊥ }
     // What is spelled is read, unless memory runs out.
     ensures read { (m : Message) → Spells kind payload.now m
         → (result ≡ Ok m) ⊎ (result ≡ Err PayloadError.Memory) }

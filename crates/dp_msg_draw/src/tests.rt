@@ -3,13 +3,14 @@ use std::alloc::Global;
 use std::process::Abort;
 use std::test::*;
 
-/// The message has this kind and these bytes, and no byte fewer or more where its length is fixed.
+/// The message has this kind and these bytes, and is read from them.
 fn spells(rt: &impl Abort, alloc: Global, m: &Draw, kind: u8, bytes: &[u8]) -> Result<(), Fail> {
     assert_eq!(rt; kind_of_draw(m), kind);
     let mut out = Vec::new(alloc);
     write_draw(m, &mut out)?;
     assert_eq!(rt; out.as_slice(), bytes);
     let read = read_draw(alloc, kind_of_draw(m), bytes)?;
+    assert!(rt; same_draw(&read, m));
     let mut again = Vec::new(alloc);
     write_draw(&read.copy()?, &mut again)?;
     assert_eq!(rt; again.as_slice(), bytes);

@@ -4,7 +4,8 @@ ghost use Rattle.std.specs.Prelude.{◌≡◌, ◌≤◌, ◌+◌, ◌*◌, ◌%
 ghost use Rattle.std.specs.List.{flat_map};
 ghost use Rattle.dp_msg_draw.specs.Fields.{Reads};
 ghost use Rattle.dp_msg_draw.specs.Reading.{Answers, AnswersPart};
-ghost use Rattle.dp_msg_draw.specs.Spelling.{AreAllEqual, IsContent, IsPixel, IsTile, content_fields, pixel_fields};
+ghost use Rattle.dp_msg_draw.specs.Spelling.{AreAllEqual, IsContent, IsPixel, IsTile};
+ghost use Rattle.dp_msg_draw.specs.Spelling.{content_fields, pixel_fields};
 
 use crate::cursor::Cursor;
 use crate::draw::{Draw, TileContent};
