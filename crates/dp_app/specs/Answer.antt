@@ -55,15 +55,15 @@ pub record Answer : Type 0 where
   pub text : List ℕ
   pub line : List ℕ
 
--- The answer that the words and the input's bytes are due: that of what the input comes to for `replay`, and the line about
--- the words where they are no command.
+-- The answer that the words and the input's bytes are due: for `replay` that of what the input comes
+-- to, and the line about the words where they are no command.
 abbrev pub IsDue : {A : Type 0} → List (String A) → List ℕ → Answer → Type 0
 IsDue words input answer =
     (IsReplay words × (entries : List Entry) × (end : RunEnd) × ComesTo input entries end
     × (answer ≡ record { status = status_of end; text = text_of entries end; line = line_of end }))
     ⊎ (¬ IsReplay words × (answer ≡ record { status = 1; text = []; line = usage_line }))
 
--- the answer is given: the exit status is its own, and the output and diag, as they were and as they are, grew by its text and line
+-- the answer is given: the exit status is its own, the output grew by its text, and diag by its line
 pub record IsGiven (answer : Answer) (code : ℕ) (output printed diag said : Option (List ℕ)) : Type 0 where
   pub status : code ≡ answer.status
   pub text : Appends output printed answer.text
@@ -76,7 +76,8 @@ Comes input end = IfSome input (λ bytes. (entries : List Entry) × ComesTo byte
 -- the output grew by the picture of what an input that tells its bytes shows, which comes to this end
 abbrev pub ShowsWhole : Option (List ℕ) → Option (List ℕ) → Option (List ℕ) → RunEnd → Type 0
 ShowsWhole input old new end =
-    IfSome input (λ bytes. (entries : List Entry) × ComesTo bytes entries end × Appends old new (p6 (shown entries)))
+    IfSome input (λ bytes. (entries : List Entry) × ComesTo bytes entries end
+    × Appends old new (text_of entries end))
 
 -- the output grew by a front of that picture
 abbrev pub ShowsPart : Option (List ℕ) → Option (List ℕ) → Option (List ℕ) → Type 0
@@ -84,8 +85,8 @@ ShowsPart input old new =
     IfSome input (λ bytes. (entries : List Entry) × (end : RunEnd) × ComesTo bytes entries end
     × GrowsByPrefix old new (text_of entries end))
 
--- What a run that ends so leaves of an input and on the output: the picture of the whole frames, a front of it, or nothing.
--- Where the input failed, what was taken of it before holds no cause.
+-- What a run that ends so leaves of an input and on the output: the picture of the whole frames, a
+-- front of it, or nothing. Where the input failed, what was taken of it before holds no cause.
 abbrev pub Leaves : Option (List ℕ) → Option (List ℕ) → Option (List ℕ) → Option (List ℕ) → RunEnd → Type 0
 Leaves input left old new Done = ShowsWhole input old new Done
 Leaves input left old new ReadFault = Keeps old new × IfSome input (λ bytes. HoldsNoCause bytes left)
@@ -95,7 +96,8 @@ Leaves input left old new Long = Keeps old new × Comes input Long
 Leaves input left old new (Truncated n) = ShowsWhole input old new (Truncated n)
 Leaves input left old new (BadMessage n) = Keeps old new × Comes input (BadMessage n)
 
--- the line of the end is said, and the status is the end's; or diag failed behind a front of the line, and it is 4
+-- the line of the end is said, and the status is the end's; or diag failed behind a front of the
+-- line, and it is 4
 abbrev pub Says : Option (List ℕ) → Option (List ℕ) → ℕ → ℕ → ℕ → RunEnd → Type 0
 Says old new before now status end =
     ((status ≡ status_of end) × Appends old new (line_of end))

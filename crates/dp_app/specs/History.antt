@@ -25,7 +25,8 @@ IsStop Memory = Unit {0}
 IsStop (BadMessage n) = Unit {0}
 IsStop _ = ⊥
 
--- why these bytes can't be read further: want of memory, or a frame that carries nothing behind the entries' frames
+-- why these bytes can't be read further: want of memory, or a frame that carries nothing behind the
+-- entries' frames
 abbrev pub StopsAt : List ℕ → List Entry → RunEnd → Type 0
 StopsAt bytes entries Memory = Unit {0}
 StopsAt bytes entries (BadMessage n) = TellsUpTo bytes entries n

@@ -29,20 +29,23 @@ pub record TellsUpTo (bytes : List ℕ) (entries : List Entry) (n : ℕ) : Type 
   pub whole : bytes ≡ flat_map spelling frames ++ (spelling bad ++ more)
   pub place : n ≡ length (flat_map spelling frames)
 
--- What an input comes to. The earliest cause wins: the first frame that carries nothing, where it is whole within the
--- limit; then the limit; then an end inside a frame. The other ends don't come from the input's bytes.
+-- What an input comes to. The earliest cause wins: the first frame that carries nothing, where it is
+-- whole within the limit; then the limit; then an end inside a frame. The other ends don't come from
+-- the input's bytes.
 abbrev pub ComesTo : List ℕ → List Entry → RunEnd → Type 0
 ComesTo input entries Done = Tells input entries [] × (length input ≤ input_limit)
 ComesTo input entries (Truncated n) =
-    (rest : List ℕ) × Tells input entries rest × (rest ≢ []) × (n + length rest ≡ length input) × (length input ≤ input_limit)
+    (rest : List ℕ) × Tells input entries rest × (rest ≢ []) × (n + length rest ≡ length input)
+    × (length input ≤ input_limit)
 ComesTo input entries (BadMessage n) = TellsUpTo (take input_limit input) entries n
-ComesTo input entries Long = (rest : List ℕ) × Tells (take input_limit input) entries rest × (input_limit < length input)
+ComesTo input entries Long =
+    (rest : List ℕ) × Tells (take input_limit input) entries rest × (input_limit < length input)
 ComesTo input entries ReadFault = ⊥
 ComesTo input entries WriteFault = ⊥
 ComesTo input entries Memory = ⊥
 
--- What was taken of an input of which these bytes are left holds no cause: it is no more than counts, and is whole frames
--- that carry entries and a rest that holds no whole frame.
+-- What was taken of an input of which these bytes are left holds no cause: it is no more than
+-- counts, and is whole frames that carry entries and a rest that holds no whole frame.
 pub record HoldsNoCause (input : List ℕ) (left : Option (List ℕ)) : Type 0 where
   pub taken : List ℕ
   pub untaken : List ℕ

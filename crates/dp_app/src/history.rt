@@ -35,12 +35,14 @@ impl History {
     /// Reads the next bytes of the input: each frame that is whole with them gives its entry.
     pub fn feed(&mut self, alloc: Global, bytes: &[u8]) -> Result<(), RunEnd>
         requires { self.old.splitter.at + length self.old.splitter.held + length bytes.now < 2 ^ 64 }
-        ensures ok { OnOk result ((read : List ℕ) → Follows read self.old.entries.items self.old.splitter
+        ensures ok { OnOk result ((read : List ℕ)
+            → Follows read self.old.entries.items self.old.splitter
             → Follows (read ++ bytes.now) self.new.entries.items self.new.splitter) }
         ensures drained { OnOk result (HoldsNoFrame self.new.splitter.held) }
         ensures len { OnOk result (self.new.splitter.at + length self.new.splitter.held
             ≡ self.old.splitter.at + length self.old.splitter.held + length bytes.now) }
-        ensures stopped { IfErr result (λ end. (read : List ℕ) → Follows read self.old.entries.items self.old.splitter
+        ensures stopped { IfErr result (λ end. (read : List ℕ)
+            → Follows read self.old.entries.items self.old.splitter
             → StopsAt (read ++ bytes.now) self.new.entries.items end) }
         ensures stop { IfErr result IsStop }
     {
@@ -52,12 +54,14 @@ impl History {
 
     /// Takes the whole frames off, and keeps their entries.
     fn drain(&mut self, alloc: Global) -> Result<(), RunEnd>
-        ensures ok { OnOk result ((read : List ℕ) → Follows read self.old.entries.items self.old.splitter
+        ensures ok { OnOk result ((read : List ℕ)
+            → Follows read self.old.entries.items self.old.splitter
             → Follows read self.new.entries.items self.new.splitter) }
         ensures drained { OnOk result (HoldsNoFrame self.new.splitter.held) }
         ensures len { self.new.splitter.at + length self.new.splitter.held
             ≡ self.old.splitter.at + length self.old.splitter.held }
-        ensures stopped { IfErr result (λ end. (read : List ℕ) → Follows read self.old.entries.items self.old.splitter
+        ensures stopped { IfErr result (λ end. (read : List ℕ)
+            → Follows read self.old.entries.items self.old.splitter
             → StopsAt read self.new.entries.items end) }
         ensures stop { IfErr result IsStop }
     {

@@ -32,7 +32,8 @@ pub fn drawpile<I: Source, O: Sink, E: Sink>(
     // Words that are no command are refused, and touch neither input nor output.
     ensures usage { result.status ≡ 1 → ¬ IsReplay words.now }
     ensures other_words { ¬ IsReplay words.now
-        → SaysUsage (E.held diag.old) (E.held diag.new) (E.faults diag.old) (E.faults diag.new) result.status }
+        → SaysUsage (E.held diag.old) (E.held diag.new) (E.faults diag.old) (E.faults diag.new)
+        result.status }
     ensures untouched { ¬ IsReplay words.now
         → Keeps (I.left input.old) (I.left input.new) × Keeps (O.held output.old) (O.held output.new) }
 
@@ -40,29 +41,35 @@ pub fn drawpile<I: Source, O: Sink, E: Sink>(
     // the status and the line on diag tell it.
     ensures replay { IsReplay words.now → (end : run_end)
         × Leaves (I.left input.old) (I.left input.new) (O.held output.old) (O.held output.new) end
-        × Says (E.held diag.old) (E.held diag.new) (E.faults diag.old) (E.faults diag.new) result.status end }
+        × Says (E.held diag.old) (E.held diag.new) (E.faults diag.old) (E.faults diag.new)
+        result.status end }
     ensures to_end { (result.status ≡ 0) ⊎ (result.status ≡ 9) → IsAtEnd (I.left input.new) }
 
     // Faults have their causes.
     ensures read_fault { result.status ≡ 3 → Rose (I.faults input.old) (I.faults input.new) }
     ensures write_fault { result.status ≡ 4
-        → Rose (O.faults output.old) (O.faults output.new) ⊎ Rose (E.faults diag.old) (E.faults diag.new) }
+        → Rose (O.faults output.old) (O.faults output.new)
+        ⊎ Rose (E.faults diag.old) (E.faults diag.new) }
     ensures input_later { I.faults input.old ≤ I.faults input.new }
     ensures output_later { O.faults output.old ≤ O.faults output.new }
     ensures diag_later { E.faults diag.old ≤ E.faults diag.new }
 
-    // Where nothing failed and memory sufficed, the answer is given that the words and the input's bytes are due:
-    // there is one, and none but the one given.
+    // Where nothing failed and memory sufficed, an answer is given that the words and the input's
+    // bytes are due, and they are due no other.
     ensures complete { ¬ Rose (I.faults input.old) (I.faults input.new)
-        → ¬ Rose (O.faults output.old) (O.faults output.new) → ¬ Rose (E.faults diag.old) (E.faults diag.new)
+        → ¬ Rose (O.faults output.old) (O.faults output.new)
+        → ¬ Rose (E.faults diag.old) (E.faults diag.new)
         → result.status ≢ 7
         → IfSome (I.left input.old) (λ bytes. (answer : Answer) × IsDue words.now bytes answer
-        × IsGiven answer result.status (O.held output.old) (O.held output.new) (E.held diag.old) (E.held diag.new)) }
+        × IsGiven answer result.status
+        (O.held output.old) (O.held output.new) (E.held diag.old) (E.held diag.new)) }
     ensures exact { ¬ Rose (I.faults input.old) (I.faults input.new)
-        → ¬ Rose (O.faults output.old) (O.faults output.new) → ¬ Rose (E.faults diag.old) (E.faults diag.new)
+        → ¬ Rose (O.faults output.old) (O.faults output.new)
+        → ¬ Rose (E.faults diag.old) (E.faults diag.new)
         → result.status ≢ 7
         → IfSome (I.left input.old) (λ bytes. (answer : Answer) → IsDue words.now bytes answer
-        → IsGiven answer result.status (O.held output.old) (O.held output.new) (E.held diag.old) (E.held diag.new)) }
+        → IsGiven answer result.status
+        (O.held output.old) (O.held output.new) (E.held diag.old) (E.held diag.new)) }
 {
     one_reading();
     if !is_replay(words) {

@@ -16,7 +16,8 @@ use std::alloc::Global;
 
 /// Reads frames to the input's end, and writes the picture of what they show.
 pub(crate) fn run_replay<I: Source, O: Sink>(alloc: Global, input: &mut I, output: &mut O) -> RunEnd
-    ensures leaves { Leaves (I.left input.old) (I.left input.new) (O.held output.old) (O.held output.new) result }
+    ensures leaves { Leaves (I.left input.old) (I.left input.new)
+        (O.held output.old) (O.held output.new) result }
     ensures read_fault { result ≡ RunEnd.ReadFault → Rose (I.faults input.old) (I.faults input.new) }
     ensures write_fault { result ≡ RunEnd.WriteFault → Rose (O.faults output.old) (O.faults output.new) }
     ensures input_later { I.faults input.old ≤ I.faults input.new }

@@ -13,7 +13,8 @@ use itoa::Buffer;
 
 /// Says how the run ended, and answers the program's status: 4 where diag fails.
 pub(crate) fn say<E: Sink>(diag: &mut E, end: RunEnd) -> u8
-    ensures says { Says (E.held diag.old) (E.held diag.new) (E.faults diag.old) (E.faults diag.new) result end }
+    ensures says { Says (E.held diag.old) (E.held diag.new)
+        (E.faults diag.old) (E.faults diag.new) result end }
     ensures later { E.faults diag.old ≤ E.faults diag.new }
 {
     match put_line(diag, end) {
@@ -24,7 +25,8 @@ pub(crate) fn say<E: Sink>(diag: &mut E, end: RunEnd) -> u8
 
 /// Says what the words may be, and answers the program's status: 4 where diag fails.
 pub(crate) fn say_usage<E: Sink>(diag: &mut E) -> u8
-    ensures says { SaysUsage (E.held diag.old) (E.held diag.new) (E.faults diag.old) (E.faults diag.new) result }
+    ensures says { SaysUsage (E.held diag.old) (E.held diag.new)
+        (E.faults diag.old) (E.faults diag.new) result }
     ensures later { E.faults diag.old ≤ E.faults diag.new }
 {
     match put_all(

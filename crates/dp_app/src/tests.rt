@@ -28,7 +28,8 @@ fn frame(word: &str) -> &str {
     }
 }
 
-/// Status, line on diag, frames, the head of the picture (none is written where there is none), its pixels.
+/// Status, line on diag, frames, the head of the picture (none is written where there is none), its
+/// pixels.
 fn rows() -> &'static str {
     "0|||0 0|
 0||SIZE LAYER RED0|2 1|ff0000ffffff
@@ -296,7 +297,8 @@ fn a_diag_that_fails(rt: HostRuntime) -> Result<(), Fail> {
     Ok(())
 }
 
-/// The same frames again and again, made as they are read, and then some last bytes. It tells none of them.
+/// The same frames again and again, made as they are read, and then some last bytes. It tells none
+/// of them.
 #[derive(Drop)]
 struct LongSource {
     /// Whole frames.
@@ -356,7 +358,8 @@ fn layers(alloc: Global, count: u8) -> Result<Vec<u8>, Fail> {
     Ok(bytes)
 }
 
-/// A source of 1 GiB less 256 bytes of whole frames, then a layer with a title of this length, and then these bytes.
+/// A source of 1 GiB less 256 bytes of whole frames, then a layer with a title of this length, and
+/// then these bytes.
 fn long_source(alloc: Global, title: u8, behind: &str) -> Result<LongSource, Fail> {
     let mut last = layers(alloc, 63)?;
     push_layer(&mut last, title)?;
@@ -373,8 +376,8 @@ fn long_source(alloc: Global, title: u8, behind: &str) -> Result<LongSource, Fai
 fn inputs_about_the_limit(rt: HostRuntime) -> Result<(), Fail> {
     let alloc = rt.alloc();
     let words = [String::from_str(alloc, "replay")?];
-    // Frames of exactly 1 GiB; a bad frame that is whole with the last byte of it, and a byte behind; a bad frame that
-    // is whole a byte later.
+    // Frames of exactly 1 GiB; a bad frame that is whole with the last byte of it, and a byte
+    // behind; a bad frame that is whole a byte later.
     for (title, behind, status, line) in [
         (247, "", 0, ""),
         (243, "0000140100", 10, "bad message at 1073741820\n"),

@@ -7,7 +7,8 @@ use Rattle.dp_messages.specs.declared.decoding.DecodeError.{DecodeError}
 use Rattle.dp_messages.specs.declared.decoding.DecodeError.TheVariants.{Unknown, Malformed, Unbuilt, Memory}
 use Rattle.dp_messages.specs.Messages.{Spells, IsBuilt, is_unknown, is_built_kind}
 
--- the frame carries the entry: its context id is the sender, and its payload spells the message, which is built
+-- the frame carries the entry: its context id is the sender, and its payload spells the message,
+-- which is built
 pub record Carries (frame : FrameParts) (entry : Entry) : Type 0 where
   pub user : entry.user ≡ frame.user
   pub spelled : Spells frame.kind frame.body entry.msg
@@ -27,7 +28,8 @@ IsUnbuilt frame =
     ((is_unknown frame.kind ≡ false) × (is_built_kind frame.kind ≡ false))
     ⊎ ((m : Msg) × Spells frame.kind frame.body m × (IsBuilt m → ⊥))
 
--- why a frame carries nothing: its type is unknown, no message of the type has its payload, or what it spells isn't built
+-- why a frame carries nothing: its type is unknown, no message of the type has its payload, or what
+-- it spells isn't built
 abbrev pub IsRefused : FrameParts → DecodeError → Type 0
 IsRefused frame (Unknown k) = (k ≡ frame.kind) × IsTrue (is_unknown k)
 IsRefused frame (Malformed k) = (k ≡ frame.kind) × IsTrue (is_built_kind k) × SpellsNothing frame

@@ -26,7 +26,8 @@ impl Msg {
 pub fn encode(alloc: Global, entry: &Entry) -> Result<Frame, AllocError>
     ensures sender { IfOk result (λ frame. frame.user ≡ entry.now.user) }
     ensures kind { IfOk result (λ frame. frame.kind ≡ kind_of entry.now.msg) }
-    ensures spelling { IfOk result (λ frame. (payload : List ℕ) → Spells frame.kind payload entry.now.msg → frame.body ≡ payload) }
+    ensures spelling { IfOk result (λ frame. (payload : List ℕ)
+        → Spells frame.kind payload entry.now.msg → frame.body ≡ payload) }
 {
     let payload = write_payload(alloc, &entry.msg)?;
     Ok(Frame::new(entry.msg.kind(), entry.user, Octets::from_vec(payload)))
@@ -34,7 +35,8 @@ pub fn encode(alloc: Global, entry: &Entry) -> Result<Frame, AllocError>
 
 /// The payload of the message.
 fn write_payload(alloc: Global, msg: &Msg) -> Result<Vec<u8>, AllocError>
-    ensures spelling { IfOk result (λ bytes. (payload : List ℕ) → Spells (kind_of msg.now) payload msg.now → bytes.items ≡ payload) }
+    ensures spelling { IfOk result (λ bytes. (payload : List ℕ)
+        → Spells (kind_of msg.now) payload msg.now → bytes.items ≡ payload) }
     ensures short { IfOk result (λ bytes. vec_len bytes ≤ 65535) }
 {
     match msg {

@@ -20,7 +20,8 @@ pub fn one_message()
     one_spelling();
 }
 
-/// A frame carries at most one entry; it is refused in at most one way, and only where it carries none.
+/// A frame carries at most one entry. It is refused in at most one way, and only where it carries
+/// none.
 pub fn one_answer()
     ensures entry { (frame : FrameParts) (e f : Entry) → Carries frame e → Carries frame f → e ≡ f }
     ensures refusal { (frame : FrameParts) (e f : DecodeError)

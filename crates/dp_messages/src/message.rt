@@ -10,7 +10,8 @@ use std::alloc::AllocError;
 pub enum Msg {
     /// Opens a new group of the sender's strokes.
     Point,
-    /// Takes back a group of the target's strokes, or with `redo` brings one back. Target 0 is the sender.
+    /// Takes back a group of the target's strokes, or with `redo` brings one back. Target 0 is the
+    /// sender.
     Undo { target: u8, redo: bool },
     /// A drawing command.
     Draw(Draw),
