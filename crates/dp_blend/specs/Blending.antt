@@ -1,8 +1,10 @@
 -- The six ways to blend a source with a destination, and the numbers that name them.
-use Rattle.std.specs.Prelude.{ℕ, ◌+◌, ◌-◌, ◌==◌, min, List, [], ◌∷◌, Option, Some, None, if◌then◌else◌}
+use Rattle.std.specs.Prelude.{ℕ, ◌+◌, ◌-◌, ◌==◌, min, if◌then◌else◌}
+use Rattle.std.specs.Prelude.{List, [], ◌∷◌, Option, Some, None}
 use Rattle.dp_blend.specs.Color.{Channels, mul, fade}
 use Rattle.dp_blend.specs.declared.modes.Mode.{Mode}
-use Rattle.dp_blend.specs.declared.modes.Mode.TheVariants.{Erase, Normal, Multiply, Add, Recolor, Replace}
+use Rattle.dp_blend.specs.declared.modes.Mode.TheVariants.{Erase, Normal, Multiply}
+use Rattle.dp_blend.specs.declared.modes.Mode.TheVariants.{Add, Recolor, Replace}
 
 -- the number that names a mode
 abbrev pub number_of : Mode → ℕ
@@ -28,7 +30,7 @@ mode_numbered n =
 abbrev pub over : ℕ → ℕ → ℕ
 over sa da = sa + mul da (32768 - sa)
 
--- the channel after blending, of the source's channel and alpha and the destination's channel and alpha
+-- the channel after blending, of the source's channel and alpha and the destination's
 abbrev pub channel_blended : Mode → ℕ → ℕ → ℕ → ℕ → ℕ
 channel_blended Erase sc sa dc da = mul dc (32768 - sa)
 channel_blended Normal sc sa dc da = sc + mul dc (32768 - sa)
@@ -56,7 +58,8 @@ blend mode s d =
       a = alpha_blended mode s.a d.a;
     }
 
--- the pixel d after the source through a mask: where the mask is 0 it stays, else the faded source is blended with it
+-- the pixel d after the source through a mask: where the mask is 0 it stays, else the faded source is
+-- blended with it
 abbrev pub masked : Mode → Channels → ℕ → Channels → Channels
 masked mode src m d = if m == 0 then d else blend mode (fade src m) d
 

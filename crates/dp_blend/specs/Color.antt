@@ -1,4 +1,5 @@
--- Numbers and premultiplied colours. A channel or an alpha is a number from 0 to 32768, which stands for one.
+-- Numbers and premultiplied colours. A channel or an alpha is a number from 0 to 32768, which stands
+-- for one.
 use Rattle.std.specs.Prelude.{ℕ, ◌+◌, ◌*◌, ◌/◌, ◌%◌, ◌≤◌}
 
 -- a premultiplied colour: its channels and its alpha, where 32768 is one
@@ -46,7 +47,12 @@ fade p m = record { r = mul p.r m; g = mul p.g m; b = mul p.b m; a = mul p.a m }
 -- the premultiplied colour of four bytes: each channel is multiplied by alpha
 abbrev pub premultiplied : ℕ → ℕ → ℕ → ℕ → Channels
 premultiplied r g b a =
-    record { r = mul (from8 r) (from8 a); g = mul (from8 g) (from8 a); b = mul (from8 b) (from8 a); a = from8 a }
+    record {
+      r = mul (from8 r) (from8 a);
+      g = mul (from8 g) (from8 a);
+      b = mul (from8 b) (from8 a);
+      a = from8 a;
+    }
 
 -- the pixel of an ARGB number: its high byte is alpha, then come red, green and blue
 abbrev pub of_argb : ℕ → Channels

@@ -1,3 +1,7 @@
+//! Blending a pixel with another in each mode, and a row of pixels through a mask.
+//!
+//! The rule: docs/protocol.md, "Numbers and blending".
+
 ghost use Rattle.std.specs.Prelude.{◌≡◌, ◌<◌, ◌≤◌, ℕ, length, slice_index, slice_index_or, All};
 ghost use Rattle.dp_blend.specs.Color.{Channels, IsPixel};
 ghost use Rattle.dp_blend.specs.Blending.{blend, channel_blended, masked, row_blended, over};
@@ -5,7 +9,8 @@ ghost use Rattle.dp_blend.specs.Blending.{blend, channel_blended, masked, row_bl
 use crate::color::{ONE, Pixel, fade, mul};
 use crate::modes::Mode;
 
-/// The destination after blending the source with it.
+/// The destination `dst` after the source `src` is blended with it.
+///
 /// The rule: docs/protocol.md, "Numbers and blending".
 #[inline]
 pub fn blend(mode: Mode, src: Pixel, dst: Pixel) -> Pixel
@@ -22,6 +27,7 @@ pub fn blend(mode: Mode, src: Pixel, dst: Pixel) -> Pixel
     }
 }
 
+/// The destination without the part that the source's alpha takes away.
 #[inline]
 fn erased(src: Pixel, dst: Pixel) -> Pixel
     ensures value { result ≡ blend Mode.Erase src dst }
@@ -30,6 +36,7 @@ fn erased(src: Pixel, dst: Pixel) -> Pixel
     fade(dst, ONE - src.a())
 }
 
+/// The source over the destination.
 #[inline]
 fn normal(src: Pixel, dst: Pixel) -> Pixel
     ensures value { result ≡ blend Mode.Normal src dst }
@@ -57,6 +64,7 @@ fn channel_multiplied(sc: u16, sa: u16, dc: u16, da: u16) -> u16
     mul(sc, dc) + mul(sc, ONE - da) + mul(dc, ONE - sa)
 }
 
+/// The channels multiplied, where both lie.
 #[inline]
 fn multiplied(src: Pixel, dst: Pixel) -> Pixel
     ensures value { result ≡ blend Mode.Multiply src dst }
@@ -71,6 +79,7 @@ fn multiplied(src: Pixel, dst: Pixel) -> Pixel
     )
 }
 
+/// The channels added, up to the alpha of both.
 #[inline]
 fn added(src: Pixel, dst: Pixel) -> Pixel
     ensures value { result ≡ blend Mode.Add src dst }
@@ -98,6 +107,7 @@ fn channel_recolored(sc: u16, sa: u16, dc: u16, da: u16) -> u16
     mul(sc, da) + mul(dc, ONE - sa)
 }
 
+/// The source over the destination, where the destination lies.
 #[inline]
 fn recolored(src: Pixel, dst: Pixel) -> Pixel
     ensures value { result ≡ blend Mode.Recolor src dst }
@@ -125,7 +135,10 @@ fn masked(mode: Mode, src: Pixel, by: u16, dst: Pixel) -> Pixel
     }
 }
 
-/// Blends the source with each pixel of the row, faded by the mask at its place. A pixel stays where the mask is 0.
+/// Blends the source with each pixel of the row, faded by the mask at its place: 32768 blends all of
+/// it, and where the mask is 0 the pixel stays.
+///
+/// The rule: docs/protocol.md, "Numbers and blending".
 pub fn row_blend(mode: Mode, src: Pixel, mask: &[u16], row: &mut [Pixel])
     requires same_length { length mask.now ≡ length row.old }
     requires within { All (λ m. m ≤ 32768) mask.now }

@@ -1,3 +1,7 @@
+//! Channels, premultiplied pixels, and the ways between them and bytes.
+//!
+//! The rule: docs/protocol.md, "Numbers and blending".
+
 ghost use Rattle.std.specs.Prelude.{◌≡◌, ◌≤◌, ◌↔◌, IsSome, IfSome};
 ghost use Rattle.dp_blend.specs.Color.{IsPixel, clear, mul, from8, to8, fade, of_argb};
 
@@ -6,7 +10,8 @@ use std::marker::Model;
 /// One, as a channel and as an alpha.
 pub const ONE: u16 = 32768;
 
-/// A colour with premultiplied alpha: no channel is above alpha, and alpha is at most 32768, which is one.
+/// A colour with premultiplied alpha: no channel is above alpha, and alpha is at most 32768, which
+/// is one.
 #[derive(Clone, Copy, Debug, PartialEq, Eq)]
 pub struct Pixel {
     r: u16,
@@ -44,7 +49,8 @@ impl Pixel {
         a: ONE,
     };
 
-    /// The pixel with these channels and this alpha, if they make one.
+    /// The pixel with these channels and this alpha. `None` exactly where a channel is above alpha, or
+    /// alpha above 32768.
     pub fn new(r: u16, g: u16, b: u16, a: u16) -> Option<Pixel>
         ensures valid { IsSome result ↔ IsPixel (record { r = r; g = g; b = b; a = a }) }
         ensures value { IfSome result (λ p. p ≡ record { r = r; g = g; b = b; a = a }) }
@@ -119,7 +125,7 @@ pub(crate) fn mul(a: u16, b: u16) -> u16
     (a as u32 * b as u32 / 32768) as u16
 }
 
-/// The channel of a byte, of which 255 is one.
+/// The channel nearest to a byte, of which 255 is one.
 #[inline]
 pub fn from8(v: u8) -> u16
     ensures value { result ≡ from8 v }
@@ -128,7 +134,7 @@ pub fn from8(v: u8) -> u16
     ((v as u32 * 32768 + 127) / 255) as u16
 }
 
-/// The byte nearest to a channel.
+/// The byte nearest to a channel, of which 32768 is one.
 #[inline]
 pub fn to8(c: u16) -> u8
     requires { c ≤ 32768 }
@@ -149,7 +155,8 @@ pub fn of_argb(argb: u32) -> Pixel
     Pixel::of(mul(r, a), mul(g, a), mul(b, a), a)
 }
 
-/// The pixel with each of its four numbers multiplied by `by`.
+/// The pixel with each of its four numbers multiplied by `by`, of which 32768 is one, and rounded
+/// down.
 #[inline]
 pub fn fade(p: Pixel, by: u16) -> Pixel
     requires { by ≤ 32768 }

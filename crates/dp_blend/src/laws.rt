@@ -1,4 +1,6 @@
-//! Laws of blending, each the contract of a function that does nothing.
+//! Laws of blending. Each function does nothing: its contract is the law.
+//!
+//! The rule: docs/protocol.md, "Numbers and blending".
 
 ghost use Rattle.std.specs.Prelude.{◌≡◌, ℕ, ◌<◌, ◌≤◌, ◌^◌};
 ghost use Rattle.dp_blend.specs.Color.{Channels, IsPixel, clear, fade, from8, of_argb, to8, white};
@@ -47,5 +49,6 @@ pub fn replace_gives_source()
 
 /// Each mode gives a pixel of two pixels.
 pub fn blend_gives_pixels()
-    ensures { (mode : Mode) (src dst : Channels) → IsPixel src → IsPixel dst → IsPixel (blend mode src dst) }
+    ensures { (mode : Mode) (src dst : Channels) → IsPixel src → IsPixel dst
+        → IsPixel (blend mode src dst) }
 {}

@@ -1,7 +1,12 @@
+//! The modes of blending, and the numbers that name them in messages.
+//!
+//! The rule: docs/protocol.md, "Numbers and blending".
+
 ghost use Rattle.std.specs.Prelude.{◌≡◌, IfSome};
 ghost use Rattle.dp_blend.specs.Blending.{mode_numbered, number_of};
 
 /// How a source is blended with a destination.
+///
 /// The rule: docs/protocol.md, "Numbers and blending".
 #[derive(Clone, Copy, Debug, PartialEq, Eq)]
 pub enum Mode {
@@ -20,7 +25,7 @@ pub enum Mode {
 }
 
 impl Mode {
-    /// The mode that a number names in a message.
+    /// The mode that a number names in a message. `None` for a number that isn't listed.
     pub fn from_u8(n: u8) -> Option<Mode>
         ensures value { result ≡ mode_numbered n }
         ensures number { IfSome result (λ mode. number_of mode ≡ n) }

@@ -1,4 +1,6 @@
-use crate::{Mode, Pixel, blend, from8, of_argb, row_blend, to8};
+//! Worked pixels, and each byte and mode there and back.
+
+use crate::{Mode, ONE, Pixel, blend, fade, from8, of_argb, row_blend, to8};
 use std::process::Abort;
 
 /// The pixel with these channels and this alpha; the test ends where they make none.
@@ -28,12 +30,14 @@ fn blends_a_half_red_on_white(rt: HostRuntime) {
     assert_eq!(rt; red, pixel(&rt, (16448, 0, 0, 16448)));
     let white = of_argb(0xffff_ffff);
     assert_eq!(rt; white, pixel(&rt, (32768, 32768, 32768, 32768)));
+    assert_eq!(rt; white, Pixel::WHITE);
     let shown = blend(Mode::Normal, red, white);
     assert_eq!(rt;
         (to8(shown.r()), to8(shown.g()), to8(shown.b())),
         (0xff, 0x7f, 0x7f)
     );
     assert_eq!(rt; of_argb(0x00ff_ffff), Pixel::default());
+    assert_eq!(rt; of_argb(0x00ff_ffff), Pixel::CLEAR);
     assert_eq!(rt; of_argb(0xff01_0203), pixel(&rt, (129, 257, 386, 32768)));
 }
 
@@ -84,6 +88,8 @@ fn makes_pixels_within_their_alpha(rt: HostRuntime) {
     }
     let made = pixel(&rt, (1, 2, 3, 4));
     assert_eq!(rt; (made.r(), made.g(), made.b(), made.a()), (1, 2, 3, 4));
+    assert_eq!(rt; fade(made, ONE), made);
+    assert_eq!(rt; fade(made, ONE / 2), pixel(&rt, (0, 1, 1, 2)));
 }
 
 #[test]

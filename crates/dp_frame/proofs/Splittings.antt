@@ -21,8 +21,8 @@ same_splitting (f ∷ fs) (g ∷ gs) r s fits_f fits_g none_r none_s whole =
     (ap (λ (h : FrameParts). h ∷ fs) front.0 ∙ ap (λ (hs : List FrameParts). g ∷ hs) rest.0, rest.1)
 
 -- two splittings of one list of bytes are one
-pub one_splitting_lem : (bytes : List ℕ) (fs gs : List FrameParts) (r s : List ℕ) → Splits bytes fs r → Splits bytes gs s → (fs ≡ gs) × (r ≡ s)
-one_splitting_lem bytes fs gs r s p q =
+pub same_frames_and_rest : (bytes : List ℕ) (fs gs : List FrameParts) (r s : List ℕ) → Splits bytes fs r → Splits bytes gs s → (fs ≡ gs) × (r ≡ s)
+same_frames_and_rest bytes fs gs r s p q =
     same_splitting fs gs r s p.each q.each p.partial q.partial (sym p.whole ∙ q.whole)
 
 -- bytes hold no frame, or a frame and then more
@@ -46,10 +46,10 @@ frame_before f bytes fs rest fits p = record {
 }
 
 -- bytes that hold no frame are their own rest
-pub no_frames_lem : (bytes : List ℕ) → HoldsNoFrame bytes → Splits bytes [] bytes
-no_frames_lem bytes none = record { whole = refl; each = tt; partial = none }
+pub rest_alone : (bytes : List ℕ) → HoldsNoFrame bytes → Splits bytes [] bytes
+rest_alone bytes none = record { whole = refl; each = tt; partial = none }
 
--- the bytes behind the first byte of two joined lists
+-- where the bytes of two joined lists are below 256, those of the second list are
 back_small : (front back : List ℕ) → AllByRecursion (λ b. b < 256) (front ++ back) → AllByRecursion (λ b. b < 256) back
 back_small [] back small = small
 back_small (x ∷ front) back small = back_small front back small.1
@@ -59,7 +59,7 @@ splitting_with : (n : ℕ) → ((more : List ℕ) → length more ≤ n → AllB
     → (bytes : List ℕ) → length bytes ≤ suc n → AllByRecursion (λ b. b < 256) bytes
     → HoldsNoFrame bytes ⊎ ((f : FrameParts) × (more : List ℕ) × IsFrame f × (bytes ≡ spelling f ++ more))
     → (fs : List FrameParts) × (rest : List ℕ) × Splits bytes fs rest
-splitting_with n again bytes short small (inl none) = ([], bytes, no_frames_lem bytes none)
+splitting_with n again bytes short small (inl none) = ([], bytes, rest_alone bytes none)
 splitting_with n again bytes short small (inr (f, more, fits, whole)) =
     let shorter : length more ≤ n = omega (arith, ap length whole, length-append (spelling f) more) in
     let back = again more shorter (back_small (spelling f) more (subst (AllByRecursion (λ (b : ℕ). b < 256)) whole small)) in (
@@ -70,13 +70,13 @@ splitting_with n again bytes short small (inr (f, more, fits, whole)) =
 
 -- each list of at most n bytes has a splitting
 splitting_up_to : (n : ℕ) (bytes : List ℕ) → length bytes ≤ n → AllByRecursion (λ b. b < 256) bytes → (fs : List FrameParts) × (rest : List ℕ) × Splits bytes fs rest
-splitting_up_to zero bytes short small = ([], bytes, no_frames_lem bytes (no_frame_short bytes (omega arith)))
+splitting_up_to zero bytes short small = ([], bytes, rest_alone bytes (no_frame_short bytes (omega arith)))
 splitting_up_to (suc n) bytes short small =
     splitting_with n (splitting_up_to n) bytes short small (first_of bytes small)
 
 -- each list of bytes has a splitting
-pub every_splitting_lem : (bytes : List ℕ) → All (λ b. b < 256) bytes → (fs : List FrameParts) × (rest : List ℕ) × Splits bytes fs rest
-every_splitting_lem bytes small =
+pub some_splitting : (bytes : List ℕ) → All (λ b. b < 256) bytes → (fs : List FrameParts) × (rest : List ℕ) × Splits bytes fs rest
+some_splitting bytes small =
     splitting_up_to (length bytes) bytes (omega arith) (recursion_from_All (λ b. b < 256) bytes small)
 
 -- a frame in front is the first frame of a splitting
@@ -96,8 +96,8 @@ all_frames [] gs fits_f fits_g = fits_g
 all_frames (f ∷ fs) gs fits_f fits_g = (fits_f.0, all_frames fs gs fits_f.1 fits_g)
 
 -- the frames of a rest with more bytes behind it come behind the frames before the rest
-pub frames_further_lem : (bytes more : List ℕ) (fs gs : List FrameParts) (rest last : List ℕ) → Splits bytes fs rest → Splits (rest ++ more) gs last → Splits (bytes ++ more) (fs ++ gs) last
-frames_further_lem bytes more fs gs rest last p q = record {
+pub further_behind : (bytes more : List ℕ) (fs gs : List FrameParts) (rest last : List ℕ) → Splits bytes fs rest → Splits (rest ++ more) gs last → Splits (bytes ++ more) (fs ++ gs) last
+further_behind bytes more fs gs rest last p q = record {
   whole =
       ap (λ (b : List ℕ). b ++ more) p.whole
       ∙ append_assoc (flat_map spelling fs) rest more

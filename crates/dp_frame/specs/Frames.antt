@@ -28,8 +28,8 @@ pub record Splits (bytes : List ℕ) (frames : List FrameParts) (rest : List ℕ
   pub each : AllByRecursion IsFrame frames
   pub partial : HoldsNoFrame rest
 
--- a header stands in front of the bytes, and it has this many bytes together with the payload that it
--- announces, all of them there
+-- a header stands in front of the bytes, and it has this many bytes together with the payload that
+-- it announces, all of them there
 pub record IsFrameLength (bytes : List ℕ) (len : ℕ) : Type 0 where
   pub header : 4 ≤ len
   pub present : len ≤ length bytes

@@ -1,4 +1,7 @@
-// One frame, and its spelling in bytes.
+//! One frame, and its spelling in bytes.
+//!
+//! The rule: docs/protocol.md, "Frames".
+
 ghost use Rattle.std.specs.Prelude.{◌≡◌, ◌<◌, ◌^◌, ◌++◌, length, OnOk, OnErr};
 ghost use Rattle.dp_frame.specs.Frames.{IsFrame, spelling};
 
@@ -35,7 +38,7 @@ impl Frame {
         Frame { kind, user, body }
     }
 
-    /// The type byte.
+    /// The type byte, which tells the kind of the message.
     pub fn kind(&self) -> u8
         ensures value { result ≡ self.now.kind }
         ensures fits { IsFrame self.now }
@@ -43,7 +46,7 @@ impl Frame {
         self.kind
     }
 
-    /// The context byte.
+    /// The context byte, the user who sent the message.
     pub fn user(&self) -> u8
         ensures value { result ≡ self.now.user }
         ensures fits { IsFrame self.now }
@@ -51,7 +54,7 @@ impl Frame {
         self.user
     }
 
-    /// The payload.
+    /// The payload, at most 65,535 bytes.
     pub fn body(&self) -> &Octets
         ensures value { result.now ≡ self.now.body }
         ensures fits { IsFrame self.now }
@@ -60,7 +63,9 @@ impl Frame {
     }
 }
 
-/// Adds the bytes of the frame at the end. An error, want of memory, changes nothing.
+/// Adds the bytes of the frame at the end: four of the header, and the payload. An error, want of
+/// memory, changes nothing.
+///
 /// The rule: docs/protocol.md, "Frames".
 pub fn write_frame(frame: &Frame, out: &mut Octets) -> Result<(), AllocError>
     ensures ok { OnOk result (out.new ≡ out.old ++ spelling frame.now) }

@@ -1,4 +1,8 @@
-// Laws of frames: each list of bytes is frames and a rest in exactly one way.
+//! Laws of frames: each list of bytes is frames and a rest in exactly one way. Each function does
+//! nothing: its contract is the law.
+//!
+//! The rule: docs/protocol.md, "Frames".
+
 ghost use Rattle.std.specs.Prelude.{◌≡◌, ℕ, ◌<◌, List, [], ◌∷◌, ◌++◌};
 ghost use Rattle.std.specs.List.{All};
 ghost use Rattle.dp_frame.specs.Frames.{FrameParts, IsFrame, spelling, HoldsNoFrame, Splits};
@@ -28,8 +32,8 @@ pub fn no_frames()
     ensures { (bytes : List ℕ) → HoldsNoFrame bytes → Splits bytes [] bytes }
 {}
 
-/// A frame stands in front of bytes exactly where it is the first of the frames: the bytes behind it
-/// have the other frames and the same rest.
+/// A frame stands in front of bytes exactly where it is the first of the frames: the bytes behind
+/// it have the other frames and the same rest.
 pub fn first_frame()
     ensures put { (f : FrameParts) (bytes : List ℕ) (frames : List FrameParts) (rest : List ℕ)
         → IsFrame f → Splits bytes frames rest → Splits (spelling f ++ bytes) (f ∷ frames) rest }

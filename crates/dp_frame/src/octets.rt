@@ -1,4 +1,5 @@
-// A list of bytes with a home of its own.
+//! A list of bytes with a home of its own.
+
 ghost use Rattle.std.specs.Prelude.{◌≡◌, ◌↔◌, IsTrue, ◌++◌, [], length, IfOk, OnOk, OnErr};
 
 use std::alloc::{AllocError, Global};
@@ -64,7 +65,7 @@ impl Octets {
         self.bytes.extend_from_slice(bytes)
     }
 
-    // Adds two runs of bytes at the end, or neither.
+    /// Adds two runs of bytes at the end. An error, want of memory, adds neither.
     pub(crate) fn append_both(&mut self, front: &[u8], back: &[u8]) -> Result<(), AllocError>
         ensures ok { OnOk result (self.new ≡ self.old ++ front.now ++ back.now) }
         ensures err { OnErr result (self.new ≡ self.old) }

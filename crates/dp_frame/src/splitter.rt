@@ -1,5 +1,7 @@
-// Bytes that come in pieces, taken as frames.
-ghost use Rattle.std.specs.Prelude.{◌≡◌, ◌+◌, ◌<◌, ◌^◌, ◌++◌, [], length, IfSome, IfNone, OnSome, IfOk, OnOk, OnErr};
+//! Bytes that come in pieces, taken as frames.
+
+ghost use Rattle.std.specs.Prelude.{◌≡◌, ◌+◌, ◌<◌, ◌^◌, ◌++◌, [], length};
+ghost use Rattle.std.specs.Prelude.{IfSome, IfNone, OnSome, IfOk, OnOk, OnErr};
 ghost use Rattle.dp_frame.specs.Frames.{IsFrame, spelling, HoldsNoFrame, IsFrameLength};
 
 use crate::{Frame, Octets};
@@ -8,10 +10,11 @@ use bytes::BytesMut;
 use std::alloc::{AllocError, Global};
 use std::marker::Model;
 
-// The length in two bytes, the type byte and the context byte.
-pub(crate) const HEADER_LEN: usize = 4;
+/// The bytes of a header: the length in two, the type byte and the context byte.
+const HEADER_LEN: usize = 4;
 
 /// Bytes that come in pieces, given back as frames, in whatever pieces they came.
+///
 /// The rule: docs/protocol.md, "Frames".
 #[derive(Drop, Debug)]
 pub struct Splitter {
@@ -82,7 +85,7 @@ impl Splitter {
         Ok(Some(frame))
     }
 
-    /// How many bytes are held.
+    /// How many bytes are held, of which no frame was taken yet.
     pub fn rest_len(&self) -> usize
         ensures value { result ≡ length self.now.held }
         ensures fits { self.now.at + length self.now.held < 2 ^ 64 }
@@ -90,7 +93,7 @@ impl Splitter {
         self.buffer.len()
     }
 
-    /// How many bytes were taken as frames.
+    /// How many bytes were taken as frames: the place of the next frame in the stream.
     pub fn at(&self) -> u64
         ensures value { result ≡ self.now.at }
         ensures fits { self.now.at + length self.now.held < 2 ^ 64 }
@@ -99,7 +102,7 @@ impl Splitter {
     }
 }
 
-// How many bytes the frame has that stands in front, if it is whole.
+/// How many bytes the frame has that stands in front, header and payload, if it is whole.
 fn whole_len(bytes: &[u8]) -> Option<usize>
     ensures whole { IfSome result (λ len. IsFrameLength bytes.now len) }
     ensures some { OnSome result (¬ HoldsNoFrame bytes.now) }
@@ -112,7 +115,7 @@ fn whole_len(bytes: &[u8]) -> Option<usize>
     if len <= bytes.len() { Some(len) } else { None }
 }
 
-// The frame that the bytes spell.
+/// The frame that the bytes spell. The only error is want of memory.
 fn read_frame(alloc: Global, bytes: &[u8]) -> Result<Frame, AllocError>
     requires { IsFrameLength bytes.now (length bytes.now) }
     ensures value { IfOk result (λ f. bytes.now ≡ spelling f) }

@@ -1,9 +1,11 @@
+//! One stream of three frames, in pieces of any length, and frames of the least and greatest length.
+
 use super::*;
 use std::process::Abort;
 use std::test::Fail;
 
-// Three frames of user 1, at the places 0, 20 and 29: kinds 0x81, 0x82 and 0x89, with payloads of 16,
-// 5 and 23 bytes.
+/// Three frames of user 1, at the places 0, 20 and 29: kinds 0x81, 0x82 and 0x89, with payloads of
+/// 16, 5 and 23 bytes.
 const STREAM: [u8; 56] = [
     0x00, 0x10, 0x81, 0x01, 0x00, 0x00, 0x00, 0x00, 0x00, 0x00, 0x00, 0x02, 0x00, 0x00, 0x00, 0x01,
     0x00, 0x00, 0x00, 0x00, 0x00, 0x05, 0x82, 0x01, 0x01, 0x01, 0x00, 0x00, 0x00, 0x00, 0x17, 0x89,
@@ -11,14 +13,15 @@ const STREAM: [u8; 56] = [
     0x00, 0x00, 0x00, 0x01, 0xff, 0xff, 0x00, 0x00,
 ];
 
-// Feeds a piece to a splitter that holds little.
+/// Feeds a piece to a splitter that holds little.
 fn feed(rt: &impl Abort, splitter: &mut Splitter, piece: &[u8]) -> Result<(), Fail> {
     assert!(rt; splitter.at() < 1_000_000 && splitter.rest_len() < 1_000_000);
     splitter.feed(piece)?;
     Ok(())
 }
 
-// Takes the frames that are whole, and compares each with the next one of the stream.
+/// Takes the frames that are whole, compares each with the next one of the stream, and answers how
+/// many were seen.
 fn take_frames(rt: &impl Abort, splitter: &mut Splitter, mut seen: usize) -> Result<usize, Fail> {
     let expected = [(0x81, 4, 20), (0x82, 24, 29), (0x89, 33, 56)];
     for _ in 0..4 {

@@ -1,6 +1,6 @@
 -- What a read's bound and bytes say of its end.
 use Rattle.std.proofs.Common.{◌≡◌, ℕ, ◌+◌, ◌-◌, ◌<◌, ◌≤◌, min, List, [], ◌∷◌, ◌++◌, None, Some, Ok, Err, length, take, drop, refl, arith, sym, ap, ◌∙◌}
-use Rattle.std.proofs.lemmas.List.{take_rest, take-append-drop, drop-drop, length-take, length-drop}
+use Rattle.std.proofs.lemmas.List.{take_rest, take-append-drop, drop-drop, length-take, length-drop, nil_from_length}
 use Rattle.std.proofs.lemmas.Grind.{common_steps}
 use Rattle.std.specs.declared.option.Option.{Option}
 use Rattle.std.specs.declared.result.Result.{Result}
@@ -26,11 +26,6 @@ ends_exactly (Some x) None (Ok n) buf bound bytes = absurd bytes.0
 ends_exactly (Some x) (Some y) (Ok n) buf bound bytes =
     λ room. (λ zero. none_left x y buf n bytes.0 zero (bytes.1 zero room), λ none. none_given x y buf n bound.1 bytes.0 none)
 
--- what is left of a list that is counted to be empty
-empty_by_length : (xs : List ℕ) → length xs ≡ 0 → xs ≡ []
-empty_by_length [] e = refl
-empty_by_length (x ∷ xs) e = cc
-
 -- a piece was copied from the place on: it was the front of what was left there
 pub piece_copied : (left bytes buf : List ℕ) (at count : ℕ) → left ≡ drop at bytes
     → take count buf ≡ take count (take (length bytes - at) (drop at bytes)) → left ≡ take count buf ++ drop (at + count) bytes
@@ -43,4 +38,4 @@ piece_copied left bytes buf at count is copied =
 pub none_copied : (bytes : List ℕ) (at count piece room : ℕ) → count ≡ min (min (length (take (length bytes - at) (drop at bytes))) piece) room → 1 ≤ piece
     → count ≡ 0 → 0 < room → drop (at + count) bytes ≡ []
 none_copied bytes at count piece room counted some none has =
-    empty_by_length (drop (at + count) bytes) (omega (arith, length-take {A = ℕ}, length-drop {A = ℕ}))
+    nil_from_length (drop (at + count) bytes) (omega (arith, length-take {A = ℕ}, length-drop {A = ℕ}))

@@ -15,8 +15,8 @@ pub record HasCause {T E : Type 0} (before now : ℕ) (result : Result T E) : Ty
   pub later : before ≤ now
   pub failed : OnErr result (Rose before now)
 
--- Which calls are to fail, by their numbers from 1; how many calls were made; how many faults there were.
--- Both counts stop at the greatest `u64`.
+-- Which calls are to fail, by their numbers from 1; how many calls were made; how many faults there
+-- were. Both counts stop at the greatest `u64`.
 pub record Plan : Type 0 where
   pub fails : List ℕ
   pub calls : ℕ

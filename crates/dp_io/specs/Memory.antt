@@ -8,7 +8,8 @@ pub record SourceState : Type 0 where
   pub piece : ℕ
   pub plan : Plan
 
--- a `MemSink`: the bytes that it holds, the most that it may hold, the most that a call takes, and the calls that fail
+-- a `MemSink`: the bytes that it holds, the most that it may hold, the most that a call takes, and
+-- the calls that fail
 pub record SinkState : Type 0 where
   pub held : List ℕ
   pub room : ℕ

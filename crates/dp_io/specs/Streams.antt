@@ -6,7 +6,8 @@ use Rattle.std.specs.declared.result.Result.{Result}
 
 -- A read with room gives no byte exactly where none is left.
 abbrev pub EndsExactly : {E : Type 0} → Option (List ℕ) → Result ℕ E → List ℕ → Type 0
-EndsExactly left result buf = IfSome left (λ bytes. IfOk result (λ n. 0 < length buf → ((n ≡ 0) ↔ (bytes ≡ []))))
+EndsExactly left result buf =
+    IfSome left (λ bytes. IfOk result (λ n. 0 < length buf → ((n ≡ 0) ↔ (bytes ≡ []))))
 
 -- A write of a piece that isn't empty takes at least one byte.
 abbrev pub TakesSome : {E : Type 0} → Result ℕ E → List ℕ → Type 0

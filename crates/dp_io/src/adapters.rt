@@ -1,4 +1,7 @@
 //! Sources and sinks over std's readers and writers.
+//!
+//! std's `Read` and `Write` don't say when a call fails. So no clause here says that the device was
+//! called before a fault is answered.
 
 ghost use Rattle.std.specs.Prelude.{◌≡◌, OnOk, OnErr};
 ghost use Rattle.std.specs.Io.{ReadsAtMost, WritesAtMost};
@@ -9,7 +12,8 @@ ghost use Rattle.dp_io.specs.Streams.{EndsExactly, TakesSome};
 use crate::{Failed, Sink, Source};
 use std::io::{Read, Write};
 
-/// A source over a reader. It tells the bytes that are left where the reader does.
+/// A source over a reader. It tells the bytes that are left where the reader does. Each error of
+/// the reader is a fault, an interrupted read too.
 #[derive(Drop)]
 pub struct StdSource<R> {
     reader: R,
@@ -27,7 +31,7 @@ impl<R: Read + Drop> StdSource<R> {
         StdSource { reader, faults: 0 }
     }
 
-    /// The reader.
+    /// The reader, at the bytes that are left.
     pub fn into_inner(self) -> R
         ensures { result ≡ reader_of self }
     {
@@ -45,7 +49,8 @@ impl<R: Read + Drop> Source for StdSource<R> {
     #[tactic(auto, using(crate::proofs::ReadEnds::ends_exactly))]
     fn read(&mut self, buf: &mut [u8]) -> Result<usize, Failed>
         ensures bound { ReadsAtMost result buf.new }
-        ensures bytes { ReadConsumes (R.remaining (reader_of self.old)) (R.remaining (reader_of self.new)) result buf.new }
+        ensures bytes { ReadConsumes (R.remaining (reader_of self.old))
+            (R.remaining (reader_of self.new)) result buf.new }
         ensures end { EndsExactly (R.remaining (reader_of self.old)) result buf.new }
         ensures cause { HasCause (read_faults self.old) (read_faults self.new) result }
 
@@ -63,7 +68,8 @@ impl<R: Read + Drop> Source for StdSource<R> {
     }
 }
 
-/// A sink over a writer. It tells the bytes that it holds where the writer does.
+/// A sink over a writer. It tells the bytes that it holds where the writer does. Each error of the
+/// writer is a fault, an interrupted write too. It flushes nothing.
 #[derive(Drop)]
 pub struct StdSink<W> {
     writer: W,
@@ -96,11 +102,12 @@ impl<W: Write + Drop> Sink for StdSink<W> {
 
     ghost faults = { λ s. s.faults };
 
-    // A writer that takes none of the bytes counts as one that fails.
+    /// A writer that takes none of the bytes counts as one that fails.
     fn write(&mut self, bytes: &[u8]) -> Result<usize, Failed>
         ensures bound { WritesAtMost result bytes.now }
         ensures some { TakesSome result bytes.now }
-        ensures bytes { WriteAppends (W.contents (writer_of self.old)) (W.contents (writer_of self.new)) result bytes.now }
+        ensures bytes { WriteAppends (W.contents (writer_of self.old))
+            (W.contents (writer_of self.new)) result bytes.now }
         ensures cause { HasCause (write_faults self.old) (write_faults self.new) result }
 
         // Each error is counted, and nothing else.

@@ -1,4 +1,5 @@
-//! Where bytes come from and go to: sources, sinks, and what stands for them in memory and over std.
+//! Where bytes come from and go to: sources and sinks, and what stands for them in memory and over
+//! std.
 #![tactic(auto)]
 
 mod adapters;

@@ -1,6 +1,7 @@
 //! A sink into memory.
 
-ghost use Rattle.std.specs.Prelude.{◌≡◌, ◌≤◌, ◌↔◌, [], Some, length, IfOk, OnOk, OnErr, IsErr, vec_len, vec_capacity};
+ghost use Rattle.std.specs.Prelude.{◌≡◌, ◌≤◌, ◌↔◌, [], Some, length, vec_len, vec_capacity};
+ghost use Rattle.std.specs.Prelude.{IfOk, OnOk, OnErr, IsErr};
 ghost use Rattle.std.specs.Io.{WritesAtMost};
 ghost use Rattle.std.specs.Io.KnownBytes.{WriteAppends};
 ghost use Rattle.dp_io.specs.Faults.{HasCause, counted, refused};
@@ -23,14 +24,21 @@ pub struct MemSink {
 impl Model for MemSink {
     ghost Value = { SinkState };
 
-    ghost view = { λ s. record { held = s.bytes.items; room = s.room; piece = s.piece; plan = s.plan } };
+    ghost view = { λ s. record {
+      held = s.bytes.items;
+      room = s.room;
+      piece = s.piece;
+      plan = s.plan;
+    } };
 
-    ghost invariant = { λ s. (vec_len s.bytes ≤ s.room) × (s.room ≤ vec_capacity s.bytes) × (1 ≤ s.piece) };
+    ghost invariant = { λ s. (vec_len s.bytes ≤ s.room) × (s.room ≤ vec_capacity s.bytes)
+        × (1 ≤ s.piece) };
 }
 
 impl MemSink {
-    /// An empty sink for at most `room` bytes, whose memory it takes here, and at most `piece` bytes a call.
-    /// It fails at the calls whose numbers, counted from 1, are in `fails`.
+    /// An empty sink for at most `room` bytes, whose memory it takes here, and at most `piece` bytes
+    /// a call. It fails at the calls whose numbers, counted from 1, are in `fails`. The only error is
+    /// want of memory.
     pub fn new(
         alloc: Global,
         room: usize,
@@ -41,7 +49,8 @@ impl MemSink {
         ensures held { IfOk result (λ sink. sink.held ≡ []) }
         ensures room { IfOk result (λ sink. sink.room ≡ room) }
         ensures piece { IfOk result (λ sink. sink.piece ≡ piece) }
-        ensures plan { IfOk result (λ sink. sink.plan ≡ record { fails = fails.items; calls = 0; faults = 0 }) }
+        ensures plan { IfOk result (λ sink. sink.plan
+            ≡ record { fails = fails.items; calls = 0; faults = 0 }) }
     {
         Ok(MemSink {
             bytes: Vec::with_capacity(alloc, room)?,
@@ -71,7 +80,8 @@ impl Sink for MemSink {
         ensures bytes { WriteAppends (Some self.old.held) (Some self.new.held) result bytes.now }
         ensures cause { HasCause self.old.plan.faults self.new.plan.faults result }
 
-        // It fails at the listed calls and where it is full, and takes as much as the piece and its room let it.
+        // It fails at the listed calls and where it is full, and takes as much as the piece and its
+        // room let it.
         ensures failed { IsErr result ↔ IsRefused self.old (length bytes.now) }
         ensures count { IfOk result (λ n. n ≡ taken_count self.old (length bytes.now)) }
         ensures within { length self.new.held ≤ self.new.room }

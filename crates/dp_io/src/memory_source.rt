@@ -1,6 +1,7 @@
 //! A source over bytes in memory that gives pieces and fails where it is told to.
 
-ghost use Rattle.std.specs.Prelude.{◌≡◌, ◌≤◌, ◌↔◌, Some, length, drop, IfOk, OnOk, OnErr, IsErr, vec_len};
+ghost use Rattle.std.specs.Prelude.{◌≡◌, ◌≤◌, ◌↔◌, Some, length, drop, vec_len};
+ghost use Rattle.std.specs.Prelude.{IfOk, OnOk, OnErr, IsErr};
 ghost use Rattle.std.specs.Io.{ReadsAtMost};
 ghost use Rattle.std.specs.Io.KnownBytes.{ReadConsumes};
 ghost use Rattle.dp_io.specs.Faults.{HasCause, IsDue, counted, refused};
@@ -29,8 +30,8 @@ impl Model for MemSource {
 }
 
 impl MemSource {
-    /// A source of these bytes, at most `piece` of them a call. It fails at the calls whose numbers,
-    /// counted from 1, are in `fails`.
+    /// A source of these bytes, at most `piece` of them a call. It fails at the calls whose
+    /// numbers, counted from 1, are in `fails`.
     pub fn new(bytes: Vec<u8>, piece: usize, fails: Vec<u64>) -> Self
         requires { 1 ≤ piece }
         ensures left { result.left ≡ bytes.items }

@@ -9,7 +9,7 @@ ghost use Rattle.dp_io.specs.Streams.{TakesSome, GrowsByPrefix};
 
 use crate::Failed;
 
-/// Where bytes go to.
+/// Where bytes go to: a device, or what stands for one.
 pub trait Sink {
     /// The bytes that it holds, where they are told.
     ghost held: { Self → Option (List ℕ) };

@@ -11,7 +11,7 @@ ghost use Rattle.dp_io.specs.Streams.{EndsExactly};
 #[derive(Clone, Copy, Debug, PartialEq, Eq)]
 pub struct Failed;
 
-/// Where bytes come from.
+/// Where bytes come from: a device, or what stands for one.
 pub trait Source {
     /// The bytes that are left, where they are told.
     ghost left: { Self → Option (List ℕ) };
@@ -21,7 +21,8 @@ pub trait Source {
 
     /// Moves the first bytes that are left into the front of the buffer, and answers how many.
     ///
-    /// With a buffer that isn't empty, `Ok(0)` comes exactly where nothing is left. `Failed` takes no byte.
+    /// With a buffer that isn't empty, `Ok(0)` comes exactly where nothing is left. `Failed` takes
+    /// no byte.
     fn read(&mut self, buf: &mut [u8]) -> Result<usize, Failed>
         ensures bound { ReadsAtMost result buf.new }
         ensures bytes { ReadConsumes (left self.old) (left self.new) result buf.new }

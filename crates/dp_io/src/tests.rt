@@ -9,7 +9,7 @@ use std::test::Fail;
 
 const BYTES: [u8; 7] = [3, 1, 4, 1, 5, 9, 2];
 
-// Reads to the end, in at most 20 calls, through a buffer of three bytes.
+/// Reads to the end, in at most 20 calls, through a buffer of three bytes.
 fn read_all<R: Source>(alloc: Global, source: &mut R) -> Result<Vec<u8>, Fail> {
     let mut bytes = Vec::new(alloc);
     let mut buf = [0; 3];
@@ -20,7 +20,7 @@ fn read_all<R: Source>(alloc: Global, source: &mut R) -> Result<Vec<u8>, Fail> {
     Ok(bytes)
 }
 
-// Reads once, and tells a fault by its cause.
+/// Reads once, and tells a fault by its cause.
 fn read_once<R: Source>(source: &mut R, buf: &mut [u8]) -> Result<usize, Failed>
     ensures { OnErr result (Rose (R.faults source.old) (R.faults source.new)) }
 {
@@ -108,8 +108,12 @@ fn put_all_writes_a_prefix(rt: HostRuntime) -> Result<(), Fail> {
 fn adapters_pass_the_bytes_on(rt: HostRuntime) -> Result<(), Fail> {
     let alloc = rt.alloc();
     let mut source = StdSource::new(BYTES.as_slice());
+    let mut front = [0; 3];
+    assert_eq!(rt; source.read(&mut front), Ok(3));
+    assert_eq!(rt; front, [3, 1, 4]);
+    let mut source = StdSource::new(source.into_inner());
     let bytes = read_all(alloc, &mut source)?;
-    assert_eq!(rt; bytes.as_slice(), BYTES.as_slice());
+    assert_eq!(rt; bytes.as_slice(), [1, 5, 9, 2].as_slice());
     let mut sink = StdSink::new(Vec::new(alloc));
     put_all(&mut sink, &BYTES)?;
     assert_eq!(rt; sink.into_inner().as_slice(), BYTES.as_slice());

@@ -1,6 +1,6 @@
 -- What a field reader takes is what was spelled, and what is spelled is read again.
 use Rattle.std.proofs.Common.{◌≡◌, ℕ, ℤ, suc, ◌+◌, ◌^◌, ◌<◌, ◌≤◌, Bool, true, false, cond, eqb, ltb, leb, ◌&&◌, ◌⊎◌, List, [], ◌∷◌, ◌++◌, length, get_or, take, drop, Option, Some, None, refl, sym, ap, subst, ◌∙◌, arith, inl, inr}
-use Rattle.std.specs.Prelude.{FitsSigned}
+use Rattle.std.specs.Prelude.{FitsSigned, IsSome}
 use Rattle.std.specs.Int.{w32, cast_signed, cast_unsigned}
 use Rattle.std.specs.Str.{IsUtf8, is_utf8}
 use Rattle.std.proofs.lemmas.Bool.{cases_lt, ltb-false, le-ltb, leb-true, le-leb, eqb-true, and_parts, and_from}
@@ -322,6 +322,9 @@ no_text bytes fails = none_where (is_text bytes) bytes (λ e. fails (text_holds 
 
 pub is_text_read : (bytes text : List ℕ) → text ≡ bytes → IsUtf8 bytes → length bytes ≤ 65535 → rest_if is_text bytes ≡ Some text
 is_text_read bytes text same utf8 short = rw (text_passes bytes (utf8, short), same) refl
+
+pub some_text : (bytes : List ℕ) → IsUtf8 bytes → length bytes ≤ 65535 → IsSome (rest_if is_text bytes)
+some_text bytes utf8 short = rw (text_passes bytes (utf8, short)) refl
 
 pub text_whole : IsWhole (rest_if is_text) itself IsText
 text_whole = rest_whole is_text IsText text_holds text_passes

@@ -1,6 +1,6 @@
 -- A message that is read is spelled so, and what spells a message is read as it.
 use Rattle.std.proofs.Common.{◌≡◌, ℕ, ◌+◌, ◌≤◌, true, cond, eqb, List, ◌++◌, length, Option, Some, None, Result, Ok, Err, refl, sym, ap, subst, ◌∙◌, arith, inl, inr, leb, lit≤}
-use Rattle.std.specs.Prelude.{IfOk, OnOk, OnErr, MatchResult}
+use Rattle.std.specs.Prelude.{IfOk, OnOk, OnErr, IsSome, MatchResult}
 use Rattle.std.proofs.lemmas.Bool.{eqb-true, le-leb}
 use Rattle.std.proofs.lemmas.List.{length-append}
 use Rattle.dp_msg_meta.specs.declared.error.PayloadError.{PayloadError}
@@ -14,6 +14,11 @@ use Rattle.dp_msg_meta.specs.Payloads.{IsControlKind, IsMetaKind, control_kind, 
 use Rattle.dp_msg_meta.specs.Writing.{control_bytes, meta_bytes}
 use Rattle.dp_msg_meta.specs.Reading.{Gives, made_of, empty_at, hello_at, disconnect_at, ping_at, ack_at, welcome_at, control_at, join_at, ids_at, chat_at, mark_at, place_at, layer_at, tiers_at, filtered_at, meta_at}
 use Rattle.dp_msg_meta.proofs.FieldLaws.{IsBytes, IsWhole, bind_some, some_is, chosen, ended, before, one_field, two_field, four_field, signed_field, flag_field, tier_field, end_whole, ids_whole, name_whole, text_whole, text_name_whole, rise_short}
+
+-- the value where there is one
+some_value : {A : Type 0} (o : Option A) → IsSome o → (x : A) × (o ≡ Some x)
+some_value (Some x) there = (x, refl)
+some_value None there = absurd cc
 
 -- what is made of a value that was read is spelled as that value is
 spelled_from : {A M : Type 0} {read : List ℕ → Option A} {spell : A → List ℕ} {Valid : A → Type 0} → IsWhole read spell Valid
@@ -189,6 +194,13 @@ control_refused kind bytes (Ok n) given malformed m h = cc
 control_refused kind bytes (Err Malformed) given malformed m h = let same : None ≡ Some m = sym given ∙ control_is_read kind bytes m h in cc
 control_refused kind bytes (Err Memory) given malformed m h = cc
 
+pub control_nothing : (kind : ℕ) (bytes : List ℕ) (r : Result Control PayloadError) → IsBytes bytes → Gives (λ m. m) r (control_at kind bytes) → ((m : Control) → SpellsControl kind bytes m → ⊥) → r ≡ Err Malformed
+control_nothing kind bytes (Ok n) fits given none = absurd (none n (control_is_spelled kind bytes n fits given))
+control_nothing kind bytes (Err Malformed) fits given none = refl
+control_nothing kind bytes (Err Memory) fits given none =
+    let there = some_value (control_at kind bytes) given in
+    absurd (none there.0 (control_is_spelled kind bytes there.0 fits there.1))
+
 pub control_only : (kind : ℕ) (bytes : List ℕ) (r : Result Control PayloadError) → Gives (λ m. m) r (control_at kind bytes) → (m : Control) → SpellsControl kind bytes m → MatchResult r (λ found. found ≡ m) (λ e. e ≡ Memory)
 control_only kind bytes (Ok n) given m h = some_is n m (sym given ∙ control_is_read kind bytes m h)
 control_only kind bytes (Err Malformed) given m h = let same : None ≡ Some m = sym given ∙ control_is_read kind bytes m h in absurd cc
@@ -205,6 +217,13 @@ pub meta_refused : (kind : ℕ) (bytes : List ℕ) (r : Result Meta PayloadError
 meta_refused kind bytes (Ok n) given malformed m h = cc
 meta_refused kind bytes (Err Malformed) given malformed m h = let same : None ≡ Some m = sym given ∙ meta_is_read kind bytes m h in cc
 meta_refused kind bytes (Err Memory) given malformed m h = cc
+
+pub meta_nothing : (kind : ℕ) (bytes : List ℕ) (r : Result Meta PayloadError) → IsBytes bytes → Gives (λ m. m) r (meta_at kind bytes) → ((m : Meta) → SpellsMeta kind bytes m → ⊥) → r ≡ Err Malformed
+meta_nothing kind bytes (Ok n) fits given none = absurd (none n (meta_is_spelled kind bytes n fits given))
+meta_nothing kind bytes (Err Malformed) fits given none = refl
+meta_nothing kind bytes (Err Memory) fits given none =
+    let there = some_value (meta_at kind bytes) given in
+    absurd (none there.0 (meta_is_spelled kind bytes there.0 fits there.1))
 
 pub meta_only : (kind : ℕ) (bytes : List ℕ) (r : Result Meta PayloadError) → Gives (λ m. m) r (meta_at kind bytes) → (m : Meta) → SpellsMeta kind bytes m → MatchResult r (λ found. found ≡ m) (λ e. e ≡ Memory)
 meta_only kind bytes (Ok n) given m h = some_is n m (sym given ∙ meta_is_read kind bytes m h)

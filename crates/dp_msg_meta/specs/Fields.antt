@@ -1,5 +1,6 @@
 -- The fields of a payload, as bytes.
-use Rattle.std.specs.Prelude.{◌≡◌, ◌++◌, Result, MatchResult, ℕ, ℤ, ◌+◌, ◌≤◌, Bool, if◌then◌else◌, List, [], ◌∷◌, length}
+use Rattle.std.specs.Prelude.{◌≡◌, ℕ, ℤ, ◌+◌, ◌≤◌, Bool, if◌then◌else◌, Result, MatchResult}
+use Rattle.std.specs.Prelude.{List, [], ◌∷◌, ◌++◌, length}
 use Rattle.std.specs.Int.{w32, cast_unsigned}
 use Rattle.std.specs.Str.{IsUtf8}
 use Rattle.byteorder.specs.Endian.{big_bytes}

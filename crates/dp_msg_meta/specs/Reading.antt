@@ -1,20 +1,32 @@
 -- Reading a payload from left to right: nothing where a field is short or breaks its condition.
-use Rattle.std.specs.Prelude.{◌≡◌, ℕ, ℤ, ◌+◌, Bool, true, false, ◌&&◌, ◌==◌, nat_lt, nat_le, if◌then◌else◌, List, [], ◌∷◌, length, drop, Option, Some, None, Result, Ok, Err}
+use Rattle.std.specs.Prelude.{◌≡◌, ℕ, ℤ, ◌+◌, ◌==◌, nat_lt, nat_le, Bool, true, false, ◌&&◌}
+use Rattle.std.specs.Prelude.{if◌then◌else◌, List, [], ◌∷◌, length, drop}
+use Rattle.std.specs.Prelude.{Option, Some, None, IsSome, Result, Ok, Err, MatchResult}
 use Rattle.std.specs.Int.{w32, cast_signed}
 use Rattle.std.specs.Str.{is_utf8}
 use Rattle.byteorder.specs.Endian.{big_number}
 use Rattle.dp_msg_meta.specs.declared.message.Control.{Control}
-use Rattle.dp_msg_meta.specs.declared.message.Control.TheVariants.{Hello, Disconnect, Ping, Ack, Welcome, ResetBegin, ResetEnd}
+use Rattle.dp_msg_meta.specs.declared.message.Control.TheVariants.{Hello, Disconnect, Ping, Ack}
+use Rattle.dp_msg_meta.specs.declared.message.Control.TheVariants.{Welcome, ResetBegin, ResetEnd}
 use Rattle.dp_msg_meta.specs.declared.message.Meta.{Meta}
-use Rattle.dp_msg_meta.specs.declared.message.Meta.TheVariants.{Join, Leave, Owners, Chat, Trusted, ResetMark, Laser, MovePointer, UserAcl, LayerAcl, FeatureTiers, Filtered}
+use Rattle.dp_msg_meta.specs.declared.message.Meta.TheVariants.{Join, Leave, Owners, Chat, Trusted}
+use Rattle.dp_msg_meta.specs.declared.message.Meta.TheVariants.{ResetMark, Laser, MovePointer}
+use Rattle.dp_msg_meta.specs.declared.message.Meta.TheVariants.{UserAcl, LayerAcl, FeatureTiers}
+use Rattle.dp_msg_meta.specs.declared.message.Meta.TheVariants.{Filtered}
 use Rattle.dp_msg_meta.specs.declared.error.PayloadError.{PayloadError}
 use Rattle.dp_msg_meta.specs.declared.error.PayloadError.TheVariants.{Malformed, Memory}
 
--- What a function returned is what reading gives, unless memory ran out.
-abbrev pub Fails : {Y : Type 0} → PayloadError → Option Y → Type 0
-Fails Memory read = Unit {0}
-Fails Malformed read = read ≡ None
+-- What a function returned, one that takes no memory, is what reading gives.
+abbrev pub GivesAlways : {X Y : Type 0} → (X → Y) → Result X PayloadError → Option Y → Type 0
+GivesAlways view result read =
+    MatchResult result (λ x. read ≡ Some (view x)) (λ e. (e ≡ Malformed) × (read ≡ None))
 
+-- What reading gives was refused for a reason: there is nothing, or memory ran out for what there is.
+abbrev pub Fails : {Y : Type 0} → PayloadError → Option Y → Type 0
+Fails Malformed read = read ≡ None
+Fails Memory read = IsSome read
+
+-- What a function returned is what reading gives, unless memory ran out for it.
 abbrev pub Gives : {X Y : Type 0} → (X → Y) → Result X PayloadError → Option Y → Type 0
 Gives view (Ok x) read = read ≡ Some (view x)
 Gives view (Err e) read = Fails e read
@@ -26,14 +38,17 @@ None >>= f = None
 
 -- a field is a value and the bytes after it
 abbrev pub number_at : ℕ → List ℕ → Option (ℕ × List ℕ)
-number_at n bytes = if nat_lt (length bytes) n then None else Some (big_number n bytes, drop n bytes)
+number_at n bytes =
+    if nat_lt (length bytes) n then None else Some (big_number n bytes, drop n bytes)
 
 abbrev pub signed_at : List ℕ → Option (ℤ × List ℕ)
 signed_at bytes = number_at 4 bytes >>= λ n. Some (cast_signed w32 n.0, n.1)
 
 -- 0 or 1
 unfoldable pub flag_at : List ℕ → Option (Bool × List ℕ)
-flag_at bytes = number_at 1 bytes >>= λ n. if n.0 == 0 then Some (false, n.1) else if n.0 == 1 then Some (true, n.1) else None
+flag_at bytes =
+    number_at 1 bytes >>= λ n.
+    if n.0 == 0 then Some (false, n.1) else if n.0 == 1 then Some (true, n.1) else None
 
 -- 0 to 3
 unfoldable pub tier_at : List ℕ → Option (ℕ × List ℕ)
@@ -49,7 +64,8 @@ abbrev pub last : {A : Type 0} → (List ℕ → Option (A × List ℕ)) → Lis
 last field bytes = field bytes >>= λ x. end_at x.1 >>= λ _. Some x.0
 
 -- one field, and then more
-abbrev pub and_then : {A B : Type 0} → (List ℕ → Option (A × List ℕ)) → (List ℕ → Option B) → List ℕ → Option (A × B)
+abbrev pub and_then : {A B : Type 0} → (List ℕ → Option (A × List ℕ)) → (List ℕ → Option B)
+    → List ℕ → Option (A × B)
 and_then field more bytes = field bytes >>= λ x. more x.1 >>= λ y. Some (x.0, y)
 
 -- all bytes, where they pass the test
@@ -87,7 +103,11 @@ unfoldable pub ack_at : List ℕ → Option Control
 ack_at bytes = made_of Ack (last (number_at 4) bytes)
 
 unfoldable pub welcome_at : List ℕ → Option Control
-welcome_at bytes = made_of (λ x. Welcome x.0 x.1.0 x.1.1.0 x.1.1.1) (and_then (number_at 2) (and_then (number_at 1) (and_then (number_at 4) (last (number_at 4)))) bytes)
+welcome_at bytes =
+    made_of
+    (λ x. Welcome x.0 x.1.0 x.1.1.0 x.1.1.1)
+    (and_then (number_at 2) (and_then (number_at 1) (and_then (number_at 4) (last (number_at 4))))
+    bytes)
 
 -- a message with an empty payload
 abbrev pub empty_at : {M : Type 0} → M → List ℕ → Option M
@@ -123,16 +143,29 @@ unfoldable pub place_at : (ℤ → ℤ → Meta) → List ℕ → Option Meta
 place_at make bytes = made_of (λ x. make x.0 x.1) (and_then signed_at (last signed_at) bytes)
 
 unfoldable pub layer_at : List ℕ → Option Meta
-layer_at bytes = made_of (λ x. LayerAcl x.0 x.1.0 x.1.1.0 x.1.1.1) (and_then (number_at 2) (and_then flag_at (and_then tier_at (rest_if (rise_from 1)))) bytes)
+layer_at bytes =
+    made_of
+    (λ x. LayerAcl x.0 x.1.0 x.1.1.0 x.1.1.1)
+    (and_then (number_at 2) (and_then flag_at (and_then tier_at (rest_if (rise_from 1)))) bytes)
 
 -- four tiers
-abbrev pub four_tiers : {A : Type 0} → (List ℕ → Option A) → List ℕ → Option (ℕ × (ℕ × (ℕ × (ℕ × A))))
+abbrev pub four_tiers : {A : Type 0} → (List ℕ → Option A)
+    → List ℕ → Option (ℕ × (ℕ × (ℕ × (ℕ × A))))
 four_tiers more = and_then tier_at (and_then tier_at (and_then tier_at (and_then tier_at more)))
 
 unfoldable pub tiers_at : List ℕ → Option Meta
 tiers_at bytes =
     made_of
-    (λ x. FeatureTiers (record { image = x.0; move_ = x.1.0; resize = x.1.1.0; background = x.1.1.1.0; edit_layers = x.1.1.1.1.0; own_layers = x.1.1.1.1.1.0; laser = x.1.1.1.1.1.1.0; undo = x.1.1.1.1.1.1.1.0 }))
+    (λ x. FeatureTiers (record {
+      image = x.0;
+      move_ = x.1.0;
+      resize = x.1.1.0;
+      background = x.1.1.1.0;
+      edit_layers = x.1.1.1.1.0;
+      own_layers = x.1.1.1.1.1.0;
+      laser = x.1.1.1.1.1.1.0;
+      undo = x.1.1.1.1.1.1.1.0;
+    }))
     (four_tiers (four_tiers end_at) bytes)
 
 unfoldable pub filtered_at : List ℕ → Option Meta

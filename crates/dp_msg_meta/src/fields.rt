@@ -1,7 +1,9 @@
 //! The fields of a payload, from the left: each reader gives a value and the bytes after it.
 
 ghost use Rattle.std.specs.Prelude.{◌≡◌};
-ghost use Rattle.dp_msg_meta.specs.Reading.{Gives, number_at, signed_at, flag_at, tier_at, end_at, rest_if, rise_from, is_name, is_text, is_text_name};
+ghost use Rattle.dp_msg_meta.specs.Reading.{Gives, GivesAlways, number_at, signed_at, flag_at};
+ghost use Rattle.dp_msg_meta.specs.Reading.{tier_at, end_at, rest_if, rise_from};
+ghost use Rattle.dp_msg_meta.specs.Reading.{is_name, is_text, is_text_name};
 
 use crate::error::PayloadError;
 use crate::lists::{Ids, NameBytes, Text};
@@ -11,7 +13,7 @@ use std::str;
 
 /// A byte.
 pub(crate) fn take_u8(bytes: &[u8]) -> Result<(u8, &[u8]), PayloadError>
-    ensures { Gives (λ x. (x.0, x.1.now)) result (number_at 1 bytes.now) }
+    ensures { GivesAlways (λ x. (x.0, x.1.now)) result (number_at 1 bytes.now) }
 {
     match bytes {
         [] => Err(PayloadError::Malformed),
@@ -21,7 +23,7 @@ pub(crate) fn take_u8(bytes: &[u8]) -> Result<(u8, &[u8]), PayloadError>
 
 /// A number of two bytes.
 pub(crate) fn take_u16(bytes: &[u8]) -> Result<(u16, &[u8]), PayloadError>
-    ensures { Gives (λ x. (x.0, x.1.now)) result (number_at 2 bytes.now) }
+    ensures { GivesAlways (λ x. (x.0, x.1.now)) result (number_at 2 bytes.now) }
 {
     if bytes.len() < 2 {
         return Err(PayloadError::Malformed);
@@ -31,7 +33,7 @@ pub(crate) fn take_u16(bytes: &[u8]) -> Result<(u16, &[u8]), PayloadError>
 
 /// A number of four bytes.
 pub(crate) fn take_u32(bytes: &[u8]) -> Result<(u32, &[u8]), PayloadError>
-    ensures { Gives (λ x. (x.0, x.1.now)) result (number_at 4 bytes.now) }
+    ensures { GivesAlways (λ x. (x.0, x.1.now)) result (number_at 4 bytes.now) }
 {
     if bytes.len() < 4 {
         return Err(PayloadError::Malformed);
@@ -41,7 +43,7 @@ pub(crate) fn take_u32(bytes: &[u8]) -> Result<(u32, &[u8]), PayloadError>
 
 /// A signed number of four bytes.
 pub(crate) fn take_i32(bytes: &[u8]) -> Result<(i32, &[u8]), PayloadError>
-    ensures { Gives (λ x. (x.0, x.1.now)) result (signed_at bytes.now) }
+    ensures { GivesAlways (λ x. (x.0, x.1.now)) result (signed_at bytes.now) }
 {
     if bytes.len() < 4 {
         return Err(PayloadError::Malformed);
@@ -52,7 +54,7 @@ pub(crate) fn take_i32(bytes: &[u8]) -> Result<(i32, &[u8]), PayloadError>
 /// A byte that is 0 or 1.
 #[tactic(auto, unfolding(crate::specs::Reading::flag_at))]
 pub(crate) fn take_flag(bytes: &[u8]) -> Result<(bool, &[u8]), PayloadError>
-    ensures { Gives (λ x. (x.0, x.1.now)) result (flag_at bytes.now) }
+    ensures { GivesAlways (λ x. (x.0, x.1.now)) result (flag_at bytes.now) }
 {
     let (byte, rest) = take_u8(bytes)?;
     match byte {
@@ -64,7 +66,7 @@ pub(crate) fn take_flag(bytes: &[u8]) -> Result<(bool, &[u8]), PayloadError>
 
 /// The end of the payload.
 pub(crate) fn take_end(bytes: &[u8]) -> Result<(), PayloadError>
-    ensures { Gives (λ _. tt) result (end_at bytes.now) }
+    ensures { GivesAlways (λ _. tt) result (end_at bytes.now) }
 {
     match bytes {
         [] => Ok(()),
@@ -75,7 +77,7 @@ pub(crate) fn take_end(bytes: &[u8]) -> Result<(), PayloadError>
 /// A byte that is 0 to 3.
 #[tactic(auto, unfolding(crate::specs::Reading::tier_at))]
 pub(crate) fn take_tier(bytes: &[u8]) -> Result<(u8, &[u8]), PayloadError>
-    ensures { Gives (λ x. (x.0, x.1.now)) result (tier_at bytes.now) }
+    ensures { GivesAlways (λ x. (x.0, x.1.now)) result (tier_at bytes.now) }
 {
     let (tier, rest) = take_u8(bytes)?;
     if tier > 3 {

@@ -1,18 +1,20 @@
 //! The kinds of messages, and messages again.
 
-ghost use Rattle.std.specs.Prelude.{◌≡◌, ◌↔◌, ℕ, List, IfOk, IsTrue};
-ghost use Rattle.dp_msg_meta.specs.Payloads.{control_kind, meta_kind, IsControlKind, IsMetaKind, SpellsControl, SpellsMeta};
+ghost use Rattle.std.specs.Prelude.{◌≡◌, ◌↔◌, ℕ, List, IfOk, OnErr, IsTrue};
+ghost use Rattle.dp_msg_meta.specs.Payloads.{control_kind, meta_kind, IsControlKind, IsMetaKind};
+ghost use Rattle.dp_msg_meta.specs.Payloads.{SpellsControl, SpellsMeta, TakesMemory};
 
 use crate::message::{Control, Meta};
 use std::alloc::AllocError;
 
-/// The kind of a control message.
+/// The kind of a control message, the type byte of its frame.
 ///
-/// The rule: docs/protocol.md, "Messages".
+/// The rule: docs/protocol.md, "Control and meta messages".
 pub fn kind_of_control(m: &Control) -> u8
     ensures value { result ≡ control_kind m.now }
     ensures control { IsControlKind result }
-    ensures spelled { (kind : ℕ) (payload : List ℕ) → SpellsControl kind payload m.now → kind ≡ result }
+    ensures spelled { (kind : ℕ) (payload : List ℕ)
+        → SpellsControl kind payload m.now → kind ≡ result }
 {
     match m {
         Control::Hello { .. } => 0,
@@ -25,13 +27,14 @@ pub fn kind_of_control(m: &Control) -> u8
     }
 }
 
-/// The kind of a meta message.
+/// The kind of a meta message, the type byte of its frame.
 ///
-/// The rule: docs/protocol.md, "Messages".
+/// The rule: docs/protocol.md, "Control and meta messages".
 pub fn kind_of_meta(m: &Meta) -> u8
     ensures value { result ≡ meta_kind m.now }
     ensures meta { IsMetaKind result }
-    ensures spelled { (kind : ℕ) (payload : List ℕ) → SpellsMeta kind payload m.now → kind ≡ result }
+    ensures spelled { (kind : ℕ) (payload : List ℕ)
+        → SpellsMeta kind payload m.now → kind ≡ result }
 {
     match m {
         Meta::Join { .. } => 32,
@@ -49,14 +52,14 @@ pub fn kind_of_meta(m: &Meta) -> u8
     }
 }
 
-/// Tests that control messages are of this kind.
+/// Tests that control messages are of this kind: 0 to 5, and 7.
 pub fn is_control_kind(kind: u8) -> bool
     ensures { IsTrue result ↔ IsControlKind kind }
 {
     matches!(kind, 0..=5 | 7)
 }
 
-/// Tests that meta messages are of this kind.
+/// Tests that meta messages are of this kind: 32 to 37, and 64 to 69.
 pub fn is_meta_kind(kind: u8) -> bool
     ensures { IsTrue result ↔ IsMetaKind kind }
 {
@@ -64,9 +67,10 @@ pub fn is_meta_kind(kind: u8) -> bool
 }
 
 impl Control {
-    /// The same message again.
+    /// The same message again. The only error is want of memory, which a name takes.
     pub fn copy(&self) -> Result<Control, AllocError>
-        ensures { IfOk result (λ m. m ≡ self.now) }
+        ensures same { IfOk result (λ m. m ≡ self.now) }
+        ensures memory { OnErr result (TakesMemory (control_kind self.now)) }
     {
         Ok(match self {
             Control::Hello { name } => Control::Hello { name: name.copy()? },
@@ -91,9 +95,10 @@ impl Control {
 }
 
 impl Meta {
-    /// The same message again.
+    /// The same message again. The only error is want of memory, which a name, a text and ids take.
     pub fn copy(&self) -> Result<Meta, AllocError>
-        ensures { IfOk result (λ m. m ≡ self.now) }
+        ensures same { IfOk result (λ m. m ≡ self.now) }
+        ensures memory { OnErr result (TakesMemory (meta_kind self.now)) }
     {
         Ok(match self {
             Meta::Join { registered, name } => Meta::Join {

@@ -1,6 +1,9 @@
-//! Lists of bytes that messages hold.
+//! Lists of bytes that messages hold: ids, names and texts.
+//!
+//! The rule: docs/protocol.md, "Control and meta messages".
 
-ghost use Rattle.std.specs.Prelude.{◌≡◌, ◌≤◌, ◌↔◌, List, ℕ, [], length, IfOk, IfSome, IsSome, string_bytes, vec_len};
+ghost use Rattle.std.specs.Prelude.{◌≡◌, ◌≤◌, ◌↔◌, List, ℕ, [], length, string_bytes, vec_len};
+ghost use Rattle.std.specs.Prelude.{IfOk, IfSome, IsSome};
 ghost use Rattle.dp_msg_meta.specs.Fields.{IsText};
 
 use std::alloc::{AllocError, Global};
@@ -46,7 +49,7 @@ impl Ids {
         self.ids.as_slice()
     }
 
-    /// The same ids again.
+    /// The same ids again. The only error is want of memory.
     pub fn copy(&self) -> Result<Ids, AllocError>
         ensures { IfOk result (λ ids. ids ≡ self.now) }
     {
@@ -96,7 +99,7 @@ impl NameBytes {
         self.bytes.as_slice()
     }
 
-    /// The same name again.
+    /// The same name again. The only error is want of memory.
     pub fn copy(&self) -> Result<NameBytes, AllocError>
         ensures { IfOk result (λ name. name ≡ self.now) }
     {
@@ -144,7 +147,7 @@ impl Text {
         }
     }
 
-    /// A text with a copy of these characters.
+    /// A text with a copy of these characters. The only error is want of memory.
     pub fn from_str(alloc: Global, text: &str) -> Result<Text, AllocError>
         requires { length text.now ≤ 65535 }
         ensures { IfOk result (λ made. made ≡ text.now) }
@@ -154,7 +157,7 @@ impl Text {
         })
     }
 
-    /// The bytes of the text.
+    /// The bytes of the text, which are UTF-8.
     pub fn as_slice(&self) -> &[u8]
         ensures value { result.now ≡ self.now }
         ensures text { IsText self.now }
@@ -169,7 +172,7 @@ impl Text {
         self.text.as_str()
     }
 
-    /// The same text again.
+    /// The same text again. The only error is want of memory.
     pub fn copy(&self) -> Result<Text, AllocError>
         ensures { IfOk result (λ text. text ≡ self.now) }
     {

@@ -4,7 +4,7 @@ use crate::lists::{Ids, NameBytes, Text};
 
 /// A message between a client and its server.
 ///
-/// The rule: docs/protocol.md, "Messages".
+/// The rule: docs/protocol.md, "Control and meta messages".
 #[derive(Debug, Drop)]
 pub enum Control {
     /// Asks to join. The name has 1 to 32 bytes of any kind.
@@ -38,7 +38,7 @@ pub enum Control {
 
 /// A message of the history that draws nothing.
 ///
-/// The rule: docs/protocol.md, "Messages".
+/// The rule: docs/protocol.md, "Control and meta messages".
 #[derive(Debug, Drop)]
 pub enum Meta {
     /// A user is there. The name has 1 to 32 bytes of UTF-8.
@@ -97,6 +97,8 @@ pub enum Meta {
 }
 
 /// The tier of each feature, 0 to 3: 0 operators, 1 trusted, 2 registered, 3 everyone.
+///
+/// The rule: docs/protocol.md, "Control and meta messages".
 #[derive(Clone, Copy, Debug, PartialEq, Eq)]
 pub struct Tiers {
     pub image: u8,

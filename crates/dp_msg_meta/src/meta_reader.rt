@@ -1,8 +1,12 @@
 //! Reading the payloads of the meta messages.
 
 ghost use Rattle.std.specs.Prelude.{◌≡◌};
-ghost use Rattle.dp_msg_meta.specs.declared.message.Meta.TheVariants.{Leave, Laser, MovePointer, Owners, Trusted, UserAcl};
-ghost use Rattle.dp_msg_meta.specs.Reading.{Gives, empty_at, join_at, ids_at, chat_at, mark_at, place_at, layer_at, tiers_at, filtered_at, meta_at};
+ghost use Rattle.dp_msg_meta.specs.declared.message.Meta.TheVariants.{Leave, Laser, MovePointer};
+ghost use Rattle.dp_msg_meta.specs.declared.message.Meta.TheVariants.{Owners, Trusted, UserAcl};
+ghost use Rattle.dp_msg_meta.specs.Payloads.{TakesMemory};
+ghost use Rattle.dp_msg_meta.specs.Reading.{Gives, GivesAlways, empty_at, meta_at, join_at, ids_at};
+ghost use Rattle.dp_msg_meta.specs.Reading.{chat_at, mark_at, place_at, layer_at, tiers_at};
+ghost use Rattle.dp_msg_meta.specs.Reading.{filtered_at};
 
 use crate::error::PayloadError;
 use crate::fields::{
@@ -55,7 +59,7 @@ fn read_chat(alloc: Global, payload: &[u8]) -> Result<Meta, PayloadError>
 
 #[tactic(auto, unfolding(crate::specs::Reading::mark_at))]
 fn read_reset_mark(payload: &[u8]) -> Result<Meta, PayloadError>
-    ensures { Gives (λ m. m) result (mark_at payload.now) }
+    ensures { GivesAlways (λ m. m) result (mark_at payload.now) }
 {
     let (epoch, rest) = take_u32(payload)?;
     let (carried, rest) = take_u32(rest)?;
@@ -65,7 +69,7 @@ fn read_reset_mark(payload: &[u8]) -> Result<Meta, PayloadError>
 
 #[tactic(auto, unfolding(crate::specs::Reading::place_at))]
 fn read_laser(payload: &[u8]) -> Result<Meta, PayloadError>
-    ensures { Gives (λ m. m) result (place_at Laser payload.now) }
+    ensures { GivesAlways (λ m. m) result (place_at Laser payload.now) }
 {
     let (x, rest) = take_i32(payload)?;
     let (y, rest) = take_i32(rest)?;
@@ -75,7 +79,7 @@ fn read_laser(payload: &[u8]) -> Result<Meta, PayloadError>
 
 #[tactic(auto, unfolding(crate::specs::Reading::place_at))]
 fn read_move_pointer(payload: &[u8]) -> Result<Meta, PayloadError>
-    ensures { Gives (λ m. m) result (place_at MovePointer payload.now) }
+    ensures { GivesAlways (λ m. m) result (place_at MovePointer payload.now) }
 {
     let (x, rest) = take_i32(payload)?;
     let (y, rest) = take_i32(rest)?;
@@ -101,7 +105,7 @@ fn read_layer_acl(alloc: Global, payload: &[u8]) -> Result<Meta, PayloadError>
 
 #[tactic(auto, unfolding(crate::specs::Reading::tiers_at))]
 fn read_feature_tiers(payload: &[u8]) -> Result<Meta, PayloadError>
-    ensures { Gives (λ m. m) result (tiers_at payload.now) }
+    ensures { GivesAlways (λ m. m) result (tiers_at payload.now) }
 {
     let (image, rest) = take_tier(payload)?;
     let (move_, rest) = take_tier(rest)?;
@@ -127,16 +131,18 @@ fn read_feature_tiers(payload: &[u8]) -> Result<Meta, PayloadError>
 
 #[tactic(auto, unfolding(crate::specs::Reading::filtered_at))]
 fn read_filtered(payload: &[u8]) -> Result<Meta, PayloadError>
-    ensures { Gives (λ m. m) result (filtered_at payload.now) }
+    ensures { GivesAlways (λ m. m) result (filtered_at payload.now) }
 {
     let (kind, rest) = take_u8(payload)?;
     take_end(rest)?;
     Ok(Meta::Filtered { kind })
 }
 
+/// The meta message of this kind.
 #[tactic(auto, unfolding(crate::specs::Reading::meta_at))]
 pub(crate) fn read(alloc: Global, kind: u8, payload: &[u8]) -> Result<Meta, PayloadError>
-    ensures { Gives (λ m. m) result (meta_at kind payload.now) }
+    ensures read { Gives (λ m. m) result (meta_at kind payload.now) }
+    ensures memory { result ≡ Err PayloadError.Memory → TakesMemory kind }
 {
     match kind {
         32 => read_join(alloc, payload),

@@ -1,9 +1,9 @@
 //! Writing the payloads of the meta messages.
 
-ghost use Rattle.std.specs.Prelude.{◌≡◌, ◌≤◌, ◌++◌, length, nat_le, if◌then◌else◌, []};
-ghost use Rattle.dp_msg_meta.specs.Fields.{Adds, two_bytes, one_byte, flag_byte};
+ghost use Rattle.std.specs.Prelude.{◌≤◌, length};
+ghost use Rattle.dp_msg_meta.specs.Fields.{Adds};
 ghost use Rattle.dp_msg_meta.specs.Payloads.{tier_bytes};
-ghost use Rattle.dp_msg_meta.specs.Writing.{meta_bytes};
+ghost use Rattle.dp_msg_meta.specs.Writing.{meta_bytes, join_bytes, layer_acl_bytes};
 
 use crate::lists::{Ids, Text};
 use crate::message::{Meta, Tiers};
@@ -12,8 +12,8 @@ use byteorder::{BigEndian, ByteOrder};
 use std::alloc::AllocError;
 
 fn write_join(out: &mut Vec<u8>, registered: bool, name: &Text) -> Result<(), AllocError>
-    ensures added { Adds out.old.items out.new.items result (if nat_le (length name.now) 32 then flag_byte registered ++ name.now else []) }
-    ensures short { length (if nat_le (length name.now) 32 then flag_byte registered ++ name.now else []) ≤ 65535 }
+    ensures added { Adds out.old.items out.new.items result (join_bytes registered name.now) }
+    ensures short { length (join_bytes registered name.now) ≤ 65535 }
 {
     let name = name.as_slice();
     if name.len() > 32 {
@@ -29,7 +29,8 @@ fn write_layer_acl(
     tier: u8,
     ids: &Ids,
 ) -> Result<(), AllocError>
-    ensures added { Adds out.old.items out.new.items result (two_bytes layer ++ flag_byte locked ++ one_byte tier ++ ids.now) }
+    ensures added { Adds out.old.items out.new.items result
+        (layer_acl_bytes layer locked tier ids.now) }
     ensures short { length ids.now ≤ 255 }
 {
     let mut head = [0; 4];

@@ -1,7 +1,8 @@
 //! Reading a payload.
 
-ghost use Rattle.std.specs.Prelude.{◌≡◌, IfOk, MatchResult};
-ghost use Rattle.dp_msg_meta.specs.Payloads.{IsControlKind, IsMetaKind, SpellsControl, SpellsMeta};
+ghost use Rattle.std.specs.Prelude.{◌≡◌, ◌↔◌, IfOk, MatchResult};
+ghost use Rattle.dp_msg_meta.specs.Payloads.{IsControlKind, IsMetaKind, TakesMemory};
+ghost use Rattle.dp_msg_meta.specs.Payloads.{SpellsControl, SpellsMeta};
 
 use crate::error::PayloadError;
 use crate::message::{Control, Meta};
@@ -11,15 +12,19 @@ use std::alloc::Global;
 /// The control message that a payload of its kind spells. `Malformed` comes exactly where it spells
 /// none, and `Memory` only for want of memory.
 ///
-/// The rule: docs/protocol.md, "Messages".
+/// The rule: docs/protocol.md, "Control and meta messages".
 pub fn read_control(alloc: Global, kind: u8, payload: &[u8]) -> Result<Control, PayloadError>
     requires { IsControlKind kind }
     // What is read is spelled so.
     ensures found { IfOk result (λ m. SpellsControl kind payload.now m) }
     // What is spelled so is read, unless memory runs out.
-    ensures only { (m : Control) → SpellsControl kind payload.now m → MatchResult result (λ found. found ≡ m) (λ e. e ≡ PayloadError.Memory) }
-    // What is refused spells nothing.
-    ensures malformed { result ≡ Err PayloadError.Malformed → (m : Control) → SpellsControl kind payload.now m → ⊥ }
+    ensures only { (m : Control) → SpellsControl kind payload.now m
+        → MatchResult result (λ found. found ≡ m) (λ e. e ≡ PayloadError.Memory) }
+    // What is refused spells nothing, and what spells nothing is refused.
+    ensures malformed { (result ≡ Err PayloadError.Malformed)
+        ↔ ((m : Control) → SpellsControl kind payload.now m → ⊥) }
+    // Memory is taken only for a message that holds a name, a text or ids.
+    ensures memory { result ≡ Err PayloadError.Memory → TakesMemory kind }
 {
     control_reader::read(alloc, kind, payload)
 }
@@ -27,15 +32,19 @@ pub fn read_control(alloc: Global, kind: u8, payload: &[u8]) -> Result<Control, 
 /// The meta message that a payload of its kind spells. `Malformed` comes exactly where it spells
 /// none, and `Memory` only for want of memory.
 ///
-/// The rule: docs/protocol.md, "Messages".
+/// The rule: docs/protocol.md, "Control and meta messages".
 pub fn read_meta(alloc: Global, kind: u8, payload: &[u8]) -> Result<Meta, PayloadError>
     requires { IsMetaKind kind }
     // What is read is spelled so.
     ensures found { IfOk result (λ m. SpellsMeta kind payload.now m) }
     // What is spelled so is read, unless memory runs out.
-    ensures only { (m : Meta) → SpellsMeta kind payload.now m → MatchResult result (λ found. found ≡ m) (λ e. e ≡ PayloadError.Memory) }
-    // What is refused spells nothing.
-    ensures malformed { result ≡ Err PayloadError.Malformed → (m : Meta) → SpellsMeta kind payload.now m → ⊥ }
+    ensures only { (m : Meta) → SpellsMeta kind payload.now m
+        → MatchResult result (λ found. found ≡ m) (λ e. e ≡ PayloadError.Memory) }
+    // What is refused spells nothing, and what spells nothing is refused.
+    ensures malformed { (result ≡ Err PayloadError.Malformed)
+        ↔ ((m : Meta) → SpellsMeta kind payload.now m → ⊥) }
+    // Memory is taken only for a message that holds a name, a text or ids.
+    ensures memory { result ≡ Err PayloadError.Memory → TakesMemory kind }
 {
     meta_reader::read(alloc, kind, payload)
 }

@@ -1,15 +1,20 @@
-ghost use Rattle.std.specs.Prelude.{◌<◌};
+//! Rows of payloads, with the messages that they spell.
+
+ghost use Rattle.std.specs.Prelude.{◌<◌, IfSome};
 
 use super::*;
-use std::alloc::{AllocError, Global};
+use std::alloc::Global;
 use std::process::Abort;
 use std::test::Fail;
 
-// Each line has a kind, a payload in hexadecimal, and the message that it spells.
+/// Each line has a kind, a payload in hexadecimal, and the message that it spells.
 fn control_rows() -> &'static str {
     "\
 0 616e6e Hello { name: NameBytes { bytes: [97, 110, 110] } }
 0 ff Hello { name: NameBytes { bytes: [255] } }
+0 e0e1e2e3e4e5e6e7e8e9eaebecedeeeff0f1f2f3f4f5f6f7f8f9fafbfcfdfeff Hello { name: NameBytes { \
+bytes: [224, 225, 226, 227, 228, 229, 230, 231, 232, 233, 234, 235, 236, 237, 238, 239, 240, 241, \
+242, 243, 244, 245, 246, 247, 248, 249, 250, 251, 252, 253, 254, 255] } }
 1 02 Disconnect { reason: 2 }
 1 ff Disconnect { reason: 255 }
 2 00 Ping { pong: false }
@@ -21,10 +26,13 @@ fn control_rows() -> &'static str {
 7 - ResetEnd"
 }
 
+/// Lines as those of `control_rows`.
 fn meta_rows() -> &'static str {
     "\
 32 00616e6e Join { registered: false, name: Text { text: \"ann\" } }
 32 016f Join { registered: true, name: Text { text: \"o\" } }
+32 016162636465666768696a6b6c6d6e6f707172737475767778797a61626364c3a9 Join { registered: true, \
+name: Text { text: \"abcdefghijklmnopqrstuvwxyzabcdé\" } }
 33 - Leave
 34 01 Owners { ids: Ids { ids: [1] } }
 34 - Owners { ids: Ids { ids: [] } }
@@ -40,15 +48,16 @@ fn meta_rows() -> &'static str {
 66 0005 UserAcl { ids: Ids { ids: [0, 5] } }
 67 01010103 LayerAcl { layer: 257, locked: true, tier: 3, ids: Ids { ids: [] } }
 67 010200000107 LayerAcl { layer: 258, locked: false, tier: 0, ids: Ids { ids: [1, 7] } }
-68 0001020303020100 FeatureTiers { tiers: Tiers { image: 0, move_: 1, resize: 2, background: 3, edit_layers: 3, own_layers: 2, laser: 1, undo: 0 } }
+68 0001020303020100 FeatureTiers { tiers: Tiers { image: 0, move_: 1, resize: 2, background: 3, \
+edit_layers: 3, own_layers: 2, laser: 1, undo: 0 } }
 69 23 Filtered { kind: 35 }"
 }
 
-// Each line has a kind, a payload that spells nothing, and why.
+/// Each line has a kind, a payload that spells nothing, and why.
 fn malformed_rows() -> &'static str {
     "\
 0 - no name
-0 6161616161616161616161616161616161616161616161616161616161616161ff 33 bytes
+0 dfe0e1e2e3e4e5e6e7e8e9eaebecedeeeff0f1f2f3f4f5f6f7f8f9fafbfcfdfeff 33 bytes
 1 - short
 1 0102 long
 2 - short
@@ -63,7 +72,7 @@ fn malformed_rows() -> &'static str {
 32 - short
 32 00 no name
 32 0261 no flag
-32 006161616161616161616161616161616161616161616161616161616161616161ff 33 bytes
+32 006162636465666768696a6b6c6d6e6f707172737475767778797a6162636465c3a9 33 bytes, 32 characters
 32 00ff no UTF-8
 33 00 long
 34 00 id 0
@@ -93,38 +102,53 @@ fn malformed_rows() -> &'static str {
 67 010101030101 ids stay
 68 03030303030303 short
 68 030303030303030303 long
-68 0403030303030303 tier 4
-68 0303030303030304 tier 4
+68 0403030303030303 tier 4 at place 0
+68 0304030303030303 tier 4 at place 1
+68 0303040303030303 tier 4 at place 2
+68 0303030403030303 tier 4 at place 3
+68 0303030304030303 tier 4 at place 4
+68 0303030303040303 tier 4 at place 5
+68 0303030303030403 tier 4 at place 6
+68 0303030303030304 tier 4 at place 7
 69 - short
 69 0102 long"
 }
 
-fn digit(code: u8) -> u8
-    ensures { result < 16 }
+/// The value of a hexadecimal digit.
+fn digit(code: u8) -> Option<u8>
+    ensures { IfSome result (λ value. value < 16) }
 {
     match code {
-        b'0'..=b'9' => code - b'0',
-        b'a'..=b'f' => code - b'a' + 10,
-        _ => 0,
+        b'0'..=b'9' => Some(code - b'0'),
+        b'a'..=b'f' => Some(code - b'a' + 10),
+        _ => None,
     }
 }
 
-fn bytes_of(alloc: Global, hex: &str) -> Result<Vec<u8>, AllocError> {
+/// The bytes that a row writes in hexadecimal, none for a dash.
+fn bytes_of(alloc: Global, hex: &str) -> Result<Vec<u8>, Fail> {
     let mut bytes = Vec::new(alloc);
+    if hex == "-" {
+        return Ok(bytes);
+    }
     for pair in hex.as_bytes().chunks(2) {
-        if let [high, low] = pair {
-            bytes.push(16 * digit(*high) + digit(*low))?;
-        }
+        let (high, low) = match pair {
+            [high, low] => (digit(*high), digit(*low)),
+            _ => (None, None),
+        };
+        bytes.push(16 * high.ok_or("a digit")? + low.ok_or("a digit")?)?;
     }
     Ok(bytes)
 }
 
+/// The kind, the payload and the text of a row.
 fn parts(alloc: Global, line: &str) -> Result<(u8, Vec<u8>, &str), Fail> {
     let (kind, rest) = line.split_once(' ').ok_or("a kind")?;
     let (hex, text) = rest.split_once(' ').ok_or("a payload")?;
     Ok((kind.parse::<u8>()?, bytes_of(alloc, hex)?, text))
 }
 
+/// Reads the payload, copies the message, writes it again, and prints it.
 fn check_control(
     rt: &impl Abort,
     alloc: Global,
@@ -143,6 +167,7 @@ fn check_control(
     Ok(())
 }
 
+/// Reads the payload, copies the message, writes it again, and prints it.
 fn check_meta(
     rt: &impl Abort,
     alloc: Global,
@@ -229,6 +254,10 @@ fn texts(rt: HostRuntime) -> Result<(), Fail> {
     let text = Text::from_vec(vec![in rt.alloc(); 104, 105]?).ok_or("a text")?;
     assert_eq!(rt; text.copy()?.as_str(), "hi");
     assert!(rt; Text::from_vec(vec![in rt.alloc(); 255]?).is_none());
+    assert_eq!(rt;
+        Text::from_str(rt.alloc(), "hi")?.as_slice(),
+        [104, 105].as_slice()
+    );
     Ok(())
 }
 

@@ -1,5 +1,5 @@
-use Rattle.dp_frame.proofs.Splittings.{every_splitting_lem}
+use Rattle.dp_frame.proofs.Splittings.{some_splitting}
 use Rattle.dp_frame.proofs.laws.every_splitting.Goals as goal
 
 pub returns : goal.returns
-returns c = every_splitting_lem
+returns c = some_splitting

@@ -1,5 +1,5 @@
-use Rattle.dp_frame.proofs.Splittings.{one_splitting_lem}
+use Rattle.dp_frame.proofs.Splittings.{same_frames_and_rest}
 use Rattle.dp_frame.proofs.laws.one_splitting.Goals as goal
 
 pub returns : goal.returns
-returns c = one_splitting_lem
+returns c = same_frames_and_rest

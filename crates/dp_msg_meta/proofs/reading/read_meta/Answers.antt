@@ -1,12 +1,13 @@
 use Rattle.std.proofs.Common.{arith}
-use Rattle.dp_msg_meta.proofs.MessageLaws.{meta_found, meta_only, meta_refused}
+use Rattle.dp_msg_meta.proofs.MessageLaws.{meta_found, meta_only, meta_refused, meta_nothing}
 use Rattle.dp_msg_meta.proofs.reading.read_meta.Goals as goal
 
 pub returns-clause-found : goal.returns-clause-found
-returns-clause-found c = meta_found c.args.kind c.args.payload.now c.read.result (λ i. omega (arith, c.type_inv.payload i)) c.read.ensures
+returns-clause-found c = meta_found c.args.kind c.args.payload.now c.read.result (λ i. omega (arith, c.type_inv.payload i)) c.read.ensures.read
 
 pub returns-clause-only : goal.returns-clause-only
-returns-clause-only c = meta_only c.args.kind c.args.payload.now c.read.result c.read.ensures
+returns-clause-only c = meta_only c.args.kind c.args.payload.now c.read.result c.read.ensures.read
 
 pub returns-clause-malformed : goal.returns-clause-malformed
-returns-clause-malformed c = meta_refused c.args.kind c.args.payload.now c.read.result c.read.ensures
+returns-clause-malformed c =
+    (meta_refused c.args.kind c.args.payload.now c.read.result c.read.ensures.read, meta_nothing c.args.kind c.args.payload.now c.read.result (λ i. omega (arith, c.type_inv.payload i)) c.read.ensures.read)
