@@ -4,9 +4,7 @@ use Rattle.std.proofs.lemmas.List.Folds.{flat_map-map}
 use Rattle.std.proofs.lemmas.Grind.{flat_map-append}
 use Rattle.std.proofs.lemmas.List.{append_assoc, map-append, take_more_set}
 use Rattle.std.specs.List.{range_with_len, flat_map}
-use Rattle.dp_blend.specs.Color.{Channels, clear, white, to8}
-use Rattle.dp_blend.specs.Blending.{blend}
-use Rattle.dp_blend.specs.declared.modes.Mode.TheVariants.{Normal}
+use Rattle.dp_blend.specs.Color.{Channels, to8}
 use Rattle.dp_plain.specs.Board.{Layer, Board, below, canvas_of}
 use Rattle.dp_plain.specs.Picture.{picture_pixel, picture, rgb, p6, p6_head}
 use Rattle.dp_plain.specs.Places.{picture_at, bytes_from}

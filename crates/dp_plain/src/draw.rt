@@ -112,11 +112,7 @@ impl PlainBoard {
     fn can_create(&self, id: u16, parent: u16, group: bool) -> bool
         ensures { result ≡ can_create self.now id parent group }
     {
-        id != 0
-            && !self.has_layer(id)
-            && self.layers.len() < MAX_LAYERS
-            && parent == 0
-            && !group
+        id != 0 && !self.has_layer(id) && self.layers.len() < MAX_LAYERS && parent == 0 && !group
     }
 
     /// Puts a new layer last, with all its pixels clear, where it may be created.

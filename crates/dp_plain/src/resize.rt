@@ -88,11 +88,7 @@ fn moved_pixels(alloc: Global, pixels: &[Pixel], resize: Resize) -> Result<Vec<P
 }
 
 /// The layer on the new canvas.
-fn moved_layer(
-    alloc: Global,
-    layer: &PlainLayer,
-    resize: Resize,
-) -> Result<PlainLayer, AllocError>
+fn moved_layer(alloc: Global, layer: &PlainLayer, resize: Resize) -> Result<PlainLayer, AllocError>
     requires { Covers resize.width resize.height layer.now }
     ensures { IfOk result (λ moved. moved ≡ layer_resized resize layer.now) }
 {
