@@ -49,7 +49,8 @@ fn put_pixels<S: Sink>(layers: &[PlainLayer], places: usize, out: &mut S) -> Res
     requires { All (λ layer. length layer.pixels ≡ places) layers.now }
     ensures written { OnOk result
         (Appends (S.held out.old) (S.held out.new) (bytes_from layers.now 0 places)) }
-    ensures prefix { GrowsByPrefix (S.held out.old) (S.held out.new) (bytes_from layers.now 0 places) }
+    ensures prefix { GrowsByPrefix (S.held out.old) (S.held out.new)
+        (bytes_from layers.now 0 places) }
     ensures cause { HasCause (S.faults out.old) (S.faults out.new) result }
 {
     let mut buffer = [0; 3 * PIECE];
