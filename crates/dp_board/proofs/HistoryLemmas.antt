@@ -5,9 +5,14 @@ use Rattle.std.specs.List.{All}
 use Rattle.dp_board.specs.declared.act.Act.{Act}
 use Rattle.dp_board.specs.declared.act.Act.TheVariants.{Point, Undo, Redo, Draw, Other}
 use Rattle.dp_board.specs.declared.act.UserAct.{UserAct}
-use Rattle.dp_board.specs.Strokes.{Groups, no_groups, after_act, points_after, groups_from, groups, joined, is_group_drawn, flag_of, flags_from}
+use Rattle.dp_board.specs.Strokes.{Groups, no_groups, is_among, after_act, points_after, groups_from, groups, joined, is_group_drawn, flag_of, flags_from}
 use Rattle.dp_board.specs.declared.join.Join.{Join}
-use Rattle.dp_board.specs.History.{points_in, groups_of, AreGroupsAfter, TakesAct, join_of, join_in, joins_from, is_join_drawn, is_among, HaveDone}
+use Rattle.dp_board.specs.History.{groups_of, AreGroupsAfter, TakesAct, join_of, join_in, joins_from, is_join_drawn, HaveDone}
+
+-- how many Points there are behind a list of acts, from the number in front of it
+abbrev pub points_in : {Op : Type 0} → ℕ → List (UserAct Op) → ℕ
+points_in points [] = points
+points_in points (a ∷ rest) = points_in (points_after a.act points) rest
 
 -- one more act at the end of a list of acts
 pub groups_from-push : {Op : Type 0} → (depth user points : ℕ) (g : Groups) (xs : List (UserAct Op)) (a : UserAct Op) → groups_from depth user points g (xs ++ a ∷ []) ≡ after_act depth (points_in points xs) user a.user a.act (groups_from depth user points g xs)
@@ -60,7 +65,7 @@ joins_from-step depth xs i a users joins more join all inside is are small joine
 is_join_drawn-join_in : {Op : Type 0} → (depth : ℕ) (all : List (UserAct Op)) (users : List Groups) (done : List (List ℕ)) (user : ℕ) (group : Option ℕ) → AreGroupsAfter depth all users → HaveDone users done → user < 256 → is_join_drawn done (join_in user group) ≡ is_group_drawn (groups depth user all).done group
 is_join_drawn-join_in depth all users done user None are have small = refl
 is_join_drawn-join_in depth all users done user (Some group) are have small =
-    have user group small ∙ ap (λ g. is_among g.done group) (are user small)
+    have user small group ∙ ap (λ g. is_among g.done group) (are user small)
 
 -- what an act joined is drawn where the act is a command that is drawn
 is_join_drawn-join_of : {Op : Type 0} → (depth : ℕ) (all before : List (UserAct Op)) (users : List Groups) (done : List (List ℕ)) (user : ℕ) (act : Act Op) → AreGroupsAfter depth all users → HaveDone users done → user < 256 → is_join_drawn done (join_of user (groups depth user before) act) ≡ flag_of depth all before user act

@@ -43,4 +43,5 @@ map_commands f acts = map (map_user_act f) acts
 -- which acts are commands that are drawn does not depend on the commands
 abbrev pub CommandsDoNotCount : Type 0 → Type 0 → Type 0
 CommandsDoNotCount A B =
-    (f : A → B) (depth : ℕ) (acts : List (UserAct A)) → kept_flags depth (map_commands f acts) ≡ kept_flags depth acts
+    (f : A → B) (depth : ℕ) (acts : List (UserAct A))
+    → kept_flags depth (map_commands f acts) ≡ kept_flags depth acts

@@ -5,10 +5,22 @@ ghost use Rattle.dp_board.specs.Strokes.{kept_flags};
 ghost use Rattle.dp_board.specs.History.{is_join_drawn};
 
 use crate::act::UserAct;
-use crate::history::{History, is_drawn};
+use crate::history::History;
 use crate::join::Join;
 use crate::sorted::SortedGroups;
 use std::alloc::{AllocError, Global};
+
+/// What joined so is drawn, where `done` has the done groups of each user at the end.
+fn is_drawn(done: &[SortedGroups], join: Join) -> bool
+    requires { length done.now ≡ 256 }
+    ensures { result ≡ is_join_drawn done.now join }
+{
+    match join {
+        Join::NoCommand => false,
+        Join::GroupZero => true,
+        Join::InGroup { user, group } => done[usize::from(user)].contains(group),
+    }
+}
 
 /// Whether what each act joined is drawn, where `done` has the done groups of each user at the end.
 fn flags_of(alloc: Global, done: &[SortedGroups], joins: &[Join]) -> Result<Vec<bool>, AllocError>
@@ -23,8 +35,8 @@ fn flags_of(alloc: Global, done: &[SortedGroups], joins: &[Join]) -> Result<Vec<
 
 /// For each act whether it is a command that is drawn at the end: one of group 0, or of a group
 /// that is done then. A point is in reach of undo and redo while it is among the last `depth`
-/// points of all users. The time is in proportion to the number of acts, but for the sorting of
-/// each user's groups. The rule: docs/protocol.md, "Strokes, undo and redo".
+/// points of all users. At one depth the time is in proportion to the number of acts, but for the
+/// sorting of each user's groups. The rule: docs/protocol.md, "Strokes, undo and redo".
 ///
 /// The only error is want of memory.
 pub fn kept<Op>(alloc: Global, depth: u32, acts: &[UserAct<Op>]) -> Result<Vec<bool>, AllocError>

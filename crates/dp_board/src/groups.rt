@@ -1,15 +1,15 @@
 //! The groups of one user.
 
-ghost use Rattle.std.specs.Prelude.{◌≡◌, ℕ, ◌+◌, ◌<◌, [], ◌∷◌, ◌++◌, length, position, OnOk, IfOk, IfSome};
+ghost use Rattle.std.specs.Prelude.{◌≡◌, ◌<◌, length, position, OnOk, IfOk, IfSome};
 ghost use Rattle.dp_board.specs.Strokes.{is_eligible};
-ghost use Rattle.dp_board.specs.History.{is_among};
+ghost use Rattle.dp_board.specs.History.{HaveSame};
 
 use crate::sorted::SortedGroups;
 use std::alloc::{AllocError, Global};
 use std::marker::Model;
 
 /// Whether the group's point is among the last `depth` of the `points` points so far.
-pub(crate) fn is_eligible(depth: u32, points: usize, group: usize) -> bool
+fn is_eligible(depth: u32, points: usize, group: usize) -> bool
     ensures { result ≡ is_eligible depth points group }
 {
     points.saturating_sub(group) <= depth as usize
@@ -32,7 +32,8 @@ impl Model for UserGroups {
 }
 
 impl UserGroups {
-    ghost use Rattle.dp_board.specs.Strokes.{no_groups, last_of, undo, redo};
+    ghost use Rattle.dp_board.specs.Strokes.{no_groups, last_of, open_group, clear_undone};
+    ghost use Rattle.dp_board.specs.Strokes.{undo, redo};
 
     pub(crate) fn new(alloc: Global) -> Self
         ensures { result ≡ no_groups }
@@ -52,7 +53,7 @@ impl UserGroups {
 
     /// Opens a group.
     pub(crate) fn open(&mut self, group: usize) -> Result<(), AllocError>
-        ensures { OnOk result (self.new ≡ record { done = self.old.done ++ group ∷ []; undone = [] }) }
+        ensures { OnOk result (self.new ≡ open_group group self.old) }
     {
         self.done.push(group)?;
         self.clear_undone();
@@ -61,7 +62,7 @@ impl UserGroups {
 
     /// Forgets the undone groups.
     pub(crate) fn clear_undone(&mut self)
-        ensures { self.new ≡ record { done = self.old.done; undone = [] } }
+        ensures { self.new ≡ clear_undone self.old }
     {
         self.undone.clear();
     }
@@ -102,7 +103,7 @@ impl UserGroups {
 
     /// The done groups, to look them up.
     pub(crate) fn sorted_done(&self, alloc: Global) -> Result<SortedGroups, AllocError>
-        ensures { IfOk result (λ sorted. (group : ℕ) → is_among sorted group ≡ is_among self.now.done group) }
+        ensures { IfOk result (λ sorted. HaveSame sorted self.now.done) }
     {
         SortedGroups::new(alloc, &self.done)
     }

@@ -1,10 +1,11 @@
 //! The groups of all users as a history is read.
 
-ghost use Rattle.std.specs.Prelude.{◌≡◌, ℕ, ◌+◌, ◌<◌, ◌^◌, [], length, OnOk, IfOk};
+ghost use Rattle.std.specs.Prelude.{◌≡◌, ◌+◌, ◌<◌, ◌^◌, [], OnOk, IfOk};
 ghost use Rattle.std.specs.Vec.{vec_len};
 ghost use Rattle.std.specs.List.{All};
-ghost use Rattle.dp_board.specs.Strokes.{no_groups, points_after};
-ghost use Rattle.dp_board.specs.History.{groups_of, TakesAct, AreGroupsAfter, HaveDone, join_of, joins_from, is_join_drawn};
+ghost use Rattle.dp_board.specs.Strokes.{points_after};
+ghost use Rattle.dp_board.specs.History.{groups_of, HaveNoGroups, AreGroupsAfter, HaveDone};
+ghost use Rattle.dp_board.specs.History.{TakesAct, join_of, joins_from};
 
 use crate::act::{Act, UserAct};
 use crate::groups::UserGroups;
@@ -27,7 +28,7 @@ pub(crate) struct History {
 /// `count` users without groups.
 fn without_groups(alloc: Global, count: usize) -> Result<Vec<UserGroups>, AllocError>
     ensures count { IfOk result (λ users. vec_len users ≡ count) }
-    ensures empty { IfOk result (λ users. (user : ℕ) → groups_of users.items user ≡ no_groups) }
+    ensures empty { IfOk result (λ users. HaveNoGroups users.items) }
 {
     let mut users = Vec::with_capacity(alloc, count)?;
     for _ in 0..count {
@@ -38,10 +39,10 @@ fn without_groups(alloc: Global, count: usize) -> Result<Vec<UserGroups>, AllocE
 
 impl History {
     /// The history of no act.
-    pub(crate) fn new(alloc: Global, depth: u32) -> Result<Self, AllocError>
+    fn new(alloc: Global, depth: u32) -> Result<Self, AllocError>
         ensures depth { IfOk result (λ history. history.depth ≡ depth) }
         ensures points { IfOk result (λ history. history.points ≡ 0) }
-        ensures empty { IfOk result (λ history. (user : ℕ) → groups_of history.users.items user ≡ no_groups) }
+        ensures empty { IfOk result (λ history. HaveNoGroups history.users.items) }
     {
         Ok(History {
             depth,
@@ -51,11 +52,12 @@ impl History {
     }
 
     /// Adds an act.
-    pub(crate) fn take<Op>(&mut self, act: &UserAct<Op>) -> Result<(), AllocError>
+    fn take<Op>(&mut self, act: &UserAct<Op>) -> Result<(), AllocError>
         requires { self.old.points + 1 < 2 ^ 64 }
         ensures depth { OnOk result (self.new.depth ≡ self.old.depth) }
         ensures points { OnOk result (self.new.points ≡ points_after act.now.act self.old.points) }
-        ensures users { OnOk result (TakesAct self.old.depth self.old.points act.now self.old.users.items self.new.users.items) }
+        ensures users { OnOk result (TakesAct self.old.depth self.old.points act.now
+            self.old.users.items self.new.users.items) }
     {
         let user = usize::from(act.user);
         match &act.act {
@@ -72,9 +74,10 @@ impl History {
     }
 
     /// What an act that comes next joins.
-    pub(crate) fn join_of<Op>(&self, act: &UserAct<Op>) -> Join
+    fn join_of<Op>(&self, act: &UserAct<Op>) -> Join
         ensures user { act.now.user < 256 }
-        ensures value { result ≡ join_of act.now.user (groups_of self.now.users.items act.now.user) act.now.act }
+        ensures value { let user = act.now.user in
+            result ≡ join_of user (groups_of self.now.users.items user) act.now.act }
     {
         let user = act.user;
         if !matches!(act.act, Act::Draw(_)) {
@@ -115,17 +118,5 @@ impl History {
             done.push(user.sorted_done(alloc)?)?;
         }
         Ok(done)
-    }
-}
-
-/// Whether what joined so is drawn, where `done` has the done groups of each user at the end.
-pub(crate) fn is_drawn(done: &[SortedGroups], join: Join) -> bool
-    requires { length done.now ≡ 256 }
-    ensures { result ≡ is_join_drawn done.now join }
-{
-    match join {
-        Join::NoCommand => false,
-        Join::GroupZero => true,
-        Join::InGroup { user, group } => done[usize::from(user)].contains(group),
     }
 }

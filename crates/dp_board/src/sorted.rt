@@ -3,7 +3,8 @@
 ghost use Rattle.std.specs.Prelude.{◌≡◌, ℕ, List, IfOk};
 ghost use Rattle.std.specs.List.Sorted.{IsSorted};
 ghost use Rattle.std.specs.Ordering.{nat_cmp};
-ghost use Rattle.dp_board.specs.History.{is_among};
+ghost use Rattle.dp_board.specs.Strokes.{is_among};
+ghost use Rattle.dp_board.specs.History.{HaveSame};
 
 use std::alloc::{AllocError, Global};
 use std::marker::Model;
@@ -25,7 +26,7 @@ impl Model for SortedGroups {
 impl SortedGroups {
     /// The same groups in ascending order.
     pub(crate) fn new(alloc: Global, groups: &[usize]) -> Result<Self, AllocError>
-        ensures { IfOk result (λ sorted. (group : ℕ) → is_among sorted group ≡ is_among groups.now group) }
+        ensures { IfOk result (λ sorted. HaveSame sorted groups.now) }
     {
         let mut groups = Vec::from_slice(alloc, groups)?;
         groups.sort_unstable();

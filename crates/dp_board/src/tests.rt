@@ -5,20 +5,27 @@ use std::alloc::{AllocError, Global};
 use std::process::Abort;
 use std::test::Fail;
 
-/// The acts of a script: a word is the user, the act (Point, Draw, Undo, Redo, Other) and the user
-/// of an Undo or a Redo. A Draw that is expected to be drawn ends in `+`.
-fn push_acts(acts: &mut Vec<UserAct<u8>>, script: &str) -> Result<(), AllocError> {
+/// The act of a word: its user, what it does (Point, Draw, Undo, Redo, Other) and the user of an
+/// Undo or a Redo. A Draw that is expected to be drawn ends in `+`.
+fn act_of(rt: &impl Abort, word: &str) -> UserAct<u8> {
+    let [user, kind, last] = word.as_bytes() else {
+        panic!(rt; "{word} has not three letters");
+    };
+    let act = match kind {
+        b'P' => Act::Point,
+        b'D' => Act::Draw(*last),
+        b'U' => Act::Undo { who: *last },
+        b'R' => Act::Redo { who: *last },
+        b'O' => Act::Other,
+        _ => panic!(rt; "{word} does nothing known"),
+    };
+    UserAct { user: *user, act }
+}
+
+/// Adds the acts of a script, which has a word for each.
+fn push_acts(rt: &impl Abort, acts: &mut Vec<UserAct<u8>>, script: &str) -> Result<(), AllocError> {
     for word in script.split_whitespace() {
-        if let [user, kind, last] = word.as_bytes() {
-            let act = match kind {
-                b'P' => Act::Point,
-                b'D' => Act::Draw(*last),
-                b'U' => Act::Undo { who: *last },
-                b'R' => Act::Redo { who: *last },
-                _ => Act::Other,
-            };
-            acts.push(UserAct { user: *user, act })?;
-        }
+        acts.push(act_of(rt, word))?;
     }
     Ok(())
 }
@@ -33,14 +40,14 @@ fn expected(alloc: Global, acts: &[UserAct<u8>]) -> Result<Vec<bool>, AllocError
 /// Checks a history of one script, points of user 2 and another script.
 fn check(rt: &impl Abort, alloc: Global, front: &str, points: u32, back: &str) -> Result<(), Fail> {
     let mut acts = Vec::new(alloc);
-    push_acts(&mut acts, front)?;
+    push_acts(rt, &mut acts, front)?;
     for _ in 0..points {
         acts.push(UserAct {
             user: b'2',
             act: Act::Point,
         })?;
     }
-    push_acts(&mut acts, back)?;
+    push_acts(rt, &mut acts, back)?;
     let flags = kept(alloc, 30, &acts)?;
     assert_eq!(rt;
         flags,
@@ -106,17 +113,22 @@ fn window(rt: HostRuntime) -> Result<(), Fail> {
     Ok(())
 }
 
-/// Ten thousand groups of ten commands. Every third is undone, and every second of these comes back.
+/// Ten thousand groups of ten commands. Every third is undone, and every second of these comes
+/// back.
 #[test]
 fn many(rt: HostRuntime) -> Result<(), Fail> {
     let mut acts = Vec::new(rt.alloc());
     for number in 0..10_000_u32 {
-        push_acts(&mut acts, "1P. 1D. 1D. 1D. 1D. 1D. 1D. 1D. 1D. 1D. 1D.")?;
+        push_acts(
+            &rt,
+            &mut acts,
+            "1P. 1D. 1D. 1D. 1D. 1D. 1D. 1D. 1D. 1D. 1D.",
+        )?;
         if number % 3 == 0 {
-            push_acts(&mut acts, "1U1")?;
+            push_acts(&rt, &mut acts, "1U1")?;
         }
         if number % 6 == 0 {
-            push_acts(&mut acts, "1R1")?;
+            push_acts(&rt, &mut acts, "1R1")?;
         }
     }
     let flags = kept(rt.alloc(), 30, &acts)?;

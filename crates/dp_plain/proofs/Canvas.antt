@@ -1,5 +1,5 @@
 -- A canvas by its places: its length, the pixel at a place, and what lists of its length are equal to it.
-use Rattle.std.proofs.Common.{◌≡◌, ℕ, ◌+◌, ◌*◌, ◌/◌, ◌%◌, ◌<◌, List, [], ◌∷◌, ◌++◌, length, get_or, map, suc, zero, refl, sym, ◌∙◌, ap, arith, length-append, add-one}
+use Rattle.std.proofs.Common.{◌≡◌, ℕ, ◌+◌, ◌*◌, ◌/◌, ◌%◌, ◌<◌, List, [], ◌∷◌, ◌++◌, length, get_or, map, suc, zero, sym, ◌∙◌, ap, arith, length-append, add-one}
 use Rattle.std.proofs.lemmas.List.{ext_get_or, get_or_append_left, get_or-append-add, append_assoc, append-nil}
 use Rattle.std.proofs.lemmas.List.FromFn.{length-map-range_with_len, get_or-map-range_with_len, map-range_with_len_more}
 use Rattle.std.proofs.lemmas.Nat.{div-add-mod', div_below, mod_below}
@@ -90,10 +90,6 @@ pub canvas_of-same : (w h : ℕ) (f g : ℕ → ℕ → Channels) → ((x y : �
 canvas_of-same w h f g same =
     is_canvas_of w h g (canvas_of w h f) (length-canvas_of w h f)
     (λ x y in_x in_y. pixel_at-canvas_of w h f x y in_x in_y ∙ same x y in_x in_y)
-
--- a canvas of no row
-pub canvas_of-none : (w : ℕ) (f : ℕ → ℕ → Channels) → canvas_of w 0 f ≡ []
-canvas_of-none w f = refl
 
 -- a canvas of one more row
 pub canvas_of-more : (w h : ℕ) (f : ℕ → ℕ → Channels) → canvas_of w (h + 1) f ≡ canvas_of w h f ++ map (λ x. f x h) (below w)

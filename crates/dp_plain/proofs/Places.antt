@@ -4,12 +4,10 @@ use Rattle.std.proofs.lemmas.List.Folds.{flat_map-map}
 use Rattle.std.proofs.lemmas.Grind.{flat_map-append}
 use Rattle.std.proofs.lemmas.List.{append_assoc, map-append, take_more_set}
 use Rattle.std.specs.List.{range_with_len, flat_map}
-use Rattle.dp_blend.specs.Color.{Channels, clear, white, to8}
-use Rattle.dp_blend.specs.Blending.{blend}
-use Rattle.dp_blend.specs.declared.modes.Mode.TheVariants.{Normal}
-use Rattle.dp_plain.specs.Board.{Row, Board, below, canvas_of}
-use Rattle.dp_plain.specs.Picture.{composed, picture_pixel, picture, rgb, p6, p6_head}
-use Rattle.dp_plain.specs.Places.{composed_at, picture_at, bytes_from}
+use Rattle.dp_blend.specs.Color.{Channels, to8}
+use Rattle.dp_plain.specs.Board.{Layer, Board, below, canvas_of}
+use Rattle.dp_plain.specs.Picture.{picture_pixel, picture, rgb, p6, p6_head}
+use Rattle.dp_plain.specs.Places.{picture_at, bytes_from}
 
 -- ---- numbers in order
 
@@ -61,33 +59,28 @@ canvas_of-places f g w h same =
     let start : 0 * w ≡ 0 = omega arith in
     rw start at (rows_are f g w same 0 h)
 
-composed_is : (w : ℕ) (rows : List Row) (x y : ℕ) (under : Channels) → composed w rows x y under ≡ composed_at rows (y * w + x) under
-composed_is w [] x y under = refl
-composed_is w (row ∷ rows) x y under = composed_is w rows x y (blend Normal (get_or row.pixels (y * w + x) clear) under)
-
 -- the text of the picture, by its places
-pub p6_is : (board : Board) → p6 board ≡ p6_head board.width board.height ++ bytes_from board.rows 0 (board.width * board.height)
+pub p6_is : (board : Board) → p6 board ≡ p6_head board.width board.height ++ bytes_from board.layers 0 (board.width * board.height)
 p6_is board =
-    let places : picture board ≡ map (picture_at board.rows) (range_with_len 0 (board.width * board.height)) =
-    canvas_of-places (picture_pixel board) (picture_at board.rows) board.width board.height
-    (λ x y. ap (λ p. blend Normal p white) (composed_is board.width board.rows x y clear)) in
+    let places : picture board ≡ map (picture_at board.layers) (range_with_len 0 (board.width * board.height)) =
+    canvas_of-places (picture_pixel board) (picture_at board.layers) board.width board.height (λ x y. refl) in
     ap (λ pixels. p6_head board.width board.height ++ flat_map rgb pixels) places
     ∙ ap (λ bytes. p6_head board.width board.height ++ bytes)
-    (flat_map-map rgb (picture_at board.rows) (range_with_len 0 (board.width * board.height)))
+    (flat_map-map rgb (picture_at board.layers) (range_with_len 0 (board.width * board.height)))
 
 -- ---- bytes in pieces
 
 -- two pieces, one behind the other
-pub bytes_from-add : (rows : List Row) (from m n : ℕ) → bytes_from rows from (m + n) ≡ bytes_from rows from m ++ bytes_from rows (from + m) n
-bytes_from-add rows from m n =
-    let bytes_of = λ (place : ℕ). rgb (picture_at rows place) in
+pub bytes_from-add : (layers : List Layer) (from m n : ℕ) → bytes_from layers from (m + n) ≡ bytes_from layers from m ++ bytes_from layers (from + m) n
+bytes_from-add layers from m n =
+    let bytes_of = λ (place : ℕ). rgb (picture_at layers place) in
     ap (flat_map bytes_of) (range_split from m n) ∙ flat_map-append bytes_of (range_with_len from m) (range_with_len (from + m) n)
 
 -- the first places and the piece behind them
-pub bytes_more : (rows : List Row) (m n : ℕ) → bytes_from rows 0 (m + n) ≡ bytes_from rows 0 m ++ bytes_from rows m n
-bytes_more rows m n =
+pub bytes_more : (layers : List Layer) (m n : ℕ) → bytes_from layers 0 (m + n) ≡ bytes_from layers 0 m ++ bytes_from layers m n
+bytes_more layers m n =
     let behind : 0 + m ≡ m = omega arith in
-    rw behind at (bytes_from-add rows 0 m n)
+    rw behind at (bytes_from-add layers 0 m n)
 
 -- ---- a piece as it is filled
 
@@ -109,14 +102,14 @@ three_more xs n m r g b behind room =
     ∙ append_assoc (take n xs ++ (r ∷ [])) (g ∷ []) (b ∷ []) ∙ append_assoc (take n xs) (r ∷ []) (g ∷ b ∷ [])
 
 -- one more pixel stands in the piece
-pub pixel_more : (rows : List Row) (from k : ℕ) (piece bytes : List ℕ) → 3 * k + 3 ≤ length piece → take (3 * k) piece ≡ bytes_from rows from k
-    → bytes ≡ rgb (picture_at rows (from + k))
+pub pixel_more : (layers : List Layer) (from k : ℕ) (piece bytes : List ℕ) → 3 * k + 3 ≤ length piece → take (3 * k) piece ≡ bytes_from layers from k
+    → bytes ≡ rgb (picture_at layers (from + k))
     → take (3 * (k + 1)) (set (set (set piece (3 * k) (get_or bytes 0 0)) (3 * k + 1) (get_or bytes 1 0)) (3 * k + 2) (get_or bytes 2 0))
-    ≡ bytes_from rows from (k + 1)
-pixel_more rows from k piece bytes room before made =
-    let pixel = picture_at rows (from + k) in
+    ≡ bytes_from layers from (k + 1)
+pixel_more layers from k piece bytes room before made =
+    let pixel = picture_at layers (from + k) in
     let Done : List ℕ → Type 0 = λ bs.
-    take (3 * (k + 1)) (set (set (set piece (3 * k) (get_or bs 0 0)) (3 * k + 1) (get_or bs 1 0)) (3 * k + 2) (get_or bs 2 0)) ≡ bytes_from rows from (k + 1) in
+    take (3 * (k + 1)) (set (set (set piece (3 * k) (get_or bs 0 0)) (3 * k + 1) (get_or bs 1 0)) (3 * k + 2) (get_or bs 2 0)) ≡ bytes_from layers from (k + 1) in
     subst Done (sym made) (
     three_more piece (3 * k) (3 * (k + 1)) (to8 pixel.r) (to8 pixel.g) (to8 pixel.b) (omega arith) room
-    ∙ ap (λ l. l ++ rgb pixel) before ∙ sym (bytes_from-add rows from k 1))
+    ∙ ap (λ l. l ++ rgb pixel) before ∙ sym (bytes_from-add layers from k 1))

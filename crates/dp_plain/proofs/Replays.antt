@@ -6,19 +6,14 @@ use Rattle.dp_msg_draw.specs.declared.draw.Draw.{Draw}
 use Rattle.dp_messages.specs.declared.message.Entry.{Entry}
 use Rattle.dp_board.specs.declared.act.UserAct.{UserAct}
 use Rattle.dp_board.specs.Strokes.{flags_from, kept_flags}
-use Rattle.dp_board.specs.Commands.{commands, command_of, map_commands, CommandsDoNotCount}
+use Rattle.dp_board.specs.Commands.{commands, map_commands, CommandsDoNotCount}
 use Rattle.dp_plain.specs.Board.{Board, empty_board}
-use Rattle.dp_plain.specs.Drawing.{draw, draw_all}
+use Rattle.dp_plain.specs.Drawing.{draw_all}
 use Rattle.dp_plain.specs.Replay.{act_of, undo_depth, shown}
 use Rattle.dp_plain.specs.Kinds.{kind_of_entry}
 
--- commands drawn after others
-pub draw_all-append : (board : Board) (xs ys : List Draw) → draw_all board (xs ++ ys) ≡ draw_all (draw_all board xs) ys
-draw_all-append board [] ys = refl
-draw_all-append board (x ∷ xs) ys = draw_all-append (draw board x) xs ys
-
 -- the kinds of entries are their acts, with nothing in place of their commands
-pub kinds_are_acts : (entries : List Entry) → map kind_of_entry entries ≡ map_commands (λ (command : Draw). tt) (map act_of entries)
+kinds_are_acts : (entries : List Entry) → map kind_of_entry entries ≡ map_commands (λ (command : Draw). tt) (map act_of entries)
 kinds_are_acts [] = refl
 kinds_are_acts (entry ∷ entries) = ap (λ (acts : List (UserAct (Unit {0}))). kind_of_entry entry ∷ acts) (kinds_are_acts entries)
 
@@ -27,15 +22,8 @@ flags_each : {Op : Type 0} (depth : ℕ) (all before rest : List (UserAct Op)) �
 flags_each depth all before [] = refl
 flags_each depth all before (a ∷ rest) = ap suc (flags_each depth all (before ++ a ∷ []) rest)
 
-pub length-kept_flags : {Op : Type 0} (depth : ℕ) (acts : List (UserAct Op)) → length (kept_flags depth acts) ≡ length acts
+length-kept_flags : {Op : Type 0} (depth : ℕ) (acts : List (UserAct Op)) → length (kept_flags depth acts) ≡ length acts
 length-kept_flags depth acts = flags_each depth acts [] acts
-
--- what is left to draw at an entry: its command, and then what is left behind it
-pub draw_all-commands : (board : Board) (entry : Entry) (entries : List Entry) (flag : Bool) (flags : List Bool) →
-    draw_all board (commands (map act_of (entry ∷ entries)) (flag ∷ flags))
-    ≡ draw_all (draw_all board (command_of (act_of entry).act flag)) (commands (map act_of entries) flags)
-draw_all-commands board entry entries flag flags =
-    draw_all-append board (command_of (act_of entry).act flag) (commands (map act_of entries) flags)
 
 -- the flags of the kinds of entries are those of their acts
 pub flags_of_acts : CommandsDoNotCount Draw (Unit {0}) → (depth : ℕ) (entries : List Entry) (kinds : List (UserAct (Unit {0}))) (flags : List Bool) →

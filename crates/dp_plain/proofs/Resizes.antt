@@ -3,8 +3,8 @@ use Rattle.std.proofs.Common.{◌≡◌, ℕ, ◌≤◌, List, map, cond, Bool, 
 use Rattle.std.specs.Prelude.{ℤ, pos, negsuc, ◌+ℤ◌, nat_le, nat_lt, nat_eq, not, length, ◌<◌}
 use Rattle.std.proofs.lemmas.Bool.{and_left, and_right, and_parts, false_from_ne_true, cond-true, cond-false, leb-true, ltb-true}
 use Rattle.std.proofs.lemmas.Option.{cond_some, none-some}
-use Rattle.dp_plain.specs.Board.{Row, Board}
-use Rattle.dp_plain.specs.Drawing.{is_side, side, pixels_moved, with_pixels, resized, can_create}
+use Rattle.dp_plain.specs.Board.{Layer, Board}
+use Rattle.dp_plain.specs.Drawing.{is_side, side, layer_moved, resized, can_create}
 
 -- the length of a side, where the whole number is one
 abbrev pub side_if : ℤ → Option ℕ
@@ -22,14 +22,14 @@ side_fits (pos n) m found =
 side_fits (negsuc n) m found = absurd (none-some m (sym found))
 
 -- with both sides the board is resized
-pub resized_to : (board : Board) (top right bottom left : ℤ) (width height : ℕ) (rows : List Row)
+pub resized_to : (board : Board) (top right bottom left : ℤ) (width height : ℕ) (layers : List Layer)
     → Some width ≡ side_if (pos board.width +ℤ left +ℤ right) → Some height ≡ side_if (pos board.height +ℤ top +ℤ bottom)
-    → rows ≡ map (λ (row : Row). with_pixels row (pixels_moved board.width board.height row.pixels width height left top)) board.rows
-    → record { width = width; height = height; rows = rows } ≡ resized board top right bottom left
-resized_to board top right bottom left width height rows is_width is_height is =
+    → layers ≡ map (layer_moved board.width board.height width height left top) board.layers
+    → record { width = width; height = height; layers = layers } ≡ resized board top right bottom left
+resized_to board top right bottom left width height layers is_width is_height is =
     let w = cond_some (is_side (pos board.width +ℤ left +ℤ right)) (side (pos board.width +ℤ left +ℤ right)) width (sym is_width) in
     let h = cond_some (is_side (pos board.height +ℤ top +ℤ bottom)) (side (pos board.height +ℤ top +ℤ bottom)) height (sym is_height) in
-    rw (w.0, h.0, w.1, h.1) (ap (λ (rs : List Row). record { width = width; height = height; rows = rs }) is)
+    rw (w.0, h.0, w.1, h.1) (ap (λ (ls : List Layer). record { width = width; height = height; layers = ls }) is)
 
 -- with one that is no side it stays
 pub resized_not : (board : Board) (top right bottom left : ℤ)
@@ -44,9 +44,9 @@ resized_not board top right bottom left none =
     sym (cond-false (is_side width && is_side height) _ board test)
 
 -- where a layer may be created, fewer than 256 stand
-pub few_from_can_create : (board : Board) (id parent : ℕ) (group : Bool) → can_create board id parent group ≡ true → length board.rows < 256
+pub few_from_can_create : (board : Board) (id parent : ℕ) (group : Bool) → can_create board id parent group ≡ true → length board.layers < 256
 few_from_can_create board id parent group can =
     let front = and_parts _ (not group) can in
     let places = and_parts _ (nat_eq parent 0) front.0 in
-    let fronts = and_parts _ (nat_lt (length board.rows) 256) places.0 in
-    ltb-true (length board.rows) 256 fronts.1
+    let fronts = and_parts _ (nat_lt (length board.layers) 256) places.0 in
+    ltb-true (length board.layers) 256 fronts.1

@@ -1,9 +1,9 @@
 -- What entries do to strokes, without their commands.
 use Rattle.dp_messages.specs.declared.message.Entry.{Entry}
 use Rattle.dp_board.specs.declared.act.UserAct.{UserAct}
-use Rattle.dp_board.specs.Commands.{map_act}
+use Rattle.dp_board.specs.Commands.{map_user_act}
 use Rattle.dp_plain.specs.Replay.{act_of}
 
 -- what an entry does to strokes, with nothing in place of its command
 abbrev pub kind_of_entry : Entry → UserAct (Unit {0})
-kind_of_entry entry = record { user = (act_of entry).user; act = map_act (λ _. tt) (act_of entry).act }
+kind_of_entry entry = map_user_act (λ _. tt) (act_of entry)

@@ -1,19 +1,20 @@
 -- The picture of a board, and its text.
 use Rattle.std.specs.Prelude.{ℕ, List, [], ◌∷◌, ◌++◌, codes, decimal}
-use Rattle.std.specs.List.{flat_map}
+use Rattle.std.specs.List.{flat_map, fold}
 use Rattle.dp_blend.specs.Color.{Channels, clear, white, to8}
 use Rattle.dp_blend.specs.Blending.{blend}
 use Rattle.dp_blend.specs.declared.modes.Mode.TheVariants.{Normal}
-use Rattle.dp_plain.specs.Board.{Row, Board, canvas_of, pixel_at}
+use Rattle.dp_plain.specs.Board.{Layer, Board, canvas_of, pixel_at}
 
--- the layers at a place, from the bottom one up, each blended on what stands so far
-abbrev pub composed : ℕ → List Row → ℕ → ℕ → Channels → Channels
-composed width [] x y under = under
-composed width (row ∷ rows) x y under = composed width rows x y (blend Normal (pixel_at width row.pixels x y) under)
+-- the layers at a place, from the bottom one up, each blended on those below it, on a clear pixel
+abbrev pub composed : ℕ → List Layer → ℕ → ℕ → Channels
+composed width layers x y =
+    fold (λ under (layer : Layer). blend Normal (pixel_at width layer.pixels x y) under)
+    clear layers
 
--- the picture's pixel: the layers over a clear background, blended on white
+-- the picture's pixel: what the layers make at its place, blended on white
 abbrev pub picture_pixel : Board → ℕ → ℕ → Channels
-picture_pixel board x y = blend Normal (composed board.width board.rows x y clear) white
+picture_pixel board x y = blend Normal (composed board.width board.layers x y) white
 
 -- the picture, row by row
 abbrev pub picture : Board → List Channels
@@ -25,7 +26,8 @@ rgb p = to8 p.r ∷ to8 p.g ∷ to8 p.b ∷ []
 
 -- the head of a P6 picture: its format, its sides and its greatest value, a line each
 abbrev pub p6_head : ℕ → ℕ → List ℕ
-p6_head width height = codes "P6\n" ++ decimal width ++ codes " " ++ decimal height ++ codes "\n255\n"
+p6_head width height =
+    codes "P6\n" ++ decimal width ++ codes " " ++ decimal height ++ codes "\n255\n"
 
 -- the text of the picture: three bytes a pixel behind the head
 abbrev pub p6 : Board → List ℕ

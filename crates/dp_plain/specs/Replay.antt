@@ -34,7 +34,7 @@ undo_depth = 30
 abbrev pub replay : List Entry → Board
 replay entries = draw_all empty_board (drawn undo_depth (map act_of entries))
 
--- What a history shows: the replay of its entries behind the last mark of a reset. No such mark is built yet, so
--- these are all its entries.
+-- What a history shows: the replay of its entries behind the last mark of a reset. No such mark is
+-- built yet, so these are all its entries.
 abbrev pub shown : List Entry → Board
 shown entries = replay entries

@@ -1,4 +1,5 @@
-// The board, kept as a plain list of pixels for each layer.
+//! The board, kept as a plain list of pixels for each layer.
+
 ghost use Rattle.std.specs.Prelude.{◌≡◌};
 ghost use Rattle.dp_plain.specs.Board.{empty_board};
 
@@ -9,18 +10,18 @@ use std::marker::Model;
 
 /// A layer: its id, its title, and its pixels, row by row from the top, each from the left.
 #[derive(Debug, Drop)]
-pub struct PlainRow {
+pub(crate) struct PlainLayer {
     pub id: u16,
     pub title: Title,
     pub pixels: Vec<Pixel>,
 }
 
-impl Model for PlainRow {
-    ghost use Rattle.dp_plain.specs.Board.{Row};
+impl Model for PlainLayer {
+    ghost use Rattle.dp_plain.specs.Board.{Layer};
 
-    ghost Value = { Row };
+    ghost Value = { Layer };
 
-    ghost view = { λ r. record { id = r.id; title = r.title; pixels = r.pixels.items } };
+    ghost view = { λ l. record { id = l.id; title = l.title; pixels = l.pixels.items } };
 }
 
 /// The canvas with its layers, the bottom one first. It is seen as a `Board`; its sides are at most
@@ -29,7 +30,7 @@ impl Model for PlainRow {
 pub struct PlainBoard {
     pub(crate) width: u32,
     pub(crate) height: u32,
-    pub(crate) rows: Vec<PlainRow>,
+    pub(crate) layers: Vec<PlainLayer>,
 }
 
 impl Model for PlainBoard {
@@ -37,9 +38,10 @@ impl Model for PlainBoard {
 
     ghost Value = { Board };
 
-    ghost view = { λ b. record { width = b.width; height = b.height; rows = b.rows.items } };
+    ghost view = { λ b. record { width = b.width; height = b.height; layers = b.layers.items } };
 
-    ghost invariant = { λ b. IsWhole (record { width = b.width; height = b.height; rows = b.rows.items }) };
+    ghost invariant = { λ b.
+        IsWhole (record { width = b.width; height = b.height; layers = b.layers.items }) };
 }
 
 impl PlainBoard {
@@ -50,7 +52,7 @@ impl PlainBoard {
         PlainBoard {
             width: 0,
             height: 0,
-            rows: Vec::new(alloc),
+            layers: Vec::new(alloc),
         }
     }
 

@@ -1,14 +1,16 @@
-// The drawing commands, each on the whole board.
-ghost use Rattle.std.specs.Prelude.{◌≡◌, ◌*◌, ◌≤◌, false, length, map, All, IfOk, OnOk, OnErr, IsOk};
+//! The drawing commands, each on the whole board.
+
+ghost use Rattle.std.specs.Prelude.{◌≡◌, ◌≤◌, false, IfOk, OnOk, OnErr, IsOk};
 ghost use Rattle.dp_blend.specs.Color.{clear};
 ghost use Rattle.dp_blend.specs.Blending.{mode_numbered};
 ghost use Rattle.dp_plain.specs.Board.{canvas_of};
 ghost use Rattle.dp_plain.specs.Drawing.{draw, resized, has_layer, can_create, created, filled};
 ghost use Rattle.dp_plain.specs.Memory.{takes_memory};
 
-use crate::board::{PlainBoard, PlainRow};
-use crate::fill::{Rectangle, Sides, fill_rows};
-use crate::resize::{Resize, moved_rows, new_side};
+use crate::board::{PlainBoard, PlainLayer};
+use crate::fill::fill_layers;
+use crate::geometry::{Rectangle, Resize, Sides};
+use crate::resize::{moved_layers, new_side};
 use dp_blend::{Mode, Pixel, of_argb};
 use dp_msg_draw::{Draw, Title};
 use std::alloc::{AllocError, Global};
@@ -26,12 +28,13 @@ fn clear_pixels(alloc: Global, width: usize, height: usize) -> Result<Vec<Pixel>
 }
 
 impl PlainBoard {
-    /// Draws the command on the board. A command that has no effect here, as one on a layer that is absent,
-    /// leaves the board as it is. The rule: docs/protocol.md, "The board".
+    /// Draws the command on the board. A command that has no effect here, as one on a layer that is
+    /// absent, leaves the board as it is. The rule: docs/protocol.md, "The board".
     ///
     /// # Errors
     ///
-    /// Where memory runs out. The board is then as it was. Only a new size and a new layer take memory.
+    /// Where memory runs out. The board is then as it was. Only a new size and a new layer take
+    /// memory.
     pub fn draw(&mut self, command: &Draw) -> Result<(), AllocError>
         ensures ok { OnOk result (self.new ≡ draw self.old command.now) }
         ensures err { OnErr result (self.new ≡ self.old) }
@@ -91,25 +94,25 @@ impl PlainBoard {
             left,
             top,
         };
-        let rows = moved_rows(*self.rows.allocator(), &self.rows, resize)?;
+        let layers = moved_layers(*self.layers.allocator(), &self.layers, resize)?;
         self.width = width;
         self.height = height;
-        self.rows = rows;
+        self.layers = layers;
         Ok(())
     }
 
     /// A layer of the id is present.
     fn has_layer(&self, id: u16) -> bool
-        ensures { result ≡ has_layer self.now.rows id }
+        ensures { result ≡ has_layer self.now.layers id }
     {
-        self.rows.iter().any(|row| row.id == id)
+        self.layers.iter().any(|layer| layer.id == id)
     }
 
     /// A layer may be created.
     fn can_create(&self, id: u16, parent: u16, group: bool) -> bool
         ensures { result ≡ can_create self.now id parent group }
     {
-        id != 0 && !self.has_layer(id) && self.rows.len() < MAX_LAYERS && parent == 0 && !group
+        id != 0 && !self.has_layer(id) && self.layers.len() < MAX_LAYERS && parent == 0 && !group
     }
 
     /// Puts a new layer last, with all its pixels clear, where it may be created.
@@ -122,27 +125,25 @@ impl PlainBoard {
         }
         let title = title.copy()?;
         let pixels = clear_pixels(
-            *self.rows.allocator(),
+            *self.layers.allocator(),
             self.width as usize,
             self.height as usize,
         )?;
-        self.rows.push(PlainRow { id, title, pixels })?;
+        self.layers.push(PlainLayer { id, title, pixels })?;
         Ok(())
     }
 
     /// Fills the rectangle on the layer of this id, if the mode is one.
-    fn fill(&mut self, layer: u16, mode: u8, area: Rectangle, color: u32)
-        ensures { self.new ≡ filled self.old layer (mode_numbered mode) area.x area.y area.w area.h color }
+    fn fill(&mut self, id: u16, mode: u8, area: Rectangle, color: u32)
+        ensures { self.new
+            ≡ filled self.old id (mode_numbered mode) area.x area.y area.w area.h color }
     {
         let sides = Sides {
             width: self.width as usize,
             height: self.height as usize,
         };
         if let Some(mode) = Mode::from_u8(mode) {
-            fill_rows(&mut self.rows, sides, layer, mode, of_argb(color), area);
+            fill_layers(&mut self.layers, sides, id, mode, of_argb(color), area);
         }
     }
 }
-
-#[cfg(test)]
-mod tests;

@@ -1,27 +1,14 @@
-// A rectangle that is filled, in place.
-ghost use Rattle.std.specs.Prelude.{◌≡◌, ◌+◌, ◌*◌, ◌==◌, ℕ, map, length, All, if◌then◌else◌};
+//! A rectangle that is filled, in place.
+
+ghost use Rattle.std.specs.Prelude.{◌≡◌, ◌*◌, map, length, All};
 ghost use Rattle.dp_blend.specs.Blending.{blend};
-ghost use Rattle.dp_plain.specs.Board.{Row};
-ghost use Rattle.dp_plain.specs.Drawing.{pixels_filled, with_pixels};
+ghost use Rattle.dp_plain.specs.Board.{Covers};
+ghost use Rattle.dp_plain.specs.Drawing.{with_change};
+ghost use Rattle.dp_plain.specs.Filling.{area_filled};
 
-use crate::board::PlainRow;
+use crate::board::PlainLayer;
+use crate::geometry::{Rectangle, Sides};
 use dp_blend::{Mode, Pixel, blend};
-
-/// A rectangle of places: its left upper corner and its sides, in pixels.
-#[derive(Clone, Copy)]
-pub(crate) struct Rectangle {
-    pub x: u32,
-    pub y: u32,
-    pub w: u32,
-    pub h: u32,
-}
-
-/// The sides of a canvas, in pixels.
-#[derive(Clone, Copy)]
-pub(crate) struct Sides {
-    pub width: usize,
-    pub height: usize,
-}
 
 /// Blends the source with each pixel of the row.
 fn fill_row(row: &mut [Pixel], mode: Mode, source: Pixel)
@@ -35,7 +22,7 @@ fn fill_row(row: &mut [Pixel], mode: Mode, source: Pixel)
 /// Blends the source with each pixel of the rectangle, as far as it is on the canvas.
 fn fill_pixels(pixels: &mut [Pixel], sides: Sides, mode: Mode, source: Pixel, area: Rectangle)
     requires { length pixels.old ≡ sides.width * sides.height }
-    ensures { pixels.new ≡ pixels_filled sides.width sides.height pixels.old mode source area.x area.y area.w area.h }
+    ensures { pixels.new ≡ area_filled sides mode source area pixels.old }
 {
     let left = (area.x as usize).min(sides.width);
     let right = (area.x as usize + area.w as usize).min(sides.width);
@@ -49,38 +36,34 @@ fn fill_pixels(pixels: &mut [Pixel], sides: Sides, mode: Mode, source: Pixel, ar
 
 /// Fills the rectangle on the layer, where it has this id.
 fn fill_layer(
-    row: &mut PlainRow,
+    layer: &mut PlainLayer,
     sides: Sides,
-    layer: u16,
+    id: u16,
     mode: Mode,
     source: Pixel,
     area: Rectangle,
 )
-    requires { length row.old.pixels ≡ sides.width * sides.height }
-    ensures { row.new ≡ (if row.old.id == layer then
-        with_pixels row.old (pixels_filled sides.width sides.height row.old.pixels mode source area.x area.y area.w area.h)
-        else row.old) }
+    requires { Covers sides.width sides.height layer.old }
+    ensures { layer.new ≡ with_change id (area_filled sides mode source area) layer.old }
 {
-    if row.id == layer {
-        fill_pixels(&mut row.pixels, sides, mode, source, area);
+    if layer.id == id {
+        fill_pixels(&mut layer.pixels, sides, mode, source, area);
     }
 }
 
 /// Fills the rectangle on the layer of this id.
-pub(crate) fn fill_rows(
-    rows: &mut [PlainRow],
+pub(crate) fn fill_layers(
+    layers: &mut [PlainLayer],
     sides: Sides,
-    layer: u16,
+    id: u16,
     mode: Mode,
     source: Pixel,
     area: Rectangle,
 )
-    requires { All (λ (row : Row). length row.pixels ≡ sides.width * sides.height) rows.old }
-    ensures { rows.new ≡ map (λ (row : Row). if row.id == layer then
-        with_pixels row (pixels_filled sides.width sides.height row.pixels mode source area.x area.y area.w area.h)
-        else row) rows.old }
+    requires { All (Covers sides.width sides.height) layers.old }
+    ensures { layers.new ≡ map (with_change id (area_filled sides mode source area)) layers.old }
 {
-    for row in rows.iter_mut() {
-        fill_layer(row, sides, layer, mode, source, area);
+    for layer in layers.iter_mut() {
+        fill_layer(layer, sides, id, mode, source, area);
     }
 }

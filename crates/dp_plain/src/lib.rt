@@ -4,9 +4,12 @@
 mod board;
 mod draw;
 mod fill;
+mod geometry;
 mod picture;
 mod replay;
 mod resize;
+#[cfg(test)]
+mod tests;
 
 pub use board::PlainBoard;
 pub use picture::plain_p6;

@@ -1,13 +1,13 @@
-// The picture of a board as the bytes of a P6 file.
+//! The picture of a board as the bytes of a P6 file.
+
 ghost use Rattle.std.specs.Prelude.{◌≡◌, ◌+◌, ◌*◌, ◌^◌, ◌<◌, ◌≤◌, length, All, OnOk};
 ghost use Rattle.std.specs.Io.KnownBytes.{Appends};
 ghost use Rattle.dp_io.specs.Faults.{HasCause};
 ghost use Rattle.dp_io.specs.Streams.{GrowsByPrefix};
-ghost use Rattle.dp_blend.specs.Color.{clear};
 ghost use Rattle.dp_plain.specs.Picture.{p6, p6_head, rgb};
 ghost use Rattle.dp_plain.specs.Places.{composed_at, picture_at, bytes_from};
 
-use crate::board::{PlainBoard, PlainRow};
+use crate::board::{PlainBoard, PlainLayer};
 use arrayvec::ArrayString;
 use dp_blend::{Mode, Pixel, blend, to8};
 use dp_io::{Failed, Sink, put_all};
@@ -27,7 +27,7 @@ pub fn plain_p6<S: Sink>(board: &PlainBoard, out: &mut S) -> Result<(), Failed>
     let head = head_of(board.width, board.height);
     put_all(out, head.as_bytes())?;
     let places = board.width as usize * board.height as usize;
-    put_pixels(&board.rows, places, out)
+    put_pixels(&board.layers, places, out)
 }
 
 /// The head of a picture of this width and height.
@@ -45,10 +45,12 @@ fn head_of(width: u32, height: u32) -> ArrayString<96>
 }
 
 /// Writes the bytes of all the picture's pixels, a piece of them at a time.
-fn put_pixels<S: Sink>(rows: &[PlainRow], places: usize, out: &mut S) -> Result<(), Failed>
-    requires { All (λ row. length row.pixels ≡ places) rows.now }
-    ensures written { OnOk result (Appends (S.held out.old) (S.held out.new) (bytes_from rows.now 0 places)) }
-    ensures prefix { GrowsByPrefix (S.held out.old) (S.held out.new) (bytes_from rows.now 0 places) }
+fn put_pixels<S: Sink>(layers: &[PlainLayer], places: usize, out: &mut S) -> Result<(), Failed>
+    requires { All (λ layer. length layer.pixels ≡ places) layers.now }
+    ensures written { OnOk result
+        (Appends (S.held out.old) (S.held out.new) (bytes_from layers.now 0 places)) }
+    ensures prefix { GrowsByPrefix (S.held out.old) (S.held out.new)
+        (bytes_from layers.now 0 places) }
     ensures cause { HasCause (S.faults out.old) (S.faults out.new) result }
 {
     let mut buffer = [0; 3 * PIECE];
@@ -56,7 +58,7 @@ fn put_pixels<S: Sink>(rows: &[PlainRow], places: usize, out: &mut S) -> Result<
     while from < places {
         let count = (places - from).min(PIECE);
         let piece = &mut buffer[..3 * count];
-        fill_piece(rows, from, count, piece);
+        fill_piece(layers, from, count, piece);
         put_all(out, piece)?;
         from += count;
     }
@@ -64,14 +66,14 @@ fn put_pixels<S: Sink>(rows: &[PlainRow], places: usize, out: &mut S) -> Result<
 }
 
 /// Fills the piece with the bytes of so many of the picture's pixels, from a place on.
-fn fill_piece(rows: &[PlainRow], from: usize, count: usize, piece: &mut [u8])
+fn fill_piece(layers: &[PlainLayer], from: usize, count: usize, piece: &mut [u8])
     requires room { length piece.old ≡ 3 * count }
-    requires within { All (λ row. from + count ≤ length row.pixels) rows.now }
+    requires within { All (λ layer. from + count ≤ length layer.pixels) layers.now }
     requires small { from + count < 2 ^ 64 }
-    ensures { piece.new ≡ bytes_from rows.now from count }
+    ensures { piece.new ≡ bytes_from layers.now from count }
 {
     for k in 0..count {
-        let [red, green, blue] = rgb_at(rows, from + k);
+        let [red, green, blue] = rgb_at(layers, from + k);
         piece[3 * k] = red;
         piece[3 * k + 1] = green;
         piece[3 * k + 2] = blue;
@@ -80,23 +82,23 @@ fn fill_piece(rows: &[PlainRow], from: usize, count: usize, piece: &mut [u8])
 
 /// The bytes of the picture's pixel at a place: red, green and blue.
 #[inline]
-fn rgb_at(rows: &[PlainRow], place: usize) -> [u8; 3]
-    requires { All (λ row. place < length row.pixels) rows.now }
-    ensures { result ≡ rgb (picture_at rows.now place) }
+fn rgb_at(layers: &[PlainLayer], place: usize) -> [u8; 3]
+    requires { All (λ layer. place < length layer.pixels) layers.now }
+    ensures { result ≡ rgb (picture_at layers.now place) }
 {
-    let pixel = blend(Mode::Normal, composed(rows, place), Pixel::WHITE);
+    let pixel = blend(Mode::Normal, composed(layers, place), Pixel::WHITE);
     [to8(pixel.r()), to8(pixel.g()), to8(pixel.b())]
 }
 
-/// The layers at a place over a clear background, each blended on those below it.
+/// The layers at a place, each blended on those below it, on a clear pixel.
 #[inline]
-fn composed(rows: &[PlainRow], place: usize) -> Pixel
-    requires { All (λ row. place < length row.pixels) rows.now }
-    ensures { result ≡ composed_at rows.now place clear }
+fn composed(layers: &[PlainLayer], place: usize) -> Pixel
+    requires { All (λ layer. place < length layer.pixels) layers.now }
+    ensures { result ≡ composed_at layers.now place }
 {
     let mut under = Pixel::CLEAR;
-    for row in rows {
-        under = blend(Mode::Normal, row.pixels[place], under);
+    for layer in layers {
+        under = blend(Mode::Normal, layer.pixels[place], under);
     }
     under
 }

@@ -36,6 +36,7 @@ fn kinds_of(alloc: Global, entries: &[Entry]) -> Result<Vec<UserAct<()>>, AllocE
     entries.iter().map(kind_of_entry).collect(alloc)
 }
 
+/// What an entry does to strokes, without its command.
 fn kind_of_entry(entry: &Entry) -> UserAct<()>
     ensures { result ≡ kind_of_entry entry.now }
 {
@@ -66,7 +67,8 @@ fn moved_user(sender: u8, target: u8) -> u8
 /// Draws the commands of the entries whose flags are true.
 fn draw_kept(alloc: Global, entries: &[Entry], flags: &[bool]) -> Result<PlainBoard, AllocError>
     requires { length flags.now ≡ length entries.now }
-    ensures { IfOk result (λ board. board ≡ draw_all empty_board (commands (map act_of entries.now) flags.now)) }
+    ensures { IfOk result (λ board.
+        board ≡ draw_all empty_board (commands (map act_of entries.now) flags.now)) }
 {
     let mut board = PlainBoard::new(alloc);
     for (k, entry) in entries.iter().enumerate() {
@@ -77,7 +79,8 @@ fn draw_kept(alloc: Global, entries: &[Entry], flags: &[bool]) -> Result<PlainBo
 
 /// Draws the command of an entry, if it has one and its flag is true.
 fn draw_entry(board: &mut PlainBoard, entry: &Entry, is_kept: bool) -> Result<(), AllocError>
-    ensures { OnOk result (board.new ≡ draw_all board.old (command_of (act_of entry.now).act is_kept)) }
+    ensures { OnOk result
+        (board.new ≡ draw_all board.old (command_of (act_of entry.now).act is_kept)) }
 {
     match &entry.msg {
         Msg::Draw(command) if is_kept => board.draw(command),

@@ -1,32 +1,23 @@
-// The layers of a canvas that gets new sides.
-ghost use Rattle.std.specs.Prelude.{◌≡◌, ◌+◌, ◌*◌, ◌≤◌, ℕ, ℤ, pos, ◌+ℤ◌, ◌++◌, List, Some, None, map, length, All, IfOk, OnOk, if◌then◌else◌};
-ghost use Rattle.dp_plain.specs.Board.{Row};
-ghost use Rattle.dp_plain.specs.Drawing.{is_side, side, old_pixel, pixels_moved, with_pixels};
-ghost use Rattle.dp_plain.specs.Moving.{pixel_in, row_moved};
+//! The layers of a canvas that gets new sides.
 
-use crate::board::PlainRow;
+ghost use Rattle.std.specs.Prelude.{◌≡◌, ◌*◌, ◌≤◌, ℤ, pos, ◌+ℤ◌, ◌++◌, map, length, All};
+ghost use Rattle.std.specs.Prelude.{Some, None, if◌then◌else◌, IfOk, OnOk};
+ghost use Rattle.dp_plain.specs.Board.{Covers};
+ghost use Rattle.dp_plain.specs.Drawing.{is_side, side, old_pixel};
+ghost use Rattle.dp_plain.specs.Moving.{pixel_in, row_moved, pixels_resized, layer_resized};
+
+use crate::board::PlainLayer;
+use crate::geometry::Resize;
 use dp_blend::Pixel;
 use std::alloc::{AllocError, Global};
 
 /// The greatest length of a side, in pixels.
 const MAX_SIDE: i64 = 4096;
 
-/// How a canvas is resized: its sides, the new sides, and where its left upper corner goes.
-#[derive(Clone, Copy)]
-pub(crate) struct Resize {
-    pub width: usize,
-    pub height: usize,
-    pub new_width: usize,
-    pub new_height: usize,
-    pub left: i32,
-    pub top: i32,
-    ghost narrow: { new_width ≤ 4096 },
-    ghost low: { new_height ≤ 4096 },
-}
-
 /// The length of a side that grows by `before` and `after`, if it stays one.
 pub(crate) fn new_side(old: u32, before: i32, after: i32) -> Option<u32>
-    ensures { let new = pos old +ℤ before +ℤ after in result ≡ (if is_side new then Some (side new) else None) }
+    ensures { let new = pos old +ℤ before +ℤ after in
+        result ≡ (if is_side new then Some (side new) else None) }
 {
     let new = old as i64 + before as i64 + after as i64;
     if new >= 1 && new <= MAX_SIDE {
@@ -61,7 +52,8 @@ fn row_at(pixels: &[Pixel], width: usize, height: usize, y: i64) -> &[Pixel]
     }
 }
 
-/// Adds a row of this width, on which each pixel x of the old row stands at x + left. The rest is clear.
+/// Adds a row of this width, on which each pixel x of the old row stands at x + left. The rest is
+/// clear.
 fn push_moved_row(
     moved: &mut Vec<Pixel>,
     row: &[Pixel],
@@ -80,8 +72,7 @@ fn push_moved_row(
 /// The pixels on the new canvas.
 fn moved_pixels(alloc: Global, pixels: &[Pixel], resize: Resize) -> Result<Vec<Pixel>, AllocError>
     requires { length pixels.now ≡ resize.width * resize.height }
-    ensures { IfOk result (λ moved. moved.items
-        ≡ pixels_moved resize.width resize.height pixels.now resize.new_width resize.new_height resize.left resize.top) }
+    ensures { IfOk result (λ moved. moved.items ≡ pixels_resized resize pixels.now) }
 {
     let mut moved = Vec::with_capacity(alloc, resize.new_width * resize.new_height)?;
     for y in 0..resize.new_height {
@@ -97,32 +88,30 @@ fn moved_pixels(alloc: Global, pixels: &[Pixel], resize: Resize) -> Result<Vec<P
 }
 
 /// The layer on the new canvas.
-fn moved_row(alloc: Global, row: &PlainRow, resize: Resize) -> Result<PlainRow, AllocError>
-    requires { length row.now.pixels ≡ resize.width * resize.height }
-    ensures { IfOk result (λ moved. moved ≡ with_pixels row.now
-        (pixels_moved resize.width resize.height row.now.pixels resize.new_width resize.new_height resize.left resize.top)) }
+fn moved_layer(alloc: Global, layer: &PlainLayer, resize: Resize) -> Result<PlainLayer, AllocError>
+    requires { Covers resize.width resize.height layer.now }
+    ensures { IfOk result (λ moved. moved ≡ layer_resized resize layer.now) }
 {
-    let pixels = moved_pixels(alloc, &row.pixels, resize)?;
-    Ok(PlainRow {
-        id: row.id,
-        title: row.title.copy()?,
+    let pixels = moved_pixels(alloc, &layer.pixels, resize)?;
+    Ok(PlainLayer {
+        id: layer.id,
+        title: layer.title.copy()?,
         pixels,
     })
 }
 
 /// The layers on the new canvas.
-pub(crate) fn moved_rows(
+pub(crate) fn moved_layers(
     alloc: Global,
-    rows: &[PlainRow],
+    layers: &[PlainLayer],
     resize: Resize,
-) -> Result<Vec<PlainRow>, AllocError>
-    requires { All (λ (row : Row). length row.pixels ≡ resize.width * resize.height) rows.now }
-    ensures { IfOk result (λ moved. moved.items ≡ map (λ (row : Row). with_pixels row
-        (pixels_moved resize.width resize.height row.pixels resize.new_width resize.new_height resize.left resize.top)) rows.now) }
+) -> Result<Vec<PlainLayer>, AllocError>
+    requires { All (Covers resize.width resize.height) layers.now }
+    ensures { IfOk result (λ moved. moved.items ≡ map (layer_resized resize) layers.now) }
 {
-    let mut moved = Vec::with_capacity(alloc, rows.len())?;
-    for row in rows {
-        moved.push(moved_row(alloc, row, resize)?)?;
+    let mut moved = Vec::with_capacity(alloc, layers.len())?;
+    for layer in layers {
+        moved.push(moved_layer(alloc, layer, resize)?)?;
     }
     Ok(moved)
 }

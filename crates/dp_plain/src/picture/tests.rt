@@ -3,7 +3,7 @@
 ghost use Rattle.std.specs.Prelude.{◌≡◌, length, IfOk};
 
 use super::plain_p6;
-use crate::board::{PlainBoard, PlainRow};
+use crate::board::{PlainBoard, PlainLayer};
 use dp_blend::of_argb;
 use dp_io::{Failed, MemSink};
 use dp_msg_draw::Title;
@@ -12,17 +12,18 @@ use std::process::Abort;
 use std::test::Fail;
 
 // The layer whose pixels have these ARGB colors.
-fn layer_of(alloc: Global, colors: &[u32]) -> Result<PlainRow, Fail>
-    ensures { IfOk result (λ row. length row.pixels ≡ length colors.now) }
+fn layer_of(alloc: Global, colors: &[u32]) -> Result<PlainLayer, Fail>
+    ensures { IfOk result (λ layer. length layer.pixels ≡ length colors.now) }
 {
-    Ok(PlainRow {
+    Ok(PlainLayer {
         id: 1,
         title: Title::new(alloc),
         pixels: colors.iter().map(|color| of_argb(*color)).collect(alloc)?,
     })
 }
 
-// The board whose layers, the bottom one first, have these colors. An empty list of colors makes no layer.
+// The board whose layers, the bottom one first, have these colors. An empty list of colors makes no
+// layer.
 fn board_of(
     rt: &impl Abort,
     alloc: Global,
@@ -31,17 +32,17 @@ fn board_of(
 ) -> Result<PlainBoard, Fail> {
     assert!(rt; width <= 4096 && height <= 4096);
     let places = width as usize * height as usize;
-    let mut rows = Vec::new(alloc);
+    let mut painted = Vec::new(alloc);
     for colors in layers {
         if !colors.is_empty() {
             assert!(rt; colors.len() == places);
-            rows.push(layer_of(alloc, colors)?)?;
+            painted.push(layer_of(alloc, colors)?)?;
         }
     }
     Ok(PlainBoard {
         width,
         height,
-        rows,
+        layers: painted,
     })
 }
 
@@ -89,7 +90,8 @@ fn pattern(alloc: Global) -> Result<(Vec<u32>, Vec<u8>), Fail> {
     Ok((colors, text))
 }
 
-// A call that fails leaves the head and the whole pieces before it, where the sink takes whole pieces.
+// A call that fails leaves the head and the whole pieces before it, where the sink takes whole
+// pieces.
 #[test]
 fn a_failing_sink_holds_a_prefix(rt: HostRuntime) -> Result<(), Fail> {
     let alloc = rt.alloc();

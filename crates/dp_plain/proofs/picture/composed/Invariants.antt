@@ -1,8 +1,9 @@
 use Rattle.std.proofs.Common.{◌≡◌, drop}
-use Rattle.dp_blend.specs.Color.{clear}
-use Rattle.dp_plain.specs.Places.{composed_at}
+use Rattle.std.specs.List.{fold}
+use Rattle.dp_plain.specs.Places.{layer_on, composed_at}
 use Rattle.dp_plain.proofs.picture.composed.Given as goal
 
 -- the layers that are left, over what stands so far, make the whole
-abbrev pub invariant-loop-row : goal.invariant-loop-row
-invariant-loop-row l = composed_at (drop l.row-index l.rows) l.place l.under ≡ composed_at l.rows l.place clear
+abbrev pub invariant-loop-layer : goal.invariant-loop-layer
+invariant-loop-layer l =
+    fold (layer_on l.place) l.under (drop l.layer-index l.layers) ≡ composed_at l.layers l.place

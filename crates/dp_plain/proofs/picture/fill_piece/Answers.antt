@@ -5,4 +5,4 @@ use Rattle.dp_plain.proofs.picture.fill_piece.Goals as goal
 
 pub loop-k-preserved : goal.loop-k-preserved
 loop-k-preserved c =
-    pixel_more c.args.rows.now c.args.from c.loop-k.k c.loop-k.piece c.rgb_at.result (omega arith) c.loop-k.invariant c.rgb_at.ensures
+    pixel_more c.args.layers.now c.args.from c.loop-k.k c.loop-k.piece c.rgb_at.result (omega arith) c.loop-k.invariant c.rgb_at.ensures

@@ -7,7 +7,7 @@ use Rattle.dp_plain.proofs.picture.put_pixels.Given as goal
 abbrev pub invariant-loop-from : goal.invariant-loop-from
 invariant-loop-from g l = record {
   within : l.from ≤ l.places;
-  written : Appends (g.S.Sink.held l.initial.out) (g.S.Sink.held l.out) (bytes_from l.rows 0 l.from);
+  written : Appends (g.S.Sink.held l.initial.out) (g.S.Sink.held l.out) (bytes_from l.layers 0 l.from);
   later : g.S.Sink.faults l.initial.out ≤ g.S.Sink.faults l.out;
 }
 

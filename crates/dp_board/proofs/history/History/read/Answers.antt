@@ -2,8 +2,8 @@ use Rattle.std.proofs.Common.{◌≡◌, ◌+◌, ◌<◌, ◌++◌, ◌∷◌, 
 use Rattle.std.specs.List.{All}
 use Rattle.std.proofs.lemmas.List.Elements.{All-push}
 use Rattle.dp_board.specs.Strokes.{points_after}
-use Rattle.dp_board.specs.History.{AreGroupsAfter, TakesAct, points_in}
-use Rattle.dp_board.proofs.HistoryLemmas.{AreGroupsAfter-push, joins_from-step, points_in-push, points_after-le, take-step}
+use Rattle.dp_board.specs.History.{AreGroupsAfter, TakesAct}
+use Rattle.dp_board.proofs.HistoryLemmas.{AreGroupsAfter-push, joins_from-step, points_in, points_in-push, points_after-le, take-step}
 use Rattle.dp_board.proofs.history.History.read.Goals as goal
 
 pub loop-act-preserved : goal.loop-act-preserved

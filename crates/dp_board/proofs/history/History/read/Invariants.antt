@@ -1,6 +1,7 @@
 use Rattle.std.proofs.Common.{◌≡◌, ◌<◌, ◌≤◌, [], ◌++◌, take, drop}
 use Rattle.std.specs.List.{All}
-use Rattle.dp_board.specs.History.{AreGroupsAfter, joins_from, points_in}
+use Rattle.dp_board.specs.History.{AreGroupsAfter, joins_from}
+use Rattle.dp_board.proofs.HistoryLemmas.{points_in}
 use Rattle.dp_board.proofs.history.History.read.Given as goal
 
 -- the groups are those that the acts so far leave, and the joins so far and those of the rest are those of all

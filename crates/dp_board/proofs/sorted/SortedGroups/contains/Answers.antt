@@ -1,7 +1,7 @@
 use Rattle.std.proofs.Common.{ap, ◌∙◌, subst}
 use Rattle.std.specs.List.Sorted.{IsBinarySearchResult}
 use Rattle.std.specs.Ordering.{nat_cmp}
-use Rattle.dp_board.specs.History.{is_among}
+use Rattle.dp_board.specs.Strokes.{is_among}
 use Rattle.dp_board.proofs.SortedLemmas.{is_ok-search}
 use Rattle.dp_board.proofs.sorted.SortedGroups.contains.Goals as goal
 

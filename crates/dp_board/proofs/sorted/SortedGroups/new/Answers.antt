@@ -1,6 +1,6 @@
 use Rattle.std.proofs.Common.{ap, sym, ◌∙◌}
 use Rattle.std.proofs.lemmas.List.Sorted.{list_any-IsPermutation}
-use Rattle.dp_board.specs.History.{is_among}
+use Rattle.dp_board.specs.Strokes.{is_among}
 use Rattle.dp_board.proofs.sorted.SortedGroups.new.Goals as goal
 
 pub returns : goal.returns
