@@ -1,5 +1,6 @@
 #!/usr/bin/env bash
-# Times `replay` on inputs that it makes: many small strokes with undos and redos, and one fill of the greatest canvas.
+# Times `replay` on inputs that it makes: many small strokes with undos and redos, one fill of the greatest canvas, and
+# 1 GiB of layers with long titles, the most that counts (it wants 1 GiB of disk, and 1.4 GB of memory).
 set -eu
 top=$(cd "$(dirname "$0")/.." && pwd)
 work=$(mktemp -d)
@@ -18,9 +19,13 @@ with open(sys.argv[1] + '/strokes', 'wb') as out:
         out.write((undo if n % 5 == 0 else b'') + (redo if n % 10 == 0 else b''))
 with open(sys.argv[1] + '/canvas', 'wb') as out:
     out.write(size(4096) + layer + fill(0, 0, 4096, 0x80ff0000))
+with open(sys.argv[1] + '/limit', 'wb') as out:
+    layers = frame(130, b'\1\1\0\0\0' + b'a' * 247) * 65536
+    for n in range(64):
+        out.write(layers)
 PY
 "$top/bin/drawpile" replay <"$work/canvas" >/dev/null
-for input in strokes canvas; do
+for input in strokes canvas limit; do
   echo "$input: $(stat -c %s "$work/$input") bytes in"
   time "$top/bin/drawpile" replay <"$work/$input" >/dev/null
 done
