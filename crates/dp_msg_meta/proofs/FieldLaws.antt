@@ -264,14 +264,10 @@ end_takes bytes u fits e = (end_some bytes u e, tt)
 pub end_whole : IsWhole end_at no_bytes Always
 end_whole = record { takes = end_takes; again = λ u valid. refl }
 
-both_true : (b c : Bool) → cond b c false ≡ true → (b ≡ true) × (c ≡ true)
-both_true true c e = (refl, e)
-both_true false c e = absurd cc
-
 rise_holds : (low : ℕ) (ids : List ℕ) → rise_from low ids ≡ true → RiseFrom low ids
 rise_holds low [] e = tt
 rise_holds low (id ∷ ids) e =
-    let g = both_true (leb low id && leb id 254) (rise_from (id + 1) ids) e in
+    let g = and_parts (leb low id && leb id 254) (rise_from (id + 1) ids) e in
     let h = and_parts (leb low id) (leb id 254) g.0 in
     (leb-true _ _ h.0, leb-true _ _ h.1, rise_holds (id + 1) ids g.1)
 

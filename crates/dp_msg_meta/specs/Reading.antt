@@ -79,7 +79,7 @@ made_of make read = read >>= λ x. Some (make x)
 -- ids rise strictly within low to 254
 abbrev pub rise_from : ℕ → List ℕ → Bool
 rise_from low [] = true
-rise_from low (id ∷ ids) = if nat_le low id && nat_le id 254 then rise_from (id + 1) ids else false
+rise_from low (id ∷ ids) = (nat_le low id && nat_le id 254) && rise_from (id + 1) ids
 
 abbrev pub is_name : List ℕ → Bool
 is_name name = nat_le 1 (length name) && nat_le (length name) 32

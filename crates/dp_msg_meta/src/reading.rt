@@ -10,7 +10,7 @@ use crate::{control_reader, meta_reader};
 use std::alloc::Global;
 
 /// The control message that a payload of its kind spells. `Malformed` comes exactly where it spells
-/// none, and `Memory` only for want of memory.
+/// none, and `Memory` only for want of memory, which the name of a Hello takes.
 ///
 /// The rule: docs/protocol.md, "Control and meta messages".
 pub fn read_control(alloc: Global, kind: u8, payload: &[u8]) -> Result<Control, PayloadError>
@@ -30,7 +30,7 @@ pub fn read_control(alloc: Global, kind: u8, payload: &[u8]) -> Result<Control, 
 }
 
 /// The meta message that a payload of its kind spells. `Malformed` comes exactly where it spells
-/// none, and `Memory` only for want of memory.
+/// none, and `Memory` only for want of memory, which a name, a text and ids take.
 ///
 /// The rule: docs/protocol.md, "Control and meta messages".
 pub fn read_meta(alloc: Global, kind: u8, payload: &[u8]) -> Result<Meta, PayloadError>
