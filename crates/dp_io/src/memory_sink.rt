@@ -4,11 +4,12 @@ ghost use Rattle.std.specs.Prelude.{◌≡◌, ◌≤◌, ◌↔◌, [], Some, l
 ghost use Rattle.std.specs.Prelude.{IfOk, OnOk, OnErr, IsErr};
 ghost use Rattle.std.specs.Io.{WritesAtMost};
 ghost use Rattle.std.specs.Io.KnownBytes.{WriteAppends};
-ghost use Rattle.dp_io.specs.Faults.{HasCause, counted, refused};
+ghost use Rattle.dp_io.specs.Faults.{HasCause, any_fault, counted, refused};
 ghost use Rattle.dp_io.specs.Streams.{TakesSome};
 ghost use Rattle.dp_io.specs.Memory.{SinkState, IsRefused, taken_count};
 
-use crate::{Failed, FaultPlan, Sink};
+use crate::plan::FaultPlan;
+use crate::{Failed, Sink};
 use std::alloc::{AllocError, Global};
 use std::marker::Model;
 
@@ -78,7 +79,7 @@ impl Sink for MemSink {
         ensures bound { WritesAtMost result bytes.now }
         ensures some { TakesSome result bytes.now }
         ensures bytes { WriteAppends (Some self.old.held) (Some self.new.held) result bytes.now }
-        ensures cause { HasCause self.old.plan.faults self.new.plan.faults result }
+        ensures cause { HasCause any_fault self.old.plan.faults self.new.plan.faults result }
 
         // It fails at the listed calls and where it is full, and takes as much as the piece and its
         // room let it.

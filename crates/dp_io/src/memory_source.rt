@@ -4,12 +4,13 @@ ghost use Rattle.std.specs.Prelude.{◌≡◌, ◌≤◌, ◌↔◌, Some, lengt
 ghost use Rattle.std.specs.Prelude.{IfOk, OnOk, OnErr, IsErr};
 ghost use Rattle.std.specs.Io.{ReadsAtMost};
 ghost use Rattle.std.specs.Io.KnownBytes.{ReadConsumes};
-ghost use Rattle.dp_io.specs.Faults.{HasCause, IsDue, counted, refused};
+ghost use Rattle.dp_io.specs.Faults.{HasCause, any_fault, IsDue, counted, refused};
 ghost use Rattle.dp_io.specs.Streams.{EndsExactly};
 ghost use Rattle.dp_io.specs.Memory.{SourceState, given_count};
 
+use crate::plan::FaultPlan;
 use crate::sure_source::copy_front;
-use crate::{Failed, FaultPlan, Source};
+use crate::{Failed, Source};
 use std::marker::Model;
 
 /// A source over bytes in memory, which gives them in pieces and fails at chosen calls.
@@ -56,7 +57,7 @@ impl Source for MemSource {
         ensures bound { ReadsAtMost result buf.new }
         ensures bytes { ReadConsumes (Some self.old.left) (Some self.new.left) result buf.new }
         ensures end { EndsExactly (Some self.old.left) result buf.new }
-        ensures cause { HasCause self.old.plan.faults self.new.plan.faults result }
+        ensures cause { HasCause any_fault self.old.plan.faults self.new.plan.faults result }
 
         // It fails at the listed calls alone, and gives as much as the piece and the buffer let it.
         ensures failed { IsErr result ↔ IsDue self.old.plan }

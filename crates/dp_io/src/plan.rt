@@ -10,7 +10,7 @@ use std::marker::Model;
 ///
 /// Both counts stop at `u64::MAX`, and a call behind that many is never to fail.
 #[derive(Drop)]
-pub struct FaultPlan {
+pub(crate) struct FaultPlan {
     fails: Vec<u64>,
     calls: u64,
     faults: u64,
@@ -24,7 +24,7 @@ impl Model for FaultPlan {
 
 impl FaultPlan {
     /// A plan before the first call.
-    pub fn new(fails: Vec<u64>) -> Self
+    pub(crate) fn new(fails: Vec<u64>) -> Self
         ensures { result ≡ record { fails = fails.items; calls = 0; faults = 0 } }
     {
         FaultPlan {
@@ -35,7 +35,7 @@ impl FaultPlan {
     }
 
     /// Counts a call, and answers whether it is to fail.
-    pub fn next_fails(&mut self) -> bool
+    pub(crate) fn next_fails(&mut self) -> bool
         ensures due { IsTrue result ↔ IsDue self.old }
         ensures counted { self.new ≡ counted self.old }
     {
@@ -49,7 +49,7 @@ impl FaultPlan {
     }
 
     /// Counts a fault, for the caller to answer.
-    pub fn fail(&mut self) -> Failed
+    pub(crate) fn fail(&mut self) -> Failed
         ensures counted { self.new ≡ record self.old { faults = one_more self.old.faults } }
         ensures later { self.old.faults ≤ self.new.faults }
     {

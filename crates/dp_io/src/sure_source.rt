@@ -3,7 +3,7 @@
 ghost use Rattle.std.specs.Prelude.{◌≡◌, ◌≤◌, ℕ, List, Ok, Some, min, length, take, drop, vec_len};
 ghost use Rattle.std.specs.Io.{ReadsAtMost};
 ghost use Rattle.std.specs.Io.KnownBytes.{ReadConsumes};
-ghost use Rattle.dp_io.specs.Faults.{HasCause};
+ghost use Rattle.dp_io.specs.Faults.{HasCause, any_fault};
 ghost use Rattle.dp_io.specs.Streams.{EndsExactly};
 
 use crate::{Failed, Source};
@@ -42,7 +42,7 @@ impl Source for SureSource {
         ensures bound { ReadsAtMost result buf.new }
         ensures bytes { ReadConsumes (Some self.old) (Some self.new) result buf.new }
         ensures end { EndsExactly (Some self.old) result buf.new }
-        ensures cause { HasCause 0 0 result }
+        ensures cause { HasCause any_fault 0 0 result }
 
         // It never fails, and gives as much as the buffer takes.
         ensures count { result ≡ Ok (min (length self.old) (length buf.old)) }

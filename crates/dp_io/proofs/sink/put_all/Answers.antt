@@ -1,5 +1,5 @@
 -- Each write appends the bytes behind those that were written before.
-use Rattle.std.proofs.Common.{arith}
+use Rattle.std.proofs.Common.{◌∙◌, arith}
 use Rattle.std.proofs.lemmas.Grind.{common_steps}
 use Rattle.dp_io.proofs.WriteRuns.{appends_more}
 use Rattle.dp_io.proofs.sink.put_all.Goals as goal
@@ -8,5 +8,5 @@ pub loop-at-preserved : goal.loop-at-preserved
 loop-at-preserved g c = record {
   within = grind (arith, common_steps);
   written = appends_more _ _ _ _ _ _ c.loop-at.invariant.written c.in_ok-at.ensures.bytes;
-  later = grind (arith, common_steps);
+  kept = c.in_ok-at.ensures.cause.kept ∙ c.loop-at.invariant.kept;
 }
