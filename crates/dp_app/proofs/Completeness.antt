@@ -1,15 +1,15 @@
 -- Where nothing failed and memory sufficed, the answer that is given is the one that is due.
-use Rattle.std.proofs.Common.{◌≡◌, ◌≢◌, ℕ, List, [], refl, sym, ap, ◌∙◌, subst, inl, inr}
+use Rattle.std.proofs.Common.{◌≡◌, ◌≢◌, ℕ, ◌<◌, ◌⊎◌, List, [], refl, sym, ap, ◌∙◌, subst, inl, inr, arith}
 use Rattle.std.specs.Prelude.{Option, Some, None, IfSome}
 use Rattle.std.proofs.lemmas.List.{append-nil}
 use Rattle.std.specs.declared.string.String.{String}
-use Rattle.std.specs.Io.KnownBytes.{Appends, Keeps}
+use Rattle.std.specs.Io.KnownBytes.{Appends, Keeps, IsAtEnd}
 use Rattle.dp_io.specs.Faults.{Rose}
 use Rattle.dp_messages.specs.declared.message.Entry.{Entry}
 use Rattle.dp_app.specs.declared.run_end.RunEnd.{RunEnd}
 use Rattle.dp_app.specs.declared.run_end.RunEnd.TheVariants.{Done, ReadFault, WriteFault, Memory, Long, Truncated, BadMessage}
-use Rattle.dp_app.specs.Input.{ComesTo}
-use Rattle.dp_app.specs.Answer.{Answer, IsReplay, IsDue, IsGiven, Leaves, Says, SaysUsage, status_of, line_of, text_of, usage_line}
+use Rattle.dp_app.specs.Input.{ReplayComesTo}
+use Rattle.dp_app.specs.Answer.{Answer, IsCommand, IsReplay, IsDue, IsGiven, Blames, Leaves, Says, SaysUsage, status_of, line_of, replay_text, replay_answer, usage_answer}
 
 -- what stays grows by nothing
 pub appends_nothing : (old new : Option (List ℕ)) → Keeps old new → Appends old new []
@@ -21,21 +21,26 @@ pub keeps_same : (old : Option (List ℕ)) → Keeps old old
 keeps_same None = tt
 keeps_same (Some bytes) = refl
 
--- the answer of an end
-abbrev answer_of : List Entry → RunEnd → Answer
-answer_of entries end = record { status = status_of end; text = text_of entries end; line = line_of end }
-
 -- an end that is none of a fault or of want of memory leaves what it is due
 due_left : (bytes : List ℕ) (left old new : Option (List ℕ)) (end : RunEnd) → Leaves (Some bytes) left old new end →
     end ≢ ReadFault → end ≢ WriteFault → status_of end ≢ 7 →
-    (entries : List Entry) × ComesTo bytes entries end × Appends old new (text_of entries end)
-due_left bytes left old new Done h read write memory = h
+    (entries : List Entry) × ReplayComesTo bytes entries end × Appends old new (replay_text entries end)
+due_left bytes left old new Done h read write memory = h.1
 due_left bytes left old new ReadFault h read write memory = absurd (read refl)
 due_left bytes left old new WriteFault h read write memory = absurd (write refl)
 due_left bytes left old new Memory h read write memory = absurd (memory refl)
-due_left bytes left old new Long h read write memory = (h.1.0, h.1.1, appends_nothing old new h.0)
-due_left bytes left old new (Truncated n) h read write memory = h
-due_left bytes left old new (BadMessage n) h read write memory = (h.1.0, h.1.1, appends_nothing old new h.0)
+due_left bytes left old new Long h read write memory = (h.1.0.0, h.1.0.1, appends_nothing old new h.0)
+due_left bytes left old new (Truncated n) h read write memory = h.1
+due_left bytes left old new (BadMessage n) h read write memory = (h.1.0.0, h.1.0.1, appends_nothing old new h.0)
+
+-- no count rose: the run ended by no fault
+not_read : (input input_now output output_now : ℕ) (end : RunEnd) → Blames input input_now output output_now end → ¬ Rose input input_now → end ≢ ReadFault
+not_read input input_now output output_now end b none e =
+    none (subst (λ (x : RunEnd). Blames input input_now output output_now x) e b).0
+
+not_write : (input input_now output output_now : ℕ) (end : RunEnd) → Blames input input_now output output_now end → ¬ Rose output output_now → end ≢ WriteFault
+not_write input input_now output output_now end b none e =
+    none (subst (λ (x : RunEnd). Blames input input_now output output_now x) e b).1
 
 -- where diag didn't fail, the line of the end is said
 said : (old new : Option (List ℕ)) (before now status : ℕ) (end : RunEnd) → ¬ Rose before now → Says old new before now status end →
@@ -43,39 +48,38 @@ said : (old new : Option (List ℕ)) (before now status : ℕ) (end : RunEnd) �
 said old new before now status end kept (inl says) = says
 said old new before now status end kept (inr failed) = absurd (kept failed.1)
 
-pub complete_replay : {A : Type 0} (words : List (String A)) (told left old new dold dnew : Option (List ℕ)) (before now status : ℕ) (end : RunEnd) →
-    IsReplay words → ¬ Rose before now → end ≢ ReadFault → end ≢ WriteFault → status ≢ 7 →
-    Leaves told left old new end → Says dold dnew before now status end →
+pub complete_replay : {A : Type 0} (words : List (String A)) (told left old new dold dnew : Option (List ℕ))
+    (input input_now output output_now before now status : ℕ) (end : RunEnd) →
+    IsReplay words → ¬ Rose before now → ¬ Rose input input_now → ¬ Rose output output_now → status ≢ 7 →
+    Leaves told left old new end → Blames input input_now output output_now end → Says dold dnew before now status end →
     IfSome told (λ bytes. (answer : Answer) × IsDue words bytes answer × IsGiven answer status old new dold dnew)
-complete_replay words None left old new dold dnew before now status end replay kept read write memory leaves says = tt
-complete_replay words (Some bytes) left old new dold dnew before now status end replay kept read write memory leaves says =
+complete_replay words None left old new dold dnew input input_now output output_now before now status end replay kept read write memory leaves blames says = tt
+complete_replay words (Some bytes) left old new dold dnew input input_now output output_now before now status end replay kept read write memory leaves blames says =
     let line = said dold dnew before now status end kept says in
-    let due = due_left bytes left old new end leaves read write (λ e. memory (line.0 ∙ e)) in (
-      record { status = status_of end; text = text_of due.0 end; line = line_of end },
+    let due = due_left bytes left old new end leaves (not_read input input_now output output_now end blames read)
+    (not_write input input_now output output_now end blames write) (λ e. memory (line.0 ∙ e)) in (
+      replay_answer due.0 end,
       inl (replay, due.0, end, due.1, refl),
       record { status = line.0; text = due.2; line = line.1 },
     )
 
 pub complete_usage : {A : Type 0} (words : List (String A)) (told old new dold dnew : Option (List ℕ)) (before now status : ℕ) →
-    ¬ IsReplay words → ¬ Rose before now → Keeps old new → SaysUsage dold dnew before now status →
+    ¬ IsCommand words → ¬ Rose before now → Keeps old new → SaysUsage dold dnew before now status →
     IfSome told (λ bytes. (answer : Answer) × IsDue words bytes answer × IsGiven answer status old new dold dnew)
 complete_usage words None old new dold dnew before now status other kept keeps says = tt
 complete_usage words (Some bytes) old new dold dnew before now status other kept keeps (inr failed) = absurd (kept failed.1)
-complete_usage words (Some bytes) old new dold dnew before now status other kept keeps (inl says) = (
-  record { status = 1; text = []; line = usage_line },
-  inr (other, refl),
-  record { status = says.0; text = appends_nothing old new keeps; line = says.1 },
-)
+complete_usage words (Some bytes) old new dold dnew before now status other kept keeps (inl says) =
+    (usage_answer, inr (other, refl), record { status = says.0; text = appends_nothing old new keeps; line = says.1 })
 
 -- an input comes to one end, with one list of entries
 abbrev pub OneReading : Type 0
-OneReading = (input : List ℕ) (es ds : List Entry) (end other : RunEnd) → ComesTo input es end → ComesTo input ds other → (es ≡ ds) × (end ≡ other)
+OneReading = (input : List ℕ) (es ds : List Entry) (end other : RunEnd) → ReplayComesTo input es end → ReplayComesTo input ds other → (es ≡ ds) × (end ≡ other)
 
 -- the words and the input's bytes are due one answer
 pub one_due : OneReading → {A : Type 0} (words : List (String A)) (bytes : List ℕ) (a b : Answer) → IsDue words bytes a → IsDue words bytes b → a ≡ b
 one_due law words bytes a b (inl (replay, entries, end, comes, is)) (inl (again, others, other, comes_too, is_too)) =
     let same = law bytes entries others end other comes comes_too in
-    is ∙ ap (λ (es : List Entry). answer_of es end) same.0 ∙ ap (λ (e : RunEnd). answer_of others e) same.1 ∙ sym is_too
+    is ∙ ap (λ (es : List Entry). replay_answer es end) same.0 ∙ ap (λ (e : RunEnd). replay_answer others e) same.1 ∙ sym is_too
 one_due law words bytes a b (inl (replay, entries, end, comes, is)) (inr (other, is_too)) = absurd (other replay)
 one_due law words bytes a b (inr (other, is)) (inl (replay, entries, end, comes, is_too)) = absurd (other replay)
 one_due law words bytes a b (inr (other, is)) (inr (other_too, is_too)) = is ∙ sym is_too
@@ -87,3 +91,81 @@ pub exact : OneReading → {A : Type 0} (words : List (String A)) (told old new 
 exact law words None old new dold dnew status h = tt
 exact law words (Some bytes) old new dold dnew status h = λ answer due.
     subst (λ (a : Answer). IsGiven a status old new dold dnew) (one_due law words bytes h.0 answer h.1 due) h.2
+
+-- the counts of a run of `replay` by its status
+pub fault_told : (dold dnew : Option (List ℕ)) (input input_now output output_now before now status : ℕ) (end : RunEnd) →
+    Blames input input_now output output_now end → Says dold dnew before now status end → input < input_now →
+    (status ≡ 3) ⊎ ((status ≡ 4) × Rose before now)
+fault_told dold dnew input input_now output output_now before now status end b (inr failed) rose = inr (failed.0, failed.1)
+fault_told dold dnew input input_now output output_now before now status ReadFault b (inl says) rose = inl says.0
+fault_told dold dnew input input_now output output_now before now status WriteFault b (inl says) rose = absurd (omega (arith, b.0))
+fault_told dold dnew input input_now output output_now before now status _ b (inl says) rose = absurd (omega (arith, b.0))
+
+-- a status of an input's bytes
+abbrev IsOfBytes : ℕ → Type 0
+IsOfBytes status = (status ≡ 0) ⊎ (status ≡ 8) ⊎ (status ≡ 9) ⊎ (status ≡ 10)
+
+of_bytes : (status n : ℕ) → IsOfBytes status → status ≡ n → IsOfBytes n
+of_bytes status n h e = subst IsOfBytes e h
+
+not_three : IsOfBytes 3 → ⊥
+not_three (inl e) = omega (arith, e)
+not_three (inr (inl e)) = omega (arith, e)
+not_three (inr (inr (inl e))) = omega (arith, e)
+not_three (inr (inr (inr e))) = omega (arith, e)
+
+not_four : IsOfBytes 4 → ⊥
+not_four (inl e) = omega (arith, e)
+not_four (inr (inl e)) = omega (arith, e)
+not_four (inr (inr (inl e))) = omega (arith, e)
+not_four (inr (inr (inr e))) = omega (arith, e)
+
+pub uncounted : (dold dnew : Option (List ℕ)) (input input_now output output_now before now status : ℕ) (end : RunEnd) →
+    Blames input input_now output output_now end → Says dold dnew before now status end →
+    (status ≡ 0) ⊎ (status ≡ 8) ⊎ (status ≡ 9) ⊎ (status ≡ 10) → (input_now ≡ input) × (output_now ≡ output)
+uncounted dold dnew input input_now output output_now before now status end b (inr failed) h = absurd (not_four (of_bytes status 4 h failed.0))
+uncounted dold dnew input input_now output output_now before now status ReadFault b (inl says) h = absurd (not_three (of_bytes status 3 h says.0))
+uncounted dold dnew input input_now output output_now before now status WriteFault b (inl says) h = absurd (not_four (of_bytes status 4 h says.0))
+uncounted dold dnew input input_now output output_now before now status _ b (inl says) h = b
+
+-- a fault that is told was counted
+pub read_told : (dold dnew : Option (List ℕ)) (input input_now output output_now before now status : ℕ) (end : RunEnd) →
+    Blames input input_now output output_now end → Says dold dnew before now status end → status ≡ 3 → Rose input input_now
+read_told dold dnew input input_now output output_now before now status end b (inr failed) h = absurd (omega (arith, failed.0, h))
+read_told dold dnew input input_now output output_now before now status ReadFault b (inl says) h = b.0
+read_told dold dnew input input_now output output_now before now status Done b (inl says) h = absurd (omega (arith, says.0, h))
+read_told dold dnew input input_now output output_now before now status WriteFault b (inl says) h = absurd (omega (arith, says.0, h))
+read_told dold dnew input input_now output output_now before now status Memory b (inl says) h = absurd (omega (arith, says.0, h))
+read_told dold dnew input input_now output output_now before now status Long b (inl says) h = absurd (omega (arith, says.0, h))
+read_told dold dnew input input_now output output_now before now status (Truncated n) b (inl says) h = absurd (omega (arith, says.0, h))
+read_told dold dnew input input_now output output_now before now status (BadMessage n) b (inl says) h = absurd (omega (arith, says.0, h))
+
+pub write_told : (dold dnew : Option (List ℕ)) (input input_now output output_now before now status : ℕ) (end : RunEnd) →
+    Blames input input_now output output_now end → Says dold dnew before now status end → status ≡ 4 →
+    Rose output output_now ⊎ Rose before now
+write_told dold dnew input input_now output output_now before now status end b (inr failed) h = inr failed.1
+write_told dold dnew input input_now output output_now before now status WriteFault b (inl says) h = inl b.1
+write_told dold dnew input input_now output output_now before now status ReadFault b (inl says) h = absurd (omega (arith, says.0, h))
+write_told dold dnew input input_now output output_now before now status Done b (inl says) h = absurd (omega (arith, says.0, h))
+write_told dold dnew input input_now output output_now before now status Memory b (inl says) h = absurd (omega (arith, says.0, h))
+write_told dold dnew input input_now output output_now before now status Long b (inl says) h = absurd (omega (arith, says.0, h))
+write_told dold dnew input input_now output output_now before now status (Truncated n) b (inl says) h = absurd (omega (arith, says.0, h))
+write_told dold dnew input input_now output output_now before now status (BadMessage n) b (inl says) h = absurd (omega (arith, says.0, h))
+
+-- a status that is neither 0 nor 9
+neither : (status n : ℕ) → status ≡ n → (n ≡ 0 → ⊥) → (n ≡ 9 → ⊥) → (status ≡ 0) ⊎ (status ≡ 9) → ⊥
+neither status n e zero nine (inl h) = zero (sym e ∙ h)
+neither status n e zero nine (inr h) = nine (sym e ∙ h)
+
+-- an input that is told to be read to its end is at its end
+pub at_end : (told left old new dold dnew : Option (List ℕ)) (before now status : ℕ) (end : RunEnd) →
+    Leaves told left old new end → Says dold dnew before now status end → (status ≡ 0) ⊎ (status ≡ 9) → IsAtEnd left
+at_end told left old new dold dnew before now status end l (inr failed) (inl h) = absurd (omega (arith, failed.0, h))
+at_end told left old new dold dnew before now status end l (inr failed) (inr h) = absurd (omega (arith, failed.0, h))
+at_end told left old new dold dnew before now status Done l (inl says) h = l.0
+at_end told left old new dold dnew before now status (Truncated n) l (inl says) h = l.0
+at_end told left old new dold dnew before now status WriteFault l (inl says) h = l.0
+at_end told left old new dold dnew before now status ReadFault l (inl says) h = absurd (neither status 3 says.0 (λ e. omega (arith, e)) (λ e. omega (arith, e)) h)
+at_end told left old new dold dnew before now status Memory l (inl says) h = absurd (neither status 7 says.0 (λ e. omega (arith, e)) (λ e. omega (arith, e)) h)
+at_end told left old new dold dnew before now status Long l (inl says) h = absurd (neither status 8 says.0 (λ e. omega (arith, e)) (λ e. omega (arith, e)) h)
+at_end told left old new dold dnew before now status (BadMessage n) l (inl says) h = absurd (neither status 10 says.0 (λ e. omega (arith, e)) (λ e. omega (arith, e)) h)

@@ -1,7 +1,7 @@
 -- Histories, a frame at a time.
 use Rattle.std.proofs.Common.{◌≡◌, ◌⊎◌, inl, inr, ℕ, ◌+◌, List, [], ◌∷◌, ◌++◌, length, refl, sym, ap, ◌∙◌, subst, append_assoc, length-append}
 use Rattle.std.specs.Prelude.{Result, Ok, Err}
-use Rattle.std.specs.List.{AllZip, AllByRecursion, flat_map}
+use Rattle.std.specs.List.{AllByRecursion, flat_map}
 use Rattle.std.proofs.lemmas.Grind.{flat_map-append}
 use Rattle.dp_frame.specs.Frames.{FrameParts, IsFrame, spelling, HoldsNoFrame}
 use Rattle.dp_frame.specs.Stream.{Stream}
@@ -11,18 +11,20 @@ use Rattle.dp_messages.specs.declared.decoding.DecodeError.{DecodeError}
 use Rattle.dp_messages.specs.declared.decoding.DecodeError.TheVariants as refusal
 use Rattle.dp_app.specs.declared.run_end.RunEnd.{RunEnd}
 use Rattle.dp_app.specs.declared.run_end.RunEnd.TheVariants.{Memory, BadMessage}
-use Rattle.dp_app.specs.Input.{Tells}
+use Rattle.dp_app.specs.Input.{StandFor, Tells, StandsInReplay}
 use Rattle.dp_app.specs.History.{Follows, IsStop, StopsAt, IsRefusedAt, IsStopFor}
 
 each_more : (frames : List FrameParts) (f : FrameParts) → AllByRecursion IsFrame frames → IsFrame f → AllByRecursion IsFrame (frames ++ f ∷ [])
 each_more [] f each fits = (fits, tt)
 each_more (g ∷ frames) f each fits = (each.0, each_more frames f each.1 fits)
 
-carry_more : (frames : List FrameParts) (entries : List Entry) (f : FrameParts) (e : Entry) → AllZip Carries frames entries → Carries f e → AllZip Carries (frames ++ f ∷ []) (entries ++ e ∷ [])
-carry_more [] [] f e carry c = (c, tt)
-carry_more [] (d ∷ entries) f e carry c = absurd carry
-carry_more (g ∷ frames) [] f e carry c = absurd carry
-carry_more (g ∷ frames) (d ∷ entries) f e carry c = (carry.0, carry_more frames entries f e carry.1 c)
+-- one more frame stands for one more entry, wherever it is
+stand_more : (before : ℕ) (frames : List FrameParts) (entries : List Entry) (f : FrameParts) (e : Entry) →
+    StandFor StandsInReplay before frames entries → Carries f e → StandFor StandsInReplay before (frames ++ f ∷ []) (entries ++ e ∷ [])
+stand_more before [] [] f e stand c = (c, tt)
+stand_more before [] (d ∷ entries) f e stand c = absurd stand
+stand_more before (g ∷ frames) [] f e stand c = absurd stand
+stand_more before (g ∷ frames) (d ∷ entries) f e stand c = (stand.0, stand_more (before + 1) frames entries f e stand.1 c)
 
 -- the bytes of frames and one more
 spelled_more : (frames : List FrameParts) (f : FrameParts) → flat_map spelling (frames ++ f ∷ []) ≡ flat_map spelling frames ++ spelling f
@@ -41,7 +43,7 @@ follows_more read entries e f old new fits c held at h =
     record {
       frames = h.frames ++ f ∷ [];
       each = each_more h.frames f h.each fits;
-      carry = carry_more h.frames entries f e h.carry c;
+      stand = stand_more 0 h.frames entries f e h.stand c;
       whole =
           h.whole ∙ ap (λ (xs : List ℕ). flat_map spelling h.frames ++ xs) held
           ∙ sym (append_assoc (flat_map spelling h.frames) (spelling f) new.held)
@@ -61,7 +63,7 @@ stops_at_frame read entries f old rest (BadMessage n) fits held refused h =
       bad = f;
       more = rest;
       each = h.each;
-      carry = h.carry;
+      stand = h.stand;
       fits = fits;
       nothing = refused.1;
       whole = h.whole ∙ ap (λ (xs : List ℕ). flat_map spelling h.frames ++ xs) held;
@@ -81,7 +83,7 @@ follows_fed read bytes entries old new held at h =
     record {
       frames = h.frames;
       each = h.each;
-      carry = h.carry;
+      stand = h.stand;
       whole =
           ap (λ (xs : List ℕ). xs ++ bytes) h.whole ∙ append_assoc (flat_map spelling h.frames) old.held bytes
           ∙ ap (λ (xs : List ℕ). flat_map spelling h.frames ++ xs) (sym held);
@@ -89,9 +91,9 @@ follows_fed read bytes entries old new held at h =
     }
 
 -- where the splitter holds no whole frame, the bytes tell the entries
-pub follows_tells : (read : List ℕ) (entries : List Entry) (stream : Stream) → HoldsNoFrame stream.held → Follows read entries stream → Tells read entries stream.held
+pub follows_tells : (read : List ℕ) (entries : List Entry) (stream : Stream) → HoldsNoFrame stream.held → Follows read entries stream → Tells StandsInReplay read entries stream.held
 follows_tells read entries stream none h =
-    record { frames = h.frames; carry = h.carry; splits = record { whole = h.whole; each = h.each; partial = none } }
+    record { frames = h.frames; stand = h.stand; splits = record { whole = h.whole; each = h.each; partial = none } }
 
 -- decoding gives an entry, unless memory runs out
 abbrev pub Gives : Result Entry DecodeError → Entry → Type 0

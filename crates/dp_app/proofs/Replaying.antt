@@ -1,27 +1,27 @@
 -- What a run leaves on the output.
-use Rattle.std.proofs.Common.{◌≡◌, ℕ, List, sym, ◌∙◌, subst, inl, inr}
+use Rattle.std.proofs.Common.{◌≡◌, ℕ, List, refl, sym, subst, inl, inr}
 use Rattle.std.specs.Prelude.{Option, Some, None, IfSome}
-use Rattle.std.specs.Io.KnownBytes.{Appends}
-use Rattle.dp_io.specs.Faults.{Rose}
+use Rattle.std.specs.Io.KnownBytes.{Appends, IsAtEnd}
 use Rattle.dp_io.specs.Streams.{GrowsByPrefix}
 use Rattle.dp_messages.specs.declared.message.Entry.{Entry}
 use Rattle.dp_plain.specs.Replay.{shown}
 use Rattle.dp_plain.specs.Picture.{p6}
 use Rattle.dp_app.specs.declared.run_end.RunEnd.{RunEnd}
 use Rattle.dp_app.specs.declared.run_end.RunEnd.TheVariants.{Done, ReadFault, WriteFault, Memory, Long, Truncated, BadMessage}
-use Rattle.dp_app.specs.Read.{EndsReading, ReadsToEnd}
-use Rattle.dp_app.specs.Answer.{Leaves, ShowsPart}
+use Rattle.dp_app.specs.Read.{EndsReading, BlamesReading, ReadsToEnd}
+use Rattle.dp_app.specs.Answer.{Blames, Leaves, ShowsPart}
 use Rattle.dp_app.specs.Shown.{WritesShown}
 use Rattle.dp_app.proofs.Completeness.{keeps_same}
 
 -- the picture is written whole
 whole_left : (told left old new : Option (List ℕ)) (entries : List Entry) (end : RunEnd) →
-    IfSome told (λ input. EndsReading input left entries end) → ReadsToEnd end → Appends old new (p6 (shown entries)) → Leaves told left old new end
-whole_left None left old new entries Done h r a = tt
-whole_left (Some input) left old new entries Done h r a = (entries, h, a)
-whole_left None left old new entries (Truncated n) h r a = tt
-whole_left (Some input) left old new entries (Truncated n) h r a = (entries, h, a)
-whole_left told left old new entries _ h r a = absurd r
+    IfSome told (λ input. EndsReading input left entries end) → ReadsToEnd end → IsAtEnd left → Appends old new (p6 (shown entries)) →
+    Leaves told left old new end
+whole_left None left old new entries Done h r at a = (at, tt)
+whole_left (Some input) left old new entries Done h r at a = (at, (entries, h, a))
+whole_left None left old new entries (Truncated n) h r at a = (at, tt)
+whole_left (Some input) left old new entries (Truncated n) h r at a = (at, (entries, h, a))
+whole_left told left old new entries _ h r at a = absurd r
 
 -- a part of the picture is written
 part_left : (told left old new : Option (List ℕ)) (entries : List Entry) (end : RunEnd) →
@@ -32,38 +32,55 @@ part_left (Some input) left old new entries (Truncated n) h r p = (entries, Trun
 part_left (Some input) left old new entries _ h r p = absurd r
 
 pub shown_leaves : (told left old new : Option (List ℕ)) (before now : ℕ) (entries : List Entry) (end result : RunEnd) →
-    IfSome told (λ input. EndsReading input left entries end) → ReadsToEnd end → WritesShown old new before now entries end result → Leaves told left old new result
-shown_leaves told left old new before now entries end result h r (inl (e, appends)) =
-    subst (λ (x : RunEnd). Leaves told left old new x) (sym e) (whole_left told left old new entries end h r appends)
-shown_leaves told left old new before now entries end result h r (inr (inl (e, rose, part))) =
-    subst (λ (x : RunEnd). Leaves told left old new x) (sym e) (part_left told left old new entries end h r part)
-shown_leaves told left old new before now entries end result h r (inr (inr (e, keeps))) =
+    IfSome told (λ input. EndsReading input left entries end) → ReadsToEnd end → IsAtEnd left →
+    WritesShown old new before now entries end result → Leaves told left old new result
+shown_leaves told left old new before now entries end result h r at (inl (e, appends, kept)) =
+    subst (λ (x : RunEnd). Leaves told left old new x) (sym e) (whole_left told left old new entries end h r at appends)
+shown_leaves told left old new before now entries end result h r at (inr (inl (e, part, rose))) =
+    subst (λ (x : RunEnd). Leaves told left old new x) (sym e) (at, part_left told left old new entries end h r part)
+shown_leaves told left old new before now entries end result h r at (inr (inr (e, keeps, kept))) =
     subst (λ (x : RunEnd). Leaves told left old new x) (sym e) keeps
 
--- where the picture ends the run otherwise, the output failed
-pub shown_faults : (old new : Option (List ℕ)) (before now : ℕ) (entries : List Entry) (end result : RunEnd) →
-    ReadsToEnd end → WritesShown old new before now entries end result → result ≡ WriteFault → Rose before now
-shown_faults old new before now entries end result r (inl (e, appends)) f = absurd (subst ReadsToEnd (sym e ∙ f) r)
-shown_faults old new before now entries end result r (inr (inl (e, rose, part))) f = rose
-shown_faults old new before now entries end result r (inr (inr (e, keeps))) f = absurd (let g : Memory ≡ WriteFault = sym e ∙ f in cc)
+-- reading to the end raised no count
+kept_to_end : (before now : ℕ) (end : RunEnd) → BlamesReading before now end → ReadsToEnd end → now ≡ before
+kept_to_end before now Done b r = b
+kept_to_end before now (Truncated n) b r = b
+kept_to_end before now _ b r = absurd r
 
--- the input didn't fail where the picture is written
-pub shown_reads : (old new : Option (List ℕ)) (before now : ℕ) (entries : List Entry) (end result : RunEnd) →
-    ReadsToEnd end → WritesShown old new before now entries end result → result ≡ ReadFault → ⊥
-shown_reads old new before now entries end result r (inl (e, appends)) f = subst ReadsToEnd (sym e ∙ f) r
-shown_reads old new before now entries end result r (inr (inl (e, rose, part))) f = let g : WriteFault ≡ ReadFault = sym e ∙ f in cc
-shown_reads old new before now entries end result r (inr (inr (e, keeps))) f = let g : Memory ≡ ReadFault = sym e ∙ f in cc
+-- an end that all is written at blames nothing
+end_blames : (input input_now output output_now : ℕ) (end : RunEnd) → ReadsToEnd end → input_now ≡ input → output_now ≡ output →
+    Blames input input_now output output_now end
+end_blames input input_now output output_now Done r i o = (i, o)
+end_blames input input_now output output_now (Truncated n) r i o = (i, o)
+end_blames input input_now output output_now _ r i o = absurd r
+
+pub shown_blames : (old new : Option (List ℕ)) (input input_now output output_now : ℕ) (entries : List Entry) (end result : RunEnd) →
+    BlamesReading input input_now end → ReadsToEnd end → WritesShown old new output output_now entries end result →
+    Blames input input_now output output_now result
+shown_blames old new input input_now output output_now entries end result b r (inl (e, appends, kept)) =
+    subst (λ (x : RunEnd). Blames input input_now output output_now x) (sym e)
+    (end_blames input input_now output output_now end r (kept_to_end input input_now end b r) kept)
+shown_blames old new input input_now output output_now entries end result b r (inr (inl (e, part, rose))) =
+    subst (λ (x : RunEnd). Blames input input_now output output_now x) (sym e) (kept_to_end input input_now end b r, rose)
+shown_blames old new input input_now output output_now entries end result b r (inr (inr (e, keeps, kept))) =
+    subst (λ (x : RunEnd). Blames input input_now output output_now x) (sym e) (kept_to_end input input_now end b r, kept)
+
+-- reading that ended before the input's end blames no output
+pub read_blames : (input input_now output : ℕ) (end : RunEnd) → BlamesReading input input_now end → Blames input input_now output output end
+read_blames input input_now output ReadFault b = (b, refl)
+read_blames input input_now output WriteFault b = absurd b
+read_blames input input_now output _ b = (b, refl)
 
 -- nothing is written
-pub nothing_leaves : (told left old : Option (List ℕ)) (entries : List Entry) (end : RunEnd) →
-    IfSome told (λ input. EndsReading input left entries end) → (ReadsToEnd end → ⊥) → Leaves told left old old end
-nothing_leaves told left old entries Done h r = absurd (r tt)
-nothing_leaves told left old entries ReadFault h r = (keeps_same old, h)
-nothing_leaves None left old entries WriteFault h r = tt
-nothing_leaves (Some input) left old entries WriteFault h r = absurd h
-nothing_leaves told left old entries Memory h r = keeps_same old
-nothing_leaves None left old entries Long h r = (keeps_same old, tt)
-nothing_leaves (Some input) left old entries Long h r = (keeps_same old, (entries, h))
-nothing_leaves told left old entries (Truncated n) h r = absurd (r tt)
-nothing_leaves None left old entries (BadMessage n) h r = (keeps_same old, tt)
-nothing_leaves (Some input) left old entries (BadMessage n) h r = (keeps_same old, (entries, h))
+pub nothing_leaves : (told left old : Option (List ℕ)) (input input_now : ℕ) (entries : List Entry) (end : RunEnd) →
+    IfSome told (λ input. EndsReading input left entries end) → BlamesReading input input_now end → (ReadsToEnd end → ⊥) →
+    Leaves told left old old end
+nothing_leaves told left old input input_now entries Done h b r = absurd (r tt)
+nothing_leaves told left old input input_now entries ReadFault h b r = (keeps_same old, h)
+nothing_leaves told left old input input_now entries WriteFault h b r = absurd b
+nothing_leaves told left old input input_now entries Memory h b r = keeps_same old
+nothing_leaves None left old input input_now entries Long h b r = (keeps_same old, tt)
+nothing_leaves (Some bytes) left old input input_now entries Long h b r = (keeps_same old, ((entries, h.0), h.1))
+nothing_leaves told left old input input_now entries (Truncated n) h b r = absurd (r tt)
+nothing_leaves None left old input input_now entries (BadMessage n) h b r = (keeps_same old, tt)
+nothing_leaves (Some bytes) left old input input_now entries (BadMessage n) h b r = (keeps_same old, ((entries, h.0), h.1))

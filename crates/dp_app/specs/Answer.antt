@@ -1,7 +1,7 @@
 -- What the program answers: its status, what it writes, and the line that it says.
-use Rattle.std.specs.Prelude.{◌≡◌, ℕ, ◌⊎◌, List, [], ◌∷◌, ◌++◌, codes, decimal, map, string_bytes, Option, IfSome}
+use Rattle.std.specs.Prelude.{◌≡◌, ℕ, ◌<◌, ◌⊎◌, List, [], ◌∷◌, ◌++◌, codes, decimal, map, string_bytes, Option, IfSome}
 use Rattle.std.specs.declared.string.String.{String}
-use Rattle.std.specs.Io.KnownBytes.{Appends, Keeps}
+use Rattle.std.specs.Io.KnownBytes.{Appends, Keeps, IsAtEnd}
 use Rattle.dp_io.specs.Faults.{Rose}
 use Rattle.dp_io.specs.Streams.{GrowsByPrefix}
 use Rattle.dp_messages.specs.declared.message.Entry.{Entry}
@@ -9,15 +9,19 @@ use Rattle.dp_plain.specs.Replay.{shown}
 use Rattle.dp_plain.specs.Picture.{p6}
 use Rattle.dp_app.specs.declared.run_end.RunEnd.{RunEnd}
 use Rattle.dp_app.specs.declared.run_end.RunEnd.TheVariants.{Done, ReadFault, WriteFault, Memory, Long, Truncated, BadMessage}
-use Rattle.dp_app.specs.Input.{ComesTo, HoldsNoCause}
+use Rattle.dp_app.specs.Input.{ReplayComesTo, ReplayTookWithin}
 
--- the command's word
+-- the word of the command `replay`
 abbrev pub replay_word : List ℕ
 replay_word = codes "replay"
 
 -- the words are the single word `replay`
 abbrev pub IsReplay : {A : Type 0} → List (String A) → Type 0
 IsReplay words = map string_bytes words ≡ replay_word ∷ []
+
+-- the words are a command
+abbrev pub IsCommand : {A : Type 0} → List (String A) → Type 0
+IsCommand words = IsReplay words
 
 -- the status of a run that ends so
 abbrev pub status_of : RunEnd → ℕ
@@ -43,11 +47,12 @@ line_of (BadMessage n) = codes "bad message at " ++ decimal n ++ codes "\n"
 abbrev pub usage_line : List ℕ
 usage_line = codes "usage: drawpile replay, world, play, join, serve or drill\n"
 
--- what the output is due: the picture of the whole frames where the input is read to its end, else nothing
-abbrev pub text_of : List Entry → RunEnd → List ℕ
-text_of entries Done = p6 (shown entries)
-text_of entries (Truncated n) = p6 (shown entries)
-text_of entries _ = []
+-- what the output of `replay` is due: the picture of the whole frames where the input is read to its
+-- end, else nothing
+abbrev pub replay_text : List Entry → RunEnd → List ℕ
+replay_text entries Done = p6 (shown entries)
+replay_text entries (Truncated n) = p6 (shown entries)
+replay_text entries _ = []
 
 -- an answer: the status, the text on the output, and the line on diag
 pub record Answer : Type 0 where
@@ -55,13 +60,22 @@ pub record Answer : Type 0 where
   pub text : List ℕ
   pub line : List ℕ
 
+-- the answer of `replay` whose input comes to this end
+abbrev pub replay_answer : List Entry → RunEnd → Answer
+replay_answer entries end =
+    record { status = status_of end; text = replay_text entries end; line = line_of end }
+
+-- the answer to words that are no command
+abbrev pub usage_answer : Answer
+usage_answer = record { status = 1; text = []; line = usage_line }
+
 -- The answer that the words and the input's bytes are due: for `replay` that of what the input comes
 -- to, and the line about the words where they are no command.
 abbrev pub IsDue : {A : Type 0} → List (String A) → List ℕ → Answer → Type 0
 IsDue words input answer =
-    (IsReplay words × (entries : List Entry) × (end : RunEnd) × ComesTo input entries end
-    × (answer ≡ record { status = status_of end; text = text_of entries end; line = line_of end }))
-    ⊎ (¬ IsReplay words × (answer ≡ record { status = 1; text = []; line = usage_line }))
+    (IsReplay words × (entries : List Entry) × (end : RunEnd) × ReplayComesTo input entries end
+    × (answer ≡ replay_answer entries end))
+    ⊎ (¬ IsCommand words × (answer ≡ usage_answer))
 
 -- the answer is given: the exit status is its own, the output grew by its text, and diag by its line
 pub record IsGiven (answer : Answer) (code : ℕ) (output printed diag said : Option (List ℕ)) : Type 0 where
@@ -69,34 +83,44 @@ pub record IsGiven (answer : Answer) (code : ℕ) (output printed diag said : Op
   pub text : Appends output printed answer.text
   pub line : Appends diag said answer.line
 
--- an input that tells its bytes comes to this end
-abbrev pub Comes : Option (List ℕ) → RunEnd → Type 0
-Comes input end = IfSome input (λ bytes. (entries : List Entry) × ComesTo bytes entries end)
-
 -- the output grew by the picture of what an input that tells its bytes shows, which comes to this end
 abbrev pub ShowsWhole : Option (List ℕ) → Option (List ℕ) → Option (List ℕ) → RunEnd → Type 0
 ShowsWhole input old new end =
-    IfSome input (λ bytes. (entries : List Entry) × ComesTo bytes entries end
-    × Appends old new (text_of entries end))
+    IfSome input (λ bytes. (entries : List Entry) × ReplayComesTo bytes entries end
+    × Appends old new (replay_text entries end))
 
--- the output grew by a front of that picture
+-- the output grew by a prefix of that picture
 abbrev pub ShowsPart : Option (List ℕ) → Option (List ℕ) → Option (List ℕ) → Type 0
 ShowsPart input old new =
-    IfSome input (λ bytes. (entries : List Entry) × (end : RunEnd) × ComesTo bytes entries end
-    × GrowsByPrefix old new (text_of entries end))
+    IfSome input (λ bytes. (entries : List Entry) × (end : RunEnd) × ReplayComesTo bytes entries end
+    × GrowsByPrefix old new (replay_text entries end))
 
--- What a run that ends so leaves of an input and on the output: the picture of the whole frames, a
--- front of it, or nothing. Where the input failed, what was taken of it before holds no cause.
+-- An input that tells its bytes comes to this end, and what was taken of it stops there: it holds no
+-- cause to end but for its last bytes, at most a piece of 4096.
+abbrev pub StopsAtCause : Option (List ℕ) → Option (List ℕ) → RunEnd → Type 0
+StopsAtCause input left end =
+    IfSome input (λ bytes. ((entries : List Entry) × ReplayComesTo bytes entries end)
+    × ReplayTookWithin 4096 bytes left)
+
+-- What a run of `replay` that ends so leaves of an input and on the output: the picture of the whole
+-- frames, a prefix of it, or nothing. Where the input failed, what was taken of it holds no cause.
 abbrev pub Leaves : Option (List ℕ) → Option (List ℕ) → Option (List ℕ) → Option (List ℕ) → RunEnd → Type 0
-Leaves input left old new Done = ShowsWhole input old new Done
-Leaves input left old new ReadFault = Keeps old new × IfSome input (λ bytes. HoldsNoCause bytes left)
-Leaves input left old new WriteFault = ShowsPart input old new
+Leaves input left old new Done = IsAtEnd left × ShowsWhole input old new Done
+Leaves input left old new (Truncated n) = IsAtEnd left × ShowsWhole input old new (Truncated n)
+Leaves input left old new WriteFault = IsAtEnd left × ShowsPart input old new
+Leaves input left old new ReadFault = Keeps old new × IfSome input (λ bytes. ReplayTookWithin 0 bytes left)
 Leaves input left old new Memory = Keeps old new
-Leaves input left old new Long = Keeps old new × Comes input Long
-Leaves input left old new (Truncated n) = ShowsWhole input old new (Truncated n)
-Leaves input left old new (BadMessage n) = Keeps old new × Comes input (BadMessage n)
+Leaves input left old new Long = Keeps old new × StopsAtCause input left Long
+Leaves input left old new (BadMessage n) = Keeps old new × StopsAtCause input left (BadMessage n)
 
--- the line of the end is said, and the status is the end's; or diag failed behind a front of the
+-- What the counts of faults of the input and the output do in a run that ends so: that of the fault
+-- rises, and each other stays what it was.
+abbrev pub Blames : ℕ → ℕ → ℕ → ℕ → RunEnd → Type 0
+Blames input input_now output output_now ReadFault = Rose input input_now × (output_now ≡ output)
+Blames input input_now output output_now WriteFault = (input_now ≡ input) × Rose output output_now
+Blames input input_now output output_now _ = (input_now ≡ input) × (output_now ≡ output)
+
+-- the line of the end is said, and the status is the end's; or diag failed behind a prefix of the
 -- line, and it is 4
 abbrev pub Says : Option (List ℕ) → Option (List ℕ) → ℕ → ℕ → ℕ → RunEnd → Type 0
 Says old new before now status end =

@@ -1,21 +1,21 @@
 -- What a history has read so far.
 use Rattle.std.specs.Prelude.{◌≡◌, ℕ, List, ◌++◌, length}
-use Rattle.std.specs.List.{AllZip, AllByRecursion, flat_map}
+use Rattle.std.specs.List.{AllByRecursion, flat_map}
 use Rattle.dp_frame.specs.Frames.{FrameParts, IsFrame, spelling}
 use Rattle.dp_frame.specs.Stream.{Stream}
 use Rattle.dp_messages.specs.declared.message.Entry.{Entry}
-use Rattle.dp_messages.specs.Decoding.{Carries, CarriesNothing}
+use Rattle.dp_messages.specs.Decoding.{CarriesNothing}
 use Rattle.dp_app.specs.declared.run_end.RunEnd.{RunEnd}
 use Rattle.dp_app.specs.declared.run_end.RunEnd.TheVariants.{Memory, BadMessage}
 use Rattle.dp_messages.specs.declared.decoding.DecodeError.{DecodeError}
 use Rattle.dp_messages.specs.declared.decoding.DecodeError.TheVariants as refusal
-use Rattle.dp_app.specs.Input.{TellsUpTo}
+use Rattle.dp_app.specs.Input.{StandFor, TellsUpTo, StandsInReplay}
 
 -- the bytes are frames that carry the entries, and then what the splitter holds
 pub record Follows (bytes : List ℕ) (entries : List Entry) (stream : Stream) : Type 0 where
   pub frames : List FrameParts
   pub each : AllByRecursion IsFrame frames
-  pub carry : AllZip Carries frames entries
+  pub stand : StandFor StandsInReplay 0 frames entries
   pub whole : bytes ≡ flat_map spelling frames ++ stream.held
   pub at : stream.at ≡ length (flat_map spelling frames)
 
@@ -26,10 +26,10 @@ IsStop (BadMessage n) = Unit {0}
 IsStop _ = ⊥
 
 -- why these bytes can't be read further: want of memory, or a frame that carries nothing behind the
--- entries' frames
+-- frames of the entries
 abbrev pub StopsAt : List ℕ → List Entry → RunEnd → Type 0
 StopsAt bytes entries Memory = Unit {0}
-StopsAt bytes entries (BadMessage n) = TellsUpTo bytes entries n
+StopsAt bytes entries (BadMessage n) = TellsUpTo StandsInReplay bytes entries n
 StopsAt bytes entries _ = ⊥
 
 -- why the frame at byte n gives no entry: want of memory, or it carries nothing

@@ -3,8 +3,9 @@ use Rattle.std.specs.Prelude.{◌≡◌, ℕ, List, ◌++◌, ◌==◌, length, 
 use Rattle.dp_frame.specs.Stream.{Stream}
 use Rattle.dp_messages.specs.declared.message.Entry.{Entry}
 use Rattle.dp_app.specs.declared.run_end.RunEnd.{RunEnd}
-use Rattle.dp_app.specs.declared.run_end.RunEnd.TheVariants.{Done, ReadFault, Memory, Truncated}
-use Rattle.dp_app.specs.Input.{ComesTo, HoldsNoCause}
+use Rattle.dp_app.specs.declared.run_end.RunEnd.TheVariants.{Done, ReadFault, WriteFault, Memory, Truncated}
+use Rattle.dp_app.specs.Input.{ReplayComesTo, ReplayTookWithin}
+use Rattle.dp_io.specs.Faults.{Rose}
 use Rattle.dp_app.specs.History.{Follows}
 
 -- of an input that tells its bytes these are read, and the rest is left
@@ -15,11 +16,21 @@ pub record HasRead (input : List ℕ) (left : Option (List ℕ)) (entries : List
   pub whole : input ≡ read ++ rest
   pub follows : Follows read entries stream
 
--- how reading an input ended of which these bytes are left: by its bytes, by a fault or for want of memory
+-- How reading an input ended of which these bytes are left: by its bytes, with a piece at most behind
+-- what holds no cause; by a fault, with nothing behind it; or for want of memory.
 abbrev pub EndsReading : List ℕ → Option (List ℕ) → List Entry → RunEnd → Type 0
 EndsReading input left entries Memory = Unit {0}
-EndsReading input left entries ReadFault = HoldsNoCause input left
-EndsReading input left entries end = ComesTo input entries end
+EndsReading input left entries ReadFault = ReplayTookWithin 0 input left
+EndsReading input left entries Done = ReplayComesTo input entries Done
+EndsReading input left entries (Truncated n) = ReplayComesTo input entries (Truncated n)
+EndsReading input left entries end = ReplayComesTo input entries end × ReplayTookWithin 4096 input left
+
+-- the count of the input's faults after reading that ended so: a fault raised it, and else it stays;
+-- reading ends by no fault of the output
+abbrev pub BlamesReading : ℕ → ℕ → RunEnd → Type 0
+BlamesReading before now ReadFault = Rose before now
+BlamesReading before now WriteFault = ⊥
+BlamesReading before now _ = now ≡ before
 
 -- the input is read to its end
 abbrev pub ReadsToEnd : RunEnd → Type 0

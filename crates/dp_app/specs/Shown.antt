@@ -9,10 +9,10 @@ use Rattle.dp_plain.specs.Picture.{p6}
 use Rattle.dp_app.specs.declared.run_end.RunEnd.{RunEnd}
 use Rattle.dp_app.specs.declared.run_end.RunEnd.TheVariants.{Memory, WriteFault}
 
--- the picture was written and the run ends as given; or the output failed behind a front of it; or
+-- the picture was written and the run ends as given; or the output failed behind a prefix of it; or
 -- memory ran out before it
 abbrev pub WritesShown : Option (List ℕ) → Option (List ℕ) → ℕ → ℕ → List Entry → RunEnd → RunEnd → Type 0
 WritesShown old new before now entries given end =
-    ((end ≡ given) × Appends old new (p6 (shown entries)))
-    ⊎ ((end ≡ WriteFault) × Rose before now × GrowsByPrefix old new (p6 (shown entries)))
-    ⊎ ((end ≡ Memory) × Keeps old new)
+    ((end ≡ given) × Appends old new (p6 (shown entries)) × (now ≡ before))
+    ⊎ ((end ≡ WriteFault) × GrowsByPrefix old new (p6 (shown entries)) × Rose before now)
+    ⊎ ((end ≡ Memory) × Keeps old new × (now ≡ before))

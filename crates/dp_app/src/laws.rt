@@ -3,17 +3,18 @@
 ghost use Rattle.std.specs.Prelude.{◌≡◌, ℕ, List};
 ghost use Rattle.dp_messages.specs.declared.message.Entry.{Entry};
 ghost use Rattle.dp_app.specs.declared.run_end.RunEnd.{RunEnd};
-ghost use Rattle.dp_app.specs.Input.{ComesTo};
+ghost use Rattle.dp_app.specs.Input.{ReplayComesTo};
 
 use dp_frame::{one_front, one_splitting};
 use dp_messages::one_answer;
 
-/// An input comes to at most one end, with one list of entries.
+/// For `replay` an input comes to at most one end, with one list of entries: so the answer that it is
+/// due is one.
 pub fn one_reading()
     ensures entries { (input : List ℕ) (entries others : List Entry) (end other : RunEnd)
-        → ComesTo input entries end → ComesTo input others other → entries ≡ others }
+        → ReplayComesTo input entries end → ReplayComesTo input others other → entries ≡ others }
     ensures end { (input : List ℕ) (entries others : List Entry) (end other : RunEnd)
-        → ComesTo input entries end → ComesTo input others other → end ≡ other }
+        → ReplayComesTo input entries end → ReplayComesTo input others other → end ≡ other }
 {
     one_front();
     one_splitting();

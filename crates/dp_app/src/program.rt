@@ -1,10 +1,11 @@
 //! The program's top call.
 
-ghost use Rattle.std.specs.Prelude.{◌≡◌, ◌≢◌, ◌⊎◌, ◌≤◌, IfSome};
+ghost use Rattle.std.specs.Prelude.{◌≡◌, ◌≢◌, ◌⊎◌, ◌<◌, ◌≤◌, IfSome};
 ghost use Rattle.std.specs.Io.KnownBytes.{Keeps, IsAtEnd};
 ghost use Rattle.dp_io.specs.Faults.{Rose};
 ghost use Rattle.dp_app.specs.declared.run_end.RunEnd.{RunEnd as run_end};
-ghost use Rattle.dp_app.specs.Answer.{Answer, IsReplay, IsDue, IsGiven, Leaves, Says, SaysUsage};
+ghost use Rattle.dp_app.specs.Answer.{Answer, IsCommand, IsReplay, IsDue, IsGiven};
+ghost use Rattle.dp_app.specs.Answer.{Blames, Leaves, Says, SaysUsage};
 
 use crate::laws::one_reading;
 use crate::replay::run_replay;
@@ -30,20 +31,31 @@ pub fn drawpile<I: Source, O: Sink, E: Sink>(
     diag: &mut E,
 ) -> Outcome
     // Words that are no command are refused, and touch neither input nor output.
-    ensures usage { result.status ≡ 1 → ¬ IsReplay words.now }
-    ensures other_words { ¬ IsReplay words.now
+    ensures usage { result.status ≡ 1 → ¬ IsCommand words.now }
+    ensures other_words { ¬ IsCommand words.now
         → SaysUsage (E.held diag.old) (E.held diag.new) (E.faults diag.old) (E.faults diag.new)
         result.status }
-    ensures untouched { ¬ IsReplay words.now
+    ensures untouched { ¬ IsCommand words.now
         → Keeps (I.left input.old) (I.left input.new) × Keeps (O.held output.old) (O.held output.new) }
+    ensures uncounted { ¬ IsCommand words.now
+        → (I.faults input.new ≡ I.faults input.old) × (O.faults output.new ≡ O.faults output.old) }
 
-    // `replay` ends in one of the ways of a run: what the input comes to decides what is written, and
-    // the status and the line on diag tell it.
+    // `replay` ends in one of the ways of a run: what the input comes to decides what is written, the
+    // fault that ends it is the one that was counted, and the status and the line on diag tell it.
     ensures replay { IsReplay words.now → (end : run_end)
         × Leaves (I.left input.old) (I.left input.new) (O.held output.old) (O.held output.new) end
+        × Blames (I.faults input.old) (I.faults input.new)
+        (O.faults output.old) (O.faults output.new) end
         × Says (E.held diag.old) (E.held diag.new) (E.faults diag.old) (E.faults diag.new)
         result.status end }
-    ensures to_end { (result.status ≡ 0) ⊎ (result.status ≡ 9) → IsAtEnd (I.left input.new) }
+    ensures replay_to_end { IsReplay words.now → (result.status ≡ 0) ⊎ (result.status ≡ 9)
+        → IsAtEnd (I.left input.new) }
+    ensures replay_fault_told { IsReplay words.now → I.faults input.old < I.faults input.new
+        → (result.status ≡ 3)
+        ⊎ ((result.status ≡ 4) × Rose (E.faults diag.old) (E.faults diag.new)) }
+    ensures replay_uncounted { IsReplay words.now
+        → (result.status ≡ 0) ⊎ (result.status ≡ 8) ⊎ (result.status ≡ 9) ⊎ (result.status ≡ 10)
+        → (I.faults input.new ≡ I.faults input.old) × (O.faults output.new ≡ O.faults output.old) }
 
     // Faults have their causes.
     ensures read_fault { result.status ≡ 3 → Rose (I.faults input.old) (I.faults input.new) }

@@ -1,9 +1,8 @@
 //! The entries of an input.
 
-ghost use Rattle.std.specs.Prelude.{◌≡◌, ◌≤◌, IfSome};
+ghost use Rattle.std.specs.Prelude.{◌≤◌, IfSome};
 ghost use Rattle.std.specs.Io.KnownBytes.{IsAtEnd};
-ghost use Rattle.dp_io.specs.Faults.{Rose};
-ghost use Rattle.dp_app.specs.Read.{EndsReading, ReadsToEnd};
+ghost use Rattle.dp_app.specs.Read.{EndsReading, BlamesReading, ReadsToEnd};
 
 use crate::RunEnd;
 use crate::history::History;
@@ -24,9 +23,8 @@ pub(crate) struct Reading {
 pub(crate) fn read_entries<I: Source>(alloc: Global, input: &mut I) -> Reading
     ensures told { IfSome (I.left input.old)
         (λ bytes. EndsReading bytes (I.left input.new) result.history.entries.items result.end) }
+    ensures blames { BlamesReading (I.faults input.old) (I.faults input.new) result.end }
     ensures later { I.faults input.old ≤ I.faults input.new }
-    ensures fault { result.end ≡ RunEnd.ReadFault → Rose (I.faults input.old) (I.faults input.new) }
-    ensures by_input { result.end ≡ RunEnd.WriteFault → ⊥ }
     ensures to_end { ReadsToEnd result.end → IsAtEnd (I.left input.new) }
 {
     let mut history = History::new(alloc);

@@ -1,10 +1,7 @@
 //! The command `replay`: frames on the input, a picture on the output.
 
-ghost use Rattle.std.specs.Prelude.{◌≡◌, ◌≤◌};
-ghost use Rattle.std.specs.Io.KnownBytes.{IsAtEnd};
-ghost use Rattle.dp_io.specs.Faults.{Rose};
-ghost use Rattle.dp_app.specs.Answer.{Leaves};
-ghost use Rattle.dp_app.specs.Read.{ReadsToEnd};
+ghost use Rattle.std.specs.Prelude.{◌≤◌};
+ghost use Rattle.dp_app.specs.Answer.{Blames, Leaves};
 ghost use Rattle.dp_app.specs.Shown.{WritesShown};
 
 use crate::RunEnd;
@@ -18,11 +15,10 @@ use std::alloc::Global;
 pub(crate) fn run_replay<I: Source, O: Sink>(alloc: Global, input: &mut I, output: &mut O) -> RunEnd
     ensures leaves { Leaves (I.left input.old) (I.left input.new)
         (O.held output.old) (O.held output.new) result }
-    ensures read_fault { result ≡ RunEnd.ReadFault → Rose (I.faults input.old) (I.faults input.new) }
-    ensures write_fault { result ≡ RunEnd.WriteFault → Rose (O.faults output.old) (O.faults output.new) }
+    ensures blames { Blames (I.faults input.old) (I.faults input.new)
+        (O.faults output.old) (O.faults output.new) result }
     ensures input_later { I.faults input.old ≤ I.faults input.new }
     ensures output_later { O.faults output.old ≤ O.faults output.new }
-    ensures to_end { ReadsToEnd result → IsAtEnd (I.left input.new) }
 {
     let Reading { history, end } = read_entries(alloc, input);
     if end.reads_to_end() {

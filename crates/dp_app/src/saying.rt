@@ -2,7 +2,7 @@
 
 ghost use Rattle.std.specs.Prelude.{◌≡◌, ◌≤◌, ◌++◌, length, codes, decimal, OnOk};
 ghost use Rattle.std.specs.Io.KnownBytes.{Appends};
-ghost use Rattle.dp_io.specs.Faults.{HasCause};
+ghost use Rattle.dp_io.specs.Faults.{HasCause, any_fault};
 ghost use Rattle.dp_io.specs.Streams.{GrowsByPrefix};
 ghost use Rattle.dp_app.specs.Answer.{line_of, Says, SaysUsage};
 
@@ -41,7 +41,7 @@ pub(crate) fn say_usage<E: Sink>(diag: &mut E) -> u8
 fn put_line<E: Sink>(diag: &mut E, end: RunEnd) -> Result<(), Failed>
     ensures line { OnOk result (Appends (E.held diag.old) (E.held diag.new) (line_of end)) }
     ensures prefix { GrowsByPrefix (E.held diag.old) (E.held diag.new) (line_of end) }
-    ensures cause { HasCause (E.faults diag.old) (E.faults diag.new) result }
+    ensures cause { HasCause any_fault (E.faults diag.old) (E.faults diag.new) result }
 {
     match end {
         RunEnd::Done => Ok(()),

@@ -2,7 +2,7 @@
 
 ghost use Rattle.std.specs.Prelude.{◌≡◌, ◌+◌, ◌*◌, ◌^◌, ◌<◌, ◌≤◌, length, All, OnOk};
 ghost use Rattle.std.specs.Io.KnownBytes.{Appends};
-ghost use Rattle.dp_io.specs.Faults.{HasCause};
+ghost use Rattle.dp_io.specs.Faults.{HasCause, any_fault};
 ghost use Rattle.dp_io.specs.Streams.{GrowsByPrefix};
 ghost use Rattle.dp_plain.specs.Picture.{p6, p6_head, rgb};
 ghost use Rattle.dp_plain.specs.Places.{composed_at, picture_at, bytes_from};
@@ -22,7 +22,7 @@ const PIECE: usize = 1024;
 pub fn plain_p6<S: Sink>(board: &PlainBoard, out: &mut S) -> Result<(), Failed>
     ensures written { OnOk result (Appends (S.held out.old) (S.held out.new) (p6 board.now)) }
     ensures prefix { GrowsByPrefix (S.held out.old) (S.held out.new) (p6 board.now) }
-    ensures cause { HasCause (S.faults out.old) (S.faults out.new) result }
+    ensures cause { HasCause any_fault (S.faults out.old) (S.faults out.new) result }
 {
     let head = head_of(board.width, board.height);
     put_all(out, head.as_bytes())?;
@@ -51,7 +51,7 @@ fn put_pixels<S: Sink>(layers: &[PlainLayer], places: usize, out: &mut S) -> Res
         (Appends (S.held out.old) (S.held out.new) (bytes_from layers.now 0 places)) }
     ensures prefix { GrowsByPrefix (S.held out.old) (S.held out.new)
         (bytes_from layers.now 0 places) }
-    ensures cause { HasCause (S.faults out.old) (S.faults out.new) result }
+    ensures cause { HasCause any_fault (S.faults out.old) (S.faults out.new) result }
 {
     let mut buffer = [0; 3 * PIECE];
     let mut from = 0;

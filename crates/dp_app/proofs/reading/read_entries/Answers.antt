@@ -2,8 +2,8 @@ use Rattle.std.proofs.Common.{◌≡◌, ◌<◌, ◌≤◌, length, take, sym, 
 use Rattle.std.specs.Prelude.{IfSome}
 use Rattle.std.proofs.lemmas.List.{length-take}
 use Rattle.dp_app.specs.declared.run_end.RunEnd.{RunEnd}
-use Rattle.dp_app.specs.Read.{EndsReading}
-use Rattle.dp_app.proofs.Inputs.{told_at_fault, told_at_end, told_at_stop, told_too_long, told_further, two_parts, end_by_input, stop_by_input}
+use Rattle.dp_app.specs.Read.{EndsReading, BlamesReading}
+use Rattle.dp_app.proofs.Inputs.{told_at_fault, told_at_end, told_at_stop, told_too_long, told_further, two_parts, end_blames, stop_blames}
 use Rattle.dp_app.proofs.reading.read_entries.Goals as goal
 
 pub returns-then-count-eq0-clause-told : goal.returns-then-count-eq0-clause-told
@@ -17,10 +17,11 @@ pub returns-in-Err-feed-clause-told : goal.returns-in-Err-feed-clause-told
 returns-in-Err-feed-clause-told g c =
     let counted = c.min-counted.result in
     let least : counted ≤ c.in-Ok.count = omega arith in
+    let few : length (take c.in-Ok.count c.read.new.buf) ≤ 4096 = omega (arith, length-take c.in-Ok.count c.read.new.buf, c.in-Ok.ensures.bound) in
     let short : length (take counted c.read.new.buf) ≤ c.reads.room = omega (arith, length-take counted c.read.new.buf, c.in-Ok.ensures.bound) in
     told_at_stop (g.I.Source.left c.args.input.now) (g.I.Source.left c.reads.input) (g.I.Source.left c.read.new.self) c.reads.history.entries.items
     c.feed.new.self.entries.items c.reads.history.splitter c.reads.room (take c.in-Ok.count c.read.new.buf) (take counted c.read.new.buf) _ c.in-Err-feed.end
-    c.reads.invariant.told c.reads.invariant.room c.in-Ok.ensures.bytes.0 (two_parts counted c.in-Ok.count c.read.new.buf least) short
+    c.reads.invariant.told c.reads.invariant.drained c.reads.invariant.room c.in-Ok.ensures.bytes.0 (two_parts counted c.in-Ok.count c.read.new.buf least) short few
     c.in-Err-feed.ensures.stop c.in-Err-feed.ensures.stopped
 
 pub returns-then-counted-count-clause-told : goal.returns-then-counted-count-clause-told
@@ -28,11 +29,12 @@ returns-then-counted-count-clause-told g c =
     let counted = c.min-counted.result in
     let least : counted ≤ c.in-Ok.count = omega arith in
     let full : length (take counted c.read.new.buf) ≡ c.reads.room = omega (arith, length-take counted c.read.new.buf, c.in-Ok.ensures.bound) in
+    let few : length (take c.in-Ok.count c.read.new.buf) ≤ 4096 = omega (arith, length-take c.in-Ok.count c.read.new.buf, c.in-Ok.ensures.bound) in
     let over : length (take counted c.read.new.buf) < length (take c.in-Ok.count c.read.new.buf) =
     omega (arith, length-take counted c.read.new.buf, length-take c.in-Ok.count c.read.new.buf, c.in-Ok.ensures.bound) in
     told_too_long (g.I.Source.left c.args.input.now) (g.I.Source.left c.reads.input) (g.I.Source.left c.read.new.self) c.reads.history.entries.items
     c.feed.new.self.entries.items c.reads.history.splitter c.feed.new.self.splitter c.reads.room (take c.in-Ok.count c.read.new.buf) (take counted c.read.new.buf) _
-    c.reads.invariant.told c.reads.invariant.room c.in-Ok.ensures.bytes.0 (two_parts counted c.in-Ok.count c.read.new.buf least) full over
+    c.reads.invariant.told c.reads.invariant.drained c.reads.invariant.room c.in-Ok.ensures.bytes.0 (two_parts counted c.in-Ok.count c.read.new.buf least) full over few
     c.in_default.ensures.drained c.in_default.ensures.ok
 
 pub reads-preserved : goal.reads-preserved
@@ -45,14 +47,17 @@ reads-preserved g c =
           c.reads.invariant.told c.in-Ok.ensures.bytes.0 (rw (← all) c.in_default.ensures.ok);
       drained = c.in_default.ensures.drained;
       room = omega (arith, c.in_default.ensures.len, length-take c.min-counted.result c.read.new.buf, c.in-Ok.ensures.bound, c.reads.invariant.room);
-      later = omega (arith, c.reads.invariant.later, c.in-Ok.ensures.cause.later);
+      kept = c.in-Ok.ensures.cause.kept ∙ c.reads.invariant.kept;
     }
 
-pub returns-then-count-eq0-clause-by_input : goal.returns-then-count-eq0-clause-by_input
-returns-then-count-eq0-clause-by_input g c = λ e. end_by_input c.reads.history.splitter (sym c.end-end.ensures ∙ e)
+pub returns-then-count-eq0-clause-blames : goal.returns-then-count-eq0-clause-blames
+returns-then-count-eq0-clause-blames g c =
+    subst (λ (end : RunEnd). BlamesReading (g.I.Source.faults c.args.input.now) (g.I.Source.faults c.read.new.self) end) (sym c.end-end.ensures)
+    (end_blames _ _ c.reads.history.splitter (c.in-Ok.ensures.cause.kept ∙ c.reads.invariant.kept))
 
-pub returns-in-Err-feed-clause-by_input : goal.returns-in-Err-feed-clause-by_input
-returns-in-Err-feed-clause-by_input g c = stop_by_input c.in-Err-feed.end c.in-Err-feed.ensures.stop
+pub returns-in-Err-feed-clause-blames : goal.returns-in-Err-feed-clause-blames
+returns-in-Err-feed-clause-blames g c =
+    stop_blames _ _ c.in-Err-feed.end c.in-Err-feed.ensures.stop (c.in-Ok.ensures.cause.kept ∙ c.reads.invariant.kept)
 
 pub returns-in-Err-clause-told : goal.returns-in-Err-clause-told
 returns-in-Err-clause-told g c =

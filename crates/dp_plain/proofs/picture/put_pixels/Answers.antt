@@ -1,5 +1,5 @@
 -- Each piece stands behind those that were written before.
-use Rattle.std.proofs.Common.{◌≡◌, subst, arith}
+use Rattle.std.proofs.Common.{◌≡◌, ◌∙◌, subst, arith}
 use Rattle.dp_io.specs.Streams.{GrowsByPrefix}
 use Rattle.dp_plain.specs.Places.{bytes_from}
 use Rattle.dp_plain.proofs.Pieces.{piece_written, piece_failed}
@@ -10,7 +10,7 @@ pub loop-from-preserved : goal.loop-from-preserved
 loop-from-preserved g c = record {
   within = omega arith;
   written = piece_written _ _ _ c.args.layers.now c.loop-from.from c.min-count.result _ c.fill_piece.ensures c.loop-from.invariant.written c.in_ok-put_all.ensures.written;
-  later = omega arith;
+  kept = c.in_ok-put_all.ensures.cause.kept ∙ c.loop-from.invariant.kept;
 }
 
 pub returns-in_err-put_all-clause-prefix : goal.returns-in_err-put_all-clause-prefix
