@@ -1,43 +1,35 @@
--- What a frame carries, and why it carries nothing that is built.
-use Rattle.std.specs.Prelude.{◌≡◌, ◌⊎◌, false, IsTrue, Result, Ok, Err, ⊤}
+-- What a frame carries, and why it carries nothing.
+use Rattle.std.specs.Prelude.{◌≡◌, ℕ, List, Result, Ok, Err, ⊤}
 use Rattle.dp_frame.specs.Frames.{FrameParts}
 use Rattle.dp_messages.specs.declared.message.Msg.{Msg}
 use Rattle.dp_messages.specs.declared.message.Entry.{Entry}
 use Rattle.dp_messages.specs.declared.decoding.DecodeError.{DecodeError}
-use Rattle.dp_messages.specs.declared.decoding.DecodeError.TheVariants.{Unknown, Malformed, Unbuilt, Memory}
-use Rattle.dp_messages.specs.Messages.{Spells, IsBuilt, is_unknown, is_built_kind}
+use Rattle.dp_messages.specs.declared.decoding.DecodeError.TheVariants.{Unknown, Malformed, Memory}
+use Rattle.dp_messages.specs.Messages.{Spells, IsUnknownKind}
 
--- the frame carries the entry: its context id is the sender, and its payload spells the message,
--- which is built
+-- the frame carries the entry: its context id is the sender, and its payload spells the message
 pub record Carries (frame : FrameParts) (entry : Entry) : Type 0 where
   pub user : entry.user ≡ frame.user
   pub spelled : Spells frame.kind frame.body entry.msg
-  pub built : IsBuilt entry.msg
 
 -- the frame carries no entry
 abbrev pub CarriesNothing : FrameParts → Type 0
 CarriesNothing frame = (entry : Entry) → Carries frame entry → ⊥
 
--- no message of the frame's type has its payload
-abbrev pub SpellsNothing : FrameParts → Type 0
-SpellsNothing frame = (m : Msg) → Spells frame.kind frame.body m → ⊥
+-- no message of this kind has this payload
+abbrev pub SpellsNothing : ℕ → List ℕ → Type 0
+SpellsNothing kind payload = (m : Msg) → Spells kind payload m → ⊥
 
--- no message of the frame's type is built, or its payload spells one that isn't
-abbrev pub IsUnbuilt : FrameParts → Type 0
-IsUnbuilt frame =
-    ((is_unknown frame.kind ≡ false) × (is_built_kind frame.kind ≡ false))
-    ⊎ ((m : Msg) × Spells frame.kind frame.body m × (IsBuilt m → ⊥))
+-- Why a frame of this kind and payload carries nothing: no message is of the kind, or none of the kind
+-- has the payload.
+abbrev pub IsRefused : ℕ → List ℕ → DecodeError → Type 0
+IsRefused kind payload (Unknown k) = (k ≡ kind) × IsUnknownKind kind
+IsRefused kind payload (Malformed k) =
+    (k ≡ kind) × ¬ IsUnknownKind kind × SpellsNothing kind payload
+IsRefused kind payload Memory = ⊥
 
--- why a frame carries nothing: its type is unknown, no message of the type has its payload, or what
--- it spells isn't built
-abbrev pub IsRefused : FrameParts → DecodeError → Type 0
-IsRefused frame (Unknown k) = (k ≡ frame.kind) × IsTrue (is_unknown k)
-IsRefused frame (Malformed k) = (k ≡ frame.kind) × IsTrue (is_built_kind k) × SpellsNothing frame
-IsRefused frame (Unbuilt k) = (k ≡ frame.kind) × IsUnbuilt frame
-IsRefused frame Memory = ⊥
-
--- what reading a frame's message answers
-abbrev pub Answers : FrameParts → Result Msg DecodeError → Type 0
-Answers frame (Ok m) = Spells frame.kind frame.body m × IsBuilt m
-Answers frame (Err Memory) = ⊤
-Answers frame (Err e) = IsRefused frame e
+-- what reading the payload of a kind answers
+abbrev pub Answers : ℕ → List ℕ → Result Msg DecodeError → Type 0
+Answers kind payload (Ok m) = Spells kind payload m
+Answers kind payload (Err Memory) = ⊤
+Answers kind payload (Err why) = IsRefused kind payload why

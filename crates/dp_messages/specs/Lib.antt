@@ -1,2 +1,4 @@
 pub mod Messages
 pub mod Decoding
+pub mod Hearing
+pub mod Equality

@@ -1,41 +1,61 @@
--- The messages of a session: their type numbers, their payloads, and which of them are built.
-use Rattle.std.specs.Prelude.{◌≡◌, ℕ, ◌<◌, Bool, false, ◌&&◌, ◌||◌, nat_lt, ◌==◌, List, [], ◌∷◌, ⊤}
+-- The messages of a session: the kind of each, its payload, and which of them have a spelling.
+use Rattle.std.specs.Prelude.{◌≡◌, ℕ, ◌<◌, ◌≤◌, ◌^◌, ◌⊎◌, List, [], ◌++◌, length, ⊤}
 use Rattle.dp_messages.specs.declared.message.Msg.{Msg}
 use Rattle.dp_messages.specs.declared.message.Msg.TheVariants as msg
-use Rattle.dp_msg_draw.specs.declared.draw.Draw.{Draw}
-use Rattle.dp_msg_draw.specs.declared.draw.Draw.TheVariants.{CanvasResize, LayerCreate, FillRect}
-use Rattle.dp_msg_draw.specs.Limits.{flag}
-use Rattle.dp_msg_draw.specs.Spelling as drawing
+use Rattle.dp_msg_draw.specs.Fields.{one_byte, flag_byte}
+use Rattle.dp_msg_draw.specs.Limits.{IsDrawKind}
+use Rattle.dp_msg_draw.specs.Payloads.{draw_kind, draw_payload, DrawHasSpelling}
+use Rattle.dp_msg_meta.specs.Payloads.{control_kind, control_payload, ControlHasSpelling, IsControlKind}
+use Rattle.dp_msg_meta.specs.Payloads.{meta_kind, meta_payload, MetaHasSpelling, IsMetaKind}
 
--- the type number of a message
+-- the number of a message's kind, the type byte of its frame
 abbrev pub kind_of : Msg → ℕ
+kind_of (msg.Control m) = control_kind m
+kind_of (msg.Meta m) = meta_kind m
+kind_of (msg.Part command) = 6
 kind_of msg.Point = 128
 kind_of (msg.Undo target redo) = 255
-kind_of (msg.Draw command) = drawing.kind_number command
+kind_of (msg.Draw command) = draw_kind command
+kind_of (msg.Opaque kind body) = kind
 
--- the payload of this type spells the message
-abbrev pub Spells : ℕ → List ℕ → Msg → Type 0
-Spells kind payload msg.Point = (kind ≡ 128) × (payload ≡ [])
-Spells kind payload (msg.Undo target redo) = (kind ≡ 255) × (target < 256) × (payload ≡ target ∷ flag redo ∷ [])
-Spells kind payload (msg.Draw command) = drawing.Spells kind payload command
+-- the bytes of a message's fields, whether they meet their conditions or not
+abbrev pub payload_of : Msg → List ℕ
+payload_of (msg.Control m) = control_payload m
+payload_of (msg.Meta m) = meta_payload m
+payload_of (msg.Part command) = one_byte (draw_kind command) ++ draw_payload command
+payload_of msg.Point = []
+payload_of (msg.Undo target redo) = one_byte target ++ flag_byte redo
+payload_of (msg.Draw command) = draw_payload command
+payload_of (msg.Opaque kind body) = body
 
--- Of the drawing commands these are built: a resize, a layer that is no group and is below none, and a fill of mode 1.
-abbrev pub IsBuiltCommand : Draw → Type 0
-IsBuiltCommand (CanvasResize top right bottom left) = ⊤
-IsBuiltCommand (LayerCreate id parent group title) = (parent ≡ 0) × (group ≡ false)
-IsBuiltCommand (FillRect layer mode x y w h color) = mode ≡ 1
-IsBuiltCommand _ = ⊥
+-- the kind is listed: messages of it have fields of their own
+abbrev pub IsListedKind : ℕ → Type 0
+IsListedKind kind =
+    IsControlKind kind ⊎ (kind ≡ 6) ⊎ IsMetaKind kind ⊎ (kind ≡ 128) ⊎ IsDrawKind kind
+    ⊎ (kind ≡ 255)
 
--- the messages that the program has so far
-abbrev pub IsBuilt : Msg → Type 0
-IsBuilt msg.Point = ⊤
-IsBuilt (msg.Undo target redo) = ⊤
-IsBuilt (msg.Draw command) = IsBuiltCommand command
+-- a kind that isn't listed, from 64 on: its messages have any payload
+abbrev pub IsOpaqueKind : ℕ → Type 0
+IsOpaqueKind kind = (64 ≤ kind) × ¬ IsListedKind kind
 
--- a type number below 64 that no message has: 0 to 7 and 32 to 37 are listed
-abbrev pub is_unknown : ℕ → Bool
-is_unknown kind = nat_lt kind 64 && (nat_lt 7 kind && nat_lt kind 32 || nat_lt 37 kind)
+-- a kind that isn't listed, below 64: no message is of it
+abbrev pub IsUnknownKind : ℕ → Type 0
+IsUnknownKind kind = (kind < 64) × ¬ IsListedKind kind
 
--- a type number some of whose messages are built
-abbrev pub is_built_kind : ℕ → Bool
-is_built_kind kind = kind == 128 || kind == 129 || kind == 130 || kind == 137 || kind == 255
+-- Which messages have a spelling: their parts have one, numbers lie within their widths, the payload
+-- has at most 65,535 bytes, and a message of any payload is of a kind that isn't listed.
+abbrev pub HasSpelling : Msg → Type 0
+HasSpelling (msg.Control m) = ControlHasSpelling m
+HasSpelling (msg.Meta m) = MetaHasSpelling m
+HasSpelling (msg.Part command) = DrawHasSpelling command × (length (draw_payload command) ≤ 65534)
+HasSpelling msg.Point = ⊤
+HasSpelling (msg.Undo target redo) = target < 2 ^ 8
+HasSpelling (msg.Draw command) = DrawHasSpelling command
+HasSpelling (msg.Opaque kind body) =
+    IsOpaqueKind kind × (kind < 2 ^ 8) × (length body ≤ 65535)
+
+-- the payload of this kind spells the message
+pub record Spells (number : ℕ) (bytes : List ℕ) (m : Msg) : Type 0 where
+  pub kind : number ≡ kind_of m
+  pub payload : bytes ≡ payload_of m
+  pub spelled : HasSpelling m

@@ -1,51 +1,57 @@
 //! Entries as frames.
 
-ghost use Rattle.std.specs.Prelude.{◌≡◌, ◌<◌, ◌+◌, ◌++◌, ◌≤◌, ℕ, List, IfOk, OnOk, OnErr, vec_len};
-ghost use Rattle.dp_messages.specs.Messages.{Spells, kind_of};
+ghost use Rattle.std.specs.Prelude.{◌≡◌, ◌++◌, ◌+◌, ◌≤◌, IfOk, OnOk};
+ghost use Rattle.dp_messages.specs.declared.message.Entry.{Entry as Item};
+ghost use Rattle.dp_messages.specs.Messages.{HasSpelling, payload_of};
+ghost use Rattle.dp_messages.specs.Decoding.{Carries};
 
-use crate::{Entry, Msg};
+use crate::laws::one_answer;
+use crate::{DecodeError, Entry, Msg, decode, same};
 use dp_frame::{Frame, Octets};
 use dp_msg_draw::{kind_of_draw, write_draw};
+use dp_msg_meta::{write_control, write_meta};
 use std::alloc::{AllocError, Global};
 
-impl Msg {
-    /// The number of the message's type.
-    pub fn kind(&self) -> u8
-        ensures { result ≡ kind_of self.now }
-    {
-        match self {
-            Msg::Point => 128,
-            Msg::Undo { .. } => 255,
-            Msg::Draw(command) => kind_of_draw(command),
-        }
+/// A kind that no message is of.
+const NO_KIND: u8 = 8;
+
+/// The frame of the entry: the sender as its context id, and the message's one spelling.
+///
+/// A message that has no spelling comes out as an empty frame of kind 8, which carries nothing. So what
+/// was written is read once again. The only error is want of memory.
+/// The rule: docs/protocol.md, "Messages".
+pub fn encode(alloc: Global, entry: &Entry) -> Result<Frame, AllocError>
+    ensures spelled { IfOk result (λ frame. HasSpelling entry.now.msg → Carries frame entry.now) }
+    ensures only { IfOk result (λ frame. (e : Item) → Carries frame e → e ≡ entry.now) }
+{
+    one_answer();
+    let mut payload = Vec::new(alloc);
+    write_payload(&entry.msg, &mut payload)?;
+    if payload.len() > 65535 {
+        return Ok(Frame::new(NO_KIND, entry.user, Octets::new(alloc)));
+    }
+    let frame = Frame::new(entry.msg.kind(), entry.user, Octets::from_vec(payload));
+    match decode(alloc, &frame) {
+        Ok(again) if same(&again.msg, &entry.msg) => Ok(frame),
+        Err(DecodeError::Memory) => Err(AllocError),
+        _ => Ok(Frame::new(NO_KIND, entry.user, Octets::new(alloc))),
     }
 }
 
-/// The frame of the entry: the sender as its context id, and the message's one spelling.
-/// The rule: docs/protocol.md, "Messages".
-pub fn encode(alloc: Global, entry: &Entry) -> Result<Frame, AllocError>
-    ensures sender { IfOk result (λ frame. frame.user ≡ entry.now.user) }
-    ensures kind { IfOk result (λ frame. frame.kind ≡ kind_of entry.now.msg) }
-    ensures spelling { IfOk result (λ frame. (payload : List ℕ)
-        → Spells frame.kind payload entry.now.msg → frame.body ≡ payload) }
-{
-    let payload = write_payload(alloc, &entry.msg)?;
-    Ok(Frame::new(entry.msg.kind(), entry.user, Octets::from_vec(payload)))
-}
-
-/// The payload of the message.
-fn write_payload(alloc: Global, msg: &Msg) -> Result<Vec<u8>, AllocError>
-    ensures spelling { IfOk result (λ bytes. (payload : List ℕ)
-        → Spells (kind_of msg.now) payload msg.now → bytes.items ≡ payload) }
-    ensures short { IfOk result (λ bytes. vec_len bytes ≤ 65535) }
+/// Adds the payload of the message at the end.
+fn write_payload(msg: &Msg, out: &mut Vec<u8>) -> Result<(), AllocError>
+    ensures { OnOk result (out.new.items ≡ out.old.items ++ payload_of msg.now) }
 {
     match msg {
-        Msg::Point => Ok(Vec::new(alloc)),
-        Msg::Undo { target, redo } => Vec::from_slice(alloc, &[*target, u8::from(*redo)]),
-        Msg::Draw(command) => {
-            let mut payload = Vec::new(alloc);
-            write_draw(command, &mut payload)?;
-            Ok(payload)
+        Msg::Control(control) => write_control(control, out),
+        Msg::Meta(meta) => write_meta(meta, out),
+        Msg::Part(command) => {
+            out.push(kind_of_draw(command))?;
+            write_draw(command, out)
         }
+        Msg::Point => Ok(()),
+        Msg::Undo { target, redo } => out.extend_from_slice(&[*target, u8::from(*redo)]),
+        Msg::Draw(command) => write_draw(command, out),
+        Msg::Opaque { body, .. } => out.extend_from_slice(body.as_slice()),
     }
 }

@@ -1,33 +1,60 @@
 //! Laws of messages, each the contract of a function that does nothing.
 
-ghost use Rattle.std.specs.Prelude.{◌≡◌, ℕ, List};
+ghost use Rattle.std.specs.Prelude.{◌≡◌, ◌≤◌, ◌↔◌, ℕ, List, length, IsTrue};
 ghost use Rattle.dp_frame.specs.Frames.{FrameParts};
 ghost use Rattle.dp_messages.specs.declared.message.Msg.{Msg as Message};
 ghost use Rattle.dp_messages.specs.declared.message.Entry.{Entry};
 ghost use Rattle.dp_messages.specs.declared.decoding.DecodeError.{DecodeError};
 ghost use Rattle.dp_messages.specs.Messages.{Spells};
 ghost use Rattle.dp_messages.specs.Decoding.{Carries, IsRefused};
+ghost use Rattle.dp_messages.specs.Equality.{same_message};
+ghost use Rattle.dp_messages.specs.Hearing.{Hears};
 
-use dp_msg_draw::one_spelling;
+use dp_frame::one_splitting;
+use dp_msg_draw::{same_draw_is_equality, one_draw};
+use dp_msg_meta::{control_equality, meta_equality, one_control, one_meta};
 
-/// A payload of a type spells at most one message, and a message has one type and one payload.
+/// A payload of a kind spells at most one message, and a message has one kind and one payload, of at
+/// most 65,535 bytes.
 pub fn one_message()
     ensures message { (kind : ℕ) (payload : List ℕ) (m n : Message)
         → Spells kind payload m → Spells kind payload n → m ≡ n }
     ensures payload { (j k : ℕ) (p q : List ℕ) (m : Message)
         → Spells j p m → Spells k q m → (j ≡ k) × (p ≡ q) }
+    ensures short { (kind : ℕ) (payload : List ℕ) (m : Message)
+        → Spells kind payload m → length payload ≤ 65535 }
 {
-    one_spelling();
+    one_control();
+    one_meta();
+    one_draw();
 }
 
-/// A frame carries at most one entry. It is refused in at most one way, and only where it carries
-/// none.
+/// A frame carries at most one entry. It is refused in at most one way, and only where it carries none:
+/// so what `decode` answers is one answer.
 pub fn one_answer()
     ensures entry { (frame : FrameParts) (e f : Entry) → Carries frame e → Carries frame f → e ≡ f }
-    ensures refusal { (frame : FrameParts) (e f : DecodeError)
-        → IsRefused frame e → IsRefused frame f → e ≡ f }
+    ensures refusal { (kind : ℕ) (payload : List ℕ) (e f : DecodeError)
+        → IsRefused kind payload e → IsRefused kind payload f → e ≡ f }
     ensures either { (frame : FrameParts) (e : Entry) (f : DecodeError)
-        → Carries frame e → IsRefused frame f → ⊥ }
+        → Carries frame e → IsRefused frame.kind frame.body f → ⊥ }
 {
-    one_spelling();
+    one_message();
+}
+
+/// The test of two messages tells exactly whether they are equal.
+pub fn one_equality()
+    ensures { (m n : Message) → IsTrue (same_message m n) ↔ (m ≡ n) }
+{
+    control_equality();
+    meta_equality();
+    same_draw_is_equality();
+}
+
+/// In a list of bytes one list of messages is heard.
+pub fn one_hearing()
+    ensures { (bytes : List ℕ) (messages others : List Message)
+        → Hears bytes messages → Hears bytes others → messages ≡ others }
+{
+    one_splitting();
+    one_message();
 }

@@ -10,7 +10,7 @@ mod message;
 pub use decoding::{DecodeError, decode};
 pub use encoding::encode;
 pub use equality::same;
-pub use laws::{one_answer, one_message};
+pub use laws::{one_answer, one_equality, one_hearing, one_message};
 pub use message::{Entry, Msg};
 
 #[cfg(test)]

@@ -1,13 +1,25 @@
 //! A message, and the entry that it makes with its sender.
 
-ghost use Rattle.std.specs.Prelude.{◌≡◌, IfOk};
+ghost use Rattle.std.specs.Prelude.{◌≡◌, ◌≤◌, IfOk};
+ghost use Rattle.dp_messages.specs.Messages.{kind_of};
 
-use dp_msg_draw::Draw;
+use dp_frame::Octets;
+use dp_msg_draw::{Draw, kind_of_draw};
+use dp_msg_meta::{Control, Meta, kind_of_control, kind_of_meta};
 use std::alloc::AllocError;
 
-/// A message of the session. The rule: docs/protocol.md, "Messages".
+/// A message of the session.
+///
+/// Not every value has a spelling (`HasSpelling`): what `decode` gives has one.
+/// The rule: docs/protocol.md, "Messages".
 #[derive(Debug, Drop)]
 pub enum Msg {
+    /// A message of the link between a client and its server.
+    Control(Control),
+    /// A message about users, rights and the epoch.
+    Meta(Meta),
+    /// One command of the canvas that a reset uploads.
+    Part(Draw),
     /// Opens a new group of the sender's strokes.
     Point,
     /// Takes back a group of the target's strokes, or with `redo` brings one back. Target 0 is the
@@ -15,6 +27,8 @@ pub enum Msg {
     Undo { target: u8, redo: bool },
     /// A drawing command.
     Draw(Draw),
+    /// A message of a kind that isn't listed, from 64 on, with any payload. It has no effect.
+    Opaque { kind: u8, body: Octets },
 }
 
 /// A message with the user who sent it, by context id.
@@ -25,23 +39,45 @@ pub struct Entry {
 }
 
 impl Msg {
-    /// An equal message.
+    /// The number of the message's kind, the type byte of its frame.
+    pub fn kind(&self) -> u8
+        ensures { result ≡ kind_of self.now }
+    {
+        match self {
+            Msg::Control(control) => kind_of_control(control),
+            Msg::Meta(meta) => kind_of_meta(meta),
+            Msg::Part(_) => 6,
+            Msg::Point => 128,
+            Msg::Undo { .. } => 255,
+            Msg::Draw(command) => kind_of_draw(command),
+            Msg::Opaque { kind, .. } => *kind,
+        }
+    }
+
+    /// An equal message. The only error is want of memory.
     pub fn copy(&self) -> Result<Msg, AllocError>
         ensures { IfOk result (λ m. m ≡ self.now) }
     {
-        match self {
-            Msg::Point => Ok(Msg::Point),
-            Msg::Undo { target, redo } => Ok(Msg::Undo {
+        Ok(match self {
+            Msg::Control(control) => Msg::Control(control.copy()?),
+            Msg::Meta(meta) => Msg::Meta(meta.copy()?),
+            Msg::Part(command) => Msg::Part(command.copy()?),
+            Msg::Point => Msg::Point,
+            Msg::Undo { target, redo } => Msg::Undo {
                 target: *target,
                 redo: *redo,
-            }),
-            Msg::Draw(command) => Ok(Msg::Draw(command.copy()?)),
-        }
+            },
+            Msg::Draw(command) => Msg::Draw(command.copy()?),
+            Msg::Opaque { kind, body } => Msg::Opaque {
+                kind: *kind,
+                body: body.copy()?,
+            },
+        })
     }
 }
 
 impl Entry {
-    /// An equal entry.
+    /// An equal entry. The only error is want of memory.
     pub fn copy(&self) -> Result<Entry, AllocError>
         ensures { IfOk result (λ e. e ≡ self.now) }
     {

@@ -1,6 +1,7 @@
 use super::*;
 use dp_frame::{Frame, Octets};
 use dp_msg_draw::{Draw, Title};
+use dp_msg_meta::{Control, Meta, Text};
 use std::alloc::Global;
 use std::process::Abort;
 use std::test::Fail;
@@ -11,8 +12,9 @@ enum Answer {
     Read,
     Unknown,
     Malformed,
-    Unbuilt,
 }
+
+use Answer::{Malformed, Read, Unknown};
 
 /// The frame of user 7 with this type and payload.
 fn frame_of(rt: &impl Abort, alloc: Global, kind: u8, payload: &[u8]) -> Result<Frame, Fail> {
@@ -21,147 +23,162 @@ fn frame_of(rt: &impl Abort, alloc: Global, kind: u8, payload: &[u8]) -> Result<
     Ok(Frame::new(kind, 7, Octets::from_vec(body)))
 }
 
-/// The error as an answer about this type.
-fn refusal(rt: &impl Abort, kind: u8, error: &DecodeError) -> Answer {
-    let (answer, refused) = match error {
-        DecodeError::Unknown(refused) => (Answer::Unknown, *refused),
-        DecodeError::Malformed(refused) => (Answer::Malformed, *refused),
-        DecodeError::Unbuilt(refused) => (Answer::Unbuilt, *refused),
-        DecodeError::Memory => panic!(rt; "out of memory"),
-    };
-    assert_eq!(rt; refused, kind);
-    answer
-}
-
-/// The entry is written with this type and these bytes.
-fn is_written(
-    rt: &impl Abort,
-    alloc: Global,
-    entry: &Entry,
-    kind: u8,
-    payload: &[u8],
-) -> Result<(), Fail> {
-    let frame = encode(alloc, entry)?;
-    assert_eq!(rt; (frame.kind(), frame.user()), (kind, 7));
-    assert_eq!(rt; frame.body().as_slice(), payload);
-    Ok(())
-}
-
-/// The answer to the frame. What is read is written with the same bytes again.
+/// What reading the payload answers. What is read is written back with this type and these bytes, and so is
+/// its copy, which is the same.
 fn answer_to(rt: &impl Abort, alloc: Global, kind: u8, payload: &[u8]) -> Result<Answer, Fail> {
     let frame = frame_of(rt, alloc, kind, payload)?;
-    match decode(alloc, &frame) {
+    let (answer, refused) = match decode(alloc, &frame) {
         Ok(entry) => {
-            is_written(rt, alloc, &entry, kind, payload)?;
-            Ok(Answer::Read)
+            let copy = entry.copy()?;
+            assert!(rt; same(&copy.msg, &entry.msg));
+            let written = encode(alloc, &copy)?;
+            assert_eq!(rt; (written.kind(), written.user(), copy.msg.kind()), (kind, 7, kind));
+            assert_eq!(rt; written.body().as_slice(), payload);
+            return Ok(Read);
         }
-        Err(error) => Ok(refusal(rt, kind, &error)),
+        Err(DecodeError::Unknown(refused)) => (Unknown, refused),
+        Err(DecodeError::Malformed(refused)) => (Malformed, refused),
+        Err(DecodeError::Memory) => panic!(rt; "out of memory"),
+    };
+    assert_eq!(rt; refused, kind);
+    Ok(answer)
+}
+
+fn digit(c: u8) -> u8 {
+    match c {
+        b'0'..=b'9' => c - b'0',
+        b'a'..=b'f' => c - b'a' + 10,
+        _ => 0,
     }
+}
+
+/// The bytes of pairs of hexadecimal digits.
+fn bytes_of(alloc: Global, text: &str) -> Result<Vec<u8>, Fail> {
+    let mut bytes = Vec::new(alloc);
+    for pair in text.as_bytes().chunks(2) {
+        if let [high, low] = pair {
+            bytes.push(digit(*high).wrapping_mul(16).wrapping_add(digit(*low)))?;
+        }
+    }
+    Ok(bytes)
 }
 
 #[test]
 fn payloads(rt: HostRuntime) -> Result<(), Fail> {
-    let table: [(u8, &[u8], Answer); 21] = [
-        (128, b"", Answer::Read),
-        (128, b"\0", Answer::Malformed),
-        (255, b"\0\0", Answer::Read),
-        (255, b"\0\x01", Answer::Read),
-        (255, b"\0\x02", Answer::Malformed),
-        (255, b"\0", Answer::Malformed),
-        (129, b"\0\0\0\0\0\0\0\x02\0\0\0\x01\0\0\0\0", Answer::Read),
-        (
-            129,
-            b"\0\0\0\0\0\0\0\x02\0\0\0\x01\0\0\0",
-            Answer::Malformed,
-        ),
-        (130, b"\x01\x01\0\0\0", Answer::Read),
-        (130, b"\x01\x01\0\0\0Hi", Answer::Read),
-        (130, b"\x01\x01\0\0\x01", Answer::Unbuilt),
-        (130, b"\x01\x01\x01\x02\0", Answer::Unbuilt),
-        (130, b"\x01\x01\0\0\x02", Answer::Malformed),
-        (130, b"\x01\x01\0\0", Answer::Malformed),
-        (130, b"\x01\x01\0\0\0\xff", Answer::Malformed),
-        (
-            137,
-            b"\x01\x01\x01\0\0\0\0\0\0\0\0\0\0\0\x01\0\0\0\x01\xff\xff\0\0",
-            Answer::Read,
-        ),
-        (
-            137,
-            b"\x01\x01\0\0\0\0\0\0\0\0\0\0\0\0\x01\0\0\0\x01\xff\xff\0\0",
-            Answer::Unbuilt,
-        ),
-        (
-            137,
-            b"\x01\x01\x03\0\0\0\0\0\0\0\0\0\0\0\x01\0\0\0\x01\xff\xff\0\0",
-            Answer::Malformed,
-        ),
-        (
-            137,
-            b"\x01\x01\x01\0\0\0\0\0\0\0\0\0\0\0\x01\0\0\0\x01\xff\xff\0\0\0",
-            Answer::Malformed,
-        ),
-        (131, b"\x01\x02\x80\x01\0", Answer::Unbuilt),
-        (136, b"", Answer::Unbuilt),
+    let alloc = rt.alloc();
+    let table = [
+        (0, "616e6e", Read),
+        (0, "", Malformed),
+        (1, "00", Read),
+        (2, "01", Read),
+        (2, "02", Malformed),
+        (3, "00000001", Read),
+        (4, "000101000000000000000b", Read),
+        (5, "", Read),
+        (5, "00", Malformed),
+        (6, "820101000002", Malformed),
+        (6, "8100000000000000020000000100000000", Read),
+        (6, "8001", Malformed),
+        (6, "80", Malformed),
+        (6, "ff0000", Malformed),
+        (6, "", Malformed),
+        (7, "", Read),
+        (8, "", Unknown),
+        (20, "", Unknown),
+        (31, "00", Unknown),
+        (32, "00616e6e", Read),
+        (33, "", Read),
+        (34, "0102", Read),
+        (34, "0201", Malformed),
+        (35, "6869", Read),
+        (36, "", Read),
+        (37, "0000000000000000", Read),
+        (38, "", Unknown),
+        (63, "00", Unknown),
+        (64, "00000001ffffffff", Read),
+        (65, "0000000100000002", Read),
+        (66, "00", Read),
+        (67, "0101010103", Read),
+        (68, "0303030303030303", Read),
+        (68, "0303030303030304", Malformed),
+        (69, "81", Read),
+        (70, "", Read),
+        (127, "0102", Read),
+        (128, "", Read),
+        (128, "00", Malformed),
+        (129, "00000000000000020000000100000000", Read),
+        (129, "000000000000000200000001000000", Malformed),
+        (130, "01010000004869", Read),
+        (130, "01010000014869", Read),
+        (130, "0101000002", Malformed),
+        (131, "0101800100", Read),
+        (132, "01014869", Read),
+        (133, "010100000102", Read),
+        (134, "0101", Read),
+        (135, "0101", Read),
+        (136, "01010100000000000000000000000100000001ff00ff00", Read),
+        (137, "01010100000000000000000000000100000001ffff0000", Read),
+        (137, "01010300000000000000000000000100000001ffff0000", Malformed),
+        (146, "0101000000000000008000000000008000", Read),
+        (146, "0101000000000000000001000000000000", Malformed),
+        (147, "ff00ff00", Read),
+        (149, "01010000000000000000ff00000100000080", Malformed),
+        (149, "01010000000000000000ff00000100000980", Read),
+        (150, "01010000000000000000ff00000100000980", Read),
+        (152, "0101000000000000000000000002000000010000000100000000", Read),
+        (200, "", Read),
+        (255, "0300", Read),
+        (255, "0301", Read),
+        (255, "0002", Malformed),
+        (255, "00", Malformed),
     ];
     for (kind, payload, expected) in table {
-        let found = answer_to(&rt, rt.alloc(), kind, payload)?;
-        assert_eq!(rt; found, expected, "{payload:?} of type {kind}");
+        let found = answer_to(&rt, alloc, kind, &bytes_of(alloc, payload)?)?;
+        assert_eq!(rt; found, expected, "{payload} of type {kind}");
     }
     Ok(())
 }
 
 #[test]
-fn types_of_no_message_that_is_built(rt: HostRuntime) -> Result<(), Fail> {
-    for kind in [8, 20, 31, 38, 63] {
-        let found = answer_to(&rt, rt.alloc(), kind, b"\0")?;
-        assert_eq!(rt; found, Answer::Unknown, "type {kind}");
-    }
-    for kind in [0, 7, 32, 37, 64, 131, 136, 200] {
-        let found = answer_to(&rt, rt.alloc(), kind, b"\0")?;
-        assert_eq!(rt; found, Answer::Unbuilt, "type {kind}");
-    }
-    Ok(())
-}
-
-/// The frame is read as user 7's message, and so is its copy.
-fn is_read(
-    rt: &impl Abort,
-    alloc: Global,
-    kind: u8,
-    payload: &[u8],
-    msg: &Msg,
-) -> Result<(), Fail> {
-    let frame = frame_of(rt, alloc, kind, payload)?;
-    let entry = decode(alloc, &frame)?.copy()?;
-    assert_eq!(rt; (entry.user, entry.msg.kind()), (7, kind));
-    assert!(rt; same(&entry.msg, msg));
-    Ok(())
-}
-
-#[test]
-fn undo_and_redo(rt: HostRuntime) -> Result<(), Fail> {
-    let undo = Msg::Undo {
-        target: 3,
-        redo: false,
+fn messages_without_a_spelling(rt: HostRuntime) -> Result<(), Fail> {
+    let alloc = rt.alloc();
+    let chat = Msg::Opaque {
+        kind: 35,
+        body: Octets::from_vec(Vec::from_slice(alloc, b"hi")?),
     };
-    is_read(&rt, rt.alloc(), 255, b"\x03\0", &undo)?;
-    let redo = Msg::Undo {
-        target: 3,
-        redo: true,
+    let long = Msg::Opaque {
+        kind: 200,
+        body: Octets::from_vec(vec![in alloc; 0u8; 65_536]?),
     };
-    is_read(&rt, rt.alloc(), 255, b"\x03\x01", &redo)?;
-    assert!(rt; !same(&redo, &undo));
-    Ok(())
-}
-
-#[test]
-fn a_layer(rt: HostRuntime) -> Result<(), Fail> {
-    let layer = Msg::Draw(Draw::LayerCreate {
+    let mode = Msg::Draw(Draw::LayerAttr {
         id: 0x0101,
-        parent: 0,
-        group: false,
-        title: Title::new(rt.alloc()),
+        opacity: 255,
+        mode: 3,
+        hidden: false,
     });
-    is_read(&rt, rt.alloc(), 130, b"\x01\x01\0\0\0", &layer)
+    for msg in [chat, long, mode] {
+        let frame = encode(alloc, &Entry { user: 7, msg })?;
+        assert_eq!(rt; (frame.kind(), frame.user(), frame.body().len()), (8, 7, 0));
+        assert_eq!(rt; decode(alloc, &frame).err(), Some(DecodeError::Unknown(8)));
+    }
+    Ok(())
+}
+
+#[test]
+fn messages_that_differ(rt: HostRuntime) -> Result<(), Fail> {
+    let alloc = rt.alloc();
+    let undo = |redo: bool| Msg::Undo { target: 3, redo };
+    assert!(rt; same(&undo(true), &undo(true)));
+    assert!(rt; !same(&undo(true), &undo(false)));
+    assert!(rt; !same(&Msg::Point, &Msg::Control(Control::ResetBegin)));
+    let layer = Draw::LayerTitle {
+        id: 1,
+        title: Title::new(alloc),
+    };
+    assert!(rt; !same(&Msg::Part(layer.copy()?), &Msg::Draw(layer)));
+    let chat = Msg::Meta(Meta::Chat {
+        text: Text::new(alloc),
+    });
+    assert!(rt; same(&chat, &chat.copy()?));
+    Ok(())
 }

@@ -1,0 +1,128 @@
+-- The kinds of messages, by variant: each variant has kinds of its own.
+use Rattle.std.proofs.Common.{◌≡◌, ◌≢◌, ◌⊎◌, ℕ, ◌<◌, ◌≤◌, List, [], ◌∷◌, ◌++◌, inl, inr, refl, sym, subst, arith, lit≤}
+use Rattle.std.specs.Prelude.{⊤}
+use Rattle.dp_msg_draw.specs.declared.draw.Draw.{Draw}
+use Rattle.dp_msg_draw.specs.declared.draw.Draw.TheVariants.{CanvasResize, LayerCreate, LayerAttr, LayerTitle, LayerMove, LayerDelete, PutImage, FillRect, PutTile, Background, DabsRound, DabsSquare, MoveRect}
+use Rattle.dp_msg_draw.specs.Limits.{IsDrawKind}
+use Rattle.dp_msg_draw.specs.Payloads.{draw_kind, SpellsDraw}
+use Rattle.dp_msg_meta.specs.declared.message.Control.{Control}
+use Rattle.dp_msg_meta.specs.declared.message.Control.TheVariants.{Hello, Disconnect, Ping, Ack, Welcome, ResetBegin, ResetEnd}
+use Rattle.dp_msg_meta.specs.declared.message.Meta.{Meta}
+use Rattle.dp_msg_meta.specs.declared.message.Meta.TheVariants.{Join, Leave, Owners, Chat, Trusted, ResetMark, Laser, MovePointer, UserAcl, LayerAcl, FeatureTiers, Filtered}
+use Rattle.dp_msg_meta.specs.Payloads.{control_kind, IsControlKind, SpellsControl, meta_kind, IsMetaKind, SpellsMeta}
+use Rattle.dp_messages.specs.declared.message.Msg.{Msg}
+use Rattle.dp_messages.specs.declared.message.Msg.TheVariants as msg
+use Rattle.dp_messages.specs.Messages.{kind_of, IsListedKind, IsOpaqueKind, IsUnknownKind, Spells}
+use Rattle.dp_messages.specs.Decoding.{SpellsNothing}
+
+-- what the layers below say of kinds
+pub record KindLaws : Type 0 where
+  pub control : (m : Control) (kind : ℕ) (payload : List ℕ) → SpellsControl kind payload m → IsControlKind kind
+  pub meta : (m : Meta) (kind : ℕ) (payload : List ℕ) → SpellsMeta kind payload m → IsMetaKind kind
+  pub draw : (m : Draw) (kind : ℕ) (payload : List ℕ) → SpellsDraw kind payload m → IsDrawKind kind
+
+pub to_control : (kind : ℕ) (payload : List ℕ) (m : Control) → Spells kind payload (msg.Control m) → SpellsControl kind payload m
+to_control kind payload m s = record { kind = s.kind; payload = s.payload; spelled = s.spelled }
+
+pub to_meta : (kind : ℕ) (payload : List ℕ) (m : Meta) → Spells kind payload (msg.Meta m) → SpellsMeta kind payload m
+to_meta kind payload m s = record { kind = s.kind; payload = s.payload; spelled = s.spelled }
+
+pub to_draw : (kind : ℕ) (payload : List ℕ) (m : Draw) → Spells kind payload (msg.Draw m) → SpellsDraw kind payload m
+to_draw kind payload m s = record { kind = s.kind; payload = s.payload; spelled = s.spelled }
+
+-- a variant's kinds lie apart from the others
+abbrev pub InRange : Msg → ℕ → Type 0
+InRange (msg.Control m) kind = (kind ≤ 7) × (kind ≢ 6)
+InRange (msg.Meta m) kind = (32 ≤ kind) × (kind ≤ 69)
+InRange (msg.Part command) kind = kind ≡ 6
+InRange msg.Point kind = kind ≡ 128
+InRange (msg.Undo target redo) kind = kind ≡ 255
+InRange (msg.Draw command) kind = (129 ≤ kind) × (kind ≤ 152)
+InRange (msg.Opaque k body) kind = ⊤
+
+pub control_range : (kind : ℕ) → IsControlKind kind → (kind ≤ 7) × (kind ≢ 6)
+control_range kind (inl low) = (omega arith, λ e. omega (arith, e))
+control_range kind (inr seven) = (omega arith, λ e. omega (arith, e))
+
+pub meta_range : (kind : ℕ) → IsMetaKind kind → (32 ≤ kind) × (kind ≤ 69)
+meta_range kind (inl low) = (omega arith, omega arith)
+meta_range kind (inr high) = (omega arith, omega arith)
+
+draw_bounds : (m : Draw) → (129 ≤ draw_kind m) × (draw_kind m ≤ 152)
+draw_bounds (CanvasResize top right bottom left) = (lit≤ tt, lit≤ tt)
+draw_bounds (LayerCreate id parent group title) = (lit≤ tt, lit≤ tt)
+draw_bounds (LayerAttr id opacity mode hidden) = (lit≤ tt, lit≤ tt)
+draw_bounds (LayerTitle id title) = (lit≤ tt, lit≤ tt)
+draw_bounds (LayerMove id parent above) = (lit≤ tt, lit≤ tt)
+draw_bounds (LayerDelete id) = (lit≤ tt, lit≤ tt)
+draw_bounds (PutImage layer mode x y w h colors) = (lit≤ tt, lit≤ tt)
+draw_bounds (FillRect layer mode x y w h color) = (lit≤ tt, lit≤ tt)
+draw_bounds (PutTile layer col row repeat content) = (lit≤ tt, lit≤ tt)
+draw_bounds (Background color) = (lit≤ tt, lit≤ tt)
+draw_bounds (DabsRound layer x y r g b mode dabs) = (lit≤ tt, lit≤ tt)
+draw_bounds (DabsSquare layer x y r g b mode dabs) = (lit≤ tt, lit≤ tt)
+draw_bounds (MoveRect layer sx sy w h tx ty) = (lit≤ tt, lit≤ tt)
+
+pub in_range : KindLaws → (kind : ℕ) (payload : List ℕ) (m : Msg) → Spells kind payload m → InRange m kind
+in_range laws kind payload (msg.Control m) s = control_range kind (laws.control m kind payload (to_control kind payload m s))
+in_range laws kind payload (msg.Meta m) s = meta_range kind (laws.meta m kind payload (to_meta kind payload m s))
+in_range laws kind payload (msg.Part command) s = s.kind
+in_range laws kind payload msg.Point s = s.kind
+in_range laws kind payload (msg.Undo target redo) s = s.kind
+in_range laws kind payload (msg.Draw command) s = let b = draw_bounds command in (omega (arith, s.kind, b.0), omega (arith, s.kind, b.1))
+in_range laws kind payload (msg.Opaque k body) s = tt
+
+-- the message is of a variant of listed kinds
+abbrev pub IsOfListed : Msg → Type 0
+IsOfListed (msg.Opaque kind body) = ⊥
+IsOfListed _ = ⊤
+
+pub listed : KindLaws → (kind : ℕ) (payload : List ℕ) (m : Msg) → IsOfListed m → Spells kind payload m → IsListedKind kind
+listed laws kind payload (msg.Control m) is s = inl (laws.control m kind payload (to_control kind payload m s))
+listed laws kind payload (msg.Meta m) is s = inr (inr (inl (laws.meta m kind payload (to_meta kind payload m s))))
+listed laws kind payload (msg.Part command) is s = inr (inl s.kind)
+listed laws kind payload msg.Point is s = inr (inr (inr (inl s.kind)))
+listed laws kind payload (msg.Undo target redo) is s = inr (inr (inr (inr (inr s.kind))))
+listed laws kind payload (msg.Draw command) is s = inr (inr (inr (inr (inl (laws.draw command kind payload (to_draw kind payload command s))))))
+listed laws kind payload (msg.Opaque k body) is s = absurd is
+
+-- a kind that isn't listed is that of no message of a listed variant
+pub not_listed : KindLaws → (kind : ℕ) (payload : List ℕ) (k : ℕ) (body : List ℕ) (m : Msg) → IsOfListed m →
+    Spells kind payload (msg.Opaque k body) → Spells kind payload m → ⊥
+not_listed laws kind payload k body m is s t = s.spelled.0.1 (subst IsListedKind s.kind (listed laws kind payload m is t))
+
+-- no message is of an unknown kind
+pub unknown_none : KindLaws → (kind : ℕ) (payload : List ℕ) (m : Msg) → IsUnknownKind kind → Spells kind payload m → ⊥
+unknown_none laws kind payload (msg.Opaque k body) u s = omega (arith, u.0, s.kind, s.spelled.0.0)
+unknown_none laws kind payload m u s = u.1 (listed laws kind payload m tt s)
+
+-- where no control message has the payload of a control kind, no message has it
+pub control_nothing : KindLaws → (kind : ℕ) (payload : List ℕ) → IsControlKind kind → ((m : Control) → SpellsControl kind payload m → ⊥) →
+    SpellsNothing kind payload
+control_nothing laws kind payload is none (msg.Control m) s = none m (to_control kind payload m s)
+control_nothing laws kind payload is none (msg.Opaque k body) s = s.spelled.0.1 (subst IsListedKind s.kind (inl is))
+control_nothing laws kind payload is none m s =
+    let here = control_range kind is in
+    let there : InRange m kind = in_range laws kind payload m s in
+    omega arith
+
+pub meta_nothing : KindLaws → (kind : ℕ) (payload : List ℕ) → IsMetaKind kind → ((m : Meta) → SpellsMeta kind payload m → ⊥) →
+    SpellsNothing kind payload
+meta_nothing laws kind payload is none (msg.Meta m) s = none m (to_meta kind payload m s)
+meta_nothing laws kind payload is none (msg.Opaque k body) s = s.spelled.0.1 (subst IsListedKind s.kind (inr (inr (inl is))))
+meta_nothing laws kind payload is none m s =
+    let here = meta_range kind is in
+    let there : InRange m kind = in_range laws kind payload m s in
+    omega arith
+
+draw_range : (kind : ℕ) → IsDrawKind kind → (129 ≤ kind) × (kind ≤ 152)
+draw_range kind is = (omega (arith, is), omega (arith, is))
+
+pub draw_nothing : KindLaws → (kind : ℕ) (payload : List ℕ) → IsDrawKind kind → ((m : Draw) → SpellsDraw kind payload m → ⊥) →
+    SpellsNothing kind payload
+draw_nothing laws kind payload is none (msg.Draw m) s = none m (to_draw kind payload m s)
+draw_nothing laws kind payload is none (msg.Opaque k body) s = s.spelled.0.1 (subst IsListedKind s.kind (inr (inr (inr (inr (inl is))))))
+draw_nothing laws kind payload is none m s =
+    let here = draw_range kind is in
+    let there : InRange m kind = in_range laws kind payload m s in
+    omega arith
