@@ -6,6 +6,8 @@
 
 mod blending;
 mod color;
+mod kernels;
+mod lanes;
 pub mod laws;
 mod modes;
 

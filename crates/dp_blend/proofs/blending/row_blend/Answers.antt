@@ -1,7 +1,7 @@
 use Rattle.std.proofs.Common.{◌≡◌, take, arith}
 use Rattle.std.proofs.lemmas.List.{take_all}
 use Rattle.dp_blend.specs.Blending.{row_blended}
-use Rattle.dp_blend.proofs.Rows.{row_blended-more, get_or-row_blended}
+use Rattle.dp_blend.proofs.RowLemmas.{row_blended-more, get_or-row_blended}
 use Rattle.dp_blend.proofs.blending.row_blend.Goals as goal
 
 pub loop-k-preserved : goal.loop-k-preserved
