@@ -1,14 +1,14 @@
 -- Two pixels in lanes that are blended with two others.
-use Rattle.std.proofs.Common.{◌≡◌, ℕ, ◌+◌, ◌-◌, ◌*◌, ◌/◌, ◌%◌, ◌≤◌, List, [], ◌∷◌, min, refl, arith, slice_index}
+use Rattle.std.proofs.Common.{◌≡◌, ℕ, ◌+◌, ◌-◌, ◌*◌, ◌/◌, ◌%◌, ◌≤◌, List, [], ◌∷◌, map, min, cond, Bool, true, false, ◌==◌, ◌∙◌, refl, arith, slice_index}
 use Rattle.std.proofs.Math.Nat.{mul_comm}
-use Rattle.std.specs.Simd.Lanes.{zip2}
-use Rattle.dp_blend.specs.Color.{Channels, IsPixel, mul}
-use Rattle.dp_blend.specs.Blending.{blend, over, channel_blended, alpha_blended}
+use Rattle.std.specs.Simd.Lanes.{zip2, sel_l}
+use Rattle.dp_blend.specs.Color.{Channels, IsPixel, mul, fade}
+use Rattle.dp_blend.specs.Blending.{blend, masked, over, channel_blended, alpha_blended}
 use Rattle.dp_blend.specs.Lanes.{ArePixels, lanes, blended_lanes, fours, with_alphas}
 use Rattle.dp_blend.specs.declared.modes.Mode.{Mode}
 use Rattle.dp_blend.specs.declared.modes.Mode.TheVariants.{Normal, Multiply, Add, Recolor}
 use Rattle.dp_blend.proofs.Products.{mul_le, multiply_within, recolor_within}
-use Rattle.dp_blend.proofs.Pixels.{blend-IsPixel, channel_within, over_within}
+use Rattle.dp_blend.proofs.Pixels.{blend-IsPixel, fade-IsPixel, channel_within, over_within}
 
 -- what the operations on lanes compute
 abbrev pub sums : List ℕ → List ℕ → List ℕ
@@ -105,3 +105,60 @@ recoloring v w s d =
       (λ sa da. (da * 32768 / 32768 + da * 0 / 32768) % 65536)
       (λ sc sa dc da h i j k. omega (arith, recolor_within sc sa dc da h i j, mul_comm da sc))
       (λ sa da h i. omega arith) v w s d)
+
+-- the lanes of faded pixels are those of pixels
+pub are_faded : (p q : Channels) (m n : ℕ) → IsPixel p → IsPixel q → m ≤ 32768 → n ≤ 32768
+    → {v : List ℕ} → v ≡ lanes (fade p m) (fade q n) → ArePixels v
+are_faded p q m n h k i j is =
+    record {
+      first = fade p m;
+      second = fade q n;
+      is = is;
+      first_pixel = fade-IsPixel p m h i;
+      second_pixel = fade-IsPixel q n k j;
+    }
+
+-- a mask times a pixel is the pixel faded by the mask
+pub masks_fade : (p q : Channels) (m n : ℕ) → zip2 mul (fours m n) (lanes p q) ≡ lanes (fade p m) (fade q n)
+masks_fade p q m n =
+    let r = mul_comm m p.r in
+    let g = mul_comm m p.g in
+    let b = mul_comm m p.b in
+    let a = mul_comm m p.a in
+    let r' = mul_comm n q.r in
+    let g' = mul_comm n q.g in
+    let b' = mul_comm n q.b in
+    let a' = mul_comm n q.a in
+    cc
+
+-- of lanes chosen by two masks, each pixel is chosen by its mask
+chosen : (m n : ℕ) (p q x y : Channels)
+    → sel_l (map (λ k. k == 0) (fours m n)) (lanes p q) (lanes x y) ≡ lanes (cond (m == 0) p x) (cond (n == 0) q y)
+chosen m n p q x y = pick (m == 0) (n == 0)
+  where
+  pick : (k l : Bool) → sel_l (k ∷ k ∷ k ∷ k ∷ l ∷ l ∷ l ∷ l ∷ []) (lanes p q) (lanes x y) ≡ lanes (cond k p x) (cond l q y)
+  pick true true = refl
+  pick true false = refl
+  pick false true = refl
+  pick false false = refl
+
+masked-IsPixel : (mode : Mode) (s : Channels) (m : ℕ) (d : Channels) → IsPixel s → IsPixel d → m ≤ 32768 → IsPixel (masked mode s m d)
+masked-IsPixel mode s m d h k i = pick (m == 0)
+  where
+  pick : (b : Bool) → IsPixel (cond b d (blend mode (fade s m) d))
+  pick true = k
+  pick false = blend-IsPixel mode (fade s m) d (fade-IsPixel s m h i) k
+
+-- the lanes of pixels that a source is blended with through two masks are those of pixels
+pub are_masked : (mode : Mode) (s : Channels) (m n : ℕ) (d e : Channels) → IsPixel s → IsPixel d → IsPixel e → m ≤ 32768 → n ≤ 32768
+    → {v : List ℕ}
+    → v ≡ sel_l (map (λ k. k == 0) (fours m n)) (lanes d e) (blended_lanes mode (lanes (fade s m) (fade s n)) (lanes d e))
+    → ArePixels v
+are_masked mode s m n d e h k l i j is =
+    record {
+      first = masked mode s m d;
+      second = masked mode s n e;
+      is = is ∙ chosen m n d e (blend mode (fade s m) d) (blend mode (fade s n) e);
+      first_pixel = masked-IsPixel mode s m d h k i;
+      second_pixel = masked-IsPixel mode s n e h l j;
+    }

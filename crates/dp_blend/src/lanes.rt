@@ -1,7 +1,7 @@
 //! Two pixels at once, in the eight lanes of a vector.
 
-ghost use Rattle.std.specs.Prelude.{◌≡◌, ◌≤◌, ◌+◌, ◌-◌, ◌*◌, ◌/◌, min, slice_index};
-ghost use Rattle.std.specs.Simd.Lanes.{zip2, Each1};
+ghost use Rattle.std.specs.Prelude.{◌≡◌, ◌≤◌, ◌+◌, ◌-◌, ◌*◌, ◌/◌, ◌==◌, map, min, slice_index};
+ghost use Rattle.std.specs.Simd.Lanes.{zip2, sel_l, Each1};
 ghost use Rattle.dp_blend.specs.Color.{IsPixel, mul};
 ghost use Rattle.dp_blend.specs.Lanes.{ArePixels, fours, lanes, with_alphas};
 
@@ -70,6 +70,14 @@ pub(crate) fn with_alphas(channels: u16x8, alphas: u16x8) -> u16x8
     ensures { result ≡ with_alphas channels alphas }
 {
     channels.shuffle(alphas, [0, 1, 2, 11, 4, 5, 6, 15])
+}
+
+/// The lanes of the first vector where the mask is 0, and else those of the second.
+#[inline(always)]
+pub(crate) fn kept_where_zero(masks: u16x8, kept: u16x8, others: u16x8) -> u16x8
+    ensures { result ≡ sel_l (map (λ m. m == 0) masks) kept others }
+{
+    masks.simd_eq(u16x8::splat(0)).select(kept, others)
 }
 
 /// The smaller of each two lanes.
