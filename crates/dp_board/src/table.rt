@@ -1,26 +1,27 @@
-//! The groups of all users as a history is read.
+//! The strokes of all users as a history is read.
 
 ghost use Rattle.std.specs.Prelude.{◌≡◌, ◌+◌, ◌<◌, ◌^◌, [], OnOk, IfOk};
 ghost use Rattle.std.specs.Vec.{vec_len};
 ghost use Rattle.std.specs.List.{All};
-ghost use Rattle.dp_board.specs.Strokes.{points_after};
-ghost use Rattle.dp_board.specs.History.{groups_of, HaveNoGroups, AreGroupsAfter, HaveDone};
-ghost use Rattle.dp_board.specs.History.{TakesAct, join_of, joins_from};
+ghost use Rattle.dp_board.specs.Strokes.{concerned, empty_window};
+ghost use Rattle.dp_board.specs.Users.{groups_of, HaveNoGroups, HaveDone};
+ghost use Rattle.dp_board.specs.Joins.{join_of, joins_from};
 
 use crate::act::{Act, UserAct};
 use crate::groups::UserGroups;
 use crate::join::Join;
 use crate::sorted::SortedGroups;
+use crate::window::PointWindow;
 use std::alloc::{AllocError, Global};
 
 /// The number of users, one for each context id.
 const USERS: usize = 256;
 
-/// The groups of all users after the acts so far, and how many points there were.
+/// The strokes of all users after the acts so far.
 #[derive(Drop)]
-pub(crate) struct History {
-    depth: u32,
-    points: usize,
+pub(crate) struct StrokeTable {
+    position: usize,
+    window: PointWindow,
     users: Vec<UserGroups>,
     ghost counted: { vec_len users ≡ 256 },
 }
@@ -37,39 +38,42 @@ fn without_groups(alloc: Global, count: usize) -> Result<Vec<UserGroups>, AllocE
     Ok(users)
 }
 
-impl History {
-    /// The history of no act.
+/// The user whose groups an act changes.
+fn concerned<Op>(act: &UserAct<Op>) -> u8
+    ensures { result ≡ concerned act.now }
+{
+    match &act.act {
+        Act::Undo { who } | Act::Redo { who } => *who,
+        _ => act.user,
+    }
+}
+
+impl StrokeTable {
+    ghost use Rattle.dp_board.specs.Table.{IsTableBehind, TakesAct};
+
+    /// The table of no act.
     fn new(alloc: Global, depth: u32) -> Result<Self, AllocError>
-        ensures depth { IfOk result (λ history. history.depth ≡ depth) }
-        ensures points { IfOk result (λ history. history.points ≡ 0) }
-        ensures empty { IfOk result (λ history. HaveNoGroups history.users.items) }
+        ensures position { IfOk result (λ table. table.position ≡ 0) }
+        ensures window { IfOk result (λ table. table.window ≡ empty_window depth) }
+        ensures empty { IfOk result (λ table. HaveNoGroups table.users.items) }
     {
-        Ok(History {
-            depth,
-            points: 0,
+        Ok(StrokeTable {
+            position: 0,
+            window: PointWindow::new(alloc, depth),
             users: without_groups(alloc, USERS)?,
         })
     }
 
     /// Adds an act.
     fn take<Op>(&mut self, act: &UserAct<Op>) -> Result<(), AllocError>
-        requires { self.old.points + 1 < 2 ^ 64 }
-        ensures depth { OnOk result (self.new.depth ≡ self.old.depth) }
-        ensures points { OnOk result (self.new.points ≡ points_after act.now.act self.old.points) }
-        ensures users { OnOk result (TakesAct self.old.depth self.old.points act.now
-            self.old.users.items self.new.users.items) }
+        requires { self.old.position + 1 < 2 ^ 64 }
+        ensures position { OnOk result (self.new.position ≡ self.old.position + 1) }
+        ensures strokes { OnOk result (TakesAct act.now self.old self.new) }
     {
-        let user = usize::from(act.user);
-        match &act.act {
-            Act::Point => {
-                self.users[user].open(self.points)?;
-                self.points += 1;
-            }
-            Act::Undo { who } => self.users[usize::from(*who)].undo(self.depth, self.points)?,
-            Act::Redo { who } => self.users[usize::from(*who)].redo(self.depth, self.points)?,
-            Act::Draw(_) => self.users[user].clear_undone(),
-            Act::Other => {}
-        }
+        let user = usize::from(concerned(act));
+        self.users[user].take(self.position, &self.window, &act.act)?;
+        self.window.take(self.position, &act.act)?;
+        self.position += 1;
         Ok(())
     }
 
@@ -89,23 +93,23 @@ impl History {
         }
     }
 
-    /// The groups at the end of a history, and what each of its acts joined.
+    /// The table at the end of a history, and what each of its acts joined.
     pub(crate) fn read<Op>(
         alloc: Global,
         depth: u32,
         acts: &[UserAct<Op>],
-    ) -> Result<(History, Vec<Join>), AllocError>
-        ensures users { IfOk result (λ read. AreGroupsAfter depth acts.now read.0.users.items) }
+    ) -> Result<(StrokeTable, Vec<Join>), AllocError>
+        ensures strokes { IfOk result (λ read. IsTableBehind depth acts.now read.0) }
         ensures joins { IfOk result (λ read. read.1.items ≡ joins_from depth [] acts.now) }
         ensures in_range { OnOk result (All (λ act. act.user < 256) acts.now) }
     {
-        let mut history = History::new(alloc, depth)?;
+        let mut table = StrokeTable::new(alloc, depth)?;
         let mut joins = Vec::with_capacity(alloc, acts.len())?;
         for act in acts {
-            joins.push(history.join_of(act))?;
-            history.take(act)?;
+            joins.push(table.join_of(act))?;
+            table.take(act)?;
         }
-        Ok((history, joins))
+        Ok((table, joins))
     }
 
     /// The done groups of each user.

@@ -1,7 +1,7 @@
 use Rattle.std.proofs.Common.{◌≡◌, ℕ, ◌<◌, [], get_or}
 use Rattle.std.specs.Vec.{vec_len}
-use Rattle.dp_board.specs.History.{groups_of, HaveSame}
-use Rattle.dp_board.proofs.history.History.done.Given as goal
+use Rattle.dp_board.specs.Users.{groups_of, HaveSame}
+use Rattle.dp_board.proofs.table.StrokeTable.done.Given as goal
 
 -- each list so far has the done groups of its user
 abbrev pub invariant-loop-user : goal.invariant-loop-user

@@ -1,7 +1,7 @@
 use Rattle.std.proofs.Common.{◌≡◌}
 use Rattle.std.specs.Vec.{vec_len}
-use Rattle.dp_board.specs.History.{HaveNoGroups}
-use Rattle.dp_board.proofs.history.without_groups.Given as goal
+use Rattle.dp_board.specs.Users.{HaveNoGroups}
+use Rattle.dp_board.proofs.table.without_groups.Given as goal
 
 -- none of the users so far has a group
 abbrev pub invariant-loop : goal.invariant-loop
