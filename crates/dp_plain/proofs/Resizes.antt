@@ -1,7 +1,7 @@
 -- The board on new sides.
-use Rattle.std.proofs.Common.{◌≡◌, ℕ, ◌≤◌, List, map, cond, Bool, true, false, ◌&&◌, Some, None, Option, sym, ◌∙◌, ap, ◌⊎◌, ⊎_elim}
-use Rattle.std.specs.Prelude.{ℤ, pos, negsuc, ◌+ℤ◌, nat_le, nat_lt, nat_eq, not, length, ◌<◌}
-use Rattle.std.proofs.lemmas.Bool.{and_left, and_right, and_parts, false_from_ne_true, cond-true, cond-false, leb-true, ltb-true}
+use Rattle.std.proofs.Common.{◌≡◌, ℕ, ◌≤◌, List, map, cond, false, ◌&&◌, Some, None, Option, sym, ◌∙◌, ap, ◌⊎◌, ⊎_elim}
+use Rattle.std.specs.Prelude.{ℤ, pos, negsuc, ◌+ℤ◌, nat_le}
+use Rattle.std.proofs.lemmas.Bool.{and_left, and_right, and_parts, false_from_ne_true, cond-true, cond-false, leb-true}
 use Rattle.std.proofs.lemmas.Option.{cond_some, none-some}
 use Rattle.dp_plain.specs.Board.{Layer, Board}
 use Rattle.dp_plain.specs.Drawing.{is_side, side, layer_moved, resized}

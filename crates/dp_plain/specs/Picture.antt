@@ -42,7 +42,8 @@ rgb p = to8 p.r ∷ to8 p.g ∷ to8 p.b ∷ []
 -- the line of a pixel: red, green and blue in decimal, parted by a space
 abbrev pub rgb_line : Channels → List ℕ
 rgb_line p =
-    decimal (to8 p.r) ++ codes " " ++ decimal (to8 p.g) ++ codes " " ++ decimal (to8 p.b) ++ codes "\n"
+    decimal (to8 p.r) ++ codes " " ++ decimal (to8 p.g) ++ codes " " ++ decimal (to8 p.b)
+    ++ codes "\n"
 
 -- the picture as a P6 file: three bytes a pixel
 abbrev pub p6 : Board → List ℕ

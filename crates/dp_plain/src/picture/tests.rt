@@ -24,8 +24,8 @@ fn paint(board: &mut PlainBoard, layer: u16, colors: &[u32]) -> Result<(), Fail>
     Ok(())
 }
 
-// The board of this width and height whose layers, the bottom one first, have these colors. An empty
-// list of colors makes no layer.
+// The board of this width and height whose layers, the bottom one first, have these ids and colors.
+// An empty list of colors makes no layer.
 fn board_of(
     alloc: Global,
     (width, height): (i32, i32),

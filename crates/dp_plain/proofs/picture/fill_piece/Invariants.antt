@@ -1,5 +1,6 @@
 use Rattle.std.proofs.Common.{◌≡◌, ◌*◌, ◌≤◌}
 use Rattle.arrayvec.specs.ArrayVec.{array_vec_len}
+use Rattle.dp_plain.specs.declared.picture.TheConstants.{PIXEL_BYTES}
 use Rattle.dp_plain.specs.Places.{text_from, pixel_text_of}
 use Rattle.dp_plain.proofs.picture.fill_piece.Given as goal
 
@@ -7,5 +8,5 @@ use Rattle.dp_plain.proofs.picture.fill_piece.Given as goal
 abbrev pub invariant-loop-k : goal.invariant-loop-k
 invariant-loop-k l = record {
   text : l.piece.items ≡ text_from (pixel_text_of l.format) l.layers l.from l.k;
-  short : array_vec_len l.piece ≤ 12 * l.k;
+  short : array_vec_len l.piece ≤ PIXEL_BYTES * l.k;
 }

@@ -1,7 +1,7 @@
 use Rattle.std.proofs.Common.{◌≡◌, ◌∙◌, length, ap, sym, subst, true, List}
 use Rattle.std.proofs.lemmas.Option.{same_Some}
 use Rattle.dp_blend.specs.Color.{Channels}
-use Rattle.dp_plain.specs.Board.{Layer, Board}
+use Rattle.dp_plain.specs.Board.{Board}
 use Rattle.dp_plain.specs.Drawing.{can_create}
 use Rattle.dp_plain.proofs.Canvas.{length-canvas_of}
 use Rattle.dp_plain.proofs.Whole.{whole_more, may_create}
