@@ -8,7 +8,7 @@ ghost use Rattle.dp_plain.specs.Replay.{act_of, moved_user, shown};
 ghost use Rattle.dp_plain.specs.Kinds.{kind_of_entry};
 
 use crate::PlainBoard;
-use dp_board::{Act, UserAct, commands_do_not_count, drawn_flags};
+use dp_board::{Act, UserAct, commands_do_not_count, drawn_flags, each_act_has_a_flag};
 use dp_messages::{Entry, Msg};
 use dp_msg_draw::Draw;
 use std::alloc::{AllocError, Global};
@@ -24,6 +24,7 @@ pub fn plain_replay(alloc: Global, entries: &[Entry]) -> Result<PlainBoard, Allo
     ensures { IfOk result (λ board. board ≡ shown entries.now) }
 {
     commands_do_not_count::<Draw, ()>();
+    each_act_has_a_flag::<Draw>();
     let kinds = kinds_of(alloc, entries)?;
     let flags = drawn_flags(alloc, UNDO_DEPTH, &kinds)?;
     draw_flagged(alloc, entries, &flags)

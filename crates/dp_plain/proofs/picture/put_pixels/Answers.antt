@@ -9,12 +9,8 @@ use Rattle.dp_plain.proofs.picture.put_pixels.Goals as goal
 pub loop-from-preserved : goal.loop-from-preserved
 loop-from-preserved g c = record {
   within = omega arith;
-<<<<<<< HEAD
-  written = piece_written _ _ _ c.args.layers.now c.loop-from.from c.min-count.result _ c.fill_piece.ensures c.loop-from.invariant.written c.in_ok-put_all.ensures.written;
-=======
   written = piece_written _ _ _ (pixel_text_of c.args.format) c.args.layers.now c.loop-from.from c.min-count.result _
       (c.as_slice.ensures.value ∙ c.fill_piece.ensures) c.loop-from.invariant.written c.in_ok-put_all.ensures.written;
->>>>>>> 7b383db0ef7b1b99a2d1dd13337a204c1c5250ee
   kept = c.in_ok-put_all.ensures.cause.kept ∙ c.loop-from.invariant.kept;
 }
 

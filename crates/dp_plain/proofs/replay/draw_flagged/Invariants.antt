@@ -3,7 +3,7 @@ use Rattle.dp_board.specs.Commands.{commands}
 use Rattle.dp_plain.specs.Board.{empty_board}
 use Rattle.dp_plain.specs.Drawing.{draw_all}
 use Rattle.dp_plain.specs.Replay.{act_of}
-use Rattle.dp_plain.proofs.replay.draw_kept.Given as goal
+use Rattle.dp_plain.proofs.replay.draw_flagged.Given as goal
 
 -- what is drawn and what is left to draw is all
 abbrev pub invariant-loop-k : goal.invariant-loop-k
