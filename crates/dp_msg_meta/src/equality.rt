@@ -6,19 +6,17 @@ ghost use Rattle.dp_msg_meta.specs.Equality.{same_control as control_eq, same_me
 use crate::message::{Control, Meta};
 
 /// Whether two control messages are the same, field by field. It takes no memory.
-#[tactic(auto, using(crate::proofs::Comparing::control_told))]
-pub fn same_control(m: &Control, n: &Control) -> bool
-    ensures value { result ≡ control_eq m.now n.now }
-    ensures equal { IsTrue result ↔ (m.now ≡ n.now) }
+pub fn same_control(control: &Control, other: &Control) -> bool
+    ensures value { result ≡ control_eq control.now other.now }
+    ensures equal { IsTrue result ↔ (control.now ≡ other.now) }
 {
-    m == n
+    control == other
 }
 
 /// Whether two meta messages are the same, field by field. It takes no memory.
-#[tactic(auto, using(crate::proofs::Comparing::meta_told))]
-pub fn same_meta(m: &Meta, n: &Meta) -> bool
-    ensures value { result ≡ meta_eq m.now n.now }
-    ensures equal { IsTrue result ↔ (m.now ≡ n.now) }
+pub fn same_meta(meta: &Meta, other: &Meta) -> bool
+    ensures value { result ≡ meta_eq meta.now other.now }
+    ensures equal { IsTrue result ↔ (meta.now ≡ other.now) }
 {
-    m == n
+    meta == other
 }

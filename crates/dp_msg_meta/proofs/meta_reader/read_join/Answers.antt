@@ -1,4 +1,4 @@
-use Rattle.std.proofs.Common.{rules, arith}
+use Rattle.std.proofs.Common.{arith}
 use Rattle.std.proofs.lemmas.Grind.{common_steps}
 use Rattle.dp_msg_meta.proofs.Spelled.{join_spelled}
 use Rattle.dp_msg_meta.proofs.meta_reader.read_join.Goals as goal
