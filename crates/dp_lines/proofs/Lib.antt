@@ -1,0 +1,4 @@
+pub mod Giving
+pub mod Numbering
+pub mod Pieces
+pub mod Scanning

@@ -1,0 +1,16 @@
+//! Lines of a text that comes in pieces, their words, and the numbers and bytes that words spell.
+#![tactic(auto)]
+
+mod hexadecimal;
+mod line;
+mod lines;
+mod numbers;
+mod run_end;
+mod words;
+
+pub use hexadecimal::{hex_of, put_hex};
+pub use line::{Line, LineBytes};
+pub use lines::{LineError, Lines};
+pub use numbers::{number, put_number};
+pub use run_end::RunEnd;
+pub use words::{word, word_count};
