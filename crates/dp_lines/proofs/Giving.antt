@@ -1,20 +1,26 @@
 -- What it changes of the lines to come that one of them is given.
-use Rattle.std.proofs.Common.{◌≡◌, ◌≢◌, ℕ, zero, suc, ◌+◌, ◌-◌, ◌<◌, ◌≤◌, ◌⊎◌, inl, inr, Bool, true, false, cond, List, [], ◌∷◌, ◌++◌, length, take, drop, get_or, Option, Some, None, Result, Ok, Err, refl, sym, ap, ◌∙◌, subst, arith, append_assoc, length-append}
-use Rattle.std.specs.Prelude.{◌↔◌, IsTrue, IfOk, OnOk, OnErr}
-use Rattle.std.proofs.lemmas.List.{take_all, drop_all}
+use Rattle.std.proofs.Common.{◌≡◌, ◌≢◌, ℕ, zero, suc, ◌+◌, ◌-◌, ◌<◌, ◌≤◌, ◌==◌, ◌⊎◌, inl, inr, Bool, true, false, cond, List, [], ◌∷◌, ◌++◌, length, take, drop, get_or, Option, Some, None, Result, Ok, Err, refl, sym, ap, ◌∙◌, subst, arith, append_assoc, length-append}
+use Rattle.std.specs.Prelude.{◌↔◌, IsTrue, IfNone, IfOk, OnOk, OnErr}
+use Rattle.std.proofs.lemmas.Bool.{cases_lt, cases_Bool, and_parts, or_from, ne_eqb, not-true}
+use Rattle.std.proofs.lemmas.List.{take_all, drop_all, nil_from_length}
 use Rattle.std.proofs.lemmas.List.Elements.{All-nil}
 use Rattle.dp_lines.specs.declared.line.Line.{Line}
 use Rattle.dp_lines.specs.declared.lines.LineError.{LineError}
 use Rattle.dp_lines.specs.declared.lines.LineError.TheVariants.{Long, Memory}
-use Rattle.dp_lines.specs.Lines.{newline, Lacks, ended, open_rest, if_any, lines, is_skipped, is_overlong, numbered}
-use Rattle.dp_lines.specs.Held.{Held, ended_from, lines_from, first_line, behind_first, given, NextIsLong}
+use Rattle.dp_lines.specs.Lines.{newline, Lacks, ended, open_rest, if_any, lines, is_comment, is_skipped, is_overlong, numbered}
+use Rattle.dp_lines.specs.Held.{Held, ended_from, lines_from, first_line, behind_first, Keeps, given, NextIsLong}
 use Rattle.dp_lines.specs.Scanned.{IsEnd}
-use Rattle.dp_lines.proofs.Numbering.{Keeps, numbered-append, numbered_skipped, numbered_kept, lines_behind_kept}
+use Rattle.dp_lines.proofs.Numbering.{numbered-append, numbered_skipped, numbered_kept, lines_behind_kept}
 use Rattle.dp_lines.proofs.Pieces.{ended_none, rest_none}
 
 -- the lines to come are those with their newline, and then the rest
 pub lines_from_parts : (held : Held) → lines_from held ≡ ended_from held ++ numbered (held.count + length (ended held.bytes)) (if_any (open_rest held.bytes))
 lines_from_parts held = numbered-append held.count (ended held.bytes) (if_any (open_rest held.bytes))
+
+-- two joined lists are empty only where the first is
+front_none : (front behind : List Line) → front ++ behind ≡ [] → front ≡ []
+front_none [] behind none = refl
+front_none (line ∷ front) behind none = absurd (cc (none))
 
 -- taking lines off in front takes them off all lines to come
 pub further_lines : (front : List Line) (old new : Held) → ended_from old ≡ front ++ ended_from new → new.count + length (ended new.bytes) ≡ old.count + length (ended old.bytes) → open_rest new.bytes ≡ open_rest old.bytes → lines_from old ≡ front ++ lines_from new
@@ -26,6 +32,10 @@ further_lines front old new taken count rest =
     (ap (λ (n : ℕ). ended_from new ++ numbered n (if_any (open_rest old.bytes))) (sym count)
     ∙ ap (λ (b : List ℕ). ended_from new ++ numbered (new.count + length (ended new.bytes)) (if_any b)) (sym rest)
     ∙ sym (lines_from_parts new))
+
+-- where no line is to come, none with its newline is
+pub none_lines : (held : Held) → lines_from held ≡ [] → ended_from held ≡ []
+none_lines held none = front_none (ended_from held) _ (sym (lines_from_parts held) ∙ none)
 
 pub lines_kept : (old new : Held) → Keeps old new → lines_from old ≡ lines_from new
 lines_kept old new keeps = further_lines [] old new (sym keeps.lines) keeps.count keeps.rest
@@ -42,6 +52,18 @@ given_line from held new behind line (Err error) first is taken left = ap from (
 pub same_after : {A : Type 0} (of : Held → A) (held new behind : Held) (r : Result (Option Line) LineError) → of behind ≡ of held → OnOk r (new ≡ behind) → OnErr r (new ≡ held) → of new ≡ of held
 same_after of held new behind (Ok next) same taken left = ap of taken ∙ same
 same_after of held new behind (Err error) same taken left = ap of left
+
+-- what holds in any case holds where no line is given
+pub if_none : {P : Type 0} (r : Result (Option Line) LineError) → P → IfOk r (λ next. IfNone next P)
+if_none (Ok (Some line)) fact = tt
+if_none (Ok None) fact = fact
+if_none (Err error) fact = tt
+
+-- what follows from a fact that holds where no line is given
+pub if_none_then : {P Q : Type 0} (r : Result (Option Line) LineError) → (P → Q) → IfOk r (λ next. IfNone next P) → IfOk r (λ next. IfNone next Q)
+if_none_then (Ok (Some line)) then fact = tt
+if_none_then (Ok None) then fact = then fact
+if_none_then (Err error) then fact = tt
 
 -- which of the lines to come is the next
 next_is : (a b : Line) (more others : List Line) → a ∷ more ≡ b ∷ others → a ≡ b
@@ -118,6 +140,10 @@ none_behind held =
     ap (λ (b : List ℕ). numbered (held.count + 1) (lines b)) (drop_all (length held.bytes) held.bytes (omega arith))
     ∙ ap (numbered (held.count + 1)) no_lines
 
+-- bytes without a newline have no ended line to come
+pub none_ended : (held : Held) → Lacks newline held.bytes → ended_from held ≡ []
+none_ended held lacks = ap (numbered held.count) (ended_none held.bytes lacks)
+
 -- the rest counts as one line
 pub rest_counted : (held : Held) → Lacks newline held.bytes → 0 < length held.bytes → held.count + 1 + length (lines (drop (length held.bytes) held.bytes)) ≡ held.count + length (lines held.bytes)
 rest_counted held lacks some =
@@ -136,3 +162,45 @@ kept_rest held lacks some kept =
     ap (numbered held.count) (line_of_rest held.bytes lacks some)
     ∙ numbered_kept held.count held.bytes [] kept
     ∙ ap (λ (b : List ℕ). let l : Line = record { number = held.count + 1; bytes = b } in l ∷ []) (sym (take_all (length held.bytes) held.bytes (omega arith)))
+
+-- a rest that is too long has bytes, and isn't passed over
+long_is_kept : (line : List ℕ) → is_overlong line ≡ true → (0 < length line) × (is_skipped line ≡ false)
+long_is_kept [] long = absurd (cc (long))
+long_is_kept (byte ∷ more) long = (
+    omega arith,
+    or_from (length (byte ∷ more) == 0) (is_comment (byte ∷ more)) (ne_eqb (length (byte ∷ more)) 0 (λ none. omega arith))
+    (not-true (is_comment (byte ∷ more)) (and_parts _ _ long).0),
+  )
+
+-- a rest that is too long is the next line
+pub long_rest : (held : Held) → Lacks newline held.bytes → is_overlong held.bytes ≡ true → NextIsLong held (held.count + 1)
+long_rest held lacks long =
+    let kept = long_is_kept held.bytes long in record {
+      line = record { number = held.count + 1; bytes = held.bytes };
+      behind = [];
+      next =
+          ap (numbered held.count) (line_of_rest held.bytes lacks kept.0)
+          ∙ numbered_kept held.count held.bytes [] kept.1;
+      long = long;
+      number = refl;
+    }
+
+-- a held rest is the next line, if one is to come
+next_in_rest : (held : Held) → Lacks newline held.bytes → (line : Line) (behind : List Line) → lines_from held ≡ line ∷ behind → line ≡ record { number = held.count + 1; bytes = held.bytes }
+next_in_rest held lacks line behind next = elim (cases_lt 0 (length held.bytes)) [
+    | inl some ↦ elim (cases_Bool (is_skipped held.bytes)) [
+        | inl skipped ↦ absurd (cc (next, skipped_rest held lacks some skipped))
+        | inr kept ↦
+            next_is line _ behind []
+            (sym next ∙ ap (numbered held.count) (line_of_rest held.bytes lacks some) ∙ numbered_kept held.count held.bytes [] kept)
+      ]
+    | inr none ↦
+        let empty = nil_from_length held.bytes (omega arith) in
+        absurd (cc (next, ap (λ (b : List ℕ). numbered held.count (lines b)) empty, ap (numbered held.count) no_lines))
+  ]
+
+-- it is too long and has the next number exactly where the call says so
+pub long_in_rest : (held : Held) → Lacks newline held.bytes → (n : ℕ) → NextIsLong held n → (IsTrue (is_overlong held.bytes)) × (n ≡ held.count + 1)
+long_in_rest held lacks n next =
+    let is = next_in_rest held lacks next.line next.behind next.next in
+    (subst (λ (l : Line). IsTrue (is_overlong l.bytes)) is next.long, sym next.number ∙ ap (λ (l : Line). l.number) is)

@@ -4,7 +4,7 @@ use Rattle.std.proofs.lemmas.Bool.{cases_Bool, cond-true, cond-false}
 use Rattle.std.proofs.lemmas.List.{take-append-drop, drop_more}
 use Rattle.dp_lines.specs.declared.line.Line.{Line}
 use Rattle.dp_lines.specs.Lines.{newline, Lacks, ended, open_rest, if_any, lines, is_skipped, numbered}
-use Rattle.dp_lines.specs.Held.{Held, ended_from, lines_from, first_line, behind_first}
+use Rattle.dp_lines.specs.Held.{Held, ended_from, lines_from, first_line, behind_first, Keeps}
 use Rattle.dp_lines.specs.Scanned.{IsEnd}
 use Rattle.dp_lines.proofs.Pieces.{ended_at, rest_at}
 
@@ -48,16 +48,11 @@ pub rest_behind : (bytes : List ℕ) (len : ℕ) → IsEnd bytes len → open_re
 rest_behind bytes len end =
     ap open_rest (around_end bytes len end) ∙ rest_at (take len bytes) (drop (len + 1) bytes) end.before
 
--- between the two only lines that are passed over were taken
-pub record Keeps (old new : Held) : Type 0 where
-  pub lines : ended_from new ≡ ended_from old
-  pub count : new.count + length (ended new.bytes) ≡ old.count + length (ended old.bytes)
-  pub rest : open_rest new.bytes ≡ open_rest old.bytes
-  pub fed : new.fed ≡ old.fed
-
+-- nothing was taken
 pub keeps_itself : (held : Held) → Keeps held held
 keeps_itself held = record { lines = refl; count = refl; rest = refl; fed = refl }
 
+-- more was taken that is passed over
 pub keeps_further : (old held new : Held) → Keeps old held → Keeps held new → Keeps old new
 keeps_further old held new first second = record {
   lines = second.lines ∙ first.lines;

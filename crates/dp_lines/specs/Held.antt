@@ -27,6 +27,13 @@ abbrev pub behind_first : Held → ℕ → Held
 behind_first held taken =
     record { count = held.count + 1; bytes = drop taken held.bytes; fed = held.fed }
 
+-- from the old to the new only lines were taken that are passed over
+pub record Keeps (old new : Held) : Type 0 where
+  pub lines : ended_from new ≡ ended_from old
+  pub count : new.count + length (ended new.bytes) ≡ old.count + length (ended old.bytes)
+  pub rest : open_rest new.bytes ≡ open_rest old.bytes
+  pub fed : new.fed ≡ old.fed
+
 -- the line that an answer gives, if it gives one
 abbrev pub given : Result (Option Line) LineError → List Line
 given (Ok (Some line)) = line ∷ []

@@ -108,8 +108,7 @@ impl Lines {
     {
         match self.pass_over() {
             Some(len) => self.take_ended(len),
-            None if is_long(self.buffer.as_slice()) => Err(LineError::Long(self.count + 1)),
-            None => Ok(None),
+            None => self.refuse_long_rest(),
         }
     }
 
@@ -140,7 +139,7 @@ impl Lines {
 
 impl Lines {
     ghost use Rattle.dp_lines.specs.Held.{ended_from, lines_from, given, NextIsLong};
-    ghost use Rattle.dp_lines.specs.Held.{first_line, behind_first};
+    ghost use Rattle.dp_lines.specs.Held.{first_line, behind_first, Keeps};
 
     /// Takes the lines off that are passed over, up to the first other one, and answers where that
     /// one's newline stands; `None` where no further newline is held.
@@ -148,11 +147,7 @@ impl Lines {
         ensures end { IfSome result (IsEnd self.new.bytes) }
         ensures first { IfSome result (λ len. is_skipped (take len self.new.bytes) ≡ false) }
         ensures none { IfNone result (Lacks newline self.new.bytes) }
-        ensures lines { ended_from self.new ≡ ended_from self.old }
-        ensures count { self.new.count + length (ended self.new.bytes)
-            ≡ self.old.count + length (ended self.old.bytes) }
-        ensures rest { open_rest self.new.bytes ≡ open_rest self.old.bytes }
-        ensures fed { self.new.fed ≡ self.old.fed }
+        ensures keeps { Keeps self.old self.new }
     {
         'passed: while let Some(len) = self.first_end() {
             if !is_passed(&self.buffer.as_slice()[..len]) {
@@ -188,6 +183,20 @@ impl Lines {
         ensures fed { self.new.fed ≡ self.old.fed }
     {
         self.take_line(len, 1)
+    }
+
+    /// Gives no line where only the rest is held, which has no newline. An error where it is too
+    /// long already.
+    fn refuse_long_rest(&self) -> Result<Option<Line>, LineError>
+        requires { Lacks newline self.now.bytes }
+        ensures none { IfOk result (λ next. next ≡ None) }
+        ensures long { (n : ℕ) → (result ≡ Err (LineError.Long n)) ↔ NextIsLong self.now n }
+        ensures memory { result ≢ Err LineError.Memory }
+    {
+        if is_long(self.buffer.as_slice()) {
+            return Err(LineError::Long(self.count + 1));
+        }
+        Ok(None)
     }
 
     /// Takes what is held off as the last line, which has no newline.
