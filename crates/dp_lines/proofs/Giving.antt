@@ -164,7 +164,7 @@ kept_rest held lacks some kept =
     ∙ ap (λ (b : List ℕ). let l : Line = record { number = held.count + 1; bytes = b } in l ∷ []) (sym (take_all (length held.bytes) held.bytes (omega arith)))
 
 -- a rest that is too long has bytes, and isn't passed over
-long_is_kept : (line : List ℕ) → is_overlong line ≡ true → (0 < length line) × (is_skipped line ≡ false)
+pub long_is_kept : (line : List ℕ) → is_overlong line ≡ true → (0 < length line) × (is_skipped line ≡ false)
 long_is_kept [] long = absurd (cc (long))
 long_is_kept (byte ∷ more) long = (
     omega arith,

@@ -2,6 +2,7 @@
 #![tactic(auto)]
 
 mod hexadecimal;
+mod laws;
 mod line;
 mod lines;
 mod numbers;
@@ -9,6 +10,8 @@ mod run_end;
 mod words;
 
 pub use hexadecimal::{hex_of, put_hex};
+pub use laws::{further_step, hex_read_back, lines_seen, one_end, one_number, one_way};
+pub use laws::{Steps, still_left, whole_lines};
 pub use line::{Line, LineBytes};
 pub use lines::{LineError, Lines};
 pub use numbers::{number, put_number};
