@@ -1,15 +1,15 @@
 -- What it changes of the lines to come that one of them is given.
-use Rattle.std.proofs.Common.{◌≡◌, ◌≢◌, ℕ, zero, suc, ◌+◌, ◌-◌, ◌<◌, ◌≤◌, ◌==◌, ◌⊎◌, inl, inr, Bool, true, false, cond, List, [], ◌∷◌, ◌++◌, length, take, drop, get_or, Option, Some, None, Result, Ok, Err, refl, sym, ap, ◌∙◌, subst, arith, append_assoc, length-append}
+use Rattle.std.proofs.Common.{◌≡◌, ◌≢◌, ℕ, ◌+◌, ◌<◌, ◌==◌, inl, inr, true, false, List, [], ◌∷◌, ◌++◌, length, take, drop, Option, Some, None, Result, Ok, Err, refl, sym, ap, ◌∙◌, subst, arith, append_assoc}
 use Rattle.std.specs.Prelude.{◌↔◌, IsTrue, IfNone, IfOk, OnOk, OnErr}
 use Rattle.std.proofs.lemmas.Bool.{cases_lt, cases_Bool, and_parts, or_from, ne_eqb, not-true}
 use Rattle.std.proofs.lemmas.List.{take_all, drop_all, nil_from_length}
 use Rattle.std.proofs.lemmas.List.Elements.{All-nil}
 use Rattle.dp_lines.specs.declared.line.Line.{Line}
 use Rattle.dp_lines.specs.declared.lines.LineError.{LineError}
-use Rattle.dp_lines.specs.declared.lines.LineError.TheVariants.{Long, Memory}
+use Rattle.dp_lines.specs.declared.lines.LineError.TheVariants.{Long}
 use Rattle.dp_lines.specs.Lines.{newline, Lacks, ended, open_rest, if_any, lines, is_comment, is_skipped, is_overlong, numbered}
-use Rattle.dp_lines.specs.Held.{Held, ended_from, lines_from, first_line, behind_first, Keeps, given, NextIsLong}
-use Rattle.dp_lines.specs.Scanned.{IsEnd}
+use Rattle.dp_lines.specs.Held.{Held, ended_from, lines_from, given, NextIsLong}
+use Rattle.dp_lines.specs.Taking.{first_line, behind_first, Keeps, IsEnd}
 use Rattle.dp_lines.proofs.Numbering.{numbered-append, numbered_skipped, numbered_kept, lines_behind_kept}
 use Rattle.dp_lines.proofs.Pieces.{ended_none, rest_none}
 

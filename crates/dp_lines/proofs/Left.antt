@@ -1,6 +1,5 @@
 -- What is left of a text, piece by piece.
-use Rattle.std.proofs.Common.{◌≡◌, ℕ, zero, suc, ◌+◌, List, [], ◌∷◌, ◌++◌, length, refl, sym, ap, ◌∙◌, subst, arith, append_assoc, length-append}
-use Rattle.std.proofs.lemmas.List.{append-nil}
+use Rattle.std.proofs.Common.{◌≡◌, ℕ, ◌+◌, List, ◌++◌, length, sym, ap, ◌∙◌, arith, append_assoc, length-append}
 use Rattle.dp_lines.specs.declared.line.Line.{Line}
 use Rattle.dp_lines.specs.Lines.{ended, open_rest, if_any, lines, numbered}
 use Rattle.dp_lines.specs.Held.{Held, ended_from, lines_from, IsLeft}

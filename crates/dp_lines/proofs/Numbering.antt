@@ -1,11 +1,11 @@
 -- The numbers of lines, and what is held.
-use Rattle.std.proofs.Common.{◌≡◌, ◌≢◌, ℕ, zero, suc, ◌+◌, ◌-◌, ◌<◌, ◌≤◌, ◌⊎◌, inl, inr, Bool, true, false, cond, List, [], ◌∷◌, ◌++◌, length, take, drop, get_or, refl, sym, ap, ◌∙◌, subst, arith, append_assoc, length-append, add_assoc}
+use Rattle.std.proofs.Common.{◌≡◌, ℕ, suc, ◌+◌, inl, inr, true, false, List, [], ◌∷◌, ◌++◌, length, take, drop, refl, sym, ap, ◌∙◌, arith}
 use Rattle.std.proofs.lemmas.Bool.{cases_Bool, cond-true, cond-false}
 use Rattle.std.proofs.lemmas.List.{take-append-drop, drop_more}
 use Rattle.dp_lines.specs.declared.line.Line.{Line}
-use Rattle.dp_lines.specs.Lines.{newline, Lacks, ended, open_rest, if_any, lines, is_skipped, numbered}
-use Rattle.dp_lines.specs.Held.{Held, ended_from, lines_from, first_line, behind_first, Keeps}
-use Rattle.dp_lines.specs.Scanned.{IsEnd}
+use Rattle.dp_lines.specs.Lines.{newline, ended, open_rest, is_skipped, numbered}
+use Rattle.dp_lines.specs.Held.{Held, ended_from}
+use Rattle.dp_lines.specs.Taking.{first_line, behind_first, Keeps, IsEnd}
 use Rattle.dp_lines.proofs.Pieces.{ended_at, rest_at}
 
 -- a line that is passed over is counted

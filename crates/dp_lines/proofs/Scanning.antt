@@ -1,13 +1,11 @@
 -- Where the first newline of a list of bytes stands.
-use Rattle.std.proofs.Common.{◌≡◌, ◌≢◌, ℕ, zero, suc, ◌+◌, ◌-◌, ◌<◌, ◌≤◌, ◌==◌, ◌⊎◌, inl, inr, Bool, true, false, cond, not, nat_lt, Option, Some, None, List, [], ◌∷◌, ◌++◌, length, take, drop, get_or, refl, sym, ap, ◌∙◌, subst, arith, length-drop, length-take, get_or-take, get_or-drop}
+use Rattle.std.proofs.Common.{◌≡◌, ◌≢◌, ℕ, ◌+◌, ◌-◌, ◌<◌, ◌≤◌, ◌==◌, inl, inr, Bool, true, not, nat_lt, Some, None, List, [], ◌∷◌, length, take, drop, get_or, sym, ap, ◌∙◌, subst, arith, length-drop, length-take, get_or-take, get_or-drop}
 use Rattle.std.specs.List.{All, position, position_or_len, prefix_len}
 use Rattle.std.proofs.lemmas.Bool.{eqb-true, eqb-false, cases_lt, cases_Bool, cond-true, cond-false, lt-ltb, not-true}
-use Rattle.std.proofs.lemmas.List.{take-append-drop, drop_more, get_or_default}
 use Rattle.std.proofs.lemmas.List.Elements.{All-nil, All-cons}
 use Rattle.std.proofs.lemmas.List.Quantifiers.{position-Some}
-use Rattle.dp_lines.specs.Lines.{newline, Lacks, ended, open_rest}
-use Rattle.dp_lines.specs.Scanned.{IsScanned, IsEnd}
-use Rattle.dp_lines.proofs.Pieces.{ended_at, rest_at}
+use Rattle.dp_lines.specs.Lines.{newline, Lacks}
+use Rattle.dp_lines.specs.Taking.{IsScanned, IsEnd}
 
 -- a byte of the scanned front is no newline
 scanned_at : (bytes : List ℕ) (from : ℕ) → IsScanned bytes from → (k d : ℕ) → k < from → get_or bytes k d ≢ newline

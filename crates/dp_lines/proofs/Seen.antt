@@ -1,5 +1,5 @@
 -- The lines that are seen of an input, and those that are given of a front of it.
-use Rattle.std.proofs.Common.{◌≡◌, ◌≢◌, ℕ, zero, suc, ◌+◌, ◌-◌, ◌<◌, ◌≤◌, ◌==◌, ◌⊎◌, inl, inr, Bool, true, false, not, cond, nat_lt, nat_le, List, [], ◌∷◌, ◌++◌, length, take, drop, refl, sym, ap, ◌∙◌, subst, arith, append_assoc, length-append}
+use Rattle.std.proofs.Common.{◌≡◌, ◌≢◌, ℕ, ◌+◌, ◌-◌, ◌<◌, ◌≤◌, ◌⊎◌, inl, inr, true, not, cond, nat_lt, nat_le, List, [], ◌∷◌, ◌++◌, length, take, refl, sym, ap, ◌∙◌, subst, arith, append_assoc, length-append}
 use Rattle.std.specs.Prelude.{IsTrue}
 use Rattle.std.proofs.Math.Seq.{take-append-add}
 use Rattle.std.proofs.lemmas.Bool.{cases_lt, cases_Bool, cond-true, cond-false, lt-leb, le-leb, and_parts, and_from, ltb-true, lt-ltb}
@@ -11,9 +11,9 @@ use Rattle.dp_lines.specs.Held.{Held, ended_from, lines_from, IsLeft, NextIsLong
 use Rattle.dp_lines.specs.Lines.{newline, Lacks, line_limit, ended, open_rest, if_any, lines, is_comment, is_skipped, is_overlong, numbered}
 use Rattle.dp_lines.proofs.Giving.{lines_from_parts, long_is_kept}
 use Rattle.dp_lines.proofs.Left.{lines_behind, left_at_end}
-use Rattle.dp_lines.proofs.Numbering.{numbered-append, numbered_skipped, numbered_kept}
+use Rattle.dp_lines.proofs.Numbering.{numbered_skipped, numbered_kept}
 use Rattle.dp_lines.proofs.OneWay.{rest_lacks}
-use Rattle.dp_lines.proofs.Pieces.{Parts, parts_of, last, next, ended_none, rest_none, ended_at, rest_at, ended-append, rest-append}
+use Rattle.dp_lines.proofs.Pieces.{Parts, parts_of, last, next, ended_none, rest_none, ended_at, ended-append, rest-append}
 
 -- a rest as a line, where it is too long
 abbrev pub if_long : List ℕ → List (List ℕ)

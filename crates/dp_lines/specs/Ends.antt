@@ -1,6 +1,7 @@
 -- What an input of lines comes to, where each line is to be a step after those before it.
-use Rattle.std.specs.Prelude.{◌≡◌, ℕ, ◌<◌, ◌≤◌, Bool, if◌then◌else◌, nat_le, List, [], ◌∷◌, ◌++◌, length, take, IsTrue}
+use Rattle.std.specs.Prelude.{◌≡◌, ℕ, ◌<◌, ◌≤◌, if◌then◌else◌, nat_le, List, [], ◌∷◌, ◌++◌, length, take}
 use Rattle.dp_lines.specs.declared.line.Line.{Line}
+use Rattle.dp_lines.specs.Held.{IsInLimit}
 use Rattle.dp_lines.specs.Lines.{ended, open_rest, lines, numbered, is_overlong}
 
 -- how an input ends: all of its lines are steps, the line of this number is none, or it has more bytes than count
@@ -21,7 +22,7 @@ seen limit bytes =
 
 -- the line isn't too long, and is a step after the lines before it
 pub record IsDoable (IsStep : List Line → Line → Type 0) (before : List Line) (line : Line) : Type 0 where
-  pub fits : ¬ IsTrue (is_overlong line.bytes)
+  pub fits : IsInLimit line
   pub step : IsStep before line
 
 -- each line is doable after those before it

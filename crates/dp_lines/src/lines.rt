@@ -5,7 +5,7 @@ ghost use Rattle.std.specs.Prelude.{◌==◌, [], false, length, take, position,
 ghost use Rattle.std.specs.Prelude.{IsSome, IfSome, IfNone, IfOk, OnOk, OnErr};
 ghost use Rattle.dp_lines.specs.Lines.{newline, Lacks, ended, open_rest, lines};
 ghost use Rattle.dp_lines.specs.Lines.{is_comment, is_skipped, is_overlong};
-ghost use Rattle.dp_lines.specs.Scanned.{IsScanned, IsEnd};
+ghost use Rattle.dp_lines.specs.Taking.{IsScanned, IsEnd};
 
 use crate::{Line, LineBytes};
 use bytes::BytesMut;
@@ -47,7 +47,7 @@ pub struct Lines {
 
 impl Model for Lines {
     ghost use Rattle.dp_lines.specs.Held.{Held};
-    ghost use Rattle.dp_lines.specs.Scanned.{IsScanned};
+    ghost use Rattle.dp_lines.specs.Taking.{IsScanned};
     ghost use Rattle.std.specs.Prelude.{◌+◌, ◌-◌, ◌^◌, ◌<◌, ◌≤◌, length};
 
     ghost Value = { Held };
@@ -60,7 +60,7 @@ impl Model for Lines {
 }
 
 impl Lines {
-    ghost use Rattle.dp_lines.specs.Held.{ended_from, lines_from, given, NextIsLong};
+    ghost use Rattle.dp_lines.specs.Held.{ended_from, lines_from, given, NextIsLong, IsInLimit};
 
     /// Holds no byte, and has taken no line.
     pub fn new(alloc: Global) -> Lines
@@ -97,6 +97,7 @@ impl Lines {
         ensures none { IfOk result (λ next. IfNone next (ended_from self.old ≡ [])) }
 
         // Too long is answered exactly where the next line, ended or not, is.
+        ensures fits { IfOk result (λ next. IfSome next IsInLimit) }
         ensures long { (n : ℕ) → (result ≡ Err (LineError.Long n)) ↔ NextIsLong self.old n }
         ensures memory { result ≡ Err LineError.Memory → ended_from self.old ≢ [] }
 
@@ -122,6 +123,7 @@ impl Lines {
         ensures none { IfOk result (λ next. IfNone next (lines_from self.old ≡ [])) }
 
         // Too long is answered exactly where the next line is.
+        ensures fits { IfOk result (λ next. IfSome next IsInLimit) }
         ensures long { (n : ℕ) → (result ≡ Err (LineError.Long n)) ↔ NextIsLong self.old n }
         ensures memory { result ≡ Err LineError.Memory → lines_from self.old ≢ [] }
 
@@ -138,8 +140,8 @@ impl Lines {
 }
 
 impl Lines {
-    ghost use Rattle.dp_lines.specs.Held.{ended_from, lines_from, given, NextIsLong};
-    ghost use Rattle.dp_lines.specs.Held.{first_line, behind_first, Keeps};
+    ghost use Rattle.dp_lines.specs.Held.{ended_from, lines_from, given, NextIsLong, IsInLimit};
+    ghost use Rattle.dp_lines.specs.Taking.{first_line, behind_first, Keeps};
 
     /// Takes the lines off that are passed over, up to the first other one, and answers where that
     /// one's newline stands; `None` where no further newline is held.
@@ -175,6 +177,7 @@ impl Lines {
         requires first { is_skipped (take len self.old.bytes) ≡ false }
         ensures lines { ended_from self.old ≡ given result ++ ended_from self.new }
         ensures some { IfOk result (λ next. IsSome next) }
+        ensures fits { IfOk result (λ next. IfSome next IsInLimit) }
         ensures long { (n : ℕ) → (result ≡ Err (LineError.Long n)) ↔ NextIsLong self.old n }
         ensures memory { ended_from self.old ≢ [] }
         ensures count { self.new.count + length (ended self.new.bytes)
@@ -204,6 +207,7 @@ impl Lines {
         requires { Lacks newline self.old.bytes }
         ensures lines { lines_from self.old ≡ given result ++ lines_from self.new }
         ensures none { IfOk result (λ next. IfNone next (lines_from self.old ≡ [])) }
+        ensures fits { IfOk result (λ next. IfSome next IsInLimit) }
         ensures long { (n : ℕ) → (result ≡ Err (LineError.Long n)) ↔ NextIsLong self.old n }
         ensures memory { result ≡ Err LineError.Memory → lines_from self.old ≢ [] }
         ensures count { self.new.count + length (lines self.new.bytes)
@@ -227,6 +231,7 @@ impl Lines {
         requires some { 0 < len + ending }
         ensures line { IfOk result (λ next. next ≡ Some (first_line self.old len)) }
         ensures taken { OnOk result (self.new ≡ behind_first self.old (len + ending)) }
+        ensures fits { OnOk result (IsInLimit (first_line self.old len)) }
         ensures long { (n : ℕ) → (result ≡ Err (LineError.Long n))
             ↔ (IsTrue (is_overlong (take len self.old.bytes)) × (n ≡ self.old.count + 1)) }
         ensures err { OnErr result (self.new ≡ self.old) }

@@ -1,4 +1,4 @@
-use Rattle.std.proofs.Common.{◌≡◌, ℕ, ◌%◌, ◌<◌, List, length, get_or, true, Result, Ok, Err, Some, IsSome, inl, inr, refl, ap, ◌∙◌, arith}
+use Rattle.std.proofs.Common.{◌≡◌, ℕ, ◌%◌, ◌<◌, List, length, Result, Ok, Err, IsSome, inl, inr, refl, ap, arith}
 use Rattle.std.specs.List.{All, AllPass}
 use Rattle.std.specs.Option.{is_some}
 use Rattle.std.specs.Result.{result_ok}

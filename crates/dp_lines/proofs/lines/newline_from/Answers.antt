@@ -1,4 +1,4 @@
-use Rattle.std.proofs.Common.{◌==◌, Some, None, ap, sym, ◌∙◌}
+use Rattle.std.proofs.Common.{◌==◌, ap, sym, ◌∙◌}
 use Rattle.std.specs.List.{position}
 use Rattle.std.proofs.lemmas.List.{take_rest}
 use Rattle.dp_lines.specs.Lines.{newline}

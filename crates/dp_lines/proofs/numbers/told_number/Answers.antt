@@ -1,4 +1,4 @@
-use Rattle.std.proofs.Common.{◌≡◌, ℕ, ◌<◌, ◌^◌, decimal, List, ap, sym, ◌∙◌, subst, arith, Result, Ok, Some}
+use Rattle.std.proofs.Common.{ℕ, ◌<◌, ◌^◌, decimal, List, ap, sym, ◌∙◌, subst, arith}
 use Rattle.std.specs.Result.{result_ok}
 use Rattle.std.specs.Str.{IsUtf8}
 use Rattle.std.proofs.lemmas.Fmt.{IsAscii-decimal, parse-decimal}

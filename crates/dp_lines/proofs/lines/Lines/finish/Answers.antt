@@ -1,5 +1,5 @@
-use Rattle.std.proofs.Common.{◌≡◌, ℕ, [], ap, sym, ◌∙◌}
-use Rattle.dp_lines.specs.Held.{lines_from, given, ended_from}
+use Rattle.std.proofs.Common.{◌≡◌, [], sym, ◌∙◌}
+use Rattle.dp_lines.specs.Held.{lines_from, given}
 use Rattle.dp_lines.proofs.Giving.{if_none_then, further_lines, lines_kept, long_kept, long_still, none_lines}
 use Rattle.dp_lines.proofs.lines.Lines.finish.Goals as goal
 

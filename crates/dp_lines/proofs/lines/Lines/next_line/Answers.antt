@@ -1,4 +1,4 @@
-use Rattle.std.proofs.Common.{◌≡◌, ℕ, sym, ◌∙◌}
+use Rattle.std.proofs.Common.{sym, ◌∙◌}
 use Rattle.dp_lines.proofs.Giving.{if_none, long_kept, long_still, none_ended}
 use Rattle.dp_lines.proofs.lines.Lines.next_line.Goals as goal
 
