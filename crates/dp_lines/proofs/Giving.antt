@@ -72,18 +72,18 @@ next_is a b more others same = cc
 -- the call says that the next line is too long exactly where it is
 pub long_next : (held : Held) (line : Line) (behind : List Line) (r : Result (Option Line) LineError) → lines_from held ≡ line ∷ behind → ((n : ℕ) → (r ≡ Err (Long n)) ↔ (IsTrue (is_overlong line.bytes) × (n ≡ line.number))) → (n : ℕ) → (r ≡ Err (Long n)) ↔ NextIsLong held n
 long_next held line behind r first says n = (
-    λ err.
-    let told = (says n).0 err in record {
-      line = line;
-      behind = behind;
-      next = first;
-      long = told.0;
-      number = sym told.1;
-    },
-    λ next.
-    let same = next_is line next.line behind next.behind (sym first ∙ next.next) in
-    (says n).1 (subst (λ (l : Line). IsTrue (is_overlong l.bytes) × (n ≡ l.number)) (sym same) (next.long, sym next.number)),
-  )
+  λ err.
+      let told = (says n).0 err in record {
+        line = line;
+        behind = behind;
+        next = first;
+        long = told.0;
+        number = sym told.1;
+      },
+  λ next.
+      let same = next_is line next.line behind next.behind (sym first ∙ next.next) in
+      (says n).1 (subst (λ (l : Line). IsTrue (is_overlong l.bytes) × (n ≡ l.number)) (sym same) (next.long, sym next.number)),
+)
 
 -- where no line is to come, none is too long
 pub none_next : (held : Held) → lines_from held ≡ [] → (n : ℕ) → NextIsLong held n → ⊥
@@ -111,11 +111,11 @@ long_still old new n keeps next = record {
 -- the first line that isn't passed over is the first of all lines to come
 pub first_of_lines : (held : Held) (len : ℕ) → IsEnd held.bytes len → is_skipped (take len held.bytes) ≡ false → (behind : List Line) × (lines_from held ≡ first_line held len ∷ behind)
 first_of_lines held len end kept = (
-    _,
-    lines_from_parts held
-    ∙ ap (λ (ls : List Line). ls ++ numbered (held.count + length (ended held.bytes)) (if_any (open_rest held.bytes)))
-    (lines_behind_kept held len end kept),
-  )
+  _,
+  lines_from_parts held
+      ∙ ap (λ (ls : List Line). ls ++ numbered (held.count + length (ended held.bytes)) (if_any (open_rest held.bytes)))
+      (lines_behind_kept held len end kept),
+)
 
 -- bytes are one line, where there are any
 if_any_some : (bytes : List ℕ) → 0 < length bytes → if_any bytes ≡ bytes ∷ []
@@ -167,10 +167,10 @@ kept_rest held lacks some kept =
 pub long_is_kept : (line : List ℕ) → is_overlong line ≡ true → (0 < length line) × (is_skipped line ≡ false)
 long_is_kept [] long = absurd (cc (long))
 long_is_kept (byte ∷ more) long = (
-    omega arith,
-    or_from (length (byte ∷ more) == 0) (is_comment (byte ∷ more)) (ne_eqb (length (byte ∷ more)) 0 (λ none. omega arith))
-    (not-true (is_comment (byte ∷ more)) (and_parts _ _ long).0),
-  )
+  omega arith,
+  or_from (length (byte ∷ more) == 0) (is_comment (byte ∷ more)) (ne_eqb (length (byte ∷ more)) 0 (λ none. omega arith))
+      (not-true (is_comment (byte ∷ more)) (and_parts _ _ long).0),
+)
 
 -- a rest that is too long is the next line
 pub long_rest : (held : Held) → Lacks newline held.bytes → is_overlong held.bytes ≡ true → NextIsLong held (held.count + 1)
@@ -188,16 +188,16 @@ long_rest held lacks long =
 -- a held rest is the next line, if one is to come
 next_in_rest : (held : Held) → Lacks newline held.bytes → (line : Line) (behind : List Line) → lines_from held ≡ line ∷ behind → line ≡ record { number = held.count + 1; bytes = held.bytes }
 next_in_rest held lacks line behind next = elim (cases_lt 0 (length held.bytes)) [
-    | inl some ↦ elim (cases_Bool (is_skipped held.bytes)) [
-        | inl skipped ↦ absurd (cc (next, skipped_rest held lacks some skipped))
-        | inr kept ↦
-            next_is line _ behind []
-            (sym next ∙ ap (numbered held.count) (line_of_rest held.bytes lacks some) ∙ numbered_kept held.count held.bytes [] kept)
-      ]
-    | inr none ↦
-        let empty = nil_from_length held.bytes (omega arith) in
-        absurd (cc (next, ap (λ (b : List ℕ). numbered held.count (lines b)) empty, ap (numbered held.count) no_lines))
+  | inl some ↦ elim (cases_Bool (is_skipped held.bytes)) [
+    | inl skipped ↦ absurd (cc (next, skipped_rest held lacks some skipped))
+    | inr kept ↦
+        next_is line _ behind []
+        (sym next ∙ ap (numbered held.count) (line_of_rest held.bytes lacks some) ∙ numbered_kept held.count held.bytes [] kept)
   ]
+  | inr none ↦
+      let empty = nil_from_length held.bytes (omega arith) in
+      absurd (cc (next, ap (λ (b : List ℕ). numbered held.count (lines b)) empty, ap (numbered held.count) no_lines))
+]
 
 -- it is too long and has the next number exactly where the call says so
 pub long_in_rest : (held : Held) → Lacks newline held.bytes → (n : ℕ) → NextIsLong held n → (IsTrue (is_overlong held.bytes)) × (n ≡ held.count + 1)

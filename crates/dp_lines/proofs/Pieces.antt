@@ -40,9 +40,9 @@ longer separator byte _ other (next bytes part behind whole lacks rest) =
 pub parts_of : (separator : ℕ) (bytes : List ℕ) → Parts separator bytes
 parts_of separator [] = last [] (All-nil (λ byte. byte ≢ separator))
 parts_of separator (byte ∷ bytes) = elim (cases_eq byte separator) [
-    | inl same ↦ next (byte ∷ bytes) [] bytes (ap (λ (b : ℕ). b ∷ bytes) same) (All-nil (λ b. b ≢ separator)) (parts_of separator bytes)
-    | inr other ↦ longer separator byte bytes other (parts_of separator bytes)
-  ]
+  | inl same ↦ next (byte ∷ bytes) [] bytes (ap (λ (b : ℕ). b ∷ bytes) same) (All-nil (λ b. b ≢ separator)) (parts_of separator bytes)
+  | inr other ↦ longer separator byte bytes other (parts_of separator bytes)
+]
 
 -- one more in front
 front_more : {X : Type 0} (x : X) (xs : List X) → 0 < length xs → all_but_last (x ∷ xs) ≡ x ∷ all_but_last xs

@@ -22,9 +22,9 @@ behind_at bytes from k d above =
 -- neither the scanned front nor what is searched behind it holds a newline, up to `len`
 none_up_to : (bytes : List ℕ) (from len : ℕ) → IsScanned bytes from → len ≤ length bytes → ((k d : ℕ) → k + from < len → get_or (drop from bytes) k d ≢ newline) → (k d : ℕ) → k < len → get_or bytes k d ≢ newline
 none_up_to bytes from len scanned within behind k d below = elim (cases_lt k from) [
-    | inl front ↦ scanned_at bytes from scanned k d front
-    | inr above ↦ subst (λ (b : ℕ). b ≢ newline) (behind_at bytes from k d above) (behind (k - from) d (omega arith))
-  ]
+  | inl front ↦ scanned_at bytes from scanned k d front
+  | inr above ↦ subst (λ (b : ℕ). b ≢ newline) (behind_at bytes from k d above) (behind (k - from) d (omega arith))
+]
 
 -- the first newline behind the scanned front is the first of all
 pub found_end : (bytes : List ℕ) (from at : ℕ) → IsScanned bytes from → position (λ byte. byte == newline) (drop from bytes) ≡ Some at → IsEnd bytes (from + at)
@@ -46,22 +46,22 @@ found_end bytes from at scanned found =
 all_pass : (test : ℕ → Bool) (xs : List ℕ) → length xs ≤ prefix_len test xs → All (λ x. test x ≡ true) xs
 all_pass test [] whole = All-nil (λ x. test x ≡ true)
 all_pass test (x ∷ xs) whole = elim (cases_Bool (test x)) [
-    | inl passes ↦
-        let longer = cond-true (test x) (1 + prefix_len test xs) 0 passes in
-        All-cons (λ y. test y ≡ true) x xs passes (all_pass test xs (omega (arith, longer)))
-    | inr fails ↦
-        let none = cond-false (test x) (1 + prefix_len test xs) 0 fails in
-        absurd (omega (arith, none))
-  ]
+  | inl passes ↦
+      let longer = cond-true (test x) (1 + prefix_len test xs) 0 passes in
+      All-cons (λ y. test y ≡ true) x xs passes (all_pass test xs (omega (arith, longer)))
+  | inr fails ↦
+      let none = cond-false (test x) (1 + prefix_len test xs) 0 fails in
+      absurd (omega (arith, none))
+]
 
 -- where no position is found, the prefix without one is the whole list
 none_found : (test : ℕ → Bool) (xs : List ℕ) → position test xs ≡ None → length xs ≤ position_or_len test xs
 none_found test xs none = elim (cases_lt (position_or_len test xs) (length xs)) [
-    | inl below ↦
-        let found = cond-true (nat_lt (position_or_len test xs) (length xs)) (Some (position_or_len test xs)) None (lt-ltb _ _ below) in
-        absurd (cc (none, found))
-    | inr above ↦ above
-  ]
+  | inl below ↦
+      let found = cond-true (nat_lt (position_or_len test xs) (length xs)) (Some (position_or_len test xs)) None (lt-ltb _ _ below) in
+      absurd (cc (none, found))
+  | inr above ↦ above
+]
 
 -- where none is found behind the scanned front, there is none
 pub found_none : (bytes : List ℕ) (from : ℕ) → IsScanned bytes from → position (λ byte. byte == newline) (drop from bytes) ≡ None → Lacks newline bytes

@@ -44,21 +44,21 @@ whole_at limit bytes within = ap (numbered 0) (cond-true (nat_le (length bytes) 
 
 sees : (limit : ℕ) (all more : List ℕ) → length all ≤ limit → Sees limit all more
 sees limit all more counts = elim (cases_lt limit (length (all ++ more))) [
-    | inl over ↦
-        let to : length all + (limit - length all) ≡ limit = omega arith in
-        let front = ap (λ (n : ℕ). take n (all ++ more)) (sym to) ∙ take-append-add all more (limit - length all) in record {
-          further = take (limit - length all) more;
-          tail = if_long;
-          whole = cut_at limit (all ++ more) over ∙ ap (λ (b : List ℕ). numbered 0 (front_lines b)) front;
-          long = if_long_is;
-        }
-    | inr within ↦ record {
-        further = more;
-        tail = if_any;
-        whole = whole_at limit (all ++ more) within;
-        long = if_any_is;
+  | inl over ↦
+      let to : length all + (limit - length all) ≡ limit = omega arith in
+      let front = ap (λ (n : ℕ). take n (all ++ more)) (sym to) ∙ take-append-add all more (limit - length all) in record {
+        further = take (limit - length all) more;
+        tail = if_long;
+        whole = cut_at limit (all ++ more) over ∙ ap (λ (b : List ℕ). numbered 0 (front_lines b)) front;
+        long = if_long_is;
       }
-  ]
+  | inr within ↦ record {
+    further = more;
+    tail = if_any;
+    whole = whole_at limit (all ++ more) within;
+    long = if_any_is;
+  }
+]
 
 -- the lines that were given are the first that are seen, and then those that are left
 seen_behind : (limit : ℕ) (all more : List ℕ) (done : List Line) (held : Held) (s : Sees limit all more) → IsLeft all done held → seen limit (all ++ more) ≡ done ++ (ended_from held ++ numbered (held.count + length (ended held.bytes)) (ended (open_rest all ++ s.further) ++ s.tail (open_rest (open_rest all ++ s.further))))
@@ -123,9 +123,9 @@ first_where (first ∷ front) more line behind same =
 line_is_rest : (n : ℕ) (rest : List ℕ) (line : Line) (behind : List Line) → numbered n (if_any rest) ≡ line ∷ behind → line ≡ record { number = n + 1; bytes = rest }
 line_is_rest n [] line behind same = absurd (cc (same))
 line_is_rest n (byte ∷ more) line behind same = elim (cases_Bool (is_skipped (byte ∷ more))) [
-    | inl skipped ↦ absurd (cc (same, numbered_skipped n (byte ∷ more) [] skipped))
-    | inr kept ↦ cc (same, numbered_kept n (byte ∷ more) [] kept)
-  ]
+  | inl skipped ↦ absurd (cc (same, numbered_skipped n (byte ∷ more) [] skipped))
+  | inr kept ↦ cc (same, numbered_kept n (byte ∷ more) [] kept)
+]
 
 -- a next line that is too long, as it is seen
 pub record SeesLong (limit : ℕ) (all more : List ℕ) (done : List Line) (n : ℕ) : Type 0 where
@@ -143,12 +143,12 @@ long_seen limit all more done held n left counts found =
     let whole = seen_behind limit all more done held s left in
     elim (first_where (ended_from held) (numbered count (if_any (open_rest held.bytes))) found.line found.behind to_come) [
       | inl (others, first) ↦ record {
-          line = found.line;
-          behind = _;
-          split = whole ∙ ap (λ (ls : List Line). done ++ (ls ++ numbered count (ended (open_rest all ++ s.further) ++ s.tail (open_rest (open_rest all ++ s.further))))) first;
-          long = found.long;
-          number = found.number;
-        }
+        line = found.line;
+        behind = _;
+        split = whole ∙ ap (λ (ls : List Line). done ++ (ls ++ numbered count (ended (open_rest all ++ s.further) ++ s.tail (open_rest (open_rest all ++ s.further))))) first;
+        long = found.long;
+        number = found.number;
+      }
       | inr (none, first) ↦
           let is = line_is_rest count (open_rest held.bytes) found.line found.behind first in
           let bytes = ap (λ (l : Line). l.bytes) is ∙ sym left.rest in

@@ -7,11 +7,15 @@ mod line;
 mod lines;
 mod numbers;
 mod run_end;
+#[cfg(test)]
+mod tests;
 mod words;
 
 pub use hexadecimal::{hex_of, put_hex};
-pub use laws::{further_step, hex_read_back, lines_seen, one_end, one_number, one_way};
-pub use laws::{Steps, still_left, whole_lines};
+pub use laws::{
+    Steps, further_step, hex_read_back, lines_seen, one_end, one_number, one_way, still_left,
+    whole_lines,
+};
 pub use line::{Line, LineBytes};
 pub use lines::{LineError, Lines};
 pub use numbers::{number, put_number};

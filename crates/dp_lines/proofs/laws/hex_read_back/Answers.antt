@@ -16,18 +16,18 @@ tells word (Err error) is some = absurd (cc (some))
 
 pub returns-clause-digits : goal.returns-clause-digits
 returns-clause-digits c word = (
-    tells word (decode_of word) refl,
-    λ digits.
-    let ok = decode_of-digits word digits.0 digits.1 in
-    ap is_some (ap result_ok ok.1),
-  )
+  tells word (decode_of word) refl,
+  λ digits.
+      let ok = decode_of-digits word digits.0 digits.1 in
+      ap is_some (ap result_ok ok.1),
+)
 
 -- each byte of a list is below 256
 is_bytes : (bytes : List ℕ) → All (λ byte. byte < 256) bytes → IsBytes bytes
 is_bytes bytes each k = elim (cases_lt k (length bytes)) [
-    | inl within ↦ each k 0 within
-    | inr past ↦ omega (arith, get_or_past bytes k 0 past)
-  ]
+  | inl within ↦ each k 0 within
+  | inr past ↦ omega (arith, get_or_past bytes k 0 past)
+]
 
 pub returns-clause-back : goal.returns-clause-back
 returns-clause-back c bytes each = ap result_ok (decode_of-encode_lower bytes (is_bytes bytes each))

@@ -13,11 +13,11 @@ returns-then-is_long-clause-long c n =
     let long = ap is_overlong bytes ∙ sym c.if-is_long.ensures in
     let count = ap (λ (h : Held). h.count) c.self.view_is in (
       λ err.
-      let same : c.self.inside.count + 1 ≡ n = cc (err) in
-      subst (NextIsLong held) (sym (ap (λ (k : ℕ). k + 1) count) ∙ same) (long_rest held c.requires long),
+          let same : c.self.inside.count + 1 ≡ n = cc (err) in
+          subst (NextIsLong held) (sym (ap (λ (k : ℕ). k + 1) count) ∙ same) (long_rest held c.requires long),
       λ next.
-      let told = (long_in_rest held c.requires n next).1 in
-      ap (λ (k : ℕ). Err (Long k)) (ap (λ (k : ℕ). k + 1) count ∙ sym told),
+          let told = (long_in_rest held c.requires n next).1 in
+          ap (λ (k : ℕ). Err (Long k)) (ap (λ (k : ℕ). k + 1) count ∙ sym told),
     )
 
 pub returns-clause-long : goal.returns-clause-long
