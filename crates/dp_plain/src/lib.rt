@@ -12,5 +12,5 @@ mod resize;
 mod tests;
 
 pub use board::PlainBoard;
-pub use picture::plain_p6;
+pub use picture::{plain_p3, plain_p6};
 pub use replay::plain_replay;
