@@ -1,9 +1,10 @@
 -- What the paint rows hold.
 use Rattle.std.proofs.Common.{◌≡◌, ◌≢◌, ◌==◌, ◌⊎◌, inl, inr, ℕ, zero, suc, Bool, true, false, not, cond, List, [], ◌∷◌, ◌++◌, map, length, get_or, Option, None, Some, refl, ap, sym, ◌∙◌, subst, ⊎_elim, eq-eqb, ◌+◌, ◌<◌, ◌≤◌, arith}
 use Rattle.std.specs.Prelude.{is_some, All}
-use Rattle.std.specs.List.{find, filter_map, cons_option}
+use Rattle.std.specs.List.{find, filter_map, cons_option, count_by}
 use Rattle.std.specs.Option.{option_map, option_and_then, option_map_or}
-use Rattle.std.proofs.lemmas.Bool.{ne_eqb, cases_Bool, false≢true, true≢false, not-true, not-false}
+use Rattle.std.proofs.lemmas.Bool.{ne_eqb, eqb-true, cond_both, cases_Bool, false≢true, true≢false, not-true, not-false}
+use Rattle.std.proofs.lemmas.List.Sums.{sum_by-cons}
 use Rattle.std.proofs.lemmas.List.Elements.{All-head, All-tail, All-cons, All-nil, All-map}
 use Rattle.dp_layers.specs.declared.row.LayerRow.{LayerRow}
 use Rattle.dp_layers.specs.Layers.{has_id, row_of, has_row, is_paint_row}
@@ -11,8 +12,9 @@ use Rattle.dp_layers.specs.Rows.{Row, layers_of, contents_of, content_of, fill_r
 use Rattle.dp_layers.specs.Tree.{IsLayerTree, IsTree}
 use Rattle.dp_layers.specs.Inside.{joined, IsJoined, filling}
 use Rattle.dp_layers.proofs.Finding.{AreDistinct, AreDistinct-none, AreDistinct-tail, cond-ap}
-use Rattle.dp_layers.proofs.Places.{IsAt, first_differs, IsAt-tail}
-use Rattle.dp_layers.proofs.Joining.{map-map, map-same, layers_of-joined}
+use Rattle.dp_layers.proofs.Places.{IsAt, absent-rest, first_differs, IsAt-tail}
+use Rattle.dp_layers.proofs.Trees.{All-itself}
+use Rattle.dp_layers.proofs.Joining.{map-map, map-same, layers_of-joined, fill-absent}
 use Rattle.dp_layers.proofs.Effects.{HoldsByKind}
 
 -- the tree without rows
@@ -34,11 +36,18 @@ pub joined-none : {X : Type 0} (layers : List LayerRow) (contents : List (Option
 joined-none layers contents left right =
     rw (left, right) (record { same_length = refl; tree = tree-none })
 
+-- two functions that agree at each item
+filter_map-agree : {A B : Type 0} (g h : A → Option B) (xs : List A) → All (λ x. g x ≡ h x) xs → filter_map g xs ≡ filter_map h xs
+filter_map-agree g h [] each = refl
+filter_map-agree {A} g h (x ∷ xs) each =
+    let P : A → Type 0 = λ y. g y ≡ h y in
+    ap (λ o. cons_option o (filter_map g xs)) (All-head P x xs each) ∙ ap (cons_option (h x)) (filter_map-agree g h xs (All-tail P x xs each))
+
 module _ {X : Type 0} where
   has_row_id : ℕ → Row X → Bool
   has_row_id id row = row.layer.id == id
 
-  content-absent : (rows : List (Row X)) (id : ℕ) → row_of (layers_of rows) id ≡ None → content_of rows id ≡ None
+  pub content-absent : (rows : List (Row X)) (id : ℕ) → row_of (layers_of rows) id ≡ None → content_of rows id ≡ None
   content-absent [] id absent = refl
   content-absent (r ∷ rows) id absent =
       ⊎_elim
@@ -63,6 +72,37 @@ module _ {X : Type 0} where
       let later = IsAt-tail l layers id place at in
       rw (first_differs l layers id place distinct later)
       (content-at layers contents id place d (omega arith) (AreDistinct-tail l layers distinct) later)
+
+  -- x put into a paint row
+  kinds-filled : (rows : List (Row X)) (id : ℕ) (x : X) → AreDistinct (layers_of rows) → is_paint_row (layers_of rows) id ≡ true → All HoldsByKind rows → All HoldsByKind (with_content rows id x)
+  kinds-filled [] id x distinct paint each = each
+  kinds-filled (r ∷ rows) id x distinct paint each =
+      let P : List (Row X) → Type 0 = λ rs. All HoldsByKind rs in
+      let rest = All-tail HoldsByKind r rows each in
+      ⊎_elim
+      (λ (here : (r.layer.id == id) ≡ true).
+      let absent : row_of (layers_of rows) id ≡ None = absent-rest r.layer (layers_of rows) id distinct (eqb-true r.layer.id id here) in
+      let is : with_content (r ∷ rows) id x ≡ record r { content = Some x } ∷ rows = rw here (ap (λ rs. record r { content = Some x } ∷ rs) (fill-absent id x rows absent)) in
+      subst P (sym is) (All-cons HoldsByKind (record r { content = Some x }) rows (sym (rw here at paint)) rest))
+      (λ (missed : (r.layer.id == id) ≡ false).
+      let is : with_content (r ∷ rows) id x ≡ r ∷ with_content rows id x = rw missed refl in
+      subst P (sym is)
+      (All-cons HoldsByKind r (with_content rows id x) (All-head HoldsByKind r rows each)
+      (kinds-filled rows id x (AreDistinct-tail r.layer (layers_of rows) distinct) (rw missed at paint) rest)))
+      (cases_Bool (r.layer.id == id))
+
+  pub layers_of-filled : (rows : List (Row X)) (id : ℕ) (x : X) → layers_of (with_content rows id x) ≡ layers_of rows
+  layers_of-filled rows id x =
+      map-map (fill_row id x) (λ (r : Row X). r.layer) rows
+      ∙ map-same (λ r. (fill_row id x r).layer) (λ (r : Row X). r.layer) (λ r. cond_both (r.layer.id == id) (record r { content = Some x }) r (λ (q : Row X). q.layer ≡ r.layer) (λ _. refl) (λ _. refl)) rows
+
+  pub tree-filled : (rows : List (Row X)) (id : ℕ) (x : X) → IsTree rows → is_paint_row (layers_of rows) id ≡ true → IsTree (with_content rows id x)
+  tree-filled rows id x tree paint =
+      let P : List LayerRow → Type 0 = λ ls. IsLayerTree ls in
+      record {
+        layers = subst P (sym (layers_of-filled rows id x)) tree.layers;
+        contents = kinds-filled rows id x tree.layers.distinct paint tree.contents;
+      }
 
   -- ---- the contents mapped
 
@@ -132,7 +172,7 @@ module _ {X : Type 0} where
 
   -- ---- a filling
 
-  length-filling : (layers : List LayerRow) (xs : List X) → length (filling layers xs) ≡ length layers
+  pub length-filling : (layers : List LayerRow) (xs : List X) → length (filling layers xs) ≡ length layers
   length-filling [] xs = refl
   length-filling (l ∷ layers) [] = ap suc (length-filling layers [])
   length-filling (l ∷ layers) (x ∷ xs) =
@@ -185,3 +225,36 @@ module _ {X : Type 0} where
           let more = rest ys tail (omega arith) in
           rw (filled-paint r rows y ys paint)
           (ap (λ zs. y ∷ zs) more.0, All-cons HoldsByKind (record { layer = r.layer; content = Some y }) (filled rows ys) (rw paint refl) more.1)
+
+  -- ---- the contents by the rows
+
+  -- what they hold is what the rows' ids lead to, in order
+  pub contents-by_id : (rows : List (Row X)) → AreDistinct (layers_of rows) → contents_of rows ≡ filter_map (λ l. content_of rows l.id) (layers_of rows)
+  contents-by_id [] distinct = refl
+  contents-by_id (r ∷ rows) distinct =
+      let first : content_of (r ∷ rows) r.layer.id ≡ r.content = rw (eq-eqb r.layer.id r.layer.id refl) refl in
+      ap (cons_option r.content)
+      (contents-by_id rows (AreDistinct-tail r.layer (layers_of rows) distinct)
+      ∙ filter_map-agree (λ l. content_of rows l.id) (λ l. content_of (r ∷ rows) l.id) (layers_of rows) (λ k d in_list.
+      later (get_or (layers_of rows) k d) (All-itself (layers_of rows) (AreDistinct-tail r.layer (layers_of rows) distinct) k d in_list)))
+      ∙ ap (λ o. cons_option o (filter_map (λ l. content_of (r ∷ rows) l.id) (layers_of rows))) (sym first)
+    where
+      later : (l : LayerRow) → row_of (layers_of rows) l.id ≡ Some l → content_of rows l.id ≡ content_of (r ∷ rows) l.id
+      later l found =
+          let away : (r.layer.id == l.id) ≡ false = ne_eqb r.layer.id l.id (λ (e : r.layer.id ≡ l.id).
+          absurd (let f : ◌≡◌ {A = Option LayerRow} None (Some l) = sym (absent-rest r.layer (layers_of rows) l.id distinct e) ∙ found in cc)) in
+          rw away refl
+
+  -- there are as many as paint rows
+  pub length-contents : (rows : List (Row X)) → All HoldsByKind rows → length (contents_of rows) ≡ count_by (λ l. not l.group) (layers_of rows)
+  length-contents [] each = refl
+  length-contents (r ∷ rows) each =
+      more r.content r.layer.group (All-head HoldsByKind r rows each)
+      ∙ ap (λ n. cond (not r.layer.group) 1 0 + n) (length-contents rows (All-tail HoldsByKind r rows each))
+      ∙ sym (sum_by-cons (λ (l : LayerRow). cond (not l.group) 1 0) r.layer (layers_of rows))
+    where
+      more : (o : Option X) (group : Bool) → is_some o ≡ not group → length (cons_option o (contents_of rows)) ≡ cond (not group) 1 0 + length (contents_of rows)
+      more None true h = omega arith
+      more None false h = absurd (false≢true h)
+      more (Some x) true h = absurd (true≢false h)
+      more (Some x) false h = omega arith

@@ -128,7 +128,7 @@ module _ {X : Type 0} where
 
   -- ---- one content put in
 
-  fill-absent : (id : ℕ) (x : X) (rows : List (Row X)) → row_of (layers_of rows) id ≡ None → map (fill_row id x) rows ≡ rows
+  pub fill-absent : (id : ℕ) (x : X) (rows : List (Row X)) → row_of (layers_of rows) id ≡ None → map (fill_row id x) rows ≡ rows
   fill-absent id x [] absent = refl
   fill-absent id x (r ∷ rows) absent =
       ⊎_elim

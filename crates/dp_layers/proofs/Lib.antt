@@ -7,4 +7,5 @@ pub mod Sifting
 pub mod Joining
 pub mod Effects
 pub mod Contents
+pub mod Mapping
 pub mod Methods

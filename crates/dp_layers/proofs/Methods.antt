@@ -1,30 +1,35 @@
 -- What the calls of a tree do to its two lists.
 use Rattle.std.proofs.Common.{◌≡◌, ◌≢◌, ◌==◌, ◌&&◌, ◌||◌, ◌⊎◌, ℕ, Bool, true, false, not, List, [], ◌∷◌, ◌++◌, map, length, get_or, set, Option, None, Some, refl, ap, sym, ◌∙◌, subst, ◌<◌, arith}
-use Rattle.std.specs.Prelude.{is_some, position}
-use Rattle.std.specs.List.{items_where_true, IsDistinct}
+use Rattle.std.specs.Prelude.{is_some, position, All}
+use Rattle.std.specs.List.{items_where_true, IsDistinct, count_by}
 use Rattle.std.specs.Option.{option_map_or}
 use Rattle.std.proofs.lemmas.Bool.{and_parts, cond_both, false≢true}
-use Rattle.std.proofs.lemmas.List.{length-map, get_or-map}
+use Rattle.std.proofs.lemmas.List.{length-map, length-set, get_or-map}
 use Rattle.dp_layers.specs.declared.row.LayerRow.{LayerRow}
 use Rattle.dp_layers.specs.Layers.{has_id, row_of, has_row, is_paint_row, is_root_or_group, is_in}
-use Rattle.dp_layers.specs.Rows.{Row, layers_of}
+use Rattle.dp_layers.specs.Rows.{Row, layers_of, contents_of, content_of, with_content}
 use Rattle.dp_layers.specs.Changes.{change_row, rows_changed, created, deleted, moved, set_parent, can_stand}
-use Rattle.dp_layers.specs.Inside.{joined, IsJoined, changed_at, carried, place_behind, stay_flags}
+use Rattle.dp_layers.specs.Tree.{IsLayerTree, IsTree}
+use Rattle.dp_layers.specs.Inside.{joined, IsJoined, filling, changed_at, carried, place_behind, stay_flags}
 use Rattle.dp_layers.proofs.Finding.{AreDistinct}
 use Rattle.dp_layers.proofs.Placing.{IsPlace}
 use Rattle.dp_layers.proofs.Places.{IsAt, at_position, row_of-at, absent_position, set-changed_at, map-changed_at, carried-placed}
 use Rattle.dp_layers.proofs.Trees.{ids_of-map}
-use Rattle.dp_layers.proofs.Joining.{AreParts, joined_parts, length_parts, parts-created, parts-changed, parts-carried, parts-deleted, tree_inside}
-use Rattle.dp_layers.proofs.Effects.{change-group, place_after}
+use Rattle.dp_layers.proofs.Joining.{AreParts, joined_parts, length_parts, parts-created, parts-changed, parts-carried, parts-deleted, tree_inside, layers_of-joined, joined-filled}
+use Rattle.dp_layers.proofs.Effects.{HoldsByKind, change-group, place_after, value_layers}
+use Rattle.dp_layers.proofs.Contents.{content-absent, content-at, content-paint, tree-filled, filled, filled-all, length-filling, length-contents}
 
 module _ {X : Type 0} (layers : List LayerRow) (contents : List (Option X)) (inside : IsJoined layers contents) where
   pub distinct_inside : AreDistinct layers
   distinct_inside = (tree_inside layers contents inside.same_length inside.tree).distinct
 
   -- the look-up of a place in the list, which a slice shows
+  pub none_inside : (shown : List LayerRow) (id : ℕ) (found : Option ℕ) → shown ≡ layers → found ≡ position (has_id id) shown → found ≡ None → row_of layers id ≡ None
+  none_inside shown id found same looked none =
+      absent_position layers id (ap (position (has_id id)) (sym same) ∙ sym looked ∙ none)
+
   pub absent_inside : (shown : List LayerRow) (id : ℕ) (found : Option ℕ) → shown ≡ layers → found ≡ position (has_id id) shown → found ≡ None → has_row layers id ≡ false
-  absent_inside shown id found same looked none =
-      ap is_some (absent_position layers id (ap (position (has_id id)) (sym same) ∙ sym looked ∙ none))
+  absent_inside shown id found same looked none = ap is_some (none_inside shown id found same looked none)
 
   pub place_inside : (shown : List LayerRow) (id place : ℕ) (found : Option ℕ) → shown ≡ layers → found ≡ position (has_id id) shown → found ≡ Some place → IsAt layers id place
   place_inside shown id place found same looked some =
@@ -99,10 +104,70 @@ module _ {X : Type 0} (layers : List LayerRow) (contents : List (Option X)) (ins
         let P : List (Row X) → Type 0 = λ rs. AreParts (carried (map change layers) from to) (carried contents from to) rs in
         rw (left, right, is_mid) (subst P rows (parts-carried (map change layers) contents same from to))
 
-  -- a row that is none
-  pub not_paint : (id : ℕ) → has_row layers id ≡ false → is_paint_row layers id ≡ true → ⊥
-  not_paint id absent paint = none (row_of layers id) absent paint
-    where
-      none : (o : Option LayerRow) → is_some o ≡ false → option_map_or (λ r. not r.group) o false ≡ true → ⊥
-      none None absent paint = false≢true paint
-      none (Some r) absent paint = false≢true (sym absent)
+  -- what the paint rows hold
+  module _ (rows : List (Row X)) (view : joined layers contents ≡ rows) where
+    tree_viewed : IsTree rows
+    tree_viewed = let P : List (Row X) → Type 0 = λ rs. IsTree rs in subst P view inside.tree
+
+    absent_viewed : (id : ℕ) → row_of layers id ≡ None → row_of (layers_of rows) id ≡ None
+    absent_viewed id absent = ap (λ ls. row_of ls id) (value_layers layers contents rows inside view) ∙ absent
+
+    pub content_none : (id : ℕ) → row_of layers id ≡ None → None ≡ content_of rows id
+    content_none id absent = sym (content-absent rows id (absent_viewed id absent))
+
+    pub content_there : (id place : ℕ) (content : Option X) → IsAt layers id place → content ≡ get_or contents place content → content ≡ content_of rows id
+    content_there id place content at read =
+        read
+        ∙ sym (content-at layers contents id place content inside.same_length distinct_inside at)
+        ∙ ap (λ rs. content_of rs id) view
+
+    pub content_is_some : (id : ℕ) (content : Option X) → content ≡ content_of rows id → is_some content ≡ is_paint_row (layers_of rows) id
+    content_is_some id content is = ap is_some is ∙ content-paint rows id tree_viewed.contents
+
+    -- a paint row is there
+    pub not_paint : (id : ℕ) → row_of layers id ≡ None → is_paint_row (layers_of rows) id ≡ true → ⊥
+    not_paint id absent paint =
+        false≢true (sym (ap (λ o. option_map_or (λ r. not r.group) o false) (absent_viewed id absent)) ∙ paint)
+
+    -- x put into the row of the id
+    pub refilled : (id place : ℕ) (x : X) (put : Option X) → IsAt layers id place → put ≡ Some x → joined layers (set contents place put) ≡ with_content rows id x
+    refilled id place x put at is =
+        ap (λ o. joined layers (set contents place o)) is
+        ∙ joined-filled id x layers contents place inside.same_length distinct_inside at
+        ∙ ap (λ rs. with_content rs id x) view
+
+    pub refilled_inside : (id place : ℕ) (x : X) (put : Option X) → IsAt layers id place → put ≡ Some x → is_paint_row (layers_of rows) id ≡ true → IsJoined layers (set contents place put)
+    refilled_inside id place x put at is paint =
+        let P : List (Row X) → Type 0 = λ rs. IsTree rs in
+        record {
+          same_length = length-set contents place put ∙ inside.same_length;
+          tree = subst P (sym (refilled id place x put at is)) (tree-filled rows id x tree_viewed paint);
+        }
+
+    -- the rows with other contents
+    module _ (kept : List LayerRow) (holds : List (Option X)) (xs : List X) (same : kept ≡ layers) (is : holds ≡ filling kept xs) (count : length xs ≡ count_by (λ l. not l.group) (layers_of rows)) where
+      remade : joined kept holds ≡ filled rows xs
+      remade =
+          let all : kept ≡ layers_of rows = same ∙ sym (value_layers layers contents rows inside view) in
+          ap (joined kept) is ∙ ap (λ ls. joined ls (filling ls xs)) all
+
+      remade_all : (contents_of (filled rows xs) ≡ xs) × All HoldsByKind (filled rows xs)
+      remade_all = filled-all rows xs tree_viewed.contents (count ∙ sym (length-contents rows tree_viewed.contents))
+
+      pub remade_contents : contents_of (joined kept holds) ≡ xs
+      remade_contents = ap contents_of remade ∙ remade_all.0
+
+      long : length holds ≡ length kept
+      long = ap (λ cs. length cs) is ∙ length-filling kept xs
+
+      pub remade_rows : layers_of (joined kept holds) ≡ layers_of rows
+      remade_rows = layers_of-joined kept holds long ∙ same ∙ sym (value_layers layers contents rows inside view)
+
+      pub remade_inside : IsJoined kept holds
+      remade_inside =
+          let P : List LayerRow → Type 0 = λ ls. IsLayerTree ls in
+          let Q : List (Row X) → Type 0 = λ rs. All HoldsByKind rs in
+          record {
+            same_length = long;
+            tree = record { layers = subst P (sym remade_rows) tree_viewed.layers; contents = subst Q (sym remade) remade_all.1 };
+          }

@@ -20,14 +20,17 @@ pub record IsAt (rows : List LayerRow) (id place : ℕ) : Type 0 where
   pub within : place < length rows
   pub named : (d : LayerRow) → (get_or rows place d).id ≡ id
 
+-- some row of a list that has one
+pub some_row : (rows : List LayerRow) (place : ℕ) → place < length rows → LayerRow
+some_row [] place within = absurd (omega arith)
+some_row (r ∷ rows) place within = r
+
 pub at_position : (rows : List LayerRow) (id place : ℕ) → position (has_id id) rows ≡ Some place → IsAt rows id place
-at_position rows id place is = record {
-  within = (position-Some (has_id id) rows place some_row is).0;
-  named = λ d. eqb-true (get_or rows place d).id id (position-Some (has_id id) rows place d is).1;
+at_position [] id place is = absurd (let e : ◌≡◌ {A = Option ℕ} None (Some place) = is in cc)
+at_position (r ∷ rows) id place is = record {
+  within = (position-Some (has_id id) (r ∷ rows) place r is).0;
+  named = λ d. eqb-true (get_or (r ∷ rows) place d).id id (position-Some (has_id id) (r ∷ rows) place d is).1;
 }
-  where
-    some_row : LayerRow
-    some_row = record { id = 0; parent = 0; group = false; title = []; opacity = 0; mode = 0; hidden = false }
 
 -- no later row has the first one's id
 pub absent-rest : (r : LayerRow) (rows : List LayerRow) (id : ℕ) → AreDistinct (r ∷ rows) → r.id ≡ id → row_of rows id ≡ None
@@ -79,6 +82,11 @@ pub set-changed_at : {X : Type 0} (change : X → X) (xs : List X) (place : ℕ)
 set-changed_at change [] place d inside = refl
 set-changed_at change (x ∷ xs) zero d inside = refl
 set-changed_at change (x ∷ xs) (suc place) d inside = ap (λ ys. x ∷ ys) (set-changed_at change xs place d (omega arith))
+
+pub length-changed_at : {X : Type 0} (change : X → X) (xs : List X) (place : ℕ) → length (changed_at change xs place) ≡ length xs
+length-changed_at change [] place = refl
+length-changed_at change (x ∷ xs) zero = refl
+length-changed_at change (x ∷ xs) (suc place) = ap suc (length-changed_at change xs place)
 
 -- a change of the row of an absent id
 map-absent : (id : ℕ) (change : LayerRow → LayerRow) (rows : List LayerRow) → row_of rows id ≡ None → map (change_row id change) rows ≡ rows
@@ -229,8 +237,8 @@ module _ {R : Type 0} (row : R → LayerRow) where
             rw to (carried_behind at later (at_below (map row rows) above from at inside below there)))
             (λ (behind_it : from ≤ at).
             let apart : at ≢ from = λ (e : at ≡ from).
-            (let some_row : LayerRow = record { id = 0; parent = 0; group = false; title = []; opacity = 0; mode = 0; hidden = false } in
-            ok.1 (sym (there.named some_row) ∙ ap (λ k. (get_or (map row rows) k some_row).id) e ∙ is_from.named some_row)) in
+            (let d : LayerRow = some_row (map row rows) from inside in
+            ok.1 (sym (there.named d) ∙ ap (λ k. (get_or (map row rows) k d).id) e ∙ is_from.named d)) in
             let less : at ≡ (at - 1) + 1 = omega arith in
             let to : place_behind (map row rows) from above ≡ suc (at - 1) =
             rw (later, is) (rw (le-ltb at from behind_it) (omega arith)) in

@@ -19,7 +19,7 @@ use Rattle.dp_layers.proofs.Placing.{IsPlace, row_of-placed, AreDistinct-placed,
 
 -- ---- what holds of each row
 
-pub All-found : (P : LayerRow → Type 0) (rows : List LayerRow) (x : ℕ) (row : LayerRow) → All P rows → row_of rows x ≡ Some row → P row
+All-found : (P : LayerRow → Type 0) (rows : List LayerRow) (x : ℕ) (row : LayerRow) → All P rows → row_of rows x ≡ Some row → P row
 All-found P [] x row each found = absurd (let e : ◌≡◌ {A = Option LayerRow} None (Some row) = found in cc)
 All-found P (r ∷ rows) x row each found =
     ⊎_elim
@@ -54,7 +54,7 @@ All-present (r ∷ rows) =
         (cases_Bool (r.id == row.id))
 
 -- each row is the one that is found at its id
-All-itself : (rows : List LayerRow) → AreDistinct rows → All (λ row. row_of rows row.id ≡ Some row) rows
+pub All-itself : (rows : List LayerRow) → AreDistinct rows → All (λ row. row_of rows row.id ≡ Some row) rows
 All-itself [] distinct = All-nil (λ row. row_of [] row.id ≡ Some row)
 All-itself (r ∷ rows) distinct =
     All-cons (λ row. row_of (r ∷ rows) row.id ≡ Some row) r rows (found_first r rows)

@@ -4,6 +4,8 @@ ghost use Rattle.std.specs.Prelude.{
   ◌≡◌,
   [],
   length,
+  count_by,
+  not,
   IsTrue,
   IfOk,
   OnOk,
@@ -242,7 +244,7 @@ impl<X: Drop> Tree<X> {
     ///
     /// Where memory runs out.
     pub fn remake(&self, contents: Vec<X>) -> Result<Tree<X>, AllocError>
-        requires { length contents.items ≡ length (contents_of self.now) }
+        requires { length contents.items ≡ count_by (λ row. not row.group) (layers_of self.now) }
         ensures rows { IfOk result (λ tree. layers_of tree ≡ layers_of self.now) }
         ensures contents { IfOk result (λ tree. contents_of tree ≡ contents.items) }
     {
