@@ -14,9 +14,11 @@ mod rows;
 
 pub use blending::blend;
 pub use color::{ONE, Pixel, fade, from8, of_argb, to8};
-pub use laws::{blend_gives_pixels, fade_by_one_keeps, fade_gives_pixels};
-pub use laws::{equal_canvases, equal_pixels_at_each_place, length_of_canvas, pixel_of_canvas};
-pub use laws::{normal_over_clear_gives_source, replace_gives_source};
+pub use laws::{
+    blend_gives_pixels, equal_canvases, equal_pixels_at_each_place, fade_by_one_keeps,
+    fade_gives_pixels, length_of_canvas, normal_over_clear_gives_source, pixel_of_canvas,
+    replace_gives_source,
+};
 pub use modes::Mode;
 pub use rows::{row_blend, row_fill, row_merge};
 
