@@ -6,8 +6,8 @@ use Rattle.std.specs.declared.string.String.{String}
 use Rattle.std.specs.Io.KnownBytes.{Appends, Keeps, IsAtEnd}
 use Rattle.dp_io.specs.Faults.{Rose}
 use Rattle.dp_messages.specs.declared.message.Entry.{Entry}
-use Rattle.dp_app.specs.declared.run_end.RunEnd.{RunEnd}
-use Rattle.dp_app.specs.declared.run_end.RunEnd.TheVariants.{Done, ReadFault, WriteFault, Memory, Long, Truncated, BadMessage}
+use Rattle.dp_lines.specs.declared.run_end.RunEnd.{RunEnd}
+use Rattle.dp_lines.specs.declared.run_end.RunEnd.TheVariants.{Done, ReadFault, WriteFault, Memory, Long, Truncated, BadMessage}
 use Rattle.dp_app.specs.Input.{ReplayComesTo}
 use Rattle.dp_app.specs.Answer.{Answer, IsCommand, IsReplay, IsDue, IsGiven, Blames, Leaves, Says, SaysUsage, status_of, line_of, replay_text, replay_answer, usage_answer}
 
@@ -32,6 +32,7 @@ due_left bytes left old new Memory h read write memory = absurd (memory refl)
 due_left bytes left old new Long h read write memory = (h.1.0.0, h.1.0.1, appends_nothing old new h.0)
 due_left bytes left old new (Truncated n) h read write memory = h.1
 due_left bytes left old new (BadMessage n) h read write memory = (h.1.0.0, h.1.0.1, appends_nothing old new h.0)
+due_left bytes left old new _ h read write memory = absurd h
 
 -- no count rose: the run ended by no fault
 not_read : (input input_now output output_now : ℕ) (end : RunEnd) → Blames input input_now output output_now end → ¬ Rose input input_now → end ≢ ReadFault
@@ -133,24 +134,14 @@ pub read_told : (dold dnew : Option (List ℕ)) (input input_now output output_n
     Blames input input_now output output_now end → Says dold dnew before now status end → status ≡ 3 → Rose input input_now
 read_told dold dnew input input_now output output_now before now status end b (inr failed) h = absurd (omega (arith, failed.0, h))
 read_told dold dnew input input_now output output_now before now status ReadFault b (inl says) h = b.0
-read_told dold dnew input input_now output output_now before now status Done b (inl says) h = absurd (omega (arith, says.0, h))
-read_told dold dnew input input_now output output_now before now status WriteFault b (inl says) h = absurd (omega (arith, says.0, h))
-read_told dold dnew input input_now output output_now before now status Memory b (inl says) h = absurd (omega (arith, says.0, h))
-read_told dold dnew input input_now output output_now before now status Long b (inl says) h = absurd (omega (arith, says.0, h))
-read_told dold dnew input input_now output output_now before now status (Truncated n) b (inl says) h = absurd (omega (arith, says.0, h))
-read_told dold dnew input input_now output output_now before now status (BadMessage n) b (inl says) h = absurd (omega (arith, says.0, h))
+read_told dold dnew input input_now output output_now before now status _ b (inl says) h = absurd (omega (arith, says.0, h))
 
 pub write_told : (dold dnew : Option (List ℕ)) (input input_now output output_now before now status : ℕ) (end : RunEnd) →
     Blames input input_now output output_now end → Says dold dnew before now status end → status ≡ 4 →
     Rose output output_now ⊎ Rose before now
 write_told dold dnew input input_now output output_now before now status end b (inr failed) h = inr failed.1
 write_told dold dnew input input_now output output_now before now status WriteFault b (inl says) h = inl b.1
-write_told dold dnew input input_now output output_now before now status ReadFault b (inl says) h = absurd (omega (arith, says.0, h))
-write_told dold dnew input input_now output output_now before now status Done b (inl says) h = absurd (omega (arith, says.0, h))
-write_told dold dnew input input_now output output_now before now status Memory b (inl says) h = absurd (omega (arith, says.0, h))
-write_told dold dnew input input_now output output_now before now status Long b (inl says) h = absurd (omega (arith, says.0, h))
-write_told dold dnew input input_now output output_now before now status (Truncated n) b (inl says) h = absurd (omega (arith, says.0, h))
-write_told dold dnew input input_now output output_now before now status (BadMessage n) b (inl says) h = absurd (omega (arith, says.0, h))
+write_told dold dnew input input_now output output_now before now status _ b (inl says) h = absurd (omega (arith, says.0, h))
 
 -- a status that is neither 0 nor 9
 neither : (status n : ℕ) → status ≡ n → (n ≡ 0 → ⊥) → (n ≡ 9 → ⊥) → (status ≡ 0) ⊎ (status ≡ 9) → ⊥
@@ -169,3 +160,4 @@ at_end told left old new dold dnew before now status ReadFault l (inl says) h = 
 at_end told left old new dold dnew before now status Memory l (inl says) h = absurd (neither status 7 says.0 (λ e. omega (arith, e)) (λ e. omega (arith, e)) h)
 at_end told left old new dold dnew before now status Long l (inl says) h = absurd (neither status 8 says.0 (λ e. omega (arith, e)) (λ e. omega (arith, e)) h)
 at_end told left old new dold dnew before now status (BadMessage n) l (inl says) h = absurd (neither status 10 says.0 (λ e. omega (arith, e)) (λ e. omega (arith, e)) h)
+at_end told left old new dold dnew before now status _ l (inl says) h = absurd l

@@ -9,8 +9,8 @@ use Rattle.dp_messages.specs.declared.message.Entry.{Entry}
 use Rattle.dp_messages.specs.Decoding.{Carries}
 use Rattle.dp_messages.specs.declared.decoding.DecodeError.{DecodeError}
 use Rattle.dp_messages.specs.declared.decoding.DecodeError.TheVariants as refusal
-use Rattle.dp_app.specs.declared.run_end.RunEnd.{RunEnd}
-use Rattle.dp_app.specs.declared.run_end.RunEnd.TheVariants.{Memory, BadMessage}
+use Rattle.dp_lines.specs.declared.run_end.RunEnd.{RunEnd}
+use Rattle.dp_lines.specs.declared.run_end.RunEnd.TheVariants.{Memory, BadMessage}
 use Rattle.dp_app.specs.Input.{StandFor, Tells, StandsInReplay}
 use Rattle.dp_app.specs.History.{Follows, IsStop, StopsAt, IsRefusedAt, IsStopFor}
 

@@ -4,8 +4,8 @@ use Rattle.std.specs.List.{AllByRecursion, flat_map}
 use Rattle.std.proofs.lemmas.List.{take_all}
 use Rattle.dp_frame.specs.Frames.{FrameParts, IsFrame, spelling, HoldsNoFrame, Splits}
 use Rattle.dp_messages.specs.declared.message.Entry.{Entry}
-use Rattle.dp_app.specs.declared.run_end.RunEnd.{RunEnd}
-use Rattle.dp_app.specs.declared.run_end.RunEnd.TheVariants.{Done, ReadFault, WriteFault, Memory, Long, Truncated, BadMessage}
+use Rattle.dp_lines.specs.declared.run_end.RunEnd.{RunEnd}
+use Rattle.dp_lines.specs.declared.run_end.RunEnd.TheVariants.{Done, Long, Truncated, BadMessage}
 use Rattle.dp_app.specs.Input.{StandFor, Tells, TellsUpTo, ComesTo}
 
 -- what the layers below say of frames, and that a frame stands for at most one entry
@@ -146,9 +146,8 @@ same_reading M laws first limit input es ds (BadMessage n) Long h k =
 same_reading M laws first limit input es ds (BadMessage m) (BadMessage n) h k =
     let same = same_up_to M laws (drop first (take limit input)) es ds h.0 k.0 h.1 k.1 in
     (same.0, ap (λ (at : ℕ). BadMessage at) (h.2 ∙ ap (λ (behind : ℕ). first + behind) same.1 ∙ sym k.2))
-same_reading M laws first limit input es ds end ReadFault h k = absurd k
-same_reading M laws first limit input es ds end WriteFault h k = absurd k
-same_reading M laws first limit input es ds end Memory h k = absurd k
-same_reading M laws first limit input es ds ReadFault other h k = absurd h
-same_reading M laws first limit input es ds WriteFault other h k = absurd h
-same_reading M laws first limit input es ds Memory other h k = absurd h
+same_reading M laws first limit input es ds Done other h k = absurd k
+same_reading M laws first limit input es ds (Truncated n) other h k = absurd k
+same_reading M laws first limit input es ds Long other h k = absurd k
+same_reading M laws first limit input es ds (BadMessage n) other h k = absurd k
+same_reading M laws first limit input es ds end other h k = absurd h

@@ -7,8 +7,9 @@ use Rattle.dp_io.specs.Streams.{GrowsByPrefix}
 use Rattle.dp_messages.specs.declared.message.Entry.{Entry}
 use Rattle.dp_plain.specs.Replay.{shown}
 use Rattle.dp_plain.specs.Picture.{p6}
-use Rattle.dp_app.specs.declared.run_end.RunEnd.{RunEnd}
-use Rattle.dp_app.specs.declared.run_end.RunEnd.TheVariants.{Done, ReadFault, WriteFault, Memory, Long, Truncated, BadMessage}
+use Rattle.dp_lines.specs.declared.run_end.RunEnd.{RunEnd}
+use Rattle.dp_lines.specs.declared.run_end.RunEnd.TheVariants.{Done, BadLine, ReadFault, WriteFault, LinkFault}
+use Rattle.dp_lines.specs.declared.run_end.RunEnd.TheVariants.{Memory, Long, Truncated, BadMessage, Closed, BadHeader}
 use Rattle.dp_app.specs.Input.{ReplayComesTo, ReplayTookWithin}
 
 -- the word of the command `replay`
@@ -26,22 +27,30 @@ IsCommand words = IsReplay words
 -- the status of a run that ends so
 abbrev pub status_of : RunEnd → ℕ
 status_of Done = 0
+status_of (BadLine n) = 2
 status_of ReadFault = 3
 status_of WriteFault = 4
+status_of LinkFault = 5
 status_of Memory = 7
 status_of Long = 8
 status_of (Truncated n) = 9
 status_of (BadMessage n) = 10
+status_of Closed = 11
+status_of BadHeader = 12
 
 -- the line that is said of it
 abbrev pub line_of : RunEnd → List ℕ
 line_of Done = []
+line_of (BadLine n) = codes "bad line " ++ decimal n ++ codes "\n"
 line_of ReadFault = codes "read fault\n"
 line_of WriteFault = codes "write fault\n"
+line_of LinkFault = codes "link fault\n"
 line_of Memory = codes "out of memory\n"
 line_of Long = codes "input too long\n"
 line_of (Truncated n) = codes "truncated at " ++ decimal n ++ codes "\n"
 line_of (BadMessage n) = codes "bad message at " ++ decimal n ++ codes "\n"
+line_of Closed = codes "link closed\n"
+line_of BadHeader = codes "bad header\n"
 
 -- the line that is said of words that are no command
 abbrev pub usage_line : List ℕ
@@ -112,6 +121,7 @@ Leaves input left old new ReadFault = Keeps old new × IfSome input (λ bytes. R
 Leaves input left old new Memory = Keeps old new
 Leaves input left old new Long = Keeps old new × StopsAtCause input left Long
 Leaves input left old new (BadMessage n) = Keeps old new × StopsAtCause input left (BadMessage n)
+Leaves input left old new _ = ⊥
 
 -- What the counts of faults of the input and the output do in a run that ends so: that of the fault
 -- rises, and each other stays what it was.

@@ -2,8 +2,8 @@
 use Rattle.std.specs.Prelude.{◌≡◌, ℕ, List, ◌++◌, ◌==◌, length, Option, Some, if◌then◌else◌}
 use Rattle.dp_frame.specs.Stream.{Stream}
 use Rattle.dp_messages.specs.declared.message.Entry.{Entry}
-use Rattle.dp_app.specs.declared.run_end.RunEnd.{RunEnd}
-use Rattle.dp_app.specs.declared.run_end.RunEnd.TheVariants.{Done, ReadFault, WriteFault, Memory, Truncated}
+use Rattle.dp_lines.specs.declared.run_end.RunEnd.{RunEnd}
+use Rattle.dp_lines.specs.declared.run_end.RunEnd.TheVariants.{Done, ReadFault, Memory, Long, Truncated, BadMessage}
 use Rattle.dp_app.specs.Input.{ReplayComesTo, ReplayTookWithin}
 use Rattle.dp_io.specs.Faults.{Rose}
 use Rattle.dp_app.specs.History.{Follows}
@@ -26,11 +26,15 @@ EndsReading input left entries (Truncated n) = ReplayComesTo input entries (Trun
 EndsReading input left entries end = ReplayComesTo input entries end × ReplayTookWithin 4096 input left
 
 -- the count of the input's faults after reading that ended so: a fault raised it, and else it stays;
--- reading ends by no fault of the output
+-- reading ends in no other way
 abbrev pub BlamesReading : ℕ → ℕ → RunEnd → Type 0
 BlamesReading before now ReadFault = Rose before now
-BlamesReading before now WriteFault = ⊥
-BlamesReading before now _ = now ≡ before
+BlamesReading before now Done = now ≡ before
+BlamesReading before now Memory = now ≡ before
+BlamesReading before now Long = now ≡ before
+BlamesReading before now (Truncated n) = now ≡ before
+BlamesReading before now (BadMessage n) = now ≡ before
+BlamesReading before now _ = ⊥
 
 -- the input is read to its end
 abbrev pub ReadsToEnd : RunEnd → Type 0

@@ -6,8 +6,8 @@ use Rattle.dp_io.specs.Streams.{GrowsByPrefix}
 use Rattle.dp_messages.specs.declared.message.Entry.{Entry}
 use Rattle.dp_plain.specs.Replay.{shown}
 use Rattle.dp_plain.specs.Picture.{p6}
-use Rattle.dp_app.specs.declared.run_end.RunEnd.{RunEnd}
-use Rattle.dp_app.specs.declared.run_end.RunEnd.TheVariants.{Memory, WriteFault}
+use Rattle.dp_lines.specs.declared.run_end.RunEnd.{RunEnd}
+use Rattle.dp_lines.specs.declared.run_end.RunEnd.TheVariants.{Memory, WriteFault}
 
 -- the picture was written and the run ends as given; or the output failed behind a prefix of it; or
 -- memory ran out before it

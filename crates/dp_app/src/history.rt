@@ -6,8 +6,8 @@ ghost use Rattle.dp_app.specs.History.{Follows, StopsAt, IsStop, IsRefusedAt, Is
 ghost use Rattle.dp_app.specs.Read.{end_of};
 ghost use Rattle.dp_messages.specs.Decoding.{Carries};
 
-use crate::RunEnd;
 use dp_frame::{Frame, Splitter};
+use dp_lines::RunEnd;
 use dp_messages::{DecodeError, Entry, decode};
 use std::alloc::{AllocError, Global};
 

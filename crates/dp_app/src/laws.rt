@@ -2,7 +2,7 @@
 
 ghost use Rattle.std.specs.Prelude.{◌≡◌, ℕ, List};
 ghost use Rattle.dp_messages.specs.declared.message.Entry.{Entry};
-ghost use Rattle.dp_app.specs.declared.run_end.RunEnd.{RunEnd};
+ghost use Rattle.dp_lines.specs.declared.run_end.RunEnd.{RunEnd};
 ghost use Rattle.dp_app.specs.Input.{ReplayComesTo};
 
 use dp_frame::{one_front, one_splitting};

@@ -6,13 +6,14 @@ mod laws;
 mod program;
 mod reading;
 mod replay;
-mod run_end;
 mod saying;
+mod status;
 mod words;
 
+pub use dp_lines::RunEnd;
 pub use laws::one_reading;
 pub use program::{Outcome, drawpile};
-pub use run_end::RunEnd;
+pub use status::status_of;
 
 #[cfg(test)]
 mod tests;

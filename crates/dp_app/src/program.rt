@@ -3,7 +3,7 @@
 ghost use Rattle.std.specs.Prelude.{◌≡◌, ◌≢◌, ◌⊎◌, ◌<◌, ◌≤◌, IfSome};
 ghost use Rattle.std.specs.Io.KnownBytes.{Keeps, IsAtEnd};
 ghost use Rattle.dp_io.specs.Faults.{Rose};
-ghost use Rattle.dp_app.specs.declared.run_end.RunEnd.{RunEnd as run_end};
+ghost use Rattle.dp_lines.specs.declared.run_end.RunEnd.{RunEnd as run_end};
 ghost use Rattle.dp_app.specs.Answer.{Answer, IsCommand, IsReplay, IsDue, IsGiven};
 ghost use Rattle.dp_app.specs.Answer.{Blames, Leaves, Says, SaysUsage};
 

@@ -4,9 +4,9 @@ ghost use Rattle.std.specs.Prelude.{◌≤◌, IfSome};
 ghost use Rattle.std.specs.Io.KnownBytes.{IsAtEnd};
 ghost use Rattle.dp_app.specs.Read.{EndsReading, BlamesReading, ReadsToEnd};
 
-use crate::RunEnd;
 use crate::history::History;
 use dp_io::{Failed, Source};
+use dp_lines::RunEnd;
 use std::alloc::Global;
 
 /// How many bytes of the input count: 1 GiB.

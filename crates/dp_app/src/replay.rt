@@ -4,9 +4,10 @@ ghost use Rattle.std.specs.Prelude.{◌≤◌};
 ghost use Rattle.dp_app.specs.Answer.{Blames, Leaves};
 ghost use Rattle.dp_app.specs.Shown.{WritesShown};
 
-use crate::RunEnd;
 use crate::reading::{Reading, read_entries};
+use crate::status::reads_to_end;
 use dp_io::{Failed, Sink, Source};
+use dp_lines::RunEnd;
 use dp_messages::Entry;
 use dp_plain::{plain_p6, plain_replay};
 use std::alloc::Global;
@@ -21,7 +22,7 @@ pub(crate) fn run_replay<I: Source, O: Sink>(alloc: Global, input: &mut I, outpu
     ensures output_later { O.faults output.old ≤ O.faults output.new }
 {
     let Reading { history, end } = read_entries(alloc, input);
-    if end.reads_to_end() {
+    if reads_to_end(end) {
         write_shown(alloc, &history.entries, output, end)
     } else {
         end

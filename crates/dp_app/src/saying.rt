@@ -6,9 +6,10 @@ ghost use Rattle.dp_io.specs.Faults.{HasCause, any_fault};
 ghost use Rattle.dp_io.specs.Streams.{GrowsByPrefix};
 ghost use Rattle.dp_app.specs.Answer.{line_of, Says, SaysUsage};
 
-use crate::RunEnd;
+use crate::status::status_of;
 use arrayvec::ArrayString;
 use dp_io::{Failed, Sink, put_all};
+use dp_lines::RunEnd;
 use itoa::Buffer;
 
 /// Says how the run ended, and answers the program's status: 4 where diag fails.
@@ -18,8 +19,8 @@ pub(crate) fn say<E: Sink>(diag: &mut E, end: RunEnd) -> u8
     ensures later { E.faults diag.old ≤ E.faults diag.new }
 {
     match put_line(diag, end) {
-        Ok(()) => end.status(),
-        Err(Failed) => RunEnd::WriteFault.status(),
+        Ok(()) => status_of(end),
+        Err(Failed) => status_of(RunEnd::WriteFault),
     }
 }
 
@@ -34,7 +35,7 @@ pub(crate) fn say_usage<E: Sink>(diag: &mut E) -> u8
         b"usage: drawpile replay, world, play, join, serve or drill\n",
     ) {
         Ok(()) => 1,
-        Err(Failed) => RunEnd::WriteFault.status(),
+        Err(Failed) => status_of(RunEnd::WriteFault),
     }
 }
 
@@ -45,12 +46,18 @@ fn put_line<E: Sink>(diag: &mut E, end: RunEnd) -> Result<(), Failed>
 {
     match end {
         RunEnd::Done => Ok(()),
+        RunEnd::BadLine(number) => {
+            put_all(diag, place_line("bad line ", u64::from(number)).as_bytes())
+        }
         RunEnd::ReadFault => put_all(diag, b"read fault\n"),
         RunEnd::WriteFault => put_all(diag, b"write fault\n"),
+        RunEnd::LinkFault => put_all(diag, b"link fault\n"),
         RunEnd::Memory => put_all(diag, b"out of memory\n"),
         RunEnd::Long => put_all(diag, b"input too long\n"),
         RunEnd::Truncated(at) => put_all(diag, place_line("truncated at ", at).as_bytes()),
         RunEnd::BadMessage(at) => put_all(diag, place_line("bad message at ", at).as_bytes()),
+        RunEnd::Closed => put_all(diag, b"link closed\n"),
+        RunEnd::BadHeader => put_all(diag, b"bad header\n"),
     }
 }
 

@@ -1,7 +1,23 @@
-//! Worked pixels, and each byte and mode there and back.
+//! Worked pixels, each byte and mode there and back, and rows beside the plain loops.
 
-use crate::{Mode, ONE, Pixel, blend, fade, from8, of_argb, row_blend, to8};
+ghost use Rattle.std.specs.Prelude.{◌<◌, ◌≤◌, ◌↔◌, All, IsTrue};
+
+use crate::{Mode, ONE, Pixel, blend, fade, from8, of_argb, row_blend, row_fill, row_merge, to8};
+use std::alloc::{AllocError, Global};
 use std::process::Abort;
+use std::test::Fail;
+
+const MODES: [Mode; 6] = [
+    Mode::Erase,
+    Mode::Normal,
+    Mode::Multiply,
+    Mode::Add,
+    Mode::Recolor,
+    Mode::Replace,
+];
+
+/// Numbers of which some are at an end of their range.
+const PARTS: [u16; 6] = [0, 1, 32767, 32768, 16448, 20001];
 
 /// The pixel with these channels and this alpha; the test ends where they make none.
 fn pixel(rt: &impl Abort, (r, g, b, a): (u16, u16, u16, u16)) -> Pixel {
@@ -112,4 +128,121 @@ fn blends_a_row_through_a_mask(rt: HostRuntime) {
             "at {mode:?}"
         );
     }
+}
+
+/// A pixel of one of six alphas, whose channels are parts of it, none or all of it.
+fn some_pixel(rt: &impl Abort, n: usize) -> Pixel {
+    let a = PARTS[n % 6];
+    pixel(rt, (a - a / 3, a / 2, if n % 4 < 2 { a } else { 0 }, a))
+}
+
+/// A row of some pixels, each of them `times` times.
+fn some_row<R: Abort>(
+    rt: &R,
+    alloc: Global,
+    len: usize,
+    times: usize,
+) -> Result<Vec<Pixel>, AllocError>
+    requires { 0 < times }
+{
+    let mut row = Vec::new(alloc);
+    for n in 0..len {
+        row.push(some_pixel(rt, n / times))?;
+    }
+    Ok(row)
+}
+
+/// A mask that is one number throughout, or for a `kind` past the numbers each of them six times in turn.
+fn some_mask(alloc: Global, len: usize, kind: usize) -> Result<Vec<u16>, AllocError> {
+    let mut mask = Vec::new(alloc);
+    for n in 0..len {
+        mask.push(
+            PARTS[if kind < 6 {
+                kind
+            } else {
+                n / 6 % 6
+            }],
+        )?;
+    }
+    Ok(mask)
+}
+
+fn is_mask(mask: &[u16]) -> bool
+    ensures { IsTrue result ↔ All (λ m. m ≤ 32768) mask.now }
+{
+    mask.iter().all(|m| *m <= 32768)
+}
+
+#[test]
+fn fills_rows_as_the_plain_loop_does(rt: HostRuntime) -> Result<(), Fail> {
+    for mode in MODES {
+        for n in 0..24 {
+            let src = some_pixel(&rt, n);
+            for len in 0..=70 {
+                let mut row = some_row(&rt, rt.alloc(), len, 1)?;
+                let mut want = Vec::new(rt.alloc());
+                for old in &row {
+                    want.push(blend(mode, src, *old))?;
+                }
+                row_fill(mode, src, row.as_mut_slice());
+                assert_eq!(rt;
+                    row.as_slice(),
+                    want.as_slice(),
+                    "{mode:?} {src:?} at {len}"
+                );
+            }
+        }
+    }
+    Ok(())
+}
+
+#[test]
+fn blends_rows_through_masks_as_the_plain_loop_does(rt: HostRuntime) -> Result<(), Fail> {
+    for mode in MODES {
+        for kind in 0..42 {
+            let src = some_pixel(&rt, kind / 7);
+            for len in 0..=70 {
+                let mut row = some_row(&rt, rt.alloc(), len, 1)?;
+                let mask = some_mask(rt.alloc(), len, kind % 7)?;
+                let mut want = Vec::new(rt.alloc());
+                for (old, by) in row.iter().zip(mask.iter()) {
+                    if *by == 0 || *by > ONE {
+                        want.push(*old)?;
+                    } else {
+                        want.push(blend(mode, fade(src, *by), *old))?;
+                    }
+                }
+                assert_eq!(rt; mask.len(), row.len());
+                assert!(rt; is_mask(mask.as_slice()));
+                row_blend(mode, src, mask.as_slice(), row.as_mut_slice());
+                assert_eq!(rt;
+                    row.as_slice(),
+                    want.as_slice(),
+                    "{mode:?} {src:?} {kind} at {len}"
+                );
+            }
+        }
+    }
+    Ok(())
+}
+
+#[test]
+fn merges_rows_as_the_plain_loop_does(rt: HostRuntime) -> Result<(), Fail> {
+    for mode in MODES {
+        for by in PARTS {
+            assert!(rt; by <= ONE);
+            for len in 0..=70 {
+                let mut row = some_row(&rt, rt.alloc(), len, 1)?;
+                let sources = some_row(&rt, rt.alloc(), len, 6)?;
+                let mut want = Vec::new(rt.alloc());
+                for (old, src) in row.iter().zip(sources.iter()) {
+                    want.push(blend(mode, fade(*src, by), *old))?;
+                }
+                assert_eq!(rt; sources.len(), row.len());
+                row_merge(mode, by, sources.as_slice(), row.as_mut_slice());
+                assert_eq!(rt; row.as_slice(), want.as_slice(), "{mode:?} {by} at {len}");
+            }
+        }
+    }
+    Ok(())
 }

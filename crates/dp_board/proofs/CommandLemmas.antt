@@ -1,42 +1,44 @@
 -- Histories that differ in their commands alone.
 use Rattle.std.proofs.Common.{◌≡◌, ℕ, List, [], ◌∷◌, ◌++◌, refl, ap, sym, ◌∙◌}
 use Rattle.std.proofs.lemmas.List.{map-append}
+use Rattle.std.specs.List.{fold}
 use Rattle.dp_board.specs.declared.act.Act.{Act}
 use Rattle.dp_board.specs.declared.act.Act.TheVariants.{Point, Undo, Redo, Draw, Other}
 use Rattle.dp_board.specs.declared.act.UserAct.{UserAct}
-use Rattle.dp_board.specs.Strokes.{Groups, no_groups, last_of, after_act, points_after, groups_from, groups, is_group_drawn, flag_of, flags_from}
-use Rattle.dp_board.specs.Commands.{map_act, map_user_act, map_commands, CommandsDoNotCount}
+use Rattle.dp_board.specs.Strokes.{Strokes, no_strokes, last_of, after_act, strokes}
+use Rattle.dp_board.specs.Flags.{is_group_drawn, flag_of, flags_from}
+use Rattle.dp_board.specs.Commands.{map_act, map_user_act, map_commands}
+use Rattle.dp_board.specs.Laws.{CommandsDoNotCount}
 
-after_act-map_act : {A B : Type 0} → (f : A → B) (depth points user by : ℕ) (act : Act A) (g : Groups) → after_act depth points user by (map_act f act) g ≡ after_act depth points user by act g
-after_act-map_act f depth points user by Point g = refl
-after_act-map_act f depth points user by (Undo who) g = refl
-after_act-map_act f depth points user by (Redo who) g = refl
-after_act-map_act f depth points user by (Draw op) g = refl
-after_act-map_act f depth points user by Other g = refl
+-- an act of a sender
+act_by : {Op : Type 0} → ℕ → Act Op → UserAct Op
+act_by sender act = record { user = sender; act = act }
 
-points_after-map_act : {A B : Type 0} → (f : A → B) (act : Act A) (points : ℕ) → points_after (map_act f act) points ≡ points_after act points
-points_after-map_act f Point points = refl
-points_after-map_act f (Undo who) points = refl
-points_after-map_act f (Redo who) points = refl
-points_after-map_act f (Draw op) points = refl
-points_after-map_act f Other points = refl
+-- the strokes after an act with another command
+after_act-map_act : {A B : Type 0} → (f : A → B) (user : ℕ) (s : Strokes) (sender : ℕ) (act : Act A) → after_act user s (act_by sender (map_act f act)) ≡ after_act user s (act_by sender act)
+unfolding act_by
+after_act-map_act f user s sender Point = refl
+after_act-map_act f user s sender (Undo who) = refl
+after_act-map_act f user s sender (Redo who) = refl
+after_act-map_act f user s sender (Draw op) = refl
+after_act-map_act f user s sender Other = refl
 
--- the groups with other commands
-groups_from-map_commands : {A B : Type 0} → (f : A → B) (depth user points : ℕ) (g : Groups) (acts : List (UserAct A)) → groups_from depth user points g (map_commands f acts) ≡ groups_from depth user points g acts
-groups_from-map_commands f depth user points g [] = refl
-groups_from-map_commands f depth user points g (a ∷ rest) =
-    ap (λ p. groups_from depth user p (after_act depth points user a.user (map_act f a.act) g) (map_commands f rest)) (points_after-map_act f a.act points)
-    ∙ ap (λ h. groups_from depth user (points_after a.act points) h (map_commands f rest)) (after_act-map_act f depth points user a.user a.act g)
-    ∙ groups_from-map_commands f depth user (points_after a.act points) (after_act depth points user a.user a.act g) rest
+-- the strokes behind a list of acts with other commands
+fold-map_commands : {A B : Type 0} → (f : A → B) (user : ℕ) (s : Strokes) (acts : List (UserAct A)) → fold (after_act user) s (map_commands f acts) ≡ fold (after_act user) s acts
+unfolding act_by
+fold-map_commands f user s [] = refl
+fold-map_commands f user s (a ∷ rest) =
+    ap (λ t. fold (after_act user) t (map_commands f rest)) (after_act-map_act f user s a.user a.act)
+    ∙ fold-map_commands f user (after_act user s a) rest
 
 -- the flag of an act with another command
 flag_of-map_act : {A B : Type 0} → (f : A → B) (depth : ℕ) (all before : List (UserAct A)) (user : ℕ) (act : Act A) → flag_of depth (map_commands f all) (map_commands f before) user (map_act f act) ≡ flag_of depth all before user act
+flag_of-map_act f depth all before user (Draw op) =
+    ap (λ s. is_group_drawn s.groups.done (last_of (strokes depth user (map_commands f before)).groups.done)) (fold-map_commands f user (no_strokes depth) all)
+    ∙ ap (λ s. is_group_drawn (strokes depth user all).groups.done (last_of s.groups.done)) (fold-map_commands f user (no_strokes depth) before)
 flag_of-map_act f depth all before user Point = refl
 flag_of-map_act f depth all before user (Undo who) = refl
 flag_of-map_act f depth all before user (Redo who) = refl
-flag_of-map_act f depth all before user (Draw op) =
-    ap (λ g. is_group_drawn g.done (last_of (groups depth user (map_commands f before)).done)) (groups_from-map_commands f depth user 0 no_groups all)
-    ∙ ap (λ g. is_group_drawn (groups depth user all).done (last_of g.done)) (groups_from-map_commands f depth user 0 no_groups before)
 flag_of-map_act f depth all before user Other = refl
 
 -- the flags of the rest of a history with other commands
@@ -48,5 +50,5 @@ flags_from-map_commands f depth all before (a ∷ rest) =
     ∙ ap (λ flags. flag_of depth all before a.user a.act ∷ flags) (flags_from-map_commands f depth all (before ++ a ∷ []) rest)
 
 -- which acts are commands that are drawn does not depend on the commands
-pub kept_flags-map_commands : (A B : Type 0) → CommandsDoNotCount A B
-kept_flags-map_commands A B f depth acts = flags_from-map_commands f depth acts [] acts
+pub drawn_flags-map_commands : (A B : Type 0) → CommandsDoNotCount A B
+drawn_flags-map_commands A B f depth acts = flags_from-map_commands f depth acts [] acts

@@ -1,18 +1,14 @@
 -- The commands of a history that are drawn, and histories that differ in their commands alone.
-use Rattle.std.specs.Prelude.{◌≡◌, ℕ, Bool, true, false, List, [], ◌∷◌, ◌++◌, map}
+use Rattle.std.specs.Prelude.{ℕ, Bool, true, List, [], ◌∷◌, ◌++◌, map}
 use Rattle.dp_board.specs.declared.act.Act.{Act}
 use Rattle.dp_board.specs.declared.act.Act.TheVariants.{Point, Undo, Redo, Draw, Other}
 use Rattle.dp_board.specs.declared.act.UserAct.{UserAct}
-use Rattle.dp_board.specs.Strokes.{kept_flags}
+use Rattle.dp_board.specs.Flags.{drawn_flags}
 
 -- the command of an act, where its flag is true
 abbrev pub command_of : {Op : Type 0} → Act Op → Bool → List Op
 command_of (Draw op) true = op ∷ []
-command_of (Draw op) false = []
-command_of Point flag = []
-command_of (Undo who) flag = []
-command_of (Redo who) flag = []
-command_of Other flag = []
+command_of act flag = []
 
 -- the commands whose flags are true, in the order of the history
 abbrev pub commands : {Op : Type 0} → List (UserAct Op) → List Bool → List Op
@@ -21,8 +17,8 @@ commands (a ∷ rest) [] = []
 commands (a ∷ rest) (flag ∷ flags) = command_of a.act flag ++ commands rest flags
 
 -- the commands that are drawn, in the order of the history
-abbrev pub drawn : {Op : Type 0} → ℕ → List (UserAct Op) → List Op
-drawn depth acts = commands acts (kept_flags depth acts)
+abbrev pub drawn_commands : {Op : Type 0} → ℕ → List (UserAct Op) → List Op
+drawn_commands depth acts = commands acts (drawn_flags depth acts)
 
 -- an act with another command in place of its own
 abbrev pub map_act : {A B : Type 0} → (A → B) → Act A → Act B
@@ -39,9 +35,3 @@ map_user_act f a = record { user = a.user; act = map_act f a.act }
 -- a history with other commands in place of its own
 abbrev pub map_commands : {A B : Type 0} → (A → B) → List (UserAct A) → List (UserAct B)
 map_commands f acts = map (map_user_act f) acts
-
--- which acts are commands that are drawn does not depend on the commands
-abbrev pub CommandsDoNotCount : Type 0 → Type 0 → Type 0
-CommandsDoNotCount A B =
-    (f : A → B) (depth : ℕ) (acts : List (UserAct A))
-    → kept_flags depth (map_commands f acts) ≡ kept_flags depth acts

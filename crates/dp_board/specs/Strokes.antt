@@ -1,29 +1,64 @@
--- Which commands of a history are drawn after undo and redo.
-use Rattle.std.specs.Prelude.{ℕ, ◌+◌, ◌-◌, ◌==◌, nat_le, Bool, true, false, if◌then◌else◌}
-use Rattle.std.specs.Prelude.{Option, Some, None, List, [], ◌∷◌, ◌++◌, length, take, remove}
-use Rattle.std.specs.Prelude.{slice_get, slice_index, position}
-use Rattle.std.specs.List.{list_any}
+-- The groups of strokes of each user, and the window of those that undo and redo reach.
+use Rattle.std.specs.Prelude.{ℕ, ◌+◌, ◌-◌, ◌==◌, Bool, if◌then◌else◌, Option, Some, None}
+use Rattle.std.specs.Prelude.{List, [], ◌∷◌, ◌++◌, length, take, drop, slice_get}
+use Rattle.std.specs.List.{list_any, find, fold}
 use Rattle.dp_board.specs.declared.act.Act.{Act}
 use Rattle.dp_board.specs.declared.act.Act.TheVariants.{Point, Undo, Redo, Draw, Other}
 use Rattle.dp_board.specs.declared.act.UserAct.{UserAct}
 
--- a user's groups, each named by the number of its Point (from 0, counted over all users): the
--- done ones in order, the undone ones with the latest undone in front
+-- the positions in the history of the Points in reach: the last of all users, at most `depth`
+pub record Window : Type 0 where
+  pub depth : ℕ
+  pub points : List ℕ
+
+-- a user's groups, each named by the position of its Point in the history, from 0: the done ones in
+-- order, the undone ones with the latest undone in front
 pub record Groups : Type 0 where
   pub done : List ℕ
   pub undone : List ℕ
+
+-- a user's strokes behind a history, which has as many acts as `position` says
+pub record Strokes : Type 0 where
+  pub position : ℕ
+  pub window : Window
+  pub groups : Groups
+
+-- no Point in reach
+abbrev pub empty_window : ℕ → Window
+empty_window depth = record { depth = depth; points = [] }
 
 -- no group, done or undone
 abbrev pub no_groups : Groups
 no_groups = record { done = []; undone = [] }
 
--- a group is eligible while its Point is among the last `depth` of the `points` Points so far
-abbrev pub is_eligible : ℕ → ℕ → ℕ → Bool
-is_eligible depth points group = nat_le points (group + depth)
+-- a user's strokes before the first act
+abbrev pub no_strokes : ℕ → Strokes
+no_strokes depth = record { position = 0; window = empty_window depth; groups = no_groups }
+
+-- the last n, or all where there are fewer
+abbrev pub last_few : {X : Type 0} → ℕ → List X → List X
+last_few n xs = drop (length xs - n) xs
+
+-- the window with its last Points alone, as many as the depth
+abbrev pub cut : Window → Window
+cut window = record window { points = last_few window.depth window.points }
+
+-- the window with a Point that joins it, where the act at the position is one
+abbrev pub window_with : {Op : Type 0} → ℕ → Act Op → Window → Window
+window_with position Point window = record window { points = window.points ++ position ∷ [] }
+window_with position act window = window
+
+-- the window after an act at a position
+abbrev pub window_after : {Op : Type 0} → ℕ → Act Op → Window → Window
+window_after position act window = cut (window_with position act window)
 
 -- a group is among some
 abbrev pub is_among : List ℕ → ℕ → Bool
 is_among groups group = list_any (λ other. other == group) groups
+
+-- a group is eligible while its Point is in reach
+abbrev pub is_eligible : Window → ℕ → Bool
+is_eligible window group = is_among window.points group
 
 -- the last of some groups
 abbrev pub last_of : List ℕ → Option ℕ
@@ -33,95 +68,83 @@ last_of groups = slice_get groups (length groups - 1)
 abbrev pub without_last : List ℕ → List ℕ
 without_last groups = take (length groups - 1) groups
 
--- the last done group, where there is one and it is eligible, goes to the front of the undone ones
-abbrev pub undo_group : ℕ → ℕ → Groups → Option ℕ → Groups
-undo_group depth points g None = g
-undo_group depth points g (Some group) =
-    if is_eligible depth points group
-    then record { done = without_last g.done; undone = group ∷ g.undone }
-    else g
+-- the groups but for the first of the name `group`
+abbrev pub without : ℕ → List ℕ → List ℕ
+without group [] = []
+without group (other ∷ groups) =
+    if other == group then groups else other ∷ without group groups
 
--- the last done group goes to the front of the undone ones, where it is eligible; else nothing
--- happens
-abbrev pub undo : ℕ → ℕ → Groups → Groups
-undo depth points g = undo_group depth points g (last_of g.done)
+-- the group, where there is one and it is eligible
+abbrev pub where_eligible : Window → Option ℕ → Option ℕ
+where_eligible window None = None
+where_eligible window (Some group) = if is_eligible window group then Some group else None
 
--- the undone group at a place goes to the end of the done ones
-abbrev pub redo_place : Groups → Option ℕ → Groups
-redo_place g None = g
-redo_place g (Some place) =
-    record { done = g.done ++ slice_index g.undone place ∷ []; undone = remove g.undone place }
+-- the group that an Undo moves: the last done one, where it is eligible
+abbrev pub undoable : Window → Groups → Option ℕ
+undoable window g = where_eligible window (last_of g.done)
 
--- the first eligible group of the undone ones goes to the end of the done ones; where there is
--- none nothing happens
-abbrev pub redo : ℕ → ℕ → Groups → Groups
-redo depth points g = redo_place g (position (is_eligible depth points) g.undone)
+-- the group that a Redo moves: the first eligible one of the undone
+abbrev pub redoable : Window → Groups → Option ℕ
+redoable window g = find (is_eligible window) g.undone
+
+-- the group that an act of Undo or Redo of the user moves; other acts move none
+abbrev pub moved : {Op : Type 0} → Strokes → Act Op → Option ℕ
+moved s (Undo who) = undoable s.window s.groups
+moved s (Redo who) = redoable s.window s.groups
+moved s act = None
+
+-- an Undo that moves a group puts it, the last done one, in front of the undone ones
+abbrev pub undo : Option ℕ → Groups → Groups
+undo None g = g
+undo (Some group) g = record g { done = without_last g.done; undone = group ∷ g.undone }
+
+-- a Redo that moves a group puts it, one of the undone, at the end of the done ones
+abbrev pub redo : Option ℕ → Groups → Groups
+redo None g = g
+redo (Some group) g = record g { done = g.done ++ group ∷ []; undone = without group g.undone }
 
 -- a group is opened at the end of the done ones, and none is undone any more
 abbrev pub open_group : ℕ → Groups → Groups
-open_group group g = record { done = g.done ++ group ∷ []; undone = [] }
+open_group group g = record g { done = g.done ++ group ∷ []; undone = [] }
 
 -- no group is undone any more
 abbrev pub clear_undone : Groups → Groups
-clear_undone g = record { done = g.done; undone = [] }
+clear_undone g = record g { undone = [] }
 
--- what an act of the user `by` does to the groups of a user, with `points` Points before it
-abbrev pub after_act : {Op : Type 0} → ℕ → ℕ → ℕ → ℕ → Act Op → Groups → Groups
-after_act depth points user by Point g = if by == user then open_group points g else g
-after_act depth points user by (Undo who) g = if who == user then undo depth points g else g
-after_act depth points user by (Redo who) g = if who == user then redo depth points g else g
-after_act depth points user by (Draw op) g = if by == user then clear_undone g else g
-after_act depth points user by Other g = g
+-- a user's groups after an act at a position, which concerns the user and moves `group`
+abbrev pub groups_with : {Op : Type 0} → ℕ → Option ℕ → Act Op → Groups → Groups
+groups_with position group Point g = open_group position g
+groups_with position group (Undo who) g = undo group g
+groups_with position group (Redo who) g = redo group g
+groups_with position group (Draw op) g = clear_undone g
+groups_with position group Other g = g
 
--- how many Points there are after an act
-abbrev pub points_after : {Op : Type 0} → Act Op → ℕ → ℕ
-points_after Point points = points + 1
-points_after (Undo who) points = points
-points_after (Redo who) points = points
-points_after (Draw op) points = points
-points_after Other points = points
+-- a user's groups after an act that concerns the user
+abbrev pub groups_after : {Op : Type 0} → Strokes → Act Op → Groups
+groups_after s act = groups_with s.position (moved s act) act s.groups
 
--- a user's groups behind a list of acts, from the groups and the number of Points in front of it
-abbrev pub groups_from : {Op : Type 0} → ℕ → ℕ → ℕ → Groups → List (UserAct Op) → Groups
-groups_from depth user points g [] = g
-groups_from depth user points g (a ∷ rest) =
-    let after = after_act depth points user a.user a.act g in
-    groups_from depth user (points_after a.act points) after rest
+-- the user whom an act of a sender concerns: whom an Undo or a Redo names, or else the sender
+abbrev pub concerned_by : {Op : Type 0} → ℕ → Act Op → ℕ
+concerned_by sender (Undo who) = who
+concerned_by sender (Redo who) = who
+concerned_by sender act = sender
 
--- a user's groups at the end of a history
-abbrev pub groups : {Op : Type 0} → ℕ → ℕ → List (UserAct Op) → Groups
-groups depth user acts = groups_from depth user 0 no_groups acts
+-- the user whom an act concerns, which alone has other groups after it
+abbrev pub concerned : {Op : Type 0} → UserAct Op → ℕ
+concerned a = concerned_by a.user a.act
 
--- the group that a command joins: the last done one of its user in the history before it, or
--- group 0 (None)
-abbrev pub joined : {Op : Type 0} → ℕ → ℕ → List (UserAct Op) → Option ℕ
-joined depth user before = last_of (groups depth user before).done
+-- a user's strokes after an act, whoever's it is
+abbrev pub after_act : {Op : Type 0} → ℕ → Strokes → UserAct Op → Strokes
+after_act user s a = record s {
+  position = s.position + 1;
+  window = window_after s.position a.act s.window;
+  groups = if concerned a == user then groups_after s a.act else s.groups;
+}
 
--- the commands of a group are drawn: those of group 0 are, and those of another where it is done
-abbrev pub is_group_drawn : List ℕ → Option ℕ → Bool
-is_group_drawn done None = true
-is_group_drawn done (Some group) = is_among done group
+-- a user's strokes behind a history
+abbrev pub strokes : {Op : Type 0} → ℕ → ℕ → List (UserAct Op) → Strokes
+strokes depth user acts = fold (after_act user) (no_strokes depth) acts
 
--- a command is drawn where its group is group 0, or is done at the end of the whole history
-abbrev pub is_drawn : {Op : Type 0} → ℕ → List (UserAct Op) → List (UserAct Op) → ℕ → Bool
-is_drawn depth all before user =
-    is_group_drawn (groups depth user all).done (joined depth user before)
-
--- an act behind `before` is a command that is drawn
-abbrev pub flag_of : {Op : Type 0} → ℕ → List (UserAct Op) → List (UserAct Op) → ℕ → Act Op → Bool
-flag_of depth all before user Point = false
-flag_of depth all before user (Undo who) = false
-flag_of depth all before user (Redo who) = false
-flag_of depth all before user (Draw op) = is_drawn depth all before user
-flag_of depth all before user Other = false
-
--- for each act behind `before`, whether it is a command that is drawn
-abbrev pub flags_from : {Op : Type 0}
-    → ℕ → List (UserAct Op) → List (UserAct Op) → List (UserAct Op) → List Bool
-flags_from depth all before [] = []
-flags_from depth all before (a ∷ rest) =
-    flag_of depth all before a.user a.act ∷ flags_from depth all (before ++ a ∷ []) rest
-
--- for each act of a history, whether it is a command that is drawn
-abbrev pub kept_flags : {Op : Type 0} → ℕ → List (UserAct Op) → List Bool
-kept_flags depth acts = flags_from depth acts [] acts
+-- the group that an act behind a history moves, whoever's it is
+abbrev pub moved_by : {Op : Type 0} → ℕ → List (UserAct Op) → UserAct Op → Option ℕ
+moved_by depth before a = moved (strokes depth (concerned a) before) a.act

@@ -1,13 +1,13 @@
 //! Which acts are commands that are drawn.
 
 ghost use Rattle.std.specs.Prelude.{◌≡◌, length, map, IfOk};
-ghost use Rattle.dp_board.specs.Strokes.{kept_flags};
-ghost use Rattle.dp_board.specs.History.{is_join_drawn};
+ghost use Rattle.dp_board.specs.Flags.{drawn_flags};
+ghost use Rattle.dp_board.specs.Joins.{is_join_drawn};
 
 use crate::act::UserAct;
-use crate::history::History;
 use crate::join::Join;
 use crate::sorted::SortedGroups;
+use crate::table::StrokeTable;
 use std::alloc::{AllocError, Global};
 
 /// What joined so is drawn, where `done` has the done groups of each user at the end.
@@ -34,15 +34,19 @@ fn flags_of(alloc: Global, done: &[SortedGroups], joins: &[Join]) -> Result<Vec<
 }
 
 /// For each act whether it is a command that is drawn at the end: one of group 0, or of a group
-/// that is done then. A point is in reach of undo and redo while it is among the last `depth`
-/// points of all users. At one depth the time is in proportion to the number of acts, but for the
-/// sorting of each user's groups. The rule: docs/protocol.md, "Strokes, undo and redo".
+/// that is done then. A group is in reach of undo and redo while its point is among the last
+/// `depth` points of all users. At one depth the time is in proportion to the number of acts, but
+/// for the sorting of each user's groups. The rule: docs/protocol.md, "Strokes, undo and redo".
 ///
 /// The only error is want of memory.
-pub fn kept<Op>(alloc: Global, depth: u32, acts: &[UserAct<Op>]) -> Result<Vec<bool>, AllocError>
-    ensures { IfOk result (λ flags. flags.items ≡ kept_flags depth acts.now) }
+pub fn drawn_flags<Op>(
+    alloc: Global,
+    depth: u32,
+    acts: &[UserAct<Op>],
+) -> Result<Vec<bool>, AllocError>
+    ensures { IfOk result (λ flags. flags.items ≡ drawn_flags depth acts.now) }
 {
-    let (history, joins) = History::read(alloc, depth, acts)?;
-    let done = history.done(alloc)?;
+    let (table, joins) = StrokeTable::read(alloc, depth, acts)?;
+    let done = table.done(alloc)?;
     flags_of(alloc, &done, &joins)
 }

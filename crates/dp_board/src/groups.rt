@@ -1,22 +1,16 @@
 //! The groups of one user.
 
 ghost use Rattle.std.specs.Prelude.{◌≡◌, ◌<◌, length, position, OnOk, IfOk, IfSome};
-ghost use Rattle.dp_board.specs.Strokes.{is_eligible};
-ghost use Rattle.dp_board.specs.History.{HaveSame};
+ghost use Rattle.dp_board.specs.Users.{HaveSame};
 
+use crate::act::Act;
 use crate::sorted::SortedGroups;
+use crate::window::PointWindow;
 use std::alloc::{AllocError, Global};
 use std::marker::Model;
 
-/// Whether the group's point is among the last `depth` of the `points` points so far.
-fn is_eligible(depth: u32, points: usize, group: usize) -> bool
-    ensures { result ≡ is_eligible depth points group }
-{
-    points.saturating_sub(group) <= depth as usize
-}
-
-/// The groups of a user, each named by the number of its point: the done ones in order, the undone
-/// ones with the latest undone in front.
+/// The groups of a user, each named by the position of its point: the done ones in order, the
+/// undone ones with the latest undone in front.
 #[derive(Drop)]
 pub(crate) struct UserGroups {
     done: Vec<usize>,
@@ -32,8 +26,9 @@ impl Model for UserGroups {
 }
 
 impl UserGroups {
-    ghost use Rattle.dp_board.specs.Strokes.{no_groups, last_of, open_group, clear_undone};
-    ghost use Rattle.dp_board.specs.Strokes.{undo, redo};
+    ghost use Rattle.dp_board.specs.Strokes.{no_groups, last_of, is_eligible};
+    ghost use Rattle.dp_board.specs.Strokes.{Strokes, groups_after, open_group, clear_undone};
+    ghost use Rattle.dp_board.specs.Strokes.{undo, redo, undoable, redoable};
 
     pub(crate) fn new(alloc: Global) -> Self
         ensures { result ≡ no_groups }
@@ -51,8 +46,29 @@ impl UserGroups {
         self.done.last().copied()
     }
 
+    /// Takes an act that concerns the user.
+    pub(crate) fn take<Op>(
+        &mut self,
+        position: usize,
+        window: &PointWindow,
+        act: &Act<Op>,
+    ) -> Result<(), AllocError>
+        ensures { let before : Strokes =
+            record { position = position; window = window.now; groups = self.old } in
+            OnOk result (self.new ≡ groups_after before act.now) }
+    {
+        match act {
+            Act::Point => self.open(position)?,
+            Act::Undo { .. } => self.undo(window)?,
+            Act::Redo { .. } => self.redo(window)?,
+            Act::Draw(_) => self.clear_undone(),
+            Act::Other => {}
+        }
+        Ok(())
+    }
+
     /// Opens a group.
-    pub(crate) fn open(&mut self, group: usize) -> Result<(), AllocError>
+    fn open(&mut self, group: usize) -> Result<(), AllocError>
         ensures { OnOk result (self.new ≡ open_group group self.old) }
     {
         self.done.push(group)?;
@@ -61,18 +77,18 @@ impl UserGroups {
     }
 
     /// Forgets the undone groups.
-    pub(crate) fn clear_undone(&mut self)
+    fn clear_undone(&mut self)
         ensures { self.new ≡ clear_undone self.old }
     {
         self.undone.clear();
     }
 
     /// Takes back the last done group, where it is eligible.
-    pub(crate) fn undo(&mut self, depth: u32, points: usize) -> Result<(), AllocError>
-        ensures { OnOk result (self.new ≡ undo depth points self.old) }
+    fn undo(&mut self, window: &PointWindow) -> Result<(), AllocError>
+        ensures { OnOk result (self.new ≡ undo (undoable window.now self.old) self.old) }
     {
         if let Some(group) = self.last_done()
-            && is_eligible(depth, points, group)
+            && window.is_eligible(group)
         {
             self.undone.insert(0, group)?;
             self.done.pop();
@@ -81,20 +97,20 @@ impl UserGroups {
     }
 
     /// The place of the first eligible group among the undone ones.
-    fn first_eligible(&self, depth: u32, points: usize) -> Option<usize>
-        ensures value { result ≡ position (is_eligible depth points) self.now.undone }
+    fn first_eligible(&self, window: &PointWindow) -> Option<usize>
+        ensures value { result ≡ position (is_eligible window.now) self.now.undone }
         ensures within { IfSome result (λ place. place < length self.now.undone) }
     {
         self.undone
             .iter()
-            .position(|&group| is_eligible(depth, points, group))
+            .position(|&group| window.is_eligible(group))
     }
 
     /// Brings back the first eligible group of the undone ones.
-    pub(crate) fn redo(&mut self, depth: u32, points: usize) -> Result<(), AllocError>
-        ensures { OnOk result (self.new ≡ redo depth points self.old) }
+    fn redo(&mut self, window: &PointWindow) -> Result<(), AllocError>
+        ensures { OnOk result (self.new ≡ redo (redoable window.now self.old) self.old) }
     {
-        if let Some(place) = self.first_eligible(depth, points) {
+        if let Some(place) = self.first_eligible(window) {
             self.done.push(self.undone[place])?;
             self.undone.remove(place);
         }

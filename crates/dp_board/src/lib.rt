@@ -8,13 +8,17 @@
 mod act;
 mod flags;
 mod groups;
-mod history;
 mod join;
 mod laws;
 mod sorted;
+mod table;
 #[cfg(test)]
 mod tests;
+mod window;
 
 pub use act::{Act, UserAct};
-pub use flags::kept;
-pub use laws::commands_do_not_count;
+pub use flags::drawn_flags;
+pub use laws::{
+    commands_do_not_count, each_act_has_a_flag, groups_are_points, strokes_go_on,
+    window_is_of_last_points,
+};

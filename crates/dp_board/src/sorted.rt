@@ -4,7 +4,7 @@ ghost use Rattle.std.specs.Prelude.{◌≡◌, ℕ, List, IfOk};
 ghost use Rattle.std.specs.List.Sorted.{IsSorted};
 ghost use Rattle.std.specs.Ordering.{nat_cmp};
 ghost use Rattle.dp_board.specs.Strokes.{is_among};
-ghost use Rattle.dp_board.specs.History.{HaveSame};
+ghost use Rattle.dp_board.specs.Users.{HaveSame};
 
 use std::alloc::{AllocError, Global};
 use std::marker::Model;

@@ -1,6 +1,9 @@
 use crate::act::{Act, UserAct};
-use crate::flags::kept;
-use crate::laws::commands_do_not_count;
+use crate::flags::drawn_flags;
+use crate::laws::{
+    commands_do_not_count, each_act_has_a_flag, groups_are_points, strokes_go_on,
+    window_is_of_last_points,
+};
 use std::alloc::{AllocError, Global};
 use std::process::Abort;
 use std::test::Fail;
@@ -37,8 +40,13 @@ fn expected(alloc: Global, acts: &[UserAct<u8>]) -> Result<Vec<bool>, AllocError
         .collect(alloc)
 }
 
-/// Checks a history of one script, points of user 2 and another script.
-fn check(rt: &impl Abort, alloc: Global, front: &str, points: u32, back: &str) -> Result<(), Fail> {
+/// Checks a history of one script, points of user 2 and another script, at a depth.
+fn check(
+    rt: &impl Abort,
+    alloc: Global,
+    depth: u32,
+    (front, points, back): (&str, u32, &str),
+) -> Result<(), Fail> {
     let mut acts = Vec::new(alloc);
     push_acts(rt, &mut acts, front)?;
     for _ in 0..points {
@@ -48,11 +56,11 @@ fn check(rt: &impl Abort, alloc: Global, front: &str, points: u32, back: &str) -
         })?;
     }
     push_acts(rt, &mut acts, back)?;
-    let flags = kept(alloc, 30, &acts)?;
+    let flags = drawn_flags(alloc, depth, &acts)?;
     assert_eq!(rt;
         flags,
         expected(alloc, &acts)?,
-        "{front} and {points} points and {back}"
+        "{front} and {points} points and {back} at {depth}"
     );
     Ok(())
 }
@@ -90,14 +98,14 @@ fn scripts(rt: HostRuntime) -> Result<(), Fail> {
         "1P. 2P. 1D- 2D+ 1D- 2D+ 1U1",
         "1O. 1P. 1O. 1D+ 1O.",
     ] {
-        check(&rt, rt.alloc(), script, 0, "")?;
+        check(&rt, rt.alloc(), 30, (script, 0, ""))?;
     }
     Ok(())
 }
 
 #[test]
 fn window(rt: HostRuntime) -> Result<(), Fail> {
-    for (front, points, back) in [
+    for row in [
         ("1P. 1D-", 29, "1U1"),
         ("1P. 1D+", 30, "1U1"),
         ("1P. 1D+", 30, ""),
@@ -108,7 +116,16 @@ fn window(rt: HostRuntime) -> Result<(), Fail> {
         ("1P. 1D- 1P. 1D+ 1U1 1U1", 29, "1R1"),
         ("1P. 1D- 1P. 1D- 1U1 1U1", 30, "1R1"),
     ] {
-        check(&rt, rt.alloc(), front, points, back)?;
+        check(&rt, rt.alloc(), 30, row)?;
+    }
+    for (depth, row) in [
+        (0, ("1P. 1D+", 0, "1U1")),
+        (1, ("1P. 1D-", 0, "1U1")),
+        (1, ("1P. 1D+", 1, "1U1")),
+        (1, ("1P. 1D+ 1P. 1D-", 0, "1U1 1U1")),
+        (2, ("1P. 1D- 1P. 1D-", 0, "1U1 1U1")),
+    ] {
+        check(&rt, rt.alloc(), depth, row)?;
     }
     Ok(())
 }
@@ -131,7 +148,7 @@ fn many(rt: HostRuntime) -> Result<(), Fail> {
             push_acts(&rt, &mut acts, "1R1")?;
         }
     }
-    let flags = kept(rt.alloc(), 30, &acts)?;
+    let flags = drawn_flags(rt.alloc(), 30, &acts)?;
     assert_eq!(rt; flags.iter().filter(|flag| **flag).count(), 83_330);
     Ok(())
 }
@@ -139,6 +156,10 @@ fn many(rt: HostRuntime) -> Result<(), Fail> {
 #[test]
 fn without_commands(rt: HostRuntime) -> Result<(), Fail> {
     commands_do_not_count::<u8, ()>();
+    each_act_has_a_flag::<u8>();
+    strokes_go_on::<u8>();
+    window_is_of_last_points::<u8>();
+    groups_are_points::<u8>();
     let acts = [
         UserAct {
             user: 1,
@@ -158,7 +179,7 @@ fn without_commands(rt: HostRuntime) -> Result<(), Fail> {
         },
     ];
     assert_eq!(rt;
-        kept(rt.alloc(), 30, &acts)?.as_slice(),
+        drawn_flags(rt.alloc(), 30, &acts)?.as_slice(),
         [false, false, false, true].as_slice()
     );
     Ok(())

@@ -1,2 +1,3 @@
 pub mod FieldLaws
-pub mod MessageLaws
+pub mod Spelled
+pub mod Comparing

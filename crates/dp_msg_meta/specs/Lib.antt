@@ -1,4 +1,4 @@
 pub mod Fields
 pub mod Payloads
-pub mod Reading
-pub mod Writing
+pub mod Equality
+pub mod Answers

@@ -1,73 +1,72 @@
 //! Reading the payloads of the control messages.
 
-ghost use Rattle.std.specs.Prelude.{◌≡◌};
-ghost use Rattle.dp_msg_meta.specs.declared.message.Control.TheVariants.{ResetBegin, ResetEnd};
-ghost use Rattle.dp_msg_meta.specs.Payloads.{TakesMemory};
-ghost use Rattle.dp_msg_meta.specs.Reading.{Gives, GivesAlways, empty_at, control_at};
-ghost use Rattle.dp_msg_meta.specs.Reading.{hello_at, disconnect_at, ping_at, ack_at, welcome_at};
+ghost use Rattle.std.specs.Prelude.{◌≡◌, []};
+ghost use Rattle.dp_msg_meta.specs.Answers.{Answers};
+ghost use Rattle.dp_msg_meta.specs.Payloads.{SpellsControl, TakesMemory};
 
 use crate::error::PayloadError;
-use crate::fields::{take_end, take_flag, take_name_bytes, take_u8, take_u16, take_u32};
+use crate::fields::{flag_of, name_bytes_of, two_u32_of};
 use crate::message::Control;
+use byteorder::{BigEndian, ByteOrder};
 use std::alloc::Global;
 
-#[tactic(auto, unfolding(crate::specs::Reading::hello_at))]
+#[tactic(auto, using(crate::proofs::Spelled::hello_spelled))]
 fn read_hello(alloc: Global, payload: &[u8]) -> Result<Control, PayloadError>
-    ensures { Gives (λ m. m) result (hello_at payload.now) }
+    ensures { Answers (TakesMemory 0) (SpellsControl 0 payload.now) result }
 {
-    let name = take_name_bytes(alloc, payload)?;
+    let name = name_bytes_of(alloc, payload)?;
     Ok(Control::Hello { name })
 }
 
-#[tactic(auto, unfolding(crate::specs::Reading::disconnect_at))]
 fn read_disconnect(payload: &[u8]) -> Result<Control, PayloadError>
-    ensures { GivesAlways (λ m. m) result (disconnect_at payload.now) }
+    ensures { Answers (TakesMemory 1) (SpellsControl 1 payload.now) result }
 {
-    let (reason, rest) = take_u8(payload)?;
-    take_end(rest)?;
-    Ok(Control::Disconnect { reason })
+    let [reason] = payload else {
+        return Err(PayloadError::Malformed);
+    };
+    Ok(Control::Disconnect { reason: *reason })
 }
 
-#[tactic(auto, unfolding(crate::specs::Reading::ping_at))]
 fn read_ping(payload: &[u8]) -> Result<Control, PayloadError>
-    ensures { GivesAlways (λ m. m) result (ping_at payload.now) }
+    ensures { Answers (TakesMemory 2) (SpellsControl 2 payload.now) result }
 {
-    let (pong, rest) = take_flag(payload)?;
-    take_end(rest)?;
+    let [byte] = payload else {
+        return Err(PayloadError::Malformed);
+    };
+    let pong = flag_of(*byte)?;
     Ok(Control::Ping { pong })
 }
 
-#[tactic(auto, unfolding(crate::specs::Reading::ack_at))]
 fn read_ack(payload: &[u8]) -> Result<Control, PayloadError>
-    ensures { GivesAlways (λ m. m) result (ack_at payload.now) }
+    ensures { Answers (TakesMemory 3) (SpellsControl 3 payload.now) result }
 {
-    let (epoch, rest) = take_u32(payload)?;
-    take_end(rest)?;
-    Ok(Control::Ack { epoch })
+    if payload.len() != 4 {
+        return Err(PayloadError::Malformed);
+    }
+    Ok(Control::Ack {
+        epoch: BigEndian::read_u32(payload),
+    })
 }
 
-#[tactic(auto, unfolding(crate::specs::Reading::welcome_at))]
 fn read_welcome(payload: &[u8]) -> Result<Control, PayloadError>
-    ensures { GivesAlways (λ m. m) result (welcome_at payload.now) }
+    ensures { Answers (TakesMemory 4) (SpellsControl 4 payload.now) result }
 {
-    let (version, rest) = take_u16(payload)?;
-    let (user, rest) = take_u8(rest)?;
-    let (epoch, rest) = take_u32(rest)?;
-    let (at, rest) = take_u32(rest)?;
-    take_end(rest)?;
+    if payload.len() != 11 {
+        return Err(PayloadError::Malformed);
+    }
+    let (head, numbers) = payload.split_at(3);
+    let (epoch, at) = two_u32_of(numbers);
     Ok(Control::Welcome {
-        version,
-        user,
+        version: BigEndian::read_u16(head),
+        user: head[2],
         epoch,
         at,
     })
 }
 
 /// The control message of this kind.
-#[tactic(auto, unfolding(crate::specs::Reading::control_at))]
 pub(crate) fn read(alloc: Global, kind: u8, payload: &[u8]) -> Result<Control, PayloadError>
-    ensures read { Gives (λ m. m) result (control_at kind payload.now) }
-    ensures memory { result ≡ Err PayloadError.Memory → TakesMemory kind }
+    ensures { Answers (TakesMemory kind) (SpellsControl kind payload.now) result }
 {
     match kind {
         0 => read_hello(alloc, payload),
@@ -75,8 +74,8 @@ pub(crate) fn read(alloc: Global, kind: u8, payload: &[u8]) -> Result<Control, P
         2 => read_ping(payload),
         3 => read_ack(payload),
         4 => read_welcome(payload),
-        5 => take_end(payload).map(|()| Control::ResetBegin),
-        7 => take_end(payload).map(|()| Control::ResetEnd),
+        5 if payload.is_empty() => Ok(Control::ResetBegin),
+        7 if payload.is_empty() => Ok(Control::ResetEnd),
         _ => Err(PayloadError::Malformed),
     }
 }

@@ -1,8 +1,8 @@
 //! Writing the payloads of the control messages.
 
-ghost use Rattle.std.specs.Prelude.{◌≡◌, ◌≤◌, ◌++◌, length};
-ghost use Rattle.dp_msg_meta.specs.Fields.{Adds};
-ghost use Rattle.dp_msg_meta.specs.Writing.{control_bytes, welcome_bytes};
+ghost use Rattle.std.specs.Prelude.{◌≤◌, ◌++◌, length};
+ghost use Rattle.dp_msg_meta.specs.Fields.{Adds, one_byte, two_bytes, four_bytes};
+ghost use Rattle.dp_msg_meta.specs.Payloads.{control_payload};
 
 use crate::message::Control;
 use crate::output::{put, put_u32};
@@ -16,7 +16,8 @@ fn write_welcome(
     epoch: u32,
     at: u32,
 ) -> Result<(), AllocError>
-    ensures { Adds out.old.items out.new.items result (welcome_bytes version user epoch at) }
+    ensures { Adds out.old.items out.new.items result
+        (two_bytes version ++ one_byte user ++ four_bytes epoch ++ four_bytes at) }
 {
     let mut bytes = [0; 11];
     BigEndian::write_u16(&mut bytes, version);
@@ -28,8 +29,8 @@ fn write_welcome(
 
 /// Adds a message's payload.
 pub(crate) fn write(m: &Control, out: &mut Vec<u8>) -> Result<(), AllocError>
-    ensures added { Adds out.old.items out.new.items result (control_bytes m.now) }
-    ensures short { length (control_bytes m.now) ≤ 65535 }
+    ensures added { Adds out.old.items out.new.items result (control_payload m.now) }
+    ensures short { length (control_payload m.now) ≤ 32 }
 {
     match m {
         Control::Hello { name } => put(out, name.as_slice()),

@@ -1,9 +1,12 @@
-//! The fields of a payload, from the left: each reader gives a value and the bytes after it.
+//! The fields of a payload that have a condition of their own.
 
-ghost use Rattle.std.specs.Prelude.{◌≡◌};
-ghost use Rattle.dp_msg_meta.specs.Reading.{Gives, GivesAlways, number_at, signed_at, flag_at};
-ghost use Rattle.dp_msg_meta.specs.Reading.{tier_at, end_at, rest_if, rise_from};
-ghost use Rattle.dp_msg_meta.specs.Reading.{is_name, is_text, is_text_name};
+ghost use Rattle.std.specs.Prelude.{◌≡◌, ◌≤◌, ◌++◌, ◌↔◌, length, IsTrue};
+ghost use Rattle.std.specs.Bool.{⊤};
+ghost use Rattle.std.specs.List.{AllByRecursion};
+ghost use Rattle.std.specs.Str.{IsUtf8};
+ghost use Rattle.dp_msg_meta.specs.Answers.{Answers};
+ghost use Rattle.dp_msg_meta.specs.Fields.{one_byte, four_bytes, four_signed, flag_byte};
+ghost use Rattle.dp_msg_meta.specs.Fields.{RiseFrom, IsName, IsText};
 
 use crate::error::PayloadError;
 use crate::lists::{Ids, NameBytes, Text};
@@ -11,84 +14,45 @@ use byteorder::{BigEndian, ByteOrder};
 use std::alloc::Global;
 use std::str;
 
-/// A byte.
-pub(crate) fn take_u8(bytes: &[u8]) -> Result<(u8, &[u8]), PayloadError>
-    ensures { GivesAlways (λ x. (x.0, x.1.now)) result (number_at 1 bytes.now) }
+/// The flag that is spelled by a byte of 0 or 1.
+pub(crate) fn flag_of(byte: u8) -> Result<bool, PayloadError>
+    ensures { Answers ⊥ (λ flag. one_byte byte ≡ flag_byte flag) result }
 {
-    match bytes {
-        [] => Err(PayloadError::Malformed),
-        [byte, rest @ ..] => Ok((*byte, rest)),
-    }
-}
-
-/// A number of two bytes.
-pub(crate) fn take_u16(bytes: &[u8]) -> Result<(u16, &[u8]), PayloadError>
-    ensures { GivesAlways (λ x. (x.0, x.1.now)) result (number_at 2 bytes.now) }
-{
-    if bytes.len() < 2 {
-        return Err(PayloadError::Malformed);
-    }
-    Ok((BigEndian::read_u16(bytes), &bytes[2..]))
-}
-
-/// A number of four bytes.
-pub(crate) fn take_u32(bytes: &[u8]) -> Result<(u32, &[u8]), PayloadError>
-    ensures { GivesAlways (λ x. (x.0, x.1.now)) result (number_at 4 bytes.now) }
-{
-    if bytes.len() < 4 {
-        return Err(PayloadError::Malformed);
-    }
-    Ok((BigEndian::read_u32(bytes), &bytes[4..]))
-}
-
-/// A signed number of four bytes.
-pub(crate) fn take_i32(bytes: &[u8]) -> Result<(i32, &[u8]), PayloadError>
-    ensures { GivesAlways (λ x. (x.0, x.1.now)) result (signed_at bytes.now) }
-{
-    if bytes.len() < 4 {
-        return Err(PayloadError::Malformed);
-    }
-    Ok((BigEndian::read_i32(bytes), &bytes[4..]))
-}
-
-/// A byte that is 0 or 1.
-#[tactic(auto, unfolding(crate::specs::Reading::flag_at))]
-pub(crate) fn take_flag(bytes: &[u8]) -> Result<(bool, &[u8]), PayloadError>
-    ensures { GivesAlways (λ x. (x.0, x.1.now)) result (flag_at bytes.now) }
-{
-    let (byte, rest) = take_u8(bytes)?;
     match byte {
-        0 => Ok((false, rest)),
-        1 => Ok((true, rest)),
+        0 => Ok(false),
+        1 => Ok(true),
         _ => Err(PayloadError::Malformed),
     }
 }
 
-/// The end of the payload.
-pub(crate) fn take_end(bytes: &[u8]) -> Result<(), PayloadError>
-    ensures { GivesAlways (λ _. tt) result (end_at bytes.now) }
+/// The two numbers that eight bytes are.
+pub(crate) fn two_u32_of(bytes: &[u8]) -> (u32, u32)
+    requires { length bytes.now ≡ 8 }
+    ensures { bytes.now ≡ four_bytes result.0 ++ four_bytes result.1 }
 {
-    match bytes {
-        [] => Ok(()),
-        [_, ..] => Err(PayloadError::Malformed),
-    }
+    let (first, second) = bytes.split_at(4);
+    (BigEndian::read_u32(first), BigEndian::read_u32(second))
 }
 
-/// A byte that is 0 to 3.
-#[tactic(auto, unfolding(crate::specs::Reading::tier_at))]
-pub(crate) fn take_tier(bytes: &[u8]) -> Result<(u8, &[u8]), PayloadError>
-    ensures { GivesAlways (λ x. (x.0, x.1.now)) result (tier_at bytes.now) }
+/// The two signed numbers that eight bytes are.
+pub(crate) fn two_i32_of(bytes: &[u8]) -> (i32, i32)
+    requires { length bytes.now ≡ 8 }
+    ensures { bytes.now ≡ four_signed result.0 ++ four_signed result.1 }
 {
-    let (tier, rest) = take_u8(bytes)?;
-    if tier > 3 {
-        return Err(PayloadError::Malformed);
-    }
-    Ok((tier, rest))
+    let (first, second) = two_u32_of(bytes);
+    (first.cast_signed(), second.cast_signed())
+}
+
+/// Tests that each byte is 0 to 3.
+pub(crate) fn are_tiers(bytes: &[u8]) -> bool
+    ensures { IsTrue result ↔ AllByRecursion (λ tier. tier ≤ 3) bytes.now }
+{
+    bytes.iter().all(|tier| *tier <= 3)
 }
 
 /// Tests that ids rise strictly within `low` to 254.
-fn rise(low: u8, ids: &[u8]) -> bool
-    ensures { result ≡ rise_from low ids.now }
+fn do_rise(low: u8, ids: &[u8]) -> bool
+    ensures { IsTrue result ↔ RiseFrom low ids.now }
 {
     let mut least = low;
     for &id in ids {
@@ -100,19 +64,20 @@ fn rise(low: u8, ids: &[u8]) -> bool
     true
 }
 
-/// All bytes that are left, as ids that rise strictly within `low` to 254.
-pub(crate) fn take_ids(alloc: Global, low: u8, bytes: &[u8]) -> Result<Ids, PayloadError>
-    ensures { Gives (λ ids. ids) result (rest_if (rise_from low) bytes.now) }
+/// The ids that these bytes are, where they rise strictly within `low` to 254.
+#[tactic(auto, using(crate::proofs::FieldLaws::rise_short))]
+pub(crate) fn ids_of(alloc: Global, low: u8, bytes: &[u8]) -> Result<Ids, PayloadError>
+    ensures { Answers ⊤ (λ ids. (ids ≡ bytes.now) × RiseFrom low ids) result }
 {
-    if !rise(low, bytes) {
+    if !do_rise(low, bytes) {
         return Err(PayloadError::Malformed);
     }
     Ok(Ids::from_vec(Vec::from_slice(alloc, bytes)?))
 }
 
-/// All bytes that are left, as a name of 1 to 32 bytes of any kind.
-pub(crate) fn take_name_bytes(alloc: Global, bytes: &[u8]) -> Result<NameBytes, PayloadError>
-    ensures { Gives (λ name. name) result (rest_if is_name bytes.now) }
+/// The name that these bytes are, where they are 1 to 32.
+pub(crate) fn name_bytes_of(alloc: Global, bytes: &[u8]) -> Result<NameBytes, PayloadError>
+    ensures { Answers ⊤ (λ name. (name ≡ bytes.now) × IsName name) result }
 {
     if bytes.is_empty() || bytes.len() > 32 {
         return Err(PayloadError::Malformed);
@@ -120,9 +85,9 @@ pub(crate) fn take_name_bytes(alloc: Global, bytes: &[u8]) -> Result<NameBytes, 
     Ok(NameBytes::from_vec(Vec::from_slice(alloc, bytes)?))
 }
 
-/// All bytes that are left, as a text.
-pub(crate) fn take_text(alloc: Global, bytes: &[u8]) -> Result<Text, PayloadError>
-    ensures { Gives (λ text. text) result (rest_if is_text bytes.now) }
+/// The text that these bytes are, where they are UTF-8 and not too many.
+pub(crate) fn text_of(alloc: Global, bytes: &[u8]) -> Result<Text, PayloadError>
+    ensures { Answers ⊤ (λ text. (text ≡ bytes.now) × IsText text) result }
 {
     if bytes.len() > 65535 {
         return Err(PayloadError::Malformed);
@@ -133,12 +98,12 @@ pub(crate) fn take_text(alloc: Global, bytes: &[u8]) -> Result<Text, PayloadErro
     }
 }
 
-/// All bytes that are left, as a name of 1 to 32 bytes of UTF-8.
-pub(crate) fn take_name(alloc: Global, bytes: &[u8]) -> Result<Text, PayloadError>
-    ensures { Gives (λ name. name) result (rest_if is_text_name bytes.now) }
+/// The name that these bytes are, where they are 1 to 32 and UTF-8.
+pub(crate) fn name_of(alloc: Global, bytes: &[u8]) -> Result<Text, PayloadError>
+    ensures { Answers ⊤ (λ name. (name ≡ bytes.now) × (IsUtf8 name × IsName name)) result }
 {
     if bytes.is_empty() || bytes.len() > 32 {
         return Err(PayloadError::Malformed);
     }
-    take_text(alloc, bytes)
+    text_of(alloc, bytes)
 }

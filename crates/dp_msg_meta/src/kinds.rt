@@ -1,8 +1,8 @@
 //! The kinds of messages, and messages again.
 
-ghost use Rattle.std.specs.Prelude.{◌≡◌, ◌↔◌, ℕ, List, IfOk, OnErr, IsTrue};
+ghost use Rattle.std.specs.Prelude.{◌≡◌, ◌↔◌, IfOk, OnErr, IsTrue};
 ghost use Rattle.dp_msg_meta.specs.Payloads.{control_kind, meta_kind, IsControlKind, IsMetaKind};
-ghost use Rattle.dp_msg_meta.specs.Payloads.{SpellsControl, SpellsMeta, TakesMemory};
+ghost use Rattle.dp_msg_meta.specs.Payloads.{TakesMemory};
 
 use crate::message::{Control, Meta};
 use std::alloc::AllocError;
@@ -13,8 +13,6 @@ use std::alloc::AllocError;
 pub fn kind_of_control(m: &Control) -> u8
     ensures value { result ≡ control_kind m.now }
     ensures control { IsControlKind result }
-    ensures spelled { (kind : ℕ) (payload : List ℕ)
-        → SpellsControl kind payload m.now → kind ≡ result }
 {
     match m {
         Control::Hello { .. } => 0,
@@ -33,8 +31,6 @@ pub fn kind_of_control(m: &Control) -> u8
 pub fn kind_of_meta(m: &Meta) -> u8
     ensures value { result ≡ meta_kind m.now }
     ensures meta { IsMetaKind result }
-    ensures spelled { (kind : ℕ) (payload : List ℕ)
-        → SpellsMeta kind payload m.now → kind ≡ result }
 {
     match m {
         Meta::Join { .. } => 32,

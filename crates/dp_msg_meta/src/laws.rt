@@ -2,10 +2,11 @@
 //!
 //! The rule: docs/protocol.md, "Control and meta messages".
 
-ghost use Rattle.std.specs.Prelude.{◌≡◌, ◌≤◌, ℕ, List, length};
+ghost use Rattle.std.specs.Prelude.{◌≡◌, ◌≤◌, ◌↔◌, ℕ, List, length, IsTrue};
 ghost use Rattle.dp_msg_meta.specs.declared.message.Control.{Control};
 ghost use Rattle.dp_msg_meta.specs.declared.message.Meta.{Meta};
 ghost use Rattle.dp_msg_meta.specs.Payloads.{IsControlKind, IsMetaKind, SpellsControl, SpellsMeta};
+ghost use Rattle.dp_msg_meta.specs.Equality.{same_control, same_meta};
 
 /// A payload of a kind spells at most one control message, and such a message has one kind and one
 /// payload, of at most 65,535 bytes.
@@ -22,6 +23,7 @@ pub fn one_control()
 
 /// A payload of a kind spells at most one meta message, and such a message has one kind and one
 /// payload, of at most 65,535 bytes.
+#[tactic(auto, using(crate::proofs::FieldLaws::rise_short))]
 pub fn one_meta()
     ensures message { (kind : ℕ) (payload : List ℕ) (m n : Meta)
         → SpellsMeta kind payload m → SpellsMeta kind payload n → m ≡ n }
@@ -31,4 +33,16 @@ pub fn one_meta()
         → SpellsMeta kind payload m → IsMetaKind kind }
     ensures short { (m : Meta) (kind : ℕ) (payload : List ℕ)
         → SpellsMeta kind payload m → length payload ≤ 65535 }
+{}
+
+/// The test of two control messages tells exactly whether they are equal.
+#[tactic(auto, using(crate::proofs::Comparing::same_control_told))]
+pub fn control_equality()
+    ensures { (m n : Control) → IsTrue (same_control m n) ↔ (m ≡ n) }
+{}
+
+/// The test of two meta messages tells exactly whether they are equal.
+#[tactic(auto, using(crate::proofs::Comparing::same_meta_told))]
+pub fn meta_equality()
+    ensures { (m n : Meta) → IsTrue (same_meta m n) ↔ (m ≡ n) }
 {}

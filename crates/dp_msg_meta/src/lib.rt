@@ -3,6 +3,7 @@
 
 mod control_reader;
 mod control_writer;
+mod equality;
 mod error;
 mod fields;
 mod kinds;
@@ -15,9 +16,10 @@ mod output;
 mod reading;
 mod writing;
 
+pub use equality::{same_control, same_meta};
 pub use error::PayloadError;
 pub use kinds::{is_control_kind, is_meta_kind, kind_of_control, kind_of_meta};
-pub use laws::{one_control, one_meta};
+pub use laws::{control_equality, meta_equality, one_control, one_meta};
 pub use lists::{Ids, NameBytes, Text};
 pub use message::{Control, Meta, Tiers};
 pub use reading::{read_control, read_meta};

@@ -3,7 +3,9 @@
 //! The rule: docs/protocol.md, "Control and meta messages".
 
 ghost use Rattle.std.specs.Prelude.{◌≡◌, ◌≤◌, ◌↔◌, List, ℕ, [], length, string_bytes, vec_len};
-ghost use Rattle.std.specs.Prelude.{IfOk, IfSome, IsSome};
+ghost use Rattle.std.specs.Prelude.{IfOk, IfSome, IsSome, bytes_eq};
+ghost use Rattle.std.specs.Cmp.{partial_equiv_from_equiv};
+ghost use Rattle.std.specs.Cmp.Lexicographic.{nat_list_eq_equiv};
 ghost use Rattle.dp_msg_meta.specs.Fields.{IsText};
 
 use std::alloc::{AllocError, Global};
@@ -59,6 +61,16 @@ impl Ids {
     }
 }
 
+impl PartialEq for Ids {
+    ghost eq = { bytes_eq };
+
+    ghost laws = { partial_equiv_from_equiv nat_list_eq_equiv };
+
+    fn eq(&self, other: &Ids) -> bool {
+        self.ids == other.ids
+    }
+}
+
 /// The name of a Hello: any bytes, at most 32 of them.
 #[derive(Debug, Drop)]
 pub struct NameBytes {
@@ -106,6 +118,16 @@ impl NameBytes {
         Ok(NameBytes {
             bytes: self.bytes.clone()?,
         })
+    }
+}
+
+impl PartialEq for NameBytes {
+    ghost eq = { bytes_eq };
+
+    ghost laws = { partial_equiv_from_equiv nat_list_eq_equiv };
+
+    fn eq(&self, other: &NameBytes) -> bool {
+        self.bytes == other.bytes
     }
 }
 
@@ -179,5 +201,15 @@ impl Text {
         Ok(Text {
             text: self.text.clone()?,
         })
+    }
+}
+
+impl PartialEq for Text {
+    ghost eq = { bytes_eq };
+
+    ghost laws = { partial_equiv_from_equiv nat_list_eq_equiv };
+
+    fn eq(&self, other: &Text) -> bool {
+        self.text == other.text
     }
 }

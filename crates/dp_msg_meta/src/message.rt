@@ -5,7 +5,7 @@ use crate::lists::{Ids, NameBytes, Text};
 /// A message between a client and its server.
 ///
 /// The rule: docs/protocol.md, "Control and meta messages".
-#[derive(Debug, Drop)]
+#[derive(Debug, Drop, PartialEq)]
 pub enum Control {
     /// Asks to join. The name has 1 to 32 bytes of any kind.
     Hello {
@@ -39,7 +39,7 @@ pub enum Control {
 /// A message of the history that draws nothing.
 ///
 /// The rule: docs/protocol.md, "Control and meta messages".
-#[derive(Debug, Drop)]
+#[derive(Debug, Drop, PartialEq)]
 pub enum Meta {
     /// A user is there. The name has 1 to 32 bytes of UTF-8.
     Join {

@@ -1,152 +1,143 @@
 //! Reading the payloads of the meta messages.
 
-ghost use Rattle.std.specs.Prelude.{◌≡◌};
-ghost use Rattle.dp_msg_meta.specs.declared.message.Meta.TheVariants.{Leave, Laser, MovePointer};
-ghost use Rattle.dp_msg_meta.specs.declared.message.Meta.TheVariants.{Owners, Trusted, UserAcl};
-ghost use Rattle.dp_msg_meta.specs.Payloads.{TakesMemory};
-ghost use Rattle.dp_msg_meta.specs.Reading.{Gives, GivesAlways, empty_at, meta_at, join_at, ids_at};
-ghost use Rattle.dp_msg_meta.specs.Reading.{chat_at, mark_at, place_at, layer_at, tiers_at};
-ghost use Rattle.dp_msg_meta.specs.Reading.{filtered_at};
+ghost use Rattle.std.specs.Prelude.{◌≡◌, []};
+ghost use Rattle.dp_msg_meta.specs.Answers.{Answers};
+ghost use Rattle.dp_msg_meta.specs.Payloads.{SpellsMeta, TakesMemory};
 
 use crate::error::PayloadError;
-use crate::fields::{
-    take_end, take_flag, take_i32, take_ids, take_name, take_text, take_tier, take_u8, take_u16,
-    take_u32,
-};
+use crate::fields::{are_tiers, flag_of, ids_of, name_of, text_of, two_i32_of, two_u32_of};
 use crate::message::{Meta, Tiers};
+use byteorder::{BigEndian, ByteOrder};
 use std::alloc::Global;
 
-#[tactic(auto, unfolding(crate::specs::Reading::join_at))]
 fn read_join(alloc: Global, payload: &[u8]) -> Result<Meta, PayloadError>
-    ensures { Gives (λ m. m) result (join_at payload.now) }
+    ensures { Answers (TakesMemory 32) (SpellsMeta 32 payload.now) result }
 {
-    let (registered, rest) = take_flag(payload)?;
-    let name = take_name(alloc, rest)?;
+    let [byte, name @ ..] = payload else {
+        return Err(PayloadError::Malformed);
+    };
+    let registered = flag_of(*byte)?;
+    let name = name_of(alloc, name)?;
     Ok(Meta::Join { registered, name })
 }
 
-#[tactic(auto, unfolding(crate::specs::Reading::ids_at))]
+#[tactic(auto, using(crate::proofs::Spelled::owners_spelled))]
 fn read_owners(alloc: Global, payload: &[u8]) -> Result<Meta, PayloadError>
-    ensures { Gives (λ m. m) result (ids_at Owners 1 payload.now) }
+    ensures { Answers (TakesMemory 34) (SpellsMeta 34 payload.now) result }
 {
-    let ids = take_ids(alloc, 1, payload)?;
+    let ids = ids_of(alloc, 1, payload)?;
     Ok(Meta::Owners { ids })
 }
 
-#[tactic(auto, unfolding(crate::specs::Reading::ids_at))]
-fn read_trusted(alloc: Global, payload: &[u8]) -> Result<Meta, PayloadError>
-    ensures { Gives (λ m. m) result (ids_at Trusted 1 payload.now) }
-{
-    let ids = take_ids(alloc, 1, payload)?;
-    Ok(Meta::Trusted { ids })
-}
-
-#[tactic(auto, unfolding(crate::specs::Reading::ids_at))]
-fn read_user_acl(alloc: Global, payload: &[u8]) -> Result<Meta, PayloadError>
-    ensures { Gives (λ m. m) result (ids_at UserAcl 0 payload.now) }
-{
-    let ids = take_ids(alloc, 0, payload)?;
-    Ok(Meta::UserAcl { ids })
-}
-
-#[tactic(auto, unfolding(crate::specs::Reading::chat_at))]
+#[tactic(auto, using(crate::proofs::Spelled::chat_spelled))]
 fn read_chat(alloc: Global, payload: &[u8]) -> Result<Meta, PayloadError>
-    ensures { Gives (λ m. m) result (chat_at payload.now) }
+    ensures { Answers (TakesMemory 35) (SpellsMeta 35 payload.now) result }
 {
-    let text = take_text(alloc, payload)?;
+    let text = text_of(alloc, payload)?;
     Ok(Meta::Chat { text })
 }
 
-#[tactic(auto, unfolding(crate::specs::Reading::mark_at))]
-fn read_reset_mark(payload: &[u8]) -> Result<Meta, PayloadError>
-    ensures { GivesAlways (λ m. m) result (mark_at payload.now) }
+#[tactic(auto, using(crate::proofs::Spelled::trusted_spelled))]
+fn read_trusted(alloc: Global, payload: &[u8]) -> Result<Meta, PayloadError>
+    ensures { Answers (TakesMemory 36) (SpellsMeta 36 payload.now) result }
 {
-    let (epoch, rest) = take_u32(payload)?;
-    let (carried, rest) = take_u32(rest)?;
-    take_end(rest)?;
+    let ids = ids_of(alloc, 1, payload)?;
+    Ok(Meta::Trusted { ids })
+}
+
+fn read_reset_mark(payload: &[u8]) -> Result<Meta, PayloadError>
+    ensures { Answers (TakesMemory 37) (SpellsMeta 37 payload.now) result }
+{
+    if payload.len() != 8 {
+        return Err(PayloadError::Malformed);
+    }
+    let (epoch, carried) = two_u32_of(payload);
     Ok(Meta::ResetMark { epoch, carried })
 }
 
-#[tactic(auto, unfolding(crate::specs::Reading::place_at))]
 fn read_laser(payload: &[u8]) -> Result<Meta, PayloadError>
-    ensures { GivesAlways (λ m. m) result (place_at Laser payload.now) }
+    ensures { Answers (TakesMemory 64) (SpellsMeta 64 payload.now) result }
 {
-    let (x, rest) = take_i32(payload)?;
-    let (y, rest) = take_i32(rest)?;
-    take_end(rest)?;
+    if payload.len() != 8 {
+        return Err(PayloadError::Malformed);
+    }
+    let (x, y) = two_i32_of(payload);
     Ok(Meta::Laser { x, y })
 }
 
-#[tactic(auto, unfolding(crate::specs::Reading::place_at))]
 fn read_move_pointer(payload: &[u8]) -> Result<Meta, PayloadError>
-    ensures { GivesAlways (λ m. m) result (place_at MovePointer payload.now) }
+    ensures { Answers (TakesMemory 65) (SpellsMeta 65 payload.now) result }
 {
-    let (x, rest) = take_i32(payload)?;
-    let (y, rest) = take_i32(rest)?;
-    take_end(rest)?;
+    if payload.len() != 8 {
+        return Err(PayloadError::Malformed);
+    }
+    let (x, y) = two_i32_of(payload);
     Ok(Meta::MovePointer { x, y })
 }
 
-#[tactic(auto, unfolding(crate::specs::Reading::layer_at))]
-fn read_layer_acl(alloc: Global, payload: &[u8]) -> Result<Meta, PayloadError>
-    ensures { Gives (λ m. m) result (layer_at payload.now) }
+#[tactic(auto, using(crate::proofs::Spelled::user_acl_spelled))]
+fn read_user_acl(alloc: Global, payload: &[u8]) -> Result<Meta, PayloadError>
+    ensures { Answers (TakesMemory 66) (SpellsMeta 66 payload.now) result }
 {
-    let (layer, rest) = take_u16(payload)?;
-    let (locked, rest) = take_flag(rest)?;
-    let (tier, rest) = take_tier(rest)?;
-    let ids = take_ids(alloc, 1, rest)?;
+    let ids = ids_of(alloc, 0, payload)?;
+    Ok(Meta::UserAcl { ids })
+}
+
+fn read_layer_acl(alloc: Global, payload: &[u8]) -> Result<Meta, PayloadError>
+    ensures { Answers (TakesMemory 67) (SpellsMeta 67 payload.now) result }
+{
+    let [_, _, byte, tier, ids @ ..] = payload else {
+        return Err(PayloadError::Malformed);
+    };
+    let layer = BigEndian::read_u16(payload);
+    let locked = flag_of(*byte)?;
+    if *tier > 3 {
+        return Err(PayloadError::Malformed);
+    }
+    let ids = ids_of(alloc, 1, ids)?;
     Ok(Meta::LayerAcl {
         layer,
         locked,
-        tier,
+        tier: *tier,
         ids,
     })
 }
 
-#[tactic(auto, unfolding(crate::specs::Reading::tiers_at))]
 fn read_feature_tiers(payload: &[u8]) -> Result<Meta, PayloadError>
-    ensures { GivesAlways (λ m. m) result (tiers_at payload.now) }
+    ensures { Answers (TakesMemory 68) (SpellsMeta 68 payload.now) result }
 {
-    let (image, rest) = take_tier(payload)?;
-    let (move_, rest) = take_tier(rest)?;
-    let (resize, rest) = take_tier(rest)?;
-    let (background, rest) = take_tier(rest)?;
-    let (edit_layers, rest) = take_tier(rest)?;
-    let (own_layers, rest) = take_tier(rest)?;
-    let (laser, rest) = take_tier(rest)?;
-    let (undo, rest) = take_tier(rest)?;
-    take_end(rest)?;
+    if payload.len() != 8 || !are_tiers(payload) {
+        return Err(PayloadError::Malformed);
+    }
     let tiers = Tiers {
-        image,
-        move_,
-        resize,
-        background,
-        edit_layers,
-        own_layers,
-        laser,
-        undo,
+        image: payload[0],
+        move_: payload[1],
+        resize: payload[2],
+        background: payload[3],
+        edit_layers: payload[4],
+        own_layers: payload[5],
+        laser: payload[6],
+        undo: payload[7],
     };
     Ok(Meta::FeatureTiers { tiers })
 }
 
-#[tactic(auto, unfolding(crate::specs::Reading::filtered_at))]
 fn read_filtered(payload: &[u8]) -> Result<Meta, PayloadError>
-    ensures { GivesAlways (λ m. m) result (filtered_at payload.now) }
+    ensures { Answers (TakesMemory 69) (SpellsMeta 69 payload.now) result }
 {
-    let (kind, rest) = take_u8(payload)?;
-    take_end(rest)?;
-    Ok(Meta::Filtered { kind })
+    let [kind] = payload else {
+        return Err(PayloadError::Malformed);
+    };
+    Ok(Meta::Filtered { kind: *kind })
 }
 
 /// The meta message of this kind.
-#[tactic(auto, unfolding(crate::specs::Reading::meta_at))]
 pub(crate) fn read(alloc: Global, kind: u8, payload: &[u8]) -> Result<Meta, PayloadError>
-    ensures read { Gives (λ m. m) result (meta_at kind payload.now) }
-    ensures memory { result ≡ Err PayloadError.Memory → TakesMemory kind }
+    ensures { Answers (TakesMemory kind) (SpellsMeta kind payload.now) result }
 {
     match kind {
         32 => read_join(alloc, payload),
-        33 => take_end(payload).map(|()| Meta::Leave),
+        33 if payload.is_empty() => Ok(Meta::Leave),
         34 => read_owners(alloc, payload),
         35 => read_chat(alloc, payload),
         36 => read_trusted(alloc, payload),

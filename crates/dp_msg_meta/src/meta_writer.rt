@@ -1,26 +1,14 @@
 //! Writing the payloads of the meta messages.
 
-ghost use Rattle.std.specs.Prelude.{◌≤◌, length};
-ghost use Rattle.dp_msg_meta.specs.Fields.{Adds};
-ghost use Rattle.dp_msg_meta.specs.Payloads.{tier_bytes};
-ghost use Rattle.dp_msg_meta.specs.Writing.{meta_bytes, join_bytes, layer_acl_bytes};
+ghost use Rattle.std.specs.Prelude.{◌≤◌, ◌++◌, length};
+ghost use Rattle.dp_msg_meta.specs.Fields.{Adds, one_byte, two_bytes, flag_byte};
+ghost use Rattle.dp_msg_meta.specs.Payloads.{tier_bytes, meta_payload};
 
-use crate::lists::{Ids, Text};
+use crate::lists::Ids;
 use crate::message::{Meta, Tiers};
 use crate::output::{put, put_both, put_two_i32, put_two_u32};
 use byteorder::{BigEndian, ByteOrder};
 use std::alloc::AllocError;
-
-fn write_join(out: &mut Vec<u8>, registered: bool, name: &Text) -> Result<(), AllocError>
-    ensures added { Adds out.old.items out.new.items result (join_bytes registered name.now) }
-    ensures short { length (join_bytes registered name.now) ≤ 65535 }
-{
-    let name = name.as_slice();
-    if name.len() > 32 {
-        return Ok(());
-    }
-    put_both(out, &[u8::from(registered)], name)
-}
 
 fn write_layer_acl(
     out: &mut Vec<u8>,
@@ -30,7 +18,7 @@ fn write_layer_acl(
     ids: &Ids,
 ) -> Result<(), AllocError>
     ensures added { Adds out.old.items out.new.items result
-        (layer_acl_bytes layer locked tier ids.now) }
+        (two_bytes layer ++ flag_byte locked ++ one_byte tier ++ ids.now) }
     ensures short { length ids.now ≤ 255 }
 {
     let mut head = [0; 4];
@@ -58,11 +46,13 @@ fn write_tiers(out: &mut Vec<u8>, tiers: &Tiers) -> Result<(), AllocError>
 
 /// Adds a message's payload.
 pub(crate) fn write(m: &Meta, out: &mut Vec<u8>) -> Result<(), AllocError>
-    ensures added { Adds out.old.items out.new.items result (meta_bytes m.now) }
-    ensures short { length (meta_bytes m.now) ≤ 65535 }
+    ensures added { Adds out.old.items out.new.items result (meta_payload m.now) }
+    ensures short { length (meta_payload m.now) ≤ 65536 }
 {
     match m {
-        Meta::Join { registered, name } => write_join(out, *registered, name),
+        Meta::Join { registered, name } => {
+            put_both(out, &[u8::from(*registered)], name.as_slice())
+        }
         Meta::Leave => Ok(()),
         Meta::Owners { ids } | Meta::Trusted { ids } | Meta::UserAcl { ids } => {
             put(out, ids.as_slice())

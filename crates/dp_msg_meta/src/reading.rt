@@ -1,6 +1,6 @@
 //! Reading a payload.
 
-ghost use Rattle.std.specs.Prelude.{◌≡◌, ◌↔◌, IfOk, MatchResult};
+ghost use Rattle.std.specs.Prelude.{◌≡◌, ◌↔◌, ◌⊎◌, IfOk, IsErrOf};
 ghost use Rattle.dp_msg_meta.specs.Payloads.{IsControlKind, IsMetaKind, TakesMemory};
 ghost use Rattle.dp_msg_meta.specs.Payloads.{SpellsControl, SpellsMeta};
 
@@ -16,15 +16,18 @@ use std::alloc::Global;
 pub fn read_control(alloc: Global, kind: u8, payload: &[u8]) -> Result<Control, PayloadError>
     requires { IsControlKind kind }
     // What is read is spelled so.
-    ensures found { IfOk result (λ m. SpellsControl kind payload.now m) }
+    ensures found { IfOk result (SpellsControl kind payload.now) }
     // What is spelled so is read, unless memory runs out.
     ensures only { (m : Control) → SpellsControl kind payload.now m
-        → MatchResult result (λ found. found ≡ m) (λ e. e ≡ PayloadError.Memory) }
+        → (result ≡ Ok m) ⊎ (result ≡ Err PayloadError.Memory) }
     // What is refused spells nothing, and what spells nothing is refused.
-    ensures malformed { (result ≡ Err PayloadError.Malformed)
+    ensures malformed { IsErrOf result PayloadError.Malformed
         ↔ ((m : Control) → SpellsControl kind payload.now m → ⊥) }
-    // Memory is taken only for a message that holds a name, a text or ids.
-    ensures memory { result ≡ Err PayloadError.Memory → TakesMemory kind }
+    // Memory is taken only for a message that holds a name, a text or ids,
+    ensures memory { IsErrOf result PayloadError.Memory → TakesMemory kind }
+    // and that is spelled.
+    ensures due { IsErrOf result PayloadError.Memory
+        → (m : Control) × SpellsControl kind payload.now m }
 {
     control_reader::read(alloc, kind, payload)
 }
@@ -36,15 +39,17 @@ pub fn read_control(alloc: Global, kind: u8, payload: &[u8]) -> Result<Control, 
 pub fn read_meta(alloc: Global, kind: u8, payload: &[u8]) -> Result<Meta, PayloadError>
     requires { IsMetaKind kind }
     // What is read is spelled so.
-    ensures found { IfOk result (λ m. SpellsMeta kind payload.now m) }
+    ensures found { IfOk result (SpellsMeta kind payload.now) }
     // What is spelled so is read, unless memory runs out.
     ensures only { (m : Meta) → SpellsMeta kind payload.now m
-        → MatchResult result (λ found. found ≡ m) (λ e. e ≡ PayloadError.Memory) }
+        → (result ≡ Ok m) ⊎ (result ≡ Err PayloadError.Memory) }
     // What is refused spells nothing, and what spells nothing is refused.
-    ensures malformed { (result ≡ Err PayloadError.Malformed)
+    ensures malformed { IsErrOf result PayloadError.Malformed
         ↔ ((m : Meta) → SpellsMeta kind payload.now m → ⊥) }
-    // Memory is taken only for a message that holds a name, a text or ids.
-    ensures memory { result ≡ Err PayloadError.Memory → TakesMemory kind }
+    // Memory is taken only for a message that holds a name, a text or ids,
+    ensures memory { IsErrOf result PayloadError.Memory → TakesMemory kind }
+    // and that is spelled.
+    ensures due { IsErrOf result PayloadError.Memory → (m : Meta) × SpellsMeta kind payload.now m }
 {
     meta_reader::read(alloc, kind, payload)
 }

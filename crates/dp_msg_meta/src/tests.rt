@@ -148,7 +148,7 @@ fn parts(alloc: Global, line: &str) -> Result<(u8, Vec<u8>, &str), Fail> {
     Ok((kind.parse::<u8>()?, bytes_of(alloc, hex)?, text))
 }
 
-/// Reads the payload, copies the message, writes it again, and prints it.
+/// Reads the payload, copies the message, compares both, writes the copy, and prints it.
 fn check_control(
     rt: &impl Abort,
     alloc: Global,
@@ -157,7 +157,9 @@ fn check_control(
     text: &str,
 ) -> Result<(), Fail> {
     assert!(rt; is_control_kind(kind));
-    let m = read_control(alloc, kind, payload)?.copy()?;
+    let read = read_control(alloc, kind, payload)?;
+    let m = read.copy()?;
+    assert!(rt; same_control(&m, &read));
     assert_eq!(rt; kind_of_control(&m), kind);
     let mut out = Vec::new(alloc);
     write_control(&m, &mut out)?;
@@ -167,7 +169,7 @@ fn check_control(
     Ok(())
 }
 
-/// Reads the payload, copies the message, writes it again, and prints it.
+/// Reads the payload, copies the message, compares both, writes the copy, and prints it.
 fn check_meta(
     rt: &impl Abort,
     alloc: Global,
@@ -176,7 +178,9 @@ fn check_meta(
     text: &str,
 ) -> Result<(), Fail> {
     assert!(rt; is_meta_kind(kind));
-    let m = read_meta(alloc, kind, payload)?.copy()?;
+    let read = read_meta(alloc, kind, payload)?;
+    let m = read.copy()?;
+    assert!(rt; same_meta(&m, &read));
     assert_eq!(rt; kind_of_meta(&m), kind);
     let mut out = Vec::new(alloc);
     write_meta(&m, &mut out)?;

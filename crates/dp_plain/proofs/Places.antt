@@ -1,13 +1,13 @@
--- The picture by the places of the lists of pixels, and its bytes in pieces.
-use Rattle.std.proofs.Common.{◌≡◌, ℕ, ◌+◌, ◌*◌, ◌≤◌, List, [], ◌∷◌, ◌++◌, length, get_or, set, take, map, suc, zero, refl, sym, ◌∙◌, ap, subst, arith, length-set}
+-- The picture by the places of the lists of pixels, and its text in pieces.
+use Rattle.std.proofs.Common.{◌≡◌, ℕ, ◌+◌, ◌*◌, List, ◌∷◌, ◌++◌, map, suc, zero, refl, sym, ◌∙◌, ap, arith}
 use Rattle.std.proofs.lemmas.List.Folds.{flat_map-map}
 use Rattle.std.proofs.lemmas.Grind.{flat_map-append}
-use Rattle.std.proofs.lemmas.List.{append_assoc, map-append, take_more_set}
+use Rattle.std.proofs.lemmas.List.{map-append, append-nil}
 use Rattle.std.specs.List.{range_with_len, flat_map}
-use Rattle.dp_blend.specs.Color.{Channels, to8}
+use Rattle.dp_blend.specs.Color.{Channels}
 use Rattle.dp_plain.specs.Board.{Layer, Board, below, canvas_of}
-use Rattle.dp_plain.specs.Picture.{picture_pixel, picture, rgb, p6, p6_head}
-use Rattle.dp_plain.specs.Places.{picture_at, bytes_from}
+use Rattle.dp_plain.specs.Picture.{picture, head, picture_text}
+use Rattle.dp_plain.specs.Places.{seen_at, text_from}
 
 -- ---- numbers in order
 
@@ -60,56 +60,37 @@ canvas_of-places f g w h same =
     rw start at (rows_are f g w same 0 h)
 
 -- the text of the picture, by its places
-pub p6_is : (board : Board) → p6 board ≡ p6_head board.width board.height ++ bytes_from board.layers 0 (board.width * board.height)
-p6_is board =
-    let places : picture board ≡ map (picture_at board.layers) (range_with_len 0 (board.width * board.height)) =
-    canvas_of-places (picture_pixel board) (picture_at board.layers) board.width board.height (λ x y. refl) in
-    ap (λ pixels. p6_head board.width board.height ++ flat_map rgb pixels) places
-    ∙ ap (λ bytes. p6_head board.width board.height ++ bytes)
-    (flat_map-map rgb (picture_at board.layers) (range_with_len 0 (board.width * board.height)))
+pub picture_text_is : (format : List ℕ) (pixel_text : Channels → List ℕ) (board : Board) → picture_text format pixel_text board
+    ≡ head format board.width board.height ++ text_from pixel_text board.layers 0 (board.width * board.height)
+picture_text_is format pixel_text board =
+    let places : picture board ≡ map (seen_at board.layers) (range_with_len 0 (board.width * board.height)) =
+    canvas_of-places _ (seen_at board.layers) board.width board.height (λ x y. refl) in
+    ap (λ pixels. head format board.width board.height ++ flat_map pixel_text pixels) places
+    ∙ ap (λ text. head format board.width board.height ++ text)
+    (flat_map-map pixel_text (seen_at board.layers) (range_with_len 0 (board.width * board.height)))
 
--- ---- bytes in pieces
+-- ---- texts in pieces
 
 -- two pieces, one behind the other
-pub bytes_from-add : (layers : List Layer) (from m n : ℕ) → bytes_from layers from (m + n) ≡ bytes_from layers from m ++ bytes_from layers (from + m) n
-bytes_from-add layers from m n =
-    let bytes_of = λ (place : ℕ). rgb (picture_at layers place) in
-    ap (flat_map bytes_of) (range_split from m n) ∙ flat_map-append bytes_of (range_with_len from m) (range_with_len (from + m) n)
+pub text_from-add : (pixel_text : Channels → List ℕ) (layers : List Layer) (from m n : ℕ)
+    → text_from pixel_text layers from (m + n) ≡ text_from pixel_text layers from m ++ text_from pixel_text layers (from + m) n
+text_from-add pixel_text layers from m n =
+    let text_at = λ (place : ℕ). pixel_text (seen_at layers place) in
+    ap (flat_map text_at) (range_split from m n) ∙ flat_map-append text_at (range_with_len from m) (range_with_len (from + m) n)
 
 -- the first places and the piece behind them
-pub bytes_more : (layers : List Layer) (m n : ℕ) → bytes_from layers 0 (m + n) ≡ bytes_from layers 0 m ++ bytes_from layers m n
-bytes_more layers m n =
+pub text_more : (pixel_text : Channels → List ℕ) (layers : List Layer) (m n : ℕ)
+    → text_from pixel_text layers 0 (m + n) ≡ text_from pixel_text layers 0 m ++ text_from pixel_text layers m n
+text_more pixel_text layers m n =
     let behind : 0 + m ≡ m = omega arith in
-    rw behind at (bytes_from-add layers 0 m n)
+    rw behind at (text_from-add pixel_text layers 0 m n)
 
--- ---- a piece as it is filled
-
--- three elements written behind the first n
-three_more : (xs : List ℕ) (n m r g b : ℕ) → m ≡ n + 3 → n + 3 ≤ length xs
-    → take m (set (set (set xs n r) (n + 1) g) (n + 2) b) ≡ take n xs ++ (r ∷ g ∷ b ∷ [])
-three_more xs n m r g b behind room =
-    let with_r = set xs n r in
-    let with_g = set with_r (n + 1) g in
-    let with_b = set with_g (n + 2) b in
-    let same_r : length with_r ≡ length xs = length-set xs n r in
-    let same_g : length with_g ≡ length with_r = length-set with_r (n + 1) g in
-    let red = take_more_set xs n r (omega arith) in
-    let green = take_more_set with_r (n + 1) g (omega arith) in
-    let blue = take_more_set with_g (n + 2) b (omega arith) in
-    let last : m ≡ n + 2 + 1 = omega arith in
-    let middle : n + 2 ≡ n + 1 + 1 = omega arith in
-    ap (λ k. take k with_b) last ∙ blue ∙ ap (λ l. l ++ (b ∷ [])) (ap (λ k. take k with_g) middle ∙ green ∙ ap (λ l. l ++ (g ∷ [])) red)
-    ∙ append_assoc (take n xs ++ (r ∷ [])) (g ∷ []) (b ∷ []) ∙ append_assoc (take n xs) (r ∷ []) (g ∷ b ∷ [])
-
--- one more pixel stands in the piece
-pub pixel_more : (layers : List Layer) (from k : ℕ) (piece bytes : List ℕ) → 3 * k + 3 ≤ length piece → take (3 * k) piece ≡ bytes_from layers from k
-    → bytes ≡ rgb (picture_at layers (from + k))
-    → take (3 * (k + 1)) (set (set (set piece (3 * k) (get_or bytes 0 0)) (3 * k + 1) (get_or bytes 1 0)) (3 * k + 2) (get_or bytes 2 0))
-    ≡ bytes_from layers from (k + 1)
-pixel_more layers from k piece bytes room before made =
-    let pixel = picture_at layers (from + k) in
-    let Done : List ℕ → Type 0 = λ bs.
-    take (3 * (k + 1)) (set (set (set piece (3 * k) (get_or bs 0 0)) (3 * k + 1) (get_or bs 1 0)) (3 * k + 2) (get_or bs 2 0)) ≡ bytes_from layers from (k + 1) in
-    subst Done (sym made) (
-    three_more piece (3 * k) (3 * (k + 1)) (to8 pixel.r) (to8 pixel.g) (to8 pixel.b) (omega arith) room
-    ∙ ap (λ l. l ++ rgb pixel) before ∙ sym (bytes_from-add layers from k 1))
+-- one more pixel stands behind the others
+pub pixel_more : (pixel_text : Channels → List ℕ) (layers : List Layer) (from k : ℕ) (before now : List ℕ) (pixel : Channels)
+    → before ≡ text_from pixel_text layers from k → now ≡ before ++ pixel_text pixel → pixel ≡ seen_at layers (from + k)
+    → now ≡ text_from pixel_text layers from (k + 1)
+pixel_more pixel_text layers from k before now pixel so_far added is =
+    let last : text_from pixel_text layers (from + k) 1 ≡ pixel_text (seen_at layers (from + k)) = append-nil _ in
+    added ∙ ap (λ l. l ++ pixel_text pixel) so_far
+    ∙ ap (λ (p : Channels). text_from pixel_text layers from k ++ pixel_text p) is
+    ∙ ap (λ l. text_from pixel_text layers from k ++ l) (sym last) ∙ sym (text_from-add pixel_text layers from k 1)

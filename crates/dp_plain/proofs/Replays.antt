@@ -1,12 +1,13 @@
 -- Replays of histories.
-use Rattle.std.proofs.Common.{◌≡◌, ℕ, List, [], ◌∷◌, ◌++◌, Bool, length, map, refl, ap, ◌∙◌, subst, suc}
+use Rattle.std.proofs.Common.{◌≡◌, ℕ, List, [], ◌∷◌, Bool, length, map, refl, ap, ◌∙◌, subst}
 use Rattle.std.proofs.lemmas.List.{length-map}
 use Rattle.std.specs.Prelude.{Result, IfOk}
 use Rattle.dp_msg_draw.specs.declared.draw.Draw.{Draw}
 use Rattle.dp_messages.specs.declared.message.Entry.{Entry}
 use Rattle.dp_board.specs.declared.act.UserAct.{UserAct}
-use Rattle.dp_board.specs.Strokes.{flags_from, kept_flags}
-use Rattle.dp_board.specs.Commands.{commands, map_commands, CommandsDoNotCount}
+use Rattle.dp_board.specs.Flags.{drawn_flags}
+use Rattle.dp_board.specs.Commands.{commands, map_commands}
+use Rattle.dp_board.specs.Laws.{CommandsDoNotCount, EachActHasAFlag}
 use Rattle.dp_plain.specs.Board.{Board, empty_board}
 use Rattle.dp_plain.specs.Drawing.{draw_all}
 use Rattle.dp_plain.specs.Replay.{act_of, undo_depth, shown}
@@ -17,28 +18,20 @@ kinds_are_acts : (entries : List Entry) → map kind_of_entry entries ≡ map_co
 kinds_are_acts [] = refl
 kinds_are_acts (entry ∷ entries) = ap (λ (acts : List (UserAct (Unit {0}))). kind_of_entry entry ∷ acts) (kinds_are_acts entries)
 
--- there is a flag for each act
-flags_each : {Op : Type 0} (depth : ℕ) (all before rest : List (UserAct Op)) → length (flags_from depth all before rest) ≡ length rest
-flags_each depth all before [] = refl
-flags_each depth all before (a ∷ rest) = ap suc (flags_each depth all (before ++ a ∷ []) rest)
-
-length-kept_flags : {Op : Type 0} (depth : ℕ) (acts : List (UserAct Op)) → length (kept_flags depth acts) ≡ length acts
-length-kept_flags depth acts = flags_each depth acts [] acts
-
 -- the flags of the kinds of entries are those of their acts
 pub flags_of_acts : CommandsDoNotCount Draw (Unit {0}) → (depth : ℕ) (entries : List Entry) (kinds : List (UserAct (Unit {0}))) (flags : List Bool) →
-    kinds ≡ map kind_of_entry entries → flags ≡ kept_flags depth kinds → flags ≡ kept_flags depth (map act_of entries)
+    kinds ≡ map kind_of_entry entries → flags ≡ drawn_flags depth kinds → flags ≡ drawn_flags depth (map act_of entries)
 flags_of_acts law depth entries kinds flags k f =
-    f ∙ ap (λ (acts : List (UserAct (Unit {0}))). kept_flags depth acts) (k ∙ kinds_are_acts entries)
+    f ∙ ap (λ (acts : List (UserAct (Unit {0}))). drawn_flags depth acts) (k ∙ kinds_are_acts entries)
     ∙ law (λ _. tt) depth (map act_of entries)
 
 -- there is a flag for each entry
-pub flags_fit : (depth : ℕ) (entries : List Entry) (flags : List Bool) → flags ≡ kept_flags depth (map act_of entries) → length flags ≡ length entries
-flags_fit depth entries flags e = ap length e ∙ length-kept_flags depth (map act_of entries) ∙ length-map entries act_of
+pub flags_fit : EachActHasAFlag Draw → (depth : ℕ) (entries : List Entry) (flags : List Bool) → flags ≡ drawn_flags depth (map act_of entries) → length flags ≡ length entries
+flags_fit law depth entries flags e = ap length e ∙ law depth (map act_of entries) ∙ length-map entries act_of
 
 -- what is drawn by the flags of a history is what it shows
 pub drawn_is_shown : {E : Type 0} (result : Result Board E) (entries : List Entry) (flags : List Bool) →
-    flags ≡ kept_flags undo_depth (map act_of entries) →
+    flags ≡ drawn_flags undo_depth (map act_of entries) →
     IfOk result (λ board. board ≡ draw_all empty_board (commands (map act_of entries) flags)) →
     IfOk result (λ board. board ≡ shown entries)
 drawn_is_shown result entries flags e h =

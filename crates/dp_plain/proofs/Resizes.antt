@@ -1,10 +1,10 @@
 -- The board on new sides.
-use Rattle.std.proofs.Common.{◌≡◌, ℕ, ◌≤◌, List, map, cond, Bool, true, false, ◌&&◌, Some, None, Option, sym, ◌∙◌, ap, ◌⊎◌, ⊎_elim}
-use Rattle.std.specs.Prelude.{ℤ, pos, negsuc, ◌+ℤ◌, nat_le, nat_lt, nat_eq, not, length, ◌<◌}
-use Rattle.std.proofs.lemmas.Bool.{and_left, and_right, and_parts, false_from_ne_true, cond-true, cond-false, leb-true, ltb-true}
+use Rattle.std.proofs.Common.{◌≡◌, ℕ, ◌≤◌, List, map, cond, false, ◌&&◌, Some, None, Option, sym, ◌∙◌, ap, ◌⊎◌, ⊎_elim}
+use Rattle.std.specs.Prelude.{ℤ, pos, negsuc, ◌+ℤ◌, nat_le}
+use Rattle.std.proofs.lemmas.Bool.{and_left, and_right, and_parts, false_from_ne_true, cond-true, cond-false, leb-true}
 use Rattle.std.proofs.lemmas.Option.{cond_some, none-some}
 use Rattle.dp_plain.specs.Board.{Layer, Board}
-use Rattle.dp_plain.specs.Drawing.{is_side, side, layer_moved, resized, can_create}
+use Rattle.dp_plain.specs.Drawing.{is_side, side, layer_moved, resized}
 
 -- the length of a side, where the whole number is one
 abbrev pub side_if : ℤ → Option ℕ
@@ -13,12 +13,13 @@ side_if n = cond (is_side n) (Some (side n)) None
 not_side : (n : ℤ) → None ≡ side_if n → is_side n ≡ false
 not_side n h = false_from_ne_true (is_side n) (λ t. none-some (side n) (h ∙ cond-true (is_side n) (Some (side n)) None t))
 
--- a side is at most 4096 long
-pub side_fits : (n : ℤ) (m : ℕ) → Some m ≡ side_if n → m ≤ 4096
+-- a side is from 1 to 4096 long
+pub side_fits : (n : ℤ) (m : ℕ) → Some m ≡ side_if n → (1 ≤ m) × (m ≤ 4096)
 side_fits (pos n) m found =
     let chosen = cond_some (is_side (pos n)) (side (pos n)) m (sym found) in
     let bounds = and_parts (nat_le 1 n) (nat_le n 4096) chosen.0 in
-    rw chosen.1 at (leb-true n 4096 bounds.1)
+    let fits : (1 ≤ n) × (n ≤ 4096) = (leb-true 1 n bounds.0, leb-true n 4096 bounds.1) in
+    rw chosen.1 at fits
 side_fits (negsuc n) m found = absurd (none-some m (sym found))
 
 -- with both sides the board is resized
@@ -42,11 +43,3 @@ resized_not board top right bottom left none =
     ⊎_elim (λ (h : None ≡ side_if width). and_left (is_side width) (is_side height) (not_side width h))
     (λ (h : None ≡ side_if height). and_right (is_side width) (is_side height) (not_side height h)) none in
     sym (cond-false (is_side width && is_side height) _ board test)
-
--- where a layer may be created, fewer than 256 stand
-pub few_from_can_create : (board : Board) (id parent : ℕ) (group : Bool) → can_create board id parent group ≡ true → length board.layers < 256
-few_from_can_create board id parent group can =
-    let front = and_parts _ (not group) can in
-    let places = and_parts _ (nat_eq parent 0) front.0 in
-    let fronts = and_parts _ (nat_lt (length board.layers) 256) places.0 in
-    ltb-true (length board.layers) 256 fronts.1

@@ -1,7 +1,7 @@
 -- What each drawing command makes of the board. A command that isn't given an effect leaves it as
 -- it is.
 use Rattle.std.specs.Prelude.{ℕ, ◌+◌, ℤ, pos, negsuc, ◌+ℤ◌, ◌-ℤ◌, Bool, false, not, ◌&&◌, ◌==◌}
-use Rattle.std.specs.Prelude.{nat_lt, nat_le, if◌then◌else◌, Option, None, Some}
+use Rattle.std.specs.Prelude.{nat_lt, nat_le, if◌then◌else◌, Option, None, Some, option_map}
 use Rattle.std.specs.Prelude.{List, [], ◌∷◌, ◌++◌, length, map}
 use Rattle.std.specs.List.{list_any, fold}
 use Rattle.dp_blend.specs.Color.{Channels, clear, of_argb}
@@ -34,14 +34,14 @@ pixels_moved width height pixels new_width new_height left top =
     canvas_of new_width new_height
     (λ x y. old_pixel width height pixels (pos x -ℤ left) (pos y -ℤ top))
 
--- the layer with these pixels in place of its own
-abbrev pub with_pixels : Layer → List Channels → Layer
-with_pixels layer pixels = record { id = layer.id; title = layer.title; pixels = pixels }
+-- the layer with what change makes of its pixels; a group, which has none, stays
+abbrev pub changed : (List Channels → List Channels) → Layer → Layer
+changed change layer = record layer { content = option_map change layer.content }
 
 -- the layer on a canvas of the new sides
 abbrev pub layer_moved : ℕ → ℕ → ℕ → ℕ → ℤ → ℤ → Layer → Layer
-layer_moved width height new_width new_height left top layer =
-    with_pixels layer (pixels_moved width height layer.pixels new_width new_height left top)
+layer_moved width height new_width new_height left top =
+    changed (λ pixels. pixels_moved width height pixels new_width new_height left top)
 
 -- the canvas with the new sides, where both are sides
 abbrev pub resized : Board → ℤ → ℤ → ℤ → ℤ → Board
@@ -50,7 +50,7 @@ resized board top right bottom left =
     let height = pos board.height +ℤ top +ℤ bottom in
     let moved = layer_moved board.width board.height (side width) (side height) left top in
     if is_side width && is_side height
-    then record { width = side width; height = side height; layers = map moved board.layers }
+    then record board { width = side width; height = side height; layers = map moved board.layers }
     else board
 
 -- a layer of the id is present
@@ -59,21 +59,22 @@ has_layer layers id = list_any (λ layer. layer.id == id) layers
 
 -- A layer may be created where its id isn't 0 and isn't present and fewer than 256 layers stand.
 -- Groups, and layers below a group, aren't built.
-abbrev pub can_create : Board → ℕ → ℕ → Bool → Bool
-can_create board id parent group =
-    not (id == 0) && not (has_layer board.layers id) && nat_lt (length board.layers) 256
+abbrev pub can_create : List Layer → ℕ → ℕ → Bool → Bool
+can_create layers id parent group =
+    not (id == 0) && not (has_layer layers id) && nat_lt (length layers) 256
     && parent == 0 && not group
 
--- a new layer of the canvas, with all its pixels clear
-abbrev pub clear_layer : Board → ℕ → List ℕ → Layer
-clear_layer board id title =
-    record { id = id; title = title; pixels = canvas_of board.width board.height (λ x y. clear) }
+-- a new layer of a canvas of this width and height, with all its pixels clear
+abbrev pub clear_layer : ℕ → ℕ → ℕ → List ℕ → Layer
+clear_layer width height id title =
+    record { id = id; title = title; content = Some (canvas_of width height (λ x y. clear)) }
 
 -- the new layer comes last
 abbrev pub created : Board → ℕ → ℕ → Bool → List ℕ → Board
 created board id parent group title =
-    if can_create board id parent group
-    then record board { layers = board.layers ++ clear_layer board id title ∷ [] }
+    let layer = clear_layer board.width board.height id title in
+    if can_create board.layers id parent group
+    then record board { layers = board.layers ++ layer ∷ [] }
     else board
 
 -- a place is in the rectangle of this corner and these sides
@@ -89,8 +90,7 @@ pixels_filled width height pixels mode source x y w h =
 
 -- the layer, with what change makes of its pixels where it has the id
 abbrev pub with_change : ℕ → (List Channels → List Channels) → Layer → Layer
-with_change id change layer =
-    if layer.id == id then with_pixels layer (change layer.pixels) else layer
+with_change id change layer = if layer.id == id then changed change layer else layer
 
 -- the pixels of the layer of this id become what change makes of them
 abbrev pub layer_changed : Board → ℕ → (List Channels → List Channels) → Board

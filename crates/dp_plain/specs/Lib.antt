@@ -1,7 +1,6 @@
 pub mod Board
 pub mod Drawing
 pub mod Filling
-pub mod Memory
 pub mod Moving
 pub mod Picture
 pub mod Places

@@ -1,34 +1,54 @@
--- The picture of a board, and its text.
+-- The picture of a board, and its texts.
 use Rattle.std.specs.Prelude.{ℕ, List, [], ◌∷◌, ◌++◌, codes, decimal}
 use Rattle.std.specs.List.{flat_map, fold}
 use Rattle.dp_blend.specs.Color.{Channels, clear, white, to8}
 use Rattle.dp_blend.specs.Blending.{blend}
 use Rattle.dp_blend.specs.declared.modes.Mode.TheVariants.{Normal}
-use Rattle.dp_plain.specs.Board.{Layer, Board, canvas_of, pixel_at}
+use Rattle.dp_plain.specs.Board.{Layer, Board, canvas_of, pixel_at, pixels_of}
 
--- the layers at a place, from the bottom one up, each blended on those below it, on a clear pixel
-abbrev pub composed : ℕ → List Layer → ℕ → ℕ → Channels
-composed width layers x y =
-    fold (λ under (layer : Layer). blend Normal (pixel_at width layer.pixels x y) under)
-    clear layers
+-- the layers of these pixels, from the bottom one up, each blended on what is below it, the lowest
+-- on the pixel start
+abbrev pub composed : (Layer → Channels) → Channels → List Layer → Channels
+composed pixel_of start layers =
+    fold (λ under layer. blend Normal (pixel_of layer) under) start layers
 
--- the picture's pixel: what the layers make at its place, blended on white
-abbrev pub picture_pixel : Board → ℕ → ℕ → Channels
-picture_pixel board x y = blend Normal (composed board.width board.layers x y) white
+-- what is seen of the layers of these pixels: they are composed on a clear one, and that on white
+abbrev pub seen : (Layer → Channels) → List Layer → Channels
+seen pixel_of layers = blend Normal (composed pixel_of clear layers) white
+
+-- the layer's pixel at a place of a canvas of this width
+abbrev pub layer_pixel : ℕ → ℕ → ℕ → Layer → Channels
+layer_pixel width x y layer = pixel_at width (pixels_of layer) x y
 
 -- the picture, row by row
 abbrev pub picture : Board → List Channels
-picture board = canvas_of board.width board.height (picture_pixel board)
+picture board =
+    canvas_of board.width board.height (λ x y. seen (layer_pixel board.width x y) board.layers)
+
+-- the head of a picture's text: its format's name, its sides, and its greatest value
+abbrev pub head : List ℕ → ℕ → ℕ → List ℕ
+head format width height =
+    format ++ decimal width ++ codes " " ++ decimal height ++ codes "\n255\n"
+
+-- the text of the picture in a format, in which a pixel has this text: the head and the pixels
+abbrev pub picture_text : List ℕ → (Channels → List ℕ) → Board → List ℕ
+picture_text format pixel_text board =
+    head format board.width board.height ++ flat_map pixel_text (picture board)
 
 -- the bytes of a pixel: red, green and blue
 abbrev pub rgb : Channels → List ℕ
 rgb p = to8 p.r ∷ to8 p.g ∷ to8 p.b ∷ []
 
--- the head of a P6 picture: its format, its sides and its greatest value, a line each
-abbrev pub p6_head : ℕ → ℕ → List ℕ
-p6_head width height =
-    codes "P6\n" ++ decimal width ++ codes " " ++ decimal height ++ codes "\n255\n"
+-- the line of a pixel: red, green and blue in decimal, parted by a space
+abbrev pub rgb_line : Channels → List ℕ
+rgb_line p =
+    decimal (to8 p.r) ++ codes " " ++ decimal (to8 p.g) ++ codes " " ++ decimal (to8 p.b)
+    ++ codes "\n"
 
--- the text of the picture: three bytes a pixel behind the head
+-- the picture as a P6 file: three bytes a pixel
 abbrev pub p6 : Board → List ℕ
-p6 board = p6_head board.width board.height ++ flat_map rgb (picture board)
+p6 = picture_text (codes "P6\n") rgb
+
+-- the picture as a P3 file: a line a pixel
+abbrev pub p3 : Board → List ℕ
+p3 = picture_text (codes "P3\n") rgb_line

@@ -7,9 +7,9 @@ use Rattle.dp_messages.specs.declared.message.Entry.{Entry}
 use Rattle.dp_board.specs.declared.act.Act.{Act}
 use Rattle.dp_board.specs.declared.act.Act.TheVariants as act
 use Rattle.dp_board.specs.declared.act.UserAct.{UserAct}
-use Rattle.dp_board.specs.Commands.{drawn}
+use Rattle.dp_board.specs.Replay as strokes
 use Rattle.dp_plain.specs.Board.{Board, empty_board}
-use Rattle.dp_plain.specs.Drawing.{draw_all}
+use Rattle.dp_plain.specs.Drawing.{draw}
 
 -- the user whose group an undo or a redo moves: the target, or the sender where it is 0
 abbrev pub moved_user : ℕ → ℕ → ℕ
@@ -32,7 +32,7 @@ undo_depth = 30
 
 -- the commands of a history that are drawn at its end, on an empty board, in its order
 abbrev pub replay : List Entry → Board
-replay entries = draw_all empty_board (drawn undo_depth (map act_of entries))
+replay entries = strokes.replay draw empty_board undo_depth (map act_of entries)
 
 -- What a history shows: the replay of its entries behind the last mark of a reset. No such mark is
 -- built yet, so these are all its entries.

@@ -1,7 +1,7 @@
 //! The board, kept as a plain list of pixels for each layer.
 
 ghost use Rattle.std.specs.Prelude.{◌≡◌};
-ghost use Rattle.dp_plain.specs.Board.{empty_board};
+ghost use Rattle.dp_plain.specs.Board.{empty_board, IsWhole};
 
 use dp_blend::Pixel;
 use dp_msg_draw::Title;
@@ -17,15 +17,17 @@ pub(crate) struct PlainLayer {
 }
 
 impl Model for PlainLayer {
+    ghost use Rattle.std.specs.Prelude.{Some};
     ghost use Rattle.dp_plain.specs.Board.{Layer};
 
     ghost Value = { Layer };
 
-    ghost view = { λ l. record { id = l.id; title = l.title; pixels = l.pixels.items } };
+    ghost view = { λ l. record { id = l.id; title = l.title; content = Some l.pixels.items } };
 }
 
-/// The canvas with its layers, the bottom one first. It is seen as a `Board`; its sides are at most
-/// 4096 pixels, it has at most 256 layers, and each layer has a pixel for each place.
+/// The canvas with its layers, the bottom one first. It is seen as a `Board`. Both of its sides are
+/// 0, or both are from 1 to 4096 pixels; it has at most 256 layers, whose ids are different and not
+/// 0, and each layer has a pixel for each place.
 #[derive(Debug, Drop)]
 pub struct PlainBoard {
     pub(crate) width: u32,
@@ -56,16 +58,18 @@ impl PlainBoard {
         }
     }
 
-    /// The width in pixels.
+    /// The width in pixels, at most 4096.
     pub fn width(&self) -> u32
-        ensures { result ≡ self.now.width }
+        ensures value { result ≡ self.now.width }
+        ensures whole { IsWhole self.now }
     {
         self.width
     }
 
-    /// The height in pixels.
+    /// The height in pixels, at most 4096.
     pub fn height(&self) -> u32
-        ensures { result ≡ self.now.height }
+        ensures value { result ≡ self.now.height }
+        ensures whole { IsWhole self.now }
     {
         self.height
     }

@@ -1,11 +1,10 @@
 //! The drawing commands, each on the whole board.
 
-ghost use Rattle.std.specs.Prelude.{◌≡◌, ◌≤◌, false, IfOk, OnOk, OnErr, IsOk};
+ghost use Rattle.std.specs.Prelude.{◌≡◌, ◌≤◌, IfOk, OnOk, OnErr};
 ghost use Rattle.dp_blend.specs.Color.{clear};
 ghost use Rattle.dp_blend.specs.Blending.{mode_numbered};
 ghost use Rattle.dp_plain.specs.Board.{canvas_of};
 ghost use Rattle.dp_plain.specs.Drawing.{draw, resized, has_layer, can_create, created, filled};
-ghost use Rattle.dp_plain.specs.Memory.{takes_memory};
 
 use crate::board::{PlainBoard, PlainLayer};
 use crate::fill::fill_layers;
@@ -33,12 +32,10 @@ impl PlainBoard {
     ///
     /// # Errors
     ///
-    /// Where memory runs out. The board is then as it was. Only a new size and a new layer take
-    /// memory.
+    /// Where memory runs out. The board is then as it was.
     pub fn draw(&mut self, command: &Draw) -> Result<(), AllocError>
         ensures ok { OnOk result (self.new ≡ draw self.old command.now) }
         ensures err { OnErr result (self.new ≡ self.old) }
-        ensures memory { takes_memory command.now ≡ false → IsOk result }
     {
         match command {
             Draw::CanvasResize {
@@ -110,7 +107,7 @@ impl PlainBoard {
 
     /// A layer may be created.
     fn can_create(&self, id: u16, parent: u16, group: bool) -> bool
-        ensures { result ≡ can_create self.now id parent group }
+        ensures { result ≡ can_create self.now.layers id parent group }
     {
         id != 0 && !self.has_layer(id) && self.layers.len() < MAX_LAYERS && parent == 0 && !group
     }

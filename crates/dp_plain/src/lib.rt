@@ -1,4 +1,4 @@
-//! The slow board: plain lists of pixels, on which a history is replayed, and its picture.
+//! The slow board: plain lists of pixels, on which a history is replayed, and its picture as P6 and P3.
 #![tactic(auto)]
 
 mod board;
@@ -12,5 +12,5 @@ mod resize;
 mod tests;
 
 pub use board::PlainBoard;
-pub use picture::plain_p6;
+pub use picture::{plain_p3, plain_p6};
 pub use replay::plain_replay;

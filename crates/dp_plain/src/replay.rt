@@ -8,7 +8,7 @@ ghost use Rattle.dp_plain.specs.Replay.{act_of, moved_user, shown};
 ghost use Rattle.dp_plain.specs.Kinds.{kind_of_entry};
 
 use crate::PlainBoard;
-use dp_board::{Act, UserAct, commands_do_not_count, kept};
+use dp_board::{Act, UserAct, commands_do_not_count, drawn_flags, each_act_has_a_flag};
 use dp_messages::{Entry, Msg};
 use dp_msg_draw::Draw;
 use std::alloc::{AllocError, Global};
@@ -24,9 +24,10 @@ pub fn plain_replay(alloc: Global, entries: &[Entry]) -> Result<PlainBoard, Allo
     ensures { IfOk result (λ board. board ≡ shown entries.now) }
 {
     commands_do_not_count::<Draw, ()>();
+    each_act_has_a_flag::<Draw>();
     let kinds = kinds_of(alloc, entries)?;
-    let flags = kept(alloc, UNDO_DEPTH, &kinds)?;
-    draw_kept(alloc, entries, &flags)
+    let flags = drawn_flags(alloc, UNDO_DEPTH, &kinds)?;
+    draw_flagged(alloc, entries, &flags)
 }
 
 /// What each entry does to strokes.
@@ -65,7 +66,7 @@ fn moved_user(sender: u8, target: u8) -> u8
 }
 
 /// Draws the commands of the entries whose flags are true.
-fn draw_kept(alloc: Global, entries: &[Entry], flags: &[bool]) -> Result<PlainBoard, AllocError>
+fn draw_flagged(alloc: Global, entries: &[Entry], flags: &[bool]) -> Result<PlainBoard, AllocError>
     requires { length flags.now ≡ length entries.now }
     ensures { IfOk result (λ board.
         board ≡ draw_all empty_board (commands (map act_of entries.now) flags.now)) }
@@ -78,12 +79,12 @@ fn draw_kept(alloc: Global, entries: &[Entry], flags: &[bool]) -> Result<PlainBo
 }
 
 /// Draws the command of an entry, if it has one and its flag is true.
-fn draw_entry(board: &mut PlainBoard, entry: &Entry, is_kept: bool) -> Result<(), AllocError>
+fn draw_entry(board: &mut PlainBoard, entry: &Entry, is_drawn: bool) -> Result<(), AllocError>
     ensures { OnOk result
-        (board.new ≡ draw_all board.old (command_of (act_of entry.now).act is_kept)) }
+        (board.new ≡ draw_all board.old (command_of (act_of entry.now).act is_drawn)) }
 {
     match &entry.msg {
-        Msg::Draw(command) if is_kept => board.draw(command),
+        Msg::Draw(command) if is_drawn => board.draw(command),
         _ => Ok(()),
     }
 }

@@ -1,7 +1,7 @@
 use Rattle.std.proofs.Common.{◌≡◌, ◌<◌, ◌≤◌, length, take, sym, ◌∙◌, subst, arith}
 use Rattle.std.specs.Prelude.{IfSome}
 use Rattle.std.proofs.lemmas.List.{length-take}
-use Rattle.dp_app.specs.declared.run_end.RunEnd.{RunEnd}
+use Rattle.dp_lines.specs.declared.run_end.RunEnd.{RunEnd}
 use Rattle.dp_app.specs.Read.{EndsReading, BlamesReading}
 use Rattle.dp_app.proofs.Inputs.{told_at_fault, told_at_end, told_at_stop, told_too_long, told_further, two_parts, end_blames, stop_blames}
 use Rattle.dp_app.proofs.reading.read_entries.Goals as goal

@@ -36,7 +36,7 @@ invariant_of-self c =
     c.in-Some-Some.width c.in-Some-Some.height (to_z w32 (of_z w32 c.args.left)) (to_z w32 (of_z w32 c.args.top)) in
     let made : c.in_ok-layers.layers.items ≡ map change c.deref.result.now = c.in_ok-layers.ensures in
     whole_moved board.width board.height board.layers.items c.in_ok-layers.layers.items c.in-Some-Some.width c.in-Some-Some.height
-    (to_z w32 (of_z w32 c.args.left)) (to_z w32 (of_z w32 c.args.top)) c.self.invariant.few
+    (to_z w32 (of_z w32 c.args.left)) (to_z w32 (of_z w32 c.args.top)) c.self.invariant
     (side_fits (pos board.width +ℤ c.args.left +ℤ c.args.right) c.in-Some-Some.width width)
     (side_fits (pos board.height +ℤ c.args.top +ℤ c.args.bottom) c.in-Some-Some.height height)
     (made ∙ ap (λ (layers : List Layer). map change layers) c.deref.ensures.value)

@@ -1,0 +1,64 @@
+//! The points that undo and redo reach.
+
+ghost use Rattle.std.specs.Prelude.{◌≡◌, OnOk};
+
+use crate::act::Act;
+use std::alloc::{AllocError, Global};
+use std::collections::VecDeque;
+use std::marker::Model;
+
+/// The positions of the last points of all users, as many as the depth at most.
+#[derive(Drop)]
+pub(crate) struct PointWindow {
+    depth: u32,
+    points: VecDeque<usize>,
+}
+
+impl Model for PointWindow {
+    ghost use Rattle.dp_board.specs.Strokes.{Window};
+
+    ghost Value = { Window };
+
+    ghost view = { λ window. record { depth = window.depth; points = window.points.items } };
+}
+
+impl PointWindow {
+    ghost use Rattle.dp_board.specs.Strokes.{empty_window, is_eligible, cut, window_after};
+
+    /// The window of no point.
+    pub(crate) fn new(alloc: Global, depth: u32) -> Self
+        ensures { result ≡ empty_window depth }
+    {
+        PointWindow {
+            depth,
+            points: VecDeque::new(alloc),
+        }
+    }
+
+    /// Whether the point of a group is in reach.
+    pub(crate) fn is_eligible(&self, group: usize) -> bool
+        ensures { result ≡ is_eligible self.now group }
+    {
+        self.points.contains(&group)
+    }
+
+    /// Adds the point of an act at a position, if it is one, and keeps the last ones alone.
+    pub(crate) fn take<Op>(&mut self, position: usize, act: &Act<Op>) -> Result<(), AllocError>
+        ensures { OnOk result (self.new ≡ window_after position act.now self.old) }
+    {
+        if matches!(act, Act::Point) {
+            self.points.push_back(position)?;
+        }
+        self.cut();
+        Ok(())
+    }
+
+    /// Keeps the last points alone.
+    fn cut(&mut self)
+        ensures { self.new ≡ cut self.old }
+    {
+        while self.points.len() > self.depth as usize {
+            self.points.pop_front();
+        }
+    }
+}

@@ -1,0 +1,11 @@
+pub mod Going
+pub mod Finding
+pub mod Placing
+pub mod Trees
+pub mod Places
+pub mod Sifting
+pub mod Joining
+pub mod Effects
+pub mod Contents
+pub mod Mapping
+pub mod Methods

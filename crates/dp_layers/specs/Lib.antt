@@ -1,0 +1,5 @@
+pub mod Layers
+pub mod Rows
+pub mod Changes
+pub mod Tree
+pub mod Inside

@@ -1,0 +1,15 @@
+//! The tree of layers: the list of its rows, and what the commands on layers make of it.
+#![tactic(auto)]
+
+mod laws;
+mod lists;
+mod lookup;
+mod row;
+mod tree;
+
+pub use laws::{contents_in_order, contents_ride_along, listed_modes, one_tree, trees_stay_trees};
+pub use row::LayerRow;
+pub use tree::Tree;
+
+#[cfg(test)]
+mod tests;

@@ -1,0 +1,44 @@
+-- What is held of a text that comes in pieces.
+use Rattle.std.specs.Prelude.{◌≡◌, ℕ, ◌+◌, List, [], ◌∷◌, ◌++◌, length, Option, Some, None, Result, Ok, Err, IsTrue}
+use Rattle.dp_lines.specs.declared.line.Line.{Line}
+use Rattle.dp_lines.specs.declared.lines.LineError.{LineError}
+use Rattle.dp_lines.specs.Lines.{ended, open_rest, lines, numbered, is_overlong}
+
+-- how many lines were taken, those that are passed over too; the bytes behind them; and how many bytes were fed
+pub record Held : Type 0 where
+  pub count : ℕ
+  pub bytes : List ℕ
+  pub fed : ℕ
+
+-- the lines to come that have their newline
+abbrev pub ended_from : Held → List Line
+ended_from held = numbered held.count (ended held.bytes)
+
+-- the lines to come where nothing more is fed
+abbrev pub lines_from : Held → List Line
+lines_from held = numbered held.count (lines held.bytes)
+
+-- the line that an answer gives, if it gives one
+abbrev pub given : Result (Option Line) LineError → List Line
+given (Ok (Some line)) = line ∷ []
+given (Ok None) = []
+given (Err error) = []
+
+-- the line isn't too long
+abbrev pub IsInLimit : Line → Type 0
+IsInLimit line = ¬ IsTrue (is_overlong line.bytes)
+
+-- the line to be given next, ended or not, has this number and is too long
+pub record NextIsLong (held : Held) (n : ℕ) : Type 0 where
+  pub line : Line
+  pub behind : List Line
+  pub next : lines_from held ≡ line ∷ behind
+  pub long : IsTrue (is_overlong line.bytes)
+  pub number : line.number ≡ n
+
+-- of all the bytes that were fed the lines `done` were given, and this is left
+pub record IsLeft (all : List ℕ) (done : List Line) (held : Held) : Type 0 where
+  pub whole : numbered 0 (ended all) ≡ done ++ ended_from held
+  pub rest : open_rest all ≡ open_rest held.bytes
+  pub count : length (ended all) ≡ held.count + length (ended held.bytes)
+  pub fed : held.fed ≡ length all

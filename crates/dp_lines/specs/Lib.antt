@@ -1,0 +1,6 @@
+pub mod Ends
+pub mod Held
+pub mod Hexadecimal
+pub mod Lines
+pub mod Numbers
+pub mod Taking

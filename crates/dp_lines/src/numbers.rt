@@ -1,0 +1,47 @@
+//! Decimal numbers.
+//!
+//! The rule: docs/protocol.md, "Lines".
+
+ghost use Rattle.std.specs.Prelude.{◌≡◌, ℕ, ◌++◌, decimal, IfSome, IfNone, OnOk, OnErr};
+ghost use Rattle.dp_lines.specs.Numbers.{IsNumber};
+
+use itoa::Buffer;
+use std::alloc::AllocError;
+use std::str;
+
+/// The number that the word is; `None` where it is none.
+///
+/// The rule: docs/protocol.md, "Lines".
+pub fn number(word: &[u8]) -> Option<u32>
+    ensures some { IfSome result (IsNumber word.now) }
+    ensures none { IfNone result ((n : ℕ) → ¬ IsNumber word.now n) }
+{
+    let n = told_number(word)?;
+    let mut digits = Buffer::new();
+    if digits.format(n).as_bytes() == word {
+        Some(n)
+    } else {
+        None
+    }
+}
+
+/// The number that the word's digits tell, which may have zeros or a plus in front.
+fn told_number(word: &[u8]) -> Option<u32>
+    ensures { (n : ℕ) → IsNumber word.now n → result ≡ Some n }
+{
+    let Ok(text) = str::from_utf8(word) else {
+        return None;
+    };
+    text.parse::<u32>().ok()
+}
+
+/// Adds the number in decimal at the end. An error, want of memory, changes nothing.
+///
+/// The rule: docs/protocol.md, "Lines".
+pub fn put_number(n: u32, out: &mut Vec<u8>) -> Result<(), AllocError>
+    ensures ok { OnOk result (out.new.items ≡ out.old.items ++ decimal n) }
+    ensures err { OnErr result (out.new.items ≡ out.old.items) }
+{
+    let mut digits = Buffer::new();
+    out.extend_from_slice(digits.format(n).as_bytes())
+}

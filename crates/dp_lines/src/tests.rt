@@ -1,0 +1,250 @@
+//! Lines cut at every place, the limit of their length, and tables of words, numbers and digits.
+
+ghost use Rattle.std.specs.Prelude.{◌≡◌, ◌+◌, ◌≤◌, length, ⊤, OnOk};
+
+use super::*;
+use std::process::Abort;
+use std::test::Fail;
+
+/// A text, and its lines that aren't passed over.
+type Row = (&'static [u8], &'static [(u32, &'static [u8])]);
+
+const ROWS: [Row; 6] = [
+    (b"", &[]),
+    (b"\n\n", &[]),
+    (b"# only\n#", &[]),
+    (b"\r\n \n#", &[(1, b"\r"), (2, b" ")]),
+    (b"a\n\nb\n", &[(1, b"a"), (3, b"b")]),
+    (
+        b"one\n\n# two\n  three\nfour\r\n #five\n#\n\nsix 6  \nlast",
+        &[
+            (1, b"one"),
+            (4, b"  three"),
+            (5, b"four\r"),
+            (6, b" #five"),
+            (9, b"six 6  "),
+            (10, b"last"),
+        ],
+    ),
+];
+
+/// Feeds a piece, and adds the lines that are held with their newlines.
+fn feed(rt: &impl Abort, lines: &mut Lines, piece: &[u8], given: &mut Vec<Line>) -> Result<(), Fail>
+    requires { lines.old.fed ≤ 100 }
+    ensures { OnOk result (lines.new.fed ≡ lines.old.fed + length piece.now) }
+{
+    assert!(rt; piece.len() < 1000);
+    lines.feed(piece)?;
+    'lines: for _ in 0..20 {
+        let Some(line) = lines.next_line()? else {
+            break;
+        };
+        given.push(line)?;
+    }
+    Ok(())
+}
+
+/// Adds the lines that are left at the end of the text.
+fn finish(lines: &mut Lines, given: &mut Vec<Line>) -> Result<(), Fail> {
+    for _ in 0..20 {
+        let Some(line) = lines.finish()? else {
+            break;
+        };
+        given.push(line)?;
+    }
+    Ok(())
+}
+
+/// Compares lines with those that are wanted.
+fn compare(rt: &impl Abort, given: &[Line], wanted: &[(u32, &[u8])]) {
+    assert_eq!(rt; given.len(), wanted.len());
+    for (line, (number, bytes)) in given.iter().zip(wanted) {
+        assert_eq!(rt; line.number, *number);
+        assert_eq!(rt; line.bytes.as_slice(), *bytes);
+    }
+}
+
+#[test]
+fn lines_do_not_depend_on_the_pieces(rt: HostRuntime) -> Result<(), Fail> {
+    for (text, wanted) in ROWS {
+        for cut in 0..=text.len() {
+            let mut lines = Lines::new(rt.alloc());
+            let mut given = Vec::new(rt.alloc());
+            assert!(rt; text.len() <= 100 && cut <= text.len());
+            feed(&rt, &mut lines, &text[..cut], &mut given)?;
+            feed(&rt, &mut lines, &text[cut..], &mut given)?;
+            finish(&mut lines, &mut given)?;
+            compare(&rt, &given, wanted);
+        }
+    }
+    Ok(())
+}
+
+#[test]
+fn lines_come_whole_from_single_bytes(rt: HostRuntime) -> Result<(), Fail> {
+    for (text, wanted) in ROWS {
+        let mut lines = Lines::new(rt.alloc());
+        let mut given = Vec::new(rt.alloc());
+        assert!(rt; text.len() <= 100);
+        'bytes: for byte in text {
+            feed(&rt, &mut lines, &[*byte], &mut given)?;
+        }
+        finish(&mut lines, &mut given)?;
+        compare(&rt, &given, wanted);
+    }
+    Ok(())
+}
+
+/// What is given, as the line's number and length.
+fn told(answer: Result<Option<Line>, LineError>) -> Result<Option<(u32, usize)>, LineError> {
+    let line = answer?;
+    Ok(line.map(|line| (line.number, line.bytes.as_slice().len())))
+}
+
+#[test]
+fn a_line_has_at_most_131100_bytes(rt: HostRuntime) -> Result<(), Fail> {
+    let long = Err(LineError::Long(3));
+    // The first byte, how many bytes there are, whether the line has its newline, and what
+    // `next_line` and then `finish` answer.
+    let rows = [
+        (b'x', 131_100, true, Ok(Some((3, 131_100))), Ok(None)),
+        (b'x', 131_101, true, long, long),
+        (b'x', 131_100, false, Ok(None), Ok(Some((3, 131_100)))),
+        (b'x', 131_101, false, long, long),
+        (b' ', 131_101, false, long, long),
+        (b'#', 131_101, true, Ok(None), Ok(None)),
+        (b'#', 131_101, false, Ok(None), Ok(None)),
+    ];
+    for (first, len, ended, next, last) in rows {
+        let mut text = vec![in rt.alloc(); b'#'; len]?;
+        assert!(rt; 0 < text.len() && text.len() < 1_000_000);
+        text[0] = first;
+        let mut lines = Lines::new(rt.alloc());
+        lines.feed(b"#\n\n")?;
+        lines.feed(&text)?;
+        if ended {
+            lines.feed(b"\n")?;
+        }
+        assert_eq!(rt; told(lines.next_line()), next);
+        assert_eq!(rt;
+            told(lines.next_line()),
+            if next == long { long } else { Ok(None) }
+        );
+        assert_eq!(rt; told(lines.finish()), last);
+    }
+    Ok(())
+}
+
+#[test]
+fn a_comment_without_end_is_counted(rt: HostRuntime) -> Result<(), Fail> {
+    let mut lines = Lines::new(rt.alloc());
+    lines.feed(b"#a")?;
+    assert_eq!(rt; told(lines.next_line()), Ok(None));
+    lines.feed(b"b\n#c")?;
+    assert_eq!(rt; told(lines.finish()), Ok(None));
+    lines.feed(b"last")?;
+    assert_eq!(rt; told(lines.finish()), Ok(Some((3, 4))));
+    assert_eq!(rt; told(lines.finish()), Ok(None));
+    Ok(())
+}
+
+#[test]
+fn words_are_parted_by_single_spaces(rt: HostRuntime) -> Result<(), Fail> {
+    let rows: [(&[u8], &[&[u8]]); 6] = [
+        (b"", &[b""]),
+        (b"join", &[b"join"]),
+        (b"join ", &[b"join", b""]),
+        (b" up", &[b"", b"up"]),
+        (b"say  1\tff", &[b"say", b"", b"1\tff"]),
+        (b"a b\r", &[b"a", b"b\r"]),
+    ];
+    for (bytes, wanted) in rows {
+        let bytes = LineBytes::from_vec(Vec::from_slice(rt.alloc(), bytes)?);
+        let line = Line { number: 1, bytes };
+        assert_eq!(rt; word_count(&line), wanted.len());
+        for (k, text) in wanted.iter().enumerate() {
+            assert!(rt; word(&line, k).is_some_and(|word| word == *text));
+        }
+        assert!(rt; word(&line, wanted.len()).is_none());
+    }
+    let bytes = LineBytes::new(rt.alloc());
+    assert_eq!(rt; word_count(&Line { number: 1, bytes }), 1);
+    Ok(())
+}
+
+#[test]
+fn numbers_at_the_edges(rt: HostRuntime) -> Result<(), Fail> {
+    let rows: [(&[u8], Option<u32>); 12] = [
+        (b"0", Some(0)),
+        (b"7", Some(7)),
+        (b"10", Some(10)),
+        (b"4294967295", Some(4_294_967_295)),
+        (b"4294967296", None),
+        (b"00", None),
+        (b"03", None),
+        (b"", None),
+        (b"+3", None),
+        (b"-0", None),
+        (b"3 ", None),
+        (b"\xff3", None),
+    ];
+    for (text, wanted) in rows {
+        assert_eq!(rt; number(text), wanted);
+        if let Some(n) = wanted {
+            let mut out = Vec::from_slice(rt.alloc(), b"n ")?;
+            put_number(n, &mut out)?;
+            assert!(rt; out.len() > 2);
+            assert_eq!(rt; &out[2..], text);
+        }
+    }
+    Ok(())
+}
+
+#[test]
+fn digits_of_either_case(rt: HostRuntime) -> Result<(), Fail> {
+    let rows: [(&[u8], Option<&[u8]>); 7] = [
+        (b"", Some(b"")),
+        (b"00ff", Some(b"\x00\xff")),
+        (b"0aA9Fe", Some(b"\x0a\xa9\xfe")),
+        (b"0", None),
+        (b"0aA", None),
+        (b"0g", None),
+        (b"0 ", None),
+    ];
+    for (text, wanted) in rows {
+        let found = hex_of(rt.alloc(), text)?;
+        assert_eq!(rt; found.as_ref().map(|bytes| bytes.as_slice()), wanted);
+    }
+    let mut out = Vec::from_slice(rt.alloc(), b"rec ")?;
+    put_hex(b"\x00\xab\x0f", &mut out)?;
+    assert_eq!(rt; out.as_slice(), b"rec 00ab0f".as_slice());
+    Ok(())
+}
+
+#[test]
+fn ends_and_errors_are_told_apart(rt: HostRuntime) -> Result<(), Fail> {
+    assert_eq!(rt; RunEnd::BadLine(3), RunEnd::BadLine(3));
+    assert_ne!(rt; RunEnd::Closed, RunEnd::LinkFault);
+    let text = format!(in rt.alloc(); "{}, {}", LineError::Long(3), LineError::Memory)?;
+    assert_eq!(rt; text.as_str(), "line 3 is too long, out of memory");
+    Ok(())
+}
+
+/// Any line is a step.
+struct AnyLine;
+
+impl Steps for AnyLine {
+    ghost is_step = { λ _ _. ⊤ };
+}
+
+#[test]
+fn laws_are_called() {
+    one_way();
+    whole_lines();
+    still_left();
+    lines_seen();
+    further_step::<AnyLine>();
+    one_end::<AnyLine>();
+    one_number();
+    hex_read_back();
+}
