@@ -4,7 +4,7 @@ ghost use Rattle.std.specs.Prelude.{◌≡◌, ◌≤◌, ◌++◌, ◌↔◌, l
 ghost use Rattle.std.specs.Bool.{⊤};
 ghost use Rattle.std.specs.List.{AllByRecursion};
 ghost use Rattle.std.specs.Str.{IsUtf8};
-ghost use Rattle.dp_msg_meta.specs.Answers.{Answers};
+ghost use Rattle.dp_msg_meta.specs.Reading.{Answers};
 ghost use Rattle.dp_msg_meta.specs.Fields.{one_byte, four_bytes, four_signed, flag_byte};
 ghost use Rattle.dp_msg_meta.specs.Fields.{RiseFrom, IsName, IsText};
 
