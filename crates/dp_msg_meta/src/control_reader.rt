@@ -1,11 +1,11 @@
 //! Reading the payloads of the control messages.
 
 ghost use Rattle.std.specs.Prelude.{◌≡◌, []};
-ghost use Rattle.dp_msg_meta.specs.Answers.{Answers};
+ghost use Rattle.dp_msg_meta.specs.Reading.{Answers};
 ghost use Rattle.dp_msg_meta.specs.Payloads.{SpellsControl, TakesMemory};
 
 use crate::error::PayloadError;
-use crate::fields::{flag_of, name_bytes_of, two_u32_of};
+use crate::fields::{flag_of, name_bytes_of, two_u32_of, u32_of};
 use crate::message::Control;
 use byteorder::{BigEndian, ByteOrder};
 use std::alloc::Global;
@@ -44,7 +44,7 @@ fn read_ack(payload: &[u8]) -> Result<Control, PayloadError>
         return Err(PayloadError::Malformed);
     }
     Ok(Control::Ack {
-        epoch: BigEndian::read_u32(payload),
+        epoch: u32_of(payload),
     })
 }
 

@@ -5,7 +5,7 @@ ghost use Rattle.dp_msg_meta.specs.Fields.{Adds, one_byte, two_bytes, four_bytes
 ghost use Rattle.dp_msg_meta.specs.Payloads.{control_payload};
 
 use crate::message::Control;
-use crate::output::{put, put_u32};
+use crate::output::{put, put_both, put_u32, two_u32_bytes};
 use byteorder::{BigEndian, ByteOrder};
 use std::alloc::AllocError;
 
@@ -19,12 +19,10 @@ fn write_welcome(
     ensures { Adds out.old.items out.new.items result
         (two_bytes version ++ one_byte user ++ four_bytes epoch ++ four_bytes at) }
 {
-    let mut bytes = [0; 11];
-    BigEndian::write_u16(&mut bytes, version);
-    bytes[2] = user;
-    BigEndian::write_u32(&mut bytes[3..], epoch);
-    BigEndian::write_u32(&mut bytes[7..], at);
-    put(out, &bytes)
+    let mut head = [0; 3];
+    BigEndian::write_u16(&mut head, version);
+    head[2] = user;
+    put_both(out, &head, &two_u32_bytes(epoch, at))
 }
 
 /// Adds a message's payload.

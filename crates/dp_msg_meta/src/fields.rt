@@ -4,7 +4,7 @@ ghost use Rattle.std.specs.Prelude.{◌≡◌, ◌≤◌, ◌++◌, ◌↔◌, l
 ghost use Rattle.std.specs.Bool.{⊤};
 ghost use Rattle.std.specs.List.{AllByRecursion};
 ghost use Rattle.std.specs.Str.{IsUtf8};
-ghost use Rattle.dp_msg_meta.specs.Answers.{Answers};
+ghost use Rattle.dp_msg_meta.specs.Reading.{Answers};
 ghost use Rattle.dp_msg_meta.specs.Fields.{one_byte, four_bytes, four_signed, flag_byte};
 ghost use Rattle.dp_msg_meta.specs.Fields.{RiseFrom, IsName, IsText};
 
@@ -25,13 +25,21 @@ pub(crate) fn flag_of(byte: u8) -> Result<bool, PayloadError>
     }
 }
 
+/// The number that four bytes are.
+pub(crate) fn u32_of(bytes: &[u8]) -> u32
+    requires { length bytes.now ≡ 4 }
+    ensures { bytes.now ≡ four_bytes result }
+{
+    BigEndian::read_u32(bytes)
+}
+
 /// The two numbers that eight bytes are.
 pub(crate) fn two_u32_of(bytes: &[u8]) -> (u32, u32)
     requires { length bytes.now ≡ 8 }
     ensures { bytes.now ≡ four_bytes result.0 ++ four_bytes result.1 }
 {
     let (first, second) = bytes.split_at(4);
-    (BigEndian::read_u32(first), BigEndian::read_u32(second))
+    (u32_of(first), u32_of(second))
 }
 
 /// The two signed numbers that eight bytes are.

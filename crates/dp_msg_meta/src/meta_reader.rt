@@ -1,7 +1,7 @@
 //! Reading the payloads of the meta messages.
 
 ghost use Rattle.std.specs.Prelude.{◌≡◌, []};
-ghost use Rattle.dp_msg_meta.specs.Answers.{Answers};
+ghost use Rattle.dp_msg_meta.specs.Reading.{Answers};
 ghost use Rattle.dp_msg_meta.specs.Payloads.{SpellsMeta, TakesMemory};
 
 use crate::error::PayloadError;

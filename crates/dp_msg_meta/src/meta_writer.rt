@@ -6,7 +6,7 @@ ghost use Rattle.dp_msg_meta.specs.Payloads.{tier_bytes, meta_payload};
 
 use crate::lists::Ids;
 use crate::message::{Meta, Tiers};
-use crate::output::{put, put_both, put_two_i32, put_two_u32};
+use crate::output::{put, put_both, put_two_i32, two_u32_bytes};
 use byteorder::{BigEndian, ByteOrder};
 use std::alloc::AllocError;
 
@@ -58,7 +58,7 @@ pub(crate) fn write(m: &Meta, out: &mut Vec<u8>) -> Result<(), AllocError>
             put(out, ids.as_slice())
         }
         Meta::Chat { text } => put(out, text.as_slice()),
-        Meta::ResetMark { epoch, carried } => put_two_u32(out, *epoch, *carried),
+        Meta::ResetMark { epoch, carried } => put(out, &two_u32_bytes(*epoch, *carried)),
         Meta::Laser { x, y } | Meta::MovePointer { x, y } => put_two_i32(out, *x, *y),
         Meta::LayerAcl {
             layer,

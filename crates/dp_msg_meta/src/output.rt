@@ -35,22 +35,19 @@ pub(crate) fn put_u32(out: &mut Vec<u8>, n: u32) -> Result<(), AllocError>
     put(out, &bytes)
 }
 
-/// Adds two numbers of four bytes each.
-pub(crate) fn put_two_u32(out: &mut Vec<u8>, m: u32, n: u32) -> Result<(), AllocError>
-    ensures { Adds out.old.items out.new.items result (four_bytes m ++ four_bytes n) }
+/// The bytes of two numbers of four bytes each.
+pub(crate) fn two_u32_bytes(m: u32, n: u32) -> [u8; 8]
+    ensures { result ≡ four_bytes m ++ four_bytes n }
 {
     let mut bytes = [0; 8];
     BigEndian::write_u32(&mut bytes, m);
     BigEndian::write_u32(&mut bytes[4..], n);
-    put(out, &bytes)
+    bytes
 }
 
 /// Adds two signed numbers of four bytes each.
 pub(crate) fn put_two_i32(out: &mut Vec<u8>, x: i32, y: i32) -> Result<(), AllocError>
     ensures { Adds out.old.items out.new.items result (four_signed x ++ four_signed y) }
 {
-    let mut bytes = [0; 8];
-    BigEndian::write_i32(&mut bytes, x);
-    BigEndian::write_i32(&mut bytes[4..], y);
-    put(out, &bytes)
+    put(out, &two_u32_bytes(x.cast_unsigned(), y.cast_unsigned()))
 }

@@ -23,10 +23,10 @@ pub fn read_control(alloc: Global, kind: u8, payload: &[u8]) -> Result<Control, 
     // What is refused spells nothing, and what spells nothing is refused.
     ensures malformed { IsErrOf result PayloadError.Malformed
         ↔ ((m : Control) → SpellsControl kind payload.now m → ⊥) }
-    // Memory is taken only for a message that holds a name, a text or ids,
+    // Memory runs out only for a kind whose messages hold a name, a text or ids,
     ensures memory { IsErrOf result PayloadError.Memory → TakesMemory kind }
-    // and that is spelled.
-    ensures due { IsErrOf result PayloadError.Memory
+    // and for a payload that spells one.
+    ensures spelled { IsErrOf result PayloadError.Memory
         → (m : Control) × SpellsControl kind payload.now m }
 {
     control_reader::read(alloc, kind, payload)
@@ -46,10 +46,10 @@ pub fn read_meta(alloc: Global, kind: u8, payload: &[u8]) -> Result<Meta, Payloa
     // What is refused spells nothing, and what spells nothing is refused.
     ensures malformed { IsErrOf result PayloadError.Malformed
         ↔ ((m : Meta) → SpellsMeta kind payload.now m → ⊥) }
-    // Memory is taken only for a message that holds a name, a text or ids,
+    // Memory runs out only for a kind whose messages hold a name, a text or ids,
     ensures memory { IsErrOf result PayloadError.Memory → TakesMemory kind }
-    // and that is spelled.
-    ensures due { IsErrOf result PayloadError.Memory → (m : Meta) × SpellsMeta kind payload.now m }
+    // and for a payload that spells one.
+    ensures spelled { IsErrOf result PayloadError.Memory → (m : Meta) × SpellsMeta kind payload.now m }
 {
     meta_reader::read(alloc, kind, payload)
 }

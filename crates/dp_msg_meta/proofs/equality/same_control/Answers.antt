@@ -6,4 +6,6 @@ pub returns-clause-value : goal.returns-clause-value
 returns-clause-value c = c.eq.ensures ∙ control_told c.args.control.now c.args.other.now
 
 pub returns-clause-equal : goal.returns-clause-equal
-returns-clause-equal c = rw (c.eq.ensures ∙ control_told c.args.control.now c.args.other.now) (same_control_told c.args.control.now c.args.other.now)
+returns-clause-equal c =
+    rw (c.eq.ensures ∙ control_told c.args.control.now c.args.other.now)
+    (same_control_told c.args.control.now c.args.other.now)
