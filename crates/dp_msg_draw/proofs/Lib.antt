@@ -1,7 +1,5 @@
-pub mod FieldLaws
-pub mod Rows
-pub mod OneSpelling
-pub mod Payloads
-pub mod Keeping
-pub mod Parts
-pub mod Comparing
+mod Takes
+mod Sequences
+mod Pixels
+mod Forms
+mod Comparing

@@ -1,6 +1,6 @@
 pub mod Fields
 pub mod Limits
-pub mod Spelling
+pub mod Payloads
+pub mod Equality
+pub mod Parts
 pub mod Reading
-pub mod Writing
-pub mod Strokes

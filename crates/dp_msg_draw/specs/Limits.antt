@@ -1,5 +1,5 @@
 -- What the parts of a message meet, whatever their bytes.
-use Rattle.std.specs.Prelude.{◌≡◌, ℕ, ◌≤◌, ◌⊎◌, Bool, true, false, List, length}
+use Rattle.std.specs.Prelude.{◌≡◌, ℕ, ◌≤◌, ◌⊎◌, List, length}
 use Rattle.std.specs.Str.{IsUtf8}
 
 -- a title has at most 255 bytes, and they are UTF-8
@@ -12,13 +12,13 @@ IsListedMode mode =
     (mode ≡ 0) ⊎ (mode ≡ 1) ⊎ (mode ≡ 2) ⊎ (mode ≡ 9) ⊎ (mode ≡ 10) ⊎ (mode ≡ 255)
 
 -- the kinds of the drawing messages
-abbrev pub IsListedKind : ℕ → Type 0
-IsListedKind kind =
+abbrev pub IsDrawKind : ℕ → Type 0
+IsDrawKind kind =
     (kind ≡ 129) ⊎ (kind ≡ 130) ⊎ (kind ≡ 131) ⊎ (kind ≡ 132) ⊎ (kind ≡ 133) ⊎ (kind ≡ 134)
     ⊎ (kind ≡ 136) ⊎ (kind ≡ 137) ⊎ (kind ≡ 146) ⊎ (kind ≡ 147)
     ⊎ (kind ≡ 149) ⊎ (kind ≡ 150) ⊎ (kind ≡ 152)
 
--- a flag's byte
-abbrev pub flag : Bool → ℕ
-flag false = 0
-flag true = 1
+-- the kinds of the messages that hold a title, colours, pixels or dabs, the only ones that take memory
+abbrev pub TakesMemory : ℕ → Type 0
+TakesMemory kind =
+    (kind ≡ 130) ⊎ (kind ≡ 132) ⊎ (kind ≡ 136) ⊎ (kind ≡ 146) ⊎ (kind ≡ 149) ⊎ (kind ≡ 150)

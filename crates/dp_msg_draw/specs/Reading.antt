@@ -1,28 +1,28 @@
--- What readers answer.
-use Rattle.std.specs.Prelude.{◌≡◌, ℕ, List, [], Result, Ok, Err}
-use Rattle.dp_msg_draw.specs.declared.field.Field.{Field}
+-- What readers answer, of any value that bytes may spell.
+use Rattle.std.specs.Prelude.{◌≡◌, ℕ, List, ◌++◌, Option, Some, None, Result, Ok, Err}
 use Rattle.dp_msg_draw.specs.declared.error.PayloadError.{PayloadError}
 use Rattle.dp_msg_draw.specs.declared.error.PayloadError.TheVariants.{Malformed, Memory}
-use Rattle.dp_msg_draw.specs.declared.draw.Draw.{Draw}
-use Rattle.dp_msg_draw.specs.Fields.{Reads}
-use Rattle.dp_msg_draw.specs.Spelling.{Spells}
 
--- the message that the payload of this kind spells, or Malformed where it spells none
-abbrev pub Answers : ℕ → List ℕ → Result Draw PayloadError → Type 0
-Answers kind payload (Ok m) = Spells kind payload m
-Answers kind payload (Err Malformed) = (m : Draw) → Spells kind payload m → ⊥
-Answers kind payload (Err Memory) = Unit {0}
+-- the bytes begin with the spelling of a valid value, and then come the rest
+pub record Begins {X : Type 0} (spelling : X → List ℕ) (valid : X → Type 0) (bytes : List ℕ) (x : X) (rest : List ℕ) : Type 0 where
+  pub bytes_are : bytes ≡ spelling x ++ rest
+  pub is_valid : valid x
 
--- the same for a part of a payload that has these fields and meets this condition
-abbrev pub AnswersPart : {X : Type 0} → (X → List Field) → (X → Type 0)
-    → List ℕ → Result X PayloadError → Type 0
-AnswersPart fields Meets bytes (Ok x) = Reads bytes (fields x) [] × Meets x
-AnswersPart {X = X} fields Meets bytes (Err Malformed) =
-    (x : X) → Reads bytes (fields x) [] → Meets x → ⊥
-AnswersPart fields Meets bytes (Err Memory) = Unit {0}
+-- the bytes are the spelling of a valid value
+pub record Spells {X : Type 0} (spelling : X → List ℕ) (valid : X → Type 0) (bytes : List ℕ) (x : X) : Type 0 where
+  pub bytes_are : bytes ≡ spelling x
+  pub is_valid : valid x
 
--- the same for bytes that are a text as they stand
-abbrev pub AnswersText : (List ℕ → Type 0) → List ℕ → Result (List ℕ) PayloadError → Type 0
-AnswersText Meets bytes (Ok text) = (text ≡ bytes) × Meets bytes
-AnswersText Meets bytes (Err Malformed) = Meets bytes → ⊥
-AnswersText Meets bytes (Err Memory) = Unit {0}
+-- a value that is looked for, or none where there is none
+abbrev pub Finds : {X : Type 0} → (X → Type 0) → Option X → Type 0
+Finds Is (Some x) = Is x
+Finds {X = X} Is None = (x : X) → Is x → ⊥
+
+-- the same, where memory may run out for the value, which is seen by view
+abbrev pub AnswersAs : {X Y : Type 0} → (X → Y) → (Y → Type 0) → Result X PayloadError → Type 0
+AnswersAs view Is (Ok x) = Is (view x)
+AnswersAs {Y = Y} view Is (Err Malformed) = (y : Y) → Is y → ⊥
+AnswersAs {Y = Y} view Is (Err Memory) = (y : Y) × Is y
+
+abbrev pub Answers : {X : Type 0} → (X → Type 0) → Result X PayloadError → Type 0
+Answers Is result = AnswersAs (λ x. x) Is result

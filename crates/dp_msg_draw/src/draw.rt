@@ -1,14 +1,14 @@
 //! The drawing messages.
 
-ghost use Rattle.std.specs.Prelude.{◌≡◌, ◌↔◌, IsTrue, IfOk};
-ghost use Rattle.dp_msg_draw.specs.Limits.{IsListedKind, IsListedMode};
-ghost use Rattle.dp_msg_draw.specs.Spelling.{kind_number};
+ghost use Rattle.std.specs.Prelude.{◌≡◌, ◌↔◌, IsTrue, IfOk, OnErr};
+ghost use Rattle.dp_msg_draw.specs.Limits.{IsDrawKind, IsListedMode, TakesMemory};
+ghost use Rattle.dp_msg_draw.specs.Payloads.{draw_kind};
 
 use crate::lists::{Colors, Dabs, TilePixel, TilePixels, Title};
 use std::alloc::AllocError;
 
 /// What a tile is filled with.
-#[derive(Clone, Debug, Drop, PartialEq)]
+#[derive(Debug, Drop, PartialEq)]
 pub enum TileContent {
     /// Each pixel is this one.
     Solid(TilePixel),
@@ -18,7 +18,7 @@ pub enum TileContent {
 
 /// A drawing message. Each is relayed to everybody and drawn by each client.
 /// The rule: docs/protocol.md, "Drawing messages".
-#[derive(Clone, Debug, Drop, PartialEq)]
+#[derive(Debug, Drop, PartialEq)]
 pub enum Draw {
     /// The canvas grows by this many pixels on each side, or shrinks where a number is negative.
     CanvasResize {
@@ -115,26 +115,57 @@ pub enum Draw {
 }
 
 impl TileContent {
-    /// Equal content.
+    /// Equal content. The only error is want of memory.
     pub fn copy(&self) -> Result<TileContent, AllocError>
         ensures { IfOk result (λ c. c ≡ self.now) }
     {
-        self.clone()
+        Ok(match self {
+            TileContent::Solid(pixel) => TileContent::Solid(*pixel),
+            TileContent::Pixels(pixels) => TileContent::Pixels(pixels.copy()?),
+        })
     }
 }
 
+/// A message with these fields again: each number as it is, and the list, if there is one, copied.
+macro_rules! copied {
+    ($m:expr; $($variant:ident { $($number:ident)* $(; $list:ident)? })*) => {
+        match $m {
+            $(Draw::$variant { $($number,)* $($list,)? } => Draw::$variant {
+                $($number: *$number,)*
+                $($list: $list.copy()?,)?
+            },)*
+        }
+    };
+}
+
 impl Draw {
-    /// An equal message.
+    /// An equal message. The only error is want of memory, which titles, colours, pixels and dabs take.
     pub fn copy(&self) -> Result<Draw, AllocError>
-        ensures { IfOk result (λ m. m ≡ self.now) }
+        ensures same { IfOk result (λ m. m ≡ self.now) }
+        ensures memory { OnErr result (TakesMemory (draw_kind self.now)) }
     {
-        self.clone()
+        Ok(copied! { self;
+            CanvasResize { top right bottom left }
+            LayerCreate { id parent group; title }
+            LayerAttr { id opacity mode hidden }
+            LayerTitle { id; title }
+            LayerMove { id parent above }
+            LayerDelete { id }
+            PutImage { layer mode x y w h; colors }
+            FillRect { layer mode x y w h color }
+            PutTile { layer col row repeat; content }
+            Background { color }
+            DabsRound { layer x y r g b mode; dabs }
+            DabsSquare { layer x y r g b mode; dabs }
+            MoveRect { layer sx sy w h tx ty }
+        })
     }
 }
 
 /// Whether a kind is one of the drawing messages.
+/// The rule: docs/protocol.md, "Drawing messages".
 pub fn is_listed(kind: u8) -> bool
-    ensures { IsTrue result ↔ IsListedKind kind }
+    ensures { IsTrue result ↔ IsDrawKind kind }
 {
     matches!(kind, 129..=134 | 136 | 137 | 146 | 147 | 149 | 150 | 152)
 }
@@ -146,10 +177,11 @@ pub(crate) fn is_listed_mode(mode: u8) -> bool
     matches!(mode, 0 | 1 | 2 | 9 | 10 | 255)
 }
 
-/// The number of a message's kind.
+/// The number of a message's kind, the type byte of its frame.
+/// The rule: docs/protocol.md, "Drawing messages".
 pub fn kind_of_draw(m: &Draw) -> u8
-    ensures kind { result ≡ kind_number m.now }
-    ensures listed { IsListedKind result }
+    ensures kind { result ≡ draw_kind m.now }
+    ensures listed { IsDrawKind result }
 {
     match m {
         Draw::CanvasResize { .. } => 129,

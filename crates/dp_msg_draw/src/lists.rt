@@ -1,7 +1,7 @@
 //! The lists that messages carry. Each is short enough that its message fits in a payload of at
 //! most 65,535 bytes.
 
-ghost use Rattle.std.specs.Prelude.{◌≡◌, ◌≤◌, ◌↔◌, [], length, replicate, IfOk, IfSome, IsSome};
+ghost use Rattle.std.specs.Prelude.{◌≡◌, ◌≤◌, ◌↔◌, [], length, replicate, IfOk, IfSome, IsSome, IsTrue};
 ghost use Rattle.std.specs.Bool.{◌==◌};
 ghost use Rattle.std.specs.Cmp.{partial_equiv_from_equiv};
 ghost use Rattle.std.specs.Cmp.Lexicographic.{pointwise, nat_list_eq_equiv, lists_per};
@@ -29,6 +29,13 @@ impl Model for Title {
     ghost invariant = { λ t. IsTitle t.bytes.items };
 }
 
+/// Whether these bytes are a title.
+pub(crate) fn is_title(bytes: &[u8]) -> bool
+    ensures { IsTrue result ↔ IsTitle bytes.now }
+{
+    bytes.len() <= 255 && str::from_utf8(bytes).is_ok()
+}
+
 impl Title {
     /// The empty title.
     pub fn new(alloc: Global) -> Title
@@ -44,10 +51,20 @@ impl Title {
         ensures title { IsSome result ↔ IsTitle bytes.items }
         ensures value { IfSome result (λ t. t ≡ bytes.items) }
     {
-        if bytes.len() > 255 || str::from_utf8(&bytes).is_err() {
-            return None;
+        if is_title(&bytes) {
+            Some(Title { bytes })
+        } else {
+            None
         }
-        Some(Title { bytes })
+    }
+
+    /// The title of these bytes, which have to be one.
+    pub(crate) fn from_slice(alloc: Global, bytes: &[u8]) -> Result<Title, AllocError>
+        requires { IsTitle bytes.now }
+        ensures { IfOk result (λ t. t ≡ bytes.now) }
+    {
+        let bytes = Vec::from_slice(alloc, bytes)?;
+        Ok(Title { bytes })
     }
 
     /// The bytes of the title.
@@ -62,14 +79,6 @@ impl Title {
     pub fn copy(&self) -> Result<Title, AllocError>
         ensures { IfOk result (λ t. t ≡ self.now) }
     {
-        self.clone()
-    }
-}
-
-impl Clone for Title {
-    ghost is_clone = { λ a b. b ≡ a };
-
-    fn clone(&self) -> Result<Title, AllocError> {
         let bytes = Vec::from_slice(*self.bytes.allocator(), &self.bytes)?;
         Ok(Title { bytes })
     }
@@ -144,14 +153,6 @@ impl Dabs {
     pub fn copy(&self) -> Result<Dabs, AllocError>
         ensures { IfOk result (λ d. d ≡ self.now) }
     {
-        self.clone()
-    }
-}
-
-impl Clone for Dabs {
-    ghost is_clone = { λ a b. b ≡ a };
-
-    fn clone(&self) -> Result<Dabs, AllocError> {
         let dabs = Vec::from_slice(*self.dabs.allocator(), &self.dabs)?;
         Ok(Dabs { dabs })
     }
@@ -213,14 +214,6 @@ impl Colors {
     pub fn copy(&self) -> Result<Colors, AllocError>
         ensures { IfOk result (λ c. c ≡ self.now) }
     {
-        self.clone()
-    }
-}
-
-impl Clone for Colors {
-    ghost is_clone = { λ a b. b ≡ a };
-
-    fn clone(&self) -> Result<Colors, AllocError> {
         let colors = Vec::from_slice(*self.colors.allocator(), &self.colors)?;
         Ok(Colors { colors })
     }
@@ -298,14 +291,6 @@ impl TilePixels {
     pub fn copy(&self) -> Result<TilePixels, AllocError>
         ensures { IfOk result (λ p. p ≡ self.now) }
     {
-        self.clone()
-    }
-}
-
-impl Clone for TilePixels {
-    ghost is_clone = { λ a b. b ≡ a };
-
-    fn clone(&self) -> Result<TilePixels, AllocError> {
         let pixels = Vec::from_slice(*self.pixels.allocator(), &self.pixels)?;
         Ok(TilePixels { pixels })
     }

@@ -1,51 +1,42 @@
 //! Messages as payloads.
 
-ghost use Rattle.std.specs.Prelude.{◌≡◌, ◌≤◌, ◌+◌, ◌++◌, List, ℕ, length, take, OnOk, OnErr};
-ghost use Rattle.dp_msg_draw.specs.Spelling.{Spells, kind_number};
-ghost use Rattle.dp_msg_draw.specs.Writing.{payload_of};
+ghost use Rattle.std.specs.Prelude.{◌≡◌, ◌≤◌, ◌+◌, ◌++◌, length, OnOk, OnErr};
+ghost use Rattle.dp_msg_draw.specs.Payloads.{draw_payload};
 
-mod canvas;
-mod images;
-mod layers;
-mod rects;
-mod strokes;
-mod tiles;
-mod titles;
-
+use crate::canvas::put_canvas;
 use crate::draw::Draw;
+use crate::layers::{put_layer, put_titled};
+use crate::pictures::put_picture;
+use crate::rects::put_rect;
+use crate::strokes::put_stroke;
 use std::alloc::AllocError;
 
-/// Writes a message's fields at the end. Where memory runs out, a part of them may stand there.
-fn put_draw(out: &mut Vec<u8>, m: &Draw) -> Result<(), AllocError>
-    ensures ok { OnOk result (out.new.items ≡ out.old.items ++ payload_of m.now) }
-    ensures keeps { take (length out.old.items) out.new.items ≡ out.old.items }
-    ensures short { OnOk result (length (payload_of m.now) ≤ 65535) }
+/// Puts a message's fields at the end. Where memory runs out, some of their bytes may stand there.
+fn put_draw(m: &Draw, out: &mut Vec<u8>) -> Result<(), AllocError>
+    ensures spelled { OnOk result (out.new.items ≡ out.old.items ++ draw_payload m.now) }
+    ensures short { OnOk result (length (draw_payload m.now) ≤ 65535) }
 {
     match m {
-        Draw::CanvasResize { .. } | Draw::Background { .. } => canvas::put_canvas(out, m),
-        Draw::LayerCreate { .. } | Draw::LayerTitle { .. } => titles::put_titled(out, m),
+        Draw::CanvasResize { .. } | Draw::Background { .. } => put_canvas(m, out),
+        Draw::LayerCreate { .. } | Draw::LayerTitle { .. } => put_titled(m, out),
         Draw::LayerAttr { .. } | Draw::LayerMove { .. } | Draw::LayerDelete { .. } => {
-            layers::put_layer(out, m)
+            put_layer(m, out)
         }
-        Draw::PutImage { .. } => images::put_image(out, m),
-        Draw::FillRect { .. } => rects::put_fill_rect(out, m),
-        Draw::PutTile { .. } => tiles::put_tile(out, m),
-        Draw::DabsRound { .. } | Draw::DabsSquare { .. } => strokes::put_stroke(out, m),
-        Draw::MoveRect { .. } => rects::put_move_rect(out, m),
+        Draw::PutImage { .. } | Draw::PutTile { .. } => put_picture(m, out),
+        Draw::FillRect { .. } | Draw::MoveRect { .. } => put_rect(m, out),
+        Draw::DabsRound { .. } | Draw::DabsSquare { .. } => put_stroke(m, out),
     }
 }
 
-/// Writes a message's payload at the end.
+/// Adds a message's payload at the end of `out`, whether the message has a spelling or not. Where
+/// memory runs out, `out` is as it was.
+/// The rule: docs/protocol.md, "Drawing messages".
 pub fn write_draw(m: &Draw, out: &mut Vec<u8>) -> Result<(), AllocError>
-    ensures ok { OnOk result ((payload : List ℕ) → Spells (kind_number m.now) payload m.now
-        → out.new.items ≡ out.old.items ++ payload) }
+    ensures appends { OnOk result (out.new.items ≡ out.old.items ++ draw_payload m.now) }
     ensures short { length out.new.items ≤ length out.old.items + 65535 }
     ensures err { OnErr result (out.new.items ≡ out.old.items) }
 {
-    let len = out.len();
-    let written = put_draw(out, m);
-    if written.is_err() {
-        out.truncate(len);
-    }
-    written
+    let mut payload = Vec::new(*out.allocator());
+    put_draw(m, &mut payload)?;
+    out.extend_from_slice(&payload)
 }

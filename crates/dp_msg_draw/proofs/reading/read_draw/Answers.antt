@@ -1,5 +1,5 @@
-use Rattle.dp_msg_draw.proofs.Parts.{reads_it}
+use Rattle.dp_msg_draw.proofs.Forms.{only}
 use Rattle.dp_msg_draw.proofs.reading.read_draw.Goals as goal
 
-pub returns-clause-read : goal.returns-clause-read
-returns-clause-read c = λ m s. reads_it c.args.kind c.args.payload.now c.message_at.result c.message_at.ensures m s
+pub returns-clause-only : goal.returns-clause-only
+returns-clause-only c = only c.args.kind c.args.payload.now c.message_at.result c.message_at.ensures.answers
