@@ -1,2 +1,3 @@
-pub mod Kinds
+pub mod KindRanges
 pub mod OneMessage
+pub mod Comparing

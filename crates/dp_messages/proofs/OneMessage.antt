@@ -1,6 +1,6 @@
 -- A payload spells at most one message, a frame has one answer, and bytes are heard in one way.
 use Rattle.std.proofs.Common.{◌≡◌, ◌⊎◌, ℕ, ◌<◌, ◌≤◌, ◌+◌, List, [], ◌∷◌, ◌++◌, length, Bool, true, false, inl, inr, refl, sym, ◌∙◌, ap, subst, arith, length-append}
-use Rattle.std.specs.Prelude.{MatchBool, IsTrue, ◌↔◌}
+use Rattle.std.specs.Prelude.{MatchBool}
 use Rattle.dp_frame.specs.Frames.{FrameParts, Splits}
 use Rattle.dp_msg_draw.specs.declared.draw.Draw.{Draw}
 use Rattle.dp_msg_draw.specs.Fields.{one_byte, flag_byte}
@@ -11,12 +11,10 @@ use Rattle.dp_msg_meta.specs.Payloads.{SpellsControl, SpellsMeta}
 use Rattle.dp_messages.specs.declared.message.Msg.{Msg}
 use Rattle.dp_messages.specs.declared.message.Msg.TheVariants as msg
 use Rattle.dp_messages.specs.declared.message.Entry.{Entry}
-use Rattle.dp_messages.specs.declared.decoding.DecodeError.{DecodeError}
-use Rattle.dp_messages.specs.declared.decoding.DecodeError.TheVariants.{Unknown, Malformed, Memory}
 use Rattle.dp_messages.specs.Messages.{Spells, IsListedKind}
-use Rattle.dp_messages.specs.Decoding.{Carries, IsRefused}
+use Rattle.dp_messages.specs.Decoding.{Carries}
 use Rattle.dp_messages.specs.Hearing.{is_disconnect, AreHeard, Hears}
-use Rattle.dp_messages.proofs.Kinds.{KindLaws, InRange, in_range, not_listed, unknown_none, to_control, to_meta, to_draw}
+use Rattle.dp_messages.proofs.KindRanges.{KindLaws, InRange, in_range, not_listed, to_control, to_meta, to_draw}
 
 -- what the layers below say of one spelling
 pub record PartLaws : Type 0 where
@@ -66,31 +64,32 @@ one_message laws kind payload m n s t =
     let there : InRange n kind = in_range laws.kinds kind payload n t in
     absurd (omega arith)
 
--- a message has one kind and one payload
-pub one_payload : (j k : ℕ) (p q : List ℕ) (m : Msg) → Spells j p m → Spells k q m → (j ≡ k) × (p ≡ q)
-one_payload j k p q m s t = (s.kind ∙ sym t.kind, s.payload ∙ sym t.payload)
+-- a payload that spells a message has at most 65,535 bytes
+pub short : PartLaws → ((m : Control) (kind : ℕ) (payload : List ℕ) → SpellsControl kind payload m → length payload ≤ 65535) →
+    ((m : Meta) (kind : ℕ) (payload : List ℕ) → SpellsMeta kind payload m → length payload ≤ 65535) →
+    ((kind : ℕ) (payload : List ℕ) (m : Draw) → SpellsDraw kind payload m → length payload ≤ 65535) →
+    (kind : ℕ) (payload : List ℕ) (m : Msg) → Spells kind payload m → length payload ≤ 65535
+short laws control meta draw kind payload (msg.Control m) s = control m kind payload (to_control kind payload m s)
+short laws control meta draw kind payload (msg.Meta m) s = meta m kind payload (to_meta kind payload m s)
+short laws control meta draw kind payload (msg.Part m) s =
+    omega (arith, ap length s.payload, length-append (one_byte (draw_kind m)) (draw_payload m), s.spelled.1)
+short laws control meta draw kind payload msg.Point s = omega (arith, ap length s.payload)
+short laws control meta draw kind payload (msg.Undo target redo) s = omega (arith, ap length s.payload)
+short laws control meta draw kind payload (msg.Draw m) s = draw kind payload m (to_draw kind payload m s)
+short laws control meta draw kind payload (msg.Opaque k body) s = omega (arith, ap length s.payload, s.spelled.2)
 
 abbrev entry_of : ℕ → Msg → Entry
 entry_of user m = record { user = user; msg = m }
 
-pub one_entry : PartLaws → (frame : FrameParts) (e f : Entry) → Carries frame e → Carries frame f → e ≡ f
+-- a payload of a kind spells at most one message
+abbrev pub OneMessage : Type 0
+OneMessage = (kind : ℕ) (payload : List ℕ) (m n : Msg) → Spells kind payload m → Spells kind payload n → m ≡ n
+
+pub one_entry : OneMessage → (frame : FrameParts) (e f : Entry) → Carries frame e → Carries frame f → e ≡ f
 one_entry laws frame e f c d =
     let users : e.user ≡ f.user = c.user ∙ sym d.user in
-    let messages : e.msg ≡ f.msg = one_message laws frame.kind frame.body e.msg f.msg c.spelled d.spelled in
+    let messages : e.msg ≡ f.msg = laws frame.kind frame.body e.msg f.msg c.spelled d.spelled in
     ap (λ (user : ℕ). entry_of user e.msg) users ∙ ap (λ (m : Msg). entry_of f.user m) messages
-
-pub one_refusal : (kind : ℕ) (payload : List ℕ) (e f : DecodeError) → IsRefused kind payload e → IsRefused kind payload f → e ≡ f
-one_refusal kind payload (Unknown j) (Unknown k) r s = ap (λ (n : ℕ). Unknown n) (r.0 ∙ sym s.0)
-one_refusal kind payload (Unknown j) (Malformed k) r s = absurd (s.1 r.1)
-one_refusal kind payload (Malformed j) (Unknown k) r s = absurd (r.1 s.1)
-one_refusal kind payload (Malformed j) (Malformed k) r s = ap (λ (n : ℕ). Malformed n) (r.0 ∙ sym s.0)
-one_refusal kind payload Memory f r s = absurd r
-one_refusal kind payload e Memory r s = absurd s
-
-pub either : KindLaws → (frame : FrameParts) (e : Entry) (f : DecodeError) → Carries frame e → IsRefused frame.kind frame.body f → ⊥
-either laws frame e (Unknown k) c r = unknown_none laws frame.kind frame.body e.msg r.1 c.spelled
-either laws frame e (Malformed k) c r = r.2 e.msg c.spelled
-either laws frame e Memory c r = r
 
 -- a list of messages goes on or ends in one way
 tails : (b : Bool) (frames : List FrameParts) (ms ns : List Msg) → (AreHeard frames ms → AreHeard frames ns → ms ≡ ns) →
@@ -98,7 +97,7 @@ tails : (b : Bool) (frames : List FrameParts) (ms ns : List Msg) → (AreHeard f
 tails true frames ms ns more h k = h ∙ sym k
 tails false frames ms ns more h k = more h k
 
-one_heard : PartLaws → (frames : List FrameParts) (ms ns : List Msg) → AreHeard frames ms → AreHeard frames ns → ms ≡ ns
+one_heard : OneMessage → (frames : List FrameParts) (ms ns : List Msg) → AreHeard frames ms → AreHeard frames ns → ms ≡ ns
 one_heard laws [] [] [] h k = refl
 one_heard laws [] [] (n ∷ ns) h k = absurd k
 one_heard laws [] (m ∷ ms) ns h k = absurd h
@@ -106,11 +105,11 @@ one_heard laws (f ∷ fs) [] [] h k = refl
 one_heard laws (f ∷ fs) [] (n ∷ ns) h k = absurd (h n k.0)
 one_heard laws (f ∷ fs) (m ∷ ms) [] h k = absurd (k m h.0)
 one_heard laws (f ∷ fs) (m ∷ ms) (n ∷ ns) h k =
-    let same : m ≡ n = one_message laws f.kind f.body m n h.0 k.0 in
+    let same : m ≡ n = laws f.kind f.body m n h.0 k.0 in
     let again = subst (λ (x : Msg). MatchBool (is_disconnect x) (ns ≡ []) (AreHeard fs ns)) (sym same) k.1 in
     ap (λ (x : Msg). x ∷ ms) same ∙ ap (λ (xs : List Msg). n ∷ xs) (tails (is_disconnect m) fs ms ns (one_heard laws fs ms ns) h.1 again)
 
-pub one_hearing : PartLaws →
+pub one_hearing : OneMessage →
     ((bytes : List ℕ) (frames others : List FrameParts) (rest last : List ℕ) → Splits bytes frames rest → Splits bytes others last → (frames ≡ others) × (rest ≡ last)) →
     (bytes : List ℕ) (ms ns : List Msg) → Hears bytes ms → Hears bytes ns → ms ≡ ns
 one_hearing laws splitting bytes ms ns h k =

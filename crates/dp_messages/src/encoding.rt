@@ -3,9 +3,9 @@
 ghost use Rattle.std.specs.Prelude.{◌≡◌, ◌++◌, ◌+◌, ◌≤◌, IfOk, OnOk};
 ghost use Rattle.dp_messages.specs.declared.message.Entry.{Entry as Item};
 ghost use Rattle.dp_messages.specs.Messages.{HasSpelling, payload_of};
-ghost use Rattle.dp_messages.specs.Decoding.{Carries};
+ghost use Rattle.dp_messages.specs.Decoding.{Carries, CarriesNothing};
 
-use crate::laws::one_answer;
+use crate::laws::{one_answer, one_message};
 use crate::{DecodeError, Entry, Msg, decode, same};
 use dp_frame::{Frame, Octets};
 use dp_msg_draw::{kind_of_draw, write_draw};
@@ -14,6 +14,14 @@ use std::alloc::{AllocError, Global};
 
 /// A kind that no message is of.
 const NO_KIND: u8 = 8;
+
+/// A frame of this sender that carries nothing.
+fn frame_of_nothing(alloc: Global, user: u8) -> Frame
+    ensures { CarriesNothing result }
+{
+    one_answer();
+    Frame::new(NO_KIND, user, Octets::new(alloc))
+}
 
 /// The frame of the entry: the sender as its context id, and the message's one spelling.
 ///
@@ -24,17 +32,24 @@ pub fn encode(alloc: Global, entry: &Entry) -> Result<Frame, AllocError>
     ensures spelled { IfOk result (λ frame. HasSpelling entry.now.msg → Carries frame entry.now) }
     ensures only { IfOk result (λ frame. (e : Item) → Carries frame e → e ≡ entry.now) }
 {
+    one_message();
     one_answer();
     let mut payload = Vec::new(alloc);
     write_payload(&entry.msg, &mut payload)?;
     if payload.len() > 65535 {
-        return Ok(Frame::new(NO_KIND, entry.user, Octets::new(alloc)));
+        return Ok(frame_of_nothing(alloc, entry.user));
     }
     let frame = Frame::new(entry.msg.kind(), entry.user, Octets::from_vec(payload));
     match decode(alloc, &frame) {
-        Ok(again) if same(&again.msg, &entry.msg) => Ok(frame),
+        Ok(again) => {
+            if same(&again.msg, &entry.msg) {
+                Ok(frame)
+            } else {
+                Ok(frame_of_nothing(alloc, entry.user))
+            }
+        }
         Err(DecodeError::Memory) => Err(AllocError),
-        _ => Ok(Frame::new(NO_KIND, entry.user, Octets::new(alloc))),
+        Err(_) => Ok(frame_of_nothing(alloc, entry.user)),
     }
 }
 

@@ -11,7 +11,7 @@ ghost use Rattle.dp_messages.specs.Equality.{same_message};
 ghost use Rattle.dp_messages.specs.Hearing.{Hears};
 
 use dp_frame::one_splitting;
-use dp_msg_draw::{same_draw_is_equality, one_draw};
+use dp_msg_draw::{one_draw, same_draw_is_equality};
 use dp_msg_meta::{control_equality, meta_equality, one_control, one_meta};
 
 /// A payload of a kind spells at most one message, and a message has one kind and one payload, of at

@@ -32,7 +32,10 @@ fn answer_to(rt: &impl Abort, alloc: Global, kind: u8, payload: &[u8]) -> Result
             let copy = entry.copy()?;
             assert!(rt; same(&copy.msg, &entry.msg));
             let written = encode(alloc, &copy)?;
-            assert_eq!(rt; (written.kind(), written.user(), copy.msg.kind()), (kind, 7, kind));
+            assert_eq!(rt;
+                (written.kind(), written.user(), copy.msg.kind()),
+                (kind, 7, kind)
+            );
             assert_eq!(rt; written.body().as_slice(), payload);
             return Ok(Read);
         }
@@ -118,14 +121,22 @@ fn payloads(rt: HostRuntime) -> Result<(), Fail> {
         (135, "0101", Read),
         (136, "01010100000000000000000000000100000001ff00ff00", Read),
         (137, "01010100000000000000000000000100000001ffff0000", Read),
-        (137, "01010300000000000000000000000100000001ffff0000", Malformed),
+        (
+            137,
+            "01010300000000000000000000000100000001ffff0000",
+            Malformed,
+        ),
         (146, "0101000000000000008000000000008000", Read),
         (146, "0101000000000000000001000000000000", Malformed),
         (147, "ff00ff00", Read),
         (149, "01010000000000000000ff00000100000080", Malformed),
         (149, "01010000000000000000ff00000100000980", Read),
         (150, "01010000000000000000ff00000100000980", Read),
-        (152, "0101000000000000000000000002000000010000000100000000", Read),
+        (
+            152,
+            "0101000000000000000000000002000000010000000100000000",
+            Read,
+        ),
         (200, "", Read),
         (255, "0300", Read),
         (255, "0301", Read),

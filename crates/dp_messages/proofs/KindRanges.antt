@@ -12,8 +12,7 @@ use Rattle.dp_msg_meta.specs.declared.message.Meta.TheVariants.{Join, Leave, Own
 use Rattle.dp_msg_meta.specs.Payloads.{control_kind, IsControlKind, SpellsControl, meta_kind, IsMetaKind, SpellsMeta}
 use Rattle.dp_messages.specs.declared.message.Msg.{Msg}
 use Rattle.dp_messages.specs.declared.message.Msg.TheVariants as msg
-use Rattle.dp_messages.specs.Messages.{kind_of, IsListedKind, IsOpaqueKind, IsUnknownKind, Spells}
-use Rattle.dp_messages.specs.Decoding.{SpellsNothing}
+use Rattle.dp_messages.specs.Messages.{IsListedKind, Spells}
 
 -- what the layers below say of kinds
 pub record KindLaws : Type 0 where
@@ -90,39 +89,3 @@ listed laws kind payload (msg.Opaque k body) is s = absurd is
 pub not_listed : KindLaws → (kind : ℕ) (payload : List ℕ) (k : ℕ) (body : List ℕ) (m : Msg) → IsOfListed m →
     Spells kind payload (msg.Opaque k body) → Spells kind payload m → ⊥
 not_listed laws kind payload k body m is s t = s.spelled.0.1 (subst IsListedKind s.kind (listed laws kind payload m is t))
-
--- no message is of an unknown kind
-pub unknown_none : KindLaws → (kind : ℕ) (payload : List ℕ) (m : Msg) → IsUnknownKind kind → Spells kind payload m → ⊥
-unknown_none laws kind payload (msg.Opaque k body) u s = omega (arith, u.0, s.kind, s.spelled.0.0)
-unknown_none laws kind payload m u s = u.1 (listed laws kind payload m tt s)
-
--- where no control message has the payload of a control kind, no message has it
-pub control_nothing : KindLaws → (kind : ℕ) (payload : List ℕ) → IsControlKind kind → ((m : Control) → SpellsControl kind payload m → ⊥) →
-    SpellsNothing kind payload
-control_nothing laws kind payload is none (msg.Control m) s = none m (to_control kind payload m s)
-control_nothing laws kind payload is none (msg.Opaque k body) s = s.spelled.0.1 (subst IsListedKind s.kind (inl is))
-control_nothing laws kind payload is none m s =
-    let here = control_range kind is in
-    let there : InRange m kind = in_range laws kind payload m s in
-    omega arith
-
-pub meta_nothing : KindLaws → (kind : ℕ) (payload : List ℕ) → IsMetaKind kind → ((m : Meta) → SpellsMeta kind payload m → ⊥) →
-    SpellsNothing kind payload
-meta_nothing laws kind payload is none (msg.Meta m) s = none m (to_meta kind payload m s)
-meta_nothing laws kind payload is none (msg.Opaque k body) s = s.spelled.0.1 (subst IsListedKind s.kind (inr (inr (inl is))))
-meta_nothing laws kind payload is none m s =
-    let here = meta_range kind is in
-    let there : InRange m kind = in_range laws kind payload m s in
-    omega arith
-
-draw_range : (kind : ℕ) → IsDrawKind kind → (129 ≤ kind) × (kind ≤ 152)
-draw_range kind is = (omega (arith, is), omega (arith, is))
-
-pub draw_nothing : KindLaws → (kind : ℕ) (payload : List ℕ) → IsDrawKind kind → ((m : Draw) → SpellsDraw kind payload m → ⊥) →
-    SpellsNothing kind payload
-draw_nothing laws kind payload is none (msg.Draw m) s = none m (to_draw kind payload m s)
-draw_nothing laws kind payload is none (msg.Opaque k body) s = s.spelled.0.1 (subst IsListedKind s.kind (inr (inr (inr (inr (inl is))))))
-draw_nothing laws kind payload is none m s =
-    let here = draw_range kind is in
-    let there : InRange m kind = in_range laws kind payload m s in
-    omega arith
