@@ -89,8 +89,8 @@ fn told(answer: Result<Option<Line>, LineError>) -> Told {
     Ok(line.map(|line| (line.number, line.bytes.as_slice().len())))
 }
 
-/// The first byte of a line, how many bytes it has, whether it has its newline, and what `next_line`
-/// and then `finish` give.
+/// The first byte of a line, how many bytes it has, whether it has its newline, and what
+/// `next_line` and then `finish` give.
 static LENGTHS: [(u8, usize, bool, Told, Told); 7] = [
     (b'x', 131_100, true, Ok(Some((3, 131_100))), Ok(None)),
     (b'x', 131_101, true, LONG, LONG),
