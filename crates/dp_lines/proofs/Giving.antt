@@ -14,7 +14,8 @@ use Rattle.dp_lines.proofs.Numbering.{numbered-append, numbered_skipped, numbere
 use Rattle.dp_lines.proofs.Pieces.{ended_none, rest_none}
 
 -- the lines to come are those with their newline, and then the rest
-pub lines_from_parts : (held : Held) → lines_from held ≡ ended_from held ++ numbered (held.count + length (ended held.bytes)) (if_any (open_rest held.bytes))
+pub lines_from_parts : (held : Held)
+    → lines_from held ≡ ended_from held ++ numbered (held.count + length (ended held.bytes)) (if_any (open_rest held.bytes))
 lines_from_parts held = numbered-append held.count (ended held.bytes) (if_any (open_rest held.bytes))
 
 -- two joined lists are empty only where the first is
@@ -23,7 +24,9 @@ front_none [] behind none = refl
 front_none (line ∷ front) behind none = absurd (cc (none))
 
 -- taking lines off in front takes them off all lines to come
-pub further_lines : (front : List Line) (old new : Held) → ended_from old ≡ front ++ ended_from new → new.count + length (ended new.bytes) ≡ old.count + length (ended old.bytes) → open_rest new.bytes ≡ open_rest old.bytes → lines_from old ≡ front ++ lines_from new
+pub further_lines : (front : List Line) (old new : Held) → ended_from old ≡ front ++ ended_from new
+    → new.count + length (ended new.bytes) ≡ old.count + length (ended old.bytes)
+    → open_rest new.bytes ≡ open_rest old.bytes → lines_from old ≡ front ++ lines_from new
 further_lines front old new taken count rest =
     lines_from_parts old
     ∙ ap (λ (ls : List Line). ls ++ numbered (old.count + length (ended old.bytes)) (if_any (open_rest old.bytes))) taken
@@ -41,7 +44,9 @@ pub lines_kept : (old new : Held) → Keeps old new → lines_from old ≡ lines
 lines_kept old new keeps = further_lines [] old new (sym keeps.lines) keeps.count keeps.rest
 
 -- a line is given exactly where it is taken off in front
-pub given_line : (from : Held → List Line) (held new behind : Held) (line : Line) (r : Result (Option Line) LineError) → from held ≡ line ∷ from behind → IfOk r (λ next. next ≡ Some line) → OnOk r (new ≡ behind) → OnErr r (new ≡ held) → from held ≡ given r ++ from new
+pub given_line : (from : Held → List Line) (held new behind : Held) (line : Line) (r : Result (Option Line) LineError)
+    → from held ≡ line ∷ from behind → IfOk r (λ next. next ≡ Some line) → OnOk r (new ≡ behind)
+    → OnErr r (new ≡ held) → from held ≡ given r ++ from new
 given_line from held new behind line (Ok (Some other)) first is taken left =
     let same : other ≡ line = cc in
     first ∙ ap (λ (l : Line). l ∷ from behind) (sym same) ∙ ap (λ (h : Held). other ∷ from h) (sym taken)
@@ -49,7 +54,8 @@ given_line from held new behind line (Ok None) first is taken left = absurd (cc)
 given_line from held new behind line (Err error) first is taken left = ap from (sym left)
 
 -- what is the same behind the line is the same after the call
-pub same_after : {A : Type 0} (of : Held → A) (held new behind : Held) (r : Result (Option Line) LineError) → of behind ≡ of held → OnOk r (new ≡ behind) → OnErr r (new ≡ held) → of new ≡ of held
+pub same_after : {A : Type 0} (of : Held → A) (held new behind : Held) (r : Result (Option Line) LineError)
+    → of behind ≡ of held → OnOk r (new ≡ behind) → OnErr r (new ≡ held) → of new ≡ of held
 same_after of held new behind (Ok next) same taken left = ap of taken ∙ same
 same_after of held new behind (Err error) same taken left = ap of left
 
@@ -60,7 +66,8 @@ if_none (Ok None) fact = fact
 if_none (Err error) fact = tt
 
 -- what follows from a fact that holds where no line is given
-pub if_none_then : {P Q : Type 0} (r : Result (Option Line) LineError) → (P → Q) → IfOk r (λ next. IfNone next P) → IfOk r (λ next. IfNone next Q)
+pub if_none_then : {P Q : Type 0} (r : Result (Option Line) LineError) → (P → Q)
+    → IfOk r (λ next. IfNone next P) → IfOk r (λ next. IfNone next Q)
 if_none_then (Ok (Some line)) then fact = tt
 if_none_then (Ok None) then fact = then fact
 if_none_then (Err error) then fact = tt
@@ -70,7 +77,10 @@ next_is : (a b : Line) (more others : List Line) → a ∷ more ≡ b ∷ others
 next_is a b more others same = cc
 
 -- the call says that the next line is too long exactly where it is
-pub long_next : (held : Held) (line : Line) (behind : List Line) (r : Result (Option Line) LineError) → lines_from held ≡ line ∷ behind → ((n : ℕ) → (r ≡ Err (Long n)) ↔ (IsTrue (is_overlong line.bytes) × (n ≡ line.number))) → (n : ℕ) → (r ≡ Err (Long n)) ↔ NextIsLong held n
+pub long_next : (held : Held) (line : Line) (behind : List Line) (r : Result (Option Line) LineError)
+    → lines_from held ≡ line ∷ behind
+    → ((n : ℕ) → (r ≡ Err (Long n)) ↔ (IsTrue (is_overlong line.bytes) × (n ≡ line.number)))
+    → (n : ℕ) → (r ≡ Err (Long n)) ↔ NextIsLong held n
 long_next held line behind r first says n = (
   λ err.
       let told = (says n).0 err in record {
@@ -109,7 +119,9 @@ long_still old new n keeps next = record {
 }
 
 -- the first line that isn't passed over is the first of all lines to come
-pub first_of_lines : (held : Held) (len : ℕ) → IsEnd held.bytes len → is_skipped (take len held.bytes) ≡ false → (behind : List Line) × (lines_from held ≡ first_line held len ∷ behind)
+pub first_of_lines : (held : Held) (len : ℕ) → IsEnd held.bytes len
+    → is_skipped (take len held.bytes) ≡ false
+    → (behind : List Line) × (lines_from held ≡ first_line held len ∷ behind)
 first_of_lines held len end kept = (
   _,
   lines_from_parts held
@@ -131,7 +143,8 @@ lines_of_rest bytes lacks =
 pub no_lines : lines [] ≡ []
 no_lines = lines_of_rest [] (All-nil (λ byte. byte ≢ newline))
 
-pub line_of_rest : (bytes : List ℕ) → Lacks newline bytes → 0 < length bytes → lines bytes ≡ bytes ∷ []
+pub line_of_rest : (bytes : List ℕ) → Lacks newline bytes → 0 < length bytes
+    → lines bytes ≡ bytes ∷ []
 line_of_rest bytes lacks some = lines_of_rest bytes lacks ∙ if_any_some bytes some
 
 -- no bytes are left behind all of them
@@ -145,26 +158,30 @@ pub none_ended : (held : Held) → Lacks newline held.bytes → ended_from held 
 none_ended held lacks = ap (numbered held.count) (ended_none held.bytes lacks)
 
 -- the rest counts as one line
-pub rest_counted : (held : Held) → Lacks newline held.bytes → 0 < length held.bytes → held.count + 1 + length (lines (drop (length held.bytes) held.bytes)) ≡ held.count + length (lines held.bytes)
+pub rest_counted : (held : Held) → Lacks newline held.bytes → 0 < length held.bytes
+    → held.count + 1 + length (lines (drop (length held.bytes) held.bytes)) ≡ held.count + length (lines held.bytes)
 rest_counted held lacks some =
     let none = ap lines (drop_all (length held.bytes) held.bytes (omega arith)) ∙ no_lines in
     omega (arith, ap length none, ap length (line_of_rest held.bytes lacks some))
 
 -- a rest that is passed over is no line to come
-pub skipped_rest : (held : Held) → Lacks newline held.bytes → 0 < length held.bytes → is_skipped held.bytes ≡ true → lines_from held ≡ []
+pub skipped_rest : (held : Held) → Lacks newline held.bytes → 0 < length held.bytes
+    → is_skipped held.bytes ≡ true → lines_from held ≡ []
 skipped_rest held lacks some skipped =
     ap (numbered held.count) (line_of_rest held.bytes lacks some)
     ∙ numbered_skipped held.count held.bytes [] skipped
 
 -- a rest that isn't is the one line to come
-pub kept_rest : (held : Held) → Lacks newline held.bytes → 0 < length held.bytes → is_skipped held.bytes ≡ false → lines_from held ≡ first_line held (length held.bytes) ∷ []
+pub kept_rest : (held : Held) → Lacks newline held.bytes → 0 < length held.bytes
+    → is_skipped held.bytes ≡ false → lines_from held ≡ first_line held (length held.bytes) ∷ []
 kept_rest held lacks some kept =
     ap (numbered held.count) (line_of_rest held.bytes lacks some)
     ∙ numbered_kept held.count held.bytes [] kept
     ∙ ap (λ (b : List ℕ). let l : Line = record { number = held.count + 1; bytes = b } in l ∷ []) (sym (take_all (length held.bytes) held.bytes (omega arith)))
 
 -- a rest that is too long has bytes, and isn't passed over
-pub long_is_kept : (line : List ℕ) → is_overlong line ≡ true → (0 < length line) × (is_skipped line ≡ false)
+pub long_is_kept : (line : List ℕ) → is_overlong line ≡ true
+    → (0 < length line) × (is_skipped line ≡ false)
 long_is_kept [] long = absurd (cc (long))
 long_is_kept (byte ∷ more) long = (
   omega arith,
@@ -173,7 +190,8 @@ long_is_kept (byte ∷ more) long = (
 )
 
 -- a rest that is too long is the next line
-pub long_rest : (held : Held) → Lacks newline held.bytes → is_overlong held.bytes ≡ true → NextIsLong held (held.count + 1)
+pub long_rest : (held : Held) → Lacks newline held.bytes → is_overlong held.bytes ≡ true
+    → NextIsLong held (held.count + 1)
 long_rest held lacks long =
     let kept = long_is_kept held.bytes long in record {
       line = record { number = held.count + 1; bytes = held.bytes };
@@ -186,7 +204,9 @@ long_rest held lacks long =
     }
 
 -- a held rest is the next line, if one is to come
-next_in_rest : (held : Held) → Lacks newline held.bytes → (line : Line) (behind : List Line) → lines_from held ≡ line ∷ behind → line ≡ record { number = held.count + 1; bytes = held.bytes }
+next_in_rest : (held : Held) → Lacks newline held.bytes → (line : Line) (behind : List Line)
+    → lines_from held ≡ line ∷ behind
+    → line ≡ record { number = held.count + 1; bytes = held.bytes }
 next_in_rest held lacks line behind next = elim (cases_lt 0 (length held.bytes)) [
   | inl some ↦ elim (cases_Bool (is_skipped held.bytes)) [
     | inl skipped ↦ absurd (cc (next, skipped_rest held lacks some skipped))
@@ -200,7 +220,8 @@ next_in_rest held lacks line behind next = elim (cases_lt 0 (length held.bytes))
 ]
 
 -- it is too long and has the next number exactly where the call says so
-pub long_in_rest : (held : Held) → Lacks newline held.bytes → (n : ℕ) → NextIsLong held n → (IsTrue (is_overlong held.bytes)) × (n ≡ held.count + 1)
+pub long_in_rest : (held : Held) → Lacks newline held.bytes → (n : ℕ) → NextIsLong held n
+    → (IsTrue (is_overlong held.bytes)) × (n ≡ held.count + 1)
 long_in_rest held lacks n next =
     let is = next_in_rest held lacks next.line next.behind next.next in
     (subst (λ (l : Line). IsTrue (is_overlong l.bytes)) is next.long, sym next.number ∙ ap (λ (l : Line). l.number) is)

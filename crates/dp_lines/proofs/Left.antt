@@ -8,7 +8,9 @@ use Rattle.dp_lines.proofs.Numbering.{numbered-append}
 use Rattle.dp_lines.proofs.Pieces.{ended-append, rest-append}
 
 -- the lines of what was fed, with more lines behind them
-pub lines_behind : (all : List ℕ) (done : List Line) (held : Held) (behind : List (List ℕ)) → IsLeft all done held → numbered 0 (ended all ++ behind) ≡ done ++ (ended_from held ++ numbered (held.count + length (ended held.bytes)) behind)
+pub lines_behind : (all : List ℕ) (done : List Line) (held : Held) (behind : List (List ℕ))
+    → IsLeft all done held
+    → numbered 0 (ended all ++ behind) ≡ done ++ (ended_from held ++ numbered (held.count + length (ended held.bytes)) behind)
 lines_behind all done held behind left =
     let count : 0 + length (ended all) ≡ held.count + length (ended held.bytes) = omega (arith, left.count) in
     numbered-append 0 (ended all) behind
@@ -17,7 +19,9 @@ lines_behind all done held behind left =
     ∙ append_assoc done (ended_from held) _
 
 -- more is fed
-pub left_behind_feed : (all more : List ℕ) (done : List Line) (old new : Held) → IsLeft all done old → new.bytes ≡ old.bytes ++ more → new.count ≡ old.count → new.fed ≡ old.fed + length more → IsLeft (all ++ more) done new
+pub left_behind_feed : (all more : List ℕ) (done : List Line) (old new : Held) → IsLeft all done old
+    → new.bytes ≡ old.bytes ++ more → new.count ≡ old.count → new.fed ≡ old.fed + length more
+    → IsLeft (all ++ more) done new
 left_behind_feed all more done old new left bytes count fed =
     let further = ended-append old.bytes more in
     let rest = ap (λ (b : List ℕ). b ++ more) left.rest in
@@ -38,7 +42,10 @@ left_behind_feed all more done old new left bytes count fed =
     }
 
 -- ended lines are given
-pub left_behind_lines : (all : List ℕ) (done front : List Line) (old new : Held) → IsLeft all done old → ended_from old ≡ front ++ ended_from new → new.count + length (ended new.bytes) ≡ old.count + length (ended old.bytes) → open_rest new.bytes ≡ open_rest old.bytes → new.fed ≡ old.fed → IsLeft all (done ++ front) new
+pub left_behind_lines : (all : List ℕ) (done front : List Line) (old new : Held)
+    → IsLeft all done old → ended_from old ≡ front ++ ended_from new
+    → new.count + length (ended new.bytes) ≡ old.count + length (ended old.bytes)
+    → open_rest new.bytes ≡ open_rest old.bytes → new.fed ≡ old.fed → IsLeft all (done ++ front) new
 left_behind_lines all done front old new left taken count rest fed = record {
   whole =
       left.whole ∙ ap (λ (ls : List Line). done ++ ls) taken
@@ -49,7 +56,8 @@ left_behind_lines all done front old new left taken count rest fed = record {
 }
 
 -- nothing more is fed
-pub left_at_end : (all : List ℕ) (done : List Line) (held : Held) → IsLeft all done held → numbered 0 (lines all) ≡ done ++ lines_from held
+pub left_at_end : (all : List ℕ) (done : List Line) (held : Held) → IsLeft all done held
+    → numbered 0 (lines all) ≡ done ++ lines_from held
 left_at_end all done held left =
     lines_behind all done held (if_any (open_rest all)) left
     ∙ ap (λ (b : List ℕ). done ++ (ended_from held ++ numbered (held.count + length (ended held.bytes)) (if_any b))) left.rest

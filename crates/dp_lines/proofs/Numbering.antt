@@ -9,15 +9,18 @@ use Rattle.dp_lines.specs.Taking.{first_line, behind_first, Keeps, IsEnd}
 use Rattle.dp_lines.proofs.Pieces.{ended_at, rest_at}
 
 -- a line that is passed over is counted
-pub numbered_skipped : (n : ℕ) (line : List ℕ) (behind : List (List ℕ)) → is_skipped line ≡ true → numbered n (line ∷ behind) ≡ numbered (n + 1) behind
+pub numbered_skipped : (n : ℕ) (line : List ℕ) (behind : List (List ℕ)) → is_skipped line ≡ true
+    → numbered n (line ∷ behind) ≡ numbered (n + 1) behind
 numbered_skipped n line behind skipped = cond-true (is_skipped line) _ _ skipped
 
 -- a line that isn't passed over comes first
-pub numbered_kept : (n : ℕ) (line : List ℕ) (behind : List (List ℕ)) → is_skipped line ≡ false → numbered n (line ∷ behind) ≡ record { number = n + 1; bytes = line } ∷ numbered (n + 1) behind
+pub numbered_kept : (n : ℕ) (line : List ℕ) (behind : List (List ℕ)) → is_skipped line ≡ false
+    → numbered n (line ∷ behind) ≡ record { number = n + 1; bytes = line } ∷ numbered (n + 1) behind
 numbered_kept n line behind kept = cond-false (is_skipped line) _ _ kept
 
 -- the numbers go on
-pub numbered-append : (n : ℕ) (front behind : List (List ℕ)) → numbered n (front ++ behind) ≡ numbered n front ++ numbered (n + length front) behind
+pub numbered-append : (n : ℕ) (front behind : List (List ℕ))
+    → numbered n (front ++ behind) ≡ numbered n front ++ numbered (n + length front) behind
 numbered-append n [] behind = ap (λ (k : ℕ). numbered k behind) (omega arith)
 numbered-append n (line ∷ front) behind =
     let on : n + 1 + length front ≡ n + suc (length front) = omega arith in
@@ -33,18 +36,21 @@ numbered-append n (line ∷ front) behind =
     ]
 
 -- the bytes around the first newline
-around_end : (bytes : List ℕ) (len : ℕ) → IsEnd bytes len → bytes ≡ take len bytes ++ newline ∷ drop (len + 1) bytes
+around_end : (bytes : List ℕ) (len : ℕ) → IsEnd bytes len
+    → bytes ≡ take len bytes ++ newline ∷ drop (len + 1) bytes
 around_end bytes len end =
     sym (take-append-drop len bytes)
     ∙ ap (λ (b : List ℕ). take len bytes ++ b) (drop_more bytes len 0 end.within)
     ∙ ap (λ (b : ℕ). take len bytes ++ b ∷ drop (len + 1) bytes) end.at
 
 -- the first line ends there
-pub ended_first : (bytes : List ℕ) (len : ℕ) → IsEnd bytes len → ended bytes ≡ take len bytes ∷ ended (drop (len + 1) bytes)
+pub ended_first : (bytes : List ℕ) (len : ℕ) → IsEnd bytes len
+    → ended bytes ≡ take len bytes ∷ ended (drop (len + 1) bytes)
 ended_first bytes len end =
     ap ended (around_end bytes len end) ∙ ended_at (take len bytes) (drop (len + 1) bytes) end.before
 
-pub rest_behind : (bytes : List ℕ) (len : ℕ) → IsEnd bytes len → open_rest bytes ≡ open_rest (drop (len + 1) bytes)
+pub rest_behind : (bytes : List ℕ) (len : ℕ) → IsEnd bytes len
+    → open_rest bytes ≡ open_rest (drop (len + 1) bytes)
 rest_behind bytes len end =
     ap open_rest (around_end bytes len end) ∙ rest_at (take len bytes) (drop (len + 1) bytes) end.before
 
@@ -62,11 +68,13 @@ keeps_further old held new first second = record {
 }
 
 -- taking the first line, with its newline, counts it
-pub first_counted : (held : Held) (len : ℕ) → IsEnd held.bytes len → held.count + 1 + length (ended (drop (len + 1) held.bytes)) ≡ held.count + length (ended held.bytes)
+pub first_counted : (held : Held) (len : ℕ) → IsEnd held.bytes len
+    → held.count + 1 + length (ended (drop (len + 1) held.bytes)) ≡ held.count + length (ended held.bytes)
 first_counted held len end = omega (arith, ap length (ended_first held.bytes len end))
 
 -- so does taking one that is passed over, which changes nothing of the lines to come
-pub keeps_behind_skipped : (held : Held) (len : ℕ) → IsEnd held.bytes len → is_skipped (take len held.bytes) ≡ true → Keeps held (behind_first held (len + 1))
+pub keeps_behind_skipped : (held : Held) (len : ℕ) → IsEnd held.bytes len
+    → is_skipped (take len held.bytes) ≡ true → Keeps held (behind_first held (len + 1))
 keeps_behind_skipped held len end skipped = record {
   lines =
       sym (ap (numbered held.count) (ended_first held.bytes len end)
@@ -77,7 +85,9 @@ keeps_behind_skipped held len end skipped = record {
 }
 
 -- taking one that isn't passed over leaves the lines behind it
-pub lines_behind_kept : (held : Held) (len : ℕ) → IsEnd held.bytes len → is_skipped (take len held.bytes) ≡ false → ended_from held ≡ first_line held len ∷ ended_from (behind_first held (len + 1))
+pub lines_behind_kept : (held : Held) (len : ℕ) → IsEnd held.bytes len
+    → is_skipped (take len held.bytes) ≡ false
+    → ended_from held ≡ first_line held len ∷ ended_from (behind_first held (len + 1))
 lines_behind_kept held len end kept =
     ap (numbered held.count) (ended_first held.bytes len end)
     ∙ numbered_kept held.count (take len held.bytes) (ended (drop (len + 1) held.bytes)) kept

@@ -6,14 +6,16 @@ use Rattle.std.proofs.lemmas.List.Splits.{join_with_byte-slice_split}
 use Rattle.dp_lines.specs.Lines.{newline, pieces, Lacks, ended, open_rest}
 use Rattle.dp_lines.proofs.Pieces.{Parts, parts_of, last, next, pieces_lacking, pieces_at, some_piece, ended_none, rest_none, ended_at, rest_at}
 
-pub join-pieces : (separator : ℕ) (bytes : List ℕ) → join_with_byte separator (pieces separator bytes) ≡ bytes
+pub join-pieces : (separator : ℕ) (bytes : List ℕ)
+    → join_with_byte separator (pieces separator bytes) ≡ bytes
 join-pieces separator bytes = join_with_byte-slice_split separator bytes
 
 pub pieces_some : (separator : ℕ) (bytes : List ℕ) → pieces separator bytes ≢ []
 pieces_some separator bytes none = omega (arith, some_piece separator bytes, ap length none)
 
 -- no part holds a separator
-lacking_parts : (separator : ℕ) (bytes : List ℕ) → Parts separator bytes → All (Lacks separator) (pieces separator bytes)
+lacking_parts : (separator : ℕ) (bytes : List ℕ) → Parts separator bytes
+    → All (Lacks separator) (pieces separator bytes)
 lacking_parts separator _ (last bytes lacks) =
     All-same (Lacks separator) (pieces separator bytes) (bytes ∷ []) (pieces_lacking separator bytes lacks)
     (All-cons (Lacks separator) bytes [] lacks (All-nil (Lacks separator)))
@@ -26,7 +28,8 @@ pub pieces_lack : (separator : ℕ) (bytes : List ℕ) → All (Lacks separator)
 pieces_lack separator bytes = lacking_parts separator bytes (parts_of separator bytes)
 
 -- parts without a separator are the parts of what they are joined to
-pub pieces-join : (separator : ℕ) (parts : List (List ℕ)) → parts ≢ [] → All (Lacks separator) parts → pieces separator (join_with_byte separator parts) ≡ parts
+pub pieces-join : (separator : ℕ) (parts : List (List ℕ)) → parts ≢ [] → All (Lacks separator) parts
+    → pieces separator (join_with_byte separator parts) ≡ parts
 pieces-join separator [] some lack = absurd (some refl)
 pieces-join separator (part ∷ []) some lack = pieces_lacking separator part (All-head (Lacks separator) part [] lack)
 pieces-join separator (part ∷ other ∷ more) some lack =
@@ -43,7 +46,8 @@ one_line : (line more : List ℕ) → (line ++ newline ∷ []) ++ more ≡ line 
 one_line line more = append_assoc line (newline ∷ []) more
 
 -- the bytes are their lines with newlines, and their rest
-whole_parts : (bytes : List ℕ) → Parts newline bytes → bytes ≡ flat_map (λ line. line ++ newline ∷ []) (ended bytes) ++ open_rest bytes
+whole_parts : (bytes : List ℕ) → Parts newline bytes
+    → bytes ≡ flat_map (λ line. line ++ newline ∷ []) (ended bytes) ++ open_rest bytes
 whole_parts _ (last bytes lacks) =
     sym (rest_none bytes lacks)
     ∙ ap (λ (ls : List (List ℕ)). flat_map (λ line. line ++ newline ∷ []) ls ++ open_rest bytes) (sym (ended_none bytes lacks))
@@ -58,7 +62,8 @@ whole_parts _ (next bytes line behind whole lacks parts) =
     ∙ ap (λ (ls : List (List ℕ)). flat ls ++ open_rest behind) (sym ends)
     ∙ ap (λ (b : List ℕ). flat (ended bytes) ++ b) (sym rests)
 
-pub ended_and_rest : (bytes : List ℕ) → bytes ≡ flat_map (λ line. line ++ newline ∷ []) (ended bytes) ++ open_rest bytes
+pub ended_and_rest : (bytes : List ℕ)
+    → bytes ≡ flat_map (λ line. line ++ newline ∷ []) (ended bytes) ++ open_rest bytes
 ended_and_rest bytes = whole_parts bytes (parts_of newline bytes)
 
 -- no ended line holds a newline
@@ -82,7 +87,9 @@ pub rest_lacks : (bytes : List ℕ) → Lacks newline (open_rest bytes)
 rest_lacks bytes = lacking_rest bytes (parts_of newline bytes)
 
 -- lines with newlines and a rest are the lines and the rest of their bytes
-pub lines_only : (lines : List (List ℕ)) (rest : List ℕ) → All (Lacks newline) lines → Lacks newline rest → (ended (flat_map (λ line. line ++ newline ∷ []) lines ++ rest) ≡ lines) × (open_rest (flat_map (λ line. line ++ newline ∷ []) lines ++ rest) ≡ rest)
+pub lines_only : (lines : List (List ℕ)) (rest : List ℕ) → All (Lacks newline) lines
+    → Lacks newline rest
+    → (ended (flat_map (λ line. line ++ newline ∷ []) lines ++ rest) ≡ lines) × (open_rest (flat_map (λ line. line ++ newline ∷ []) lines ++ rest) ≡ rest)
 lines_only [] rest lack lacks = (ended_none rest lacks, rest_none rest lacks)
 lines_only (line ∷ lines) rest lack lacks =
     let flat = flat_map (λ line. line ++ newline ∷ []) in

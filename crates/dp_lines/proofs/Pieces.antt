@@ -7,16 +7,19 @@ use Rattle.std.proofs.lemmas.List.Splits.{slice_split_none, slice_split_at, leng
 use Rattle.dp_lines.specs.Lines.{newline, pieces, Lacks, all_but_last, ended, open_rest}
 
 -- the test of each byte fails where none is the separator
-tests_fail : (separator : ℕ) (bytes : List ℕ) → Lacks separator bytes → All (λ byte. (byte == separator) ≡ false) bytes
+tests_fail : (separator : ℕ) (bytes : List ℕ) → Lacks separator bytes
+    → All (λ byte. (byte == separator) ≡ false) bytes
 tests_fail separator bytes lacks k d within = ne_eqb (get_or bytes k d) separator (lacks k d within)
 
 -- bytes without a separator are one part
-pub pieces_lacking : (separator : ℕ) (bytes : List ℕ) → Lacks separator bytes → pieces separator bytes ≡ bytes ∷ []
+pub pieces_lacking : (separator : ℕ) (bytes : List ℕ) → Lacks separator bytes
+    → pieces separator bytes ≡ bytes ∷ []
 pieces_lacking separator bytes lacks =
     slice_split_none (λ byte. byte == separator) bytes (tests_fail separator bytes lacks)
 
 -- the first part ends at the first separator
-pub pieces_at : (separator : ℕ) (part more : List ℕ) → Lacks separator part → pieces separator (part ++ separator ∷ more) ≡ part ∷ pieces separator more
+pub pieces_at : (separator : ℕ) (part more : List ℕ) → Lacks separator part
+    → pieces separator (part ++ separator ∷ more) ≡ part ∷ pieces separator more
 pieces_at separator part more lacks =
     slice_split_at (λ byte. byte == separator) part separator more (tests_fail separator part lacks) (eq-eqb separator separator refl)
 
@@ -30,7 +33,8 @@ pub data Parts (separator : ℕ) : List ℕ → Type 0 where
   next : (bytes part behind : List ℕ) → bytes ≡ part ++ separator ∷ behind → Lacks separator part → Parts separator behind → Parts separator bytes
 
 -- one byte more in front that is no separator
-longer : (separator byte : ℕ) (bytes : List ℕ) → byte ≢ separator → Parts separator bytes → Parts separator (byte ∷ bytes)
+longer : (separator byte : ℕ) (bytes : List ℕ) → byte ≢ separator → Parts separator bytes
+    → Parts separator (byte ∷ bytes)
 longer separator byte _ other (last bytes lacks) =
     last (byte ∷ bytes) (All-cons (λ b. b ≢ separator) byte bytes other lacks)
 longer separator byte _ other (next bytes part behind whole lacks rest) =
@@ -45,7 +49,8 @@ parts_of separator (byte ∷ bytes) = elim (cases_eq byte separator) [
 ]
 
 -- one more in front
-front_more : {X : Type 0} (x : X) (xs : List X) → 0 < length xs → all_but_last (x ∷ xs) ≡ x ∷ all_but_last xs
+front_more : {X : Type 0} (x : X) (xs : List X) → 0 < length xs
+    → all_but_last (x ∷ xs) ≡ x ∷ all_but_last xs
 front_more x [] some = absurd (omega arith)
 front_more x (y ∷ xs) some =
     let two : suc (suc (length xs)) - 1 ≡ suc (length xs) = omega arith in
@@ -53,7 +58,8 @@ front_more x (y ∷ xs) some =
     ap (λ (k : ℕ). take k (x ∷ y ∷ xs)) two ∙ ap (λ (k : ℕ). x ∷ take k (y ∷ xs)) (sym one)
 
 -- the last of more
-last_more : {X : Type 0} (d x : X) (xs : List X) → 0 < length xs → get_or (x ∷ xs) (length (x ∷ xs) - 1) d ≡ get_or xs (length xs - 1) d
+last_more : {X : Type 0} (d x : X) (xs : List X) → 0 < length xs
+    → get_or (x ∷ xs) (length (x ∷ xs) - 1) d ≡ get_or xs (length xs - 1) d
 last_more d x [] some = absurd (omega arith)
 last_more d x (y ∷ xs) some =
     let two : suc (suc (length xs)) - 1 ≡ suc (length xs) = omega arith in
@@ -72,20 +78,23 @@ rest_none bytes lacks =
     ap (λ (ps : List (List ℕ)). get_or ps (length ps - 1) []) (pieces_lacking newline bytes lacks)
 
 -- the first line ends at the first newline
-pub ended_at : (line more : List ℕ) → Lacks newline line → ended (line ++ newline ∷ more) ≡ line ∷ ended more
+pub ended_at : (line more : List ℕ) → Lacks newline line
+    → ended (line ++ newline ∷ more) ≡ line ∷ ended more
 unfolding ended
 ended_at line more lacks =
     ap all_but_last (pieces_at newline line more lacks) ∙ front_more line (pieces newline more) (some_piece newline more)
 
 -- and what stands behind it has the rest
-pub rest_at : (line more : List ℕ) → Lacks newline line → open_rest (line ++ newline ∷ more) ≡ open_rest more
+pub rest_at : (line more : List ℕ) → Lacks newline line
+    → open_rest (line ++ newline ∷ more) ≡ open_rest more
 unfolding open_rest
 rest_at line more lacks =
     ap (λ (ps : List (List ℕ)). get_or ps (length ps - 1) []) (pieces_at newline line more lacks)
     ∙ last_more [] line (pieces newline more) (some_piece newline more)
 
 -- the lines of bytes that go on
-ended_further : (bytes more : List ℕ) → Parts newline bytes → ended (bytes ++ more) ≡ ended bytes ++ ended (open_rest bytes ++ more)
+ended_further : (bytes more : List ℕ) → Parts newline bytes
+    → ended (bytes ++ more) ≡ ended bytes ++ ended (open_rest bytes ++ more)
 ended_further _ more (last bytes lacks) =
     ap (λ (b : List ℕ). ended (b ++ more)) (sym (rest_none bytes lacks))
     ∙ ap (λ (ls : List (List ℕ)). ls ++ ended (open_rest bytes ++ more)) (sym (ended_none bytes lacks))
@@ -98,11 +107,13 @@ ended_further _ more (next bytes line behind whole lacks parts) =
     ∙ ap (λ (ls : List (List ℕ)). ls ++ ended (open_rest behind ++ more)) (sym ends)
     ∙ ap (λ (b : List ℕ). ended bytes ++ ended (b ++ more)) (sym rests)
 
-pub ended-append : (bytes more : List ℕ) → ended (bytes ++ more) ≡ ended bytes ++ ended (open_rest bytes ++ more)
+pub ended-append : (bytes more : List ℕ)
+    → ended (bytes ++ more) ≡ ended bytes ++ ended (open_rest bytes ++ more)
 ended-append bytes more = ended_further bytes more (parts_of newline bytes)
 
 -- the rest of bytes that go on
-rest_further : (bytes more : List ℕ) → Parts newline bytes → open_rest (bytes ++ more) ≡ open_rest (open_rest bytes ++ more)
+rest_further : (bytes more : List ℕ) → Parts newline bytes
+    → open_rest (bytes ++ more) ≡ open_rest (open_rest bytes ++ more)
 rest_further _ more (last bytes lacks) =
     ap (λ (b : List ℕ). open_rest (b ++ more)) (sym (rest_none bytes lacks))
 rest_further _ more (next bytes line behind whole lacks parts) =
@@ -112,5 +123,6 @@ rest_further _ more (next bytes line behind whole lacks parts) =
     ∙ rest_further behind more parts
     ∙ ap (λ (b : List ℕ). open_rest (b ++ more)) (sym rests)
 
-pub rest-append : (bytes more : List ℕ) → open_rest (bytes ++ more) ≡ open_rest (open_rest bytes ++ more)
+pub rest-append : (bytes more : List ℕ)
+    → open_rest (bytes ++ more) ≡ open_rest (open_rest bytes ++ more)
 rest-append bytes more = rest_further bytes more (parts_of newline bytes)

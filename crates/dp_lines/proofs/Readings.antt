@@ -12,7 +12,9 @@ pub no_steps : (IsStep : List Line → Line → Type 0) → AreSteps IsStep []
 no_steps IsStep before line behind same = absurd (no_front before behind line same)
 
 -- a place in a list with one more at its end is the last, or a place in the list
-last_or_before : (done before : List Line) (last line : Line) (behind : List Line) → done ++ last ∷ [] ≡ before ++ line ∷ behind → ((done ≡ before) × (last ≡ line)) ⊎ ((others : List Line) × (done ≡ before ++ line ∷ others))
+last_or_before : (done before : List Line) (last line : Line) (behind : List Line)
+    → done ++ last ∷ [] ≡ before ++ line ∷ behind
+    → ((done ≡ before) × (last ≡ line)) ⊎ ((others : List Line) × (done ≡ before ++ line ∷ others))
 last_or_before [] [] last line behind same = inl (refl, cc (same))
 last_or_before [] (first ∷ before) last line behind same =
     absurd (no_front before behind line (cc (same)))
@@ -29,7 +31,8 @@ last_or_before (first ∷ done) (other ∷ before) last line behind same =
     ]
 
 -- one more step
-pub one_more_step : (IsStep : List Line → Line → Type 0) (done : List Line) (last : Line) → AreSteps IsStep done → IsDoable IsStep done last → AreSteps IsStep (done ++ last ∷ [])
+pub one_more_step : (IsStep : List Line → Line → Type 0) (done : List Line) (last : Line)
+    → AreSteps IsStep done → IsDoable IsStep done last → AreSteps IsStep (done ++ last ∷ [])
 one_more_step IsStep done last steps doable before line behind same =
     elim (last_or_before done before last line behind same) [
       | inl (dones, lasts) ↦
@@ -38,7 +41,8 @@ one_more_step IsStep done last steps doable before line behind same =
     ]
 
 -- two places in one list: they are one, or one of them comes first
-one_place : (all before others : List Line) (line other : Line) (behind more : List Line) → all ≡ before ++ line ∷ behind → all ≡ others ++ other ∷ more
+one_place : (all before others : List Line) (line other : Line) (behind more : List Line)
+    → all ≡ before ++ line ∷ behind → all ≡ others ++ other ∷ more
     → ((before ≡ others) × (line ≡ other)) ⊎ (((rest : List Line) × (others ≡ before ++ line ∷ rest)) ⊎ ((rest : List Line) × (before ≡ others ++ other ∷ rest)))
 one_place all [] [] line other behind more first second =
     inl (refl, cc (sym first ∙ second))
@@ -60,11 +64,13 @@ one_place all (b ∷ before) (o ∷ others) line other behind more first second 
     ]
 
 -- lines that are all steps don't stop
-no_stop : (IsStep : List Line → Line → Type 0) (all done : List Line) (n : ℕ) → AreSteps IsStep all → StopsAt IsStep all done n → ⊥
+no_stop : (IsStep : List Line → Line → Type 0) (all done : List Line) (n : ℕ) → AreSteps IsStep all
+    → StopsAt IsStep all done n → ⊥
 no_stop IsStep all done n steps stop = stop.bad (steps done stop.line stop.behind stop.next)
 
 -- lines stop at one place
-one_stop : (IsStep : List Line → Line → Type 0) (all done others : List Line) (m n : ℕ) → StopsAt IsStep all done m → StopsAt IsStep all others n → (done ≡ others) × (m ≡ n)
+one_stop : (IsStep : List Line → Line → Type 0) (all done others : List Line) (m n : ℕ)
+    → StopsAt IsStep all done m → StopsAt IsStep all others n → (done ≡ others) × (m ≡ n)
 one_stop IsStep all done others m n first second =
     elim (one_place all done others first.line second.line first.behind second.behind first.next second.next) [
       | inl (fronts, lines) ↦ (fronts, sym first.number ∙ ap (λ (l : Line). l.number) lines ∙ second.number)
@@ -73,7 +79,9 @@ one_stop IsStep all done others m n first second =
     ]
 
 -- an input comes to one end, with one list of lines
-pub one_reading : (IsStep : List Line → Line → Type 0) (limit : ℕ) (bytes : List ℕ) (done others : List Line) (end last : LinesEnd) → LinesComeTo IsStep limit bytes done end → LinesComeTo IsStep limit bytes others last → (done ≡ others) × (end ≡ last)
+pub one_reading : (IsStep : List Line → Line → Type 0) (limit : ℕ) (bytes : List ℕ) (done others : List Line) (end last : LinesEnd)
+    → LinesComeTo IsStep limit bytes done end → LinesComeTo IsStep limit bytes others last
+    → (done ≡ others) × (end ≡ last)
 one_reading IsStep limit bytes done others AllDone AllDone first second = (first.1 ∙ sym second.1, refl)
 one_reading IsStep limit bytes done others AllDone TooLong first second = absurd (omega (arith, first.0, second.0))
 one_reading IsStep limit bytes done others TooLong AllDone first second = absurd (omega (arith, first.0, second.0))

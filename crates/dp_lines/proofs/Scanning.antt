@@ -8,26 +8,31 @@ use Rattle.dp_lines.specs.Lines.{newline, Lacks}
 use Rattle.dp_lines.specs.Taking.{IsScanned, IsEnd}
 
 -- a byte of the scanned front is no newline
-scanned_at : (bytes : List ℕ) (from : ℕ) → IsScanned bytes from → (k d : ℕ) → k < from → get_or bytes k d ≢ newline
+scanned_at : (bytes : List ℕ) (from : ℕ) → IsScanned bytes from → (k d : ℕ) → k < from
+    → get_or bytes k d ≢ newline
 scanned_at bytes from scanned k d below =
     let within : k < length (take from bytes) = omega (arith, length-take from bytes, scanned.within) in
     subst (λ (b : ℕ). b ≢ newline) (get_or-take from bytes k d below) (scanned.none k d within)
 
 -- a byte at k, seen as one behind the scanned front
-behind_at : (bytes : List ℕ) (from k d : ℕ) → from ≤ k → get_or (drop from bytes) (k - from) d ≡ get_or bytes k d
+behind_at : (bytes : List ℕ) (from k d : ℕ) → from ≤ k
+    → get_or (drop from bytes) (k - from) d ≡ get_or bytes k d
 behind_at bytes from k d above =
     let same : from + (k - from) ≡ k = omega arith in
     get_or-drop from bytes (k - from) d ∙ ap (λ (j : ℕ). get_or bytes j d) same
 
 -- neither the scanned front nor what is searched behind it holds a newline, up to `len`
-none_up_to : (bytes : List ℕ) (from len : ℕ) → IsScanned bytes from → len ≤ length bytes → ((k d : ℕ) → k + from < len → get_or (drop from bytes) k d ≢ newline) → (k d : ℕ) → k < len → get_or bytes k d ≢ newline
+none_up_to : (bytes : List ℕ) (from len : ℕ) → IsScanned bytes from → len ≤ length bytes
+    → ((k d : ℕ) → k + from < len → get_or (drop from bytes) k d ≢ newline) → (k d : ℕ) → k < len
+    → get_or bytes k d ≢ newline
 none_up_to bytes from len scanned within behind k d below = elim (cases_lt k from) [
   | inl front ↦ scanned_at bytes from scanned k d front
   | inr above ↦ subst (λ (b : ℕ). b ≢ newline) (behind_at bytes from k d above) (behind (k - from) d (omega arith))
 ]
 
 -- the first newline behind the scanned front is the first of all
-pub found_end : (bytes : List ℕ) (from at : ℕ) → IsScanned bytes from → position (λ byte. byte == newline) (drop from bytes) ≡ Some at → IsEnd bytes (from + at)
+pub found_end : (bytes : List ℕ) (from at : ℕ) → IsScanned bytes from
+    → position (λ byte. byte == newline) (drop from bytes) ≡ Some at → IsEnd bytes (from + at)
 found_end bytes from at scanned found =
     let parts = λ (d : ℕ). position-Some (λ byte. byte == newline) (drop from bytes) at d found in
     let within : from + at < length bytes = omega (arith, length-drop from bytes, (parts 0).0) in
@@ -43,7 +48,8 @@ found_end bytes from at scanned found =
     }
 
 -- where the prefix that passes is the whole list, all passes
-all_pass : (test : ℕ → Bool) (xs : List ℕ) → length xs ≤ prefix_len test xs → All (λ x. test x ≡ true) xs
+all_pass : (test : ℕ → Bool) (xs : List ℕ) → length xs ≤ prefix_len test xs
+    → All (λ x. test x ≡ true) xs
 all_pass test [] whole = All-nil (λ x. test x ≡ true)
 all_pass test (x ∷ xs) whole = elim (cases_Bool (test x)) [
   | inl passes ↦
@@ -55,7 +61,8 @@ all_pass test (x ∷ xs) whole = elim (cases_Bool (test x)) [
 ]
 
 -- where no position is found, the prefix without one is the whole list
-none_found : (test : ℕ → Bool) (xs : List ℕ) → position test xs ≡ None → length xs ≤ position_or_len test xs
+none_found : (test : ℕ → Bool) (xs : List ℕ) → position test xs ≡ None
+    → length xs ≤ position_or_len test xs
 none_found test xs none = elim (cases_lt (position_or_len test xs) (length xs)) [
   | inl below ↦
       let found = cond-true (nat_lt (position_or_len test xs) (length xs)) (Some (position_or_len test xs)) None (lt-ltb _ _ below) in
@@ -64,7 +71,8 @@ none_found test xs none = elim (cases_lt (position_or_len test xs) (length xs)) 
 ]
 
 -- where none is found behind the scanned front, there is none
-pub found_none : (bytes : List ℕ) (from : ℕ) → IsScanned bytes from → position (λ byte. byte == newline) (drop from bytes) ≡ None → Lacks newline bytes
+pub found_none : (bytes : List ℕ) (from : ℕ) → IsScanned bytes from
+    → position (λ byte. byte == newline) (drop from bytes) ≡ None → Lacks newline bytes
 found_none bytes from scanned none =
     let pass = all_pass (λ byte. not (byte == newline)) (drop from bytes) (none_found (λ byte. byte == newline) (drop from bytes) none) in
     none_up_to bytes from (length bytes) scanned (omega arith)

@@ -35,11 +35,13 @@ pub record Sees (limit : ℕ) (all more : List ℕ) : Type 0 where
   long : (rest : List ℕ) → is_overlong rest ≡ true → tail rest ≡ rest ∷ []
 
 -- an input that is longer than counts is cut
-cut_at : (limit : ℕ) (bytes : List ℕ) → limit < length bytes → seen limit bytes ≡ numbered 0 (front_lines (take limit bytes))
+cut_at : (limit : ℕ) (bytes : List ℕ) → limit < length bytes
+    → seen limit bytes ≡ numbered 0 (front_lines (take limit bytes))
 cut_at limit bytes over = ap (numbered 0) (cond-false (nat_le (length bytes) limit) _ _ (lt-leb _ _ over))
 
 -- one that isn't is whole
-whole_at : (limit : ℕ) (bytes : List ℕ) → length bytes ≤ limit → seen limit bytes ≡ numbered 0 (lines bytes)
+whole_at : (limit : ℕ) (bytes : List ℕ) → length bytes ≤ limit
+    → seen limit bytes ≡ numbered 0 (lines bytes)
 whole_at limit bytes within = ap (numbered 0) (cond-true (nat_le (length bytes) limit) _ _ (le-leb _ _ within))
 
 sees : (limit : ℕ) (all more : List ℕ) → length all ≤ limit → Sees limit all more
@@ -61,7 +63,9 @@ sees limit all more counts = elim (cases_lt limit (length (all ++ more))) [
 ]
 
 -- the lines that were given are the first that are seen, and then those that are left
-seen_behind : (limit : ℕ) (all more : List ℕ) (done : List Line) (held : Held) (s : Sees limit all more) → IsLeft all done held → seen limit (all ++ more) ≡ done ++ (ended_from held ++ numbered (held.count + length (ended held.bytes)) (ended (open_rest all ++ s.further) ++ s.tail (open_rest (open_rest all ++ s.further))))
+seen_behind : (limit : ℕ) (all more : List ℕ) (done : List Line) (held : Held) (s : Sees limit all more)
+    → IsLeft all done held
+    → seen limit (all ++ more) ≡ done ++ (ended_from held ++ numbered (held.count + length (ended held.bytes)) (ended (open_rest all ++ s.further) ++ s.tail (open_rest (open_rest all ++ s.further))))
 seen_behind limit all more done held s left =
     s.whole
     ∙ ap (λ (b : List ℕ). numbered 0 (ended (all ++ s.further) ++ s.tail b)) (rest-append all s.further)
@@ -69,7 +73,9 @@ seen_behind limit all more done held s left =
     ∙ ap (numbered 0) (append_assoc (ended all) (ended (open_rest all ++ s.further)) _)
     ∙ lines_behind all done held _ left
 
-pub given_seen : (limit : ℕ) (all more : List ℕ) (done : List Line) (held : Held) → IsLeft all done held → length all ≤ limit → (behind : List Line) × (seen limit (all ++ more) ≡ done ++ behind)
+pub given_seen : (limit : ℕ) (all more : List ℕ) (done : List Line) (held : Held)
+    → IsLeft all done held → length all ≤ limit
+    → (behind : List Line) × (seen limit (all ++ more) ≡ done ++ behind)
 given_seen limit all more done held left counts =
     let s = sees limit all more counts in
     (_, seen_behind limit all more done held s left)
@@ -90,7 +96,9 @@ record Begins (lines : List (List ℕ)) : Type 0 where
   split : lines ≡ first ∷ others
   long : is_overlong first ≡ true
 
-begins_long : (rest more : List ℕ) (tail : List ℕ → List (List ℕ)) → Lacks newline rest → is_overlong rest ≡ true → ((b : List ℕ) → is_overlong b ≡ true → tail b ≡ b ∷ []) → Parts newline more → Begins (ended (rest ++ more) ++ tail (open_rest (rest ++ more)))
+begins_long : (rest more : List ℕ) (tail : List ℕ → List (List ℕ)) → Lacks newline rest
+    → is_overlong rest ≡ true → ((b : List ℕ) → is_overlong b ≡ true → tail b ≡ b ∷ [])
+    → Parts newline more → Begins (ended (rest ++ more) ++ tail (open_rest (rest ++ more)))
 begins_long rest _ tail lacks long adds (last more none) =
     let all = All-append (λ byte. byte ≢ newline) rest more lacks none in
     let longer = long_on rest more long in record {
@@ -113,14 +121,17 @@ begins_long rest _ tail lacks long adds (next more part behind whole none parts)
     }
 
 -- the first of two joined lists has the first, or is empty
-first_where : (front more : List Line) (line : Line) (behind : List Line) → front ++ more ≡ line ∷ behind → ((others : List Line) × (front ≡ line ∷ others)) ⊎ ((front ≡ []) × (more ≡ line ∷ behind))
+first_where : (front more : List Line) (line : Line) (behind : List Line)
+    → front ++ more ≡ line ∷ behind
+    → ((others : List Line) × (front ≡ line ∷ others)) ⊎ ((front ≡ []) × (more ≡ line ∷ behind))
 first_where [] more line behind same = inr (refl, same)
 first_where (first ∷ front) more line behind same =
     let head : first ≡ line = cc (same) in
     inl (front, ap (λ (l : Line). l ∷ front) head)
 
 -- the line of a rest
-line_is_rest : (n : ℕ) (rest : List ℕ) (line : Line) (behind : List Line) → numbered n (if_any rest) ≡ line ∷ behind → line ≡ record { number = n + 1; bytes = rest }
+line_is_rest : (n : ℕ) (rest : List ℕ) (line : Line) (behind : List Line)
+    → numbered n (if_any rest) ≡ line ∷ behind → line ≡ record { number = n + 1; bytes = rest }
 line_is_rest n [] line behind same = absurd (cc (same))
 line_is_rest n (byte ∷ more) line behind same = elim (cases_Bool (is_skipped (byte ∷ more))) [
   | inl skipped ↦ absurd (cc (same, numbered_skipped n (byte ∷ more) [] skipped))
@@ -135,7 +146,8 @@ pub record SeesLong (limit : ℕ) (all more : List ℕ) (done : List Line) (n : 
   pub long : IsTrue (is_overlong line.bytes)
   pub number : line.number ≡ n
 
-pub long_seen : (limit : ℕ) (all more : List ℕ) (done : List Line) (held : Held) (n : ℕ) → IsLeft all done held → length all ≤ limit → NextIsLong held n → SeesLong limit all more done n
+pub long_seen : (limit : ℕ) (all more : List ℕ) (done : List Line) (held : Held) (n : ℕ)
+    → IsLeft all done held → length all ≤ limit → NextIsLong held n → SeesLong limit all more done n
 long_seen limit all more done held n left counts found =
     let s = sees limit all more counts in
     let count = held.count + length (ended held.bytes) in
@@ -168,7 +180,9 @@ long_seen limit all more done held n left counts found =
     ]
 
 -- where the input is cut, a rest that isn't too long is no line
-pub cut_seen : (limit : ℕ) (all more : List ℕ) (done : List Line) (held : Held) → IsLeft all done held → length all ≡ limit → more ≢ [] → ended_from held ≡ [] → ((n : ℕ) → ¬ NextIsLong held n) → seen limit (all ++ more) ≡ done
+pub cut_seen : (limit : ℕ) (all more : List ℕ) (done : List Line) (held : Held)
+    → IsLeft all done held → length all ≡ limit → more ≢ [] → ended_from held ≡ []
+    → ((n : ℕ) → ¬ NextIsLong held n) → seen limit (all ++ more) ≡ done
 cut_seen limit all [] done held left counts some none short = absurd (some refl)
 cut_seen limit all (byte ∷ more) done held left counts some none short =
     let bytes = all ++ byte ∷ more in
@@ -199,5 +213,6 @@ cut_seen limit all (byte ∷ more) done held left counts some none short =
           ∙ append-nil done
     ]
 
-pub whole_seen : (limit : ℕ) (all : List ℕ) (done : List Line) (held : Held) → IsLeft all done held → length all ≤ limit → seen limit all ≡ done ++ lines_from held
+pub whole_seen : (limit : ℕ) (all : List ℕ) (done : List Line) (held : Held) → IsLeft all done held
+    → length all ≤ limit → seen limit all ≡ done ++ lines_from held
 whole_seen limit all done held left counts = whole_at limit all counts ∙ left_at_end all done held left

@@ -4,26 +4,29 @@ use Rattle.dp_lines.specs.declared.line.Line.{Line}
 use Rattle.dp_lines.specs.Held.{IsInLimit}
 use Rattle.dp_lines.specs.Lines.{ended, open_rest, lines, numbered, is_overlong}
 
--- how an input ends: all of its lines are steps, the line of this number is none, or it has more bytes than count
+-- how an input ends: all of its lines are steps, the line of this number is none, or it has more
+-- bytes than count
 pub data LinesEnd : Type 0 where
   AllDone : LinesEnd
   BadLine : ℕ → LinesEnd
   TooLong : LinesEnd
 
--- the lines of a front of a longer input: the ended ones, and the open rest where it is too long already
+-- the lines of a front of a longer input: the ended ones, and the open rest where it is too long
+-- already
 abbrev pub front_lines : List ℕ → List (List ℕ)
 front_lines bytes =
     ended bytes ++ (if is_overlong (open_rest bytes) then open_rest bytes ∷ [] else [])
 
--- the lines that count: all lines of an input of at most `limit` bytes, and of a longer one those of its first `limit` bytes
+-- the lines that count: all lines of an input of at most `limit` bytes, and of a longer one those
+-- of its first `limit` bytes
 abbrev pub seen : ℕ → List ℕ → List Line
 seen limit bytes =
     numbered 0 (if nat_le (length bytes) limit then lines bytes else front_lines (take limit bytes))
 
 -- the line isn't too long, and is a step after the lines before it
-pub record IsDoable (IsStep : List Line → Line → Type 0) (before : List Line) (line : Line) : Type 0 where
+pub record IsDoable (IsStep : List Line → Line → Type 0) (done : List Line) (line : Line) : Type 0 where
   pub fits : IsInLimit line
-  pub step : IsStep before line
+  pub step : IsStep done line
 
 -- each line is doable after those before it
 abbrev pub AreSteps : (List Line → Line → Type 0) → List Line → Type 0

@@ -63,7 +63,8 @@ line_limit = 131100
 abbrev pub is_overlong : List ℕ → Bool
 is_overlong line = not (is_comment line) && nat_lt line_limit (length line)
 
--- the lines that aren't passed over, each with its number; the first line of all has the number n + 1
+-- the lines that aren't passed over, each with its number; the first line of all has the number
+-- n + 1
 abbrev pub numbered : ℕ → List (List ℕ) → List Line
 numbered n [] = []
 numbered n (line ∷ behind) =

@@ -14,7 +14,8 @@ ghost use Rattle.dp_lines.specs.Lines.{newline, pieces, Lacks, ended, open_rest,
 ghost use Rattle.dp_lines.specs.Lines.{is_overlong, numbered};
 ghost use Rattle.dp_lines.specs.Numbers.{IsNumber};
 
-/// What a step is: a line after the lines before it.
+/// What a step is: a line after the lines before it. For laws alone, which are called at a type
+/// that says it.
 pub trait Steps {
     ghost use Rattle.std.specs.Prelude.{List};
     ghost use Rattle.dp_lines.specs.declared.line.Line.{Line};

@@ -127,9 +127,10 @@ impl Lines {
         ensures long { (n : ℕ) → (result ≡ Err (LineError.Long n)) ↔ NextIsLong self.old n }
         ensures memory { result ≡ Err LineError.Memory → lines_from self.old ≢ [] }
 
-        // Each line is counted once.
+        // Each line is counted once, and an error leaves what stands behind the last newline.
         ensures count { self.new.count + length (lines self.new.bytes)
             ≡ self.old.count + length (lines self.old.bytes) }
+        ensures rest { OnErr result (open_rest self.new.bytes ≡ open_rest self.old.bytes) }
         ensures fed { self.new.fed ≡ self.old.fed }
     {
         match self.pass_over() {
@@ -212,6 +213,7 @@ impl Lines {
         ensures memory { result ≡ Err LineError.Memory → lines_from self.old ≢ [] }
         ensures count { self.new.count + length (lines self.new.bytes)
             ≡ self.old.count + length (lines self.old.bytes) }
+        ensures rest { OnErr result (open_rest self.new.bytes ≡ open_rest self.old.bytes) }
         ensures fed { self.new.fed ≡ self.old.fed }
     {
         let len = self.buffer.len();

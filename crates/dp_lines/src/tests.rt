@@ -9,7 +9,7 @@ use std::test::Fail;
 /// A text, and its lines that aren't passed over.
 type Row = (&'static [u8], &'static [(u32, &'static [u8])]);
 
-const ROWS: [Row; 6] = [
+static ROWS: [Row; 6] = [
     (b"", &[]),
     (b"\n\n", &[]),
     (b"# only\n#", &[]),
@@ -66,7 +66,7 @@ fn compare(rt: &impl Abort, given: &[Line], wanted: &[(u32, &[u8])]) {
 
 #[test]
 fn lines_do_not_depend_on_the_pieces(rt: HostRuntime) -> Result<(), Fail> {
-    for (text, wanted) in ROWS {
+    for (text, wanted) in &ROWS {
         for cut in 0..=text.len() {
             let mut lines = Lines::new(rt.alloc());
             let mut given = Vec::new(rt.alloc());
@@ -80,57 +80,43 @@ fn lines_do_not_depend_on_the_pieces(rt: HostRuntime) -> Result<(), Fail> {
     Ok(())
 }
 
-#[test]
-fn lines_come_whole_from_single_bytes(rt: HostRuntime) -> Result<(), Fail> {
-    for (text, wanted) in ROWS {
-        let mut lines = Lines::new(rt.alloc());
-        let mut given = Vec::new(rt.alloc());
-        assert!(rt; text.len() <= 100);
-        'bytes: for byte in text {
-            feed(&rt, &mut lines, &[*byte], &mut given)?;
-        }
-        finish(&mut lines, &mut given)?;
-        compare(&rt, &given, wanted);
-    }
-    Ok(())
-}
+/// The number and the length of a line that is given.
+type Told = Result<Option<(u32, usize)>, LineError>;
 
-/// What is given, as the line's number and length.
-fn told(answer: Result<Option<Line>, LineError>) -> Result<Option<(u32, usize)>, LineError> {
+/// What is given.
+fn told(answer: Result<Option<Line>, LineError>) -> Told {
     let line = answer?;
     Ok(line.map(|line| (line.number, line.bytes.as_slice().len())))
 }
 
+/// The first byte of a line, how many bytes it has, whether it has its newline, and what
+/// `next_line` and then `finish` give.
+static LENGTHS: [(u8, usize, bool, Told, Told); 7] = [
+    (b'x', 131_100, true, Ok(Some((3, 131_100))), Ok(None)),
+    (b'x', 131_101, true, LONG, LONG),
+    (b'x', 131_100, false, Ok(None), Ok(Some((3, 131_100)))),
+    (b'x', 131_101, false, LONG, LONG),
+    (b' ', 131_101, false, LONG, LONG),
+    (b'#', 131_101, true, Ok(None), Ok(None)),
+    (b'#', 131_101, false, Ok(None), Ok(None)),
+];
+
+const LONG: Told = Err(LineError::Long(3));
+
 #[test]
 fn a_line_has_at_most_131100_bytes(rt: HostRuntime) -> Result<(), Fail> {
-    let long = Err(LineError::Long(3));
-    // The first byte, how many bytes there are, whether the line has its newline, and what
-    // `next_line` and then `finish` answer.
-    let rows = [
-        (b'x', 131_100, true, Ok(Some((3, 131_100))), Ok(None)),
-        (b'x', 131_101, true, long, long),
-        (b'x', 131_100, false, Ok(None), Ok(Some((3, 131_100)))),
-        (b'x', 131_101, false, long, long),
-        (b' ', 131_101, false, long, long),
-        (b'#', 131_101, true, Ok(None), Ok(None)),
-        (b'#', 131_101, false, Ok(None), Ok(None)),
-    ];
-    for (first, len, ended, next, last) in rows {
-        let mut text = vec![in rt.alloc(); b'#'; len]?;
+    for (first, len, ended, next, last) in &LENGTHS {
+        let mut text = vec![in rt.alloc(); b'#'; *len]?;
         assert!(rt; 0 < text.len() && text.len() < 1_000_000);
-        text[0] = first;
+        text[0] = *first;
         let mut lines = Lines::new(rt.alloc());
         lines.feed(b"#\n\n")?;
         lines.feed(&text)?;
-        if ended {
+        if *ended {
             lines.feed(b"\n")?;
         }
-        assert_eq!(rt; told(lines.next_line()), next);
-        assert_eq!(rt;
-            told(lines.next_line()),
-            if next == long { long } else { Ok(None) }
-        );
-        assert_eq!(rt; told(lines.finish()), last);
+        assert_eq!(rt; told(lines.next_line()), *next);
+        assert_eq!(rt; told(lines.finish()), *last);
     }
     Ok(())
 }
@@ -148,17 +134,19 @@ fn a_comment_without_end_is_counted(rt: HostRuntime) -> Result<(), Fail> {
     Ok(())
 }
 
+/// Lines, and their words.
+static WORDS: [(&[u8], &[&[u8]]); 6] = [
+    (b"", &[b""]),
+    (b"join", &[b"join"]),
+    (b"join ", &[b"join", b""]),
+    (b" up", &[b"", b"up"]),
+    (b"say  1\tff", &[b"say", b"", b"1\tff"]),
+    (b"a b\r", &[b"a", b"b\r"]),
+];
+
 #[test]
 fn words_are_parted_by_single_spaces(rt: HostRuntime) -> Result<(), Fail> {
-    let rows: [(&[u8], &[&[u8]]); 6] = [
-        (b"", &[b""]),
-        (b"join", &[b"join"]),
-        (b"join ", &[b"join", b""]),
-        (b" up", &[b"", b"up"]),
-        (b"say  1\tff", &[b"say", b"", b"1\tff"]),
-        (b"a b\r", &[b"a", b"b\r"]),
-    ];
-    for (bytes, wanted) in rows {
+    for (bytes, wanted) in &WORDS {
         let bytes = LineBytes::from_vec(Vec::from_slice(rt.alloc(), bytes)?);
         let line = Line { number: 1, bytes };
         assert_eq!(rt; word_count(&line), wanted.len());
@@ -172,48 +160,52 @@ fn words_are_parted_by_single_spaces(rt: HostRuntime) -> Result<(), Fail> {
     Ok(())
 }
 
+/// Words, and the numbers that they are.
+static NUMBERS: [(&[u8], Option<u32>); 12] = [
+    (b"0", Some(0)),
+    (b"7", Some(7)),
+    (b"10", Some(10)),
+    (b"4294967295", Some(4_294_967_295)),
+    (b"4294967296", None),
+    (b"00", None),
+    (b"03", None),
+    (b"", None),
+    (b"+3", None),
+    (b"-0", None),
+    (b"3 ", None),
+    (b"\xff3", None),
+];
+
 #[test]
 fn numbers_at_the_edges(rt: HostRuntime) -> Result<(), Fail> {
-    let rows: [(&[u8], Option<u32>); 12] = [
-        (b"0", Some(0)),
-        (b"7", Some(7)),
-        (b"10", Some(10)),
-        (b"4294967295", Some(4_294_967_295)),
-        (b"4294967296", None),
-        (b"00", None),
-        (b"03", None),
-        (b"", None),
-        (b"+3", None),
-        (b"-0", None),
-        (b"3 ", None),
-        (b"\xff3", None),
-    ];
-    for (text, wanted) in rows {
-        assert_eq!(rt; number(text), wanted);
+    for (text, wanted) in &NUMBERS {
+        assert_eq!(rt; number(text), *wanted);
         if let Some(n) = wanted {
             let mut out = Vec::from_slice(rt.alloc(), b"n ")?;
-            put_number(n, &mut out)?;
+            put_number(*n, &mut out)?;
             assert!(rt; out.len() > 2);
-            assert_eq!(rt; &out[2..], text);
+            assert_eq!(rt; &out[2..], *text);
         }
     }
     Ok(())
 }
 
+/// Words, and the bytes that they tell.
+static DIGITS: [(&[u8], Option<&[u8]>); 7] = [
+    (b"", Some(b"")),
+    (b"00ff", Some(b"\x00\xff")),
+    (b"0aA9Fe", Some(b"\x0a\xa9\xfe")),
+    (b"0", None),
+    (b"0aA", None),
+    (b"0g", None),
+    (b"0 ", None),
+];
+
 #[test]
 fn digits_of_either_case(rt: HostRuntime) -> Result<(), Fail> {
-    let rows: [(&[u8], Option<&[u8]>); 7] = [
-        (b"", Some(b"")),
-        (b"00ff", Some(b"\x00\xff")),
-        (b"0aA9Fe", Some(b"\x0a\xa9\xfe")),
-        (b"0", None),
-        (b"0aA", None),
-        (b"0g", None),
-        (b"0 ", None),
-    ];
-    for (text, wanted) in rows {
+    for (text, wanted) in &DIGITS {
         let found = hex_of(rt.alloc(), text)?;
-        assert_eq!(rt; found.as_ref().map(|bytes| bytes.as_slice()), wanted);
+        assert_eq!(rt; found.as_ref().map(|bytes| bytes.as_slice()), *wanted);
     }
     let mut out = Vec::from_slice(rt.alloc(), b"rec ")?;
     put_hex(b"\x00\xab\x0f", &mut out)?;

@@ -26,7 +26,8 @@ returns-then-len-eq0-clause-long c n =
     (λ err. absurd (cc (err)), λ next. absurd (none_next c.args.self.now (empty_rest c) n next))
 
 -- what is known where the rest is passed over
-skipped_facts : (c : After-drop_line) → (c.drop_line.new.self ≡ behind_first c.args.self.now (length c.args.self.now.bytes)) × (0 < length c.args.self.now.bytes) × (lines_from c.args.self.now ≡ [])
+skipped_facts : (c : After-drop_line)
+    → (c.drop_line.new.self ≡ behind_first c.args.self.now (length c.args.self.now.bytes)) × (0 < length c.args.self.now.bytes) × (lines_from c.args.self.now ≡ [])
 skipped_facts c =
     let bytes = ap (λ (h : Held). h.bytes) c.self.view_is in
     let len = c.len-len.ensures.value ∙ ap length bytes in
@@ -56,7 +57,8 @@ returns-then-is_passed-clause-count c =
     ∙ rest_counted c.args.self.now c.requires facts.1
 
 -- what is known where the rest is a line to come
-kept_facts : (c : After-take_line) → (behind_first c.args.self.now (c.len-len.result + 0) ≡ behind_first c.args.self.now (length c.args.self.now.bytes)) × (0 < length c.args.self.now.bytes) × (lines_from c.args.self.now ≡ first_line c.args.self.now c.len-len.result ∷ [])
+kept_facts : (c : After-take_line)
+    → (behind_first c.args.self.now (c.len-len.result + 0) ≡ behind_first c.args.self.now (length c.args.self.now.bytes)) × (0 < length c.args.self.now.bytes) × (lines_from c.args.self.now ≡ first_line c.args.self.now c.len-len.result ∷ [])
 kept_facts c =
     let bytes = ap (λ (h : Held). h.bytes) c.self.view_is in
     let len = c.len-len.ensures.value ∙ ap length bytes in
