@@ -124,9 +124,9 @@ fn a_move_nests_16_deep(rt: HostRuntime) -> Result<(), Fail> {
         assert!(rt; take(&mut tree, &group(rt.alloc(), id, parent))?);
     }
     assert!(rt; !take(&mut tree, &to(20, 14, 0))?);
-    assert_eq!(rt; tree.rows()[14].parent, 0);
+    assert_eq!(rt; tree.rows().get(14).map(|row| row.parent), Some(0));
     assert!(rt; take(&mut tree, &to(20, 13, 0))?);
-    assert_eq!(rt; tree.rows()[0].id, 20);
+    assert_eq!(rt; tree.rows().first().map(|row| row.id), Some(20));
     Ok(())
 }
 

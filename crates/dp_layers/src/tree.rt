@@ -182,10 +182,10 @@ impl<X: Drop> Tree<X> {
         ensures err { OnErr result (self.new ≡ self.old) }
     {
         let Draw::LayerTitle { id, title } = op else { unreachable!() };
-        let Some(place) = place_of(&self.layers, *id) else {
+        let Some(at) = place_of(&self.layers, *id) else {
             return Ok(false);
         };
-        self.layers[place].title = title.copy()?;
+        self.layers[at].title = title.copy()?;
         Ok(true)
     }
 

@@ -25,17 +25,17 @@ returns-in_default-place_of-clause-ok g c =
 
 -- the row changed at its place
 module _ (g : Over) (c : After-drop-index_mut g) where
-  at : IsAt c.self.inside.layers.items c.in-LayerTitle.id c.in-Some.place
-  at = place_inside c.self.inside.layers.items c.self.inside.contents.items c.self.invariant c.deref.result.now c.in-LayerTitle.id c.in-Some.place c.place_of.result c.deref.ensures.value c.place_of.ensures c.in-Some.is
+  at : IsAt c.self.inside.layers.items c.in-LayerTitle.id c.in-Some.at
+  at = place_inside c.self.inside.layers.items c.self.inside.contents.items c.self.invariant c.deref.result.now c.in-LayerTitle.id c.in-Some.at c.place_of.result c.deref.ensures.value c.place_of.ensures c.in-Some.is
 
   present : has_row c.self.inside.layers.items c.in-LayerTitle.id ≡ true
-  present = present_inside c.self.inside.layers.items c.self.inside.contents.items c.self.invariant c.in-LayerTitle.id c.in-Some.place c.index_mut.result.now at
+  present = present_inside c.self.inside.layers.items c.self.inside.contents.items c.self.invariant c.in-LayerTitle.id c.in-Some.at c.index_mut.result.now at
 
-  parts : AreParts (set c.self.inside.layers.items c.in-Some.place (set_title c.in_ok-self-inside.field-0 c.index_mut.result.now)) c.self.inside.contents.items (rows_changed (joined c.self.inside.layers.items c.self.inside.contents.items) c.in-LayerTitle.id (set_title c.in-LayerTitle.title))
+  parts : AreParts (set c.self.inside.layers.items c.in-Some.at (set_title c.in_ok-self-inside.field-0 c.index_mut.result.now)) c.self.inside.contents.items (rows_changed (joined c.self.inside.layers.items c.self.inside.contents.items) c.in-LayerTitle.id (set_title c.in-LayerTitle.title))
   parts =
-      let P : List ℕ → Type 0 = λ title. AreParts (set c.self.inside.layers.items c.in-Some.place (set_title title c.index_mut.result.now)) c.self.inside.contents.items (rows_changed (joined c.self.inside.layers.items c.self.inside.contents.items) c.in-LayerTitle.id (set_title c.in-LayerTitle.title)) in
+      let P : List ℕ → Type 0 = λ title. AreParts (set c.self.inside.layers.items c.in-Some.at (set_title title c.index_mut.result.now)) c.self.inside.contents.items (rows_changed (joined c.self.inside.layers.items c.self.inside.contents.items) c.in-LayerTitle.id (set_title c.in-LayerTitle.title)) in
       subst P (sym c.in_ok-self-inside.ensures)
-      (parts-written c.self.inside.layers.items c.self.inside.contents.items c.self.invariant (set_title c.in-LayerTitle.title) c.in-LayerTitle.id c.in-Some.place c.index_mut.result.now at c.index_mut.ensures.value)
+      (parts-written c.self.inside.layers.items c.self.inside.contents.items c.self.invariant (set_title c.in-LayerTitle.title) c.in-LayerTitle.id c.in-Some.at c.index_mut.result.now at c.index_mut.ensures.value)
 
 pub returns-clause-effect : goal.returns-clause-effect
 returns-clause-effect g c =
