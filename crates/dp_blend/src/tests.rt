@@ -3,9 +3,7 @@
 ghost use Rattle.std.specs.Prelude.{◌<◌, ◌≤◌, ◌↔◌, All, IsTrue};
 
 use crate::{Mode, ONE, Pixel, blend, fade, from8, of_argb, row_blend, row_fill, row_merge, to8};
-use std::alloc::{AllocError, Global};
 use std::process::Abort;
-use std::test::Fail;
 
 const MODES: [Mode; 6] = [
     Mode::Erase,
@@ -137,34 +135,14 @@ fn some_pixel(rt: &impl Abort, n: usize) -> Pixel {
 }
 
 /// A row of some pixels, each of them `times` times.
-fn some_row<R: Abort>(
-    rt: &R,
-    alloc: Global,
-    len: usize,
-    times: usize,
-) -> Result<Vec<Pixel>, AllocError>
+fn some_row(rt: &impl Abort, times: usize) -> [Pixel; 70]
     requires { 0 < times }
 {
-    let mut row = Vec::new(alloc);
-    for n in 0..len {
-        row.push(some_pixel(rt, n / times))?;
+    let mut row = [Pixel::CLEAR; 70];
+    for n in 0..70 {
+        row[n] = some_pixel(rt, n / times);
     }
-    Ok(row)
-}
-
-/// A mask that is one number throughout, or for a `kind` past the numbers each of them six times in turn.
-fn some_mask(alloc: Global, len: usize, kind: usize) -> Result<Vec<u16>, AllocError> {
-    let mut mask = Vec::new(alloc);
-    for n in 0..len {
-        mask.push(
-            PARTS[if kind < 6 {
-                kind
-            } else {
-                n / 6 % 6
-            }],
-        )?;
-    }
-    Ok(mask)
+    row
 }
 
 fn is_mask(mask: &[u16]) -> bool
@@ -173,76 +151,84 @@ fn is_mask(mask: &[u16]) -> bool
     mask.iter().all(|m| *m <= 32768)
 }
 
+/// Fills the front of a row, and a copy of it by the plain loop.
+fn fill_both(rt: &impl Abort, mode: Mode, src: Pixel, len: usize)
+    requires { len ≤ 70 }
+{
+    let mut row = some_row(rt, 1);
+    let mut want = row;
+    for n in 0..len {
+        want[n] = blend(mode, src, want[n]);
+    }
+    row_fill(mode, src, &mut row[..len]);
+    assert!(rt; row == want, "{mode:?} {src:?} at {len}");
+}
+
 #[test]
-fn fills_rows_as_the_plain_loop_does(rt: HostRuntime) -> Result<(), Fail> {
+fn fills_rows_as_the_plain_loop_does(rt: HostRuntime) {
     for mode in MODES {
         for n in 0..24 {
-            let src = some_pixel(&rt, n);
             for len in 0..=70 {
-                let mut row = some_row(&rt, rt.alloc(), len, 1)?;
-                let mut want = Vec::new(rt.alloc());
-                for old in &row {
-                    want.push(blend(mode, src, *old))?;
-                }
-                row_fill(mode, src, row.as_mut_slice());
-                assert_eq!(rt;
-                    row.as_slice(),
-                    want.as_slice(),
-                    "{mode:?} {src:?} at {len}"
-                );
+                fill_both(&rt, mode, some_pixel(&rt, n), len);
             }
         }
     }
-    Ok(())
+}
+
+/// Blends the front of a row through a mask, and a copy of it by the plain loop. The mask is one of
+/// six numbers throughout, or each of them six times in turn.
+fn blend_both(rt: &impl Abort, mode: Mode, kind: usize, len: usize)
+    requires { len ≤ 70 }
+{
+    let src = some_pixel(rt, kind / 7);
+    let mut mask = [0; 70];
+    let mut row = some_row(rt, 1);
+    let mut want = row;
+    for n in 0..len {
+        mask[n] = PARTS[if kind % 7 < 6 { kind % 7 } else { n / 6 % 6 }];
+        if mask[n] > 0 && mask[n] <= ONE {
+            want[n] = blend(mode, fade(src, mask[n]), want[n]);
+        }
+    }
+    let mask = &mask[..len];
+    assert!(rt; is_mask(mask));
+    row_blend(mode, src, mask, &mut row[..len]);
+    assert!(rt; row == want, "{mode:?} {src:?} {kind} at {len}");
 }
 
 #[test]
-fn blends_rows_through_masks_as_the_plain_loop_does(rt: HostRuntime) -> Result<(), Fail> {
+fn blends_rows_through_masks_as_the_plain_loop_does(rt: HostRuntime) {
     for mode in MODES {
         for kind in 0..42 {
-            let src = some_pixel(&rt, kind / 7);
             for len in 0..=70 {
-                let mut row = some_row(&rt, rt.alloc(), len, 1)?;
-                let mask = some_mask(rt.alloc(), len, kind % 7)?;
-                let mut want = Vec::new(rt.alloc());
-                for (old, by) in row.iter().zip(mask.iter()) {
-                    if *by == 0 || *by > ONE {
-                        want.push(*old)?;
-                    } else {
-                        want.push(blend(mode, fade(src, *by), *old))?;
-                    }
-                }
-                assert_eq!(rt; mask.len(), row.len());
-                assert!(rt; is_mask(mask.as_slice()));
-                row_blend(mode, src, mask.as_slice(), row.as_mut_slice());
-                assert_eq!(rt;
-                    row.as_slice(),
-                    want.as_slice(),
-                    "{mode:?} {src:?} {kind} at {len}"
-                );
+                blend_both(&rt, mode, kind, len);
             }
         }
     }
-    Ok(())
+}
+
+/// Merges the front of two rows, and of copies by the plain loop.
+fn merge_both(rt: &impl Abort, mode: Mode, by: u16, len: usize)
+    requires opacity { by ≤ 32768 }
+    requires len { len ≤ 70 }
+{
+    let sources = some_row(rt, 6);
+    let mut row = some_row(rt, 1);
+    let mut want = row;
+    for n in 0..len {
+        want[n] = blend(mode, fade(sources[n], by), want[n]);
+    }
+    row_merge(mode, by, &sources[..len], &mut row[..len]);
+    assert!(rt; row == want, "{mode:?} {by} at {len}");
 }
 
 #[test]
-fn merges_rows_as_the_plain_loop_does(rt: HostRuntime) -> Result<(), Fail> {
+fn merges_rows_as_the_plain_loop_does(rt: HostRuntime) {
     for mode in MODES {
         for by in PARTS {
-            assert!(rt; by <= ONE);
             for len in 0..=70 {
-                let mut row = some_row(&rt, rt.alloc(), len, 1)?;
-                let sources = some_row(&rt, rt.alloc(), len, 6)?;
-                let mut want = Vec::new(rt.alloc());
-                for (old, src) in row.iter().zip(sources.iter()) {
-                    want.push(blend(mode, fade(*src, by), *old))?;
-                }
-                assert_eq!(rt; sources.len(), row.len());
-                row_merge(mode, by, sources.as_slice(), row.as_mut_slice());
-                assert_eq!(rt; row.as_slice(), want.as_slice(), "{mode:?} {by} at {len}");
+                merge_both(&rt, mode, by.min(ONE), len);
             }
         }
     }
-    Ok(())
 }

@@ -17,6 +17,6 @@ pixels_of-requires g c =
     let old = c.lanes_of-old.ensures in
     let masks = c.fours_of-masks.ensures in
     let faded : c.products-faded.result ≡ lanes (fade s m.0) (fade s m.1) =
-        rw (c.products-faded.ensures, masks, c.lanes_of.ensures.value) (masks_fade s s m.0 m.1) in
+    rw (c.products-faded.ensures, masks, c.lanes_of.ensures.value) (masks_fade s s m.0 m.1) in
     are_masked g.K.Kernel.mode s m.0 m.1 _ _ c.lanes_of.ensures.first_pixel old.first_pixel old.second_pixel c.requires.first c.requires.second
     masks faded old.value c.blend_lanes.ensures c.kept_where_zero.ensures
