@@ -1,5 +1,5 @@
 -- Histories, a frame at a time.
-use Rattle.std.proofs.Common.{◌≡◌, ◌⊎◌, inl, inr, ℕ, ◌+◌, List, [], ◌∷◌, ◌++◌, length, refl, sym, ap, ◌∙◌, subst, append_assoc, length-append}
+use Rattle.std.proofs.Common.{◌≡◌, ◌⊎◌, inl, inr, ℕ, ◌+◌, List, [], ◌∷◌, ◌++◌, length, refl, sym, ap, true, false, ◌∙◌, subst, append_assoc, length-append}
 use Rattle.std.specs.Prelude.{Result, Ok, Err}
 use Rattle.std.specs.List.{AllByRecursion, flat_map}
 use Rattle.std.proofs.lemmas.Grind.{flat_map-append}
@@ -7,6 +7,7 @@ use Rattle.dp_frame.specs.Frames.{FrameParts, IsFrame, spelling, HoldsNoFrame}
 use Rattle.dp_frame.specs.Stream.{Stream}
 use Rattle.dp_messages.specs.declared.message.Entry.{Entry}
 use Rattle.dp_messages.specs.Decoding.{Carries}
+use Rattle.dp_plain.specs.Built.{is_built}
 use Rattle.dp_messages.specs.declared.decoding.DecodeError.{DecodeError}
 use Rattle.dp_messages.specs.declared.decoding.DecodeError.TheVariants as refusal
 use Rattle.dp_lines.specs.declared.run_end.RunEnd.{RunEnd}
@@ -20,8 +21,8 @@ each_more (g ∷ frames) f each fits = (each.0, each_more frames f each.1 fits)
 
 -- one more frame stands for one more entry, wherever it is
 stand_more : (before : ℕ) (frames : List FrameParts) (entries : List Entry) (f : FrameParts) (e : Entry) →
-    StandFor StandsInReplay before frames entries → Carries f e → StandFor StandsInReplay before (frames ++ f ∷ []) (entries ++ e ∷ [])
-stand_more before [] [] f e stand c = (c, tt)
+    StandFor StandsInReplay before frames entries → ((k : ℕ) → StandsInReplay k f e) → StandFor StandsInReplay before (frames ++ f ∷ []) (entries ++ e ∷ [])
+stand_more before [] [] f e stand c = (c before, tt)
 stand_more before [] (d ∷ entries) f e stand c = absurd stand
 stand_more before (g ∷ frames) [] f e stand c = absurd stand
 stand_more before (g ∷ frames) (d ∷ entries) f e stand c = (stand.0, stand_more (before + 1) frames entries f e stand.1 c)
@@ -36,7 +37,7 @@ spelled_more frames f = flat_map-append spelling frames (f ∷ []) ∙ ap (λ (x
 
 -- a frame is taken off, and its entry is kept
 pub follows_more : (read : List ℕ) (entries : List Entry) (e : Entry) (f : FrameParts) (old new : Stream) →
-    IsFrame f → Carries f e → old.held ≡ spelling f ++ new.held → new.at ≡ old.at + length (spelling f) →
+    IsFrame f → ((k : ℕ) → StandsInReplay k f e) → old.held ≡ spelling f ++ new.held → new.at ≡ old.at + length (spelling f) →
     Follows read entries old → Follows read (entries ++ e ∷ []) new
 follows_more read entries e f old new fits c held at h =
     let more : flat_map spelling (h.frames ++ f ∷ []) ≡ flat_map spelling h.frames ++ spelling f = spelled_more h.frames f in
@@ -65,7 +66,7 @@ stops_at_frame read entries f old rest (BadMessage n) fits held refused h =
       each = h.each;
       stand = h.stand;
       fits = fits;
-      nothing = refused.1;
+      nothing = refused.1 (length h.frames);
       whole = h.whole ∙ ap (λ (xs : List ℕ). flat_map spelling h.frames ++ xs) held;
       place = refused.0 ∙ h.at;
     }
@@ -102,7 +103,20 @@ Gives result entry = (result ≡ Ok entry) ⊎ (result ≡ Err refusal.Memory)
 -- a frame that is refused, but for want of memory, is a bad message
 pub refused_at : (f : FrameParts) (error : DecodeError) (n : ℕ) (end : RunEnd) →
     ((entry : Entry) → Carries f entry → Gives (Err error) entry) → IsStopFor error n end → IsRefusedAt f n end
-refused_at f (refusal.Unknown k) n end gives stop = subst (λ (e : RunEnd). IsRefusedAt f n e) (sym stop) (refl, λ entry c. elim (gives entry c) as (λ _. ⊥) [ inl e ↦ cc | inr e ↦ cc ])
-refused_at f (refusal.Malformed k) n end gives stop = subst (λ (e : RunEnd). IsRefusedAt f n e) (sym stop) (refl, λ entry c. elim (gives entry c) as (λ _. ⊥) [ inl e ↦ cc | inr e ↦ cc ])
-refused_at f (refusal.Unbuilt k) n end gives stop = subst (λ (e : RunEnd). IsRefusedAt f n e) (sym stop) (refl, λ entry c. elim (gives entry c) as (λ _. ⊥) [ inl e ↦ cc | inr e ↦ cc ])
+refused_at f (refusal.Unknown k) n end gives stop =
+    subst (λ (e : RunEnd). IsRefusedAt f n e) (sym stop) (refl, λ before entry c. elim (gives entry c.0) as (λ _. ⊥) [ inl e ↦ cc | inr e ↦ cc ])
+refused_at f (refusal.Malformed k) n end gives stop =
+    subst (λ (e : RunEnd). IsRefusedAt f n e) (sym stop) (refl, λ before entry c. elim (gives entry c.0) as (λ _. ⊥) [ inl e ↦ cc | inr e ↦ cc ])
 refused_at f refusal.Memory n end gives stop = subst (λ (e : RunEnd). IsRefusedAt f n e) (sym stop) tt
+
+-- so is a frame that carries an entry whose message isn't built
+pub unbuilt_at : (f : FrameParts) (read : Entry) (n : ℕ) → is_built read.msg ≡ false →
+    ((entry : Entry) → Carries f entry → Gives (Ok read) entry) → IsRefusedAt f n (BadMessage n)
+unbuilt_at f read n not_built gives =
+    (refl, λ before entry c. elim (gives entry c.0) as (λ _. ⊥) [
+      | inl e ↦
+          let same : read ≡ entry = cc in
+          let built : is_built read.msg ≡ true = subst (λ (x : Entry). is_built x.msg ≡ true) (sym same) c.1 in
+          (let never : true ≡ false = sym built ∙ not_built in cc)
+      | inr e ↦ cc
+    ])

@@ -4,7 +4,6 @@ use Rattle.std.specs.List.{AllByRecursion, flat_map}
 use Rattle.dp_frame.specs.Frames.{FrameParts, IsFrame, spelling}
 use Rattle.dp_frame.specs.Stream.{Stream}
 use Rattle.dp_messages.specs.declared.message.Entry.{Entry}
-use Rattle.dp_messages.specs.Decoding.{CarriesNothing}
 use Rattle.dp_lines.specs.declared.run_end.RunEnd.{RunEnd}
 use Rattle.dp_lines.specs.declared.run_end.RunEnd.TheVariants.{Memory, BadMessage}
 use Rattle.dp_messages.specs.declared.decoding.DecodeError.{DecodeError}
@@ -25,17 +24,21 @@ IsStop Memory = Unit {0}
 IsStop (BadMessage n) = Unit {0}
 IsStop _ = ⊥
 
--- why these bytes can't be read further: want of memory, or a frame that carries nothing behind the
--- frames of the entries
+-- why these bytes can't be read further: want of memory, or a frame that may not stand behind those of
+-- the entries
 abbrev pub StopsAt : List ℕ → List Entry → RunEnd → Type 0
 StopsAt bytes entries Memory = Unit {0}
 StopsAt bytes entries (BadMessage n) = TellsUpTo StandsInReplay bytes entries n
 StopsAt bytes entries _ = ⊥
 
--- why the frame at byte n gives no entry: want of memory, or it carries nothing
+-- the frame stands for no entry in the input of `replay`, wherever it is
+abbrev pub StandsForNothing : FrameParts → Type 0
+StandsForNothing frame = (before : ℕ) (entry : Entry) → StandsInReplay before frame entry → ⊥
+
+-- why the frame at byte n gives no entry: want of memory, or it stands for none
 abbrev pub IsRefusedAt : FrameParts → ℕ → RunEnd → Type 0
 IsRefusedAt frame n Memory = Unit {0}
-IsRefusedAt frame n (BadMessage m) = (m ≡ n) × CarriesNothing frame
+IsRefusedAt frame n (BadMessage m) = (m ≡ n) × StandsForNothing frame
 IsRefusedAt frame n _ = ⊥
 
 -- how reading stops at a frame at byte n that is refused so

@@ -4,11 +4,12 @@ ghost use Rattle.std.specs.Prelude.{◌≡◌, ℕ, ◌+◌, ◌^◌, ◌<◌, �
 ghost use Rattle.dp_frame.specs.Frames.{HoldsNoFrame};
 ghost use Rattle.dp_app.specs.History.{Follows, StopsAt, IsStop, IsRefusedAt, IsStopFor};
 ghost use Rattle.dp_app.specs.Read.{end_of};
-ghost use Rattle.dp_messages.specs.Decoding.{Carries};
+ghost use Rattle.dp_app.specs.Input.{StandsInReplay};
 
 use dp_frame::{Frame, Splitter};
 use dp_lines::RunEnd;
 use dp_messages::{DecodeError, Entry, decode};
+use dp_plain::is_built;
 use std::alloc::{AllocError, Global};
 
 /// The entries of the whole frames so far, and the bytes behind them.
@@ -96,13 +97,19 @@ impl History {
     }
 }
 
-/// The entry of the frame at this byte.
+/// The entry of the frame at this byte, where its message may stand in the input of `replay`.
 fn entry_of(alloc: Global, frame: &Frame, at: u64) -> Result<Entry, RunEnd>
-    ensures entry { IfOk result (λ e. Carries frame.now e) }
+    ensures entry { IfOk result (λ e. (before : ℕ) → StandsInReplay before frame.now e) }
     ensures refused { IfErr result (λ end. IsRefusedAt frame.now at end) }
 {
     match decode(alloc, frame) {
-        Ok(entry) => Ok(entry),
+        Ok(entry) => {
+            if is_built(&entry.msg) {
+                Ok(entry)
+            } else {
+                Err(RunEnd::BadMessage(at))
+            }
+        }
         Err(error) => Err(stop_for(error, at)),
     }
 }

@@ -5,5 +5,5 @@ use Rattle.dp_board.specs.Commands.{map_user_act}
 use Rattle.dp_plain.specs.Replay.{act_of}
 
 -- what an entry does to strokes, with nothing in place of its command
-abbrev pub kind_of_entry : Entry → UserAct (Unit {0})
+unfoldable pub kind_of_entry : Entry → UserAct (Unit {0})
 kind_of_entry entry = map_user_act (λ _. tt) (act_of entry)

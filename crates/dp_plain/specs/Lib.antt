@@ -6,3 +6,4 @@ pub mod Picture
 pub mod Places
 pub mod Replay
 pub mod Kinds
+pub mod Built

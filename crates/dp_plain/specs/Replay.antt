@@ -1,6 +1,8 @@
 -- The replay of a history: the commands that are drawn after undo and redo, on an empty board.
-use Rattle.std.specs.Prelude.{ℕ, ◌==◌, true, false, List, map, if◌then◌else◌}
+use Rattle.std.specs.Prelude.{ℕ, ◌==◌, Bool, true, false, List, map, if◌then◌else◌}
+use Rattle.std.specs.List.{after_last}
 use Rattle.dp_msg_draw.specs.declared.draw.Draw.{Draw}
+use Rattle.dp_msg_meta.specs.declared.message.Meta.TheVariants.{ResetMark}
 use Rattle.dp_messages.specs.declared.message.Msg.{Msg}
 use Rattle.dp_messages.specs.declared.message.Msg.TheVariants as msg
 use Rattle.dp_messages.specs.declared.message.Entry.{Entry}
@@ -21,6 +23,10 @@ act_of_message sender msg.Point = act.Point
 act_of_message sender (msg.Undo target false) = act.Undo (moved_user sender target)
 act_of_message sender (msg.Undo target true) = act.Redo (moved_user sender target)
 act_of_message sender (msg.Draw command) = act.Draw command
+act_of_message sender (msg.Control m) = act.Other
+act_of_message sender (msg.Meta m) = act.Other
+act_of_message sender (msg.Part command) = act.Other
+act_of_message sender (msg.Opaque kind body) = act.Other
 
 -- what an entry does to strokes
 abbrev pub act_of : Entry → UserAct Draw
@@ -34,7 +40,14 @@ undo_depth = 30
 abbrev pub replay : List Entry → Board
 replay entries = strokes.replay draw empty_board undo_depth (map act_of entries)
 
--- What a history shows: the replay of its entries behind the last mark of a reset. No such mark is
--- built yet, so these are all its entries.
+-- the entry is a mark, which begins an epoch
+abbrev pub is_mark_message : Msg → Bool
+is_mark_message (msg.Meta (ResetMark epoch carried)) = true
+is_mark_message m = false
+
+abbrev pub is_mark : Entry → Bool
+is_mark entry = is_mark_message entry.msg
+
+-- what a history shows: the replay of its entries behind the last mark, of all where there is none
 abbrev pub shown : List Entry → Board
-shown entries = replay entries
+shown entries = replay (after_last is_mark entries)

@@ -2,6 +2,7 @@
 #![tactic(auto)]
 
 mod board;
+mod built;
 mod draw;
 mod fill;
 mod geometry;
@@ -12,5 +13,6 @@ mod resize;
 mod tests;
 
 pub use board::PlainBoard;
+pub use built::is_built;
 pub use picture::{plain_p3, plain_p6};
 pub use replay::plain_replay;

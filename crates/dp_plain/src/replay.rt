@@ -1,27 +1,55 @@
 //! The replay of a history.
 
-ghost use Rattle.std.specs.Prelude.{◌≡◌, length, map, IfOk, OnOk};
+ghost use Rattle.std.specs.Prelude.{◌≡◌, ◌≤◌, length, drop, map, IfOk, OnOk};
 ghost use Rattle.dp_board.specs.Commands.{command_of, commands};
 ghost use Rattle.dp_plain.specs.Board.{empty_board};
 ghost use Rattle.dp_plain.specs.Drawing.{draw_all};
-ghost use Rattle.dp_plain.specs.Replay.{act_of, moved_user, shown};
+ghost use Rattle.dp_plain.specs.Replay.{act_of, is_mark, moved_user, replay, shown};
+ghost use Rattle.std.specs.List.{after_last};
 ghost use Rattle.dp_plain.specs.Kinds.{kind_of_entry};
 
 use crate::PlainBoard;
 use dp_board::{Act, UserAct, commands_do_not_count, drawn_flags, each_act_has_a_flag};
 use dp_messages::{Entry, Msg};
 use dp_msg_draw::Draw;
+use dp_msg_meta::Meta;
 use std::alloc::{AllocError, Global};
 
 /// A group of strokes can be undone and redone while its point is among this many last ones.
 const UNDO_DEPTH: u32 = 30;
 
-/// The board that the history shows: its commands but for the undone ones, drawn in its order.
-/// The rule: docs/protocol.md, "Strokes, undo and redo".
+/// The board that the history shows: its commands behind the last mark of a reset but for the undone
+/// ones, drawn in its order. The rule: docs/protocol.md, "Strokes, undo and redo".
 ///
 /// The only error is want of memory.
 pub fn plain_replay(alloc: Global, entries: &[Entry]) -> Result<PlainBoard, AllocError>
     ensures { IfOk result (λ board. board ≡ shown entries.now) }
+{
+    replayed(alloc, &entries[epoch_start(entries)..])
+}
+
+/// The place of the first entry behind the last mark of a reset, 0 where there is none.
+fn epoch_start(entries: &[Entry]) -> usize
+    ensures within { result ≤ length entries.now }
+    ensures behind { drop result entries.now ≡ after_last is_mark entries.now }
+{
+    let mut start = entries.len();
+    while start > 0 && !is_mark(&entries[start - 1]) {
+        start -= 1;
+    }
+    start
+}
+
+/// Whether an entry is the mark of a reset.
+fn is_mark(entry: &Entry) -> bool
+    ensures { result ≡ is_mark entry.now }
+{
+    matches!(&entry.msg, Msg::Meta(Meta::ResetMark { .. }))
+}
+
+/// The commands of the entries but for the undone ones, drawn in their order.
+fn replayed(alloc: Global, entries: &[Entry]) -> Result<PlainBoard, AllocError>
+    ensures { IfOk result (λ board. board ≡ replay entries.now) }
 {
     commands_do_not_count::<Draw, ()>();
     each_act_has_a_flag::<Draw>();
@@ -34,10 +62,15 @@ pub fn plain_replay(alloc: Global, entries: &[Entry]) -> Result<PlainBoard, Allo
 fn kinds_of(alloc: Global, entries: &[Entry]) -> Result<Vec<UserAct<()>>, AllocError>
     ensures { IfOk result (λ kinds. kinds.items ≡ map kind_of_entry entries.now) }
 {
-    entries.iter().map(kind_of_entry).collect(alloc)
+    let mut kinds = Vec::with_capacity(alloc, entries.len())?;
+    for entry in entries {
+        kinds.push(kind_of_entry(entry))?;
+    }
+    Ok(kinds)
 }
 
 /// What an entry does to strokes, without its command.
+#[tactic(auto, unfolding(crate::specs::Kinds::kind_of_entry))]
 fn kind_of_entry(entry: &Entry) -> UserAct<()>
     ensures { result ≡ kind_of_entry entry.now }
 {
@@ -54,6 +87,7 @@ fn kind_of_entry(entry: &Entry) -> UserAct<()>
             who: moved_user(user, *target),
         },
         Msg::Draw(_) => Act::Draw(()),
+        Msg::Control(_) | Msg::Meta(_) | Msg::Part(_) | Msg::Opaque { .. } => Act::Other,
     };
     UserAct { user, act }
 }
