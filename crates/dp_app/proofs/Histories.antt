@@ -112,11 +112,13 @@ refused_at f refusal.Memory n end gives stop = subst (λ (e : RunEnd). IsRefused
 -- so is a frame that carries an entry whose message isn't built
 pub unbuilt_at : (f : FrameParts) (read : Entry) (n : ℕ) → is_built read.msg ≡ false →
     ((entry : Entry) → Carries f entry → Gives (Ok read) entry) → IsRefusedAt f n (BadMessage n)
-unbuilt_at f read n not_built gives =
-    (refl, λ before entry c. elim (gives entry c.0) as (λ _. ⊥) [
-      | inl e ↦
-          let same : read ≡ entry = cc in
-          let built : is_built read.msg ≡ true = subst (λ (x : Entry). is_built x.msg ≡ true) (sym same) c.1 in
-          (let never : true ≡ false = sym built ∙ not_built in cc)
-      | inr e ↦ cc
-    ])
+unbuilt_at f read n not_built gives = (
+  refl,
+  λ before entry c. elim (gives entry c.0) as (λ _. ⊥) [
+    | inl e ↦
+        let same : read ≡ entry = cc in
+        let built : is_built read.msg ≡ true = subst (λ (x : Entry). is_built x.msg ≡ true) (sym same) c.1 in
+        (let never : true ≡ false = sym built ∙ not_built in cc)
+    | inr e ↦ cc
+  ],
+)

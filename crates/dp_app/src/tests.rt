@@ -24,8 +24,25 @@ fn frame(word: &str) -> &str {
         "REDO" => "0002ff010001",
         "POINT2" => "00008002",
         "UNDO1" => "0002ff020100",
+        "CHAT" => "000223016869",
+        "MARK" => "000825010000000000000000",
+        "CONTROL" => concat_control(),
+        "META" => concat_meta(),
         other => other,
     }
+}
+
+/// A frame of each control type, a part of a reset among them, and one of a type that isn't listed.
+fn concat_control() -> &'static str {
+    "00030001616e6e000101010000010201010004030100000000000b0401000101000000000000000b00000501\
+     001106018100000000000000040000000300000000000007010002c8010102"
+}
+
+/// A frame of each meta type but the mark of a reset.
+fn concat_meta() -> &'static str {
+    "0004200100616e6e000021010001220101000223016869000024010008400100000001ffffffff\
+     0008410100000001000000020001420100000543010101010103000844010303030303030303\
+     0001450181"
 }
 
 /// Status, line on diag, frames, the head of the picture (none is written where there is none), its
@@ -53,7 +70,16 @@ fn rows() -> &'static str {
 10|bad message at 20|SIZE 00001401 LAYER||
 10|bad message at 29|SIZE LAYER 001789010101030000000000000000000000010000000100000000||
 10|bad message at 0|00001401 0000||
-10|bad message at 0|0000c801||
+10|bad message at 0|000222010201||
+10|bad message at 0|001192010101000000000000000001000000000000||
+10|bad message at 29|SIZE LAYER 000583010101800100||
+10|bad message at 29|SIZE LAYER 0017890101010000000000000000000000000100000001ffff0000||
+0||0000c801|0 0|
+0||SIZE LAYER CONTROL META RED0|2 1|ff0000ffffff
+0||SIZE LAYER POINT RED0 CHAT UNDO META CONTROL REDO|2 1|ff0000ffffff
+0||SIZE LAYER RED0 MARK SIZE LAYER BLUE1|2 1|ffffff0000ff
+0||SIZE LAYER RED0 MARK|0 0|
+0||SIZE MARK LAYER MARK SIZE|2 1|ffffffffffff
 10|bad message at 20|SIZE 000582010101000001||"
 }
 
@@ -174,6 +200,20 @@ fn worked_rows_in_pieces_of_every_length(rt: HostRuntime) -> Result<(), Fail> {
     for row in rows().lines() {
         check_row(&rt, rt.alloc(), row)?;
     }
+    Ok(())
+}
+
+#[test]
+fn a_tile_of_equal_pixels(rt: HostRuntime) -> Result<(), Fail> {
+    let alloc = rt.alloc();
+    let mut input = input_of(alloc, "80099201010100000000000001")?;
+    for _ in 0..4096 {
+        input.extend_from_slice(&[0; 8])?;
+    }
+    let run = replay(&rt, alloc, &input, 4096, NO_FAULTS)?;
+    assert_eq!(rt; run.status, 10);
+    assert_eq!(rt; run.diag.as_slice(), b"bad message at 0\n".as_slice());
+    assert!(rt; run.output.as_slice().is_empty());
     Ok(())
 }
 
