@@ -11,7 +11,7 @@ use Rattle.dp_msg_draw.specs.declared.draw.TileContent.TheVariants.{Solid, Pixel
 use Rattle.dp_msg_draw.specs.declared.draw.Draw.{Draw}
 use Rattle.dp_msg_draw.specs.declared.draw.Draw.TheVariants.{CanvasResize, LayerCreate, LayerAttr, LayerTitle, LayerMove, LayerDelete, PutImage, FillRect, PutTile, Background, DabsRound, DabsSquare, MoveRect}
 use Rattle.dp_msg_draw.specs.declared.part.Mode.{Mode}
-use Rattle.dp_msg_draw.specs.declared.pictures.Image.{Image}
+use Rattle.dp_msg_draw.specs.declared.tails.Image.{Image}
 use Rattle.dp_msg_draw.specs.Fields.{two_bytes, four_bytes, four_signed}
 use Rattle.dp_msg_draw.specs.Limits.{IsTitle}
 use Rattle.dp_msg_draw.specs.Payloads.{draw_kind, draw_payload, DrawHasSpelling, SpellsDraw, dab_bytes, IsDab, AreDabs, pixel_bytes, IsPixel, IsTile, content_bytes, IsContent, IsImage}
@@ -29,18 +29,19 @@ other : {P : Type 0} {j k : ℕ} → j ≡ k → (j == k) ≡ false → P
 other {j = j} {k = k} e differ = absurd (false≢true (sym differ ∙ eq-eqb j k e))
 
 -- where no parts are read, no message is
-pub refused : {kind : ℕ} {X : Type 0} {spelling : X → List ℕ} {valid : X → Type 0} {parts : IsWhole spelling valid} {make : X → Draw} {bytes : List ℕ}
-    → Form kind parts make → ((x : X) → Spells spelling valid bytes x → ⊥) → (m : Draw) → SpellsDraw kind bytes m → ⊥
-refused form none m s =
-    let f = form.of m s.kind s.spelled in
+pub refused : {k kind : ℕ} {X : Type 0} {spelling : X → List ℕ} {valid : X → Type 0} {parts : IsWhole spelling valid} {make : X → Draw} {bytes : List ℕ}
+    → k ≡ kind → Form kind parts make → ((x : X) → Spells spelling valid bytes x → ⊥) → (m : Draw) → SpellsDraw k bytes m → ⊥
+refused is form none m s =
+    let f = form.of m (sym is ∙ s.kind) s.spelled in
     none f.0 (record { bytes_are = s.payload ∙ f.2; is_valid = f.3 })
 
 -- the same where memory may have run out
-pub fails : {kind : ℕ} {X : Type 0} {spelling : X → List ℕ} {valid : X → Type 0} {parts : IsWhole spelling valid} {make : X → Draw} (bytes : List ℕ)
-    → Form kind parts make → ((x : X) → valid x → SpellsDraw kind (spelling x) (make x)) → (e : PayloadError) → Answers (Spells spelling valid bytes) (Err e) → Answers (SpellsDraw kind bytes) (Err e)
-fails bytes form made Malformed none = refused form none
-fails {kind = kind} {make = make} bytes form made Memory there =
-    (make there.0, subst (λ (b : List ℕ). SpellsDraw kind b (make there.0)) (sym there.1.bytes_are) (made there.0 there.1.is_valid))
+pub fails : {k kind : ℕ} {X : Type 0} {spelling : X → List ℕ} {valid : X → Type 0} {parts : IsWhole spelling valid} {make : X → Draw} (bytes : List ℕ)
+    → k ≡ kind → Form kind parts make → ((x : X) → valid x → SpellsDraw kind (spelling x) (make x)) → (e : PayloadError) → Answers (Spells spelling valid bytes) (Err e) → Answers (SpellsDraw k bytes) (Err e)
+fails bytes is form made Malformed none = refused is form none
+fails {make = make} bytes is form made Memory there =
+    let s = made there.0 there.1.is_valid in
+    (make there.0, record { kind = is ∙ s.kind; payload = there.1.bytes_are ∙ s.payload; spelled = s.spelled })
 
 -- one payload of this kind is made of the same parts
 pub same : {kind : ℕ} {X : Type 0} {spelling : X → List ℕ} {valid : X → Type 0} {parts : IsWhole spelling valid} {make : X → Draw} {bytes : List ℕ}

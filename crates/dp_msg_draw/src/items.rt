@@ -31,7 +31,7 @@ impl Part for Dab {
         Some((dab, rest))
     }
 
-    fn put(self, out: &mut Vec<u8>) -> Result<(), AllocError> {
+    fn put(&self, out: &mut Vec<u8>) -> Result<(), AllocError> {
         let bytes = [
             self.dx.cast_unsigned(),
             self.dy.cast_unsigned(),
@@ -65,7 +65,7 @@ impl Part for TilePixel {
         }
     }
 
-    fn put(self, out: &mut Vec<u8>) -> Result<(), AllocError> {
+    fn put(&self, out: &mut Vec<u8>) -> Result<(), AllocError> {
         ((self.r, self.g), (self.b, self.a)).put(out)
     }
 }

@@ -1,20 +1,16 @@
 //! The drawing messages of the protocol: what each is, and its one spelling as a payload.
 #![tactic(auto)]
 
-mod canvas;
 mod draw;
 mod equality;
 mod error;
 mod items;
 mod laws;
-mod layers;
 mod lists;
 mod part;
-mod pictures;
 mod reading;
-mod rects;
 mod rest;
-mod strokes;
+mod tails;
 mod writing;
 
 pub use draw::{Draw, TileContent, is_listed, kind_of_draw};

@@ -14,7 +14,7 @@ use byteorder::{BigEndian, ByteOrder};
 use std::alloc::AllocError;
 
 /// A part of a payload that doesn't depend on what follows.
-pub(crate) trait Part: Copy {
+pub(crate) trait Part: Drop {
     ghost spelling: { Self → List ℕ };
 
     ghost valid: { Self → Type 0 };
@@ -27,8 +27,8 @@ pub(crate) trait Part: Copy {
         ensures shorter { IfSome result (λ x. length x.1.now < length bytes.now) };
 
     /// Puts the part at the end. Where memory runs out, some of its bytes may stand there.
-    fn put(self, out: &mut Vec<u8>) -> Result<(), AllocError>
-        ensures { OnOk result (out.new.items ≡ out.old.items ++ spelling self) };
+    fn put(&self, out: &mut Vec<u8>) -> Result<(), AllocError>
+        ensures { OnOk result (out.new.items ≡ out.old.items ++ spelling self.now) };
 
     ghost is_part: { IsPart spelling valid };
 }
@@ -47,8 +47,8 @@ impl Part for u8 {
         }
     }
 
-    fn put(self, out: &mut Vec<u8>) -> Result<(), AllocError> {
-        out.push(self)?;
+    fn put(&self, out: &mut Vec<u8>) -> Result<(), AllocError> {
+        out.push(*self)?;
         Ok(())
     }
 }
@@ -67,9 +67,9 @@ impl Part for u16 {
         Some((BigEndian::read_u16(bytes), &bytes[2..]))
     }
 
-    fn put(self, out: &mut Vec<u8>) -> Result<(), AllocError> {
+    fn put(&self, out: &mut Vec<u8>) -> Result<(), AllocError> {
         let mut bytes = [0; 2];
-        BigEndian::write_u16(&mut bytes, self);
+        BigEndian::write_u16(&mut bytes, *self);
         out.extend_from_slice(&bytes)
     }
 }
@@ -88,9 +88,9 @@ impl Part for u32 {
         Some((BigEndian::read_u32(bytes), &bytes[4..]))
     }
 
-    fn put(self, out: &mut Vec<u8>) -> Result<(), AllocError> {
+    fn put(&self, out: &mut Vec<u8>) -> Result<(), AllocError> {
         let mut bytes = [0; 4];
-        BigEndian::write_u32(&mut bytes, self);
+        BigEndian::write_u32(&mut bytes, *self);
         out.extend_from_slice(&bytes)
     }
 }
@@ -109,7 +109,7 @@ impl Part for i32 {
         Some((BigEndian::read_i32(bytes), &bytes[4..]))
     }
 
-    fn put(self, out: &mut Vec<u8>) -> Result<(), AllocError> {
+    fn put(&self, out: &mut Vec<u8>) -> Result<(), AllocError> {
         self.cast_unsigned().put(out)
     }
 }
@@ -129,13 +129,13 @@ impl Part for bool {
         }
     }
 
-    fn put(self, out: &mut Vec<u8>) -> Result<(), AllocError> {
-        u8::from(self).put(out)
+    fn put(&self, out: &mut Vec<u8>) -> Result<(), AllocError> {
+        u8::from(*self).put(out)
     }
 }
 
 /// The number of a blend mode. Only those that are listed are taken.
-#[derive(Clone, Copy)]
+#[derive(Drop)]
 pub(crate) struct Mode(pub u8);
 
 impl Part for Mode {
@@ -152,7 +152,7 @@ impl Part for Mode {
         }
     }
 
-    fn put(self, out: &mut Vec<u8>) -> Result<(), AllocError> {
+    fn put(&self, out: &mut Vec<u8>) -> Result<(), AllocError> {
         self.0.put(out)
     }
 }
@@ -171,7 +171,7 @@ impl<A: Part, B: Part> Part for (A, B) {
         Some(((first, second), rest))
     }
 
-    fn put(self, out: &mut Vec<u8>) -> Result<(), AllocError> {
+    fn put(&self, out: &mut Vec<u8>) -> Result<(), AllocError> {
         self.0.put(out)?;
         self.1.put(out)
     }

@@ -3,28 +3,43 @@
 ghost use Rattle.std.specs.Prelude.{◌≡◌, ◌≤◌, ◌+◌, ◌++◌, length, OnOk, OnErr};
 ghost use Rattle.dp_msg_draw.specs.Payloads.{draw_payload};
 
-use crate::canvas::put_canvas;
 use crate::draw::Draw;
-use crate::layers::{put_layer, put_titled};
-use crate::pictures::put_picture;
-use crate::rects::put_rect;
-use crate::strokes::put_stroke;
+use crate::part::Part;
+use crate::tails::{put_colors, put_content, put_dabs, put_title};
 use std::alloc::AllocError;
 
 /// Puts a message's fields at the end. Where memory runs out, some of their bytes may stand there.
+#[rattlefmt::skip]
 fn put_draw(m: &Draw, out: &mut Vec<u8>) -> Result<(), AllocError>
     ensures spelled { OnOk result (out.new.items ≡ out.old.items ++ draw_payload m.now) }
     ensures short { OnOk result (length (draw_payload m.now) ≤ 65535) }
 {
-    match m {
-        Draw::CanvasResize { .. } | Draw::Background { .. } => put_canvas(m, out),
-        Draw::LayerCreate { .. } | Draw::LayerTitle { .. } => put_titled(m, out),
-        Draw::LayerAttr { .. } | Draw::LayerMove { .. } | Draw::LayerDelete { .. } => {
-            put_layer(m, out)
+    match *m {
+        Draw::CanvasResize { top, right, bottom, left } => ((top, right), (bottom, left)).put(out),
+        Draw::LayerCreate { id, parent, group, ref title } => put_title(&(id, (parent, group)), title, out),
+        Draw::LayerAttr { id, opacity, mode, hidden } => ((id, opacity), (mode, hidden)).put(out),
+        Draw::LayerTitle { id, ref title } => put_title(&id, title, out),
+        Draw::LayerMove { id, parent, above } => (id, (parent, above)).put(out),
+        Draw::LayerDelete { id } => id.put(out),
+        Draw::PutImage { layer, mode, x, y, w, h, ref colors } => {
+            put_colors(&((layer, mode), ((x, y), (w, h))), colors, out)
         }
-        Draw::PutImage { .. } | Draw::PutTile { .. } => put_picture(m, out),
-        Draw::FillRect { .. } | Draw::MoveRect { .. } => put_rect(m, out),
-        Draw::DabsRound { .. } | Draw::DabsSquare { .. } => put_stroke(m, out),
+        Draw::FillRect { layer, mode, x, y, w, h, color } => {
+            ((layer, mode), (((x, y), (w, h)), color)).put(out)
+        }
+        Draw::PutTile { layer, col, row, repeat, ref content } => {
+            put_content(&((layer, (col, row)), repeat), content, out)
+        }
+        Draw::Background { color } => color.put(out),
+        Draw::DabsRound { layer, x, y, r, g, b, mode, ref dabs } => {
+            put_dabs(&((layer, (x, y)), ((r, (g, b)), mode)), dabs, out)
+        }
+        Draw::DabsSquare { layer, x, y, r, g, b, mode, ref dabs } => {
+            put_dabs(&((layer, (x, y)), ((r, (g, b)), mode)), dabs, out)
+        }
+        Draw::MoveRect { layer, sx, sy, w, h, tx, ty } => {
+            (layer, (((sx, sy), (w, h)), (tx, ty))).put(out)
+        }
     }
 }
 

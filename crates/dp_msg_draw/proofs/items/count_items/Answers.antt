@@ -3,8 +3,8 @@ use Rattle.std.proofs.lemmas.List.{length-append}
 use Rattle.dp_msg_draw.proofs.Sequences.{taken_more, taken_all, none_left, ended}
 use Rattle.dp_msg_draw.proofs.items.count_items.Goals as goal
 
-pub loop-after-preserved : goal.loop-after-preserved
-loop-after-preserved g c =
+pub loop-after-preserved-in-Some : goal.loop-after-preserved-in-Some
+loop-after-preserved-in-Some g c =
     let taken = c.loop-after.invariant.taken in
     let item = c.in-Some.field-0-0 in
     record {

@@ -2,8 +2,8 @@ use Rattle.std.proofs.Common.{arith, sym, ◌∙◌, ◌≡◌, false, true}
 use Rattle.std.proofs.lemmas.Result.{err_from_is_err_and}
 use Rattle.dp_msg_draw.proofs.Pixels.{repeats, all_equal, tile_from, tile_to, length_of_tile}
 use Rattle.dp_msg_draw.proofs.Takes.{same_error}
-use Rattle.dp_msg_draw.proofs.pictures.read_pixels.Goals as goal
-use Rattle.dp_msg_draw.proofs.pictures.read_pixels.Goals.{then-bytes-ne32768-via-then-bytes-ne32768, then-bytes-ne32768-via-else-bytes-ne32768+then-starts_with}
+use Rattle.dp_msg_draw.proofs.tails.read_pixels.Goals as goal
+use Rattle.dp_msg_draw.proofs.tails.read_pixels.Goals.{then-bytes-ne32768-via-then-bytes-ne32768, then-bytes-ne32768-via-else-bytes-ne32768+then-starts_with}
 
 pub returns-then-bytes-ne32768 : goal.returns-then-bytes-ne32768
 returns-then-bytes-ne32768 c = λ pixels s.

@@ -1,7 +1,7 @@
 use Rattle.std.proofs.Common.{◌≡◌, ◌∷◌, ap, ◌∙◌}
 use Rattle.std.proofs.lemmas.Result.{err_from_is_err_and}
 use Rattle.dp_msg_draw.proofs.Forms.{content_fails}
-use Rattle.dp_msg_draw.proofs.pictures.TileContentRest.read.Goals as goal
+use Rattle.dp_msg_draw.proofs.tails.TileContentRest.read.Goals as goal
 
 pub returns-in_err-read_pixels-in-Some-eq1-default : goal.returns-in_err-read_pixels-in-Some-eq1-default
 returns-in_err-read_pixels-in-Some-eq1-default c =

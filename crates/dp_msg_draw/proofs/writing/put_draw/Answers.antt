@@ -1,7 +1,7 @@
 use Rattle.std.proofs.Common.{w32, rules}
 use Rattle.std.specs.Int.RustNames.{FitsSigned}
 use Rattle.std.proofs.lemmas.Int.{to_z-of_z}
-use Rattle.dp_msg_draw.proofs.strokes.put_stroke.Goals as goal
+use Rattle.dp_msg_draw.proofs.writing.put_draw.Goals as goal
 
 pub returns-in-DabsRound-clause-spelled : goal.returns-in-DabsRound-clause-spelled
 returns-in-DabsRound-clause-spelled c =

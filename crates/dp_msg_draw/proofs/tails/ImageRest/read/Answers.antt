@@ -1,7 +1,7 @@
 use Rattle.std.proofs.Common.{arith}
 use Rattle.std.proofs.lemmas.Result.{err_from_is_err_and}
 use Rattle.dp_msg_draw.proofs.Forms.{image_fails}
-use Rattle.dp_msg_draw.proofs.pictures.ImageRest.read.Goals as goal
+use Rattle.dp_msg_draw.proofs.tails.ImageRest.read.Goals as goal
 
 pub returns-in_default : goal.returns-in_default
 returns-in_default c = λ i s.

@@ -1,26 +1,71 @@
-//! Images and tiles.
+//! What runs to the payload's end: titles, dabs, colours and pixels.
 
-ghost use Rattle.std.specs.Prelude.{◌≡◌, ◌<◌, ◌≤◌, ◌^◌, ◌*◌, ◌++◌, ◌⊎◌, length, IfSome, IfNone, OnOk};
+ghost use Rattle.std.specs.Prelude.{◌≡◌, ◌<◌, ◌≤◌, ◌^◌, ◌*◌, ◌++◌, length, IfSome, IfNone, OnOk};
 ghost use Rattle.std.specs.List.{flat_map};
 ghost use Rattle.dp_msg_draw.specs.Fields.{four_bytes};
-ghost use Rattle.dp_msg_draw.specs.Payloads.{SpellsDraw, draw_kind, draw_payload, IsImage};
+ghost use Rattle.dp_msg_draw.specs.Limits.{IsTitle};
+ghost use Rattle.dp_msg_draw.specs.Payloads.{dab_bytes, AreDabs, IsImage};
 ghost use Rattle.dp_msg_draw.specs.Payloads.{pixel_bytes, IsTile, content_bytes, IsContent};
 ghost use Rattle.dp_msg_draw.specs.Reading.{Answers, Spells};
 
-use crate::draw::{Draw, TileContent};
+use crate::draw::TileContent;
 use crate::error::PayloadError;
 use crate::items::{put_items, read_items};
-use crate::lists::{Colors, TilePixels};
-use crate::part::{Mode, Part, all};
-use crate::rest::{Rest, read_both};
+use crate::lists::{Colors, Dabs, TilePixels, Title, is_title};
+use crate::part::{Part, all};
+use crate::rest::Rest;
 use std::alloc::{AllocError, Global};
+
+impl Rest for Title {
+    ghost spelling = { λ title. title };
+
+    ghost valid = { IsTitle };
+
+    fn read(alloc: Global, bytes: &[u8]) -> Result<Title, PayloadError> {
+        if !is_title(bytes) {
+            return Err(PayloadError::Malformed);
+        }
+        Ok(Title::from_slice(alloc, bytes)?)
+    }
+}
+
+pub(crate) fn put_title<P: Part>(part: &P, title: &Title, out: &mut Vec<u8>) -> Result<(), AllocError>
+    ensures spelled { OnOk result (out.new.items ≡ out.old.items ++ (P.spelling part.now ++ title.now)) }
+    ensures short { length title.now ≤ 255 }
+{
+    let title = title.as_slice();
+    part.put(out)?;
+    out.extend_from_slice(title)
+}
+
+impl Rest for Dabs {
+    ghost spelling = { flat_map dab_bytes };
+
+    ghost valid = { AreDabs };
+
+    fn read(alloc: Global, bytes: &[u8]) -> Result<Dabs, PayloadError> {
+        let dabs = read_items(alloc, bytes, 1, 16380)?;
+        Ok(Dabs::from_vec(dabs))
+    }
+}
+
+#[tactic(auto, using(crate::proofs::Sequences::length_of_dabs))]
+pub(crate) fn put_dabs<P: Part>(part: &P, dabs: &Dabs, out: &mut Vec<u8>) -> Result<(), AllocError>
+    ensures spelled { OnOk result (out.new.items
+        ≡ out.old.items ++ (P.spelling part.now ++ flat_map dab_bytes dabs.now)) }
+    ensures short { length (flat_map dab_bytes dabs.now) ≤ 65520 }
+{
+    let dabs = dabs.as_slice();
+    part.put(out)?;
+    put_items(dabs, out)
+}
 
 /// An image of w by h colours, row by row.
 #[derive(Drop)]
 pub(crate) struct Image {
-    w: u32,
-    h: u32,
-    colors: Colors,
+    pub w: u32,
+    pub h: u32,
+    pub colors: Colors,
 }
 
 /// How many colours an image of w by h has, at least one and as many as a payload holds.
@@ -82,86 +127,42 @@ impl Rest for TileContent {
     }
 }
 
-pub(crate) fn put_image(alloc: Global, payload: &[u8]) -> Result<Draw, PayloadError>
-    ensures { Answers (SpellsDraw 136 payload.now) result }
-{
-    let (((layer, Mode(mode)), (x, y)), Image { w, h, colors }) = read_both(alloc, payload)?;
-    Ok(Draw::PutImage {
-        layer,
-        mode,
-        x,
-        y,
-        w,
-        h,
-        colors,
-    })
-}
-
-pub(crate) fn put_tile(alloc: Global, payload: &[u8]) -> Result<Draw, PayloadError>
-    ensures { Answers (SpellsDraw 146 payload.now) result }
-{
-    let (((layer, (col, row)), repeat), content) = read_both(alloc, payload)?;
-    Ok(Draw::PutTile {
-        layer,
-        col,
-        row,
-        repeat,
-        content,
-    })
-}
-
-fn put_colors<P: Part>(part: P, colors: &Colors, out: &mut Vec<u8>) -> Result<(), AllocError>
+#[tactic(auto, using(crate::proofs::Sequences::length_of_colors))]
+pub(crate) fn put_colors<P: Part>(part: &P, colors: &Colors, out: &mut Vec<u8>) -> Result<(), AllocError>
     ensures spelled { OnOk result (out.new.items
-        ≡ out.old.items ++ (P.spelling part ++ flat_map four_bytes colors.now)) }
-    ensures short { length colors.now ≤ 16379 }
+        ≡ out.old.items ++ (P.spelling part.now ++ flat_map four_bytes colors.now)) }
+    ensures short { length (flat_map four_bytes colors.now) ≤ 65516 }
 {
     let colors = colors.as_slice();
     part.put(out)?;
     put_items(colors, out)
 }
 
-/// What a tile is filled with.
 #[tactic(auto, using(crate::proofs::Sequences::length_of_pixels))]
-fn put_content(content: &TileContent, out: &mut Vec<u8>) -> Result<(), AllocError>
-    ensures spelled { OnOk result (out.new.items ≡ out.old.items ++ content_bytes content.now) }
+fn put_pixels(pixels: &TilePixels, out: &mut Vec<u8>) -> Result<(), AllocError>
+    ensures spelled { OnOk result (out.new.items
+        ≡ out.old.items ++ flat_map pixel_bytes pixels.now) }
+    ensures short { length (flat_map pixel_bytes pixels.now) ≡ 32768 }
+{
+    put_items(pixels.as_slice(), out)
+}
+
+/// A part, and what a tile is filled with.
+pub(crate) fn put_content<P: Part>(
+    part: &P,
+    content: &TileContent,
+    out: &mut Vec<u8>,
+) -> Result<(), AllocError>
+    ensures spelled { OnOk result (out.new.items
+        ≡ out.old.items ++ (P.spelling part.now ++ content_bytes content.now)) }
     ensures short { OnOk result (length (content_bytes content.now) ≤ 32769) }
 {
+    part.put(out)?;
     match content {
         TileContent::Solid(pixel) => (0u8, *pixel).put(out),
         TileContent::Pixels(pixels) => {
-            let pixels = pixels.as_slice();
             1u8.put(out)?;
-            put_items(pixels, out)
+            put_pixels(pixels, out)
         }
-    }
-}
-
-#[tactic(auto, using(crate::proofs::Sequences::length_of_colors))]
-pub(crate) fn put_picture(m: &Draw, out: &mut Vec<u8>) -> Result<(), AllocError>
-    requires { (draw_kind m.now ≡ 136) ⊎ (draw_kind m.now ≡ 146) }
-    ensures spelled { OnOk result (out.new.items ≡ out.old.items ++ draw_payload m.now) }
-    ensures short { OnOk result (length (draw_payload m.now) ≤ 65535) }
-{
-    match m {
-        Draw::PutImage {
-            layer,
-            mode,
-            x,
-            y,
-            w,
-            h,
-            colors,
-        } => put_colors(((*layer, *mode), ((*x, *y), (*w, *h))), colors, out),
-        Draw::PutTile {
-            layer,
-            col,
-            row,
-            repeat,
-            content,
-        } => {
-            ((*layer, (*col, *row)), *repeat).put(out)?;
-            put_content(content, out)
-        }
-        _ => unreachable!(),
     }
 }
