@@ -1,0 +1,42 @@
+-- The cells of a dab, as the code computes them.
+use Rattle.std.proofs.Common.{◌≡◌, ℕ, ◌+◌, ◌/◌, ◌^◌, ◌<◌, ◌≤◌, Bool, true, false, ◌&&◌, arith, ap, ◌∙◌, sym, subst, SFits, w64, to_z, of_z, Fits}
+use Rattle.std.specs.Prelude.{ℤ, pos, ◌+ℤ◌, ◌-ℤ◌, ◌≤ℤ◌, ◌<ℤ◌, unsigned_abs}
+use Rattle.std.proofs.lemmas.Int.{ints, to_z-of_z}
+use lib.Signed.{non_neg}
+use lib.Dec.{T}
+use Rattle.dp_pixels.specs.declared.rect.Rect.{Rect}
+use Rattle.dp_pixels.specs.declared.dabs.PlacedDab.{PlacedDab}
+use Rattle.dp_pixels.specs.declared.dabs.Shape.TheVariants.{Round}
+use Rattle.dp_pixels.specs.Rectangles.{is_in}
+use Rattle.dp_pixels.specs.Dabs.{dab_rect, is_in_disc, dab_covers}
+
+-- a number near 0 less a small one, as the code computes it
+pub less_small : (z : ℤ) (n : ℕ) → unsigned_abs z < 549755813888 → n < 256 → to_z w64 (of_z w64 (to_z w64 (of_z w64 z) -ℤ to_z w64 n)) ≡ z -ℤ pos n
+less_small z n near small = omega (arith, ints)
+
+-- the difference of two numbers
+abbrev pub difference : ℤ → ℤ → ℤ
+difference x left = to_z w64 (of_z w64 x) -ℤ to_z w64 (of_z w64 left)
+
+-- a number that is less than `size` above another
+pub record IsCell (x left : ℤ) (size : ℕ) : Type 0 where
+  pub fits : SFits w64 (difference x left)
+  pub not_negative : T (non_neg (to_z w64 (of_z w64 (difference x left))))
+  pub small : unsigned_abs (to_z w64 (of_z w64 (difference x left))) < size
+  pub value : pos (unsigned_abs (to_z w64 (of_z w64 (difference x left)))) ≡ x -ℤ left
+
+pub is_cell : (x left : ℤ) (size : ℕ) → SFits w64 x → SFits w64 left → size < 256 → left ≤ℤ x → x <ℤ (left +ℤ pos size) → IsCell x left size
+is_cell x left size x_fits left_fits short from before = record {
+  fits = omega (arith, ints);
+  not_negative = grind (arith, ints);
+  small = omega (arith, ints);
+  value = omega (arith, ints);
+}
+
+-- a round dab covers a place of its square where the cell is in the disc
+pub round_covers_cell : (dab : PlacedDab) (cells : Rect) (x y : ℤ) (i j : ℕ) → cells ≡ dab_rect dab → is_in cells x y ≡ true
+    → pos i ≡ x -ℤ cells.x0 → pos j ≡ y -ℤ cells.y0 → is_in_disc dab.size (pos i) (pos j) ≡ dab_covers Round dab x y
+round_covers_cell dab cells x y i j is inside column row =
+    let in_cells : is_in_disc dab.size (pos i) (pos j) ≡ (is_in cells x y && is_in_disc dab.size (x -ℤ cells.x0) (y -ℤ cells.y0)) =
+    rw (inside, ← column, ← row) in
+    in_cells ∙ ap (λ (r : Rect). is_in r x y && is_in_disc dab.size (x -ℤ r.x0) (y -ℤ r.y0)) is

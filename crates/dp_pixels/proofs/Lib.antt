@@ -1,0 +1,4 @@
+pub mod Rectangles
+pub mod Cells
+pub mod Strokes
+pub mod Images

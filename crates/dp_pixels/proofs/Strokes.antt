@@ -1,0 +1,93 @@
+-- The dabs of a message, one after the other.
+use Rattle.std.proofs.Common.{◌≡◌, ℕ, ◌+◌, ◌*◌, ◌^◌, ◌<◌, ◌≤◌, List, [], ◌∷◌, ◌++◌, length, get_or, take, map, fold, refl, arith, ap, ◌∙◌, sym}
+use Rattle.std.specs.Prelude.{ℤ, pos, ◌+ℤ◌, ◌-ℤ◌, ◌≤ℤ◌, ◌<ℤ◌, unsigned_abs}
+use Rattle.std.specs.List.{enumerate_from}
+use Rattle.std.proofs.lemmas.Int.{ints}
+use Rattle.std.proofs.lemmas.List.{map_more, get_or-map, length-map, take_more}
+use Rattle.std.proofs.lemmas.List.FromFn.{length-enumerate_from, get_or-enumerate_from}
+use Rattle.std.proofs.lemmas.List.Sums.{fold_push}
+use Rattle.dp_msg_draw.specs.declared.lists.Dab.{Dab}
+use Rattle.dp_pixels.specs.declared.rect.Place.{Place}
+use Rattle.dp_pixels.specs.declared.dabs.PlacedDab.{PlacedDab}
+use Rattle.dp_pixels.specs.Near.{IsNear}
+use Rattle.dp_pixels.specs.Dabs.{int_sum, placed_dabs}
+
+-- the sum of the numbers of the first dabs
+abbrev sum_of : (Dab → ℤ) → List Dab → ℕ → ℤ
+sum_of f dabs k = int_sum (map f (take k dabs))
+
+-- how many dabs there are
+pub length-placed_dabs : (x y : ℤ) (dabs : List Dab) → length (placed_dabs x y dabs) ≡ length dabs
+length-placed_dabs x y dabs = length-map (enumerate_from 0 dabs) _ ∙ length-enumerate_from 0 dabs
+
+-- what stands for a dab past the end of a list
+abbrev pub no_dab : Dab
+no_dab = record { dx = pos 0; dy = pos 0; size = 0; opacity = 0 }
+
+-- the dab at a place
+abbrev pub put : ℤ → ℤ → Dab → PlacedDab
+put x y dab = record { at = record { x = x; y = y }; size = dab.size; opacity = dab.opacity }
+
+-- the dab behind a place
+abbrev pub behind : Place → Dab → PlacedDab
+behind last dab = put (last.x +ℤ dab.dx) (last.y +ℤ dab.dy) dab
+
+-- the dab at an index stands at the sums of the differences up to it
+get_or-placed_dabs : (left top : ℤ) (dabs : List Dab) (k : ℕ) (d : PlacedDab) → k < length dabs
+    → get_or (placed_dabs left top dabs) k d
+    ≡ put (left +ℤ sum_of (λ (e : Dab). e.dx) dabs (k + 1)) (top +ℤ sum_of (λ (e : Dab). e.dy) dabs (k + 1)) (get_or dabs k no_dab)
+get_or-placed_dabs left top dabs k d within =
+    let place = λ (entry : ℕ × Dab).
+    put (left +ℤ sum_of (λ (e : Dab). e.dx) dabs (entry.0 + 1)) (top +ℤ sum_of (λ (e : Dab). e.dy) dabs (entry.0 + 1)) entry.1 in
+    let short : k < length (enumerate_from 0 dabs) = omega (arith, length-enumerate_from 0 dabs) in
+    let here : 0 + k ≡ k = omega arith in
+    get_or-map place (enumerate_from 0 dabs) k (0, no_dab) d short
+    ∙ ap place (get_or-enumerate_from 0 dabs k (0, no_dab) within ∙ ap (λ (n : ℕ). (n, get_or dabs k no_dab)) here)
+
+-- the sum of one number more
+sum_of-more : (f : Dab → ℤ) (dabs : List Dab) (k : ℕ) → k < length dabs → sum_of f dabs (k + 1) ≡ sum_of f dabs k +ℤ f (get_or dabs k no_dab)
+sum_of-more f dabs k within =
+    ap int_sum (map_more f dabs k no_dab within) ∙ fold_push ◌+ℤ◌ (pos 0) (map f (take k dabs)) (f (get_or dabs k no_dab))
+
+-- the place of the last of the first k dabs, or that of the message
+pub record IsLast (left top : ℤ) (dabs : List Dab) (k : ℕ) (last : Place) : Type 0 where
+  pub x : last.x ≡ left +ℤ int_sum (map (λ (dab : Dab). dab.dx) (take k dabs))
+  pub y : last.y ≡ top +ℤ int_sum (map (λ (dab : Dab). dab.dy) (take k dabs))
+  pub near : IsNear (2 ^ 32 + 128 * k) last
+
+pub last_none : (at : Place) (dabs : List Dab) → IsNear (2 ^ 32) at → IsLast at.x at.y dabs 0 at
+last_none at dabs near = record {
+  x = omega (arith, ints);
+  y = omega (arith, ints);
+  near = record { x = omega (arith, near.x); y = omega (arith, near.y) };
+}
+
+-- the dab behind the last one is the last of one dab more
+pub last_more : (left top : ℤ) (dabs : List Dab) (k : ℕ) (last : Place) (placed : PlacedDab) → k < length dabs
+    → placed ≡ behind last (get_or dabs k no_dab) → unsigned_abs placed.at.x ≤ unsigned_abs last.x + 128 → unsigned_abs placed.at.y ≤ unsigned_abs last.y + 128
+    → IsLast left top dabs k last → IsLast left top dabs (k + 1) placed.at
+last_more left top dabs k last placed within is near_x near_y before =
+    let is_x = before.x in
+    let is_y = before.y in
+    let last_x = before.near.x in
+    let last_y = before.near.y in
+    let to_x : placed.at.x ≡ last.x +ℤ (get_or dabs k no_dab).dx = ap (λ (p : PlacedDab). p.at.x) is in
+    let to_y : placed.at.y ≡ last.y +ℤ (get_or dabs k no_dab).dy = ap (λ (p : PlacedDab). p.at.y) is in
+    record {
+      x = omega (arith, ints, sum_of-more (λ (e : Dab). e.dx) dabs k within);
+      y = omega (arith, ints, sum_of-more (λ (e : Dab). e.dy) dabs k within);
+      near = record { x = omega arith; y = omega arith };
+    }
+
+-- and the next in the list
+pub placed_is : (left top : ℤ) (dabs : List Dab) (k : ℕ) (last : Place) (placed d : PlacedDab) → k < length dabs
+    → placed ≡ behind last (get_or dabs k no_dab) → IsLast left top dabs k last → get_or (placed_dabs left top dabs) k d ≡ placed
+placed_is left top dabs k last placed d within is before =
+    let is_x = before.x in
+    let is_y = before.y in
+    let dab = get_or dabs k no_dab in
+    let to_x : left +ℤ sum_of (λ (e : Dab). e.dx) dabs (k + 1) ≡ last.x +ℤ dab.dx = omega (arith, ints, sum_of-more (λ (e : Dab). e.dx) dabs k within) in
+    let to_y : top +ℤ sum_of (λ (e : Dab). e.dy) dabs (k + 1) ≡ last.y +ℤ dab.dy = omega (arith, ints, sum_of-more (λ (e : Dab). e.dy) dabs k within) in
+    get_or-placed_dabs left top dabs k d within
+    ∙ (ap (λ (z : ℤ). put z (top +ℤ sum_of (λ (e : Dab). e.dy) dabs (k + 1)) dab) to_x
+    ∙ (ap (λ (z : ℤ). put (last.x +ℤ dab.dx) z dab) to_y ∙ sym is))

@@ -1,0 +1,15 @@
+//! What the pixel commands make of the pixels of a layer, and where each of them may change it.
+//!
+//! The rule: docs/protocol.md, "Pixel commands".
+#![tactic(auto)]
+
+mod dabs;
+mod image;
+mod place;
+mod rect;
+
+pub use place::{covers, pixel_after};
+pub use rect::Rect;
+
+#[cfg(test)]
+mod tests;
