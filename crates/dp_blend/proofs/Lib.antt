@@ -1,3 +1,5 @@
+pub mod LaneLemmas
 pub mod Pixels
 pub mod Products
-pub mod Rows
+pub mod RowLemmas
+pub mod TwoPixels

@@ -1,10 +1,10 @@
 -- What is made of pixels is a pixel.
 use Rattle.std.proofs.Common.{ℕ, ◌-◌, ◌≤◌, arith}
-use Rattle.dp_blend.specs.Color.{Channels, IsPixel}
+use Rattle.dp_blend.specs.Color.{Channels, IsPixel, fade}
 use Rattle.dp_blend.specs.Blending.{blend, over, channel_blended, alpha_blended}
 use Rattle.dp_blend.specs.declared.modes.Mode.{Mode}
 use Rattle.dp_blend.specs.declared.modes.Mode.TheVariants.{Erase, Normal, Multiply, Add, Recolor, Replace}
-use Rattle.dp_blend.proofs.Products.{mul_mono, mul_le_right, multiply_within, recolor_within}
+use Rattle.dp_blend.proofs.Products.{mul_mono, mul_le, mul_le_right, multiply_within, recolor_within}
 
 -- the alpha of a source over a destination is at most one
 pub over_within : (sa da : ℕ) → sa ≤ 32768 → da ≤ 32768 → over sa da ≤ 32768
@@ -35,4 +35,12 @@ blend-IsPixel mode s d h k = record {
   g = channel_within mode s.g s.a d.g d.a h.g h.a k.g k.a;
   b = channel_within mode s.b s.a d.b d.a h.b h.a k.b k.a;
   a = alpha_within mode s.a d.a h.a k.a;
+}
+
+pub fade-IsPixel : (p : Channels) (m : ℕ) → IsPixel p → m ≤ 32768 → IsPixel (fade p m)
+fade-IsPixel p m h i = record {
+  r = mul_mono p.r p.a m h.r;
+  g = mul_mono p.g p.a m h.g;
+  b = mul_mono p.b p.a m h.b;
+  a = omega (arith, mul_le p.a m i);
 }

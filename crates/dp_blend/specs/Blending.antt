@@ -1,6 +1,6 @@
 -- The six ways to blend a source with a destination, and the numbers that name them.
 use Rattle.std.specs.Prelude.{ℕ, ◌+◌, ◌-◌, ◌==◌, min, if◌then◌else◌}
-use Rattle.std.specs.Prelude.{List, [], ◌∷◌, Option, Some, None}
+use Rattle.std.specs.Prelude.{List, [], ◌∷◌, map, Option, Some, None}
 use Rattle.dp_blend.specs.Color.{Channels, mul, fade}
 use Rattle.dp_blend.specs.declared.modes.Mode.{Mode}
 use Rattle.dp_blend.specs.declared.modes.Mode.TheVariants.{Erase, Normal, Multiply}
@@ -68,3 +68,13 @@ abbrev pub row_blended : Mode → Channels → List ℕ → List Channels → Li
 row_blended mode src [] row = row
 row_blended mode src (m ∷ mask) [] = []
 row_blended mode src (m ∷ mask) (d ∷ row) = masked mode src m d ∷ row_blended mode src mask row
+
+-- the row after the source, place by place
+abbrev pub row_filled : Mode → Channels → List Channels → List Channels
+row_filled mode src row = map (blend mode src) row
+
+-- the row after the faded sources, place by place; past the end of the sources the row stays
+abbrev pub row_merged : Mode → ℕ → List Channels → List Channels → List Channels
+row_merged mode by [] row = row
+row_merged mode by (s ∷ sources) [] = []
+row_merged mode by (s ∷ sources) (d ∷ row) = blend mode (fade s by) d ∷ row_merged mode by sources row

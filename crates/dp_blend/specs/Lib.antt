@@ -1,2 +1,3 @@
 pub mod Color
 pub mod Blending
+pub mod Lanes

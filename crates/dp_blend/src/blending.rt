@@ -1,10 +1,10 @@
-//! Blending a pixel with another in each mode, and a row of pixels through a mask.
+//! Blending a pixel with another in each mode.
 //!
 //! The rule: docs/protocol.md, "Numbers and blending".
 
-ghost use Rattle.std.specs.Prelude.{◌≡◌, ◌<◌, ◌≤◌, ℕ, length, slice_index, slice_index_or, All};
-ghost use Rattle.dp_blend.specs.Color.{Channels, IsPixel};
-ghost use Rattle.dp_blend.specs.Blending.{blend, channel_blended, masked, row_blended, over};
+ghost use Rattle.std.specs.Prelude.{◌≡◌, ◌≤◌};
+ghost use Rattle.dp_blend.specs.Color.{IsPixel};
+ghost use Rattle.dp_blend.specs.Blending.{blend, channel_blended, over};
 
 use crate::color::{ONE, Pixel, fade, mul};
 use crate::modes::Mode;
@@ -120,34 +120,4 @@ fn recolored(src: Pixel, dst: Pixel) -> Pixel
         channel_recolored(src.b(), sa, dst.b(), da),
         da,
     )
-}
-
-/// The destination after the source through a mask of `by`: it stays where the mask is 0.
-#[inline]
-fn masked(mode: Mode, src: Pixel, by: u16, dst: Pixel) -> Pixel
-    requires { by ≤ 32768 }
-    ensures { result ≡ masked mode src by dst }
-{
-    if by == 0 {
-        dst
-    } else {
-        blend(mode, fade(src, by), dst)
-    }
-}
-
-/// Blends the source with each pixel of the row, faded by the mask at its place: 32768 blends all of
-/// it, and where the mask is 0 the pixel stays.
-///
-/// The rule: docs/protocol.md, "Numbers and blending".
-pub fn row_blend(mode: Mode, src: Pixel, mask: &[u16], row: &mut [Pixel])
-    requires same_length { length mask.now ≡ length row.old }
-    requires within { All (λ m. m ≤ 32768) mask.now }
-    ensures value { row.new ≡ row_blended mode src mask.now row.old }
-    ensures places { (k : ℕ) (d : Channels) → k < length row.old →
-        slice_index_or row.new k d
-        ≡ masked mode src (slice_index mask.now k) (slice_index_or row.old k d) }
-{
-    for k in 0..row.len() {
-        row[k] = masked(mode, src, mask[k], row[k]);
-    }
 }

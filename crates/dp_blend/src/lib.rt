@@ -6,12 +6,16 @@
 
 mod blending;
 mod color;
+mod kernels;
+mod lanes;
 pub mod laws;
 mod modes;
+mod rows;
 
-pub use blending::{blend, row_blend};
+pub use blending::blend;
 pub use color::{ONE, Pixel, fade, from8, of_argb, to8};
 pub use modes::Mode;
+pub use rows::{row_blend, row_fill, row_merge};
 
 #[cfg(test)]
 mod tests;

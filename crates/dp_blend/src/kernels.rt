@@ -1,0 +1,145 @@
+//! The modes of blending, two pixels at a time.
+//!
+//! The rule: docs/protocol.md, "Numbers and blending".
+
+ghost use Rattle.std.specs.Prelude.{◌≡◌, ◌≤◌};
+ghost use Rattle.dp_blend.specs.Color.{fade};
+ghost use Rattle.dp_blend.specs.Blending.{blend, masked};
+ghost use Rattle.dp_blend.specs.Lanes.{ArePixels, blended_lanes};
+ghost use Rattle.dp_blend.specs.declared.modes.Mode.{Mode};
+
+use std::simd::prelude::*;
+
+use crate::color::{ONE, Pixel};
+use crate::lanes::{alphas_of, capped_sums, fours_of, kept_where_zero, lanes_of, pixels_of};
+use crate::lanes::{products, rests_of, smaller_of, with_alphas};
+
+/// A mode of blending, on the lanes of two pixels.
+pub(crate) trait Kernel {
+    ghost mode: { Mode };
+
+    /// Two sources, each blended with the pixel at its place.
+    fn blend_lanes(sources: u16x8, old: u16x8) -> u16x8
+        requires sources { ArePixels sources }
+        requires old { ArePixels old }
+        ensures { result ≡ blended_lanes mode sources old };
+}
+
+/// The mode Erase.
+pub(crate) struct Erasing;
+
+impl Kernel for Erasing {
+    ghost mode = { Mode.Erase };
+
+    #[inline(always)]
+    fn blend_lanes(sources: u16x8, old: u16x8) -> u16x8 {
+        products(old, rests_of(sources))
+    }
+}
+
+/// The mode Normal.
+pub(crate) struct Covering;
+
+impl Kernel for Covering {
+    ghost mode = { Mode.Normal };
+
+    #[inline(always)]
+    fn blend_lanes(sources: u16x8, old: u16x8) -> u16x8 {
+        sources + products(old, rests_of(sources))
+    }
+}
+
+/// The mode Multiply.
+pub(crate) struct Multiplying;
+
+impl Kernel for Multiplying {
+    ghost mode = { Mode.Multiply };
+
+    #[inline(always)]
+    fn blend_lanes(sources: u16x8, old: u16x8) -> u16x8 {
+        let parts = products(old, sources) + products(rests_of(old), sources);
+        with_alphas(parts, sources) + products(old, rests_of(sources))
+    }
+}
+
+/// The mode Add.
+pub(crate) struct Adding;
+
+impl Kernel for Adding {
+    ghost mode = { Mode.Add };
+
+    #[inline(always)]
+    fn blend_lanes(sources: u16x8, old: u16x8) -> u16x8 {
+        let over = sources + products(old, rests_of(sources));
+        smaller_of(capped_sums(sources, old), alphas_of(over))
+    }
+}
+
+/// The mode Recolor.
+pub(crate) struct Recoloring;
+
+impl Kernel for Recoloring {
+    ghost mode = { Mode.Recolor };
+
+    #[inline(always)]
+    fn blend_lanes(sources: u16x8, old: u16x8) -> u16x8 {
+        let shown = with_alphas(sources, u16x8::splat(ONE));
+        let rests = with_alphas(rests_of(sources), u16x8::splat(0));
+        products(alphas_of(old), shown) + products(old, rests)
+    }
+}
+
+/// The mode Replace.
+pub(crate) struct Replacing;
+
+impl Kernel for Replacing {
+    ghost mode = { Mode.Replace };
+
+    #[inline(always)]
+    fn blend_lanes(sources: u16x8, _old: u16x8) -> u16x8 {
+        sources
+    }
+}
+
+/// A source, blended with each of two pixels.
+#[inline(always)]
+pub(crate) fn fill_two<K: Kernel>(src: Pixel, old: (Pixel, Pixel)) -> (Pixel, Pixel)
+    ensures first { result.0 ≡ blend K.mode src old.0 }
+    ensures second { result.1 ≡ blend K.mode src old.1 }
+{
+    let sources = lanes_of(src, src);
+    pixels_of(K::blend_lanes(sources, lanes_of(old.0, old.1)))
+}
+
+/// Two sources that are faded by one number, each blended with the pixel at its place.
+#[inline(always)]
+pub(crate) fn merge_two<K: Kernel>(
+    by: u16,
+    sources: (Pixel, Pixel),
+    old: (Pixel, Pixel),
+) -> (Pixel, Pixel)
+    requires { by ≤ 32768 }
+    ensures first { result.0 ≡ blend K.mode (fade sources.0 by) old.0 }
+    ensures second { result.1 ≡ blend K.mode (fade sources.1 by) old.1 }
+{
+    let faded = products(lanes_of(sources.0, sources.1), u16x8::splat(by));
+    pixels_of(K::blend_lanes(faded, lanes_of(old.0, old.1)))
+}
+
+/// A source through two masks, blended with the pixel at the place of each.
+#[inline(always)]
+pub(crate) fn blend_two<K: Kernel>(
+    src: Pixel,
+    masks: (u16, u16),
+    old: (Pixel, Pixel),
+) -> (Pixel, Pixel)
+    requires first { masks.0 ≤ 32768 }
+    requires second { masks.1 ≤ 32768 }
+    ensures first { result.0 ≡ masked K.mode src masks.0 old.0 }
+    ensures second { result.1 ≡ masked K.mode src masks.1 old.1 }
+{
+    let masks = fours_of(masks.0, masks.1);
+    let old = lanes_of(old.0, old.1);
+    let faded = products(masks, lanes_of(src, src));
+    pixels_of(kept_where_zero(masks, old, K::blend_lanes(faded, old)))
+}

@@ -1,0 +1,140 @@
+//! Rows of pixels: one source for each pixel, one through a mask, and a source at each place.
+//!
+//! Two pixels are blended at a time, and the last of an odd row by itself.
+//! The rule: docs/protocol.md, "Numbers and blending".
+
+ghost use Rattle.std.specs.Prelude.{◌≡◌, ◌<◌, ◌≤◌, ℕ, length, slice_index, slice_index_or, All};
+ghost use Rattle.dp_blend.specs.Color.{Channels, fade};
+ghost use Rattle.dp_blend.specs.Blending.{blend, masked, row_blended, row_filled, row_merged};
+
+use crate::color::Pixel;
+use crate::kernels::{Adding, Covering, Erasing, Kernel, Multiplying, Recoloring, Replacing};
+use crate::kernels::{blend_two, fill_two, merge_two};
+use crate::modes::Mode;
+
+/// Blends the source with each pixel of the row, faded by the mask at its place: 32768 blends all of
+/// it, and where the mask is 0 the pixel stays.
+///
+/// The rule: docs/protocol.md, "Numbers and blending".
+pub fn row_blend(mode: Mode, src: Pixel, mask: &[u16], row: &mut [Pixel])
+    requires same_length { length mask.now ≡ length row.old }
+    requires within { All (λ m. m ≤ 32768) mask.now }
+    ensures value { row.new ≡ row_blended mode src mask.now row.old }
+    ensures places { (k : ℕ) (d : Channels) → k < length row.old →
+        slice_index_or row.new k d
+        ≡ masked mode src (slice_index mask.now k) (slice_index_or row.old k d) }
+{
+    match mode {
+        Mode::Erase => blend_by::<Erasing>(src, mask, row),
+        Mode::Normal => blend_by::<Covering>(src, mask, row),
+        Mode::Multiply => blend_by::<Multiplying>(src, mask, row),
+        Mode::Add => blend_by::<Adding>(src, mask, row),
+        Mode::Recolor => blend_by::<Recoloring>(src, mask, row),
+        Mode::Replace => blend_by::<Replacing>(src, mask, row),
+    }
+}
+
+/// Blends the source with each pixel of the row.
+///
+/// The rule: docs/protocol.md, "Numbers and blending".
+pub fn row_fill(mode: Mode, src: Pixel, row: &mut [Pixel])
+    ensures value { row.new ≡ row_filled mode src row.old }
+    ensures places { (k : ℕ) (d : Channels) → k < length row.old →
+        slice_index_or row.new k d ≡ blend mode src (slice_index_or row.old k d) }
+{
+    match mode {
+        Mode::Erase => fill_by::<Erasing>(src, row),
+        Mode::Normal => fill_by::<Covering>(src, row),
+        Mode::Multiply => fill_by::<Multiplying>(src, row),
+        Mode::Add => fill_by::<Adding>(src, row),
+        Mode::Recolor => fill_by::<Recoloring>(src, row),
+        Mode::Replace => fill_by::<Replacing>(src, row),
+    }
+}
+
+/// Blends with each pixel of the row the source at its place, faded by `by`, of which 32768 is one. A
+/// fade by 0 blends the clear pixel, so it leaves that in the mode Replace.
+///
+/// The rule: docs/protocol.md, "Numbers and blending".
+pub fn row_merge(mode: Mode, by: u16, sources: &[Pixel], row: &mut [Pixel])
+    requires same_length { length sources.now ≡ length row.old }
+    requires within { by ≤ 32768 }
+    ensures value { row.new ≡ row_merged mode by sources.now row.old }
+    ensures places { (k : ℕ) (s d : Channels) → k < length row.old →
+        slice_index_or row.new k d
+        ≡ blend mode (fade (slice_index_or sources.now k s) by) (slice_index_or row.old k d) }
+{
+    match mode {
+        Mode::Erase => merge_by::<Erasing>(by, sources, row),
+        Mode::Normal => merge_by::<Covering>(by, sources, row),
+        Mode::Multiply => merge_by::<Multiplying>(by, sources, row),
+        Mode::Add => merge_by::<Adding>(by, sources, row),
+        Mode::Recolor => merge_by::<Recoloring>(by, sources, row),
+        Mode::Replace => merge_by::<Replacing>(by, sources, row),
+    }
+}
+
+/// `row_blend` in the kernel's mode.
+fn blend_by<K: Kernel>(src: Pixel, mask: &[u16], row: &mut [Pixel])
+    requires same_length { length mask.now ≡ length row.old }
+    requires within { All (λ m. m ≤ 32768) mask.now }
+    ensures value { row.new ≡ row_blended K.mode src mask.now row.old }
+    ensures places { (k : ℕ) (d : Channels) → k < length row.old →
+        slice_index_or row.new k d
+        ≡ masked K.mode src (slice_index mask.now k) (slice_index_or row.old k d) }
+{
+    for k in 0..row.len() / 2 {
+        let (at, next) = (2 * k, 2 * k + 1);
+        let masks = (mask[at], mask[next]);
+        let (first, second) = blend_two::<K>(src, masks, (row[at], row[next]));
+        row[at] = first;
+        row[next] = second;
+    }
+    if row.len() % 2 == 1 {
+        let last = row.len() - 1;
+        let masks = (mask[last], mask[last]);
+        let (only, _) = blend_two::<K>(src, masks, (row[last], row[last]));
+        row[last] = only;
+    }
+}
+
+/// `row_fill` in the kernel's mode.
+fn fill_by<K: Kernel>(src: Pixel, row: &mut [Pixel])
+    ensures { row.new ≡ row_filled K.mode src row.old }
+{
+    for k in 0..row.len() / 2 {
+        let (at, next) = (2 * k, 2 * k + 1);
+        let (first, second) = fill_two::<K>(src, (row[at], row[next]));
+        row[at] = first;
+        row[next] = second;
+    }
+    if row.len() % 2 == 1 {
+        let last = row.len() - 1;
+        let (only, _) = fill_two::<K>(src, (row[last], row[last]));
+        row[last] = only;
+    }
+}
+
+/// `row_merge` in the kernel's mode.
+fn merge_by<K: Kernel>(by: u16, sources: &[Pixel], row: &mut [Pixel])
+    requires same_length { length sources.now ≡ length row.old }
+    requires within { by ≤ 32768 }
+    ensures value { row.new ≡ row_merged K.mode by sources.now row.old }
+    ensures places { (k : ℕ) (s d : Channels) → k < length row.old →
+        slice_index_or row.new k d
+        ≡ blend K.mode (fade (slice_index_or sources.now k s) by) (slice_index_or row.old k d) }
+{
+    for k in 0..row.len() / 2 {
+        let (at, next) = (2 * k, 2 * k + 1);
+        let pair = (sources[at], sources[next]);
+        let (first, second) = merge_two::<K>(by, pair, (row[at], row[next]));
+        row[at] = first;
+        row[next] = second;
+    }
+    if row.len() % 2 == 1 {
+        let last = row.len() - 1;
+        let pair = (sources[last], sources[last]);
+        let (only, _) = merge_two::<K>(by, pair, (row[last], row[last]));
+        row[last] = only;
+    }
+}
