@@ -2,3 +2,5 @@ pub mod Rectangles
 pub mod Cells
 pub mod Strokes
 pub mod Images
+pub mod Windows
+pub mod Parts

@@ -2,6 +2,8 @@ pub mod Canvas
 pub mod Rectangles
 pub mod Near
 pub mod Dabs
+pub mod Parts
+pub mod Windows
 pub mod Tiles
 pub mod Drawing
 pub mod Feet

@@ -5,11 +5,14 @@
 
 mod dabs;
 mod image;
+mod paint;
 mod place;
 mod rect;
+mod window;
 
 pub use place::{covers, pixel_after};
 pub use rect::Rect;
+pub use window::Window;
 
 #[cfg(test)]
 mod tests;
