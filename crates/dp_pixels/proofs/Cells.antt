@@ -40,3 +40,22 @@ round_covers_cell dab cells x y i j is inside column row =
     let in_cells : is_in_disc dab.size (pos i) (pos j) ≡ (is_in cells x y && is_in_disc dab.size (x -ℤ cells.x0) (y -ℤ cells.y0)) =
     rw (inside, ← column, ← row) in
     in_cells ∙ ap (λ (r : Rect). is_in r x y && is_in_disc dab.size (x -ℤ r.x0) (y -ℤ r.y0)) is
+
+-- a row that ends within a square begins near its corner
+pub near_corner : (x x0 : ℤ) (len size : ℕ) → (x +ℤ pos len) ≤ℤ (x0 +ℤ pos size) → size < 2 ^ 32 → x ≤ℤ (x0 +ℤ pos (2 ^ 40))
+near_corner x x0 len size right short = omega (arith, ints)
+
+pub near_corner_below : (y y0 : ℤ) (size : ℕ) → y <ℤ (y0 +ℤ pos size) → size < 2 ^ 32 → y ≤ℤ (y0 +ℤ pos (2 ^ 40))
+near_corner_below y y0 size bottom short = omega (arith, ints)
+
+-- the cell of a place of the row
+pub row_cell : (x x0 : ℤ) (from len size k : ℕ) → (x +ℤ pos len) ≤ℤ (x0 +ℤ pos size) → pos from ≡ x -ℤ x0 → k < len → (pos (from + k) ≡ x +ℤ pos k -ℤ x0) × (from + k < size)
+row_cell x x0 from len size k right is within = (omega (arith, ints), omega (arith, ints))
+
+-- the row of a place of the square
+pub cell_row : (y y0 : ℤ) (j size : ℕ) → y <ℤ (y0 +ℤ pos size) → pos j ≡ y -ℤ y0 → j < size
+cell_row y y0 j size bottom is = omega (arith, ints)
+
+-- a row of a square fits in it
+pub row_fits : (x x0 : ℤ) (from len size : ℕ) → (x +ℤ pos len) ≤ℤ (x0 +ℤ pos size) → pos from ≡ x -ℤ x0 → from + len ≤ size
+row_fits x x0 from len size right is = omega (arith, ints)

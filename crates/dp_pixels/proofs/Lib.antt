@@ -2,5 +2,8 @@ pub mod Rectangles
 pub mod Cells
 pub mod Strokes
 pub mod Images
+pub mod SpanLemmas
+pub mod Discs
 pub mod Windows
+pub mod Merges
 pub mod Parts

@@ -61,6 +61,7 @@ module _ (window : Window) (bounds : Rect) (part : Part) (is : IsPart window bou
       let top = first.y0 in
       let bottom = first.y1 in
       record {
+        some = omega arith;
         left = omega (arith, ints);
         right = omega (arith, ints);
         top = omega (arith, ints);

@@ -4,7 +4,9 @@ use Rattle.std.specs.Prelude.{ℤ, pos, ◌+ℤ◌, ◌-ℤ◌, ◌≤ℤ◌, �
 use Rattle.std.proofs.lemmas.Int.{ints, int_max_is, int_min_is}
 use Rattle.std.proofs.lemmas.Bool.{false_from_ne_true}
 use Rattle.dp_pixels.specs.declared.rect.Rect.{Rect}
+use Rattle.dp_pixels.specs.declared.rect.Place.{Place}
 use Rattle.dp_pixels.specs.Rectangles.{is_in, clipped}
+use Rattle.dp_pixels.specs.Windows.{IsRowIn}
 
 -- a place is in a rectangle
 pub record IsIn (r : Rect) (x y : ℤ) : Type 0 where
@@ -72,3 +74,15 @@ clipped_by a b x y h k =
       y0 = omega (arith, ints, int_max_is a.y0 b.y0);
       y1 = omega (arith, ints, int_min_is a.y1 b.y1);
     }
+
+-- the places of a row in a rectangle are in it
+pub row_in : (bounds : Rect) (place : Place) (len k : ℕ) → IsRowIn bounds place len → k < len → is_in bounds (place.x +ℤ pos k) place.y ≡ true
+row_in bounds place len k row within =
+    let left = row.left in
+    let right = row.right in
+    is_in_by bounds (place.x +ℤ pos k) place.y (record {
+      x0 = omega (arith, ints);
+      x1 = omega (arith, ints);
+      y0 = row.top;
+      y1 = row.bottom;
+    })

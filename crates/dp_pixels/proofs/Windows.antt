@@ -1,7 +1,8 @@
 -- Windows that are painted row by row.
-use Rattle.std.proofs.Common.{◌≡◌, ◌≢◌, ℕ, ◌+◌, ◌-◌, ◌*◌, ◌<◌, ◌≤◌, List, ◌++◌, length, get_or, take, drop, cond, Bool, true, false, refl, sym, ◌∙◌, ap, subst, arith, ◌⊎◌, inl, inr, ⊎_elim}
+use Rattle.std.proofs.Common.{◌≡◌, ◌≢◌, ℕ, ◌+◌, ◌-◌, ◌*◌, ◌<◌, ◌≤◌, List, ◌++◌, length, get_or, take, drop, cond, Bool, true, false, ◌&&◌, leb, ltb, refl, sym, ◌∙◌, ap, subst, arith, ◌⊎◌, inl, inr, ⊎_elim}
 use Rattle.std.specs.Prelude.{ℤ, pos, int_lt}
-use Rattle.std.proofs.lemmas.Bool.{cases_lt, cases_order}
+use Rattle.std.proofs.lemmas.Bool.{cases_lt, cases_order, cond-true, cond-false}
+use Rattle.std.proofs.lemmas.Bool.Decides.{nat_tests}
 use Rattle.std.proofs.lemmas.Int.{ints}
 use Rattle.std.proofs.lemmas.List.{get_or_append_left, get_or-append_right, get_or-take, get_or-drop, length-take-le, length-take, length-drop}
 use Rattle.std.proofs.Math.Nat.{mul-le-mul_right}
@@ -168,3 +169,27 @@ length-row pixels width height stride k left right wide long order in_width in_h
     let rows : (k + 1) * stride ≤ height * stride = mul-le-mul_right stride (omega arith) in
     let size = k * stride + right - (k * stride + left) in
     omega (arith, length-take size (drop (k * stride + left) pixels), length-drop (k * stride + left) pixels)
+
+-- the element at an index of a row of which a part is written
+pub part_written : (f : ℕ → Channels → Channels) (row part : List Channels) (left right k : ℕ) (d : Channels) → left ≤ right → right ≤ length row → k < length row
+    → length part ≡ right - left → ((n : ℕ) → n < right - left → get_or part n d ≡ f (left + n) (get_or (mid_of left (right - left) row) n d))
+    → get_or (put_mid left (right - left) row part) k d ≡ cond (leb left k && ltb k right) (f k (get_or row k d)) (get_or row k d)
+part_written f row part left right k d order fits in_row len made =
+    ⊎_elim
+    (λ (below : k < left).
+    let test : (leb left k && ltb k right) ≡ false = grind (arith, nat_tests) in
+    part_below left (right - left) k row part d below (omega arith) ∙ sym (cond-false (leb left k && ltb k right) _ _ test))
+    (λ (from : left ≤ k).
+    ⊎_elim
+    (λ (within : k < right).
+    let test : (leb left k && ltb k right) ≡ true = grind (arith, nat_tests) in
+    let at : left + (k - left) ≡ k = omega arith in
+    part_within left (right - left) k (k - left) row part d (omega arith) (omega arith) (omega arith)
+    ∙ (made (k - left) (omega arith)
+    ∙ (ap (λ (n : ℕ). f n (get_or (mid_of left (right - left) row) (k - left) d)) at
+    ∙ (ap (f k) (part_old left (right - left) k (k - left) row d (omega arith) (omega arith)) ∙ sym (cond-true (leb left k && ltb k right) _ _ test)))))
+    (λ (above : right ≤ k).
+    let test : (leb left k && ltb k right) ≡ false = grind (arith, nat_tests) in
+    part_above left (right - left) k row part d (omega arith) len (omega arith) ∙ sym (cond-false (leb left k && ltb k right) _ _ test))
+    (cases_lt k right))
+    (cases_lt k left)

@@ -2,6 +2,7 @@ pub mod Canvas
 pub mod Rectangles
 pub mod Near
 pub mod Dabs
+pub mod Spans
 pub mod Parts
 pub mod Windows
 pub mod Tiles

@@ -23,8 +23,9 @@ pub record IsPainted (window : Window) (stride : ℕ) (change : ℤ → ℤ → 
       → ((i j : ℕ) → i < window.width → j < window.height → k ≢ j * stride + i)
       → slice_index_or new k d ≡ slice_index_or old k d
 
--- a row of so many places, which begins at a place, is in the rectangle
+-- a row of so many places, at least one, which begins at a place, is in the rectangle
 pub record IsRowIn (bounds : Rect) (place : Place) (len : ℕ) : Type 0 where
+  pub some : 0 < len
   pub left : bounds.x0 ≤ℤ place.x
   pub right : (place.x +ℤ pos len) ≤ℤ bounds.x1
   pub top : bounds.y0 ≤ℤ place.y

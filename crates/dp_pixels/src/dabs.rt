@@ -52,7 +52,7 @@ impl PlacedDab {
     }
 
     /// The square of its cells.
-    fn rect(self) -> Rect
+    pub(crate) fn rect(self) -> Rect
         requires { IsNear (2 ^ 39) self.at }
         ensures { result ≡ dab_rect self }
     {

@@ -1,10 +1,17 @@
 //! Images of colours.
 
-ghost use Rattle.std.specs.Prelude.{◌≡◌, pos, slice_get, IsTrue};
+ghost use Rattle.std.specs.Prelude.{◌≡◌, ℕ, ◌<◌, pos, length, slice_get, slice_index, slice_index_or, None, IsTrue};
+ghost use Rattle.std.specs.Option.{option_map_or};
+ghost use Rattle.std.proofs.Common.{ap};
+ghost use Rattle.std.proofs.lemmas.Bool.{cond-false};
+ghost use Rattle.dp_blend.specs.Color.{Channels, of_argb};
+ghost use Rattle.dp_blend.specs.Blending.{blend};
 ghost use Rattle.dp_pixels.specs.Rectangles.{is_in, rect_at};
 ghost use Rattle.dp_pixels.specs.Drawing.{image_color, image_index};
 
+use crate::paint::Paint;
 use crate::rect::{Place, Rect};
+use dp_blend::{Mode, ONE, Pixel, of_argb, row_merge};
 
 /// An image: its left upper corner, its sides, and its colours, row by row.
 #[derive(Clone, Copy)]
@@ -56,4 +63,67 @@ fn get(colors: &[u32], index: usize) -> Option<u32>
     ensures { result ≡ slice_get colors.now index }
 {
     colors.get(index).copied()
+}
+
+/// How many sources are worked out at a time.
+const CHUNK: usize = 64;
+
+/// Writes the pixel of each colour to its place.
+fn put_sources(colors: &[u32], sources: &mut [Pixel])
+    requires { length colors.now ≡ length sources.old }
+    ensures { (k : ℕ) (d : Channels) → k < length sources.old →
+        slice_index_or sources.new k d ≡ of_argb (slice_index colors.now k) }
+{
+    for k in 0..sources.len() {
+        sources[k] = of_argb(colors[k]);
+    }
+}
+
+/// Blends each colour with the pixel at its place.
+fn merge_colors(mode: Mode, colors: &[u32], row: &mut [Pixel])
+    requires { length colors.now ≡ length row.old }
+    ensures { (k : ℕ) (d : Channels) → k < length row.old →
+        slice_index_or row.new k d
+        ≡ blend mode (of_argb (slice_index colors.now k)) (slice_index_or row.old k d) }
+{
+    let mut sources = [Pixel::CLEAR; CHUNK];
+    let mut start = 0;
+    while start < row.len() {
+        let end = (start + CHUNK).min(row.len());
+        put_sources(&colors[start..end], &mut sources[..end - start]);
+        row_merge(mode, ONE, &sources[..end - start], &mut row[start..end]);
+        start = end;
+    }
+}
+
+/// The colours of an image, each blended with the pixel at its place.
+pub(crate) struct ImageFill<'a> {
+    pub mode: Mode,
+    pub image: Image<'a>,
+}
+
+impl Paint for ImageFill<'_> {
+    ghost bounds = { λ p. rect_at (pos p.image.x) (pos p.image.y) p.image.w p.image.h };
+
+    ghost change = { λ p x y old.
+        option_map_or (λ color. blend p.mode (of_argb color) old)
+        (image_color (pos p.image.x) (pos p.image.y) p.image.w p.image.h p.image.colors.now x y)
+        old };
+
+    ghost stays = { λ p x y old out.
+        ap (λ color. option_map_or (λ c. blend p.mode (of_argb c) old) color old)
+        (cond-false (is_in (rect_at (pos p.image.x) (pos p.image.y) p.image.w p.image.h) x y)
+        (slice_get p.image.colors.now (image_index (pos p.image.x) (pos p.image.y) p.image.w x y))
+        None out) };
+
+    fn bounds(&self) -> Rect {
+        self.image.rect()
+    }
+
+    fn paint_row(&self, place: Place, row: &mut [Pixel]) {
+        let colors = self.image.colors;
+        let start = self.image.index(place).min(colors.len());
+        let len = row.len().min(colors.len() - start);
+        merge_colors(self.mode, &colors[start..start + len], &mut row[..len]);
+    }
 }

@@ -4,10 +4,13 @@
 #![tactic(auto)]
 
 mod dabs;
+mod disc;
+mod fill;
 mod image;
 mod paint;
 mod place;
 mod rect;
+mod span;
 mod window;
 
 pub use place::{covers, pixel_after};

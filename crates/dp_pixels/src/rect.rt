@@ -1,6 +1,6 @@
 //! Places, and rectangles of them.
 
-ghost use Rattle.std.specs.Prelude.{◌≡◌, ◌^◌};
+ghost use Rattle.std.specs.Prelude.{◌≡◌, ◌^◌, pos, ◌+ℤ◌, ◌-ℤ◌, ◌≤ℤ◌};
 ghost use Rattle.dp_pixels.specs.Rectangles.{is_in, rect_at, clipped};
 ghost use Rattle.dp_pixels.specs.Near.{IsNear};
 
@@ -39,6 +39,21 @@ impl Rect {
         ensures { result ≡ is_in self place.x place.y }
     {
         self.x0 <= place.x && place.x < self.x1 && self.y0 <= place.y && place.y < self.y1
+    }
+
+    /// How far a place is right of the left upper corner, and how far below it.
+    pub(crate) fn offset(self, place: Place) -> (usize, usize)
+        requires right { self.x0 ≤ℤ place.x }
+        requires below { self.y0 ≤ℤ place.y }
+        requires near_x { place.x ≤ℤ (self.x0 +ℤ pos (2 ^ 40)) }
+        requires near_y { place.y ≤ℤ (self.y0 +ℤ pos (2 ^ 40)) }
+        ensures columns { pos result.0 ≡ place.x -ℤ self.x0 }
+        ensures rows { pos result.1 ≡ place.y -ℤ self.y0 }
+    {
+        (
+            (place.x - self.x0) as usize,
+            (place.y - self.y0) as usize,
+        )
     }
 
     /// The places that are in both rectangles.
