@@ -6,4 +6,6 @@ pub mod SpanLemmas
 pub mod Discs
 pub mod Windows
 pub mod Merges
+pub mod TileLemmas
+pub mod TileLaws
 pub mod Parts

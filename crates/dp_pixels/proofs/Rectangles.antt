@@ -2,7 +2,7 @@
 use Rattle.std.proofs.Common.{◌≡◌, ℕ, ◌+◌, ◌<◌, ◌≤◌, Bool, true, false, ◌&&◌, arith, refl, ◌⊎◌, inl, inr}
 use Rattle.std.specs.Prelude.{ℤ, pos, ◌+ℤ◌, ◌-ℤ◌, ◌≤ℤ◌, ◌<ℤ◌, int_lt, int_le}
 use Rattle.std.proofs.lemmas.Int.{ints, int_max_is, int_min_is}
-use Rattle.std.proofs.lemmas.Bool.{false_from_ne_true}
+use Rattle.std.proofs.lemmas.Bool.{cases_Bool, false_from_ne_true}
 use Rattle.dp_pixels.specs.declared.rect.Rect.{Rect}
 use Rattle.dp_pixels.specs.declared.rect.Place.{Place}
 use Rattle.dp_pixels.specs.Rectangles.{is_in, clipped}
@@ -33,7 +33,7 @@ is_in_by r x y h =
 
 -- a place is in a rectangle or not
 pub in_or_out : (r : Rect) (x y : ℤ) → (is_in r x y ≡ true) ⊎ (is_in r x y ≡ false)
-in_or_out r x y = elim (is_in r x y) as (λ (t : Bool). (t ≡ true) ⊎ (t ≡ false)) [ true ↦ inl refl | false ↦ inr refl ]
+in_or_out r x y = cases_Bool (is_in r x y)
 
 -- a place for which the facts can't hold is out
 pub is_in-false : (r : Rect) (x y : ℤ) → ¬ (IsIn r x y) → is_in r x y ≡ false
@@ -86,3 +86,10 @@ row_in bounds place len k row within =
       y0 = row.top;
       y1 = row.bottom;
     })
+
+-- so is the place where it begins
+pub row_start : (bounds : Rect) (place : Place) (len : ℕ) → IsRowIn bounds place len → IsIn bounds place.x place.y
+row_start bounds place len row =
+    let some = row.some in
+    let right = row.right in
+    record { x0 = row.left; x1 = omega (arith, ints); y0 = row.top; y1 = row.bottom }

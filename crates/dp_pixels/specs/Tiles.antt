@@ -1,11 +1,12 @@
 -- The tiles of a canvas, of 64 by 64 pixels, and what PutTile makes of its pixels.
-use Rattle.std.specs.Prelude.{ℕ, ◌+◌, ◌*◌, ◌/◌, ◌%◌, nat_lt, nat_le, Bool, ◌&&◌, if◌then◌else◌}
+use Rattle.std.specs.Prelude.{ℕ, ◌+◌, ◌*◌, ◌/◌, ◌%◌, nat_lt, nat_le, ◌==◌, pos, Bool, ◌&&◌, if◌then◌else◌}
 use Rattle.std.specs.Prelude.{Option, Some, slice_get}
 use Rattle.std.specs.Option.{option_map_or}
 use Rattle.dp_blend.specs.Color.{Channels}
 use Rattle.dp_msg_draw.specs.declared.draw.TileContent.{TileContent}
 use Rattle.dp_msg_draw.specs.declared.draw.TileContent.TheVariants.{Solid, Pixels}
 use Rattle.dp_msg_draw.specs.declared.lists.TilePixel.{TilePixel}
+use Rattle.dp_pixels.specs.declared.rect.Rect.{Rect}
 
 -- how many tiles it takes to cover a side
 abbrev pub tiles_along : ℕ → ℕ
@@ -44,3 +45,12 @@ tile_put width height col row repeat content x y old =
     if is_in_tiles width height col row repeat x y
     then option_map_or (λ p. replaced_by p old) (content_at content x y) old
     else old
+
+-- the places of the tiles from a first one on, `repeat` further ones included: part of one row of
+-- tiles, or whole rows
+abbrev pub tiles_rect : ℕ → ℕ → ℕ → ℕ → Rect
+tiles_rect width col row repeat =
+    let last = (tile_number width col row + repeat) / tiles_along width in
+    if last == row
+    then record { x0 = pos (col * 64); y0 = pos (row * 64); x1 = pos ((col + repeat + 1) * 64); y1 = pos ((last + 1) * 64) }
+    else record { x0 = pos 0; y0 = pos (row * 64); x1 = pos width; y1 = pos ((last + 1) * 64) }

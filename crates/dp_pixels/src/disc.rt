@@ -1,7 +1,6 @@
 //! Round dabs.
 
 ghost use Rattle.std.specs.Prelude.{◌≤◌, ◌<◌, ◌^◌, ◌↔◌, ℕ, pos, ◌-ℤ◌, if◌then◌else◌, IsTrue};
-ghost use Rattle.std.proofs.lemmas.Bool.{cond-false, and_left};
 ghost use Rattle.dp_blend.specs.Blending.{blend};
 ghost use Rattle.dp_pixels.specs.declared.dabs.Shape.{Shape as DabShape};
 ghost use Rattle.dp_pixels.specs.Near.{IsNear};
@@ -44,11 +43,6 @@ impl Paint for Disc {
 
     ghost change = { λ p x y old.
         if dab_covers DabShape.Round p.dab x y then blend p.mode p.source old else old };
-
-    ghost stays = { λ p x y old out.
-        cond-false (dab_covers DabShape.Round p.dab x y) (blend p.mode p.source old) old
-        (and_left (is_in (dab_rect p.dab) x y)
-        (is_in_disc p.dab.size (x -ℤ (dab_rect p.dab).x0) (y -ℤ (dab_rect p.dab).y0)) out) };
 
     fn bounds(&self) -> Rect {
         self.dab.rect()

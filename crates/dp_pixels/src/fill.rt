@@ -1,7 +1,6 @@
 //! Rectangles that are filled.
 
 ghost use Rattle.std.specs.Prelude.{◌≡◌, pos, if◌then◌else◌};
-ghost use Rattle.std.proofs.lemmas.Bool.{cond-false};
 ghost use Rattle.dp_blend.specs.Blending.{blend};
 ghost use Rattle.dp_pixels.specs.Rectangles.{is_in};
 
@@ -20,8 +19,6 @@ impl Paint for Fill {
     ghost bounds = { λ f. f.area };
 
     ghost change = { λ f x y old. if is_in f.area x y then blend f.mode f.source old else old };
-
-    ghost stays = { λ f x y old out. cond-false (is_in f.area x y) (blend f.mode f.source old) old out };
 
     fn bounds(&self) -> Rect {
         self.area

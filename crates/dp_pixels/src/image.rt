@@ -2,8 +2,6 @@
 
 ghost use Rattle.std.specs.Prelude.{◌≡◌, ℕ, ◌<◌, pos, length, slice_get, slice_index, slice_index_or, None, IsTrue};
 ghost use Rattle.std.specs.Option.{option_map_or};
-ghost use Rattle.std.proofs.Common.{ap};
-ghost use Rattle.std.proofs.lemmas.Bool.{cond-false};
 ghost use Rattle.dp_blend.specs.Color.{Channels, of_argb};
 ghost use Rattle.dp_blend.specs.Blending.{blend};
 ghost use Rattle.dp_pixels.specs.Rectangles.{is_in, rect_at};
@@ -109,12 +107,6 @@ impl Paint for ImageFill<'_> {
         option_map_or (λ color. blend p.mode (of_argb color) old)
         (image_color (pos p.image.x) (pos p.image.y) p.image.w p.image.h p.image.colors.now x y)
         old };
-
-    ghost stays = { λ p x y old out.
-        ap (λ color. option_map_or (λ c. blend p.mode (of_argb c) old) color old)
-        (cond-false (is_in (rect_at (pos p.image.x) (pos p.image.y) p.image.w p.image.h) x y)
-        (slice_get p.image.colors.now (image_index (pos p.image.x) (pos p.image.y) p.image.w x y))
-        None out) };
 
     fn bounds(&self) -> Rect {
         self.image.rect()

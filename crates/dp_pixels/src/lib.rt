@@ -11,6 +11,7 @@ mod paint;
 mod place;
 mod rect;
 mod span;
+mod tiles;
 mod window;
 
 pub use place::{covers, pixel_after};

@@ -18,7 +18,9 @@ pub(crate) trait Paint {
 
     /// A rectangle outside of which no pixel changes.
     fn bounds(&self) -> Rect
-        ensures { result ≡ bounds self.now };
+        ensures value { result ≡ bounds self.now }
+        ensures stays { (x y : ℤ) (old : Channels) →
+            is_in result x y ≡ false → change self.now x y old ≡ old };
 
     /// Changes the pixels of a row, which begins at a place.
     fn paint_row(&self, place: Place, row: &mut [Pixel])
@@ -26,9 +28,6 @@ pub(crate) trait Paint {
         ensures { (k : ℕ) (d : Channels) → k < length row.old →
             slice_index_or row.new k d
             ≡ change self.now (place.x +ℤ pos k) place.y (slice_index_or row.old k d) };
-
-    ghost stays: { (p : Self) (x y : ℤ) (old : Channels) →
-        is_in (bounds p) x y ≡ false → change p x y old ≡ old };
 }
 
 /// Changes the pixels of a window that are on its canvas, in a list whose rows are `stride` long.

@@ -1,7 +1,7 @@
 //! Places, and rectangles of them.
 
 ghost use Rattle.std.specs.Prelude.{◌≡◌, ◌^◌, pos, ◌+ℤ◌, ◌-ℤ◌, ◌≤ℤ◌};
-ghost use Rattle.dp_pixels.specs.Rectangles.{is_in, rect_at, clipped};
+ghost use Rattle.dp_pixels.specs.Rectangles.{canvas_rect, clipped, is_in, rect_at};
 ghost use Rattle.dp_pixels.specs.Near.{IsNear};
 
 /// A place: how far it is from the left and from the top of the canvas.
@@ -31,6 +31,18 @@ impl Rect {
             y0: corner.y,
             x1: corner.x + w as i64,
             y1: corner.y + h as i64,
+        }
+    }
+
+    /// The places of a canvas.
+    pub(crate) fn canvas(width: u32, height: u32) -> Rect
+        ensures { result ≡ canvas_rect width height }
+    {
+        Rect {
+            x0: 0,
+            y0: 0,
+            x1: width as i64,
+            y1: height as i64,
         }
     }
 

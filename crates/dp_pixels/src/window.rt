@@ -1,7 +1,5 @@
 //! Windows on a canvas.
 
-ghost use Rattle.std.specs.Prelude.{◌≡◌};
-ghost use Rattle.dp_pixels.specs.Rectangles.{canvas_rect};
 ghost use Rattle.dp_pixels.specs.Parts.{IsCountBelow, IsPart};
 
 use crate::rect::Rect;
@@ -16,20 +14,6 @@ pub struct Window {
     pub height: u32,
     pub canvas_width: u32,
     pub canvas_height: u32,
-}
-
-impl Window {
-    /// The places of the canvas.
-    pub(crate) fn canvas(&self) -> Rect
-        ensures { result ≡ canvas_rect self.now.canvas_width self.now.canvas_height }
-    {
-        Rect {
-            x0: 0,
-            y0: 0,
-            x1: self.canvas_width as i64,
-            y1: self.canvas_height as i64,
-        }
-    }
 }
 
 /// A part of a window: its columns from `left` on before `right`, and its rows from `top` on before
@@ -47,7 +31,7 @@ impl Window {
     pub(crate) fn part(&self, bounds: Rect) -> Part
         ensures { IsPart self.now bounds result }
     {
-        let area = bounds.clipped(self.canvas());
+        let area = bounds.clipped(Rect::canvas(self.canvas_width, self.canvas_height));
         Part {
             left: count_below(area.x0, self.x, self.width),
             right: count_below(area.x1, self.x, self.width),

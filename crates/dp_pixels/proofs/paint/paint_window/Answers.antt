@@ -12,21 +12,16 @@ use Rattle.dp_pixels.proofs.Windows.{length-row}
 use Rattle.dp_pixels.proofs.paint.paint_window.Given.{Over}
 use borrow.Rule.Slice.PartMut.{mid_of}
 use Rattle.dp_pixels.proofs.paint.paint_window.Goals as goal
-use Rattle.dp_pixels.proofs.paint.paint_window.Goals.{After-bounds}
-
--- outside of the bounds nothing changes
-stays : (g : Over) (c : After-bounds g) (x y : ℤ) (p : Channels) → is_in c.bounds.result x y ≡ false → g.P.Paint.change c.args.paint.now x y p ≡ p
-stays g c x y p out = g.met.P.Paint.stays c.args.paint.now x y p (sym (ap (λ (r : Rect). is_in r x y) c.bounds.ensures) ∙ out)
 
 pub returns-then-part : goal.returns-then-part
 returns-then-part g c =
     part_empty c.args.window.now c.bounds.result c.part-part.result c.part-part.ensures (g.P.Paint.change c.args.paint.now)
-    (stays g (goal.at.returns-then-part g c).After-bounds) c.args.stride c.args.pixels.now c.if-part.true
+    c.bounds.ensures.stays c.args.stride c.args.pixels.now c.if-part.true
 
 pub loop-j-init : goal.loop-j-init
 loop-j-init g c =
     part_start c.args.window.now c.bounds.result c.part-part.result c.part-part.ensures (g.P.Paint.change c.args.paint.now)
-    (stays g (goal.at.loop-j-init g c).After-bounds) c.args.stride c.args.pixels.now
+    c.bounds.ensures.stays c.args.stride c.args.pixels.now
 
 -- where a row begins
 row_start : (from k : ℕ) → from < 2 ^ 32 → k ≤ 2 ^ 32 → to_z w64 (of_z w64 (to_z w64 from +ℤ to_z w64 k)) ≡ pos (from + k)
@@ -46,7 +41,7 @@ paint_row-requires g c =
     let row_len : length row ≡ p.right - p.left =
     length-row c.loop-j.pixels w.width w.height c.args.stride c.loop-j.j p.left p.right c.requires.wide (omega (arith, c.requires.long, c.loop-j.auto.pixels)) (omega (arith, c.if-part.false)) in_width
     (omega (arith, c.loop-j-test.true)) in
-    subst (λ (bounds : Rect). IsRowIn bounds place (length row)) c.bounds.ensures
+    subst (λ (bounds : Rect). IsRowIn bounds place (length row)) c.bounds.ensures.value
     (part_row w c.bounds.result p c.part-part.ensures c.loop-j.j place (length row) c.if-part.false c.loop-j.auto.j c.loop-j-test.true row_len
     (row_start w.x p.left (omega arith) (omega arith)) (row_start w.y c.loop-j.j (omega arith) (omega arith)))
 
@@ -67,7 +62,7 @@ loop-j-preserved g c =
     let x_is = row_start w.x p.left (omega arith) (omega arith) in
     let y_is = row_start w.y k (omega arith) (omega (arith, c.loop-j-test.true)) in
     part_more w c.bounds.result p c.part-part.ensures (g.P.Paint.change c.args.paint.now)
-    (stays g (goal.at.loop-j-preserved g c).After-bounds) c.args.stride c.args.pixels.now c.loop-j.pixels c.paint_row.new.row k size
+    c.bounds.ensures.stays c.args.stride c.args.pixels.now c.loop-j.pixels c.paint_row.new.row k size
     c.requires.wide c.requires.long some c.loop-j.auto.j c.loop-j-test.true (omega arith) c.loop-j.invariant
     (omega (arith, c.paint_row.auto.row, row_len))
     (λ n d in_row.
@@ -78,4 +73,4 @@ loop-j-preserved g c =
 pub returns : goal.returns
 returns g c =
     part_end c.args.window.now c.bounds.result c.part-part.result c.part-part.ensures (g.P.Paint.change c.args.paint.now)
-    (stays g (goal.at.returns g c).After-bounds) c.args.stride c.args.pixels.now c.loop-j.pixels c.loop-j.j c.loop-j-test.false c.loop-j.invariant
+    c.bounds.ensures.stays c.args.stride c.args.pixels.now c.loop-j.pixels c.loop-j.j c.loop-j-test.false c.loop-j.invariant

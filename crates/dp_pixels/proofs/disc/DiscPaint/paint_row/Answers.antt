@@ -8,7 +8,7 @@ use Rattle.dp_pixels.specs.declared.rect.Rect.{Rect}
 use Rattle.dp_pixels.specs.declared.dabs.Shape.TheVariants.{Round}
 use Rattle.dp_pixels.specs.Dabs.{dab_rect, dab_covers, is_in_disc}
 use Rattle.dp_pixels.proofs.Rectangles.{row_in}
-use Rattle.dp_pixels.proofs.Cells.{round_covers_cell, near_corner, near_corner_below, row_cell}
+use Rattle.dp_pixels.proofs.Cells.{round_covers_cell, near_corner, near_corner_below, row_cell, cell_row}
 use Rattle.dp_pixels.proofs.SpanLemmas.{same_test, in_span}
 use Rattle.dp_pixels.proofs.Windows.{part_written}
 use Rattle.dp_pixels.proofs.disc.DiscPaint.paint_row.Goals as goal
@@ -24,6 +24,12 @@ offset-from-requires-clause-near_y c =
     let dab = c.args.self.now.dab in
     let top = ap (λ (r : Rect). r.y0 +ℤ pos (2 ^ 40)) c.rect.ensures in
     subst (λ (z : ℤ). c.args.place.y ≤ℤ z) (sym top) (near_corner_below c.args.place.y (dab_rect dab).y0 dab.size c.requires.bottom (omega arith))
+
+pub disc_row-requires : goal.disc_row-requires
+disc_row-requires c =
+    let dab = c.args.self.now.dab in
+    cell_row c.args.place.y (dab_rect dab).y0 c.offset-from.result.1 dab.size c.requires.bottom
+    (c.offset-from.ensures.rows ∙ ap (λ (r : Rect). c.args.place.y -ℤ r.y0) c.rect.ensures)
 
 pub returns : goal.returns
 returns c = λ k d within.
