@@ -14,10 +14,11 @@ use Rattle.dp_msg_draw.specs.declared.draw.Draw.TheVariants.{FillRect, PutImage,
 use Rattle.dp_pixels.specs.declared.dabs.PlacedDab.{PlacedDab}
 use Rattle.dp_pixels.specs.declared.dabs.Shape.{Shape}
 use Rattle.dp_pixels.specs.declared.dabs.Shape.TheVariants.{Round, Square}
+use Rattle.dp_pixels.specs.declared.rect.Rect.{Rect}
 use Rattle.dp_pixels.specs.Canvas.{canvas_of, pixel_at}
 use Rattle.dp_pixels.specs.Rectangles.{is_in, rect_at, clipped, canvas_rect}
 use Rattle.dp_pixels.specs.Dabs.{placed_dabs, dab_covers}
-use Rattle.dp_pixels.specs.Tiles.{tile_put}
+use Rattle.dp_pixels.specs.Tiles.{tile_changed}
 
 -- ---- at one place
 
@@ -32,31 +33,45 @@ image_color left top w h colors x y =
     then slice_get colors (image_index left top w x y)
     else None
 
--- the pixel after the dabs, one after the other, each of which blends the faded source where it
--- covers the place
+-- the pixel after a dab, which blends the faded source where it covers the place
+abbrev pub dab_blended : Shape → Mode → Channels → PlacedDab → ℤ → ℤ → Channels → Channels
+dab_blended shape mode source dab x y old =
+    if dab_covers shape dab x y then blend mode (fade source (from8 dab.opacity)) old else old
+
+-- the pixel after the dabs, one after the other
 abbrev pub dabs_blended : Shape → Mode → Channels → List PlacedDab → ℤ → ℤ → Channels → Channels
 dabs_blended shape mode source dabs x y old =
-    fold
-    (λ under (dab : PlacedDab).
-    if dab_covers shape dab x y then blend mode (fade source (from8 dab.opacity)) under else under)
-    old dabs
+    fold (λ under (dab : PlacedDab). dab_blended shape mode source dab x y under) old dabs
 
--- the pixel at a place after a fill, an image or dabs, of the old pixel there; a mode that isn't
--- listed and all other commands keep it
+-- the pixel after a fill, by the number of its mode: a number of no mode changes nothing
+abbrev pub filled : ℕ → Rect → ℕ → ℤ → ℤ → Channels → Channels
+filled mode area color x y old =
+    option_map_or (λ m. if is_in area x y then blend m (of_argb color) old else old)
+    (mode_numbered mode) old
+
+-- the pixel after an image, in the same way
+abbrev pub imaged : ℕ → ℤ → ℤ → ℕ → ℕ → List ℕ → ℤ → ℤ → Channels → Channels
+imaged mode left top w h colors x y old =
+    option_map_or (λ m.
+    option_map_or (λ color. blend m (of_argb color) old) (image_color left top w h colors x y) old)
+    (mode_numbered mode) old
+
+-- the pixel after dabs of a source, in the same way
+abbrev pub stroked : ℕ → Channels → Shape → List PlacedDab → ℤ → ℤ → Channels → Channels
+stroked mode source shape dabs x y old =
+    option_map_or (λ m. dabs_blended shape m source dabs x y old) (mode_numbered mode) old
+
+-- the pixel at a place after a fill, an image or dabs, of the old pixel there; all other commands
+-- keep it
 abbrev pub pixel_after : Draw → ℤ → ℤ → Channels → Channels
 pixel_after (FillRect layer mode x y w h color) px py old =
-    option_map_or (λ m. if is_in (rect_at (pos x) (pos y) w h) px py then blend m (of_argb color) old else old)
-    (mode_numbered mode) old
+    filled mode (rect_at (pos x) (pos y) w h) color px py old
 pixel_after (PutImage layer mode x y w h colors) px py old =
-    option_map_or (λ m.
-    option_map_or (λ color. blend m (of_argb color) old) (image_color (pos x) (pos y) w h colors px py) old)
-    (mode_numbered mode) old
+    imaged mode (pos x) (pos y) w h colors px py old
 pixel_after (DabsRound layer x y r g b mode dabs) px py old =
-    option_map_or (λ m. dabs_blended Round m (premultiplied r g b 255) (placed_dabs x y dabs) px py old)
-    (mode_numbered mode) old
+    stroked mode (premultiplied r g b 255) Round (placed_dabs x y dabs) px py old
 pixel_after (DabsSquare layer x y r g b mode dabs) px py old =
-    option_map_or (λ m. dabs_blended Square m (premultiplied r g b 255) (placed_dabs x y dabs) px py old)
-    (mode_numbered mode) old
+    stroked mode (premultiplied r g b 255) Square (placed_dabs x y dabs) px py old
 pixel_after _ px py old = old
 
 -- a command whose pixel after it depends on the old one at its place alone, and on no canvas
@@ -80,7 +95,7 @@ covers _ px py = false
 -- the pixel at a place of the canvas after a command, MoveRect aside
 abbrev pub pixel_on_canvas : ℕ → ℕ → Draw → ℤ → ℤ → Channels → Channels
 pixel_on_canvas width height (PutTile layer col row repeat content) x y old =
-    tile_put width height col row repeat content (unsigned_abs x) (unsigned_abs y) old
+    tile_changed width height col row repeat content x y old
 pixel_on_canvas width height op x y old = pixel_after op x y old
 
 -- the pixel at a place after a command, MoveRect aside, of the old pixel there

@@ -1,5 +1,5 @@
 -- The tiles of a canvas, of 64 by 64 pixels, and what PutTile makes of its pixels.
-use Rattle.std.specs.Prelude.{ℕ, ◌+◌, ◌*◌, ◌/◌, ◌%◌, nat_lt, nat_le, ◌==◌, pos, Bool, ◌&&◌, if◌then◌else◌}
+use Rattle.std.specs.Prelude.{ℕ, ◌+◌, ◌*◌, ◌/◌, ◌%◌, nat_lt, nat_le, ◌==◌, ℤ, pos, unsigned_abs, Bool, ◌&&◌, if◌then◌else◌}
 use Rattle.std.specs.Prelude.{Option, Some, slice_get}
 use Rattle.std.specs.Option.{option_map_or}
 use Rattle.dp_blend.specs.Color.{Channels}
@@ -45,6 +45,11 @@ tile_put width height col row repeat content x y old =
     if is_in_tiles width height col row repeat x y
     then option_map_or (λ p. replaced_by p old) (content_at content x y) old
     else old
+
+-- the same, at a place of whole numbers
+abbrev pub tile_changed : ℕ → ℕ → ℕ → ℕ → ℕ → TileContent → ℤ → ℤ → Channels → Channels
+tile_changed width height col row repeat content x y old =
+    tile_put width height col row repeat content (unsigned_abs x) (unsigned_abs y) old
 
 -- the places of the tiles from a first one on, `repeat` further ones included: part of one row of
 -- tiles, or whole rows

@@ -30,7 +30,7 @@ pub(crate) struct PlacedDab {
 
 impl PlacedDab {
     /// The dab, moved by its difference from the place of the one before it.
-    fn behind(last: Place, dab: Dab) -> PlacedDab
+    pub(crate) fn behind(last: Place, dab: Dab) -> PlacedDab
         requires { IsNear (2 ^ 40) last }
         ensures value { result
             ≡ record {

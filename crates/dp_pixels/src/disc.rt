@@ -31,6 +31,7 @@ fn disc_row(size: u8, j: usize) -> Span
 }
 
 /// A source, blended with each pixel that a round dab covers.
+#[derive(Clone, Copy)]
 pub(crate) struct Disc {
     pub dab: PlacedDab,
     pub mode: Mode,

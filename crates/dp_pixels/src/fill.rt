@@ -9,6 +9,7 @@ use crate::rect::{Place, Rect};
 use dp_blend::{Mode, Pixel, row_fill};
 
 /// A source, blended with each pixel of a rectangle.
+#[derive(Clone, Copy)]
 pub(crate) struct Fill {
     pub area: Rect,
     pub mode: Mode,

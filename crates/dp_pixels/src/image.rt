@@ -95,6 +95,7 @@ fn merge_colors(mode: Mode, colors: &[u32], row: &mut [Pixel])
 }
 
 /// The colours of an image, each blended with the pixel at its place.
+#[derive(Clone, Copy)]
 pub(crate) struct ImageFill<'a> {
     pub mode: Mode,
     pub image: Image<'a>,

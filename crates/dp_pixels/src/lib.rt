@@ -5,6 +5,7 @@
 
 mod dabs;
 mod disc;
+mod draw;
 mod fill;
 mod image;
 mod paint;
@@ -14,6 +15,7 @@ mod span;
 mod tiles;
 mod window;
 
+pub use draw::draw_window;
 pub use place::{covers, pixel_after};
 pub use rect::Rect;
 pub use window::Window;

@@ -1,12 +1,10 @@
 //! One place, and what a command makes of the pixel there.
 
-ghost use Rattle.std.specs.Prelude.{◌≡◌, pos, if◌then◌else◌, IsTrue};
-ghost use Rattle.std.specs.Option.{option_map_or};
-ghost use Rattle.dp_blend.specs.Color.{of_argb, premultiplied};
-ghost use Rattle.dp_blend.specs.Blending.{blend, mode_numbered};
-ghost use Rattle.dp_pixels.specs.Rectangles.{is_in, rect_at};
+ghost use Rattle.std.specs.Prelude.{◌≡◌, pos, IsTrue};
+ghost use Rattle.dp_blend.specs.Color.{premultiplied};
+ghost use Rattle.dp_pixels.specs.Rectangles.{rect_at};
 ghost use Rattle.dp_pixels.specs.Dabs.{placed_dabs};
-ghost use Rattle.dp_pixels.specs.Drawing.{covers, dabs_blended, image_color, is_stamp, pixel_after};
+ghost use Rattle.dp_pixels.specs.Drawing.{covers, filled, imaged, is_stamp, pixel_after, stroked};
 
 use crate::dabs::{Shape, Stroke};
 use crate::image::Image;
@@ -38,6 +36,7 @@ pub(crate) fn stroke_of(shape: Shape, x: i32, y: i32, dabs: &Dabs) -> Stroke<'_>
     ensures x { result.at.x ≡ x }
     ensures y { result.at.y ≡ y }
     ensures dabs { result.dabs.now ≡ dabs.now }
+    ensures placed { placed_dabs result.at.x result.at.y result.dabs.now ≡ placed_dabs x y dabs.now }
 {
     Stroke {
         shape,
@@ -68,10 +67,7 @@ pub fn covers(op: &Draw, x: i64, y: i64) -> bool
 
 /// The pixel at a place after a fill, of the number of its mode.
 fn filled(mode: u8, area: Rect, color: u32, place: Place, old: Pixel) -> Pixel
-    ensures { result
-        ≡ option_map_or
-        (λ m. if is_in area place.x place.y then blend m (of_argb color) old else old)
-        (mode_numbered mode) old }
+    ensures { result ≡ filled mode area color place.x place.y old }
 {
     match Mode::from_u8(mode) {
         Some(mode) if area.contains(place) => blend(mode, of_argb(color), old),
@@ -82,11 +78,8 @@ fn filled(mode: u8, area: Rect, color: u32, place: Place, old: Pixel) -> Pixel
 /// The pixel at a place after an image, of the number of its mode.
 fn imaged(mode: u8, image: Image, place: Place, old: Pixel) -> Pixel
     ensures { result
-        ≡ option_map_or (λ m.
-        option_map_or (λ color. blend m (of_argb color) old)
-        (image_color (pos image.entry.x) (pos image.entry.y) image.entry.w image.entry.h
-        image.entry.colors.now place.x place.y) old)
-        (mode_numbered mode) old }
+        ≡ imaged mode (pos image.entry.x) (pos image.entry.y) image.entry.w image.entry.h
+        image.entry.colors.now place.x place.y old }
 {
     match (Mode::from_u8(mode), image.color(place)) {
         (Some(mode), Some(color)) => blend(mode, of_argb(color), old),
@@ -97,11 +90,9 @@ fn imaged(mode: u8, image: Image, place: Place, old: Pixel) -> Pixel
 /// The pixel at a place after dabs, of the number of their mode.
 fn stroked(mode: u8, source: Pixel, stroke: Stroke, place: Place, old: Pixel) -> Pixel
     ensures { result
-        ≡ option_map_or (λ m.
-        dabs_blended stroke.entry.shape m source
+        ≡ stroked mode source stroke.entry.shape
         (placed_dabs stroke.entry.at.x stroke.entry.at.y stroke.entry.dabs.now)
-        place.x place.y old)
-        (mode_numbered mode) old }
+        place.x place.y old }
 {
     match Mode::from_u8(mode) {
         Some(mode) => stroke.pixel_after(mode, source, place, old),

@@ -1,10 +1,10 @@
 //! Tiles that are put on a canvas.
 
-ghost use Rattle.std.specs.Prelude.{◌≡◌, ◌≤◌, ◌<◌, ◌+◌, ◌*◌, ◌%◌, ◌/◌, ◌^◌, ◌↔◌, ℕ, pos, length, slice_index_or, Some, None, if◌then◌else◌, unsigned_abs};
+ghost use Rattle.std.specs.Prelude.{◌≡◌, ◌≤◌, ◌<◌, ◌+◌, ◌*◌, ◌%◌, ◌/◌, ◌^◌, ◌↔◌, ℕ, pos, length, slice_index_or, Some, None, if◌then◌else◌};
 ghost use Rattle.std.specs.Option.{option_map_or};
 ghost use Rattle.dp_blend.specs.Color.{Channels};
 ghost use Rattle.dp_pixels.specs.Rectangles.{canvas_rect, clipped, is_in};
-ghost use Rattle.dp_pixels.specs.Tiles.{content_at, is_tile_pixel, replaced_by, tile_number, tile_put, tiles_along, tiles_rect};
+ghost use Rattle.dp_pixels.specs.Tiles.{content_at, is_tile_pixel, replaced_by, tile_changed, tile_number, tiles_along, tiles_rect};
 
 use crate::paint::Paint;
 use crate::rect::{Place, Rect};
@@ -61,7 +61,7 @@ fn put_content(content: &TileContent, x: usize, y: usize, row: &mut [Pixel])
 }
 
 /// How many tiles cover a side.
-fn tiles_along(side: u32) -> u64
+pub(crate) fn tiles_along(side: u32) -> u64
     ensures { result ≡ tiles_along side }
 {
     (side as u64 + TILE - 1) / TILE
@@ -138,7 +138,7 @@ impl Paint for TileRun<'_> {
 
     ghost change = { λ t x y old.
         if is_in (canvas_rect t.width t.height) x y
-        then tile_put t.width t.height t.col t.row t.repeat t.content.now (unsigned_abs x) (unsigned_abs y) old
+        then tile_changed t.width t.height t.col t.row t.repeat t.content.now x y old
         else old };
 
     fn bounds(&self) -> Rect {
