@@ -32,11 +32,11 @@ halves_fit (v ∷ vs) (f ∷ fs) = (record { fits = omega arith }, halves_fit vs
 product_is : (v f : ℕ) → f ≤ 32768 → cond (f == 32768) v (v * ((f + f) % 65536) / 65536) ≡ mul v f
 product_is v f h =
     elim (eqb_tells f 32768) [
-      inl e ↦ let one = e.1 in rw (e.0, one) (omega arith)
+      | inl e ↦ let one = e.1 in rw (e.0, one) (omega arith)
       | inr e ↦
-        let twice : (f + f) % 65536 ≡ f + f = omega arith in
-        let doubled : v * (f + f) ≡ v * f + v * f = mul-add v f f in
-        rw (e.0, twice, doubled) (omega arith)
+          let twice : (f + f) % 65536 ≡ f + f = omega arith in
+          let doubled : v * (f + f) ≡ v * f + v * f = mul-add v f f in
+          rw (e.0, twice, doubled) (omega arith)
     ]
 
 -- the same in each lane

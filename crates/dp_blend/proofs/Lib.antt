@@ -1,3 +1,4 @@
+pub mod Canvas
 pub mod LaneLemmas
 pub mod Pixels
 pub mod Products

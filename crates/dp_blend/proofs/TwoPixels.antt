@@ -72,28 +72,28 @@ pub covering : (v w : List ℕ) → ArePixels v → ArePixels w → sums v (zip2
 covering v w s d =
     rw (s.is, d.is)
     (blended_by Normal (λ sc sa dc da. (sc + dc * (32768 - sa) / 32768) % 65536) (λ sa da. (sa + da * (32768 - sa) / 32768) % 65536)
-      (λ sc sa dc da h i j k. omega (arith, channel_within Normal sc sa dc da h i j k, over_within sa da i k)) covered v w s d)
+    (λ sc sa dc da h i j k. omega (arith, channel_within Normal sc sa dc da h i j k, over_within sa da i k)) covered v w s d)
 
 pub multiplying : (v w : List ℕ) → ArePixels v → ArePixels w
     → sums (with_alphas (sums (zip2 mul w v) (zip2 mul (rests w) v)) v) (zip2 mul w (rests v)) ≡ blended_lanes Multiply v w
 multiplying v w s d =
     rw (s.is, d.is)
     (blended_by Multiply
-      (λ sc sa dc da. ((dc * sc / 32768 + (32768 - da) * sc / 32768) % 65536 + dc * (32768 - sa) / 32768) % 65536)
-      (λ sa da. (sa + da * (32768 - sa) / 32768) % 65536)
-      (λ sc sa dc da h i j k.
-          omega (arith, multiply_within sc sa dc da h i j k, over_within sa da i k, mul_comm dc sc, mul_comm (32768 - da) sc))
-      covered v w s d)
+    (λ sc sa dc da. ((dc * sc / 32768 + (32768 - da) * sc / 32768) % 65536 + dc * (32768 - sa) / 32768) % 65536)
+    (λ sa da. (sa + da * (32768 - sa) / 32768) % 65536)
+    (λ sc sa dc da h i j k.
+    omega (arith, multiply_within sc sa dc da h i j k, over_within sa da i k, mul_comm dc sc, mul_comm (32768 - da) sc))
+    covered v w s d)
 
 pub adding : (v w : List ℕ) → ArePixels v → ArePixels w
     → zip2 min (zip2 (λ a b. min (a + b) 65535) v w) (alphas (sums v (zip2 mul w (rests v)))) ≡ blended_lanes Add v w
 adding v w s d =
     rw (s.is, d.is)
     (blended_by Add
-      (λ sc sa dc da. min (min (sc + dc) 65535) ((sa + da * (32768 - sa) / 32768) % 65536))
-      (λ sa da. min (min (sa + da) 65535) ((sa + da * (32768 - sa) / 32768) % 65536))
-      (λ sc sa dc da h i j k. omega (arith, over_within sa da i k))
-      (λ sa da h i. omega (arith, over_within sa da h i, mul_le da (32768 - sa) (omega arith))) v w s d)
+    (λ sc sa dc da. min (min (sc + dc) 65535) ((sa + da * (32768 - sa) / 32768) % 65536))
+    (λ sa da. min (min (sa + da) 65535) ((sa + da * (32768 - sa) / 32768) % 65536))
+    (λ sc sa dc da h i j k. omega (arith, over_within sa da i k))
+    (λ sa da h i. omega (arith, over_within sa da h i, mul_le da (32768 - sa) (omega arith))) v w s d)
 
 pub recoloring : (v w : List ℕ) → ArePixels v → ArePixels w
     → sums (zip2 mul (alphas w) (with_alphas v (fours 32768 32768))) (zip2 mul w (with_alphas (rests v) (fours 0 0)))
@@ -101,10 +101,10 @@ pub recoloring : (v w : List ℕ) → ArePixels v → ArePixels w
 recoloring v w s d =
     rw (s.is, d.is)
     (blended_by Recolor
-      (λ sc sa dc da. (da * sc / 32768 + dc * (32768 - sa) / 32768) % 65536)
-      (λ sa da. (da * 32768 / 32768 + da * 0 / 32768) % 65536)
-      (λ sc sa dc da h i j k. omega (arith, recolor_within sc sa dc da h i j, mul_comm da sc))
-      (λ sa da h i. omega arith) v w s d)
+    (λ sc sa dc da. (da * sc / 32768 + dc * (32768 - sa) / 32768) % 65536)
+    (λ sa da. (da * 32768 / 32768 + da * 0 / 32768) % 65536)
+    (λ sc sa dc da h i j k. omega (arith, recolor_within sc sa dc da h i j, mul_comm da sc))
+    (λ sa da h i. omega arith) v w s d)
 
 -- the lanes of faded pixels are those of pixels
 pub are_faded : (p q : Channels) (m n : ℕ) → IsPixel p → IsPixel q → m ≤ 32768 → n ≤ 32768
@@ -136,29 +136,28 @@ chosen : (m n : ℕ) (p q x y : Channels)
     → sel_l (map (λ k. k == 0) (fours m n)) (lanes p q) (lanes x y) ≡ lanes (cond (m == 0) p x) (cond (n == 0) q y)
 chosen m n p q x y = pick (m == 0) (n == 0)
   where
-  pick : (k l : Bool) → sel_l (k ∷ k ∷ k ∷ k ∷ l ∷ l ∷ l ∷ l ∷ []) (lanes p q) (lanes x y) ≡ lanes (cond k p x) (cond l q y)
-  pick true true = refl
-  pick true false = refl
-  pick false true = refl
-  pick false false = refl
+    pick : (k l : Bool) → sel_l (k ∷ k ∷ k ∷ k ∷ l ∷ l ∷ l ∷ l ∷ []) (lanes p q) (lanes x y) ≡ lanes (cond k p x) (cond l q y)
+    pick true true = refl
+    pick true false = refl
+    pick false true = refl
+    pick false false = refl
 
 masked-IsPixel : (mode : Mode) (s : Channels) (m : ℕ) (d : Channels) → IsPixel s → IsPixel d → m ≤ 32768 → IsPixel (masked mode s m d)
 masked-IsPixel mode s m d h k i = pick (m == 0)
   where
-  pick : (b : Bool) → IsPixel (cond b d (blend mode (fade s m) d))
-  pick true = k
-  pick false = blend-IsPixel mode (fade s m) d (fade-IsPixel s m h i) k
+    pick : (b : Bool) → IsPixel (cond b d (blend mode (fade s m) d))
+    pick true = k
+    pick false = blend-IsPixel mode (fade s m) d (fade-IsPixel s m h i) k
 
 -- the lanes of pixels that a source is blended with through two masks are those of pixels
 pub are_masked : (mode : Mode) (s : Channels) (m n : ℕ) (d e : Channels) → IsPixel s → IsPixel d → IsPixel e → m ≤ 32768 → n ≤ 32768
-    → {v : List ℕ}
-    → v ≡ sel_l (map (λ k. k == 0) (fours m n)) (lanes d e) (blended_lanes mode (lanes (fade s m) (fade s n)) (lanes d e))
-    → ArePixels v
-are_masked mode s m n d e h k l i j is =
+    → {v masks faded old blended : List ℕ} → masks ≡ fours m n → faded ≡ lanes (fade s m) (fade s n) → old ≡ lanes d e
+    → blended ≡ blended_lanes mode faded old → v ≡ sel_l (map (λ k. k == 0) masks) old blended → ArePixels v
+are_masked mode s m n d e h k l i j by faded old blended is =
     record {
       first = masked mode s m d;
       second = masked mode s n e;
-      is = is ∙ chosen m n d e (blend mode (fade s m) d) (blend mode (fade s n) e);
+      is = is ∙ rw (blended, by, faded, old) (chosen m n d e (blend mode (fade s m) d) (blend mode (fade s n) e));
       first_pixel = masked-IsPixel mode s m d h k i;
       second_pixel = masked-IsPixel mode s n e h l j;
     }

@@ -1,3 +1,4 @@
 pub mod Color
 pub mod Blending
+pub mod Canvas
 pub mod Lanes

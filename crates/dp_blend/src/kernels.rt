@@ -8,11 +8,12 @@ ghost use Rattle.dp_blend.specs.Blending.{blend, masked};
 ghost use Rattle.dp_blend.specs.Lanes.{ArePixels, blended_lanes};
 ghost use Rattle.dp_blend.specs.declared.modes.Mode.{Mode};
 
-use std::simd::prelude::*;
-
 use crate::color::{ONE, Pixel};
-use crate::lanes::{alphas_of, capped_sums, fours_of, kept_where_zero, lanes_of, pixels_of};
-use crate::lanes::{products, rests_of, smaller_of, with_alphas};
+use crate::lanes::{
+    alphas_of, capped_sums, fours_of, kept_where_zero, lanes_of, pixels_of, products, rests_of,
+    smaller_of, with_alphas,
+};
+use std::simd::prelude::*;
 
 /// A mode of blending, on the lanes of two pixels.
 pub(crate) trait Kernel {

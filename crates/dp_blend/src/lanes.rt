@@ -5,9 +5,8 @@ ghost use Rattle.std.specs.Simd.Lanes.{zip2, sel_l, Each1};
 ghost use Rattle.dp_blend.specs.Color.{IsPixel, mul};
 ghost use Rattle.dp_blend.specs.Lanes.{ArePixels, fours, lanes, with_alphas};
 
-use std::simd::prelude::*;
-
 use crate::color::{ONE, Pixel};
+use std::simd::prelude::*;
 
 /// The lanes of two pixels: of each the channels and then the alpha.
 #[inline(always)]

@@ -1,16 +1,12 @@
-//! Laws of blending. Each function does nothing: its contract is the law.
+//! Laws of blending and of canvases. Each function does nothing: its contract is the law.
 //!
 //! The rule: docs/protocol.md, "Numbers and blending".
 
-ghost use Rattle.std.specs.Prelude.{◌≡◌, ℕ, ◌<◌, ◌≤◌, ◌^◌};
-ghost use Rattle.dp_blend.specs.Color.{Channels, IsPixel, clear, fade, from8, of_argb, to8, white};
+ghost use Rattle.std.specs.Prelude.{◌≡◌, ◌*◌, ◌<◌, ◌≤◌, ℕ, List, length};
+ghost use Rattle.dp_blend.specs.Color.{Channels, IsPixel, clear, fade};
 ghost use Rattle.dp_blend.specs.Blending.{blend};
+ghost use Rattle.dp_blend.specs.Canvas.{canvas_of, pixel_at};
 ghost use Rattle.dp_blend.specs.declared.modes.Mode.{Mode};
-
-/// A byte comes back from its channel.
-pub fn bytes_come_back()
-    ensures { (v : ℕ) → v < 256 → to8 (from8 v) ≡ v }
-{}
 
 /// A fade by one changes nothing.
 pub fn fade_by_one_keeps()
@@ -20,21 +16,6 @@ pub fn fade_by_one_keeps()
 /// A faded pixel is a pixel.
 pub fn fade_gives_pixels()
     ensures { (p : Channels) (m : ℕ) → IsPixel p → m ≤ 32768 → IsPixel (fade p m) }
-{}
-
-/// The colour of an ARGB number is a pixel.
-pub fn colors_are_pixels()
-    ensures { (n : ℕ) → n < 2 ^ 32 → IsPixel (of_argb n) }
-{}
-
-/// A colour whose alpha byte is 0 is clear, whatever its other bytes are.
-pub fn transparent_colors_are_clear()
-    ensures { (n : ℕ) → n < 0x100_0000 → of_argb n ≡ clear }
-{}
-
-/// The colour of which all four bytes are 255 is white.
-pub fn full_color_is_white()
-    ensures { of_argb 0xffff_ffff ≡ white }
 {}
 
 /// Over what shows nothing, the normal mode gives the source.
@@ -51,4 +32,31 @@ pub fn replace_gives_source()
 pub fn blend_gives_pixels()
     ensures { (mode : Mode) (src dst : Channels) → IsPixel src → IsPixel dst
         → IsPixel (blend mode src dst) }
+{}
+
+/// A canvas has a pixel for each place.
+pub fn length_of_canvas()
+    ensures { (width height : ℕ) (f : ℕ → ℕ → Channels) →
+        length (canvas_of width height f) ≡ width * height }
+{}
+
+/// The pixel at a place within a canvas is the one that it was made with.
+pub fn pixel_of_canvas()
+    ensures { (width height : ℕ) (f : ℕ → ℕ → Channels) (x y : ℕ) → x < width → y < height →
+        pixel_at width (canvas_of width height f) x y ≡ f x y }
+{}
+
+/// Two lists of a canvas's length with the same pixel at each place are equal.
+pub fn equal_pixels_at_each_place()
+    ensures { (width height : ℕ) (ps qs : List Channels)
+        → length ps ≡ width * height → length qs ≡ width * height
+        → ((x y : ℕ) → x < width → y < height → pixel_at width ps x y ≡ pixel_at width qs x y)
+        → ps ≡ qs }
+{}
+
+/// Two canvases that are made with the same pixel at each place within them are equal.
+pub fn equal_canvases()
+    ensures { (width height : ℕ) (f g : ℕ → ℕ → Channels)
+        → ((x y : ℕ) → x < width → y < height → f x y ≡ g x y)
+        → canvas_of width height f ≡ canvas_of width height g }
 {}

@@ -8,8 +8,10 @@ ghost use Rattle.dp_blend.specs.Color.{Channels, fade};
 ghost use Rattle.dp_blend.specs.Blending.{blend, masked, row_blended, row_filled, row_merged};
 
 use crate::color::Pixel;
-use crate::kernels::{Adding, Covering, Erasing, Kernel, Multiplying, Recoloring, Replacing};
-use crate::kernels::{blend_two, fill_two, merge_two};
+use crate::kernels::{
+    Adding, Covering, Erasing, Kernel, Multiplying, Recoloring, Replacing, blend_two, fill_two,
+    merge_two,
+};
 use crate::modes::Mode;
 
 /// Blends the source with each pixel of the row, faded by the mask at its place: 32768 blends all of

@@ -1,7 +1,21 @@
-//! Worked pixels, and each byte and mode there and back.
+//! Worked pixels, each byte and mode there and back, and rows beside the plain loops.
 
-use crate::{Mode, ONE, Pixel, blend, fade, from8, of_argb, row_blend, to8};
+ghost use Rattle.std.specs.Prelude.{◌<◌, ◌≤◌, ◌↔◌, All, IsTrue};
+
+use crate::{Mode, ONE, Pixel, blend, fade, from8, of_argb, row_blend, row_fill, row_merge, to8};
 use std::process::Abort;
+
+const MODES: [Mode; 6] = [
+    Mode::Erase,
+    Mode::Normal,
+    Mode::Multiply,
+    Mode::Add,
+    Mode::Recolor,
+    Mode::Replace,
+];
+
+/// Numbers of which some are at an end of their range.
+const PARTS: [u16; 6] = [0, 1, 32767, 32768, 16448, 20001];
 
 /// The pixel with these channels and this alpha; the test ends where they make none.
 fn pixel(rt: &impl Abort, (r, g, b, a): (u16, u16, u16, u16)) -> Pixel {
@@ -111,5 +125,110 @@ fn blends_a_row_through_a_mask(rt: HostRuntime) {
             [dst, pixel(&rt, whole), pixel(&rt, half)],
             "at {mode:?}"
         );
+    }
+}
+
+/// A pixel of one of six alphas, whose channels are parts of it, none or all of it.
+fn some_pixel(rt: &impl Abort, n: usize) -> Pixel {
+    let a = PARTS[n % 6];
+    pixel(rt, (a - a / 3, a / 2, if n % 4 < 2 { a } else { 0 }, a))
+}
+
+/// A row of some pixels, each of them `times` times.
+fn some_row(rt: &impl Abort, times: usize) -> [Pixel; 70]
+    requires { 0 < times }
+{
+    let mut row = [Pixel::CLEAR; 70];
+    for n in 0..70 {
+        row[n] = some_pixel(rt, n / times);
+    }
+    row
+}
+
+fn is_mask(mask: &[u16]) -> bool
+    ensures { IsTrue result ↔ All (λ m. m ≤ 32768) mask.now }
+{
+    mask.iter().all(|m| *m <= 32768)
+}
+
+/// Fills the front of a row, and a copy of it by the plain loop.
+fn fill_both(rt: &impl Abort, mode: Mode, src: Pixel, len: usize)
+    requires { len ≤ 70 }
+{
+    let mut row = some_row(rt, 1);
+    let mut want = row;
+    for n in 0..len {
+        want[n] = blend(mode, src, want[n]);
+    }
+    row_fill(mode, src, &mut row[..len]);
+    assert!(rt; row == want, "{mode:?} {src:?} at {len}");
+}
+
+#[test]
+fn fills_rows_as_the_plain_loop_does(rt: HostRuntime) {
+    for mode in MODES {
+        for n in 0..24 {
+            for len in 0..=70 {
+                fill_both(&rt, mode, some_pixel(&rt, n), len);
+            }
+        }
+    }
+}
+
+/// Blends the front of a row through a mask, and a copy of it by the plain loop. The mask is one of six
+/// numbers throughout, or for a greater `kind` each of them six times in turn.
+fn blend_both(rt: &impl Abort, mode: Mode, kind: usize, len: usize)
+    requires { len ≤ 70 }
+{
+    let src = some_pixel(rt, kind / 7);
+    let mut mask = [0; 70];
+    let mut row = some_row(rt, 1);
+    let mut want = row;
+    for n in 0..len {
+        mask[n] = PARTS[if kind % 7 < 6 { kind % 7 } else { n / 6 % 6 }];
+        if mask[n] > 0 && mask[n] <= ONE {
+            want[n] = blend(mode, fade(src, mask[n]), want[n]);
+        }
+    }
+    let mask = &mask[..len];
+    assert!(rt; is_mask(mask));
+    row_blend(mode, src, mask, &mut row[..len]);
+    assert!(rt; row == want, "{mode:?} {src:?} {kind} at {len}");
+}
+
+#[test]
+fn blends_rows_through_masks_as_the_plain_loop_does(rt: HostRuntime) {
+    for mode in MODES {
+        for kind in 0..42 {
+            for len in 0..=70 {
+                blend_both(&rt, mode, kind, len);
+            }
+        }
+    }
+}
+
+/// Merges the front of two rows, and of copies by the plain loop.
+fn merge_both(rt: &impl Abort, mode: Mode, by: u16, len: usize)
+    requires opacity { by ≤ 32768 }
+    requires len { len ≤ 70 }
+{
+    let sources = some_row(rt, 6);
+    let mut row = some_row(rt, 1);
+    let mut want = row;
+    for n in 0..len {
+        want[n] = blend(mode, fade(sources[n], by), want[n]);
+    }
+    row_merge(mode, by, &sources[..len], &mut row[..len]);
+    assert!(rt; row == want, "{mode:?} {by} at {len}");
+}
+
+#[test]
+fn merges_rows_as_the_plain_loop_does(rt: HostRuntime) {
+    for mode in MODES {
+        for by in PARTS {
+            for len in 0..=70 {
+                merge_both(&rt, mode, by.min(ONE), len);
+            }
+        }
     }
 }

@@ -1,6 +1,6 @@
-use Rattle.std.proofs.Common.{◌≡◌, ◌∙◌, ap, refl}
+use Rattle.std.proofs.Common.{◌≡◌}
 use Rattle.dp_blend.specs.Color.{fade}
-use Rattle.dp_blend.specs.Lanes.{ArePixels, lanes, blended_lanes}
+use Rattle.dp_blend.specs.Lanes.{lanes}
 use Rattle.dp_blend.proofs.TwoPixels.{are_faded, are_masked, masks_fade}
 use Rattle.dp_blend.proofs.kernels.blend_two.Goals as goal
 
@@ -12,13 +12,11 @@ blend_lanes-requires-clause-sources g c =
 
 pub pixels_of-requires : goal.pixels_of-requires
 pixels_of-requires g c =
-    let mode = g.K.Kernel.mode in
     let s = c.args.src in
     let m = c.args.masks in
     let old = c.lanes_of-old.ensures in
+    let masks = c.fours_of-masks.ensures in
     let faded : c.products-faded.result ≡ lanes (fade s m.0) (fade s m.1) =
-        rw (c.products-faded.ensures, c.fours_of-masks.ensures, c.lanes_of.ensures.value) (masks_fade s s m.0 m.1) in
-    let blended = c.blend_lanes.ensures ∙ ap (λ v. blended_lanes mode v c.lanes_of-old.result) faded
-        ∙ ap (blended_lanes mode (lanes (fade s m.0) (fade s m.1))) old.value in
-    are_masked mode s m.0 m.1 _ _ c.lanes_of.ensures.first_pixel old.first_pixel old.second_pixel c.requires.first c.requires.second
-    (rw (c.kept_where_zero.ensures, blended, c.fours_of-masks.ensures, old.value) refl)
+    rw (c.products-faded.ensures, masks, c.lanes_of.ensures.value) (masks_fade s s m.0 m.1) in
+    are_masked g.K.Kernel.mode s m.0 m.1 _ _ c.lanes_of.ensures.first_pixel old.first_pixel old.second_pixel c.requires.first c.requires.second
+    masks faded old.value c.blend_lanes.ensures c.kept_where_zero.ensures

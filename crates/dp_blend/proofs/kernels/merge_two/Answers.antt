@@ -12,6 +12,6 @@ pub pixels_of-requires : goal.pixels_of-requires
 pixels_of-requires g c =
     let p = c.lanes_of.ensures in
     let s : ArePixels c.products-faded.result =
-        are_faded _ _ _ _ p.first_pixel p.second_pixel c.requires c.requires (rw (c.products-faded.ensures, p.value) refl) in
+    are_faded _ _ _ _ p.first_pixel p.second_pixel c.requires c.requires (rw (c.products-faded.ensures, p.value) refl) in
     let d : ArePixels c.lanes_of-2.result = search rules in
     rw c.blend_lanes.ensures (are_blended g.K.Kernel.mode _ _ s d)

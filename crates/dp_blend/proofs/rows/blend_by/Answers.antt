@@ -19,7 +19,7 @@ returns-then-row-eq1 g c =
     let mask = c.args.mask.now in
     let last = length c.loop-k.row - 1 in
     let whole = changed-last f mask c.args.row.now c.loop-k.row (2 * c.loop-k.k) last 0 _ _ (omega arith) (omega arith) (omega arith) c.loop-k.invariant
-        (c.blend_two-only.ensures.first ∙ ap (f (get_or mask last 0)) c.index-row-last.is) in
+    (c.blend_two-only.ensures.first ∙ ap (f (get_or mask last 0)) c.index-row-last.is) in
     let value = whole ∙ sym (row_blended-is _ _ mask c.args.row.now) in
     record { value = value; places = row_blended-places _ _ mask c.args.row.now _ value c.requires.same_length }
 

@@ -23,8 +23,8 @@ returns-then-row-eq1 g c =
     let row = c.args.row.now in
     let last = c.index-row-last in
     let whole = changed-last f sources row c.loop-k.row (2 * c.loop-k.k) (length c.loop-k.row - 1) c.index-sources-last.result _ _
-        (omega arith) (omega arith) (omega arith) c.loop-k.invariant
-        (c.merge_two-only.ensures.first ∙ ap (λ s. f s last.result) c.index-sources-last.is ∙ ap (f _) last.is) in
+    (omega arith) (omega arith) (omega arith) c.loop-k.invariant
+    (c.merge_two-only.ensures.first ∙ ap (λ s. f s last.result) c.index-sources-last.is ∙ ap (f _) last.is) in
     let value = whole ∙ sym (row_merged-is mode c.args.by sources row) in
     record { value = value; places = row_merged-places mode c.args.by sources row _ value c.requires.same_length }
 
@@ -35,5 +35,5 @@ returns-else-row-eq1 g c =
     let sources = c.args.sources.now in
     let row = c.args.row.now in
     let value = changed-all f sources row c.loop-k.row (2 * c.loop-k.k) (omega arith) c.loop-k.invariant
-        ∙ sym (row_merged-is mode c.args.by sources row) in
+    ∙ sym (row_merged-is mode c.args.by sources row) in
     record { value = value; places = row_merged-places mode c.args.by sources row _ value c.requires.same_length }
