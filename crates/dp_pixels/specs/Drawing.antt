@@ -15,7 +15,7 @@ use Rattle.dp_pixels.specs.declared.dabs.PlacedDab.{PlacedDab}
 use Rattle.dp_pixels.specs.declared.dabs.Shape.{Shape}
 use Rattle.dp_pixels.specs.declared.dabs.Shape.TheVariants.{Round, Square}
 use Rattle.dp_pixels.specs.declared.rect.Rect.{Rect}
-use Rattle.dp_pixels.specs.Canvas.{canvas_of, pixel_at}
+use Rattle.dp_blend.specs.Canvas.{canvas_of, pixel_at}
 use Rattle.dp_pixels.specs.Rectangles.{is_in, rect_at, clipped, canvas_rect}
 use Rattle.dp_pixels.specs.Dabs.{placed_dabs, dab_covers}
 use Rattle.dp_pixels.specs.Tiles.{tile_changed}

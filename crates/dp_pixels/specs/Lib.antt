@@ -1,4 +1,3 @@
-pub mod Canvas
 pub mod Rectangles
 pub mod Near
 pub mod Dabs
