@@ -1,7 +1,8 @@
 -- The cells of a dab, as the code computes them.
-use Rattle.std.proofs.Common.{◌≡◌, ℕ, ◌+◌, ◌/◌, ◌^◌, ◌<◌, ◌≤◌, Bool, true, false, ◌&&◌, arith, ap, ◌∙◌, sym, subst, SFits, w64, to_z, of_z, Fits}
+use Rattle.std.proofs.Common.{◌≡◌, ℕ, ◌+◌, ◌*◌, ◌/◌, ◌^◌, ◌<◌, ◌≤◌, Bool, true, false, ◌&&◌, arith, ap, ◌∙◌, sym, subst, SFits, w64, to_z, of_z, Fits}
 use Rattle.std.specs.Prelude.{ℤ, pos, ◌+ℤ◌, ◌-ℤ◌, ◌≤ℤ◌, ◌<ℤ◌, unsigned_abs}
 use Rattle.std.proofs.lemmas.Int.{ints, to_z-of_z}
+use Rattle.std.proofs.Math.Nat.{mul_comm, mul-le-mul_right}
 use lib.Signed.{non_neg}
 use lib.Dec.{T}
 use Rattle.dp_pixels.specs.declared.rect.Rect.{Rect}
@@ -59,3 +60,9 @@ cell_row y y0 j size bottom is = omega (arith, ints)
 -- a row of a square fits in it
 pub row_fits : (x x0 : ℤ) (from len size : ℕ) → (x +ℤ pos len) ≤ℤ (x0 +ℤ pos size) → pos from ≡ x -ℤ x0 → from + len ≤ size
 row_fits x x0 from len size right is = omega (arith, ints)
+
+-- a row of a rectangle of pixels is in their list
+pub row_in_list : (count w h i j len : ℕ) → count ≡ w * h → j < h → i + len ≤ w → j * w + i + len ≤ count
+row_in_list count w h i j len is in_h in_w =
+    let rows : (j + 1) * w ≤ h * w = mul-le-mul_right w (omega arith) in
+    omega (arith, mul_comm h w)

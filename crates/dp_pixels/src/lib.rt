@@ -9,6 +9,7 @@ mod draw;
 mod fill;
 mod image;
 mod paint;
+mod patch;
 mod place;
 mod rect;
 mod span;
