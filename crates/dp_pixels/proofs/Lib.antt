@@ -8,4 +8,6 @@ pub mod Windows
 pub mod Merges
 pub mod TileLemmas
 pub mod TileLaws
+pub mod Moves
 pub mod Parts
+pub mod Whole

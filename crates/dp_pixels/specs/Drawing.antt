@@ -123,6 +123,11 @@ drawn width height (MoveRect layer sx sy w h tx ty) old x y =
     else old x y
 drawn width height op old x y = pixel_drawn width height op x y (old x y)
 
+-- the command is a MoveRect
+abbrev pub is_move : Draw → Bool
+is_move (MoveRect layer sx sy w h tx ty) = true
+is_move _ = false
+
 -- the pixel at a place, clear past the canvas
 abbrev pub pixel_of : ℕ → ℕ → List Channels → ℤ → ℤ → Channels
 pixel_of width height pixels (pos x) (pos y) =
@@ -134,3 +139,15 @@ abbrev pub pixels_after : ℕ → ℕ → Draw → List Channels → List Channe
 pixels_after width height op pixels =
     canvas_of width height (λ x y.
     drawn width height op (pixel_of width height pixels) (pos x) (pos y))
+
+-- the pixels of a layer after a command, MoveRect aside, each from the old pixel at its place
+abbrev pub pixels_drawn : ℕ → ℕ → Draw → List Channels → List Channels
+pixels_drawn width height op pixels =
+    canvas_of width height (λ x y.
+    pixel_drawn width height op (pos x) (pos y) (pixel_at width pixels x y))
+
+-- the pixels of a layer after MoveRect
+abbrev pub pixels_moved : ℕ → ℕ → ℕ → ℕ → ℕ → ℕ → ℤ → ℤ → List Channels → List Channels
+pixels_moved width height sx sy w h tx ty pixels =
+    canvas_of width height (λ x y.
+    moved width height sx sy w h tx ty (pixel_of width height pixels) (pos x) (pos y))

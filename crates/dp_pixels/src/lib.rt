@@ -3,11 +3,13 @@
 //! The rule: docs/protocol.md, "Pixel commands".
 #![tactic(auto)]
 
+mod canvas;
 mod dabs;
 mod disc;
 mod draw;
 mod fill;
 mod image;
+mod moving;
 mod paint;
 mod patch;
 mod place;
