@@ -9,5 +9,6 @@ pub mod Merges
 pub mod TileLemmas
 pub mod TileLaws
 pub mod Moves
+pub mod Layers
 pub mod Parts
 pub mod Whole

@@ -119,7 +119,7 @@ back_pixel width height sx sy across down tx ty x y old copied in_width in_heigh
     ∙ (sym here ∙ (ap (λ (z : ℤ). pixel_of width height old z (pos (sy + j))) back_x ∙ ap (λ (z : ℤ). pixel_of width height old (x -ℤ (tx -ℤ pos sx)) z) back_y))
 
 -- the old pixel at a place of the canvas
-old_pixel : (width height x y : ℕ) (old : List Channels) → x < width → y < height → pixel_of width height old (pos x) (pos y) ≡ pixel_at width old x y
+pub old_pixel : (width height x y : ℕ) (old : List Channels) → x < width → y < height → pixel_of width height old (pos x) (pos y) ≡ pixel_at width old x y
 old_pixel width height x y old in_x in_y =
     let has_x : ltb x width ≡ true = grind (arith, nat_tests) in
     let has_y : ltb y height ≡ true = grind (arith, nat_tests) in

@@ -41,7 +41,7 @@ pub(crate) fn whole(width: u32, height: u32) -> Window
 }
 
 /// Draws a command other than MoveRect on a whole canvas.
-fn draw_whole(op: &Draw, width: u32, height: u32, pixels: &mut [Pixel])
+pub(crate) fn draw_whole(op: &Draw, width: u32, height: u32, pixels: &mut [Pixel])
     requires { length pixels.old ≡ width * height }
     ensures { pixels.new ≡ pixels_drawn width height op.now pixels.old }
 {

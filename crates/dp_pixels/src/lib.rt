@@ -9,6 +9,7 @@ mod disc;
 mod draw;
 mod fill;
 mod image;
+mod layer;
 mod moving;
 mod paint;
 mod patch;
@@ -19,6 +20,7 @@ mod tiles;
 mod window;
 
 pub use draw::draw_window;
+pub use layer::draw_pixels;
 pub use place::{covers, pixel_after};
 pub use rect::Rect;
 pub use window::Window;
