@@ -1,0 +1,14 @@
+pub mod Rectangles
+pub mod Cells
+pub mod Strokes
+pub mod Images
+pub mod SpanLemmas
+pub mod Discs
+pub mod Windows
+pub mod Merges
+pub mod TileLemmas
+pub mod TileLaws
+pub mod Moves
+pub mod Layers
+pub mod Parts
+pub mod Whole

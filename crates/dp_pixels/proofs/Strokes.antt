@@ -1,0 +1,146 @@
+-- The dabs of a message, one after the other.
+use Rattle.std.proofs.Common.{◌≡◌, ℕ, ◌+◌, ◌*◌, ◌^◌, ◌<◌, ◌≤◌, List, [], ◌∷◌, ◌++◌, length, get_or, take, map, fold, cond, Bool, true, false, refl, arith, ap, ◌∙◌, sym, subst}
+use Rattle.std.specs.Prelude.{ℤ, pos, ◌+ℤ◌, ◌-ℤ◌, ◌≤ℤ◌, ◌<ℤ◌, unsigned_abs}
+use Rattle.std.specs.List.{enumerate_from}
+use Rattle.std.proofs.lemmas.Int.{ints}
+use Rattle.std.proofs.lemmas.List.{map_more, get_or-map, length-map, take_more}
+use Rattle.std.proofs.lemmas.List.FromFn.{length-enumerate_from, get_or-enumerate_from}
+use Rattle.std.proofs.lemmas.List.Sums.{fold_push, fold_more}
+use Rattle.dp_blend.specs.Color.{Channels}
+use Rattle.dp_blend.specs.declared.modes.Mode.{Mode}
+use Rattle.dp_msg_draw.specs.declared.lists.Dab.{Dab}
+use Rattle.dp_pixels.specs.declared.rect.Place.{Place}
+use Rattle.dp_pixels.specs.declared.dabs.PlacedDab.{PlacedDab}
+use Rattle.dp_pixels.specs.declared.dabs.Shape.{Shape}
+use Rattle.dp_pixels.specs.declared.window.Window.{Window}
+use Rattle.dp_pixels.specs.Rectangles.{is_in, canvas_rect}
+use Rattle.dp_pixels.specs.Drawing.{dab_blended, dabs_blended, stroked}
+use Rattle.dp_pixels.specs.Windows.{IsPainted, on_canvas}
+use Rattle.dp_pixels.proofs.Windows.{painted_same, painted_then}
+use Rattle.dp_pixels.specs.Near.{IsNear}
+use Rattle.dp_pixels.specs.Dabs.{int_sum, placed_dabs}
+
+-- the sum of the numbers of the first dabs
+abbrev sum_of : (Dab → ℤ) → List Dab → ℕ → ℤ
+sum_of f dabs k = int_sum (map f (take k dabs))
+
+-- how many dabs there are
+pub length-placed_dabs : (x y : ℤ) (dabs : List Dab) → length (placed_dabs x y dabs) ≡ length dabs
+length-placed_dabs x y dabs = length-map (enumerate_from 0 dabs) _ ∙ length-enumerate_from 0 dabs
+
+-- what stands for a dab past the end of a list
+abbrev pub no_dab : Dab
+no_dab = record { dx = pos 0; dy = pos 0; size = 0; opacity = 0 }
+
+-- the dab at a place
+abbrev pub put : ℤ → ℤ → Dab → PlacedDab
+put x y dab = record { at = record { x = x; y = y }; size = dab.size; opacity = dab.opacity }
+
+-- the dab behind a place
+abbrev pub behind : Place → Dab → PlacedDab
+behind last dab = put (last.x +ℤ dab.dx) (last.y +ℤ dab.dy) dab
+
+-- the dab at an index stands at the sums of the differences up to it
+get_or-placed_dabs : (left top : ℤ) (dabs : List Dab) (k : ℕ) (d : PlacedDab) → k < length dabs
+    → get_or (placed_dabs left top dabs) k d
+    ≡ put (left +ℤ sum_of (λ (e : Dab). e.dx) dabs (k + 1)) (top +ℤ sum_of (λ (e : Dab). e.dy) dabs (k + 1)) (get_or dabs k no_dab)
+get_or-placed_dabs left top dabs k d within =
+    let place = λ (entry : ℕ × Dab).
+    put (left +ℤ sum_of (λ (e : Dab). e.dx) dabs (entry.0 + 1)) (top +ℤ sum_of (λ (e : Dab). e.dy) dabs (entry.0 + 1)) entry.1 in
+    let short : k < length (enumerate_from 0 dabs) = omega (arith, length-enumerate_from 0 dabs) in
+    let here : 0 + k ≡ k = omega arith in
+    get_or-map place (enumerate_from 0 dabs) k (0, no_dab) d short
+    ∙ ap place (get_or-enumerate_from 0 dabs k (0, no_dab) within ∙ ap (λ (n : ℕ). (n, get_or dabs k no_dab)) here)
+
+-- the sum of one number more
+sum_of-more : (f : Dab → ℤ) (dabs : List Dab) (k : ℕ) → k < length dabs → sum_of f dabs (k + 1) ≡ sum_of f dabs k +ℤ f (get_or dabs k no_dab)
+sum_of-more f dabs k within =
+    ap int_sum (map_more f dabs k no_dab within) ∙ fold_push ◌+ℤ◌ (pos 0) (map f (take k dabs)) (f (get_or dabs k no_dab))
+
+-- the place of the last of the first k dabs, or that of the message
+pub record IsLast (left top : ℤ) (dabs : List Dab) (k : ℕ) (last : Place) : Type 0 where
+  pub x : last.x ≡ left +ℤ int_sum (map (λ (dab : Dab). dab.dx) (take k dabs))
+  pub y : last.y ≡ top +ℤ int_sum (map (λ (dab : Dab). dab.dy) (take k dabs))
+  pub near : IsNear (2 ^ 32 + 128 * k) last
+
+pub last_none : (at : Place) (dabs : List Dab) → IsNear (2 ^ 32) at → IsLast at.x at.y dabs 0 at
+last_none at dabs near = record {
+  x = omega (arith, ints);
+  y = omega (arith, ints);
+  near = record { x = omega (arith, near.x); y = omega (arith, near.y) };
+}
+
+-- the dab behind the last one is the last of one dab more
+pub last_more : (left top : ℤ) (dabs : List Dab) (k : ℕ) (last : Place) (placed : PlacedDab) → k < length dabs
+    → placed ≡ behind last (get_or dabs k no_dab) → unsigned_abs placed.at.x ≤ unsigned_abs last.x + 128 → unsigned_abs placed.at.y ≤ unsigned_abs last.y + 128
+    → IsLast left top dabs k last → IsLast left top dabs (k + 1) placed.at
+last_more left top dabs k last placed within is near_x near_y before =
+    let is_x = before.x in
+    let is_y = before.y in
+    let last_x = before.near.x in
+    let last_y = before.near.y in
+    let to_x : placed.at.x ≡ last.x +ℤ (get_or dabs k no_dab).dx = ap (λ (p : PlacedDab). p.at.x) is in
+    let to_y : placed.at.y ≡ last.y +ℤ (get_or dabs k no_dab).dy = ap (λ (p : PlacedDab). p.at.y) is in
+    record {
+      x = omega (arith, ints, sum_of-more (λ (e : Dab). e.dx) dabs k within);
+      y = omega (arith, ints, sum_of-more (λ (e : Dab). e.dy) dabs k within);
+      near = record { x = omega arith; y = omega arith };
+    }
+
+-- and the next in the list
+pub placed_is : (left top : ℤ) (dabs : List Dab) (k : ℕ) (last : Place) (placed d : PlacedDab) → k < length dabs
+    → placed ≡ behind last (get_or dabs k no_dab) → IsLast left top dabs k last → get_or (placed_dabs left top dabs) k d ≡ placed
+placed_is left top dabs k last placed d within is before =
+    let is_x = before.x in
+    let is_y = before.y in
+    let dab = get_or dabs k no_dab in
+    let to_x : left +ℤ sum_of (λ (e : Dab). e.dx) dabs (k + 1) ≡ last.x +ℤ dab.dx = omega (arith, ints, sum_of-more (λ (e : Dab). e.dx) dabs k within) in
+    let to_y : top +ℤ sum_of (λ (e : Dab). e.dy) dabs (k + 1) ≡ last.y +ℤ dab.dy = omega (arith, ints, sum_of-more (λ (e : Dab). e.dy) dabs k within) in
+    get_or-placed_dabs left top dabs k d within
+    ∙ (ap (λ (z : ℤ). put z (top +ℤ sum_of (λ (e : Dab). e.dy) dabs (k + 1)) dab) to_x
+    ∙ (ap (λ (z : ℤ). put (last.x +ℤ dab.dx) z dab) to_y ∙ sym is))
+
+-- a window with one dab more
+pub dabs_more : (window : Window) (stride : ℕ) (shape : Shape) (mode : Mode) (color : Channels) (dabs : List PlacedDab) (k : ℕ) (dab : PlacedDab) (old now new : List Channels)
+    → k < length dabs → get_or dabs k dab ≡ dab
+    → IsPainted window stride (on_canvas window (dabs_blended shape mode color (take k dabs))) old now
+    → IsPainted window stride (on_canvas window (dab_blended shape mode color dab)) now new
+    → IsPainted window stride (on_canvas window (dabs_blended shape mode color (take (k + 1) dabs))) old new
+dabs_more window stride shape mode color dabs k dab old now new within is before here =
+    painted_same window stride _ (on_canvas window (dabs_blended shape mode color (take (k + 1) dabs))) old new (λ i j p in_x in_y.
+    let x = pos (window.x + i) in
+    let y = pos (window.y + j) in
+    let step = λ (under : Channels) (d : PlacedDab). dab_blended shape mode color d x y under in
+    let more : step (fold step p (take k dabs)) dab ≡ fold step p (take (k + 1) dabs) =
+    ap (step (fold step p (take k dabs))) (sym is) ∙ sym (fold_more step p dabs k dab within) in
+    on_both (is_in (canvas_rect window.canvas_width window.canvas_height) x y) (λ q. step q dab) (fold step p (take k dabs)) p _ more)
+    (painted_then window stride _ _ old now new before here)
+  where
+    on_both : (t : Bool) (f : Channels → Channels) (a p b : Channels) → f a ≡ b → cond t (f (cond t a p)) (cond t a p) ≡ cond t b p
+    on_both true f a p b is = is
+    on_both false f a p b is = refl
+
+-- the dab behind the last one is in the list of the dabs, and the last of one dab more
+pub record IsNext (left top : ℤ) (dabs : List Dab) (k : ℕ) (placed : PlacedDab) : Type 0 where
+  pub last : IsLast left top dabs (k + 1) placed.at
+  pub within : k < length (placed_dabs left top dabs)
+  pub is : get_or (placed_dabs left top dabs) k placed ≡ placed
+
+pub next_is : (left top : ℤ) (dabs : List Dab) (k : ℕ) (last : Place) (placed : PlacedDab) → k < length dabs
+    → placed ≡ behind last (get_or dabs k no_dab) → unsigned_abs placed.at.x ≤ unsigned_abs last.x + 128 → unsigned_abs placed.at.y ≤ unsigned_abs last.y + 128
+    → IsLast left top dabs k last → IsNext left top dabs k placed
+next_is left top dabs k last placed within is near_x near_y before = record {
+  last = last_more left top dabs k last placed within is near_x near_y before;
+  within = omega (arith, length-placed_dabs left top dabs);
+  is = placed_is left top dabs k last placed placed within is before;
+}
+
+-- a window on which the same dabs are drawn, by other names
+pub stroke_as : (window : Window) (stride mode : ℕ) (color as_color : Channels) (shape as_shape : Shape) (dabs as_dabs : List PlacedDab) (old new : List Channels)
+    → color ≡ as_color → shape ≡ as_shape → dabs ≡ as_dabs
+    → IsPainted window stride (on_canvas window (stroked mode color shape dabs)) old new
+    → IsPainted window stride (on_canvas window (stroked mode as_color as_shape as_dabs)) old new
+stroke_as window stride mode color as_color shape as_shape dabs as_dabs old new colors shapes lists painted =
+    subst (λ (p : Channels). IsPainted window stride (on_canvas window (stroked mode p as_shape as_dabs)) old new) colors
+    (subst (λ (s : Shape). IsPainted window stride (on_canvas window (stroked mode color s as_dabs)) old new) shapes
+    (subst (λ (l : List PlacedDab). IsPainted window stride (on_canvas window (stroked mode color shape l)) old new) lists painted))

@@ -1,0 +1,13 @@
+use Rattle.std.proofs.Common.{arith, ap, ◌∙◌, to_z, of_z, w64}
+use Rattle.std.specs.Prelude.{ℤ, pos, ◌-ℤ◌, ◌/◌}
+use Rattle.dp_pixels.specs.Rectangles.{rect_at}
+use Rattle.dp_pixels.proofs.Cells.{less_small}
+use Rattle.dp_pixels.proofs.dabs.PlacedDab.rect.Goals as goal
+
+pub returns : goal.returns
+returns c =
+    let dab = c.args.self in
+    let half = dab.size / 2 in
+    let x = less_small dab.at.x half c.requires.x (omega arith) in
+    let y = less_small dab.at.y half c.requires.y (omega arith) in
+    rw (x, y) at c.at.ensures

@@ -1,0 +1,85 @@
+-- The foot of a command: where it may change a layer, and where it reads it.
+use Rattle.std.specs.Prelude.{ℕ, ◌+◌, ◌-◌, ◌*◌, ◌/◌, ◌==◌, ℤ, pos, unsigned_abs}
+use Rattle.std.specs.Prelude.{Bool, true, ◌&&◌, ◌||◌, int_lt, if◌then◌else◌, List, [], ◌∷◌, map, fold}
+use Rattle.std.specs.List.{list_any}
+use Rattle.dp_msg_draw.specs.declared.draw.Draw.{Draw}
+use Rattle.dp_msg_draw.specs.declared.draw.Draw.TheVariants.{CanvasResize, FillRect, PutImage, PutTile, DabsRound, DabsSquare, MoveRect}
+use Rattle.dp_pixels.specs.declared.rect.Rect.{Rect}
+use Rattle.dp_pixels.specs.Rectangles.{is_in, rect_at, clipped, share_place, joined, canvas_rect}
+use Rattle.dp_pixels.specs.declared.dabs.PlacedDab.{PlacedDab}
+use Rattle.dp_pixels.specs.Dabs.{placed_dabs, dab_rect}
+
+-- a foot: a rectangle of a layer, two of them, or everything
+pub data Footprint : Type 0 where
+  Area : ℕ → Rect → Footprint
+  Two : ℕ → Rect → Rect → Footprint
+  All : Footprint
+
+-- the places of the greatest canvas
+abbrev pub greatest_canvas : Rect
+greatest_canvas = canvas_rect 4096 4096
+
+-- the least rectangle around all dabs; without a dab it has no place
+abbrev pub around : List PlacedDab → Rect
+around [] = rect_at (pos 0) (pos 0) 0 0
+around (dab ∷ dabs) = fold joined (dab_rect dab) (map dab_rect dabs)
+
+-- where the dabs of a message may change the layer
+abbrev pub dabs_foot : ℕ → List PlacedDab → Footprint
+dabs_foot layer dabs = Area layer (clipped (around dabs) greatest_canvas)
+
+-- the foot of a command
+abbrev pub foot : Draw → Footprint
+foot (FillRect layer mode x y w h color) = Area layer (clipped (rect_at (pos x) (pos y) w h) greatest_canvas)
+foot (PutImage layer mode x y w h colors) = Area layer (clipped (rect_at (pos x) (pos y) w h) greatest_canvas)
+foot (DabsRound layer x y r g b mode dabs) = dabs_foot layer (placed_dabs x y dabs)
+foot (DabsSquare layer x y r g b mode dabs) = dabs_foot layer (placed_dabs x y dabs)
+foot (PutTile layer col row repeat content) =
+    Area layer
+    (if repeat == 0
+    then clipped (rect_at (pos (col * 64)) (pos (row * 64)) 64 64) greatest_canvas
+    else greatest_canvas)
+foot (MoveRect layer sx sy w h tx ty) =
+    Two layer
+    (clipped (rect_at (pos sx) (pos sy) w h) greatest_canvas)
+    (clipped (rect_at tx ty w h) greatest_canvas)
+foot _ = All
+
+-- a place of the layer is in the foot
+abbrev pub is_in_foot : Footprint → ℤ → ℤ → Bool
+is_in_foot (Area layer rect) x y = is_in rect x y
+is_in_foot (Two layer from to) x y = is_in from x y || is_in to x y
+is_in_foot All x y = true
+
+-- a layer has a rectangle that shares a place with the foot
+abbrev pub meets_area : Footprint → ℕ → Rect → Bool
+meets_area (Area layer rect) other area = layer == other && share_place rect area
+meets_area (Two layer from to) other area = layer == other && (share_place from area || share_place to area)
+meets_area All other area = true
+
+-- two feet meet where one is everything, or where they are of one layer and a rectangle of the one
+-- shares a place with a rectangle of the other
+abbrev pub feet_meet : Footprint → Footprint → Bool
+feet_meet a (Area layer rect) = meets_area a layer rect
+feet_meet a (Two layer from to) = meets_area a layer from || meets_area a layer to
+feet_meet a All = true
+
+-- how many of the stretches of 64 numbers, counted from 0, have a number from a up to b, without b
+abbrev pub stretches : ℤ → ℤ → ℕ
+stretches a b = if int_lt a b then (unsigned_abs b + 63) / 64 - unsigned_abs a / 64 else 0
+
+-- how many squares of 64 by 64 places of the greatest canvas share a place with a rectangle of it
+abbrev pub squares_of : Rect → ℕ
+squares_of r = stretches r.x0 r.x1 * stretches r.y0 r.y1
+
+-- how many squares the rectangles of a foot share a place with, each rectangle by itself
+abbrev pub squares_of_foot : Footprint → ℕ
+squares_of_foot (Area layer rect) = squares_of rect
+squares_of_foot (Two layer from to) = squares_of from + squares_of to
+squares_of_foot All = 0
+
+-- how many squares a command reaches: those of its foot; CanvasResize reaches all squares of 256
+-- layers, and no other command whose foot is everything reaches any
+abbrev pub reach : Draw → ℕ
+reach (CanvasResize top right bottom left) = 1048576
+reach op = squares_of_foot (foot op)

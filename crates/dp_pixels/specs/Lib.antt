@@ -1,0 +1,9 @@
+pub mod Rectangles
+pub mod Near
+pub mod Dabs
+pub mod Spans
+pub mod Parts
+pub mod Windows
+pub mod Tiles
+pub mod Drawing
+pub mod Feet

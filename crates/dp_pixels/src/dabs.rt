@@ -1,0 +1,141 @@
+//! Dabs of a brush, where they stand.
+
+ghost use Rattle.std.specs.Prelude.{◌≡◌, ◌<◌, ◌≤◌, ◌^◌, ◌+◌, pos, ◌+ℤ◌, unsigned_abs, length};
+ghost use Rattle.std.specs.List.{list_any};
+ghost use Rattle.dp_pixels.specs.Near.{IsNear};
+ghost use Rattle.dp_pixels.specs.Dabs.{dab_rect, dab_covers, is_in_disc, placed_dabs};
+ghost use Rattle.dp_pixels.specs.Drawing.{dabs_blended};
+
+use crate::rect::{Place, Rect};
+use dp_blend::{Mode, Pixel, blend, fade, from8};
+use dp_msg_draw::Dab;
+
+/// The shape of a dab.
+#[derive(Clone, Copy)]
+pub(crate) enum Shape {
+    /// The cells of the square that are in the disc of the dab's diameter.
+    Round,
+    /// All cells of the square.
+    Square,
+}
+
+/// A dab where it stands.
+#[derive(Clone, Copy)]
+pub(crate) struct PlacedDab {
+    pub at: Place,
+    /// The diameter in pixels.
+    pub size: u8,
+    pub opacity: u8,
+}
+
+impl PlacedDab {
+    /// The dab, moved by its difference from the place of the one before it.
+    pub(crate) fn behind(last: Place, dab: Dab) -> PlacedDab
+        requires { IsNear (2 ^ 40) last }
+        ensures value { result
+            ≡ record {
+              at = record { x = last.x +ℤ dab.dx; y = last.y +ℤ dab.dy };
+              size = dab.size;
+              opacity = dab.opacity;
+            } }
+        ensures near_x { unsigned_abs result.at.x ≤ unsigned_abs last.x + 128 }
+        ensures near_y { unsigned_abs result.at.y ≤ unsigned_abs last.y + 128 }
+    {
+        PlacedDab {
+            at: Place {
+                x: last.x + dab.dx as i64,
+                y: last.y + dab.dy as i64,
+            },
+            size: dab.size,
+            opacity: dab.opacity,
+        }
+    }
+
+    /// The square of its cells.
+    pub(crate) fn rect(self) -> Rect
+        requires { IsNear (2 ^ 39) self.at }
+        ensures { result ≡ dab_rect self }
+    {
+        let half = (self.size / 2) as i64;
+        let corner = Place {
+            x: self.at.x - half,
+            y: self.at.y - half,
+        };
+        Rect::at(corner, self.size as u32, self.size as u32)
+    }
+
+    /// Whether it covers a place.
+    fn covers(self, shape: Shape, place: Place) -> bool
+        requires { IsNear (2 ^ 39) self.at }
+        ensures { result ≡ dab_covers shape self place.x place.y }
+    {
+        let cells = self.rect();
+        match shape {
+            Shape::Square => cells.contains(place),
+            Shape::Round => {
+                cells.contains(place)
+                    && is_in_disc(
+                        self.size,
+                        (place.x - cells.x0) as u8,
+                        (place.y - cells.y0) as u8,
+                    )
+            }
+        }
+    }
+}
+
+/// Whether the cell (i, j) of a dab is in its disc.
+fn is_in_disc(size: u8, i: u8, j: u8) -> bool
+    requires column { i < size }
+    requires row { j < size }
+    ensures { result ≡ is_in_disc size (pos i) (pos j) }
+{
+    let across = (2 * i as u32 + 1).abs_diff(size as u32);
+    let down = (2 * j as u32 + 1).abs_diff(size as u32);
+    across * across + down * down <= size as u32 * size as u32
+}
+
+/// The dabs of a message: their shape, the message's place, and the list.
+#[derive(Clone, Copy)]
+pub(crate) struct Stroke<'a> {
+    pub shape: Shape,
+    pub at: Place,
+    pub dabs: &'a [Dab],
+    ghost near: { IsNear (2 ^ 32) at },
+    ghost short: { length dabs.now ≤ 16380 },
+}
+
+impl Stroke<'_> {
+    /// Whether one of the dabs covers a place.
+    pub(crate) fn covers(self, place: Place) -> bool
+        ensures { result ≡ list_any (λ dab. dab_covers self.entry.shape dab place.x place.y)
+            (placed_dabs self.entry.at.x self.entry.at.y self.entry.dabs.now) }
+    {
+        let mut last = self.at;
+        for dab in self.dabs {
+            let placed = PlacedDab::behind(last, *dab);
+            if placed.covers(self.shape, place) {
+                return true;
+            }
+            last = placed.at;
+        }
+        false
+    }
+
+    /// The pixel at a place after the dabs of this source.
+    pub(crate) fn pixel_after(self, mode: Mode, source: Pixel, place: Place, old: Pixel) -> Pixel
+        ensures { result ≡ dabs_blended self.entry.shape mode source
+            (placed_dabs self.entry.at.x self.entry.at.y self.entry.dabs.now) place.x place.y old }
+    {
+        let mut last = self.at;
+        let mut pixel = old;
+        for dab in self.dabs {
+            let placed = PlacedDab::behind(last, *dab);
+            if placed.covers(self.shape, place) {
+                pixel = blend(mode, fade(source, from8(placed.opacity)), pixel);
+            }
+            last = placed.at;
+        }
+        pixel
+    }
+}

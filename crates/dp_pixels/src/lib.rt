@@ -1,0 +1,29 @@
+//! What the pixel commands make of the pixels of a layer, and where each of them may change it.
+//!
+//! The rule: docs/protocol.md, "Pixel commands".
+#![tactic(auto)]
+
+mod canvas;
+mod dabs;
+mod disc;
+mod draw;
+mod fill;
+mod image;
+mod layer;
+mod moving;
+mod paint;
+mod patch;
+mod place;
+mod rect;
+mod span;
+mod tiles;
+mod window;
+
+pub use draw::draw_window;
+pub use layer::draw_pixels;
+pub use place::{covers, pixel_after};
+pub use rect::Rect;
+pub use window::Window;
+
+#[cfg(test)]
+mod tests;

@@ -1,0 +1,167 @@
+//! One place, and what a command makes of the pixel there.
+
+ghost use Rattle.std.specs.Prelude.{◌≡◌, pos, IsTrue};
+ghost use Rattle.dp_blend.specs.Color.{premultiplied};
+ghost use Rattle.dp_pixels.specs.Rectangles.{rect_at};
+ghost use Rattle.dp_pixels.specs.Dabs.{placed_dabs};
+ghost use Rattle.dp_pixels.specs.Drawing.{covers, filled, imaged, is_stamp, pixel_after, stroked};
+
+use crate::dabs::{Shape, Stroke};
+use crate::image::Image;
+use crate::rect::{Place, Rect};
+use dp_blend::{Mode, Pixel, blend, of_argb};
+use dp_msg_draw::{Dabs, Draw};
+
+/// The pixel of an opaque colour.
+pub(crate) fn opaque(r: u8, g: u8, b: u8) -> Pixel
+    ensures { result ≡ premultiplied r g b 255 }
+{
+    of_argb(u32::from_be_bytes([255, r, g, b]))
+}
+
+/// The rectangle of a fill.
+pub(crate) fn rect_of(x: u32, y: u32, w: u32, h: u32) -> Rect
+    ensures { result ≡ rect_at (pos x) (pos y) w h }
+{
+    let corner = Place {
+        x: x as i64,
+        y: y as i64,
+    };
+    Rect::at(corner, w, h)
+}
+
+/// The dabs of a message.
+pub(crate) fn stroke_of(shape: Shape, x: i32, y: i32, dabs: &Dabs) -> Stroke<'_>
+    ensures shape { result.shape ≡ shape }
+    ensures x { result.at.x ≡ x }
+    ensures y { result.at.y ≡ y }
+    ensures dabs { result.dabs.now ≡ dabs.now }
+    ensures placed { placed_dabs result.at.x result.at.y result.dabs.now ≡ placed_dabs x y dabs.now }
+{
+    Stroke {
+        shape,
+        at: Place {
+            x: x as i64,
+            y: y as i64,
+        },
+        dabs: dabs.as_slice(),
+    }
+}
+
+/// Whether a fill or an image covers a place, or one of the dabs of a stroke. It takes no memory.
+///
+/// The rule: docs/protocol.md, "Pixel commands".
+pub fn covers(op: &Draw, x: i64, y: i64) -> bool
+    requires { IsTrue (is_stamp op.now) }
+    ensures { result ≡ covers op.now x y }
+{
+    let place = Place { x, y };
+    match op {
+        Draw::FillRect { x, y, w, h, .. } => rect_of(*x, *y, *w, *h).contains(place),
+        Draw::PutImage { x, y, w, h, .. } => rect_of(*x, *y, *w, *h).contains(place),
+        Draw::DabsRound { x, y, dabs, .. } => stroke_of(Shape::Round, *x, *y, dabs).covers(place),
+        Draw::DabsSquare { x, y, dabs, .. } => stroke_of(Shape::Square, *x, *y, dabs).covers(place),
+        _ => false,
+    }
+}
+
+/// The pixel at a place after a fill, of the number of its mode.
+fn filled(mode: u8, area: Rect, color: u32, place: Place, old: Pixel) -> Pixel
+    ensures { result ≡ filled mode area color place.x place.y old }
+{
+    match Mode::from_u8(mode) {
+        Some(mode) if area.contains(place) => blend(mode, of_argb(color), old),
+        _ => old,
+    }
+}
+
+/// The pixel at a place after an image, of the number of its mode.
+fn imaged(mode: u8, image: Image, place: Place, old: Pixel) -> Pixel
+    ensures { result
+        ≡ imaged mode (pos image.entry.x) (pos image.entry.y) image.entry.w image.entry.h
+        image.entry.colors.now place.x place.y old }
+{
+    match (Mode::from_u8(mode), image.color(place)) {
+        (Some(mode), Some(color)) => blend(mode, of_argb(color), old),
+        _ => old,
+    }
+}
+
+/// The pixel at a place after dabs, of the number of their mode.
+fn stroked(mode: u8, source: Pixel, stroke: Stroke, place: Place, old: Pixel) -> Pixel
+    ensures { result
+        ≡ stroked mode source stroke.entry.shape
+        (placed_dabs stroke.entry.at.x stroke.entry.at.y stroke.entry.dabs.now)
+        place.x place.y old }
+{
+    match Mode::from_u8(mode) {
+        Some(mode) => stroke.pixel_after(mode, source, place, old),
+        None => old,
+    }
+}
+
+/// The pixel at a place after a fill, an image or dabs, of the old pixel there. It takes no memory.
+///
+/// The rule: docs/protocol.md, "Pixel commands".
+pub fn pixel_after(op: &Draw, x: i64, y: i64, old: Pixel) -> Pixel
+    requires { IsTrue (is_stamp op.now) }
+    ensures { result ≡ pixel_after op.now x y old }
+{
+    let place = Place { x, y };
+    match op {
+        Draw::FillRect {
+            mode,
+            x,
+            y,
+            w,
+            h,
+            color,
+            ..
+        } => { filled(*mode, rect_of(*x, *y, *w, *h), *color, place, old) }
+        Draw::PutImage {
+            mode,
+            x,
+            y,
+            w,
+            h,
+            colors,
+            ..
+        } => {
+            let image = Image {
+                x: *x,
+                y: *y,
+                w: *w,
+                h: *h,
+                colors: colors.as_slice(),
+            };
+            imaged(*mode, image, place, old)
+        }
+        Draw::DabsRound {
+            x,
+            y,
+            r,
+            g,
+            b,
+            mode,
+            dabs,
+            ..
+        } => {
+            let stroke = stroke_of(Shape::Round, *x, *y, dabs);
+            stroked(*mode, opaque(*r, *g, *b), stroke, place, old)
+        }
+        Draw::DabsSquare {
+            x,
+            y,
+            r,
+            g,
+            b,
+            mode,
+            dabs,
+            ..
+        } => {
+            let stroke = stroke_of(Shape::Square, *x, *y, dabs);
+            stroked(*mode, opaque(*r, *g, *b), stroke, place, old)
+        }
+        _ => old,
+    }
+}
