@@ -78,9 +78,9 @@ module _ {X : Type 0} where
     pub parts-created : (row : LayerRow) (x : Option X) → AreParts (layers ++ row ∷ []) (contents ++ x ∷ []) (created (joined layers contents) row x)
     parts-created row x = record {
       left = sym (map-append (λ (r : Row X). r.layer) (joined layers contents) (record { layer = row; content = x } ∷ [])
-      ∙ ap (λ ls. ls ++ row ∷ []) (layers_of-joined layers contents same));
+          ∙ ap (λ ls. ls ++ row ∷ []) (layers_of-joined layers contents same));
       right = sym (map-append (λ (r : Row X). r.content) (joined layers contents) (record { layer = row; content = x } ∷ [])
-      ∙ ap (λ cs. cs ++ x ∷ []) (holdings_of-joined layers contents same));
+          ∙ ap (λ cs. cs ++ x ∷ []) (holdings_of-joined layers contents same));
     }
 
     pub parts-changed : (id : ℕ) (change : LayerRow → LayerRow) → AreParts (map (change_row id change) layers) contents (rows_changed (joined layers contents) id change)
@@ -106,13 +106,13 @@ module _ {X : Type 0} where
         ap (λ ls. filter (λ (r : Row X). not (is_in ls r.layer.id id)) rows) (sym is_layers) in
         record {
           left = ap (λ fs. items_where_true fs layers) flags
-          ∙ ap (items_where_true (map (λ r. keep r.layer) rows)) (sym is_layers)
-          ∙ where_filter (λ r. keep r.layer) (λ r. r.layer) rows
-          ∙ ap layers_of gone;
+              ∙ ap (items_where_true (map (λ r. keep r.layer) rows)) (sym is_layers)
+              ∙ where_filter (λ r. keep r.layer) (λ r. r.layer) rows
+              ∙ ap layers_of gone;
           right = ap (λ fs. items_where_true fs contents) flags
-          ∙ ap (items_where_true (map (λ r. keep r.layer) rows)) (sym (holdings_of-joined layers contents same))
-          ∙ where_filter (λ r. keep r.layer) (λ r. r.content) rows
-          ∙ ap holdings_of gone;
+              ∙ ap (items_where_true (map (λ r. keep r.layer) rows)) (sym (holdings_of-joined layers contents same))
+              ∙ where_filter (λ r. keep r.layer) (λ r. r.content) rows
+              ∙ ap holdings_of gone;
         }
       where
         where_filter : {B : Type 0} (test : Row X → Bool) (f : Row X → B) (rows : List (Row X)) → items_where_true (map test rows) (map f rows) ≡ map f (filter test rows)

@@ -60,9 +60,9 @@ module _ {X : Type 0} (flags : List Bool) (xs ys : List X) (k i : ℕ) (h : Sift
       let rest : drop (i + 1) zs ≡ drop (i + 1) ys = ap (drop (i + 1)) sets ∙ drop-set-lt (i + 1) _ i _ (omega arith) ∙ drop-set-lt (i + 1) ys k _ (omega (arith, h.behind)) in
       record {
         front = take_more zs k d (omega (arith, long, h.long, h.behind))
-        ∙ ap (λ l. l ++ get_or zs k d ∷ []) front
-        ∙ ap (λ x. take k ys ++ x ∷ []) (swapped.0 d)
-        ∙ kept_more d true is;
+            ∙ ap (λ l. l ++ get_or zs k d ∷ []) front
+            ∙ ap (λ x. take k ys ++ x ∷ []) (swapped.0 d)
+            ∙ kept_more d true is;
         rest = rest ∙ same_rest d;
         behind = omega (arith, h.behind);
         long = long ∙ h.long;

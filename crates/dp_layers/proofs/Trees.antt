@@ -169,7 +169,7 @@ module _ (rows : List LayerRow) (r : LayerRow) (tree : IsLayerTree rows) (named 
         distinct = AreDistinct-append rows (r ∷ []) tree.distinct single apart;
         numbered = numbered;
         parents = All-push (λ row. is_root_or_group (rows ++ r ∷ []) row.parent ≡ true) rows r
-        (λ k d in_list. more_holder (get_or rows k d).parent (tree.parents k d in_list)) (more_holder r.parent holder);
+            (λ k d in_list. more_holder (get_or rows k d).parent (tree.parents k d in_list)) (more_holder r.parent holder);
         apart = apart_from (rows ++ r ∷ []) numbered within;
         within = within;
         few = omega (arith, length_push rows r, few);
@@ -198,7 +198,7 @@ module _ (f : LayerRow → LayerRow) (keeps_id : (row : LayerRow) → (f row).id
         distinct = (let P : List ℕ → Type 0 = λ is. IsDistinct ◌==◌ is in subst P (sym (ids_of-map rows)) tree.distinct);
         numbered = numbered;
         parents = All-map (λ row. is_root_or_group (map f rows) row.parent ≡ true) f rows
-        (λ k d in_list. ap (λ b. (f (get_or rows k d)).parent == 0 || b) (group-map (f (get_or rows k d)).parent) ∙ parents k d in_list);
+            (λ k d in_list. ap (λ b. (f (get_or rows k d)).parent == 0 || b) (group-map (f (get_or rows k d)).parent) ∙ parents k d in_list);
         apart = apart_from (map f rows) numbered within;
         within = within;
         few = omega (arith, length-map rows f, tree.few);
@@ -237,7 +237,7 @@ module _ (rows : List LayerRow) (id above : ℕ) (place : IsPlace rows id above)
         distinct = AreDistinct-placed rows id above tree.distinct;
         numbered = numbered;
         parents = All-placed (λ row. is_root_or_group now row.parent ≡ true) has_id rows id above (λ k d in_list.
-        ap (λ o. (get_or rows k d).parent == 0 || option_map_or (λ row. row.group) o false) (found (get_or rows k d).parent) ∙ tree.parents k d in_list);
+            ap (λ o. (get_or rows k d).parent == 0 || option_map_or (λ row. row.group) o false) (found (get_or rows k d).parent) ∙ tree.parents k d in_list);
         apart = apart_from now numbered within;
         within = within;
         few = omega (arith, length-placed has_id rows id above, tree.few);
@@ -289,8 +289,11 @@ module _ (rows : List LayerRow) (id : ℕ) (present : has_row rows id ≡ true) 
       ⊎_elim
       (λ (zero : up ≡ 0). inl zero)
       (λ (ok : has_row rows up ≡ true).
-      inr (ok, not_from_false (is_in rows up id)
-      (or_from (up == id) (is_below 16 rows up id) parts.0 (is_below-more 15 rows up id root named higher parts.1))))
+      inr (
+        ok,
+        not_from_false (is_in rows up id)
+            (or_from (up == id) (is_below 16 rows up id) parts.0 (is_below-more 15 rows up id root named higher parts.1)),
+      ))
       (up_is_there rows tree.parents x)
     where
       found_within : (o : Option LayerRow) → row_of rows x ≡ o → is_within 16 rows x ≡ true
@@ -321,8 +324,8 @@ module _ (rows : List LayerRow) (id : ℕ) (present : has_row rows id ≡ true) 
         distinct = AreDistinct-filter keep rows tree.distinct;
         numbered = numbered;
         parents = All-kept (λ row. is_root_or_group left row.parent ≡ true) keep rows (λ k d in_list kept.
-        holder (get_or rows k d) (tree.parents k d in_list)
-        (parent_left k d in_list kept));
+            holder (get_or rows k d) (tree.parents k d in_list)
+            (parent_left k d in_list kept));
         apart = apart_from left numbered within;
         within = within;
         few = omega (arith, length-filter_both keep (λ row. not (keep row)) (λ _. refl) rows, tree.few);

@@ -28,7 +28,9 @@ ghost use Rattle.dp_layers.specs.Changes.{
 ghost use Rattle.dp_layers.specs.Tree.{IsTree};
 
 use crate::lists::{carry, filling, keep_where, push_both, set_parent};
-use crate::lookup::{can_create, can_stand, has_row, is_listed_mode, place_behind, place_of, stay_flags};
+use crate::lookup::{
+    can_create, can_stand, has_row, is_listed_mode, place_behind, place_of, stay_flags,
+};
 use crate::row::LayerRow;
 use dp_msg_draw::Draw;
 use std::alloc::{AllocError, Global};
@@ -91,7 +93,9 @@ impl<X: Drop> Tree<X> {
         ensures old { content_of self.old id ≡ Some result }
         ensures new { self.new ≡ with_content self.old id x }
     {
-        let Some(place) = place_of(&self.layers, id) else { unreachable!() };
+        let Some(place) = place_of(&self.layers, id) else {
+            unreachable!()
+        };
         match self.contents[place].replace(x) {
             Some(old) => old,
             None => unreachable!(),
@@ -181,7 +185,9 @@ impl<X: Drop> Tree<X> {
         ensures ok { OnOk result (self.new ≡ rows_after self.old op.now None) }
         ensures err { OnErr result (self.new ≡ self.old) }
     {
-        let Draw::LayerTitle { id, title } = op else { unreachable!() };
+        let Draw::LayerTitle { id, title } = op else {
+            unreachable!()
+        };
         let Some(at) = place_of(&self.layers, *id) else {
             return Ok(false);
         };
@@ -200,7 +206,9 @@ impl<X: Drop> Tree<X> {
         ensures effect { result ≡ Ok (has_effect (layers_of self.old) op.now) }
         ensures rows { self.new ≡ rows_after self.old op.now None }
     {
-        let Draw::LayerMove { id, parent, above } = op else { unreachable!() };
+        let Draw::LayerMove { id, parent, above } = op else {
+            unreachable!()
+        };
         let Some(from) = place_of(&self.layers, *id) else {
             return Ok(false);
         };
@@ -228,7 +236,9 @@ impl<X: Drop> Tree<X> {
         ensures ok { OnOk result (self.new ≡ rows_after self.old op.now None) }
         ensures err { OnErr result (self.new ≡ self.old) }
     {
-        let Draw::LayerDelete { id } = op else { unreachable!() };
+        let Draw::LayerDelete { id } = op else {
+            unreachable!()
+        };
         if !has_row(&self.layers, *id) {
             return Ok(false);
         }

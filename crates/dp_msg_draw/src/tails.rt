@@ -29,7 +29,11 @@ impl Rest for Title {
     }
 }
 
-pub(crate) fn put_title<P: Part>(part: &P, title: &Title, out: &mut Vec<u8>) -> Result<(), AllocError>
+pub(crate) fn put_title<P: Part>(
+    part: &P,
+    title: &Title,
+    out: &mut Vec<u8>,
+) -> Result<(), AllocError>
     ensures spelled { OnOk result (out.new.items ≡ out.old.items ++ (P.spelling part.now ++ title.now)) }
     ensures short { length title.now ≤ 255 }
 {
@@ -128,7 +132,11 @@ impl Rest for TileContent {
 }
 
 #[tactic(auto, using(crate::proofs::Sequences::length_of_colors))]
-pub(crate) fn put_colors<P: Part>(part: &P, colors: &Colors, out: &mut Vec<u8>) -> Result<(), AllocError>
+pub(crate) fn put_colors<P: Part>(
+    part: &P,
+    colors: &Colors,
+    out: &mut Vec<u8>,
+) -> Result<(), AllocError>
     ensures spelled { OnOk result (out.new.items
         ≡ out.old.items ++ (P.spelling part.now ++ flat_map four_bytes colors.now)) }
     ensures short { length (flat_map four_bytes colors.now) ≤ 65516 }

@@ -11,9 +11,9 @@ loop-place-preserved g c =
     let short : c.loop-place.place < length flags = c.loop-place-test.true in
     let within : c.loop-place.place < length was = omega (arith, c.requires, c.args.items.now.ok.0) in
     elim c.if-keeps.branch [
-      then-keeps w ↦ rw (w.items-is, w.kept-is)
-      (sift_yes flags was before c.loop-place.kept c.loop-place.place c.loop-place.invariant short within
-      w.swap.new.self.items w.if-keeps.true w.swap.ensures.by_index)
-    | else-keeps w ↦ rw (w.items-is, w.kept-is)
-      (sift_no flags was before c.loop-place.kept c.loop-place.place c.loop-place.invariant short within w.if-keeps.false)
+      | then-keeps w ↦ rw (w.items-is, w.kept-is)
+          (sift_yes flags was before c.loop-place.kept c.loop-place.place c.loop-place.invariant short within
+          w.swap.new.self.items w.if-keeps.true w.swap.ensures.by_index)
+      | else-keeps w ↦ rw (w.items-is, w.kept-is)
+          (sift_no flags was before c.loop-place.kept c.loop-place.place c.loop-place.invariant short within w.if-keeps.false)
     ]
