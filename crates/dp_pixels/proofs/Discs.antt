@@ -34,9 +34,10 @@ in_disc size i j =
 -- a square that fits in what another one leaves
 within_root : (a down size root : ℕ) → down * down ≤ size * size → root * root ≤ size * size - down * down → size * size - down * down < (root + 1) * (root + 1)
     → (a * a + down * down ≤ size * size) ↔ (a ≤ root)
-within_root a down size root fits low high =
-    (λ inside. ⊎_elim (λ (over : root < a). let more = square_mono (root + 1) a (omega arith) in absurd (omega arith)) (λ (within : a ≤ root). within) (cases_lt root a),
-    λ within. let less = square_mono a root within in omega arith)
+within_root a down size root fits low high = (
+  λ inside. ⊎_elim (λ (over : root < a). let more = square_mono (root + 1) a (omega arith) in absurd (omega arith)) (λ (within : a ≤ root). within) (cases_lt root a),
+  λ within. let less = square_mono a root within in omega arith,
+)
 
 -- the cells of a row of the disc are those between two ends
 pub disc_cells : (size i j down root : ℕ) → i < size → j < size → down ≡ abs_diff (2 * j + 1) size → root * root ≤ size * size - down * down → size * size - down * down < (root + 1) * (root + 1)
@@ -48,12 +49,13 @@ disc_cells size i j down root in_size row is_down low high =
     let test = in_disc size i j in
     let root_test = within_root (abs_diff (2 * i + 1) size) down size root fits low high in
     let to_sum = λ (n : ℕ). abs_diff (2 * i + 1) size * abs_diff (2 * i + 1) size + n * n in
-    let rows : to_sum down ≡ to_sum (abs_diff (2 * j + 1) size) = ap to_sum is_down in
-    (λ inside.
-    let near_middle = root_test.0 (omega (arith, test.0 inside, rows)) in
-    (omega (arith, near_middle), omega (arith, near_middle)),
-    λ ends.
-    let from = ends.0 in
-    let before = ends.1 in
-    let near_middle : abs_diff (2 * i + 1) size ≤ root = omega arith in
-    test.1 (omega (arith, root_test.1 near_middle, rows)))
+    let rows : to_sum down ≡ to_sum (abs_diff (2 * j + 1) size) = ap to_sum is_down in (
+      λ inside.
+          let near_middle = root_test.0 (omega (arith, test.0 inside, rows)) in
+          (omega (arith, near_middle), omega (arith, near_middle)),
+      λ ends.
+          let from = ends.0 in
+          let before = ends.1 in
+          let near_middle : abs_diff (2 * i + 1) size ≤ root = omega arith in
+          test.1 (omega (arith, root_test.1 near_middle, rows)),
+    )

@@ -45,18 +45,20 @@ clipped_in a b x y h =
     let x0 = h.x0 in
     let x1 = h.x1 in
     let y0 = h.y0 in
-    let y1 = h.y1 in
-    (record {
-      x0 = omega (arith, ints, int_max_is a.x0 b.x0);
-      x1 = omega (arith, ints, int_min_is a.x1 b.x1);
-      y0 = omega (arith, ints, int_max_is a.y0 b.y0);
-      y1 = omega (arith, ints, int_min_is a.y1 b.y1);
-    }, record {
-      x0 = omega (arith, ints, int_max_is a.x0 b.x0);
-      x1 = omega (arith, ints, int_min_is a.x1 b.x1);
-      y0 = omega (arith, ints, int_max_is a.y0 b.y0);
-      y1 = omega (arith, ints, int_min_is a.y1 b.y1);
-    })
+    let y1 = h.y1 in (
+      record {
+        x0 = omega (arith, ints, int_max_is a.x0 b.x0);
+        x1 = omega (arith, ints, int_min_is a.x1 b.x1);
+        y0 = omega (arith, ints, int_max_is a.y0 b.y0);
+        y1 = omega (arith, ints, int_min_is a.y1 b.y1);
+      },
+      record {
+        x0 = omega (arith, ints, int_max_is a.x0 b.x0);
+        x1 = omega (arith, ints, int_min_is a.x1 b.x1);
+        y0 = omega (arith, ints, int_max_is a.y0 b.y0);
+        y1 = omega (arith, ints, int_min_is a.y1 b.y1);
+      },
+    )
 
 pub clipped_by : (a b : Rect) (x y : ℤ) → IsIn a x y → IsIn b x y → IsIn (clipped a b) x y
 clipped_by a b x y h k =

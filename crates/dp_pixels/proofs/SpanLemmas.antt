@@ -14,11 +14,12 @@ same_test false false to from = refl
 
 -- the test of a column
 pub in_span : (span : Span) (k : ℕ) → ((leb span.start k && ltb k span.end) ≡ true) ↔ IsInSpan span k
-in_span span k =
-    (λ test.
-    let both = and_parts (leb span.start k) (ltb k span.end) test in
-    record { start = leb-true span.start k both.0; end = ltb-true k span.end both.1 },
-    λ inside.
-    let start = inside.start in
-    let end = inside.end in
-    grind (arith, nat_tests))
+in_span span k = (
+  λ test.
+      let both = and_parts (leb span.start k) (ltb k span.end) test in
+      record { start = leb-true span.start k both.0; end = ltb-true k span.end both.1 },
+  λ inside.
+      let start = inside.start in
+      let end = inside.end in
+      grind (arith, nat_tests),
+)

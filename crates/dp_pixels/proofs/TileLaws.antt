@@ -41,16 +41,17 @@ rows_between width col row repeat x y in_x is =
     let on_canvas = is.on_canvas in
     let from = is.from in
     let to = is.to in
-    let column : x / 64 < cols = omega arith in
-    (⊎_elim
-    (λ (over : y / 64 < row). let rows : (y / 64 + 1) * cols ≤ row * cols = mul-le-mul_right cols (omega arith) in absurd (omega arith))
-    (λ (from_row : row ≤ y / 64). from_row)
-    (cases_lt (y / 64) row),
-    ⊎_elim
-    (λ (over : (tile_number width col row + repeat) / cols < y / 64).
-    let rows : ((tile_number width col row + repeat) / cols + 1) * cols ≤ y / 64 * cols = mul-le-mul_right cols (omega arith) in absurd (omega arith))
-    (λ (to_row : y / 64 ≤ (tile_number width col row + repeat) / cols). to_row)
-    (cases_lt ((tile_number width col row + repeat) / cols) (y / 64)))
+    let column : x / 64 < cols = omega arith in (
+      ⊎_elim
+          (λ (over : y / 64 < row). let rows : (y / 64 + 1) * cols ≤ row * cols = mul-le-mul_right cols (omega arith) in absurd (omega arith))
+          (λ (from_row : row ≤ y / 64). from_row)
+          (cases_lt (y / 64) row),
+      ⊎_elim
+          (λ (over : (tile_number width col row + repeat) / cols < y / 64).
+          let rows : ((tile_number width col row + repeat) / cols + 1) * cols ≤ y / 64 * cols = mul-le-mul_right cols (omega arith) in absurd (omega arith))
+          (λ (to_row : y / 64 ≤ (tile_number width col row + repeat) / cols). to_row)
+          (cases_lt ((tile_number width col row + repeat) / cols) (y / 64)),
+    )
 
 -- it is in the rectangle of the tiles
 tile_in_rect : (width col row repeat x y : ℕ) → x < width → IsBetween width col row repeat x y → IsIn (tiles_rect width col row repeat) (pos x) (pos y)

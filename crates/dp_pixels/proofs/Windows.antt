@@ -64,7 +64,7 @@ pub painted_then : (window : Window) (stride : ℕ) (f g : ℤ → ℤ → Chann
 painted_then window stride f g old now new first next = record {
   len = next.len ∙ first.len;
   inside = λ i j d in_x in_y.
-  next.inside i j d in_x in_y ∙ ap (g (pos (window.x + i)) (pos (window.y + j))) (first.inside i j d in_x in_y);
+      next.inside i j d in_x in_y ∙ ap (g (pos (window.x + i)) (pos (window.y + j))) (first.inside i j d in_x in_y);
   outside = λ k d apart. next.outside k d apart ∙ first.outside k d apart;
 }
 

@@ -8,8 +8,7 @@ ghost use Rattle.dp_pixels.specs.Windows.{IsPainted};
 
 use crate::draw::draw_window;
 use crate::window::Window;
-use dp_blend::{equal_pixels_at_each_place, length_of_canvas, pixel_of_canvas};
-use dp_blend::Pixel;
+use dp_blend::{Pixel, equal_pixels_at_each_place, length_of_canvas, pixel_of_canvas};
 use dp_msg_draw::Draw;
 use std::alloc::{AllocError, Global};
 

@@ -157,22 +157,68 @@ pub fn draw_window(op: &Draw, window: &Window, stride: usize, pixels: &mut [Pixe
         pixels.old pixels.new }
 {
     match op {
-        Draw::FillRect { mode, x, y, w, h, color, .. } => {
+        Draw::FillRect {
+            mode,
+            x,
+            y,
+            w,
+            h,
+            color,
+            ..
+        } => {
             let area = rect_of(*x, *y, *w, *h);
             fill_window(*mode, area, *color, window, stride, pixels);
         }
-        Draw::PutImage { mode, x, y, w, h, colors, .. } => {
-            let image = Image { x: *x, y: *y, w: *w, h: *h, colors: colors.as_slice() };
+        Draw::PutImage {
+            mode,
+            x,
+            y,
+            w,
+            h,
+            colors,
+            ..
+        } => {
+            let image = Image {
+                x: *x,
+                y: *y,
+                w: *w,
+                h: *h,
+                colors: colors.as_slice(),
+            };
             image_window(*mode, image, window, stride, pixels);
         }
-        Draw::PutTile { col, row, repeat, content, .. } => {
+        Draw::PutTile {
+            col,
+            row,
+            repeat,
+            content,
+            ..
+        } => {
             tile_window(*col, *row, *repeat, content, window, stride, pixels);
         }
-        Draw::DabsRound { x, y, r, g, b, mode, dabs, .. } => {
+        Draw::DabsRound {
+            x,
+            y,
+            r,
+            g,
+            b,
+            mode,
+            dabs,
+            ..
+        } => {
             let stroke = stroke_of(Shape::Round, *x, *y, dabs);
             stroke_window(*mode, opaque(*r, *g, *b), stroke, window, stride, pixels);
         }
-        Draw::DabsSquare { x, y, r, g, b, mode, dabs, .. } => {
+        Draw::DabsSquare {
+            x,
+            y,
+            r,
+            g,
+            b,
+            mode,
+            dabs,
+            ..
+        } => {
             let stroke = stroke_of(Shape::Square, *x, *y, dabs);
             stroke_window(*mode, opaque(*r, *g, *b), stroke, window, stride, pixels);
         }

@@ -44,7 +44,7 @@ impl Paint for Patch<'_> {
     ghost change = { λ p x y old.
         if is_in (rect_at p.corner.x p.corner.y p.w p.h) x y
         then blend BlendMode.Normal
-            (slice_index_or p.pixels.now (image_index p.corner.x p.corner.y p.w x y) clear) old
+        (slice_index_or p.pixels.now (image_index p.corner.x p.corner.y p.w x y) clear) old
         else old };
 
     fn bounds(&self) -> Rect {

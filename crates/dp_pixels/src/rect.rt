@@ -62,10 +62,7 @@ impl Rect {
         ensures columns { pos result.0 ≡ place.x -ℤ self.x0 }
         ensures rows { pos result.1 ≡ place.y -ℤ self.y0 }
     {
-        (
-            (place.x - self.x0) as usize,
-            (place.y - self.y0) as usize,
-        )
+        ((place.x - self.x0) as usize, (place.y - self.y0) as usize)
     }
 
     /// The places that are in both rectangles.

@@ -120,7 +120,7 @@ impl TileRun<'_> {
         ensures { (x : ℕ) → IsInSpan result x ↔
             ((tile_number self.now.width self.now.col self.now.row ≤ tile_number self.now.width (x / 64) tile_row)
             × (tile_number self.now.width (x / 64) tile_row
-                ≤ tile_number self.now.width self.now.col self.now.row + self.now.repeat)) }
+            ≤ tile_number self.now.width self.now.col self.now.row + self.now.repeat)) }
     {
         let before = tile_row * tiles_along(self.width);
         let first = self.first();

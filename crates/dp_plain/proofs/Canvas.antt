@@ -6,7 +6,7 @@ use Rattle.std.proofs.lemmas.Nat.{div-add-mod', div_below, mod_below}
 use Rattle.std.proofs.Math.Nat.{mul_comm}
 use Rattle.std.specs.List.{range_with_len, flat_map}
 use Rattle.dp_blend.specs.Color.{Channels, clear}
-use Rattle.dp_plain.specs.Board.{below, canvas_of, pixel_at}
+use Rattle.dp_blend.specs.Canvas.{below, canvas_of, pixel_at}
 
 -- ---- pieces of one length, joined
 

@@ -1,5 +1,4 @@
 pub mod Canvas
-pub mod Fills
 pub mod Moves
 pub mod Resizes
 pub mod Whole
@@ -7,3 +6,4 @@ pub mod Pieces
 pub mod Places
 pub mod Prefixes
 pub mod Replays
+pub mod Paints

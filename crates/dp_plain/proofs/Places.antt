@@ -5,7 +5,8 @@ use Rattle.std.proofs.lemmas.Grind.{flat_map-append}
 use Rattle.std.proofs.lemmas.List.{map-append, append-nil}
 use Rattle.std.specs.List.{range_with_len, flat_map}
 use Rattle.dp_blend.specs.Color.{Channels}
-use Rattle.dp_plain.specs.Board.{Layer, Board, below, canvas_of}
+use Rattle.dp_plain.specs.Board.{Layer, Board}
+use Rattle.dp_blend.specs.Canvas.{below, canvas_of}
 use Rattle.dp_plain.specs.Picture.{picture, head, picture_text}
 use Rattle.dp_plain.specs.Places.{seen_at, text_from}
 

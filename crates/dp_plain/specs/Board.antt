@@ -1,9 +1,8 @@
 -- The board that commands are drawn on: a canvas of layers, each with its pixels.
-use Rattle.std.specs.Prelude.{◌≡◌, ◌≢◌, ◌↔◌, ℕ, ◌+◌, ◌*◌, ◌≤◌, Option, List, [], length, map}
-use Rattle.std.specs.Prelude.{slice_index_or, unwrap_or, All, AllPairs}
-use Rattle.std.specs.List.{range_with_len, flat_map}
+use Rattle.std.specs.Prelude.{◌≡◌, ◌≢◌, ◌↔◌, ℕ, ◌*◌, ◌≤◌, Option, List, [], length, map}
+use Rattle.std.specs.Prelude.{unwrap_or, All, AllPairs}
 use Rattle.std.specs.Option.{ForSome}
-use Rattle.dp_blend.specs.Color.{Channels, clear}
+use Rattle.dp_blend.specs.Color.{Channels}
 
 -- A layer: its id, its title, and its content: its pixels, row by row from the top, each from the
 -- left. None is for a group, which has no pixels of its own; none is built yet.
@@ -21,18 +20,6 @@ pub record Board : Type 0 where
 -- the board before anything is drawn
 abbrev pub empty_board : Board
 empty_board = record { width = 0; height = 0; layers = [] }
-
--- the numbers below n, in order
-abbrev pub below : ℕ → List ℕ
-below n = range_with_len 0 n
-
--- the pixels of a canvas of this width and height that has pixel x y at each place, row by row
-abbrev pub canvas_of : ℕ → ℕ → (ℕ → ℕ → Channels) → List Channels
-canvas_of width height pixel = flat_map (λ y. map (λ x. pixel x y) (below width)) (below height)
-
--- the pixel at a place of a canvas of this width
-abbrev pub pixel_at : ℕ → List Channels → ℕ → ℕ → Channels
-pixel_at width pixels x y = slice_index_or pixels (y * width + x) clear
 
 -- the layer's pixels, none of a group
 abbrev pub pixels_of : Layer → List Channels

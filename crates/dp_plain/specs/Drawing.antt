@@ -4,12 +4,14 @@ use Rattle.std.specs.Prelude.{ℕ, ◌+◌, ℤ, pos, negsuc, ◌+ℤ◌, ◌-�
 use Rattle.std.specs.Prelude.{nat_lt, nat_le, if◌then◌else◌, Option, None, Some, option_map}
 use Rattle.std.specs.Prelude.{List, [], ◌∷◌, ◌++◌, length, map}
 use Rattle.std.specs.List.{list_any, fold}
-use Rattle.dp_blend.specs.Color.{Channels, clear, of_argb}
-use Rattle.dp_blend.specs.Blending.{blend, mode_numbered}
-use Rattle.dp_blend.specs.declared.modes.Mode.{Mode}
+use Rattle.dp_blend.specs.Color.{Channels, clear}
 use Rattle.dp_msg_draw.specs.declared.draw.Draw.{Draw}
-use Rattle.dp_msg_draw.specs.declared.draw.Draw.TheVariants.{CanvasResize, LayerCreate, FillRect}
-use Rattle.dp_plain.specs.Board.{Layer, Board, canvas_of, pixel_at}
+use Rattle.dp_msg_draw.specs.declared.draw.Draw.TheVariants.{CanvasResize, LayerCreate, PutImage, FillRect}
+use Rattle.dp_msg_draw.specs.declared.draw.Draw.TheVariants.{PutTile, DabsRound, DabsSquare, MoveRect}
+use Rattle.dp_pixels.specs.Drawing.{pixels_after}
+use Rattle.std.specs.Option.{option_map_or}
+use Rattle.dp_plain.specs.Board.{Layer, Board}
+use Rattle.dp_blend.specs.Canvas.{canvas_of, pixel_at}
 
 -- A side of the canvas is from 1 to 4096 pixels long.
 abbrev pub is_side : ℤ → Bool
@@ -77,17 +79,6 @@ created board id parent group title =
     then record board { layers = board.layers ++ layer ∷ [] }
     else board
 
--- a place is in the rectangle of this corner and these sides
-abbrev pub is_inside : ℕ → ℕ → ℕ → ℕ → ℕ → ℕ → Bool
-is_inside x y w h px py = nat_le x px && nat_lt px (x + w) && nat_le y py && nat_lt py (y + h)
-
--- the source is blended with each pixel of the rectangle
-abbrev pub pixels_filled : ℕ → ℕ → List Channels → Mode → Channels → ℕ → ℕ → ℕ → ℕ → List Channels
-pixels_filled width height pixels mode source x y w h =
-    canvas_of width height (λ px py.
-    let old = pixel_at width pixels px py in
-    if is_inside x y w h px py then blend mode source old else old)
-
 -- the layer, with what change makes of its pixels where it has the id
 abbrev pub with_change : ℕ → (List Channels → List Channels) → Layer → Layer
 with_change id change layer = if layer.id == id then changed change layer else layer
@@ -96,20 +87,25 @@ with_change id change layer = if layer.id == id then changed change layer else l
 abbrev pub layer_changed : Board → ℕ → (List Channels → List Channels) → Board
 layer_changed board id change = record board { layers = map (with_change id change) board.layers }
 
--- the colour's pixel is blended by the mode, if it is one, with each pixel of the rectangle on the
--- layer of the id
-abbrev pub filled : Board → ℕ → Option Mode → ℕ → ℕ → ℕ → ℕ → ℕ → Board
-filled board id None x y w h color = board
-filled board id (Some mode) x y w h color =
-    layer_changed board id (λ pixels.
-    pixels_filled board.width board.height pixels mode (of_argb color) x y w h)
+-- the id of the layer whose pixels a command changes
+abbrev pub painted_layer : Draw → Option ℕ
+painted_layer (PutImage layer mode x y w h colors) = Some layer
+painted_layer (FillRect layer mode x y w h color) = Some layer
+painted_layer (PutTile layer col row repeat content) = Some layer
+painted_layer (DabsRound layer x y r g b mode dabs) = Some layer
+painted_layer (DabsSquare layer x y r g b mode dabs) = Some layer
+painted_layer (MoveRect layer sx sy w h tx ty) = Some layer
+painted_layer _ = None
+
+-- the pixels of the layer of the id become what the command makes of them
+abbrev pub painted : Board → Draw → ℕ → Board
+painted board op id = layer_changed board id (pixels_after board.width board.height op)
 
 -- the board after the command
 abbrev pub draw : Board → Draw → Board
 draw board (CanvasResize top right bottom left) = resized board top right bottom left
 draw board (LayerCreate id parent group title) = created board id parent group title
-draw board (FillRect id mode x y w h color) = filled board id (mode_numbered mode) x y w h color
-draw board _ = board
+draw board op = option_map_or (painted board op) (painted_layer op) board
 
 -- the commands drawn one after the other
 abbrev pub draw_all : Board → List Draw → Board

@@ -1,6 +1,5 @@
 pub mod Board
 pub mod Drawing
-pub mod Filling
 pub mod Moving
 pub mod Picture
 pub mod Places

@@ -2,7 +2,8 @@
 use Rattle.std.specs.Prelude.{ℕ, ℤ, pos, negsuc, ◌-ℤ◌, List, map, slice_index_or}
 use Rattle.dp_blend.specs.Color.{Channels, clear}
 use Rattle.dp_plain.specs.declared.geometry.Resize.{Resize}
-use Rattle.dp_plain.specs.Board.{Layer, below}
+use Rattle.dp_plain.specs.Board.{Layer}
+use Rattle.dp_blend.specs.Canvas.{below}
 use Rattle.dp_plain.specs.Drawing.{pixels_moved, layer_moved}
 
 -- the pixel at a place of a row, clear outside it

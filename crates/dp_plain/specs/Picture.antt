@@ -4,7 +4,8 @@ use Rattle.std.specs.List.{flat_map, fold}
 use Rattle.dp_blend.specs.Color.{Channels, clear, white, to8}
 use Rattle.dp_blend.specs.Blending.{blend}
 use Rattle.dp_blend.specs.declared.modes.Mode.TheVariants.{Normal}
-use Rattle.dp_plain.specs.Board.{Layer, Board, canvas_of, pixel_at, pixels_of}
+use Rattle.dp_plain.specs.Board.{Layer, Board, pixels_of}
+use Rattle.dp_blend.specs.Canvas.{canvas_of, pixel_at}
 
 -- the layers of these pixels, from the bottom one up, each blended on what is below it, the lowest
 -- on the pixel start

@@ -21,9 +21,14 @@ fn is_built_command(command: &Draw) -> bool
     ensures { result ≡ is_built_command command.now }
 {
     match command {
-        Draw::CanvasResize { .. } => true,
+        Draw::CanvasResize { .. }
+        | Draw::PutImage { .. }
+        | Draw::FillRect { .. }
+        | Draw::PutTile { .. }
+        | Draw::DabsRound { .. }
+        | Draw::DabsSquare { .. }
+        | Draw::MoveRect { .. } => true,
         Draw::LayerCreate { parent, group, .. } => *parent == 0 && !*group,
-        Draw::FillRect { mode, .. } => *mode == 1,
         _ => false,
     }
 }

@@ -2,15 +2,14 @@
 
 ghost use Rattle.std.specs.Prelude.{◌≡◌, ◌≤◌, IfOk, OnOk, OnErr};
 ghost use Rattle.dp_blend.specs.Color.{clear};
-ghost use Rattle.dp_blend.specs.Blending.{mode_numbered};
-ghost use Rattle.dp_plain.specs.Board.{canvas_of};
-ghost use Rattle.dp_plain.specs.Drawing.{draw, resized, has_layer, can_create, created, filled};
+ghost use Rattle.dp_blend.specs.Canvas.{canvas_of};
+ghost use Rattle.dp_plain.specs.Drawing.{draw, resized, has_layer, can_create, created, painted};
 
 use crate::board::{PlainBoard, PlainLayer};
-use crate::fill::fill_layers;
-use crate::geometry::{Rectangle, Resize, Sides};
+use crate::geometry::Resize;
+use crate::paint::paint_layers;
 use crate::resize::{moved_layers, new_side};
-use dp_blend::{Mode, Pixel, of_argb};
+use dp_blend::Pixel;
 use dp_msg_draw::{Draw, Title};
 use std::alloc::{AllocError, Global};
 
@@ -50,24 +49,12 @@ impl PlainBoard {
                 group,
                 title,
             } => self.create(*id, *parent, *group, title),
-            Draw::FillRect {
-                layer,
-                mode,
-                x,
-                y,
-                w,
-                h,
-                color,
-            } => {
-                let area = Rectangle {
-                    x: *x,
-                    y: *y,
-                    w: *w,
-                    h: *h,
-                };
-                self.fill(*layer, *mode, area, *color);
-                Ok(())
-            }
+            Draw::PutImage { layer, .. }
+            | Draw::FillRect { layer, .. }
+            | Draw::PutTile { layer, .. }
+            | Draw::DabsRound { layer, .. }
+            | Draw::DabsSquare { layer, .. }
+            | Draw::MoveRect { layer, .. } => self.paint(*layer, command),
             _ => Ok(()),
         }
     }
@@ -130,17 +117,19 @@ impl PlainBoard {
         Ok(())
     }
 
-    /// Fills the rectangle on the layer of this id, if the mode is one.
-    fn fill(&mut self, id: u16, mode: u8, area: Rectangle, color: u32)
-        ensures { self.new
-            ≡ filled self.old id (mode_numbered mode) area.x area.y area.w area.h color }
+    /// Draws the command on the pixels of the layer of this id.
+    fn paint(&mut self, id: u16, command: &Draw) -> Result<(), AllocError>
+        ensures ok { OnOk result (self.new ≡ painted self.old command.now id) }
+        ensures err { OnErr result (self.new ≡ self.old) }
     {
-        let sides = Sides {
-            width: self.width as usize,
-            height: self.height as usize,
-        };
-        if let Some(mode) = Mode::from_u8(mode) {
-            fill_layers(&mut self.layers, sides, id, mode, of_argb(color), area);
-        }
+        let alloc = *self.layers.allocator();
+        paint_layers(
+            alloc,
+            &mut self.layers,
+            self.width,
+            self.height,
+            id,
+            command,
+        )
     }
 }

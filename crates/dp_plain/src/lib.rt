@@ -4,8 +4,8 @@
 mod board;
 mod built;
 mod draw;
-mod fill;
 mod geometry;
+mod paint;
 mod picture;
 mod replay;
 mod resize;

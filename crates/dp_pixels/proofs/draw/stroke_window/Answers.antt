@@ -18,7 +18,7 @@ loop-dab-preserved c =
     record {
       last = next.last;
       drawn = dabs_more c.args.window.now c.args.stride s.shape c.in-Some.mode c.args.color (placed_dabs s.at.x s.at.y s.dabs.now) c.loop-dab.dab-index c.behind-placed.result
-      c.args.pixels.now c.loop-dab.pixels c.dab_window.new.pixels next.within next.is c.loop-dab.invariant.drawn c.dab_window.ensures;
+          c.args.pixels.now c.loop-dab.pixels c.dab_window.new.pixels next.within next.is c.loop-dab.invariant.drawn c.dab_window.ensures;
     }
 
 pub returns : goal.returns

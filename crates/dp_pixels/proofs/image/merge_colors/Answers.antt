@@ -27,15 +27,15 @@ loop-start-preserved c =
       chunk = omega (arith, length-append c.put_sources.new.sources (drop size sources), length-drop size sources);
       within = omega (arith, whole);
       merged = λ k d in_row.
-      merged_more c.args.mode colors c.args.row.now old c.row_merge.new.row start end k d order fits (omega (arith, whole)) (c.row_merge.auto.row ∙ part_len)
-      (λ n in_part.
-      c.row_merge.ensures.places n d d (omega (arith, part_len))
-      ∙ ap (λ (p : Channels). blend c.args.mode p (get_or (mid_of start size old) n d))
-      (ap (λ (p : Channels). fade p 32768)
-      (get_or-take size (c.put_sources.new.sources ++ drop size sources) n d in_part
-      ∙ (get_or_append_left c.put_sources.new.sources (drop size sources) d n (omega (arith, put_len))
-      ∙ (c.put_sources.ensures n d (omega (arith, length-take size sources))
-      ∙ ap of_argb (get_or-take size (drop start colors) n 0 in_part ∙ get_or-drop start colors n 0))))
-      ∙ fade_one (of_argb (get_or colors (start + n) 0))))
-      (c.loop-start.invariant.merged k d (omega (arith, whole)));
+          merged_more c.args.mode colors c.args.row.now old c.row_merge.new.row start end k d order fits (omega (arith, whole)) (c.row_merge.auto.row ∙ part_len)
+          (λ n in_part.
+          c.row_merge.ensures.places n d d (omega (arith, part_len))
+          ∙ ap (λ (p : Channels). blend c.args.mode p (get_or (mid_of start size old) n d))
+          (ap (λ (p : Channels). fade p 32768)
+          (get_or-take size (c.put_sources.new.sources ++ drop size sources) n d in_part
+          ∙ (get_or_append_left c.put_sources.new.sources (drop size sources) d n (omega (arith, put_len))
+          ∙ (c.put_sources.ensures n d (omega (arith, length-take size sources))
+          ∙ ap of_argb (get_or-take size (drop start colors) n 0 in_part ∙ get_or-drop start colors n 0))))
+          ∙ fade_one (of_argb (get_or colors (start + n) 0))))
+          (c.loop-start.invariant.merged k d (omega (arith, whole)));
     }

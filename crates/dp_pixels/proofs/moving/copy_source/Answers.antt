@@ -23,7 +23,7 @@ loop-j-preserved c =
     record {
       len = ap length items ∙ (length-append copied (take size (drop start pixels)) ∙ omega (arith, length-take size (drop start pixels), length-drop start pixels));
       copied = λ i k d in_w in_rows.
-      ap (λ (l : List Channels). get_or l (k * s.w + i) d) items
-      ∙ copied_more pixels copied (take size (drop start pixels)) width s.x s.y s.w j i k d len
-      (ap (λ (n : ℕ). take n (drop start pixels)) size_is) c.loop-j.invariant.copied in_w in_rows;
+          ap (λ (l : List Channels). get_or l (k * s.w + i) d) items
+          ∙ copied_more pixels copied (take size (drop start pixels)) width s.x s.y s.w j i k d len
+          (ap (λ (n : ℕ). take n (drop start pixels)) size_is) c.loop-j.invariant.copied in_w in_rows;
     }
