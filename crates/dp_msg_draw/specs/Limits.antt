@@ -14,9 +14,8 @@ IsListedMode mode =
 -- the kinds of the drawing messages
 abbrev pub IsDrawKind : ℕ → Type 0
 IsDrawKind kind =
-    (kind ≡ 129) ⊎ (kind ≡ 130) ⊎ (kind ≡ 131) ⊎ (kind ≡ 132) ⊎ (kind ≡ 133) ⊎ (kind ≡ 134)
-    ⊎ (kind ≡ 136) ⊎ (kind ≡ 137) ⊎ (kind ≡ 146) ⊎ (kind ≡ 147)
-    ⊎ (kind ≡ 149) ⊎ (kind ≡ 150) ⊎ (kind ≡ 152)
+    ((129 ≤ kind) × (kind ≤ 134)) ⊎ ((136 ≤ kind) × (kind ≤ 137)) ⊎ ((146 ≤ kind) × (kind ≤ 147))
+    ⊎ ((149 ≤ kind) × (kind ≤ 150)) ⊎ (kind ≡ 152)
 
 -- the kinds of the messages that hold a title, colours, pixels or dabs, the only ones that take memory
 abbrev pub TakesMemory : ℕ → Type 0

@@ -6,6 +6,7 @@ ghost use Rattle.dp_msg_draw.specs.Payloads.{draw_kind};
 
 use crate::lists::{Colors, Dabs, TilePixel, TilePixels, Title};
 use std::alloc::AllocError;
+use std::fmt;
 
 /// What a tile is filled with.
 #[derive(Debug, Drop, PartialEq)]
@@ -18,7 +19,7 @@ pub enum TileContent {
 
 /// A drawing message. Each is relayed to everybody and drawn by each client.
 /// The rule: docs/protocol.md, "Drawing messages".
-#[derive(Debug, Drop, PartialEq)]
+#[derive(Drop, PartialEq)]
 pub enum Draw {
     /// The canvas grows by this many pixels on each side, or shrinks where a number is negative.
     CanvasResize {
@@ -123,6 +124,13 @@ impl TileContent {
             TileContent::Solid(pixel) => TileContent::Solid(*pixel),
             TileContent::Pixels(pixels) => TileContent::Pixels(pixels.copy()?),
         })
+    }
+}
+
+impl fmt::Debug for Draw {
+    /// The kind alone, since a message may be long.
+    fn fmt<W: fmt::Write>(&self, f: &mut fmt::Formatter<W>) -> fmt::Result {
+        write!(f, "Draw of kind {}", kind_of_draw(self))
     }
 }
 

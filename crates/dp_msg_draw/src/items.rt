@@ -19,14 +19,17 @@ impl Part for Dab {
     ghost is_part = { dab_part };
 
     fn take(bytes: &[u8]) -> Option<(Dab, &[u8])> {
-        let [dx, dy, size @ 1.., opacity, rest @ ..] = bytes else {
+        let Some((((dx, dy), (size, opacity)), rest)) = <((u8, u8), (u8, u8))>::take(bytes) else {
             return None;
         };
+        if size == 0 {
+            return None;
+        }
         let dab = Dab {
             dx: dx.cast_signed(),
             dy: dy.cast_signed(),
-            size: *size,
-            opacity: *opacity,
+            size,
+            opacity,
         };
         Some((dab, rest))
     }
@@ -56,7 +59,9 @@ impl Part for TilePixel {
     ghost is_part = { pixel_part };
 
     fn take(bytes: &[u8]) -> Option<(TilePixel, &[u8])> {
-        let (((r, g), (b, a)), rest) = Part::take(bytes)?;
+        let Some((((r, g), (b, a)), rest)) = Part::take(bytes) else {
+            return None;
+        };
         let pixel = TilePixel { r, g, b, a };
         if is_pixel(pixel) {
             Some((pixel, rest))

@@ -166,8 +166,12 @@ impl<A: Part, B: Part> Part for (A, B) {
     ghost is_part = { pair_part A.is_part B.is_part };
 
     fn take(bytes: &[u8]) -> Option<((A, B), &[u8])> {
-        let (first, rest) = A::take(bytes)?;
-        let (second, rest) = B::take(rest)?;
+        let Some((first, rest)) = A::take(bytes) else {
+            return None;
+        };
+        let Some((second, rest)) = B::take(rest) else {
+            return None;
+        };
         Some(((first, second), rest))
     }
 
