@@ -92,7 +92,8 @@ pub(crate) fn is_in(rows: &[LayerRow], id: u16, other: u16) -> bool
 pub(crate) fn are_within(rows: &[LayerRow]) -> bool
     ensures { result ≡ are_within rows.now }
 {
-    rows.iter().all(|row| is_within(NESTING_LIMIT, rows, row.id))
+    rows.iter()
+        .all(|row| is_within(NESTING_LIMIT, rows, row.id))
 }
 
 /// A blend mode has this number.
@@ -137,12 +138,10 @@ pub(crate) fn place_behind(rows: &[LayerRow], from: usize, above: u16) -> usize
 }
 
 /// Whether each row stays, where the row of the id and all rows below it go.
-pub(crate) fn stay_flags(
-    alloc: Global,
-    rows: &[LayerRow],
-    id: u16,
-) -> Result<Vec<bool>, AllocError>
+pub(crate) fn stay_flags(alloc: Global, rows: &[LayerRow], id: u16) -> Result<Vec<bool>, AllocError>
     ensures { IfOk result (λ flags. flags.items ≡ stay_flags rows.now id) }
 {
-    rows.iter().map(|row| !is_in(rows, row.id, id)).collect(alloc)
+    rows.iter()
+        .map(|row| !is_in(rows, row.id, id))
+        .collect(alloc)
 }

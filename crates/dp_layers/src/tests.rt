@@ -64,7 +64,10 @@ fn expect(rt: &impl Abort, tree: &Tree<u16>, rows: &[(u16, u16)]) {
     for (row, (id, parent)) in tree.rows().iter().zip(rows) {
         assert_eq!(rt; row.id, *id);
         assert_eq!(rt; row.parent, *parent);
-        assert_eq!(rt; tree.content(*id).copied(), if row.group { None } else { Some(*id) });
+        assert_eq!(rt;
+            tree.content(*id).copied(),
+            if row.group { None } else { Some(*id) }
+        );
     }
 }
 
@@ -147,19 +150,46 @@ fn moves(rt: HostRuntime) -> Result<(), Fail> {
     let rows: [(Draw, [(u16, u16); 6]); 11] = [
         // to the front, where it is already and from elsewhere
         (to(10, 0, 0), FOREST),
-        (to(20, 0, 0), [(20, 0), (10, 0), (11, 10), (12, 10), (13, 12), (30, 0)]),
+        (
+            to(20, 0, 0),
+            [(20, 0), (10, 0), (11, 10), (12, 10), (13, 12), (30, 0)],
+        ),
         // behind each other row
-        (to(20, 0, 10), [(10, 0), (20, 0), (11, 10), (12, 10), (13, 12), (30, 0)]),
-        (to(20, 0, 11), [(10, 0), (11, 10), (20, 0), (12, 10), (13, 12), (30, 0)]),
-        (to(20, 0, 12), [(10, 0), (11, 10), (12, 10), (20, 0), (13, 12), (30, 0)]),
+        (
+            to(20, 0, 10),
+            [(10, 0), (20, 0), (11, 10), (12, 10), (13, 12), (30, 0)],
+        ),
+        (
+            to(20, 0, 11),
+            [(10, 0), (11, 10), (20, 0), (12, 10), (13, 12), (30, 0)],
+        ),
+        (
+            to(20, 0, 12),
+            [(10, 0), (11, 10), (12, 10), (20, 0), (13, 12), (30, 0)],
+        ),
         (to(20, 0, 13), FOREST),
-        (to(20, 0, 30), [(10, 0), (11, 10), (12, 10), (13, 12), (30, 0), (20, 0)]),
+        (
+            to(20, 0, 30),
+            [(10, 0), (11, 10), (12, 10), (13, 12), (30, 0), (20, 0)],
+        ),
         // out of a group, and rows below it stay in their places
-        (to(12, 0, 30), [(10, 0), (11, 10), (13, 12), (20, 0), (30, 0), (12, 0)]),
-        (to(10, 30, 30), [(11, 10), (12, 10), (13, 12), (20, 0), (30, 0), (10, 30)]),
+        (
+            to(12, 0, 30),
+            [(10, 0), (11, 10), (13, 12), (20, 0), (30, 0), (12, 0)],
+        ),
+        (
+            to(10, 30, 30),
+            [(11, 10), (12, 10), (13, 12), (20, 0), (30, 0), (10, 30)],
+        ),
         // into a group, behind a row of another parent
-        (to(20, 12, 11), [(10, 0), (11, 10), (20, 12), (12, 10), (13, 12), (30, 0)]),
-        (to(13, 10, 10), [(10, 0), (13, 10), (11, 10), (12, 10), (20, 0), (30, 0)]),
+        (
+            to(20, 12, 11),
+            [(10, 0), (11, 10), (20, 12), (12, 10), (13, 12), (30, 0)],
+        ),
+        (
+            to(13, 10, 10),
+            [(10, 0), (13, 10), (11, 10), (12, 10), (20, 0), (30, 0)],
+        ),
     ];
     for (op, after) in &rows {
         let mut tree = forest(&rt, rt.alloc())?;
@@ -216,7 +246,11 @@ fn refusals_leave_the_rows(rt: HostRuntime) -> Result<(), Fail> {
         assert!(rt; !take(&mut tree, op)?, "{op:?}");
         expect(&rt, &tree, &FOREST);
     }
-    assert!(rt; tree.rows().iter().all(|row| row.mode == 1 && row.opacity == 255));
+    assert!(rt;
+        tree.rows()
+            .iter()
+            .all(|row| row.mode == 1 && row.opacity == 255)
+    );
     Ok(())
 }
 
@@ -241,7 +275,10 @@ fn contents_are_put_in(rt: HostRuntime) -> Result<(), Fail> {
     assert_eq!(rt; tree.content(13), Some(&99));
     assert_eq!(rt; tree.content(12), None);
     let contents = [1, 2, 3].to_vec(rt.alloc())?;
-    assert_eq!(rt; tree.rows().iter().filter(|row| !row.group).count(), contents.len());
+    assert_eq!(rt;
+        tree.rows().iter().filter(|row| !row.group).count(),
+        contents.len()
+    );
     let other = tree.remake(contents)?;
     let held = [11, 13, 20].map(|id| other.content(id).copied());
     assert_eq!(rt; held, [Some(1), Some(2), Some(3)]);

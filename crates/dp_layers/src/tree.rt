@@ -28,7 +28,9 @@ ghost use Rattle.dp_layers.specs.Changes.{
 ghost use Rattle.dp_layers.specs.Tree.{IsTree};
 
 use crate::lists::{carry, filling, keep_where, push_both, set_parent};
-use crate::lookup::{can_create, can_stand, has_row, is_listed_mode, place_behind, place_of, stay_flags};
+use crate::lookup::{
+    can_create, can_stand, has_row, is_listed_mode, place_behind, place_of, stay_flags,
+};
 use crate::row::LayerRow;
 use dp_msg_draw::Draw;
 use std::alloc::{AllocError, Global};
@@ -36,7 +38,7 @@ use std::marker::Model;
 
 /// The rows of the list of layers, the bottom one first, with what each paint row holds. It is seen
 /// as the list of its rows, which keep to `IsTree`.
-#[derive(Drop)]
+#[derive(Debug, Drop)]
 pub struct Tree<X> {
     layers: Vec<LayerRow>,
     contents: Vec<Option<X>>,
@@ -85,21 +87,24 @@ impl<X: Drop> Tree<X> {
         }
     }
 
-    /// Puts x in the place of what the paint row of the id holds, and gives that back.
+    /// Puts x in the place of what the paint row of the id holds, and gives that back. A paint row
+    /// has the id.
     pub fn put_content(&mut self, id: u16, x: X) -> X
         requires { IsTrue (is_paint_row (layers_of self.old) id) }
         ensures old { content_of self.old id ≡ Some result }
         ensures new { self.new ≡ with_content self.old id x }
     {
-        let Some(place) = place_of(&self.layers, id) else { unreachable!() };
+        let Some(place) = place_of(&self.layers, id) else {
+            unreachable!()
+        };
         match self.contents[place].replace(x) {
             Some(old) => old,
             None => unreachable!(),
         }
     }
 
-    /// LayerCreate: puts a new row last, which holds x. True exactly where the command has an effect.
-    /// The rule: docs/protocol.md, "The layers".
+    /// LayerCreate: puts a new row last, which holds x, where it is no group. True exactly where the
+    /// command has an effect. The rule: docs/protocol.md, "The layers".
     ///
     /// # Errors
     ///
@@ -136,8 +141,8 @@ impl<X: Drop> Tree<X> {
         Ok(true)
     }
 
-    /// LayerAttr: gives the row its opacity and mode, and hides it or shows it. True exactly where the
-    /// command has an effect. The rule: docs/protocol.md, "The layers".
+    /// LayerAttr: gives the row its opacity and mode, and hides it or shows it. True exactly where
+    /// the command has an effect. The rule: docs/protocol.md, "The layers".
     ///
     /// # Errors
     ///
@@ -156,8 +161,9 @@ impl<X: Drop> Tree<X> {
         else {
             unreachable!()
         };
-        let Some(place) = place_of(&self.layers, *id) else {
-            return Ok(false);
+        let place = match place_of(&self.layers, *id) {
+            Some(place) => place,
+            None => return Ok(false),
         };
         if !is_listed_mode(*mode) {
             return Ok(false);
@@ -181,7 +187,9 @@ impl<X: Drop> Tree<X> {
         ensures ok { OnOk result (self.new ≡ rows_after self.old op.now None) }
         ensures err { OnErr result (self.new ≡ self.old) }
     {
-        let Draw::LayerTitle { id, title } = op else { unreachable!() };
+        let Draw::LayerTitle { id, title } = op else {
+            unreachable!()
+        };
         let Some(at) = place_of(&self.layers, *id) else {
             return Ok(false);
         };
@@ -200,7 +208,9 @@ impl<X: Drop> Tree<X> {
         ensures effect { result ≡ Ok (has_effect (layers_of self.old) op.now) }
         ensures rows { self.new ≡ rows_after self.old op.now None }
     {
-        let Draw::LayerMove { id, parent, above } = op else { unreachable!() };
+        let Draw::LayerMove { id, parent, above } = op else {
+            unreachable!()
+        };
         let Some(from) = place_of(&self.layers, *id) else {
             return Ok(false);
         };
@@ -216,8 +226,8 @@ impl<X: Drop> Tree<X> {
         Ok(true)
     }
 
-    /// LayerDelete: takes the row away, with all rows below it. True exactly where the command has an
-    /// effect. The rule: docs/protocol.md, "The layers".
+    /// LayerDelete: takes the row away, with all rows below it. True exactly where the command has
+    /// an effect. The rule: docs/protocol.md, "The layers".
     ///
     /// # Errors
     ///
@@ -228,7 +238,9 @@ impl<X: Drop> Tree<X> {
         ensures ok { OnOk result (self.new ≡ rows_after self.old op.now None) }
         ensures err { OnErr result (self.new ≡ self.old) }
     {
-        let Draw::LayerDelete { id } = op else { unreachable!() };
+        let Draw::LayerDelete { id } = op else {
+            unreachable!()
+        };
         if !has_row(&self.layers, *id) {
             return Ok(false);
         }
@@ -238,7 +250,8 @@ impl<X: Drop> Tree<X> {
         Ok(true)
     }
 
-    /// A tree of the same rows, whose paint rows hold the contents, the bottom one the first.
+    /// A tree of the same rows, whose paint rows hold the contents, the bottom one the first. There
+    /// are as many contents as paint rows.
     ///
     /// # Errors
     ///
