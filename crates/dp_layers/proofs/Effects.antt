@@ -1,39 +1,54 @@
 -- The rows after a command: they are a tree.
-use Rattle.std.proofs.Common.{◌≡◌, ◌≢◌, ◌==◌, ◌||◌, ◌&&◌, ◌⊎◌, inl, inr, ℕ, zero, suc, Bool, true, false, not, cond, List, [], ◌∷◌, ◌++◌, map, length, get_or, Option, None, Some, refl, ap, sym, ◌∙◌, subst, ⊎_elim, eq-eqb, ◌+◌, ◌<◌, ◌≤◌, arith}
+use Rattle.std.proofs.Common.{◌≡◌, ◌≢◌, ◌==◌, ◌||◌, ◌&&◌, inl, inr, ℕ, Bool, true, false, not, List}
+use Rattle.std.proofs.Common.{[], ◌∷◌, ◌++◌, map, length, get_or, Option, None, Some, refl, ap, sym}
+use Rattle.std.proofs.Common.{◌∙◌, subst, ⊎_elim}
 use Rattle.std.specs.Prelude.{is_some, All, nat_lt}
 use Rattle.std.specs.List.{filter}
 use Rattle.std.specs.Option.{option_map}
-use Rattle.std.proofs.lemmas.Bool.{ne_eqb, eqb-true, eqb-false, cases_Bool, cond_both, false≢true, not-true, and_parts, or_cases, or_left, or_right, ltb-true}
+use Rattle.std.proofs.lemmas.Bool.{eqb-true, eqb-false, cond_both, false≢true, not-true, and_parts}
+use Rattle.std.proofs.lemmas.Bool.{or_cases, ltb-true}
 use Rattle.std.proofs.lemmas.List.{map-append}
 use Rattle.std.proofs.lemmas.List.Elements.{All-push, All-map, All-filter}
 use Rattle.std.proofs.lemmas.List.Sums.{AllPass-from_list_all}
 use Rattle.dp_msg_draw.specs.Limits.{IsListedMode}
 use Rattle.dp_msg_draw.specs.declared.draw.Draw.{Draw}
-use Rattle.dp_msg_draw.specs.declared.draw.Draw.TheVariants.{LayerCreate, LayerAttr, LayerTitle, LayerMove, LayerDelete}
+use Rattle.dp_msg_draw.specs.declared.draw.Draw.TheVariants.{LayerCreate, LayerAttr, LayerTitle}
+use Rattle.dp_msg_draw.specs.declared.draw.Draw.TheVariants.{LayerMove, LayerDelete}
 use Rattle.dp_layers.specs.declared.row.LayerRow.{LayerRow}
-use Rattle.dp_layers.specs.Layers.{has_id, row_of, has_row, is_root_or_group, is_within, is_in, are_within, is_listed_mode}
+use Rattle.dp_layers.specs.Layers.{has_id, row_of, has_row, is_root_or_group, is_within, is_in}
+use Rattle.dp_layers.specs.Layers.{are_within, is_listed_mode}
 use Rattle.dp_layers.specs.Rows.{Row, layers_of}
-use Rattle.dp_layers.specs.Changes.{change_row, with_layer, rows_changed, can_create, new_row, created, can_set_attr, set_attr, set_title, set_parent, can_stand, can_move, placed, moved, deleted, has_effect, effect_on, rows_after, makes_paint_row}
+use Rattle.dp_layers.specs.Changes.{change_row, with_layer, rows_changed, can_create, new_row}
+use Rattle.dp_layers.specs.Changes.{created, can_set_attr, set_attr, set_title, set_parent}
+use Rattle.dp_layers.specs.Changes.{can_stand, can_move, placed, moved, deleted, has_effect}
+use Rattle.dp_layers.specs.Changes.{effect_on, rows_after, makes_paint_row}
 use Rattle.dp_layers.specs.Tree.{IsLayerTree, IsTree}
 use Rattle.dp_layers.specs.Inside.{joined, IsJoined}
 use Rattle.dp_layers.proofs.Finding.{row_of-map}
 use Rattle.dp_layers.proofs.Placing.{IsPlace, All-placed}
 use Rattle.dp_layers.proofs.Trees.{tree-created, tree-kept, tree-mapped, tree-placed, tree-deleted}
-use Rattle.dp_layers.proofs.Joining.{AreParts, joined_parts, length_parts, layers_of-joined, layers_of-changed, layers_of-deleted, layers_of-moved}
+use Rattle.dp_layers.proofs.Joining.{AreParts, joined_parts, length_parts, layers_of-joined}
+use Rattle.dp_layers.proofs.Joining.{layers_of-changed, layers_of-deleted, layers_of-moved}
 
 -- ---- the modes
 
-first_or : {P : Type 0} (n mode : ℕ) (rest : Bool) → (n == mode || rest) ≡ true → (mode ≡ n → P) → (rest ≡ true → P) → P
-first_or n mode rest h here later = ⊎_elim (λ e. here (sym (eqb-true n mode e))) later (or_cases (n == mode) rest h)
+first_or : {P : Type 0} (n mode : ℕ) (rest : Bool) → (n == mode || rest) ≡ true → (mode ≡ n → P)
+    → (rest ≡ true → P) → P
+first_or n mode rest h here later =
+    ⊎_elim (λ e. here (sym (eqb-true n mode e))) later (or_cases (n == mode) rest h)
 
 pub listed : (mode : ℕ) → is_listed_mode mode ≡ true → IsListedMode mode
 listed mode h0 =
-    first_or 0 mode (1 == mode || (2 == mode || (9 == mode || (10 == mode || (255 == mode || false))))) h0 (λ e. inl e) (λ h1.
-    first_or 1 mode (2 == mode || (9 == mode || (10 == mode || (255 == mode || false)))) h1 (λ e. inr (inl e)) (λ h2.
-    first_or 2 mode (9 == mode || (10 == mode || (255 == mode || false))) h2 (λ e. inr (inr (inl e))) (λ h3.
+    first_or 0 mode (1 == mode ||
+    (2 == mode || (9 == mode || (10 == mode || (255 == mode || false))))) h0 (λ e. inl e) (λ h1.
+    first_or 1 mode (2 == mode || (9 == mode || (10 == mode || (255 == mode || false)))) h1
+    (λ e. inr (inl e)) (λ h2.
+    first_or 2 mode (9 == mode || (10 == mode || (255 == mode || false))) h2
+    (λ e. inr (inr (inl e))) (λ h3.
     first_or 9 mode (10 == mode || (255 == mode || false)) h3 (λ e. inr (inr (inr (inl e)))) (λ h4.
     first_or 10 mode (255 == mode || false) h4 (λ e. inr (inr (inr (inr (inl e))))) (λ h5.
-    first_or 255 mode false h5 (λ e. inr (inr (inr (inr (inr e))))) (λ h6. absurd (false≢true h6)))))))
+    first_or 255 mode false h5 (λ e. inr (inr (inr (inr (inr e)))))
+    (λ h6. absurd (false≢true h6)))))))
 
 pub listed_back : (mode : ℕ) → IsListedMode mode → is_listed_mode mode ≡ true
 listed_back mode (inl e) = rw e refl
@@ -50,33 +65,53 @@ abbrev pub HoldsByKind : {X : Type 0} → Row X → Type 0
 HoldsByKind row = is_some row.content ≡ not row.layer.group
 
 module _ (id : ℕ) (change : LayerRow → LayerRow) where
-  change-id : ((row : LayerRow) → (change row).id ≡ row.id) → (row : LayerRow) → (change_row id change row).id ≡ row.id
-  change-id keeps row = cond_both (has_id id row) (change row) row (λ r. r.id ≡ row.id) (λ _. keeps row) (λ _. refl)
+  change-id : ((row : LayerRow) → (change row).id ≡ row.id) → (row : LayerRow)
+      → (change_row id change row).id ≡ row.id
+  change-id keeps row =
+      cond_both (has_id id row) (change row) row (λ r. r.id ≡ row.id) (λ _. keeps row) (λ _. refl)
 
-  pub change-group : ((row : LayerRow) → (change row).group ≡ row.group) → (row : LayerRow) → (change_row id change row).group ≡ row.group
-  change-group keeps row = cond_both (has_id id row) (change row) row (λ r. r.group ≡ row.group) (λ _. keeps row) (λ _. refl)
+  pub change-group : ((row : LayerRow) → (change row).group ≡ row.group) → (row : LayerRow)
+      → (change_row id change row).group ≡ row.group
+  change-group keeps row =
+      cond_both (has_id id row) (change row) row (λ r. r.group ≡ row.group) (λ _. keeps row)
+      (λ _. refl)
 
-  change-parent : ((row : LayerRow) → (change row).parent ≡ row.parent) → (row : LayerRow) → (change_row id change row).parent ≡ row.parent
-  change-parent keeps row = cond_both (has_id id row) (change row) row (λ r. r.parent ≡ row.parent) (λ _. keeps row) (λ _. refl)
+  change-parent : ((row : LayerRow) → (change row).parent ≡ row.parent) → (row : LayerRow)
+      → (change_row id change row).parent ≡ row.parent
+  change-parent keeps row =
+      cond_both (has_id id row) (change row) row (λ r. r.parent ≡ row.parent) (λ _. keeps row)
+      (λ _. refl)
 
-  change-modes : (rows : List LayerRow) → All (λ row. IsListedMode row.mode) rows → ((row : LayerRow) → IsListedMode row.mode → IsListedMode (change row).mode) → All (λ row. IsListedMode (change_row id change row).mode) rows
+  change-modes : (rows : List LayerRow) → All (λ row. IsListedMode row.mode) rows
+      → ((row : LayerRow) → IsListedMode row.mode → IsListedMode (change row).mode)
+      → All (λ row. IsListedMode (change_row id change row).mode) rows
   change-modes rows each keeps k d in_list =
       let row : LayerRow = get_or rows k d in
-      cond_both (has_id id row) (change row) row (λ r. IsListedMode r.mode) (λ _. keeps row (each k d in_list)) (λ _. each k d in_list)
+      cond_both (has_id id row) (change row) row (λ r. IsListedMode r.mode)
+      (λ _. keeps row (each k d in_list)) (λ _. each k d in_list)
 
-  contents-changed : {X : Type 0} (rows : List (Row X)) → ((row : LayerRow) → (change row).group ≡ row.group) → All HoldsByKind rows → All HoldsByKind (rows_changed rows id change)
+  contents-changed : {X : Type 0} (rows : List (Row X))
+      → ((row : LayerRow) → (change row).group ≡ row.group) → All HoldsByKind rows
+      → All HoldsByKind (rows_changed rows id change)
   contents-changed rows keeps each =
       All-map HoldsByKind (λ row. with_layer row (change_row id change row.layer)) rows
       (λ k d in_list. each k d in_list ∙ ap not (sym (change-group keeps (get_or rows k d).layer)))
 
 -- a row may be placed behind another one as before, where the ids are kept
-pub place_after : (f : LayerRow → LayerRow) → ((row : LayerRow) → (f row).id ≡ row.id) → (layers : List LayerRow) (id above : ℕ) → (above == 0 || (has_row layers above && not (above == id))) ≡ true → IsPlace (map f layers) id above
+pub place_after : (f : LayerRow → LayerRow) → ((row : LayerRow) → (f row).id ≡ row.id)
+    → (layers : List LayerRow) (id above : ℕ)
+    → (above == 0 || (has_row layers above && not (above == id))) ≡ true
+    → IsPlace (map f layers) id above
 place_after f keeps layers id above ok =
     ⊎_elim
     (λ (first : (above == 0) ≡ true). inl (eqb-true above 0 first))
     (λ (other : (has_row layers above && not (above == id)) ≡ true).
     let parts = and_parts (has_row layers above) (not (above == id)) other in
-    inr (ap is_some (row_of-map f keeps above layers) ∙ still (row_of layers above) ∙ parts.0, eqb-false above id (not-true (above == id) parts.1)))
+    inr (
+      ap is_some (row_of-map f keeps above layers) ∙ still (row_of layers above)
+          ∙ parts.0,
+      eqb-false above id (not-true (above == id) parts.1),
+    ))
     (or_cases (above == 0) (has_row layers above && not (above == id)) ok)
   where
     still : (o : Option LayerRow) → is_some (option_map f o) ≡ is_some o
@@ -84,109 +119,150 @@ place_after f keeps layers id above ok =
     still (Some r) = refl
 
 module _ {X : Type 0} (rows : List (Row X)) (tree : IsTree rows) where
-  tree-of_layers : (now : List (Row X)) (layers : List LayerRow) → layers_of now ≡ layers → IsLayerTree layers → All HoldsByKind now → IsTree now
+  tree-of_layers : (now : List (Row X)) (layers : List LayerRow) → layers_of now ≡ layers
+      → IsLayerTree layers → All HoldsByKind now → IsTree now
   tree-of_layers now layers same layer_tree each =
       let P : List LayerRow → Type 0 = λ ls. IsLayerTree ls in
       record { layers = subst P (sym same) layer_tree; contents = each }
 
-  after-create : (id parent : ℕ) (group : Bool) (title : List ℕ) (x : Option X) → is_some x ≡ not group → can_create (layers_of rows) id parent ≡ true → IsTree (created rows (new_row id parent group title) x)
+  after-create : (id parent : ℕ) (group : Bool) (title : List ℕ) (x : Option X)
+      → is_some x ≡ not group → can_create (layers_of rows) id parent ≡ true
+      → IsTree (created rows (new_row id parent group title) x)
   after-create id parent group title x fits can =
       let layers : List LayerRow = layers_of rows in
       let row : LayerRow = new_row id parent group title in
-      let p1 = and_parts (not (id == 0) && not (has_row layers id) && nat_lt (length layers) 256 && is_root_or_group layers parent) (is_within 15 layers parent) can in
-      let p2 = and_parts (not (id == 0) && not (has_row layers id) && nat_lt (length layers) 256) (is_root_or_group layers parent) p1.0 in
-      let p3 = and_parts (not (id == 0) && not (has_row layers id)) (nat_lt (length layers) 256) p2.0 in
+      let p1 = and_parts (not (id == 0) && not (has_row layers id) && nat_lt (length layers) 256 &&
+      is_root_or_group layers parent) (is_within 15 layers parent) can in
+      let p2 = and_parts (not (id == 0) && not (has_row layers id) && nat_lt (length layers) 256)
+      (is_root_or_group layers parent) p1.0 in
+      let p3 = and_parts (not (id == 0) && not (has_row layers id)) (nat_lt (length layers) 256)
+      p2.0 in
       let p4 = and_parts (not (id == 0)) (not (has_row layers id)) p3.0 in
       let named : id ≢ 0 = eqb-false id 0 (not-true (id == 0) p4.0) in
-      let absent : row_of layers id ≡ None = none (row_of layers id) (not-true (has_row layers id) p4.1) in
-      tree-of_layers (created rows row x) (layers ++ row ∷ []) (map-append (λ (r : Row X). r.layer) rows (record { layer = row; content = x } ∷ []))
-      (tree-created layers row tree.layers named absent p2.1 p1.1 (ltb-true (length layers) 256 p3.1) (inr (inl refl)))
+      let absent : row_of layers id ≡ None = none (row_of layers id)
+      (not-true (has_row layers id) p4.1) in
+      tree-of_layers (created rows row x) (layers ++ row ∷ [])
+      (map-append (λ (r : Row X). r.layer) rows (record { layer = row; content = x } ∷ []))
+      (tree-created layers row tree.layers named absent p2.1 p1.1
+      (ltb-true (length layers) 256 p3.1) (inr (inl refl)))
       (All-push HoldsByKind rows (record { layer = row; content = x }) tree.contents fits)
     where
       none : (o : Option LayerRow) → is_some o ≡ false → o ≡ None
       none None h = refl
       none (Some r) h = absurd (false≢true (sym h))
 
-  after-attr : (id opacity mode : ℕ) (hidden : Bool) → can_set_attr (layers_of rows) id mode ≡ true → IsTree (rows_changed rows id (set_attr opacity mode hidden))
+  after-attr : (id opacity mode : ℕ) (hidden : Bool) → can_set_attr (layers_of rows) id mode ≡ true
+      → IsTree (rows_changed rows id (set_attr opacity mode hidden))
   after-attr id opacity mode hidden can =
       let change : LayerRow → LayerRow = set_attr opacity mode hidden in
-      let ok : IsListedMode mode = listed mode (and_parts (has_row (layers_of rows) id) (is_listed_mode mode) can).1 in
-      tree-of_layers (rows_changed rows id change) (map (change_row id change) (layers_of rows)) (layers_of-changed rows id change)
-      (tree-kept (change_row id change) (change-id id change (λ _. refl)) (change-group id change (λ _. refl)) (layers_of rows) (change-parent id change (λ _. refl)) tree.layers
+      let ok : IsListedMode mode = listed mode
+      (and_parts (has_row (layers_of rows) id) (is_listed_mode mode) can).1 in
+      tree-of_layers (rows_changed rows id change) (map (change_row id change) (layers_of rows))
+      (layers_of-changed rows id change)
+      (tree-kept (change_row id change) (change-id id change (λ _. refl))
+      (change-group id change (λ _. refl)) (layers_of rows) (change-parent id change (λ _. refl))
+      tree.layers
       (change-modes id change (layers_of rows) tree.layers.modes (λ _ _. ok)))
       (contents-changed id change rows (λ _. refl) tree.contents)
 
   after-title : (id : ℕ) (title : List ℕ) → IsTree (rows_changed rows id (set_title title))
   after-title id title =
       let change : LayerRow → LayerRow = set_title title in
-      tree-of_layers (rows_changed rows id change) (map (change_row id change) (layers_of rows)) (layers_of-changed rows id change)
-      (tree-kept (change_row id change) (change-id id change (λ _. refl)) (change-group id change (λ _. refl)) (layers_of rows) (change-parent id change (λ _. refl)) tree.layers
+      tree-of_layers (rows_changed rows id change) (map (change_row id change) (layers_of rows))
+      (layers_of-changed rows id change)
+      (tree-kept (change_row id change) (change-id id change (λ _. refl))
+      (change-group id change (λ _. refl)) (layers_of rows) (change-parent id change (λ _. refl))
+      tree.layers
       (change-modes id change (layers_of rows) tree.layers.modes (λ _ was. was)))
       (contents-changed id change rows (λ _. refl) tree.contents)
 
-  after-move : (id parent above : ℕ) → can_move (layers_of rows) id parent above ≡ true → IsTree (moved rows id parent above)
+  after-move : (id parent above : ℕ) → can_move (layers_of rows) id parent above ≡ true
+      → IsTree (moved rows id parent above)
   after-move id parent above can =
       let layers : List LayerRow = layers_of rows in
       let change : LayerRow → LayerRow = set_parent parent in
       let f : LayerRow → LayerRow = change_row id change in
-      let p1 = and_parts (has_row layers id && can_stand layers id parent above) (are_within (map f layers)) can in
+      let p1 = and_parts (has_row layers id && can_stand layers id parent above)
+      (are_within (map f layers)) can in
       let p2 = and_parts (has_row layers id) (can_stand layers id parent above) p1.0 in
-      let p3 = and_parts (is_root_or_group layers parent && not (is_in layers parent id)) (above == 0 || (has_row layers above && not (above == id))) p2.1 in
+      let p3 = and_parts (is_root_or_group layers parent && not (is_in layers parent id))
+      (above == 0 || (has_row layers above && not (above == id))) p2.1 in
       let p4 = and_parts (is_root_or_group layers parent) (not (is_in layers parent id)) p3.0 in
-      let parents : All (λ row. is_root_or_group layers (f row).parent ≡ true) layers = λ k d in_list.
-      cond_both (has_id id (get_or layers k d)) (change (get_or layers k d)) (get_or layers k d) (λ r. is_root_or_group layers r.parent ≡ true) (λ _. p4.0) (λ _. tree.layers.parents k d in_list) in
+      let parents : All (λ row. is_root_or_group layers (f row).parent ≡ true) layers = λ k d
+      in_list.
+      cond_both (has_id id (get_or layers k d)) (change (get_or layers k d)) (get_or layers k d)
+      (λ r. is_root_or_group layers r.parent ≡ true) (λ _. p4.0)
+      (λ _. tree.layers.parents k d in_list) in
       let changed : IsLayerTree (map f layers) =
-      tree-mapped f (change-id id change (λ _. refl)) (change-group id change (λ _. refl)) layers tree.layers parents
+      tree-mapped f (change-id id change (λ _. refl)) (change-group id change (λ _. refl)) layers
+      tree.layers parents
       (AllPass-from_list_all (λ row. is_within 16 (map f layers) row.id) (map f layers) p1.1)
       (change-modes id change layers tree.layers.modes (λ _ was. was)) in
-      tree-of_layers (moved rows id parent above) (placed has_id (map f layers) id above) (layers_of-moved rows id parent above)
-      (tree-placed (map f layers) id above (place_after f (change-id id change (λ _. refl)) layers id above p3.1) changed)
-      (All-placed HoldsByKind (λ i r. has_id i r.layer) (rows_changed rows id change) id above (contents-changed id change rows (λ _. refl) tree.contents))
+      tree-of_layers (moved rows id parent above) (placed has_id (map f layers) id above)
+      (layers_of-moved rows id parent above)
+      (tree-placed (map f layers) id above
+      (place_after f (change-id id change (λ _. refl)) layers id above p3.1) changed)
+      (All-placed HoldsByKind (λ i r. has_id i r.layer) (rows_changed rows id change) id above
+      (contents-changed id change rows (λ _. refl) tree.contents))
 
   after-delete : (id : ℕ) → has_row (layers_of rows) id ≡ true → IsTree (deleted rows id)
   after-delete id present =
-      tree-of_layers (deleted rows id) (filter (λ row. not (is_in (layers_of rows) row.id id)) (layers_of rows)) (layers_of-deleted rows id)
+      tree-of_layers (deleted rows id)
+      (filter (λ row. not (is_in (layers_of rows) row.id id)) (layers_of rows))
+      (layers_of-deleted rows id)
       (tree-deleted (layers_of rows) id present tree.layers)
-      (All-filter (λ row. not (is_in (layers_of rows) row.layer.id id)) HoldsByKind rows tree.contents)
+      (All-filter (λ row. not (is_in (layers_of rows) row.layer.id id)) HoldsByKind rows
+      tree.contents)
 
   -- every command
-  pub tree-after : (op : Draw) (x : Option X) → is_some x ≡ makes_paint_row op → IsTree (rows_after rows op x)
+  pub tree-after : (op : Draw) (x : Option X) → is_some x ≡ makes_paint_row op
+      → IsTree (rows_after rows op x)
   tree-after (LayerCreate id parent group title) x fits =
-      cond_both (can_create (layers_of rows) id parent) (created rows (new_row id parent group title) x) rows IsTree
+      cond_both (can_create (layers_of rows) id parent)
+      (created rows (new_row id parent group title) x) rows IsTree
       (after-create id parent group title x fits) (λ _. tree)
   tree-after (LayerAttr id opacity mode hidden) x fits =
-      cond_both (can_set_attr (layers_of rows) id mode) (rows_changed rows id (set_attr opacity mode hidden)) rows IsTree
+      cond_both (can_set_attr (layers_of rows) id mode)
+      (rows_changed rows id (set_attr opacity mode hidden)) rows IsTree
       (after-attr id opacity mode hidden) (λ _. tree)
   tree-after (LayerTitle id title) x fits =
-      cond_both (has_row (layers_of rows) id) (rows_changed rows id (set_title title)) rows IsTree (λ _. after-title id title) (λ _. tree)
+      cond_both (has_row (layers_of rows) id) (rows_changed rows id (set_title title)) rows IsTree
+      (λ _. after-title id title) (λ _. tree)
   tree-after (LayerMove id parent above) x fits =
-      cond_both (can_move (layers_of rows) id parent above) (moved rows id parent above) rows IsTree (after-move id parent above) (λ _. tree)
+      cond_both (can_move (layers_of rows) id parent above) (moved rows id parent above) rows IsTree
+      (after-move id parent above) (λ _. tree)
   tree-after (LayerDelete id) x fits =
-      cond_both (has_row (layers_of rows) id) (deleted rows id) rows IsTree (after-delete id) (λ _. tree)
+      cond_both (has_row (layers_of rows) id) (deleted rows id) rows IsTree (after-delete id)
+      (λ _. tree)
   tree-after _ x fits = tree
 
 -- ---- what a call answers. It is asked for the command op.
 
-module _ {X : Type 0} (layers : List LayerRow) (contents : List (Option X)) (rows : List (Row X)) (inside : IsJoined layers contents) (view : joined layers contents ≡ rows) where
+module _ {X : Type 0} (layers : List LayerRow) (contents : List (Option X)) (rows : List (Row X))
+    (inside : IsJoined layers contents) (view : joined layers contents ≡ rows) where
   pub value_layers : layers_of rows ≡ layers
   value_layers = ap layers_of (sym view) ∙ layers_of-joined layers contents inside.same_length
 
   module _ (asked op : Draw) (asks : asked ≡ op) where
     effect_is : (b : Bool) → has_effect layers op ≡ b → has_effect (layers_of rows) asked ≡ b
-    effect_is b is = ap (has_effect (layers_of rows)) asks ∙ ap (λ ls. has_effect ls op) value_layers ∙ is
+    effect_is b is =
+        ap (has_effect (layers_of rows)) asks ∙ ap (λ ls. has_effect ls op) value_layers ∙ is
 
     -- a command without an effect
     pub refused : has_effect layers op ≡ false → false ≡ has_effect (layers_of rows) asked
     refused is = sym (effect_is false is)
 
-    pub stays_refused : (x : Option X) → has_effect layers op ≡ false → rows ≡ rows_after rows asked x
+    pub stays_refused : (x : Option X) → has_effect layers op ≡ false
+        → rows ≡ rows_after rows asked x
     stays_refused x is = rw (effect_is false is) refl
 
     -- a command with an effect
     pub taken : has_effect layers op ≡ true → true ≡ has_effect (layers_of rows) asked
     taken is = sym (effect_is true is)
 
-    module _ (now : List LayerRow) (holds : List (Option X)) (x : Option X) (effective : has_effect layers op ≡ true) (parts : AreParts now holds (effect_on (joined layers contents) op x)) where
+    module _ (now : List LayerRow) (holds : List (Option X)) (x : Option X)
+        (effective : has_effect layers op ≡ true)
+        (parts : AreParts now holds (effect_on (joined layers contents) op x)) where
       pub changed_rows : joined now holds ≡ rows_after rows asked x
       changed_rows =
           rw (effect_is true effective)
@@ -199,5 +275,6 @@ module _ {X : Type 0} (layers : List LayerRow) (contents : List (Option X)) (row
           let P : List (Row X) → Type 0 = λ rs. IsTree rs in
           record {
             same_length = length_parts now holds (effect_on (joined layers contents) op x) parts;
-            tree = subst P (sym changed_rows) (tree-after rows (subst P view inside.tree) asked x fits);
+            tree = subst P (sym changed_rows)
+                (tree-after rows (subst P view inside.tree) asked x fits);
           }

@@ -1,6 +1,8 @@
 -- Going up from a row to its parents.
-use Rattle.std.proofs.Common.{◌≡◌, ◌≢◌, ◌==◌, ℕ, zero, suc, true, false, ◌||◌, List, refl, ap, sym, ◌∙◌, subst, ⊎_elim, eq-eqb}
-use Rattle.std.proofs.lemmas.Bool.{ne_eqb, eqb-true, false≢true, or_cases, or_parts, or_from, or_left, or_right, cases_eq, false_from_ne_true}
+use Rattle.std.proofs.Common.{◌≡◌, ◌≢◌, ◌==◌, ℕ, zero, suc, true, false, ◌||◌, List, refl, ap, sym}
+use Rattle.std.proofs.Common.{◌∙◌, subst, ⊎_elim, eq-eqb}
+use Rattle.std.proofs.lemmas.Bool.{ne_eqb, eqb-true, false≢true, or_cases, or_parts, or_from}
+use Rattle.std.proofs.lemmas.Bool.{or_left, or_right, cases_eq}
 use Rattle.dp_layers.specs.declared.row.LayerRow.{LayerRow}
 use Rattle.dp_layers.specs.Layers.{parent_of, is_within, is_below}
 
@@ -11,7 +13,8 @@ is_within-root zero rows = refl
 is_within-root (suc n) rows = refl
 
 -- one step up
-pub is_within-step : (n : ℕ) (rows : List LayerRow) (id : ℕ) → id ≢ 0 → is_within (suc n) rows id ≡ is_within n rows (parent_of rows id)
+pub is_within-step : (n : ℕ) (rows : List LayerRow) (id : ℕ) → id ≢ 0
+    → is_within (suc n) rows id ≡ is_within n rows (parent_of rows id)
 unfolding is_within
 is_within-step n rows id ne = ap (λ b. b || is_within n rows (parent_of rows id)) (ne_eqb id 0 ne)
 
@@ -19,7 +22,9 @@ pub is_within-none : (rows : List LayerRow) (id : ℕ) → is_within 0 rows id �
 unfolding is_within
 is_within-none rows id = refl
 
-pub is_below-step : (n : ℕ) (rows : List LayerRow) (id other : ℕ) → is_below (suc n) rows id other ≡ (parent_of rows id == other || is_below n rows (parent_of rows id) other)
+pub is_below-step : (n : ℕ) (rows : List LayerRow) (id other : ℕ)
+    → is_below (suc n) rows id other ≡
+    (parent_of rows id == other || is_below n rows (parent_of rows id) other)
 unfolding is_below
 is_below-step n rows id other = refl
 
@@ -28,16 +33,19 @@ unfolding is_below
 is_below-none rows id other = refl
 
 -- the root is below no row
-pub is_below-root : (n : ℕ) (rows : List LayerRow) (other : ℕ) → parent_of rows 0 ≡ 0 → other ≢ 0 → is_below n rows 0 other ≡ false
+pub is_below-root : (n : ℕ) (rows : List LayerRow) (other : ℕ) → parent_of rows 0 ≡ 0 → other ≢ 0
+    → is_below n rows 0 other ≡ false
 unfolding is_below
 is_below-root zero rows other root ne = refl
 is_below-root (suc n) rows other root ne =
     let away : (0 == other) ≡ false = ne_eqb 0 other (λ e. ne (sym e)) in
     let P : ℕ → Type 0 = λ p. (p == other || is_below n rows p other) ≡ false in
-    subst P (sym root) (or_from (0 == other) (is_below n rows 0 other) away (is_below-root n rows other root ne))
+    subst P (sym root) (or_from (0 == other) (is_below n rows 0 other) away
+    (is_below-root n rows other root ne))
 
 -- a row that is below another is below the other's parent
-is_below_up : (n : ℕ) (rows : List LayerRow) (id other : ℕ) → is_below n rows id other ≡ true → is_below (suc n) rows id (parent_of rows other) ≡ true
+is_below_up : (n : ℕ) (rows : List LayerRow) (id other : ℕ) → is_below n rows id other ≡ true
+    → is_below (suc n) rows id (parent_of rows other) ≡ true
 unfolding is_below
 is_below_up zero rows id other h = absurd (false≢true h)
 is_below_up (suc n) rows id other h =
@@ -45,12 +53,15 @@ is_below_up (suc n) rows id other h =
     ⊎_elim
     (λ (here : (up == other) ≡ true).
     or_right (up == parent_of rows other) _
-    (or_left (parent_of rows up == parent_of rows other) _ (eq-eqb _ _ (ap (parent_of rows) (eqb-true up other here)))))
-    (λ (above : is_below n rows up other ≡ true). or_right (up == parent_of rows other) _ (is_below_up n rows up other above))
+    (or_left (parent_of rows up == parent_of rows other) _
+    (eq-eqb _ _ (ap (parent_of rows) (eqb-true up other here)))))
+    (λ (above : is_below n rows up other ≡ true). or_right (up == parent_of rows other) _
+    (is_below_up n rows up other above))
     (or_cases (up == other) (is_below n rows up other) h)
 
 -- no row that leads to the root is below itself
-pub no_loop : (n m : ℕ) (rows : List LayerRow) (id : ℕ) → parent_of rows 0 ≡ 0 → is_within n rows id ≡ true → id ≢ 0 → is_below m rows id id ≡ true → ⊥
+pub no_loop : (n m : ℕ) (rows : List LayerRow) (id : ℕ) → parent_of rows 0 ≡ 0
+    → is_within n rows id ≡ true → id ≢ 0 → is_below m rows id id ≡ true → ⊥
 unfolding is_within is_below
 no_loop zero m rows id root within ne loop = ne (eqb-true id 0 within)
 no_loop (suc n) zero rows id root within ne loop = false≢true loop
@@ -70,7 +81,9 @@ no_loop (suc n) (suc m) rows id root within ne loop =
     (or_cases (up == id) (is_below m rows up id) loop)
 
 -- a row that is not met on the way to the root is not met later
-pub is_below-more : (n : ℕ) (rows : List LayerRow) (id other : ℕ) → parent_of rows 0 ≡ 0 → other ≢ 0 → is_within n rows id ≡ true → is_below n rows id other ≡ false → is_below (suc n) rows id other ≡ false
+pub is_below-more : (n : ℕ) (rows : List LayerRow) (id other : ℕ) → parent_of rows 0 ≡ 0 → other ≢ 0
+    → is_within n rows id ≡ true → is_below n rows id other ≡ false
+    → is_below (suc n) rows id other ≡ false
 unfolding is_within is_below
 is_below-more zero rows id other root ne within away =
     let P : ℕ → Type 0 = λ p. is_below 1 rows p other ≡ false in
@@ -84,20 +97,26 @@ is_below-more (suc n) rows id other root ne within away =
     subst P (sym at_root) (is_below-root (suc (suc n)) rows other root ne))
     (λ (deeper : id ≢ 0).
     or_from (up == other) (is_below (suc n) rows up other) parts.0
-    (is_below-more n rows up other root ne (sym (is_within-step n rows id deeper) ∙ within) parts.1))
+    (is_below-more n rows up other root ne (sym (is_within-step n rows id deeper) ∙ within)
+    parts.1))
     (cases_eq id 0)
 
 -- two lists in which the rows that are met have the same parents
-module _ (C : ℕ → Type 0) (rows other : List LayerRow) (closed : (id : ℕ) → C id → C (parent_of rows id)) (agree : (id : ℕ) → C id → parent_of other id ≡ parent_of rows id) where
+module _ (C : ℕ → Type 0) (rows other : List LayerRow) (closed : (id : ℕ) → C id
+    → C (parent_of rows id)) (agree : (id : ℕ) → C id
+    → parent_of other id ≡ parent_of rows id) where
   pub is_within-agree : (n id : ℕ) → C id → is_within n other id ≡ is_within n rows id
   unfolding is_within
   is_within-agree zero id c = refl
   is_within-agree (suc n) id c =
-      ap (λ b. id == 0 || b) (ap (is_within n other) (agree id c) ∙ is_within-agree n (parent_of rows id) (closed id c))
+      ap (λ b. id == 0 || b) (ap (is_within n other) (agree id c)
+      ∙ is_within-agree n (parent_of rows id) (closed id c))
 
-  pub is_below-agree : (n id target : ℕ) → C id → is_below n other id target ≡ is_below n rows id target
+  pub is_below-agree : (n id target : ℕ) → C id
+      → is_below n other id target ≡ is_below n rows id target
   unfolding is_below
   is_below-agree zero id target c = refl
   is_below-agree (suc n) id target c =
       ap (λ p. p == target || is_below n other p target) (agree id c)
-      ∙ ap (λ b. parent_of rows id == target || b) (is_below-agree n (parent_of rows id) target (closed id c))
+      ∙ ap (λ b. parent_of rows id == target || b)
+      (is_below-agree n (parent_of rows id) target (closed id c))

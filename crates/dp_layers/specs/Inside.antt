@@ -1,6 +1,7 @@
 -- The rows of a tree as two lists, in the words of the code.
-use Rattle.std.specs.Prelude.{◌≡◌, ℕ, zero, suc, ◌+◌, Bool, not, ◌==◌, nat_lt, if◌then◌else◌, Option, None, Some}
-use Rattle.std.specs.Prelude.{unwrap_or, List, [], ◌∷◌, ◌++◌, length, take, drop, map, position}
+use Rattle.std.specs.Prelude.{◌≡◌, ℕ, zero, suc, ◌+◌, Bool, not, ◌==◌, nat_lt, if◌then◌else◌}
+use Rattle.std.specs.Prelude.{Option, None, Some, unwrap_or}
+use Rattle.std.specs.Prelude.{List, [], ◌∷◌, ◌++◌, length, take, drop, map, position}
 use Rattle.std.specs.List.{remove}
 use Rattle.dp_layers.specs.declared.row.LayerRow.{LayerRow}
 use Rattle.dp_layers.specs.Layers.{has_id, is_in}
@@ -15,7 +16,8 @@ joined (layer ∷ layers) (content ∷ contents) =
     record { layer = layer; content = content } ∷ joined layers contents
 
 -- there are as many contents as layers, and together they are a tree
-pub record IsJoined {X : Type 0} (layers : List LayerRow) (contents : List (Option X)) : Type 0 where
+pub record IsJoined {X : Type 0} (layers : List LayerRow) (contents : List (Option X))
+    : Type 0 where
   pub same_length : length contents ≡ length layers
   pub tree : IsTree (joined layers contents)
 

@@ -1,6 +1,6 @@
 -- The rows of the list of layers, without what the paint rows hold: which rows there are, and going
 -- up from a row to its parent, and so on up to the root 0.
-use Rattle.std.specs.Prelude.{ℕ, zero, suc, ◌+◌, Bool, true, false, not, ◌&&◌, ◌||◌, ◌==◌}
+use Rattle.std.specs.Prelude.{ℕ, zero, suc, Bool, false, not, ◌||◌, ◌==◌}
 use Rattle.std.specs.Prelude.{Option, List, [], ◌∷◌, is_some}
 use Rattle.std.specs.List.{find, list_any, list_all}
 use Rattle.std.specs.Option.{option_map_or}

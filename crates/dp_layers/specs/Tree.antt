@@ -1,5 +1,6 @@
 -- What the rows of a tree of layers keep to.
-use Rattle.std.specs.Prelude.{◌≡◌, ◌≢◌, ◌≤◌, false, not, ◌==◌, is_some, IsTrue, List, map, length, All}
+use Rattle.std.specs.Prelude.{◌≡◌, ◌≢◌, ◌≤◌, false, not, ◌==◌, IsTrue, is_some}
+use Rattle.std.specs.Prelude.{List, map, length, All}
 use Rattle.std.specs.List.{IsDistinct}
 use Rattle.dp_msg_draw.specs.Limits.{IsListedMode}
 use Rattle.dp_layers.specs.declared.row.LayerRow.{LayerRow}
@@ -7,7 +8,8 @@ use Rattle.dp_layers.specs.Layers.{nesting_limit, row_limit, is_root_or_group, i
 use Rattle.dp_layers.specs.Rows.{Row, layers_of}
 
 -- Ids are different, and none is 0; each parent is the root or a present group; no row is below
--- itself, and none is nested deeper than the limit; there are not too many rows; and each mode is one.
+-- itself, and none is nested deeper than the limit; there are at most as many rows as may stand in
+-- the list; and each mode is a listed one.
 pub record IsLayerTree (rows : List LayerRow) : Type 0 where
   pub distinct : IsDistinct ◌==◌ (map (λ row. row.id) rows)
   pub numbered : All (λ row. row.id ≢ 0) rows

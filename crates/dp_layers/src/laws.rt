@@ -1,11 +1,13 @@
 //! Laws of the definitions, each the contract of a function that does nothing.
 
-ghost use Rattle.std.specs.Prelude.{◌≡◌, ◌↔◌, ℕ, Option, List, [], map, length, count_by, not, is_some, IsTrue};
+ghost use Rattle.std.specs.Prelude.{◌≡◌, ◌↔◌, ℕ, not, Option, Some, is_some, IsTrue};
+ghost use Rattle.std.specs.Prelude.{List, [], map, length, count_by, All};
 ghost use Rattle.std.specs.List.{filter_map};
 ghost use Rattle.std.specs.Option.{option_map};
 ghost use Rattle.dp_msg_draw.specs.Limits.{IsListedMode};
 ghost use Rattle.dp_msg_draw.specs.declared.draw.Draw.{Draw as Message};
-ghost use Rattle.dp_layers.specs.Layers.{is_paint_row, is_listed_mode};
+ghost use Rattle.dp_layers.specs.declared.row.LayerRow.{LayerRow as Layer};
+ghost use Rattle.dp_layers.specs.Layers.{row_of, is_paint_row, is_listed_mode};
 ghost use Rattle.dp_layers.specs.Rows.{
   Row,
   layers_of,
@@ -15,7 +17,7 @@ ghost use Rattle.dp_layers.specs.Rows.{
   map_contents,
 };
 ghost use Rattle.dp_layers.specs.Changes.{makes_paint_row, rows_after};
-ghost use Rattle.dp_layers.specs.Tree.{IsTree};
+ghost use Rattle.dp_layers.specs.Tree.{IsLayerTree, IsTree};
 
 /// No rows are a tree of layers, and what a command makes of a tree is one, as is a tree with
 /// another content in a paint row.
@@ -51,8 +53,14 @@ pub fn one_tree<X>()
         → layers_of a ≡ layers_of b → contents_of a ≡ contents_of b → a ≡ b }
 {}
 
-/// What a tree's paint rows hold, in order: as many contents as paint rows, and those that the ids of
-/// the rows lead to.
+/// Each row is the one that its id leads to.
+pub fn rows_by_id()
+    ensures { (rows : List Layer) → IsLayerTree rows
+        → All (λ row. row_of rows row.id ≡ Some row) rows }
+{}
+
+/// What a tree's paint rows hold, in order: as many contents as paint rows, and those that the ids
+/// of the rows lead to.
 pub fn contents_in_order<X>()
     ensures count { (rows : List (Row X)) → IsTree rows
         → length (contents_of rows) ≡ count_by (λ row. not row.group) (layers_of rows) }

@@ -7,7 +7,9 @@ mod lookup;
 mod row;
 mod tree;
 
-pub use laws::{contents_in_order, contents_ride_along, listed_modes, one_tree, trees_stay_trees};
+pub use laws::{
+    contents_in_order, contents_ride_along, listed_modes, one_tree, rows_by_id, trees_stay_trees,
+};
 pub use row::LayerRow;
 pub use tree::Tree;
 

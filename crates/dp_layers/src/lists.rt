@@ -1,6 +1,7 @@
 //! Changes of rows and of vectors by their places.
 
-ghost use Rattle.std.specs.Prelude.{◌≡◌, ◌<◌, [], ◌∷◌, ◌++◌, length, vec_len, if◌then◌else◌, IfOk, OnOk, OnErr};
+ghost use Rattle.std.specs.Prelude.{◌≡◌, ◌<◌, [], ◌∷◌, ◌++◌, length, vec_len, if◌then◌else◌};
+ghost use Rattle.std.specs.Prelude.{IfOk, OnOk, OnErr};
 ghost use Rattle.std.specs.List.{items_where_true};
 ghost use Rattle.dp_layers.specs.Layers.{are_within};
 ghost use Rattle.dp_layers.specs.Changes.{set_parent};

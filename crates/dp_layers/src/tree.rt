@@ -38,7 +38,7 @@ use std::marker::Model;
 
 /// The rows of the list of layers, the bottom one first, with what each paint row holds. It is seen
 /// as the list of its rows, which keep to `IsTree`.
-#[derive(Drop)]
+#[derive(Debug, Drop)]
 pub struct Tree<X> {
     layers: Vec<LayerRow>,
     contents: Vec<Option<X>>,
@@ -87,7 +87,8 @@ impl<X: Drop> Tree<X> {
         }
     }
 
-    /// Puts x in the place of what the paint row of the id holds, and gives that back.
+    /// Puts x in the place of what the paint row of the id holds, and gives that back. A paint row
+    /// has the id.
     pub fn put_content(&mut self, id: u16, x: X) -> X
         requires { IsTrue (is_paint_row (layers_of self.old) id) }
         ensures old { content_of self.old id ≡ Some result }
@@ -102,8 +103,8 @@ impl<X: Drop> Tree<X> {
         }
     }
 
-    /// LayerCreate: puts a new row last, which holds x. True exactly where the command has an effect.
-    /// The rule: docs/protocol.md, "The layers".
+    /// LayerCreate: puts a new row last, which holds x, where it is no group. True exactly where the
+    /// command has an effect. The rule: docs/protocol.md, "The layers".
     ///
     /// # Errors
     ///
@@ -140,8 +141,8 @@ impl<X: Drop> Tree<X> {
         Ok(true)
     }
 
-    /// LayerAttr: gives the row its opacity and mode, and hides it or shows it. True exactly where the
-    /// command has an effect. The rule: docs/protocol.md, "The layers".
+    /// LayerAttr: gives the row its opacity and mode, and hides it or shows it. True exactly where
+    /// the command has an effect. The rule: docs/protocol.md, "The layers".
     ///
     /// # Errors
     ///
@@ -160,8 +161,9 @@ impl<X: Drop> Tree<X> {
         else {
             unreachable!()
         };
-        let Some(place) = place_of(&self.layers, *id) else {
-            return Ok(false);
+        let place = match place_of(&self.layers, *id) {
+            Some(place) => place,
+            None => return Ok(false),
         };
         if !is_listed_mode(*mode) {
             return Ok(false);
@@ -224,8 +226,8 @@ impl<X: Drop> Tree<X> {
         Ok(true)
     }
 
-    /// LayerDelete: takes the row away, with all rows below it. True exactly where the command has an
-    /// effect. The rule: docs/protocol.md, "The layers".
+    /// LayerDelete: takes the row away, with all rows below it. True exactly where the command has
+    /// an effect. The rule: docs/protocol.md, "The layers".
     ///
     /// # Errors
     ///
@@ -248,7 +250,8 @@ impl<X: Drop> Tree<X> {
         Ok(true)
     }
 
-    /// A tree of the same rows, whose paint rows hold the contents, the bottom one the first.
+    /// A tree of the same rows, whose paint rows hold the contents, the bottom one the first. There
+    /// are as many contents as paint rows.
     ///
     /// # Errors
     ///

@@ -1,4 +1,5 @@
-use Rattle.dp_layers.proofs.Contents.{layers_of-mapped, contents-mapped, content-mapped, filled-mapped, tree-mapped_contents}
+use Rattle.dp_layers.proofs.Contents.{layers_of-mapped, contents-mapped, content-mapped}
+use Rattle.dp_layers.proofs.Contents.{filled-mapped, tree-mapped_contents}
 use Rattle.dp_layers.proofs.Mapping.{after-mapped}
 use Rattle.dp_layers.proofs.laws.contents_ride_along.Goals as goal
 

@@ -2,4 +2,5 @@ use Rattle.dp_layers.proofs.Contents.{same_tree}
 use Rattle.dp_layers.proofs.laws.one_tree.Goals as goal
 
 pub returns : goal.returns
-returns g c = λ a b left right layers contents. same_tree a b left.contents right.contents layers contents
+returns g c =
+    λ a b left right layers contents. same_tree a b left.contents right.contents layers contents

@@ -1,7 +1,7 @@
-use Rattle.std.proofs.Common.{◌≡◌, ◌+◌, ◌-◌, ◌==◌, ◌||◌, ℕ, zero, suc, false, arith, sym, ◌∙◌, ap, subst}
+use Rattle.std.proofs.Common.{◌≡◌, ◌+◌, ◌-◌, ◌==◌, ◌||◌, ℕ, zero, suc, false, arith, sym, ◌∙◌, ap}
 use Rattle.std.proofs.lemmas.Bool.{ne_eqb}
 use Rattle.std.proofs.Math.Bool.{or-false}
-use Rattle.dp_layers.specs.Layers.{is_below, parent_of}
+use Rattle.dp_layers.specs.Layers.{is_below}
 use Rattle.dp_layers.proofs.Going.{is_below-step, is_below-none}
 use Rattle.dp_layers.proofs.lookup.is_in.Goals as goal
 
@@ -22,5 +22,7 @@ returns c =
     let rows = c.args.rows.now in
     let none : 16 - c.loop-step._step ≡ zero = omega arith in
     let ends : is_below (16 - c.loop-step._step) rows c.loop-step.at c.args.other ≡ false =
-    ap (λ n. is_below n rows c.loop-step.at c.args.other) none ∙ is_below-none rows c.loop-step.at c.args.other in
-    sym (ap (λ b. c.loop-step.at == c.args.other || b) ends ∙ or-false (c.loop-step.at == c.args.other)) ∙ c.loop-step.invariant
+    ap (λ n. is_below n rows c.loop-step.at c.args.other) none
+    ∙ is_below-none rows c.loop-step.at c.args.other in
+    sym (ap (λ b. c.loop-step.at == c.args.other || b) ends
+    ∙ or-false (c.loop-step.at == c.args.other)) ∙ c.loop-step.invariant

@@ -7,7 +7,8 @@ pub returns-then-at-eq0 : goal.returns-then-at-eq0
 returns-then-at-eq0 c =
     let left : ℕ = c.args.limit - c.loop-step._step in
     let P : ℕ → Type 0 = λ at. true ≡ is_within left c.args.rows.now at in
-    subst P (sym c.if-at-eq0.true) (sym (is_within-root left c.args.rows.now)) ∙ c.loop-step.invariant
+    subst P (sym c.if-at-eq0.true) (sym (is_within-root left c.args.rows.now))
+    ∙ c.loop-step.invariant
 
 pub loop-step-preserved : goal.loop-step-preserved
 loop-step-preserved c =
