@@ -10,5 +10,6 @@ pub mod TileLemmas
 pub mod TileLaws
 pub mod Moves
 pub mod Layers
+pub mod FootLemmas
 pub mod Parts
 pub mod Whole

@@ -1,6 +1,6 @@
 -- The foot of a command: where it may change a layer, and where it reads it.
 use Rattle.std.specs.Prelude.{ℕ, ◌+◌, ◌-◌, ◌*◌, ◌/◌, ◌==◌, ℤ, pos, unsigned_abs}
-use Rattle.std.specs.Prelude.{Bool, true, ◌&&◌, ◌||◌, int_lt, if◌then◌else◌, List, [], ◌∷◌, map, fold}
+use Rattle.std.specs.Prelude.{Bool, true, ◌&&◌, ◌||◌, int_lt, if◌then◌else◌, List, [], ◌∷◌, map, fold, Option, Some, None}
 use Rattle.std.specs.List.{list_any}
 use Rattle.dp_msg_draw.specs.declared.draw.Draw.{Draw}
 use Rattle.dp_msg_draw.specs.declared.draw.Draw.TheVariants.{CanvasResize, FillRect, PutImage, PutTile, DabsRound, DabsSquare, MoveRect}
@@ -83,3 +83,9 @@ squares_of_foot All = 0
 abbrev pub reach : Draw → ℕ
 reach (CanvasResize top right bottom left) = 1048576
 reach op = squares_of_foot (foot op)
+
+-- the layer that a foot names
+abbrev pub foot_layer : Footprint → Option ℕ
+foot_layer (Area layer rect) = Some layer
+foot_layer (Two layer from to) = Some layer
+foot_layer All = None
