@@ -1,5 +1,5 @@
 -- What the operations on lanes compute, lane by lane.
-use Rattle.std.proofs.Common.{◌≡◌, ℕ, ◌+◌, ◌-◌, ◌*◌, ◌/◌, ◌%◌, ◌<◌, ◌≤◌, List, [], ◌∷◌, map, length, Fits, w16, arith, ap, refl, cond, ◌==◌, inl, inr, false, true, eqb, ltb, min}
+use Rattle.std.proofs.Common.{◌≡◌, ℕ, ◌+◌, ◌-◌, ◌*◌, ◌/◌, ◌%◌, ◌<◌, ◌≤◌, List, [], ◌∷◌, map, Fits, w16, arith, refl, cond, ◌==◌, inl, inr, ltb, min}
 use Rattle.std.specs.Simd.Lanes.{zip2, Each1, sel_l}
 use Rattle.std.proofs.Math.Nat.{mul-le-mul_right, mul-add}
 use Rattle.std.proofs.lemmas.Bool.Decides.{eqb_tells, nat_tests}

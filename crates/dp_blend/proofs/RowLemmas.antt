@@ -1,5 +1,5 @@
 -- Rows whose places are changed one after the other.
-use Rattle.std.proofs.Common.{◌≡◌, ℕ, ◌+◌, ◌*◌, ◌<◌, ◌≤◌, ◌≢◌, List, [], ◌∷◌, length, get_or, set, take, map, suc, zero, refl, sym, ap, ◌∙◌, arith, add-one, get_or-set_other}
+use Rattle.std.proofs.Common.{◌≡◌, ℕ, ◌+◌, ◌<◌, ◌≤◌, ◌≢◌, List, [], ◌∷◌, length, get_or, set, take, suc, zero, refl, sym, ap, ◌∙◌, arith, add-one, get_or-set_other}
 use Rattle.std.proofs.lemmas.List.{take_all}
 use Rattle.dp_blend.specs.Color.{Channels, fade}
 use Rattle.dp_blend.specs.Blending.{blend, masked, row_blended, row_filled, row_merged}

@@ -54,14 +54,14 @@ blended_by mode f g is_channel is_alpha v w s d =
     let q = s.second_pixel in
     let h = d.first_pixel in
     let k = d.second_pixel in
-    let r = is_channel _ _ _ _ p.r p.a h.r h.a in
-    let g = is_channel _ _ _ _ p.g p.a h.g h.a in
-    let b = is_channel _ _ _ _ p.b p.a h.b h.a in
-    let a = is_alpha _ _ p.a h.a in
-    let r' = is_channel _ _ _ _ q.r q.a k.r k.a in
-    let g' = is_channel _ _ _ _ q.g q.a k.g k.a in
-    let b' = is_channel _ _ _ _ q.b q.a k.b k.a in
-    let a' = is_alpha _ _ q.a k.a in
+    let red = is_channel _ _ _ _ p.r p.a h.r h.a in
+    let green = is_channel _ _ _ _ p.g p.a h.g h.a in
+    let blue = is_channel _ _ _ _ p.b p.a h.b h.a in
+    let alpha = is_alpha _ _ p.a h.a in
+    let red' = is_channel _ _ _ _ q.r q.a k.r k.a in
+    let green' = is_channel _ _ _ _ q.g q.a k.g k.a in
+    let blue' = is_channel _ _ _ _ q.b q.a k.b k.a in
+    let alpha' = is_alpha _ _ q.a k.a in
     cc
 
 -- the alpha of one over the other

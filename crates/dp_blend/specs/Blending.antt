@@ -77,4 +77,5 @@ row_filled mode src row = map (blend mode src) row
 abbrev pub row_merged : Mode → ℕ → List Channels → List Channels → List Channels
 row_merged mode by [] row = row
 row_merged mode by (s ∷ sources) [] = []
-row_merged mode by (s ∷ sources) (d ∷ row) = blend mode (fade s by) d ∷ row_merged mode by sources row
+row_merged mode by (s ∷ sources) (d ∷ row) =
+    blend mode (fade s by) d ∷ row_merged mode by sources row

@@ -28,11 +28,14 @@ pub record ArePixels (v : List ℕ) : Type 0 where
 
 -- the pixel in the first four lanes, and that in the last four
 abbrev pub first_of : List ℕ → Channels
-first_of v = record { r = slice_index v 0; g = slice_index v 1; b = slice_index v 2; a = slice_index v 3 }
+first_of v =
+    record { r = slice_index v 0; g = slice_index v 1; b = slice_index v 2; a = slice_index v 3 }
 
 abbrev pub second_of : List ℕ → Channels
-second_of v = record { r = slice_index v 4; g = slice_index v 5; b = slice_index v 6; a = slice_index v 7 }
+second_of v =
+    record { r = slice_index v 4; g = slice_index v 5; b = slice_index v 6; a = slice_index v 7 }
 
 -- the lanes of two sources, each blended with the pixel at its place
 abbrev pub blended_lanes : Mode → List ℕ → List ℕ → List ℕ
-blended_lanes mode v w = lanes (blend mode (first_of v) (first_of w)) (blend mode (second_of v) (second_of w))
+blended_lanes mode v w =
+    lanes (blend mode (first_of v) (first_of w)) (blend mode (second_of v) (second_of w))

@@ -33,8 +33,11 @@ pub(crate) fn pixels_of(values: u16x8) -> (Pixel, Pixel)
     requires { ArePixels values }
     ensures { lanes result.0 result.1 ≡ values }
 {
-    let [r, g, b, a, s, h, c, e] = values.to_array();
-    (Pixel::of(r, g, b, a), Pixel::of(s, h, c, e))
+    let [r, g, b, a, next_r, next_g, next_b, next_a] = values.to_array();
+    (
+        Pixel::of(r, g, b, a),
+        Pixel::of(next_r, next_g, next_b, next_a),
+    )
 }
 
 /// The first number in each lane of the first pixel, and the second in each of the second.
@@ -95,7 +98,7 @@ pub(crate) fn capped_sums(values: u16x8, others: u16x8) -> u16x8
     values.saturating_add(others)
 }
 
-/// The upper halves of the products of the lanes, one instruction of the processor.
+/// The upper halves of the products of the lanes: one instruction of the processor.
 #[inline(always)]
 fn high_halves(values: u16x8, factors: u16x8) -> u16x8
     ensures { result ≡ zip2 (λ v f. v * f / 65536) values factors }
@@ -104,7 +107,8 @@ fn high_halves(values: u16x8, factors: u16x8) -> u16x8
     (products >> 16).cast::<u16>()
 }
 
-/// The products of the lanes, of which 32768 is one, rounded down.
+/// The products of the lanes, of which 32768 is one, rounded down: the upper halves of twice the
+/// products. Twice a factor of one doesn't fit a lane; there the product is the value.
 #[inline(always)]
 pub(crate) fn products(values: u16x8, factors: u16x8) -> u16x8
     requires { Each1 (λ f. f ≤ 32768) factors }

@@ -54,8 +54,8 @@ pub fn row_fill(mode: Mode, src: Pixel, row: &mut [Pixel])
     }
 }
 
-/// Blends with each pixel of the row the source at its place, faded by `by`, of which 32768 is one. A
-/// fade by 0 blends the clear pixel, so it leaves that in the mode Replace.
+/// Blends with each pixel of the row the source at its place, faded by `by`, of which 32768 is one.
+/// A fade by 0 blends the clear pixel, so that in the mode Replace it leaves the row clear.
 ///
 /// The rule: docs/protocol.md, "Numbers and blending".
 pub fn row_merge(mode: Mode, by: u16, sources: &[Pixel], row: &mut [Pixel])

@@ -1,4 +1,4 @@
-use Rattle.std.proofs.Common.{◌≡◌, ℕ, ◌+◌, ◌-◌, ◌%◌, map, ap, ◌∙◌, ltb, w16, List}
+use Rattle.std.proofs.Common.{ℕ, ◌+◌, ◌-◌, ◌%◌, map, ap, ◌∙◌, ltb, w16, List}
 use Rattle.std.specs.Simd.Lanes.{sel_l, zip2}
 use Rattle.std.proofs.lemmas.Simd.{tops_compared}
 use Rattle.dp_blend.proofs.LaneLemmas.{smaller_is, capped_is}

@@ -1,4 +1,4 @@
-use Rattle.std.proofs.Common.{◌≡◌, ◌+◌, ◌-◌, ◌*◌, length, get_or, sym, ap, ◌∙◌, arith}
+use Rattle.std.proofs.Common.{◌+◌, ◌-◌, ◌*◌, length, get_or, sym, ap, ◌∙◌, arith}
 use Rattle.dp_blend.specs.Blending.{masked}
 use Rattle.dp_blend.proofs.RowLemmas.{changed-all, changed-last, changed-two, row_blended-is, row_blended-places}
 use Rattle.dp_blend.proofs.rows.blend_by.Goals as goal

@@ -1,4 +1,4 @@
-use Rattle.std.proofs.Common.{◌≡◌, ◌+◌, ◌-◌, ◌*◌, length, sym, ap, ◌∙◌, arith}
+use Rattle.std.proofs.Common.{◌+◌, ◌-◌, ◌*◌, length, sym, ap, ◌∙◌, arith}
 use Rattle.dp_blend.specs.Color.{Channels, fade}
 use Rattle.dp_blend.specs.Blending.{blend}
 use Rattle.dp_blend.proofs.RowLemmas.{changed-all, changed-last, changed-two, row_merged-is, row_merged-places}
