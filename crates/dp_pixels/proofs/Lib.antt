@@ -11,5 +11,6 @@ pub mod TileLaws
 pub mod Moves
 pub mod Layers
 pub mod FootLemmas
+pub mod PixelLemmas
 pub mod Parts
 pub mod Whole

@@ -7,8 +7,11 @@ ghost use Rattle.dp_blend.specs.Color.{Channels, IsPixel};
 ghost use Rattle.dp_msg_draw.specs.declared.draw.Draw.{Draw};
 ghost use Rattle.dp_pixels.specs.declared.rect.Rect.{Rect};
 ghost use Rattle.dp_pixels.specs.Rectangles.{canvas_rect, is_in, share_place};
+ghost use Rattle.dp_pixels.specs.Colors.{FitsColors};
 ghost use Rattle.dp_pixels.specs.Drawing.{drawn};
 ghost use Rattle.dp_pixels.specs.Feet.{Footprint, feet_meet, foot, foot_layer, is_in_foot};
+
+use dp_blend::{blend_gives_pixels, fade_gives_pixels};
 
 /// Outside its foot a command keeps each pixel.
 pub fn pixels_stay_outside_the_foot()
@@ -38,3 +41,14 @@ pub fn feet_apart()
     ensures { (a b : Footprint) (x y : ℤ) → foot_layer a ≡ foot_layer b → feet_meet a b ≡ false
         → IsTrue (is_in_foot a x y) → is_in_foot b x y ≡ false }
 {}
+
+/// A command makes pixels of pixels.
+pub fn pixels_stay_pixels()
+    ensures { (width height : ℕ) (op : Draw) (old : ℤ → ℤ → Channels) (x y : ℤ) → FitsColors op
+        → IsPixel (old x y)
+        → ((v w : ℤ) → IsTrue (is_in (canvas_rect width height) v w) → IsPixel (old v w))
+        → IsPixel (drawn width height op old x y) }
+{
+    blend_gives_pixels();
+    fade_gives_pixels();
+}

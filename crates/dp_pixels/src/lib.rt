@@ -21,7 +21,9 @@ mod tiles;
 mod window;
 
 pub use draw::draw_window;
-pub use laws::{feet_apart, pixels_stay_outside_the_foot, shared_places, the_foot_tells_all};
+pub use laws::{
+    feet_apart, pixels_stay_outside_the_foot, pixels_stay_pixels, shared_places, the_foot_tells_all,
+};
 pub use layer::draw_pixels;
 pub use place::{covers, pixel_after};
 pub use rect::Rect;
