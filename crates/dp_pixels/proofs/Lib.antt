@@ -12,5 +12,6 @@ pub mod Moves
 pub mod Layers
 pub mod FootLemmas
 pub mod PixelLemmas
+pub mod Squares
 pub mod Parts
 pub mod Whole

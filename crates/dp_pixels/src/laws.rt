@@ -6,10 +6,11 @@ ghost use Rattle.std.specs.Prelude.{◌≡◌, ◌≤◌, ◌↔◌, ℕ, ℤ, t
 ghost use Rattle.dp_blend.specs.Color.{Channels, IsPixel};
 ghost use Rattle.dp_msg_draw.specs.declared.draw.Draw.{Draw};
 ghost use Rattle.dp_pixels.specs.declared.rect.Rect.{Rect};
-ghost use Rattle.dp_pixels.specs.Rectangles.{canvas_rect, is_in, share_place};
+ghost use Rattle.dp_pixels.specs.Rectangles.{canvas_rect, clipped, is_in, share_place};
 ghost use Rattle.dp_pixels.specs.Colors.{FitsColors};
 ghost use Rattle.dp_pixels.specs.Drawing.{drawn};
-ghost use Rattle.dp_pixels.specs.Feet.{Footprint, feet_meet, foot, foot_layer, is_in_foot};
+ghost use Rattle.dp_pixels.specs.Feet.{Footprint, feet_meet, foot, foot_layer, greatest_canvas};
+ghost use Rattle.dp_pixels.specs.Feet.{is_in_foot, squares_of, squares_shared};
 
 use dp_blend::{blend_gives_pixels, fade_gives_pixels};
 
@@ -52,3 +53,10 @@ pub fn pixels_stay_pixels()
     blend_gives_pixels();
     fade_gives_pixels();
 }
+
+/// The product that gives the squares of a rectangle of the greatest canvas counts those that share
+/// a place with it.
+pub fn squares_are_counted()
+    ensures { (r : Rect)
+        → squares_of (clipped r greatest_canvas) ≡ squares_shared (clipped r greatest_canvas) }
+{}
