@@ -10,5 +10,8 @@ pub mod TileLemmas
 pub mod TileLaws
 pub mod Moves
 pub mod Layers
+pub mod FootLemmas
+pub mod PixelLemmas
+pub mod Squares
 pub mod Parts
 pub mod Whole

@@ -1,7 +1,7 @@
 -- The foot of a command: where it may change a layer, and where it reads it.
 use Rattle.std.specs.Prelude.{ℕ, ◌+◌, ◌-◌, ◌*◌, ◌/◌, ◌==◌, ℤ, pos, unsigned_abs}
-use Rattle.std.specs.Prelude.{Bool, true, ◌&&◌, ◌||◌, int_lt, if◌then◌else◌, List, [], ◌∷◌, map, fold}
-use Rattle.std.specs.List.{list_any}
+use Rattle.std.specs.Prelude.{Bool, true, ◌&&◌, ◌||◌, int_lt, if◌then◌else◌, List, [], ◌∷◌, map, fold, Option, Some, None}
+use Rattle.std.specs.List.{sum_by, count_by, range_with_len}
 use Rattle.dp_msg_draw.specs.declared.draw.Draw.{Draw}
 use Rattle.dp_msg_draw.specs.declared.draw.Draw.TheVariants.{CanvasResize, FillRect, PutImage, PutTile, DabsRound, DabsSquare, MoveRect}
 use Rattle.dp_pixels.specs.declared.rect.Rect.{Rect}
@@ -83,3 +83,17 @@ squares_of_foot All = 0
 abbrev pub reach : Draw → ℕ
 reach (CanvasResize top right bottom left) = 1048576
 reach op = squares_of_foot (foot op)
+
+-- the layer that a foot names
+abbrev pub foot_layer : Footprint → Option ℕ
+foot_layer (Area layer rect) = Some layer
+foot_layer (Two layer from to) = Some layer
+foot_layer All = None
+
+-- how many squares share a place with a rectangle, counted one by one, row by row
+abbrev pub squares_shared : Rect → ℕ
+squares_shared r =
+    sum_by (λ row.
+    count_by (λ col. share_place (rect_at (pos (col * 64)) (pos (row * 64)) 64 64) r)
+    (range_with_len 0 64))
+    (range_with_len 0 64)

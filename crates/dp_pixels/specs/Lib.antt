@@ -5,5 +5,6 @@ pub mod Spans
 pub mod Parts
 pub mod Windows
 pub mod Tiles
+pub mod Colors
 pub mod Drawing
 pub mod Feet

@@ -9,6 +9,7 @@ mod disc;
 mod draw;
 mod fill;
 mod image;
+mod laws;
 mod layer;
 mod moving;
 mod paint;
@@ -20,6 +21,10 @@ mod tiles;
 mod window;
 
 pub use draw::draw_window;
+pub use laws::{
+    feet_apart, pixels_stay_outside_the_foot, pixels_stay_pixels, shared_places, squares_are_counted,
+    the_foot_tells_all,
+};
 pub use layer::draw_pixels;
 pub use place::{covers, pixel_after};
 pub use rect::Rect;

@@ -1,0 +1,62 @@
+//! Laws of the pixel commands. Each function does nothing: its contract is the law.
+//!
+//! The rule: docs/protocol.md, "Pixel commands".
+
+ghost use Rattle.std.specs.Prelude.{◌≡◌, ◌≤◌, ◌↔◌, ℕ, ℤ, true, false, IsTrue};
+ghost use Rattle.dp_blend.specs.Color.{Channels, IsPixel};
+ghost use Rattle.dp_msg_draw.specs.declared.draw.Draw.{Draw};
+ghost use Rattle.dp_pixels.specs.declared.rect.Rect.{Rect};
+ghost use Rattle.dp_pixels.specs.Rectangles.{canvas_rect, clipped, is_in, share_place};
+ghost use Rattle.dp_pixels.specs.Colors.{FitsColors};
+ghost use Rattle.dp_pixels.specs.Drawing.{drawn};
+ghost use Rattle.dp_pixels.specs.Feet.{Footprint, feet_meet, foot, foot_layer, greatest_canvas};
+ghost use Rattle.dp_pixels.specs.Feet.{is_in_foot, squares_of, squares_shared};
+
+use dp_blend::{blend_gives_pixels, fade_gives_pixels};
+
+/// Outside its foot a command keeps each pixel.
+pub fn pixels_stay_outside_the_foot()
+    ensures { (width height : ℕ) (op : Draw) (old : ℤ → ℤ → Channels) (x y : ℤ)
+        → width ≤ 4096 → height ≤ 4096 → is_in_foot (foot op) x y ≡ false
+        → drawn width height op old x y ≡ old x y }
+{}
+
+/// The pixel drawn at a place depends on the old one there and on those of the canvas in the foot,
+/// and on no others.
+pub fn the_foot_tells_all()
+    ensures { (width height : ℕ) (op : Draw) (old other : ℤ → ℤ → Channels) (x y : ℤ)
+        → width ≤ 4096 → height ≤ 4096 → old x y ≡ other x y
+        → ((v w : ℤ) → IsTrue (is_in (canvas_rect width height) v w)
+            → IsTrue (is_in_foot (foot op) v w) → old v w ≡ other v w)
+        → drawn width height op old x y ≡ drawn width height op other x y }
+{}
+
+/// Two rectangles share a place exactly where some place is in both.
+pub fn shared_places()
+    ensures { (a b : Rect) → IsTrue (share_place a b)
+        ↔ ((x : ℤ) × (y : ℤ) × IsTrue (is_in a x y) × IsTrue (is_in b x y)) }
+{}
+
+/// Feet of one layer that don't meet have no place in common.
+pub fn feet_apart()
+    ensures { (a b : Footprint) (x y : ℤ) → foot_layer a ≡ foot_layer b → feet_meet a b ≡ false
+        → IsTrue (is_in_foot a x y) → is_in_foot b x y ≡ false }
+{}
+
+/// A command makes pixels of pixels.
+pub fn pixels_stay_pixels()
+    ensures { (width height : ℕ) (op : Draw) (old : ℤ → ℤ → Channels) (x y : ℤ) → FitsColors op
+        → IsPixel (old x y)
+        → ((v w : ℤ) → IsTrue (is_in (canvas_rect width height) v w) → IsPixel (old v w))
+        → IsPixel (drawn width height op old x y) }
+{
+    blend_gives_pixels();
+    fade_gives_pixels();
+}
+
+/// The product that gives the squares of a rectangle of the greatest canvas counts those that share
+/// a place with it.
+pub fn squares_are_counted()
+    ensures { (r : Rect)
+        → squares_of (clipped r greatest_canvas) ≡ squares_shared (clipped r greatest_canvas) }
+{}
