@@ -275,15 +275,16 @@ shared_by a b x y h k =
     within low z high from before = grind (arith, ints)
 
 pub shared : (a b : Rect) → IsTrue (share_place a b) ↔ ((x : ℤ) × (y : ℤ) × IsTrue (is_in a x y) × IsTrue (is_in b x y))
-shared a b =
-    (λ test.
-    let x = int_max a.x0 b.x0 in
-    let y = int_max a.y0 b.y0 in
-    let both = and_parts (int_lt x (int_min a.x1 b.x1)) (int_lt y (int_min a.y1 b.y1)) test in
-    let corner : IsIn (clipped a b) x y = record { x0 = omega (arith, ints); x1 = below x (int_min a.x1 b.x1) both.0; y0 = omega (arith, ints); y1 = below y (int_min a.y1 b.y1) both.1 } in
-    let inside = clipped_in a b x y corner in
-    (x, y, is_in_by a x y inside.0, is_in_by b x y inside.1),
-    λ place. shared_by a b place.0 place.1 (is_in-true a place.0 place.1 place.2) (is_in-true b place.0 place.1 place.3))
+shared a b = (
+  λ test.
+      let x = int_max a.x0 b.x0 in
+      let y = int_max a.y0 b.y0 in
+      let both = and_parts (int_lt x (int_min a.x1 b.x1)) (int_lt y (int_min a.y1 b.y1)) test in
+      let corner : IsIn (clipped a b) x y = record { x0 = omega (arith, ints); x1 = below x (int_min a.x1 b.x1) both.0; y0 = omega (arith, ints); y1 = below y (int_min a.y1 b.y1) both.1 } in
+      let inside = clipped_in a b x y corner in
+      (x, y, is_in_by a x y inside.0, is_in_by b x y inside.1),
+  λ place. shared_by a b place.0 place.1 (is_in-true a place.0 place.1 place.2) (is_in-true b place.0 place.1 place.3),
+)
   where
     below : (y z : ℤ) → int_lt y z ≡ true → y <ℤ z
     below y z h = grind (arith, ints)

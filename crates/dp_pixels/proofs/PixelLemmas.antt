@@ -92,6 +92,7 @@ tile-IsPixel width height col row repeat content x y old h =
 -- what dp_blend says of pixels
 abbrev pub Blends : Type 0
 Blends = (mode : Mode) (src dst : Channels) → IsPixel src → IsPixel dst → IsPixel (blend mode src dst)
+
 abbrev pub Fades : Type 0
 Fades = (p : Channels) (m : ℕ) → IsPixel p → m ≤ 32768 → IsPixel (fade p m)
 

@@ -63,6 +63,7 @@ across_is a b col some =
   where
     less : (y z : ℤ) → int_lt y z ≡ true → y <ℤ z
     less y z h = grind (arith, ints)
+
     more : (y z : ℤ) → y <ℤ z → int_lt y z ≡ true
     more y z h = grind (arith, ints)
 
@@ -75,6 +76,7 @@ across_none a b col none =
   where
     least : (y z : ℤ) → int_lt y z ≡ false → z ≤ℤ y
     least y z h = grind (arith, ints)
+
     not_less : (y z : ℤ) → z ≤ℤ y → int_lt y z ≡ false
     not_less y z h = grind (arith, ints)
 
@@ -97,11 +99,11 @@ along n a b from to = ⊎_elim (some a b from to) (none a b) (cases_Bool (int_lt
         ∙ (all_below n (a / 64) ((b + 63) / 64) (omega arith) ∙ sym (cond-true (int_lt (pos a) (pos b)) ((b + 63) / 64 - a / 64) 0 is))
     some (pos a) (negsuc b) from to is = absurd (false≢true is)
     some (negsuc a) b from to is = absurd (omega (arith, ints))
+
     none : (a b : ℤ) → int_lt a b ≡ false → count_by (across a b) (range_with_len 0 n) ≡ stretches a b
     none a b is =
         counted (across a b) 0 0 (λ col. across_none a b col is ∙ sym (below_none col)) n 0 0
         ∙ (all_below n 0 0 (omega arith) ∙ sym (cond-false (int_lt a b) ((unsigned_abs b + 63) / 64 - unsigned_abs a / 64) 0 is))
-
 
 -- the squares of rows and columns
 both : (t u : Bool) → cond (t && u) 1 0 ≡ cond u 1 0 * cond t 1 0

@@ -27,7 +27,7 @@ pub fn the_foot_tells_all()
     ensures { (width height : ℕ) (op : Draw) (old other : ℤ → ℤ → Channels) (x y : ℤ)
         → width ≤ 4096 → height ≤ 4096 → old x y ≡ other x y
         → ((v w : ℤ) → IsTrue (is_in (canvas_rect width height) v w)
-            → IsTrue (is_in_foot (foot op) v w) → old v w ≡ other v w)
+        → IsTrue (is_in_foot (foot op) v w) → old v w ≡ other v w)
         → drawn width height op old x y ≡ drawn width height op other x y }
 {}
 

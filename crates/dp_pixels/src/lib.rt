@@ -22,8 +22,8 @@ mod window;
 
 pub use draw::draw_window;
 pub use laws::{
-    feet_apart, pixels_stay_outside_the_foot, pixels_stay_pixels, shared_places, squares_are_counted,
-    the_foot_tells_all,
+    feet_apart, pixels_stay_outside_the_foot, pixels_stay_pixels, shared_places,
+    squares_are_counted, the_foot_tells_all,
 };
 pub use layer::draw_pixels;
 pub use place::{covers, pixel_after};
