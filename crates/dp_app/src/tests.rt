@@ -26,6 +26,17 @@ fn frame(word: &str) -> &str {
         "UNDO1" => "0002ff020100",
         "CHAT" => "000223016869",
         "MARK" => "000825010000000000000000",
+        "SIZE11" => "0010810100000000000000010000000100000000",
+        "SIZE22" => "0010810100000000000000020000000200000000",
+        "SIZE31" => "0010810100000000000000030000000100000000",
+        "IMAGE1" => "0017880101010100000001000000000000000100000001ff00ff00",
+        "TILE" => "001192010101000000000000008000000000008000",
+        "HALF" => "001192010101000000000000004000000000004000",
+        "SQUARE1" => "00129601010100000001000000000000ff01000001ff",
+        "SQUARE_DX" => "00129601010100000000000000000000ff01010001ff",
+        "MOVE_RIGHT" => "001a98010101000000000000000000000002000000010000000100000000",
+        "MOVE_LEFT" => "001a98010101000000010000000000000002000000010000000000000000",
+        "MOVE_ONE" => "001a98010101000000010000000000000001000000010000000000000000",
         "CONTROL" => concat_control(),
         "META" => concat_meta(),
         other => other,
@@ -73,7 +84,25 @@ fn rows() -> &'static str {
 10|bad message at 0|000222010201||
 10|bad message at 0|001192010101000000000000000001000000000000||
 10|bad message at 29|SIZE LAYER 000583010101800100||
-10|bad message at 29|SIZE LAYER 0017890101010000000000000000000000000100000001ffff0000||
+10|bad message at 29|SIZE LAYER 00049301ff00ff00||
+0||SIZE LAYER RED0 001789010101000000000000000000000000010000000180000000|2 1|ff8080ffffff
+0||SIZE LAYER TILE IMAGE1|2 1|ff000000ff00
+0||SIZE LAYER TILE IMAGE1 SQUARE1|2 1|ff00000000ff
+0||SIZE LAYER TILE SQUARE1 MOVE_ONE|2 1|0000ffffffff
+0||SIZE LAYER TILE IMAGE1 SQUARE1 MOVE_ONE 001295010101000000000000000000ff0001000001ff BLUE1|2 1|00ff000000ff
+0||SIZE LAYER SQUARE_DX|2 1|ffffff0000ff
+0||SIZE22 LAYER 00129501010100000000000000000000ff01000001ff|2 2|0000ffffffffffffffffffff
+0||SIZE22 LAYER 00129501010100000000000000000000ff01000002ff|2 2|0000ffffffffffffffffffff
+0||SIZE22 LAYER 00129501010100000000000000000000ff01000003ff|2 2|0000ff0000ff0000ff0000ff
+0||SIZE22 LAYER 00129501010100000000000000000000ff01000004ff|2 2|0000ff0000ff0000ffffffff
+0||SIZE31 LAYER RED0 BLUE1 MOVE_RIGHT|3 1|ffffffff00000000ff
+0||SIZE31 LAYER RED0 BLUE1 MOVE_LEFT|3 1|0000ffffffffffffff
+0||SIZE11 LAYER HALF 00178901010100000000000000000000000001000000014000ff00|1 1|ff9f9f
+0||SIZE11 LAYER HALF 00178901010101000000000000000000000001000000014000ff00|1 1|bf9f60
+0||SIZE11 LAYER HALF 00178901010102000000000000000000000001000000014000ff00|1 1|bf8060
+0||SIZE11 LAYER HALF 00178901010109000000000000000000000001000000014000ff00|1 1|df9f60
+0||SIZE11 LAYER HALF 0017890101010a000000000000000000000001000000014000ff00|1 1|df9f80
+0||SIZE11 LAYER HALF 001789010101ff000000000000000000000001000000014000ff00|1 1|bfffbf
 0||0000c801|0 0|
 0||SIZE LAYER CONTROL META RED0|2 1|ff0000ffffff
 0||SIZE LAYER POINT RED0 CHAT UNDO META CONTROL REDO|2 1|ff0000ffffff
@@ -158,7 +187,12 @@ fn replay(
         piece,
         Vec::from_slice(alloc, faults.input)?,
     );
-    let mut output = MemSink::new(alloc, 1000, piece, Vec::from_slice(alloc, faults.output)?)?;
+    let mut output = MemSink::new(
+        alloc,
+        320_000,
+        piece,
+        Vec::from_slice(alloc, faults.output)?,
+    )?;
     let mut diag = MemSink::new(alloc, 1000, piece, Vec::from_slice(alloc, faults.diag)?)?;
     let status = drawpile(alloc, &words, &mut source, &mut output, &mut diag).status;
     Ok(Run {
@@ -214,6 +248,64 @@ fn a_tile_of_equal_pixels(rt: HostRuntime) -> Result<(), Fail> {
     assert_eq!(rt; run.status, 10);
     assert_eq!(rt; run.diag.as_slice(), b"bad message at 0\n".as_slice());
     assert!(rt; run.output.as_slice().is_empty());
+    Ok(())
+}
+
+/// A place of a canvas 320 wide is in the disc of size 255 whose middle is at (160, 160).
+fn is_in_disc(place: usize) -> bool {
+    let across = (2 * (place % 320)).abs_diff(320);
+    let down = (place / 320).wrapping_mul(2).abs_diff(320);
+    across
+        .wrapping_mul(across)
+        .wrapping_add(down.wrapping_mul(down))
+        <= 255 * 255
+}
+
+#[test]
+fn a_round_dab_of_size_255(rt: HostRuntime) -> Result<(), Fail> {
+    let alloc = rt.alloc();
+    let input = input_of(
+        alloc,
+        "0010810100000000000001400000014000000000 LAYER 001295010101000000a0000000a0ff0000010000ffff",
+    )?;
+    let run = replay(&rt, alloc, &input, 4096, NO_FAULTS)?;
+    assert_eq!(rt; run.status, 0);
+    let pixels = run.output.as_slice().get(15..).unwrap_or(&[]);
+    assert_eq!(rt; pixels.len(), 3 * 320 * 320);
+    for (place, pixel) in pixels.chunks(3).enumerate() {
+        let want: &[u8] = if is_in_disc(place) {
+            &[255, 0, 0]
+        } else {
+            &[255; 3]
+        };
+        assert_eq!(rt; pixel, want, "at place {place}");
+    }
+    for (place, is_in) in [
+        (51_232, false),
+        (51_233, true),
+        (51_487, true),
+        (51_488, false),
+        (0, false),
+    ] {
+        assert_eq!(rt; is_in_disc(place), is_in, "at place {place}");
+    }
+    Ok(())
+}
+
+#[test]
+fn a_tile_put_twice(rt: HostRuntime) -> Result<(), Fail> {
+    let alloc = rt.alloc();
+    let input = input_of(
+        alloc,
+        "0010810100000000000000800000004000000000 LAYER 001192010101000000000001008000000000008000",
+    )?;
+    let run = replay(&rt, alloc, &input, 4096, NO_FAULTS)?;
+    assert_eq!(rt; run.status, 0);
+    let pixels = run.output.as_slice().get(14..).unwrap_or(&[]);
+    assert_eq!(rt; pixels.len(), 3 * 8192);
+    for pixel in pixels.chunks(3) {
+        assert_eq!(rt; pixel, [255, 0, 0].as_slice());
+    }
     Ok(())
 }
 
