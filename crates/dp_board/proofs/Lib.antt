@@ -5,3 +5,4 @@ pub mod SortedLemmas
 pub mod CommandLemmas
 pub mod FlagLemmas
 pub mod GroupLemmas
+pub mod Numbers

@@ -6,3 +6,4 @@ pub mod Users
 pub mod Joins
 pub mod Table
 pub mod Laws
+pub mod Numbers

@@ -1,4 +1,5 @@
-//! A history read as acts, and which of its commands are drawn after undo and redo.
+//! A history read as acts, which of its commands are drawn after undo and redo, and the board that
+//! they are drawn on.
 //!
 //! Each user has groups of commands. A point opens a group, a command joins the last done group of
 //! its user, and undo and redo move a whole group. A command of a user without a done group is in
@@ -6,10 +7,12 @@
 #![tactic(auto)]
 
 mod act;
+mod board;
 mod flags;
 mod groups;
 mod join;
 mod laws;
+mod number_board;
 mod sorted;
 mod table;
 #[cfg(test)]
@@ -17,6 +20,8 @@ mod tests;
 mod window;
 
 pub use act::{Act, UserAct};
+pub use number_board::{NumberBoard, SetNumber};
+pub use board::Board;
 pub use flags::drawn_flags;
 pub use laws::{
     commands_do_not_count, each_act_has_a_flag, groups_are_points, strokes_go_on,

@@ -1,9 +1,4 @@
 pub mod Canvas
 pub mod Moves
 pub mod Resizes
-pub mod Whole
-pub mod Pieces
-pub mod Places
-pub mod Prefixes
 pub mod Replays
-pub mod Paints

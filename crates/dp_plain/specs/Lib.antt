@@ -1,8 +1,10 @@
 pub mod Board
 pub mod Drawing
+pub mod Holding
+pub mod Weights
+pub mod Resizing
 pub mod Moving
+pub mod Viewing
 pub mod Picture
-pub mod Places
 pub mod Replay
 pub mod Kinds
-pub mod Built

@@ -1,10 +1,7 @@
--- A canvas that gets new sides, and the rows of pixels that move, in the words of the code.
+-- The rows of pixels that move, in the words of the code.
 use Rattle.std.specs.Prelude.{ℕ, ℤ, pos, negsuc, ◌-ℤ◌, List, map, slice_index_or}
 use Rattle.dp_blend.specs.Color.{Channels, clear}
-use Rattle.dp_plain.specs.declared.geometry.Resize.{Resize}
-use Rattle.dp_plain.specs.Board.{Layer}
 use Rattle.dp_blend.specs.Canvas.{below}
-use Rattle.dp_plain.specs.Drawing.{pixels_moved, layer_moved}
 
 -- the pixel at a place of a row, clear outside it
 abbrev pub pixel_in : List Channels → ℤ → Channels
@@ -14,12 +11,3 @@ pixel_in row (negsuc x) = clear
 -- the row of this width on which each old pixel x stands at x + left
 abbrev pub row_moved : ℕ → List Channels → ℤ → List Channels
 row_moved width row left = map (λ x. pixel_in row (pos x -ℤ left)) (below width)
-
--- the pixels on the new canvas
-abbrev pub pixels_resized : Resize → List Channels → List Channels
-pixels_resized r pixels =
-    pixels_moved r.width r.height pixels r.new_width r.new_height r.left r.top
-
--- the layer on the new canvas
-abbrev pub layer_resized : Resize → Layer → Layer
-layer_resized r = layer_moved r.width r.height r.new_width r.new_height r.left r.top

@@ -1,30 +1,56 @@
 -- The picture of a board, and its texts.
-use Rattle.std.specs.Prelude.{ℕ, List, [], ◌∷◌, ◌++◌, codes, decimal}
-use Rattle.std.specs.List.{flat_map, fold}
-use Rattle.dp_blend.specs.Color.{Channels, clear, white, to8}
-use Rattle.dp_blend.specs.Blending.{blend}
+use Rattle.std.specs.Prelude.{ℕ, zero, suc, Bool, not, ◌&&◌, ◌==◌, if◌then◌else◌, unwrap_or}
+use Rattle.std.specs.Prelude.{List, [], ◌∷◌, ◌++◌, map, codes, decimal}
+use Rattle.std.specs.List.{filter, flat_map, fold}
+use Rattle.dp_blend.specs.Color.{Channels, clear, white, from8, to8, fade, of_argb}
+use Rattle.dp_blend.specs.Blending.{blend, mode_numbered}
+use Rattle.dp_blend.specs.Canvas.{below, canvas_of, pixel_at}
+use Rattle.dp_blend.specs.declared.modes.Mode.{Mode}
 use Rattle.dp_blend.specs.declared.modes.Mode.TheVariants.{Normal}
-use Rattle.dp_plain.specs.Board.{Layer, Board, pixels_of}
-use Rattle.dp_blend.specs.Canvas.{canvas_of, pixel_at}
+use Rattle.dp_layers.specs.declared.row.LayerRow.{LayerRow}
+use Rattle.dp_layers.specs.Layers.{nesting_limit}
+use Rattle.dp_layers.specs.Rows.{layers_of, content_of}
+use Rattle.dp_plain.specs.Board.{Board}
 
--- the layers of these pixels, from the bottom one up, each blended on what is below it, the lowest
--- on the pixel start
-abbrev pub composed : (Layer → Channels) → Channels → List Layer → Channels
-composed pixel_of start layers =
-    fold (λ under layer. blend Normal (pixel_of layer) under) start layers
+-- the row's blend mode
+abbrev pub mode_of : LayerRow → Mode
+mode_of row = unwrap_or (mode_numbered row.mode) Normal
 
--- what is seen of the layers of these pixels: they are composed on a clear one, and that on white
-abbrev pub seen : (Layer → Channels) → List Layer → Channels
-seen pixel_of layers = blend Normal (composed pixel_of clear layers) white
+-- the row stands in the parent, and isn't hidden
+abbrev pub is_seen_in : ℕ → LayerRow → Bool
+is_seen_in parent row = row.parent == parent && not row.hidden
 
--- the layer's pixel at a place of a canvas of this width
-abbrev pub layer_pixel : ℕ → ℕ → ℕ → Layer → Channels
-layer_pixel width x y layer = pixel_at width (pixels_of layer) x y
+-- what the row shows is faded by its opacity, and blended by its mode on what is under it
+abbrev pub laid : LayerRow → Channels → Channels → Channels
+laid row shown under = blend (mode_of row) (fade shown (from8 row.opacity)) under
+
+-- The rows of a parent that aren't hidden, the bottom one first, each laid on what stands so far, from
+-- the pixel start. A paint row shows its pixel, and a group what its own rows make from clear; groups
+-- are gone down into so deep.
+unfoldable pub compose : ℕ → (LayerRow → Channels) → List LayerRow → ℕ → Channels → Channels
+compose zero pixel_of rows parent start = start
+compose (suc depth) pixel_of rows parent start =
+    fold (λ under row.
+    laid row (if row.group then compose depth pixel_of rows row.id clear else pixel_of row) under)
+    start (filter (is_seen_in parent) rows)
+
+-- the pixels of the paint row of the id, none of a group
+abbrev pub pixels_of : Board → ℕ → List Channels
+pixels_of board id = unwrap_or (content_of board.rows id) []
+
+-- the row's pixel at a place
+abbrev pub row_pixel : Board → ℕ → ℕ → LayerRow → Channels
+row_pixel board x y row = pixel_at board.width (pixels_of board row.id) x y
+
+-- what is seen at a place: the rows of the root, composed on the background, and that on white
+abbrev pub seen : Board → ℕ → ℕ → Channels
+seen board x y =
+    let root = of_argb board.background in
+    blend Normal (compose nesting_limit (row_pixel board x y) (layers_of board.rows) 0 root) white
 
 -- the picture, row by row
 abbrev pub picture : Board → List Channels
-picture board =
-    canvas_of board.width board.height (λ x y. seen (layer_pixel board.width x y) board.layers)
+picture board = canvas_of board.width board.height (seen board)
 
 -- the head of a picture's text: its format's name, its sides, and its greatest value
 abbrev pub head : List ℕ → ℕ → ℕ → List ℕ

@@ -29,16 +29,24 @@ act_of_message sender (msg.Part command) = act.Other
 act_of_message sender (msg.Opaque kind body) = act.Other
 
 -- what an entry does to strokes
-abbrev pub act_of : Entry → UserAct Draw
-act_of entry = record { user = entry.user; act = act_of_message entry.user entry.msg }
+abbrev pub act_of : Entry → Act Draw
+act_of entry = act_of_message entry.user entry.msg
+
+-- the same, with the user who sent it
+abbrev pub user_act_of : Entry → UserAct Draw
+user_act_of entry = record { user = entry.user; act = act_of entry }
 
 -- a group can be undone and redone while its point is among the last 30
 abbrev pub undo_depth : ℕ
 undo_depth = 30
 
--- the commands of a history that are drawn at its end, on an empty board, in its order
+-- the commands of a history that are drawn at its end, in its order, from a blank board of any kind
+abbrev pub replay_on : {B : Type 0} → (B → Draw → B) → B → List Entry → B
+replay_on draw blank entries = strokes.replay draw blank undo_depth (map user_act_of entries)
+
+-- these commands on an empty board
 abbrev pub replay : List Entry → Board
-replay entries = strokes.replay draw empty_board undo_depth (map act_of entries)
+replay = replay_on draw empty_board
 
 -- the entry is a mark, which begins an epoch
 abbrev pub is_mark_message : Msg → Bool
@@ -48,6 +56,16 @@ is_mark_message m = false
 abbrev pub is_mark : Entry → Bool
 is_mark entry = is_mark_message entry.msg
 
--- what a history shows: the replay of its entries behind the last mark, of all where there is none
+-- what a history shows on a board of any kind: the replay of its entries behind the last mark, of all
+-- where there is none
+abbrev pub shown_on : {B : Type 0} → (B → Draw → B) → B → List Entry → B
+shown_on draw blank entries = replay_on draw blank (after_last is_mark entries)
+
+-- what a history shows
 abbrev pub shown : List Entry → Board
-shown entries = replay (after_last is_mark entries)
+shown = shown_on draw empty_board
+
+-- the message is a command
+abbrev pub is_command : Msg → Bool
+is_command (msg.Draw command) = true
+is_command m = false

@@ -1,18 +1,21 @@
-//! The slow board: plain lists of pixels, on which a history is replayed, and its picture as P6 and P3.
+//! The board of a session, and the replay of a history on it.
+//!
+//! What a layer holds is a `Content`; a `LayeredBoard` draws every command on contents of one kind. The
+//! boards over plain lists of pixels (`PlainBoard`) are the slow ones with which others are compared.
 #![tactic(auto)]
 
-mod board;
-mod built;
-mod draw;
+mod content;
 mod geometry;
-mod paint;
-mod picture;
+mod layered;
+mod plain;
 mod replay;
 mod resize;
-#[cfg(test)]
-mod tests;
+mod trees;
+mod view;
 
-pub use board::PlainBoard;
-pub use built::is_built;
-pub use picture::{plain_p3, plain_p6};
-pub use replay::plain_replay;
+pub use content::Content;
+pub use geometry::Resize;
+pub use layered::LayeredBoard;
+pub use plain::{PlainBoard, PlainPixels};
+pub use replay::{act_of, is_command, plain_replay, show_on};
+pub use view::BoardView;

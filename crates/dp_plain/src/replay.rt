@@ -1,31 +1,92 @@
 //! The replay of a history.
 
-ghost use Rattle.std.specs.Prelude.{◌≡◌, ◌≤◌, length, drop, map, IfOk, OnOk};
-ghost use Rattle.dp_board.specs.Commands.{command_of, commands};
-ghost use Rattle.dp_plain.specs.Board.{empty_board};
-ghost use Rattle.dp_plain.specs.Drawing.{draw_all};
-ghost use Rattle.dp_plain.specs.Replay.{act_of, is_mark, moved_user, replay, shown};
-ghost use Rattle.std.specs.List.{after_last};
+ghost use Rattle.std.specs.Prelude.{◌≡◌, ◌+◌, ◌≤◌, length, drop, map, IfOk, OnOk, OnErr};
+ghost use Rattle.std.specs.List.{after_last, fold};
+ghost use Rattle.dp_board.specs.Commands.{command_of, commands, drawn_commands};
 ghost use Rattle.dp_plain.specs.Kinds.{kind_of_entry};
+ghost use Rattle.dp_plain.specs.Replay.{act_of, user_act_of, is_command, is_mark, moved_user};
+ghost use Rattle.dp_plain.specs.Replay.{undo_depth, shown, shown_on, replay_on};
 
-use crate::PlainBoard;
-use dp_board::{Act, UserAct, commands_do_not_count, drawn_flags, each_act_has_a_flag};
+use crate::plain::PlainBoard;
+use dp_board::{Act, Board, UserAct, commands_do_not_count, drawn_flags, each_act_has_a_flag};
 use dp_messages::{Entry, Msg};
 use dp_msg_draw::Draw;
 use dp_msg_meta::Meta;
+use dp_steps::Steps;
 use std::alloc::{AllocError, Global};
+use std::sync::ledger::Ledger;
 
 /// A group of strokes can be undone and redone while its point is among this many last ones.
 const UNDO_DEPTH: u32 = 30;
 
-/// The board that the history shows: its commands behind the last mark of a reset but for the undone
-/// ones, drawn in its order. The rule: docs/protocol.md, "Strokes, undo and redo".
+/// What an entry does to strokes, with a copy of its command.
+/// The rule: docs/protocol.md, "Strokes, undo and redo".
 ///
-/// The only error is want of memory.
-pub fn plain_replay(alloc: Global, entries: &[Entry]) -> Result<PlainBoard, AllocError>
+/// # Errors
+///
+/// Where memory runs out.
+pub fn act_of(entry: &Entry) -> Result<Act<Draw>, AllocError>
+    ensures { IfOk result (λ act. act ≡ act_of entry.now) }
+{
+    let user = entry.user;
+    Ok(match &entry.msg {
+        Msg::Point => Act::Point,
+        Msg::Undo {
+            target,
+            redo: false,
+        } => Act::Undo {
+            who: moved_user(user, *target),
+        },
+        Msg::Undo { target, redo: true } => Act::Redo {
+            who: moved_user(user, *target),
+        },
+        Msg::Draw(command) => Act::Draw(command.copy()?),
+        Msg::Control(_) | Msg::Meta(_) | Msg::Part(_) | Msg::Opaque { .. } => Act::Other,
+    })
+}
+
+/// Whether the message is a command.
+/// The rule: docs/protocol.md, "Strokes, undo and redo".
+pub fn is_command(msg: &Msg) -> bool
+    ensures { result ≡ is_command msg.now }
+{
+    matches!(msg, Msg::Draw(_))
+}
+
+/// The board that the history shows: its commands behind the last mark of a reset but for the undone
+/// ones, drawn in its order on a plain board. The rule: docs/protocol.md, "Strokes, undo and redo".
+///
+/// # Errors
+///
+/// Where memory runs out.
+pub fn plain_replay<D: Ledger, T: Ledger>(
+    alloc: Global,
+    entries: &[Entry],
+    draws: &mut Steps<D>,
+    tiles: &mut Steps<T>,
+) -> Result<PlainBoard, AllocError>
     ensures { IfOk result (λ board. board ≡ shown entries.now) }
 {
-    replayed(alloc, &entries[epoch_start(entries)..])
+    show_on(alloc, PlainBoard::new(alloc), entries, draws, tiles)
+}
+
+/// The same on any board, from the board `blank`. It draws each of these commands once.
+///
+/// # Errors
+///
+/// Where memory runs out.
+pub fn show_on<B: Board<Op = Draw>, D: Ledger, T: Ledger>(
+    alloc: Global,
+    blank: B,
+    entries: &[Entry],
+    draws: &mut Steps<D>,
+    tiles: &mut Steps<T>,
+) -> Result<B, AllocError>
+    ensures board { IfOk result (λ board. board ≡ shown_on B.drawn blank entries.now) }
+    ensures draws { OnOk result (draws.new ≡ draws.old
+        + length (drawn_commands undo_depth (map user_act_of (after_last is_mark entries.now)))) }
+{
+    replay_on(alloc, blank, &entries[epoch_start(entries)..], draws, tiles)
 }
 
 /// The place of the first entry behind the last mark of a reset, 0 where there is none.
@@ -47,15 +108,24 @@ fn is_mark(entry: &Entry) -> bool
     matches!(&entry.msg, Msg::Meta(Meta::ResetMark { .. }))
 }
 
-/// The commands of the entries but for the undone ones, drawn in their order.
-fn replayed(alloc: Global, entries: &[Entry]) -> Result<PlainBoard, AllocError>
-    ensures { IfOk result (λ board. board ≡ replay entries.now) }
+/// The commands of the entries but for the undone ones, drawn in their order on the board.
+fn replay_on<B: Board<Op = Draw>, D: Ledger, T: Ledger>(
+    alloc: Global,
+    mut board: B,
+    entries: &[Entry],
+    draws: &mut Steps<D>,
+    tiles: &mut Steps<T>,
+) -> Result<B, AllocError>
+    ensures board { IfOk result (λ drawn. drawn ≡ replay_on B.drawn board entries.now) }
+    ensures draws { OnOk result (draws.new ≡ draws.old
+        + length (drawn_commands undo_depth (map user_act_of entries.now))) }
 {
     commands_do_not_count::<Draw, ()>();
     each_act_has_a_flag::<Draw>();
     let kinds = kinds_of(alloc, entries)?;
     let flags = drawn_flags(alloc, UNDO_DEPTH, &kinds)?;
-    draw_flagged(alloc, entries, &flags)
+    draw_flagged(&mut board, entries, &flags, draws, tiles)?;
+    Ok(board)
 }
 
 /// What each entry does to strokes.
@@ -100,25 +170,40 @@ fn moved_user(sender: u8, target: u8) -> u8
 }
 
 /// Draws the commands of the entries whose flags are true.
-fn draw_flagged(alloc: Global, entries: &[Entry], flags: &[bool]) -> Result<PlainBoard, AllocError>
+fn draw_flagged<B: Board<Op = Draw>, D: Ledger, T: Ledger>(
+    board: &mut B,
+    entries: &[Entry],
+    flags: &[bool],
+    draws: &mut Steps<D>,
+    tiles: &mut Steps<T>,
+) -> Result<(), AllocError>
     requires { length flags.now ≡ length entries.now }
-    ensures { IfOk result (λ board.
-        board ≡ draw_all empty_board (commands (map act_of entries.now) flags.now)) }
+    ensures board { OnOk result (board.new
+        ≡ fold B.drawn board.old (commands (map user_act_of entries.now) flags.now)) }
+    ensures draws { OnOk result (draws.new
+        ≡ draws.old + length (commands (map user_act_of entries.now) flags.now)) }
 {
-    let mut board = PlainBoard::new(alloc);
     for (k, entry) in entries.iter().enumerate() {
-        draw_entry(&mut board, entry, flags[k])?;
+        draw_entry(board, entry, flags[k], draws, tiles)?;
     }
-    Ok(board)
+    Ok(())
 }
 
 /// Draws the command of an entry, if it has one and its flag is true.
-fn draw_entry(board: &mut PlainBoard, entry: &Entry, is_drawn: bool) -> Result<(), AllocError>
-    ensures { OnOk result
-        (board.new ≡ draw_all board.old (command_of (act_of entry.now).act is_drawn)) }
+fn draw_entry<B: Board<Op = Draw>, D: Ledger, T: Ledger>(
+    board: &mut B,
+    entry: &Entry,
+    is_drawn: bool,
+    draws: &mut Steps<D>,
+    tiles: &mut Steps<T>,
+) -> Result<(), AllocError>
+    ensures board { OnOk result
+        (board.new ≡ fold B.drawn board.old (command_of (act_of entry.now) is_drawn)) }
+    ensures draws { OnOk result
+        (draws.new ≡ draws.old + length (command_of (act_of entry.now) is_drawn)) }
 {
     match &entry.msg {
-        Msg::Draw(command) if is_drawn => board.draw(command),
+        Msg::Draw(command) if is_drawn => board.draw(command, draws, tiles),
         _ => Ok(()),
     }
 }

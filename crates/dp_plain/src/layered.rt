@@ -1,0 +1,275 @@
+//! The board over contents of any kind: the dispatch of the commands.
+
+ghost use Rattle.std.specs.Prelude.{◌≡◌, ◌+◌, ◌*◌, ◌≤◌, false, Some, OnOk, OnErr};
+ghost use Rattle.dp_layers.specs.Layers.{row_limit};
+ghost use Rattle.dp_layers.specs.Changes.{IsCreate};
+ghost use Rattle.dp_plain.specs.Board.{empty_board, IsBoard};
+ghost use Rattle.dp_plain.specs.Drawing.{draw, resized, arranged, painted, painted_layer, IsArranging};
+ghost use Rattle.dp_plain.specs.Weights.{board_weight};
+ghost use Rattle.dp_plain.specs.Viewing.{pixel_in};
+
+use crate::content::Content;
+use crate::geometry::{Resize, new_side};
+use crate::plain::PlainPixels;
+use crate::trees::{resized_tree, shared_tree};
+use crate::view::BoardView;
+use dp_blend::Pixel;
+use dp_board::Board;
+use dp_layers::{LayerRow, Tree, trees_stay_trees};
+use dp_msg_draw::Draw;
+use dp_steps::Steps;
+use std::alloc::{AllocError, Global};
+use std::marker::Model;
+use std::sync::ledger::Ledger;
+
+/// A board whose paint layers hold contents of one kind. It is seen as a `Board` of the definitions,
+/// with the pixels of each content.
+#[derive(Drop)]
+pub struct LayeredBoard<C: Content> {
+    width: u32,
+    height: u32,
+    background: u32,
+    tree: Tree<C>,
+    alloc: Global,
+}
+
+impl<C: Content> Model for LayeredBoard<C> {
+    ghost use Rattle.dp_layers.specs.Rows.{map_contents};
+    ghost use Rattle.dp_plain.specs.Board.{Board};
+    ghost use Rattle.dp_plain.specs.Holding.{IsHeld};
+
+    ghost Value = { Board };
+
+    ghost view = { λ b. record {
+      width = b.width;
+      height = b.height;
+      background = b.background;
+      rows = map_contents (C.pixels b.width b.height) b.tree;
+    } };
+
+    ghost invariant = { λ b. IsHeld C.fits b.width b.height b.tree };
+}
+
+impl<C: Content> LayeredBoard<C> {
+    /// The board before anything is drawn: 0 by 0, without rows.
+    pub fn new(alloc: Global) -> Self
+        ensures { result ≡ empty_board }
+    {
+        LayeredBoard {
+            width: 0,
+            height: 0,
+            background: 0,
+            tree: Tree::new(alloc),
+            alloc,
+        }
+    }
+
+    /// The pixel of the paint layer of the id at a place, or `None` where no paint layer has the id or
+    /// the place is outside. It takes no memory.
+    pub fn pixel(&self, id: u16, x: u32, y: u32) -> Option<Pixel>
+        ensures { result ≡ pixel_in self.now id x y }
+    {
+        if x >= self.width || y >= self.height {
+            return None;
+        }
+        let content = self.tree.content(id)?;
+        Some(content.pixel(self.width, self.height, x, y))
+    }
+
+    /// Draws the command, as `draw` of the trait does, without counting a draw.
+    fn apply<T: Ledger>(&mut self, op: &Draw, tiles: &mut Steps<T>) -> Result<(), AllocError>
+        ensures ok { OnOk result (self.new ≡ draw self.old op.now) }
+        ensures err { OnErr result (self.new ≡ self.old) }
+        ensures tiles_rise { tiles.old ≤ tiles.new }
+        ensures few_tiles { tiles.new ≤ tiles.old + board_weight C.resizing C.weight op.now }
+    {
+        match op {
+            Draw::CanvasResize {
+                top,
+                right,
+                bottom,
+                left,
+            } => self.resize(*top, *right, *bottom, *left, tiles),
+            Draw::Background { color } => {
+                self.background = *color;
+                Ok(())
+            }
+            Draw::LayerCreate { .. } => self.create(op, tiles),
+            Draw::LayerAttr { .. }
+            | Draw::LayerTitle { .. }
+            | Draw::LayerMove { .. }
+            | Draw::LayerDelete { .. } => self.arrange(op),
+            Draw::PutImage { layer, .. }
+            | Draw::FillRect { layer, .. }
+            | Draw::PutTile { layer, .. }
+            | Draw::DabsRound { layer, .. }
+            | Draw::DabsSquare { layer, .. }
+            | Draw::MoveRect { layer, .. } => self.paint(*layer, op, tiles),
+        }
+    }
+
+    /// Gives the canvas its new sides, where both are sides.
+    fn resize<T: Ledger>(
+        &mut self,
+        top: i32,
+        right: i32,
+        bottom: i32,
+        left: i32,
+        tiles: &mut Steps<T>,
+    ) -> Result<(), AllocError>
+        ensures ok { OnOk result (self.new ≡ resized self.old top right bottom left) }
+        ensures err { OnErr result (self.new ≡ self.old) }
+        ensures tiles_rise { tiles.old ≤ tiles.new }
+        ensures few_tiles { tiles.new ≤ tiles.old + row_limit * C.resizing }
+    {
+        let (Some(new_width), Some(new_height)) = (
+            new_side(self.width, left, right),
+            new_side(self.height, top, bottom),
+        ) else {
+            return Ok(());
+        };
+        let change = Resize {
+            width: self.width as usize,
+            height: self.height as usize,
+            new_width: new_width as usize,
+            new_height: new_height as usize,
+            left,
+            top,
+        };
+        self.tree = resized_tree(self.alloc, &self.tree, change, tiles)?;
+        self.width = new_width;
+        self.height = new_height;
+        Ok(())
+    }
+
+    /// Creates a row: a group, or a paint row with clear pixels.
+    fn create<T: Ledger>(&mut self, op: &Draw, tiles: &mut Steps<T>) -> Result<(), AllocError>
+        requires { IsCreate op.now }
+        ensures ok { OnOk result (self.new ≡ arranged self.old op.now) }
+        ensures err { OnErr result (self.new ≡ self.old) }
+        ensures no_tile { tiles.new ≡ tiles.old }
+    {
+        let content = match op {
+            Draw::LayerCreate { group: true, .. } => None,
+            _ => Some(C::clear(self.alloc, self.width, self.height, tiles)?),
+        };
+        let _effect = self.tree.create(op, content)?;
+        Ok(())
+    }
+
+    /// Changes the rows by a command that makes none.
+    fn arrange(&mut self, op: &Draw) -> Result<(), AllocError>
+        requires { IsArranging op.now }
+        ensures ok { OnOk result (self.new ≡ arranged self.old op.now) }
+        ensures err { OnErr result (self.new ≡ self.old) }
+    {
+        let _effect = match op {
+            Draw::LayerAttr { .. } => self.tree.attr(op)?,
+            Draw::LayerTitle { .. } => self.tree.title(op)?,
+            Draw::LayerMove { .. } => self.tree.shift(op)?,
+            _ => self.tree.delete(op)?,
+        };
+        Ok(())
+    }
+
+    /// Draws a command on the pixels of the paint layer of the id, if there is one.
+    fn paint<T: Ledger>(
+        &mut self,
+        id: u16,
+        op: &Draw,
+        tiles: &mut Steps<T>,
+    ) -> Result<(), AllocError>
+        requires { painted_layer op.now ≡ Some id }
+        ensures ok { OnOk result (self.new ≡ painted self.old op.now id) }
+        ensures err { OnErr result (self.new ≡ self.old) }
+        ensures tiles_rise { tiles.old ≤ tiles.new }
+        ensures few_tiles { tiles.new ≤ tiles.old + C.weight op.now }
+    {
+        if self.tree.content(id).is_none() {
+            return Ok(());
+        }
+        let mut content = self.tree.put_content(id, C::stand_in(self.alloc));
+        let painted = content.paint(self.alloc, self.width, self.height, op, tiles);
+        let _stand_in = self.tree.put_content(id, content);
+        painted
+    }
+}
+
+impl<C: Content> Board for LayeredBoard<C> {
+    type Op = Draw;
+
+    ghost is_board = { IsBoard };
+
+    ghost drawn = { draw };
+
+    ghost weight = { board_weight C.resizing C.weight };
+
+    ghost are_apart = { λ a b. false };
+
+    fn known(&self) {
+        let _rows = self.tree.rows();
+    }
+
+    fn draw<D: Ledger, T: Ledger>(
+        &mut self,
+        op: &Draw,
+        draws: &mut Steps<D>,
+        tiles: &mut Steps<T>,
+    ) -> Result<(), AllocError> {
+        self.apply(op, tiles)?;
+        draws.tick();
+        Ok(())
+    }
+
+    fn share<D: Ledger, T: Ledger>(
+        &self,
+        _draws: &mut Steps<D>,
+        tiles: &mut Steps<T>,
+    ) -> Result<Self, AllocError> {
+        Ok(LayeredBoard {
+            width: self.width,
+            height: self.height,
+            background: self.background,
+            tree: shared_tree(self.alloc, &self.tree, tiles)?,
+            alloc: self.alloc,
+        })
+    }
+
+    fn copy_op(_alloc: Global, op: &Draw) -> Result<Draw, AllocError> {
+        op.copy()
+    }
+
+    fn apart(_a: &Draw, _b: &Draw) -> bool {
+        false
+    }
+
+    fn laws() {
+        trees_stay_trees::<PlainPixels>();
+    }
+}
+
+impl<C: Content> BoardView for LayeredBoard<C> {
+    ghost board = { λ board. board };
+
+    fn width(&self) -> u32 {
+        self.width
+    }
+
+    fn height(&self) -> u32 {
+        self.height
+    }
+
+    fn background(&self) -> u32 {
+        self.background
+    }
+
+    fn rows(&self) -> &[LayerRow] {
+        self.tree.rows()
+    }
+
+    fn copy_row(&self, id: u16, y: u32, row: &mut [Pixel]) {
+        if let Some(content) = self.tree.content(id) {
+            content.copy_row(self.width, self.height, y, row);
+        }
+    }
+}

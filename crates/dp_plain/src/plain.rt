@@ -1,0 +1,100 @@
+//! Plain lists of pixels.
+
+ghost use Rattle.std.specs.Prelude.{◌≡◌, ◌*◌, length};
+
+use crate::content::Content;
+use crate::geometry::Resize;
+use crate::layered::LayeredBoard;
+use crate::resize::moved_pixels;
+use dp_blend::Pixel;
+use dp_msg_draw::Draw;
+use dp_pixels::draw_pixels;
+use dp_steps::Steps;
+use std::alloc::{AllocError, Global};
+use std::marker::Model;
+use std::sync::ledger::Ledger;
+
+/// The slow board, with which others are compared: its layers hold plain lists of pixels.
+pub type PlainBoard = LayeredBoard<PlainPixels>;
+
+/// The pixels of a layer as a plain list, row by row from the top, each from the left. It makes no tile.
+#[derive(Drop)]
+pub struct PlainPixels {
+    pixels: Vec<Pixel>,
+}
+
+impl Model for PlainPixels {
+    ghost use Rattle.std.specs.Prelude.{List};
+    ghost use Rattle.dp_blend.specs.Color.{Channels};
+
+    ghost Value = { List Channels };
+
+    ghost view = { λ p. p.pixels.items };
+}
+
+impl Content for PlainPixels {
+    ghost pixels = { λ width height pixels. pixels };
+
+    ghost fits = { λ width height pixels. length pixels ≡ width * height };
+
+    ghost weight = { λ _. 0 };
+
+    ghost resizing = { 0 };
+
+    fn stand_in(alloc: Global) -> Self {
+        PlainPixels {
+            pixels: Vec::new(alloc),
+        }
+    }
+
+    fn clear<T: Ledger>(
+        alloc: Global,
+        width: u32,
+        height: u32,
+        _tiles: &mut Steps<T>,
+    ) -> Result<Self, AllocError> {
+        let count = width as usize * height as usize;
+        Ok(PlainPixels {
+            pixels: vec![in alloc; Pixel::CLEAR; count]?,
+        })
+    }
+
+    fn paint<T: Ledger>(
+        &mut self,
+        alloc: Global,
+        width: u32,
+        height: u32,
+        op: &Draw,
+        _tiles: &mut Steps<T>,
+    ) -> Result<(), AllocError> {
+        draw_pixels(alloc, op, width, height, &mut self.pixels)
+    }
+
+    fn resize<T: Ledger>(
+        &self,
+        alloc: Global,
+        change: Resize,
+        _tiles: &mut Steps<T>,
+    ) -> Result<Self, AllocError> {
+        Ok(PlainPixels {
+            pixels: moved_pixels(alloc, &self.pixels, change)?,
+        })
+    }
+
+    fn share<T: Ledger>(&self, _tiles: &mut Steps<T>) -> Result<Self, AllocError> {
+        Ok(PlainPixels {
+            pixels: self.pixels.clone()?,
+        })
+    }
+
+    fn copy_row(&self, width: u32, _height: u32, y: u32, row: &mut [Pixel]) {
+        let start = y as usize * width as usize;
+        row.copy_from_slice(&self.pixels[start..start + width as usize]);
+    }
+
+    fn pixel(&self, width: u32, _height: u32, x: u32, y: u32) -> Pixel {
+        self.pixels[y as usize * width as usize + x as usize]
+    }
+
+    fn laws() {}
+}

@@ -1,0 +1,44 @@
+//! What is read of a board.
+
+ghost use Rattle.std.specs.Prelude.{◌≡◌, ◌<◌, length, IsTrue};
+ghost use Rattle.dp_layers.specs.Layers.{is_paint_row};
+ghost use Rattle.dp_layers.specs.Rows.{layers_of};
+ghost use Rattle.dp_plain.specs.Board.{Board, IsBoard};
+ghost use Rattle.dp_plain.specs.Picture.{pixels_of};
+ghost use Rattle.dp_plain.specs.Viewing.{pixels_in_row};
+
+use dp_blend::Pixel;
+use dp_layers::LayerRow;
+
+/// A board that can be looked at: its sides, its background, its rows, and their pixels a row at a
+/// time. No call takes memory.
+pub trait BoardView {
+    /// The board that it is.
+    ghost board: { Self → Board };
+
+    /// The width in pixels, at most 4096.
+    fn width(&self) -> u32
+        ensures value { result ≡ (board self.now).width }
+        ensures board { IsBoard (board self.now) };
+
+    /// The height in pixels, at most 4096.
+    fn height(&self) -> u32
+        ensures value { result ≡ (board self.now).height }
+        ensures board { IsBoard (board self.now) };
+
+    /// The background, an ARGB number.
+    fn background(&self) -> u32
+        ensures { result ≡ (board self.now).background };
+
+    /// The rows of layers and groups, the bottom one first.
+    fn rows(&self) -> &[LayerRow]
+        ensures { result.now ≡ layers_of (board self.now).rows };
+
+    /// Copies the row y of the pixels of the paint layer of the id.
+    fn copy_row(&self, id: u16, y: u32, row: &mut [Pixel])
+        requires paint { IsTrue (is_paint_row (layers_of (board self.now).rows) id) }
+        requires inside { y < (board self.now).height }
+        requires long { length row.old ≡ (board self.now).width }
+        ensures { row.new
+            ≡ pixels_in_row (board self.now).width (pixels_of (board self.now) id) y };
+}
