@@ -6,7 +6,6 @@ ghost use Rattle.dp_layers.specs.Changes.{IsCreate};
 ghost use Rattle.dp_plain.specs.Board.{empty_board, IsBoard};
 ghost use Rattle.dp_plain.specs.Drawing.{draw, resized, arranged, painted, painted_layer, IsArranging};
 ghost use Rattle.dp_plain.specs.Weights.{board_weight};
-ghost use Rattle.dp_plain.specs.Viewing.{pixel_in};
 
 use crate::content::Content;
 use crate::geometry::{Resize, new_side};
@@ -62,18 +61,6 @@ impl<C: Content> LayeredBoard<C> {
             tree: Tree::new(alloc),
             alloc,
         }
-    }
-
-    /// The pixel of the paint layer of the id at a place, or `None` where no paint layer has the id or
-    /// the place is outside. It takes no memory.
-    pub fn pixel(&self, id: u16, x: u32, y: u32) -> Option<Pixel>
-        ensures { result ≡ pixel_in self.now id x y }
-    {
-        if x >= self.width || y >= self.height {
-            return None;
-        }
-        let content = self.tree.content(id)?;
-        Some(content.pixel(self.width, self.height, x, y))
     }
 
     /// Draws the command, as `draw` of the trait does, without counting a draw.
@@ -271,5 +258,13 @@ impl<C: Content> BoardView for LayeredBoard<C> {
         if let Some(content) = self.tree.content(id) {
             content.copy_row(self.width, self.height, y, row);
         }
+    }
+
+    fn pixel(&self, id: u16, x: u32, y: u32) -> Option<Pixel> {
+        if x >= self.width || y >= self.height {
+            return None;
+        }
+        let content = self.tree.content(id)?;
+        Some(content.pixel(self.width, self.height, x, y))
     }
 }

@@ -5,7 +5,7 @@ ghost use Rattle.dp_layers.specs.Layers.{is_paint_row};
 ghost use Rattle.dp_layers.specs.Rows.{layers_of};
 ghost use Rattle.dp_plain.specs.Board.{Board, IsBoard};
 ghost use Rattle.dp_plain.specs.Picture.{pixels_of};
-ghost use Rattle.dp_plain.specs.Viewing.{pixels_in_row};
+ghost use Rattle.dp_plain.specs.Viewing.{pixel_in, pixels_in_row};
 
 use dp_blend::Pixel;
 use dp_layers::LayerRow;
@@ -41,4 +41,9 @@ pub trait BoardView {
         requires long { length row.old ≡ (board self.now).width }
         ensures { row.new
             ≡ pixels_in_row (board self.now).width (pixels_of (board self.now) id) y };
+
+    /// The pixel of the paint layer of the id at a place, or `None` where no paint layer has the id or
+    /// the place is outside.
+    fn pixel(&self, id: u16, x: u32, y: u32) -> Option<Pixel>
+        ensures { result ≡ pixel_in (board self.now) id x y };
 }
