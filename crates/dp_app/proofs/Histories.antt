@@ -7,7 +7,6 @@ use Rattle.dp_frame.specs.Frames.{FrameParts, IsFrame, spelling, HoldsNoFrame}
 use Rattle.dp_frame.specs.Stream.{Stream}
 use Rattle.dp_messages.specs.declared.message.Entry.{Entry}
 use Rattle.dp_messages.specs.Decoding.{Carries}
-use Rattle.dp_plain.specs.Built.{is_built}
 use Rattle.dp_messages.specs.declared.decoding.DecodeError.{DecodeError}
 use Rattle.dp_messages.specs.declared.decoding.DecodeError.TheVariants as refusal
 use Rattle.dp_lines.specs.declared.run_end.RunEnd.{RunEnd}
@@ -104,21 +103,7 @@ Gives result entry = (result ≡ Ok entry) ⊎ (result ≡ Err refusal.Memory)
 pub refused_at : (f : FrameParts) (error : DecodeError) (n : ℕ) (end : RunEnd) →
     ((entry : Entry) → Carries f entry → Gives (Err error) entry) → IsStopFor error n end → IsRefusedAt f n end
 refused_at f (refusal.Unknown k) n end gives stop =
-    subst (λ (e : RunEnd). IsRefusedAt f n e) (sym stop) (refl, λ before entry c. elim (gives entry c.0) as (λ _. ⊥) [ inl e ↦ cc | inr e ↦ cc ])
+    subst (λ (e : RunEnd). IsRefusedAt f n e) (sym stop) (refl, λ before entry c. elim (gives entry c) as (λ _. ⊥) [ inl e ↦ cc | inr e ↦ cc ])
 refused_at f (refusal.Malformed k) n end gives stop =
-    subst (λ (e : RunEnd). IsRefusedAt f n e) (sym stop) (refl, λ before entry c. elim (gives entry c.0) as (λ _. ⊥) [ inl e ↦ cc | inr e ↦ cc ])
+    subst (λ (e : RunEnd). IsRefusedAt f n e) (sym stop) (refl, λ before entry c. elim (gives entry c) as (λ _. ⊥) [ inl e ↦ cc | inr e ↦ cc ])
 refused_at f refusal.Memory n end gives stop = subst (λ (e : RunEnd). IsRefusedAt f n e) (sym stop) tt
-
--- so is a frame that carries an entry whose message isn't built
-pub unbuilt_at : (f : FrameParts) (read : Entry) (n : ℕ) → is_built read.msg ≡ false →
-    ((entry : Entry) → Carries f entry → Gives (Ok read) entry) → IsRefusedAt f n (BadMessage n)
-unbuilt_at f read n not_built gives = (
-  refl,
-  λ before entry c. elim (gives entry c.0) as (λ _. ⊥) [
-    | inl e ↦
-        let same : read ≡ entry = cc in
-        let built : is_built read.msg ≡ true = subst (λ (x : Entry). is_built x.msg ≡ true) (sym same) c.1 in
-        (let never : true ≡ false = sym built ∙ not_built in cc)
-    | inr e ↦ cc
-  ],
-)

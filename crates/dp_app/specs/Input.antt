@@ -1,12 +1,11 @@
 -- What an input of frames comes to: the entries that stand in it, and how it ends. What may stand in an
 -- input is a relation of the number of frames before, a frame and its entry.
 use Rattle.std.specs.Prelude.{◌≡◌, ◌≢◌, ℕ, ◌+◌, ◌^◌, ◌<◌, ◌≤◌, List, [], ◌∷◌, ◌++◌, length, take, drop}
-use Rattle.std.specs.Prelude.{Option, Some, IsTrue, ⊤}
+use Rattle.std.specs.Prelude.{Option, Some, ⊤}
 use Rattle.std.specs.List.{AllByRecursion, flat_map}
 use Rattle.dp_frame.specs.Frames.{FrameParts, IsFrame, spelling, Splits}
 use Rattle.dp_messages.specs.declared.message.Entry.{Entry}
 use Rattle.dp_messages.specs.Decoding.{Carries}
-use Rattle.dp_plain.specs.Built.{is_built}
 use Rattle.dp_lines.specs.declared.run_end.RunEnd.{RunEnd}
 use Rattle.dp_lines.specs.declared.run_end.RunEnd.TheVariants.{Done, Long, Truncated, BadMessage}
 
@@ -73,10 +72,9 @@ pub record TookWithin (P : List ℕ → Type 0) (most : ℕ) (input : List ℕ) 
   pub meets : P taken
   pub few : length behind ≤ most
 
--- In the input of `replay` each frame may stand, wherever it is, that carries an entry whose message
--- is no command that isn't drawn yet.
+-- in the input of `replay` each frame may stand, wherever it is, that carries an entry
 abbrev pub StandsInReplay : ℕ → FrameParts → Entry → Type 0
-StandsInReplay before frame entry = Carries frame entry × IsTrue (is_built entry.msg)
+StandsInReplay before frame entry = Carries frame entry
 
 -- how many bytes of the input of `replay` count: 1 GiB
 abbrev pub replay_limit : ℕ

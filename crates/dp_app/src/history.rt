@@ -9,7 +9,6 @@ ghost use Rattle.dp_app.specs.Input.{StandsInReplay};
 use dp_frame::{Frame, Splitter};
 use dp_lines::RunEnd;
 use dp_messages::{DecodeError, Entry, decode};
-use dp_plain::is_built;
 use std::alloc::{AllocError, Global};
 
 /// The entries of the whole frames so far, and the bytes behind them.
@@ -97,19 +96,13 @@ impl History {
     }
 }
 
-/// The entry of the frame at this byte, where its message may stand in the input of `replay`.
+/// The entry of the frame at this byte.
 fn entry_of(alloc: Global, frame: &Frame, at: u64) -> Result<Entry, RunEnd>
     ensures entry { IfOk result (λ e. (before : ℕ) → StandsInReplay before frame.now e) }
     ensures refused { IfErr result (λ end. IsRefusedAt frame.now at end) }
 {
     match decode(alloc, frame) {
-        Ok(entry) => {
-            if is_built(&entry.msg) {
-                Ok(entry)
-            } else {
-                Err(RunEnd::BadMessage(at))
-            }
-        }
+        Ok(entry) => Ok(entry),
         Err(error) => Err(stop_for(error, at)),
     }
 }

@@ -12,7 +12,11 @@ use crate::replay::run_replay;
 use crate::saying::{say, say_usage};
 use crate::words::is_replay;
 use dp_io::{Failed, Sink, Source};
+use dp_lines::RunEnd;
+use dp_steps::Steps;
 use std::alloc::Global;
+use std::marker::Brand;
+use std::sync::ledger::{Blank, Ledger};
 
 /// What the program ends with.
 #[derive(Clone, Copy, Debug, PartialEq, Eq)]
@@ -89,8 +93,30 @@ pub fn drawpile<I: Source, O: Sink, E: Sink>(
             status: say_usage(diag),
         };
     }
-    let end = run_replay(alloc, input, output);
+    let end = run_counted::<_, _, Brand, Brand>(alloc, input, output, Blank::new(1), Blank::new(1));
     Outcome {
         status: say(diag, end),
     }
+}
+
+/// Runs `replay` with counters over these blanks.
+fn run_counted<I: Source, O: Sink, D: Ledger, T: Ledger>(
+    alloc: Global,
+    input: &mut I,
+    output: &mut O,
+    draws: Blank,
+    tiles: Blank,
+) -> RunEnd
+    requires draws { (draws.name ≡ D.name) × (draws.parts ≡ D.parts) × (0 < draws.parts) }
+    requires tiles { (tiles.name ≡ T.name) × (tiles.parts ≡ T.parts) × (0 < tiles.parts) }
+    ensures leaves { Leaves (I.left input.old) (I.left input.new)
+        (O.held output.old) (O.held output.new) result }
+    ensures blames { Blames (I.faults input.old) (I.faults input.new)
+        (O.faults output.old) (O.faults output.new) result }
+    ensures input_later { I.faults input.old ≤ I.faults input.new }
+    ensures output_later { O.faults output.old ≤ O.faults output.new }
+{
+    let mut draws = Steps::<D>::new(draws);
+    let mut tiles = Steps::<T>::new(tiles);
+    run_replay(alloc, input, output, &mut draws, &mut tiles)
 }

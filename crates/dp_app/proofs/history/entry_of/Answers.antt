@@ -1,4 +1,4 @@
-use Rattle.dp_app.proofs.Histories.{refused_at, unbuilt_at}
+use Rattle.dp_app.proofs.Histories.{refused_at}
 use Rattle.dp_app.proofs.history.entry_of.Goals as goal
 
 pub returns-in-Err-clause-refused : goal.returns-in-Err-clause-refused

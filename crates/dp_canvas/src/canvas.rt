@@ -1,0 +1,117 @@
+//! The canvas.
+
+ghost use Rattle.std.specs.Prelude.{◌≡◌, false};
+ghost use Rattle.dp_pixels.specs.Feet.{reach};
+ghost use Rattle.dp_plain.specs.Board.{empty_board, IsBoard};
+ghost use Rattle.dp_plain.specs.Drawing.{draw};
+
+use dp_blend::Pixel;
+use dp_board::Board;
+use dp_layers::LayerRow;
+use dp_msg_draw::Draw;
+use dp_plain::{BoardView, LayeredBoard, PlainPixels};
+use dp_steps::Steps;
+use std::alloc::{AllocError, Global};
+use std::marker::Model;
+use std::sync::ledger::Ledger;
+
+/// The board that is drawn on. It is seen as a `Board` of the definitions, and hands out no pixels but
+/// copies of them. So far its layers are plain lists of pixels, and no tile is made.
+#[derive(Drop)]
+pub struct Canvas {
+    board: LayeredBoard<PlainPixels>,
+}
+
+impl Model for Canvas {
+    ghost use Rattle.dp_plain.specs.Board.{Board};
+
+    ghost Value = { Board };
+
+    ghost view = { λ c. c.board };
+}
+
+impl Canvas {
+    /// The canvas before anything is drawn: 0 by 0, without rows.
+    pub fn new(alloc: Global) -> Canvas
+        ensures { result ≡ empty_board }
+    {
+        Canvas {
+            board: LayeredBoard::new(alloc),
+        }
+    }
+}
+
+impl Board for Canvas {
+    type Op = Draw;
+
+    ghost is_board = { IsBoard };
+
+    ghost drawn = { draw };
+
+    ghost weight = { reach };
+
+    ghost are_apart = { λ a b. false };
+
+    fn known(&self) {
+        self.board.known();
+    }
+
+    fn draw<D: Ledger, T: Ledger>(
+        &mut self,
+        op: &Draw,
+        draws: &mut Steps<D>,
+        tiles: &mut Steps<T>,
+    ) -> Result<(), AllocError> {
+        self.board.draw(op, draws, tiles)
+    }
+
+    fn share<D: Ledger, T: Ledger>(
+        &self,
+        draws: &mut Steps<D>,
+        tiles: &mut Steps<T>,
+    ) -> Result<Canvas, AllocError> {
+        Ok(Canvas {
+            board: self.board.share(draws, tiles)?,
+        })
+    }
+
+    fn copy_op(_alloc: Global, op: &Draw) -> Result<Draw, AllocError> {
+        op.copy()
+    }
+
+    fn apart(_a: &Draw, _b: &Draw) -> bool {
+        false
+    }
+
+    fn laws() {
+        LayeredBoard::<PlainPixels>::laws();
+    }
+}
+
+impl BoardView for Canvas {
+    ghost board = { λ board. board };
+
+    fn width(&self) -> u32 {
+        self.board.width()
+    }
+
+    fn height(&self) -> u32 {
+        self.board.height()
+    }
+
+    fn background(&self) -> u32 {
+        self.board.background()
+    }
+
+    fn rows(&self) -> &[LayerRow] {
+        self.board.rows()
+    }
+
+    fn copy_row(&self, id: u16, y: u32, row: &mut [Pixel]) {
+        self.board.copy_row(id, y, row);
+    }
+
+    fn pixel(&self, id: u16, x: u32, y: u32) -> Option<Pixel> {
+        self.board.pixel(id, x, y)
+    }
+}

@@ -1,0 +1,8 @@
+//! The canvas: the board that the program and its clients draw on.
+#![tactic(auto)]
+
+mod canvas;
+#[cfg(test)]
+mod tests;
+
+pub use canvas::Canvas;
