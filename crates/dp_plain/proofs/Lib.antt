@@ -3,5 +3,6 @@ pub mod Moves
 pub mod Resizes
 pub mod Rows
 pub mod Views
+pub mod Remaking
 pub mod Holds
 pub mod Replays

@@ -2,14 +2,14 @@
 use Rattle.std.proofs.Common.{◌≡◌, ◌==◌, ℕ, ◌<◌, Bool, true, false, not, cond, List, [], ◌∷◌, map, length}
 use Rattle.std.proofs.Common.{get_or, Option, None, Some, refl, ap, sym, ◌∙◌, subst, ⊎_elim, eq-eqb}
 use Rattle.std.specs.Prelude.{is_some, option_map, All}
-use Rattle.std.specs.List.{IsDistinct}
+use Rattle.std.specs.List.{IsDistinct, cons_option}
 use Rattle.std.proofs.lemmas.Bool.{cond_both, cases_Bool, eqb-true}
 use Rattle.std.proofs.lemmas.List.{length-map, get_or-map}
 use Rattle.std.proofs.lemmas.List.Elements.{All-nil, All-cons, All-head, All-tail, All-map, All-from_recursion}
 use Rattle.std.proofs.lemmas.Map.Keys.{IsDistinct-head, IsDistinct-tail}
 use Rattle.dp_blend.specs.Color.{Channels}
 use Rattle.dp_layers.specs.declared.row.LayerRow.{LayerRow}
-use Rattle.dp_layers.specs.Rows.{Row, layers_of, content_of, fill_row, with_content, map_content, map_contents}
+use Rattle.dp_layers.specs.Rows.{Row, layers_of, contents_of, content_of, fill_row, with_content, map_content, map_contents}
 use Rattle.dp_layers.specs.Tree.{IsLayerTree, IsTree}
 use Rattle.dp_plain.specs.Drawing.{with_change}
 
@@ -70,6 +70,15 @@ content_of-mapped f (row ∷ rows) id =
     (λ (missed : (row.layer.id == id) ≡ false). rw missed (content_of-mapped f rows id))
     (cases_Bool (row.layer.id == id))
 
+cons_mapped : {X Y : Type 0} (f : X → Y) (o : Option X) (xs : List X) → map f (cons_option o xs) ≡ cons_option (option_map f o) (map f xs)
+cons_mapped f None xs = refl
+cons_mapped f (Some x) xs = refl
+
+pub contents_of-mapped : {X Y : Type 0} (f : X → Y) (rows : List (Row X)) → contents_of (map_contents f rows) ≡ map f (contents_of rows)
+contents_of-mapped f [] = refl
+contents_of-mapped f (row ∷ rows) =
+    ap (cons_option (option_map f row.content)) (contents_of-mapped f rows) ∙ sym (cons_mapped f row.content (contents_of rows))
+
 -- ---- what is found at an id
 
 -- ids are different
@@ -109,6 +118,21 @@ fill-layer {X} id x row =
 
 pub layers_of-filled : {X : Type 0} (rows : List (Row X)) (id : ℕ) (x : X) → layers_of (with_content rows id x) ≡ layers_of rows
 layers_of-filled rows id x = layers_of-map (fill_row id x) (fill-layer id x) rows
+
+-- what f makes of x
+pub filled-mapped : {X Y : Type 0} (f : X → Y) (rows : List (Row X)) (id : ℕ) (x : X)
+    → map_contents f (with_content rows id x) ≡ with_content (map_contents f rows) id (f x)
+filled-mapped {X} {Y} f rows id x =
+    map-map (fill_row id x) (map_content f) rows
+    ∙ map-each (λ row. map_content f (fill_row id x row)) (λ row. fill_row id (f x) (map_content f row)) rows (λ k d in_list. one (get_or rows k d))
+    ∙ sym (map-map (map_content f) (fill_row id (f x)) rows)
+  where
+    through : (b : Bool) (p q : Row X) → map_content f (cond b p q) ≡ cond b (map_content f p) (map_content f q)
+    through true p q = refl
+    through false p q = refl
+
+    one : (row : Row X) → map_content f (fill_row id x row) ≡ fill_row id (f x) (map_content f row)
+    one row = through (row.layer.id == id) (record row { content = Some x }) row
 
 -- the last one stays
 pub filled_twice : {X : Type 0} (rows : List (Row X)) (id : ℕ) (x y : X) → with_content (with_content rows id x) id y ≡ with_content rows id y
