@@ -1,6 +1,7 @@
 -- A canvas by its places: its length, the pixel at a place, and what lists of its length are equal to it.
-use Rattle.std.proofs.Common.{◌≡◌, ℕ, ◌+◌, ◌*◌, ◌/◌, ◌%◌, ◌<◌, List, [], ◌∷◌, ◌++◌, length, get_or, map, suc, zero, sym, ◌∙◌, ap, arith, length-append, add-one}
+use Rattle.std.proofs.Common.{◌≡◌, ℕ, ◌+◌, ◌*◌, ◌/◌, ◌%◌, ◌-◌, ◌<◌, ◌≤◌, List, [], ◌∷◌, ◌++◌, length, get_or, take, drop, map, suc, zero, sym, ◌∙◌, ap, arith, length-append, add-one}
 use Rattle.std.proofs.lemmas.List.{ext_get_or, get_or_append_left, get_or-append-add, append_assoc, append-nil}
+use Rattle.std.proofs.lemmas.List.{length-take, length-drop, get_or-take, get_or-drop}
 use Rattle.std.proofs.lemmas.List.FromFn.{length-map-range_with_len, get_or-map-range_with_len, map-range_with_len_more}
 use Rattle.std.proofs.lemmas.Nat.{div-add-mod', div_below, mod_below}
 use Rattle.std.proofs.Math.Nat.{mul_comm}
@@ -101,3 +102,17 @@ canvas_of-more w h f =
 -- a row of one more pixel
 pub row_more : (f : ℕ → Channels) (n : ℕ) → map f (below (n + 1)) ≡ map f (below n) ++ f n ∷ []
 row_more f n = map-range_with_len_more f 0 n n (omega arith)
+
+-- the places of a row, as they stand in the list
+pub row_of_pixels : (w y : ℕ) (pixels : List Channels) → y * w + w ≤ length pixels
+    → take (y * w + w - y * w) (drop (y * w) pixels) ≡ map (λ x. pixel_at w pixels x y) (below w)
+row_of_pixels w y pixels in_list =
+    let count : y * w + w - y * w ≡ w = omega arith in
+    let rest : length (drop (y * w) pixels) ≡ length pixels - y * w = length-drop (y * w) pixels in
+    let len : length (take w (drop (y * w) pixels)) ≡ w = omega (arith, length-take w (drop (y * w) pixels)) in
+    rw count (ext_get_or clear (take w (drop (y * w) pixels)) (map (λ x. pixel_at w pixels x y) (below w))
+    (len ∙ sym (length-map-range_with_len (λ x. pixel_at w pixels x y) 0 w))
+    (λ i in_row.
+    let below_w : i < w = omega arith in
+    get_or-take w (drop (y * w) pixels) i clear below_w ∙ get_or-drop (y * w) pixels i clear
+    ∙ sym (get_or-map-range_with_len (λ x. pixel_at w pixels x y) 0 w i i clear below_w (omega arith))))

@@ -9,7 +9,8 @@ use Rattle.std.proofs.Common.{to_z, of_z, w32, w64}
 use lib.IntN.{nat_abs}
 use Rattle.dp_blend.specs.Color.{Channels, clear}
 use Rattle.dp_blend.specs.Canvas.{below, canvas_of}
-use Rattle.dp_plain.specs.Drawing.{is_side, side, old_pixel, pixels_moved}
+use Rattle.dp_pixels.specs.Drawing.{pixel_of}
+use Rattle.dp_plain.specs.Drawing.{is_side, side, pixels_moved}
 use Rattle.dp_plain.specs.Moving.{pixel_in, row_moved}
 use Rattle.dp_plain.proofs.Canvas.{is_canvas_of, canvas_of-more, row_more}
 
@@ -69,14 +70,14 @@ row_moved_more before now row left place n p is pixel at =
 -- one row more of a canvas that moves
 pub pixels_moved_more : (width height : ℕ) (pixels now row : List Channels) (new_width k : ℕ) (left top y : ℤ)
     → now ≡ pixels_moved width height pixels new_width k left top → y ≡ pos k -ℤ top
-    → ((x : ℤ) → pixel_in row x ≡ old_pixel width height pixels x y)
+    → ((x : ℤ) → pixel_in row x ≡ pixel_of width height pixels x y)
     → now ++ row_moved new_width row left ≡ pixels_moved width height pixels new_width (k + 1) left top
 pixels_moved_more width height pixels now row new_width k left top y is place same =
-    let moved : row_moved new_width row left ≡ map (λ x. old_pixel width height pixels (pos x -ℤ left) (pos k -ℤ top)) (below new_width) =
-    map-same _ _ (below new_width) (λ x. same (pos x -ℤ left) ∙ ap (λ z. old_pixel width height pixels (pos x -ℤ left) z) place) in
+    let moved : row_moved new_width row left ≡ map (λ x. pixel_of width height pixels (pos x -ℤ left) (pos k -ℤ top)) (below new_width) =
+    map-same _ _ (below new_width) (λ x. same (pos x -ℤ left) ∙ ap (λ z. pixel_of width height pixels (pos x -ℤ left) z) place) in
     ap (λ ps. ps ++ row_moved new_width row left) is
     ∙ (ap (λ ps. pixels_moved width height pixels new_width k left top ++ ps) moved
-    ∙ sym (canvas_of-more new_width k (λ x y. old_pixel width height pixels (pos x -ℤ left) (pos y -ℤ top))))
+    ∙ sym (canvas_of-more new_width k (λ x y. pixel_of width height pixels (pos x -ℤ left) (pos y -ℤ top))))
 
 -- ---- clear canvases
 

@@ -1,36 +1,43 @@
 -- The board on new sides.
-use Rattle.std.proofs.Common.{◌≡◌, ℕ, ◌≤◌, List, map, cond, false, ◌&&◌, Some, None, Option, sym, ◌∙◌, ap, ◌⊎◌, ⊎_elim}
+use Rattle.std.proofs.Common.{◌≡◌, ℕ, ◌≤◌, cond, true, false, ◌&&◌, Some, None, Option, List, refl, sym, ◌∙◌, ap, ◌⊎◌, ⊎_elim, arith}
 use Rattle.std.specs.Prelude.{ℤ, pos, negsuc, ◌+ℤ◌, nat_le}
-use Rattle.std.proofs.lemmas.Bool.{and_left, and_right, and_parts, false_from_ne_true, cond-true, cond-false, leb-true}
+use Rattle.std.proofs.lemmas.Bool.{and_left, and_right, and_parts, false_from_ne_true, cond-true, cond-false, leb-true, false≢true}
 use Rattle.std.proofs.lemmas.Option.{cond_some, none-some}
-use Rattle.dp_plain.specs.Board.{Layer, Board}
-use Rattle.dp_plain.specs.Drawing.{is_side, side, layer_moved, resized}
+use Rattle.dp_blend.specs.Color.{Channels}
+use Rattle.dp_layers.specs.Rows.{Row, map_contents}
+use Rattle.dp_plain.specs.Board.{Board}
+use Rattle.dp_plain.specs.Drawing.{is_side, side, pixels_moved, resized}
 
 -- the length of a side, where the whole number is one
 abbrev pub side_if : ℤ → Option ℕ
 side_if n = cond (is_side n) (Some (side n)) None
 
+-- a side is from 1 to 4096 long
+pub side_bounds : (n : ℤ) → is_side n ≡ true → (1 ≤ side n) × (side n ≤ 4096)
+side_bounds (pos n) is =
+    let bounds = and_parts (nat_le 1 n) (nat_le n 4096) is in
+    (leb-true 1 n bounds.0, leb-true n 4096 bounds.1)
+side_bounds (negsuc n) is = absurd (false≢true is)
+
+pub side_fits : (n : ℤ) (m : ℕ) → Some m ≡ side_if n → (1 ≤ m) × (m ≤ 4096)
+side_fits n m found =
+    let chosen = cond_some (is_side n) (side n) m (sym found) in
+    let fits : (1 ≤ side n) × (side n ≤ 4096) = side_bounds n chosen.0 in
+    rw chosen.1 at fits
+
 not_side : (n : ℤ) → None ≡ side_if n → is_side n ≡ false
 not_side n h = false_from_ne_true (is_side n) (λ t. none-some (side n) (h ∙ cond-true (is_side n) (Some (side n)) None t))
 
--- a side is from 1 to 4096 long
-pub side_fits : (n : ℤ) (m : ℕ) → Some m ≡ side_if n → (1 ≤ m) × (m ≤ 4096)
-side_fits (pos n) m found =
-    let chosen = cond_some (is_side (pos n)) (side (pos n)) m (sym found) in
-    let bounds = and_parts (nat_le 1 n) (nat_le n 4096) chosen.0 in
-    let fits : (1 ≤ n) × (n ≤ 4096) = (leb-true 1 n bounds.0, leb-true n 4096 bounds.1) in
-    rw chosen.1 at fits
-side_fits (negsuc n) m found = absurd (none-some m (sym found))
-
 -- with both sides the board is resized
-pub resized_to : (board : Board) (top right bottom left : ℤ) (width height : ℕ) (layers : List Layer)
+pub resized_to : (board : Board) (top right bottom left : ℤ) (width height : ℕ) (rows : List (Row (List Channels)))
     → Some width ≡ side_if (pos board.width +ℤ left +ℤ right) → Some height ≡ side_if (pos board.height +ℤ top +ℤ bottom)
-    → layers ≡ map (layer_moved board.width board.height width height left top) board.layers
-    → record { width = width; height = height; layers = layers } ≡ resized board top right bottom left
-resized_to board top right bottom left width height layers is_width is_height is =
+    → rows ≡ map_contents (λ pixels. pixels_moved board.width board.height pixels width height left top) board.rows
+    → record { width = width; height = height; background = board.background; rows = rows } ≡ resized board top right bottom left
+resized_to board top right bottom left width height rows is_width is_height is =
     let w = cond_some (is_side (pos board.width +ℤ left +ℤ right)) (side (pos board.width +ℤ left +ℤ right)) width (sym is_width) in
     let h = cond_some (is_side (pos board.height +ℤ top +ℤ bottom)) (side (pos board.height +ℤ top +ℤ bottom)) height (sym is_height) in
-    rw (w.0, h.0, w.1, h.1) (ap (λ (ls : List Layer). record { width = width; height = height; layers = ls }) is)
+    rw (w.0, h.0, w.1, h.1)
+    (ap (λ (rs : List (Row (List Channels))). record { width = width; height = height; background = board.background; rows = rs }) is)
 
 -- with one that is no side it stays
 pub resized_not : (board : Board) (top right bottom left : ℤ)

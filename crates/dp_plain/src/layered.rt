@@ -10,11 +10,11 @@ ghost use Rattle.dp_plain.specs.Weights.{board_weight};
 use crate::content::Content;
 use crate::geometry::{Resize, new_side};
 use crate::plain::PlainPixels;
-use crate::trees::{resized_tree, shared_tree};
+use crate::trees::{arrange_rows, new_content, paint_content, resized_tree, shared_tree};
 use crate::view::BoardView;
 use dp_blend::Pixel;
 use dp_board::Board;
-use dp_layers::{LayerRow, Tree, trees_stay_trees};
+use dp_layers::{LayerRow, Tree, contents_ride_along, trees_stay_trees};
 use dp_msg_draw::Draw;
 use dp_steps::Steps;
 use std::alloc::{AllocError, Global};
@@ -136,10 +136,9 @@ impl<C: Content> LayeredBoard<C> {
         ensures err { OnErr result (self.new ≡ self.old) }
         ensures no_tile { tiles.new ≡ tiles.old }
     {
-        let content = match op {
-            Draw::LayerCreate { group: true, .. } => None,
-            _ => Some(C::clear(self.alloc, self.width, self.height, tiles)?),
-        };
+        contents_ride_along::<C, PlainPixels>();
+        trees_stay_trees::<C>();
+        let content = new_content(self.alloc, op, self.width, self.height, tiles)?;
         let _effect = self.tree.create(op, content)?;
         Ok(())
     }
@@ -150,12 +149,9 @@ impl<C: Content> LayeredBoard<C> {
         ensures ok { OnOk result (self.new ≡ arranged self.old op.now) }
         ensures err { OnErr result (self.new ≡ self.old) }
     {
-        let _effect = match op {
-            Draw::LayerAttr { .. } => self.tree.attr(op)?,
-            Draw::LayerTitle { .. } => self.tree.title(op)?,
-            Draw::LayerMove { .. } => self.tree.shift(op)?,
-            _ => self.tree.delete(op)?,
-        };
+        contents_ride_along::<C, PlainPixels>();
+        trees_stay_trees::<C>();
+        arrange_rows(&mut self.tree, op)?;
         Ok(())
     }
 
@@ -172,13 +168,16 @@ impl<C: Content> LayeredBoard<C> {
         ensures tiles_rise { tiles.old ≤ tiles.new }
         ensures few_tiles { tiles.new ≤ tiles.old + C.weight op.now }
     {
-        if self.tree.content(id).is_none() {
-            return Ok(());
-        }
-        let mut content = self.tree.put_content(id, C::stand_in(self.alloc));
-        let painted = content.paint(self.alloc, self.width, self.height, op, tiles);
-        let _stand_in = self.tree.put_content(id, content);
-        painted
+        paint_content(
+            &mut self.tree,
+            self.alloc,
+            self.width,
+            self.height,
+            id,
+            op,
+            tiles,
+        )?;
+        Ok(())
     }
 }
 
@@ -194,6 +193,7 @@ impl<C: Content> Board for LayeredBoard<C> {
     ghost are_apart = { λ a b. false };
 
     fn known(&self) {
+        C::laws();
         let _rows = self.tree.rows();
     }
 
@@ -239,10 +239,12 @@ impl<C: Content> BoardView for LayeredBoard<C> {
     ghost board = { λ board. board };
 
     fn width(&self) -> u32 {
+        self.known();
         self.width
     }
 
     fn height(&self) -> u32 {
+        self.known();
         self.height
     }
 

@@ -1,18 +1,96 @@
-//! Trees of contents made anew: on a canvas of other sides, or shared.
+//! Trees of contents: changed by a command, or made anew on a canvas of other sides or as a second one.
 
-ghost use Rattle.std.specs.Prelude.{◌≡◌, ◌+◌, ◌*◌, ◌≤◌, All, IfOk};
+ghost use Rattle.std.specs.Prelude.{◌≡◌, ◌+◌, ◌*◌, ◌≤◌, None, Some, if◌then◌else◌, false, IsTrue, is_some};
+ghost use Rattle.std.specs.Prelude.{map, option_map, All, IfOk, OnOk, OnErr};
 ghost use Rattle.std.specs.Option.{ForSome};
+ghost use Rattle.dp_blend.specs.Color.{clear};
+ghost use Rattle.dp_blend.specs.Canvas.{canvas_of};
+ghost use Rattle.dp_layers.specs.Changes.{IsCreate, makes_paint_row, rows_after};
 ghost use Rattle.dp_layers.specs.Layers.{row_limit};
-ghost use Rattle.dp_layers.specs.Rows.{map_contents};
+ghost use Rattle.dp_layers.specs.Rows.{map_contents, contents_of};
+ghost use Rattle.dp_layers.specs.Tree.{IsTree};
+ghost use Rattle.dp_pixels.specs.Drawing.{pixels_after};
+ghost use Rattle.dp_plain.specs.Drawing.{painted_layer, with_change, IsArranging};
 ghost use Rattle.dp_plain.specs.Resizing.{pixels_resized};
-ghost use Rattle.dp_plain.specs.Holding.{ContentsFit};
+ghost use Rattle.dp_plain.specs.Holding.{ContentsFit, IsHeld};
 
 use crate::content::Content;
 use crate::geometry::Resize;
-use dp_layers::Tree;
+use crate::plain::PlainPixels;
+use dp_layers::{Tree, contents_in_order, contents_ride_along, one_tree, trees_stay_trees};
+use dp_msg_draw::Draw;
 use dp_steps::Steps;
 use std::alloc::{AllocError, Global};
 use std::sync::ledger::Ledger;
+
+/// What a new row holds: a clear content, if it is a paint row.
+pub(crate) fn new_content<C: Content, T: Ledger>(
+    alloc: Global,
+    op: &Draw,
+    width: u32,
+    height: u32,
+    tiles: &mut Steps<T>,
+) -> Result<Option<C>, AllocError>
+    requires create { IsCreate op.now }
+    requires wide { width ≤ 4096 }
+    requires high { height ≤ 4096 }
+    ensures kind { IfOk result (λ content. is_some content ≡ makes_paint_row op.now) }
+    ensures fit { IfOk result (λ content. ForSome content (C.fits width height)) }
+    ensures pixels { IfOk result (λ content. option_map (C.pixels width height) content
+        ≡ (if makes_paint_row op.now then Some (canvas_of width height (λ x y. clear)) else None)) }
+    ensures no_tile { tiles.new ≡ tiles.old }
+{
+    match op {
+        Draw::LayerCreate { group: true, .. } => Ok(None),
+        _ => Ok(Some(C::clear(alloc, width, height, tiles)?)),
+    }
+}
+
+/// Changes the rows by a command that makes none.
+pub(crate) fn arrange_rows<X: Drop>(tree: &mut Tree<X>, op: &Draw) -> Result<(), AllocError>
+    requires { IsArranging op.now }
+    ensures kind { makes_paint_row op.now ≡ false }
+    ensures ok { OnOk result (tree.new ≡ rows_after tree.old op.now None) }
+    ensures err { OnErr result (tree.new ≡ tree.old) }
+{
+    let _effect = match op {
+        Draw::LayerAttr { .. } => tree.attr(op)?,
+        Draw::LayerTitle { .. } => tree.title(op)?,
+        Draw::LayerMove { .. } => tree.shift(op)?,
+        _ => tree.delete(op)?,
+    };
+    Ok(())
+}
+
+/// Draws a command on the content of the paint layer of the id, if there is one.
+pub(crate) fn paint_content<C: Content, T: Ledger>(
+    tree: &mut Tree<C>,
+    alloc: Global,
+    width: u32,
+    height: u32,
+    id: u16,
+    op: &Draw,
+    tiles: &mut Steps<T>,
+) -> Result<(), AllocError>
+    requires paints { IsTrue (is_some (painted_layer op.now)) }
+    requires held { IsHeld C.fits width height tree.old }
+    ensures held { IsHeld C.fits width height tree.new }
+    ensures ok { OnOk result (map_contents (C.pixels width height) tree.new
+        ≡ map (with_change id (pixels_after width height op.now))
+        (map_contents (C.pixels width height) tree.old)) }
+    ensures err { OnErr result (tree.new ≡ tree.old) }
+    ensures tiles_rise { tiles.old ≤ tiles.new }
+    ensures few_tiles { tiles.new ≤ tiles.old + C.weight op.now }
+{
+    trees_stay_trees::<C>();
+    if tree.content(id).is_none() {
+        return Ok(());
+    }
+    let mut content = tree.put_content(id, C::stand_in(alloc));
+    let painted = content.paint(alloc, width, height, op, tiles);
+    let _stand_in = tree.put_content(id, content);
+    painted
+}
 
 /// The tree on a canvas of the new sides.
 pub(crate) fn resized_tree<C: Content, T: Ledger>(
@@ -22,6 +100,7 @@ pub(crate) fn resized_tree<C: Content, T: Ledger>(
     tiles: &mut Steps<T>,
 ) -> Result<Tree<C>, AllocError>
     requires { ContentsFit (C.fits change.width change.height) tree.now }
+    ensures tree { IfOk result IsTree }
     ensures fit { IfOk result (ContentsFit (C.fits change.new_width change.new_height)) }
     ensures pixels { IfOk result (λ resized.
         map_contents (C.pixels change.new_width change.new_height) resized
@@ -30,13 +109,39 @@ pub(crate) fn resized_tree<C: Content, T: Ledger>(
     ensures tiles_rise { tiles.old ≤ tiles.new }
     ensures few_tiles { tiles.new ≤ tiles.old + row_limit * C.resizing }
 {
+    contents_in_order::<C>();
+    one_tree::<PlainPixels>();
+    let _rows = tree.rows();
+    let resized = tree.remake(resized_contents(alloc, tree, change, tiles)?)?;
+    let _resized_rows = resized.rows();
+    Ok(resized)
+}
+
+/// What the paint rows hold, in order, on a canvas of the new sides.
+fn resized_contents<C: Content, T: Ledger>(
+    alloc: Global,
+    tree: &Tree<C>,
+    change: Resize,
+    tiles: &mut Steps<T>,
+) -> Result<Vec<C>, AllocError>
+    requires { ContentsFit (C.fits change.width change.height) tree.now }
+    ensures fit { IfOk result (λ contents.
+        All (C.fits change.new_width change.new_height) contents.items) }
+    ensures pixels { IfOk result (λ contents.
+        map (C.pixels change.new_width change.new_height) contents.items
+        ≡ map (pixels_resized change)
+        (map (C.pixels change.width change.height) (contents_of tree.now))) }
+    ensures tiles_rise { tiles.old ≤ tiles.new }
+    ensures few_tiles { tiles.new ≤ tiles.old + row_limit * C.resizing }
+{
+    contents_in_order::<C>();
     let mut contents = Vec::new(alloc);
     for row in tree.rows() {
         if let Some(content) = tree.content(row.id) {
             contents.push(content.resize(alloc, change, tiles)?)?;
         }
     }
-    tree.remake(contents)
+    Ok(contents)
 }
 
 /// A tree of equal contents. It makes no tile.
@@ -48,11 +153,29 @@ pub(crate) fn shared_tree<C: Content, T: Ledger>(
     ensures same { IfOk result (λ shared. shared ≡ tree.now) }
     ensures no_tile { tiles.new ≡ tiles.old }
 {
+    contents_in_order::<C>();
+    one_tree::<C>();
+    let _rows = tree.rows();
+    let shared = tree.remake(shared_contents(alloc, tree, tiles)?)?;
+    let _shared_rows = shared.rows();
+    Ok(shared)
+}
+
+/// Contents equal to those of the paint rows, in order.
+fn shared_contents<C: Content, T: Ledger>(
+    alloc: Global,
+    tree: &Tree<C>,
+    tiles: &mut Steps<T>,
+) -> Result<Vec<C>, AllocError>
+    ensures same { IfOk result (λ contents. contents.items ≡ contents_of tree.now) }
+    ensures no_tile { tiles.new ≡ tiles.old }
+{
+    contents_in_order::<C>();
     let mut contents = Vec::new(alloc);
     for row in tree.rows() {
         if let Some(content) = tree.content(row.id) {
             contents.push(content.share(tiles)?)?;
         }
     }
-    tree.remake(contents)
+    Ok(contents)
 }

@@ -1,12 +1,15 @@
-use Rattle.std.proofs.Common.{◌≡◌, map, drop}
+use Rattle.std.proofs.Common.{◌≡◌, ◌+◌, length, map, drop}
+use Rattle.std.specs.List.{fold}
 use Rattle.dp_board.specs.Commands.{commands}
-use Rattle.dp_plain.specs.Board.{empty_board}
-use Rattle.dp_plain.specs.Drawing.{draw_all}
-use Rattle.dp_plain.specs.Replay.{act_of}
+use Rattle.dp_plain.specs.Replay.{user_act_of}
 use Rattle.dp_plain.proofs.replay.draw_flagged.Given as goal
 
 -- what is drawn and what is left to draw is all
 abbrev pub invariant-loop-k : goal.invariant-loop-k
-invariant-loop-k l =
-    draw_all l.board (commands (map act_of (drop l.k l.entries)) (drop l.k l.flags))
-    ≡ draw_all empty_board (commands (map act_of l.entries) l.flags)
+invariant-loop-k g l =
+    record {
+      board : fold g.B.Board.drawn l.board (commands (map user_act_of (drop l.k l.entries)) (drop l.k l.flags))
+          ≡ fold g.B.Board.drawn l.initial.board (commands (map user_act_of l.entries) l.flags);
+      draws : l.draws + length (commands (map user_act_of (drop l.k l.entries)) (drop l.k l.flags))
+          ≡ l.initial.draws + length (commands (map user_act_of l.entries) l.flags);
+    }
