@@ -19,3 +19,6 @@ pub use layered::LayeredBoard;
 pub use plain::{PlainBoard, PlainPixels};
 pub use replay::{act_of, is_command, plain_replay, show_on};
 pub use view::BoardView;
+
+#[cfg(test)]
+mod tests;
