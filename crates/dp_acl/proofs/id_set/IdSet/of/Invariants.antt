@@ -1,0 +1,8 @@
+use Rattle.std.proofs.Common.{take}
+use Rattle.dp_acl.specs.Looking.{lists}
+use Rattle.dp_acl.specs.Standing.{Mark}
+use Rattle.dp_acl.proofs.id_set.IdSet.of.Given as goal
+
+-- the set has the ids so far
+abbrev pub invariant-loop-id : goal.invariant-loop-id
+invariant-loop-id l = Mark l.set (lists (take l.id-index l.ids))

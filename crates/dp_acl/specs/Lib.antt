@@ -1,0 +1,10 @@
+pub mod Looking
+pub mod Rights
+pub mod Permitted
+pub mod Carrying
+pub mod Standing
+pub mod Laws
+pub mod Marks
+pub mod RuleTable
+pub mod Inside
+pub mod Step

@@ -1,0 +1,145 @@
+//! Sets of user ids.
+
+ghost use Rattle.std.specs.Prelude.{
+  ◌≡◌,
+  ◌<◌,
+  ◌≤◌,
+  ◌^◌,
+  ◌==◌,
+  ◌&&◌,
+  ◌↔◌,
+  [],
+  false,
+  length,
+  if◌then◌else◌,
+  IsTrue,
+  IfOk,
+  All,
+};
+ghost use Rattle.std.specs.List.{filter, list_all};
+ghost use Rattle.dp_acl.specs.Looking.{lists};
+ghost use Rattle.dp_acl.specs.Rights.{is_open_to};
+ghost use Rattle.dp_acl.specs.Standing.{mark_of, Mark};
+ghost use Rattle.dp_acl.specs.Marks.{marked};
+
+use std::alloc::{AllocError, Global};
+use std::marker::Model;
+
+/// The number of words of 64 bits that hold a bit for each id.
+const WORDS: usize = 4;
+
+/// The number of ids.
+const IDS: u16 = 256;
+
+/// A set of user ids, seen as the marks of all 256.
+#[derive(Debug, Drop)]
+pub(crate) struct IdSet {
+    words: [u64; WORDS],
+}
+
+impl Model for IdSet {
+    ghost use Rattle.std.specs.Prelude.{Bool, List};
+    ghost use Rattle.dp_acl.specs.Marks.{marks_of};
+
+    ghost Value = { List Bool };
+
+    ghost view = { λ set. marks_of set.words };
+}
+
+/// Whether all words are 0.
+fn are_zero(words: &[u64]) -> bool
+    ensures value { result ≡ list_all (λ word. word == 0) words.now }
+    ensures fit { All (λ word. word < 2 ^ 64) words.now }
+{
+    words.iter().all(|word| *word == 0)
+}
+
+impl IdSet {
+    /// No ids.
+    pub(crate) fn new() -> IdSet
+        ensures { Mark result (λ id. false) }
+    {
+        IdSet { words: [0; WORDS] }
+    }
+
+    /// Whether the id is in the set.
+    pub(crate) fn contains(&self, id: u8) -> bool
+        ensures { result ≡ mark_of self.now id }
+    {
+        (self.words[usize::from(id / 64)] >> (id % 64)) & 1 == 1
+    }
+
+    /// Puts the id in, or takes it out.
+    pub(crate) fn set(&mut self, id: u8, present: bool)
+        ensures { Mark self.new (λ other. if id == other then present else mark_of self.old other) }
+    {
+        let place = usize::from(id / 64);
+        let bit = 1u64 << (id % 64);
+        if present {
+            self.words[place] |= bit;
+        } else {
+            self.words[place] &= !bit;
+        }
+    }
+
+    /// The ids of a list.
+    pub(crate) fn of(ids: &[u8]) -> IdSet
+        ensures marks { Mark result (lists ids.now) }
+        ensures bytes { All (λ id. id < 256) ids.now }
+    {
+        let mut set = IdSet::new();
+        for id in ids {
+            set.set(*id, true);
+        }
+        set
+    }
+
+    /// The ids that are in both sets.
+    pub(crate) fn both(&self, other: &IdSet) -> IdSet
+        ensures { Mark result (λ id. mark_of self.now id && mark_of other.now id) }
+    {
+        let mut words = [0u64; WORDS];
+        for place in 0..WORDS {
+            words[place] = self.words[place] & other.words[place];
+        }
+        IdSet { words }
+    }
+
+    /// Whether no id is in the set.
+    fn is_empty(&self) -> bool
+        ensures { IsTrue result ↔ (marked self.now ≡ []) }
+    {
+        are_zero(&self.words)
+    }
+
+    /// Whether the id is in the set, or none is.
+    pub(crate) fn is_open_to(&self, id: u8) -> bool
+        ensures { result ≡ is_open_to (marked self.now) id }
+    {
+        self.is_empty() || self.contains(id)
+    }
+
+    /// Those of the ids that are in the set, in order. The only error is want of memory.
+    pub(crate) fn among(&self, alloc: Global, ids: &[u8]) -> Result<Vec<u8>, AllocError>
+        ensures { IfOk result (λ found. found.items ≡ filter (mark_of self.now) ids.now) }
+    {
+        ids.iter()
+            .copied()
+            .filter(|id| self.contains(*id))
+            .collect(alloc)
+    }
+
+    /// The ids of the set, rising. The only error is want of memory.
+    pub(crate) fn to_vec(&self, alloc: Global) -> Result<Vec<u8>, AllocError>
+        ensures { IfOk result (λ ids. ids.items ≡ marked self.now) }
+    {
+        let mut ids = Vec::new(alloc);
+        for number in 0..IDS {
+            let id = number as u8;
+            if self.contains(id) {
+                ids.push(id)?;
+            }
+        }
+        Ok(ids)
+    }
+}

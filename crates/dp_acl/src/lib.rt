@@ -1,0 +1,18 @@
+//! Who may do what in a session, and what of the rights is carried into the next epoch.
+//!
+//! The rule: docs/protocol.md, "Rights".
+#![tactic(auto)]
+
+mod carrying;
+mod id_set;
+mod laws;
+mod noting;
+mod permits;
+mod rights;
+mod rules;
+
+pub use laws::{forbidden_changes_no_right, spelled_ids_are_in_order};
+pub use rights::Rights;
+
+#[cfg(test)]
+mod tests;

@@ -1,0 +1,257 @@
+//! Histories, with what they permit and what is carried of them, worked out from the rule by hand.
+//! Payloads are hexadecimal. User 1 is the operator, 2 is trusted, 3 is registered, and 4 is a guest.
+
+use super::*;
+use dp_messages::{Entry, Msg};
+use dp_msg_draw::{is_listed, read_draw};
+use dp_msg_meta::{
+    Ids, is_control_kind, is_meta_kind, kind_of_meta, read_control, read_meta, write_meta,
+};
+use std::alloc::Global;
+use std::process::Abort;
+use std::test::Fail;
+
+fn digit(c: u8) -> u8 {
+    match c {
+        b'0'..=b'9' => c - b'0',
+        b'a'..=b'f' => c - b'a' + 10,
+        _ => 0,
+    }
+}
+
+/// The bytes of pairs of hexadecimal digits.
+fn bytes_of(alloc: Global, text: &str) -> Result<Vec<u8>, Fail> {
+    let mut bytes = Vec::new(alloc);
+    for pair in text.as_bytes().chunks(2) {
+        if let [high, low] = pair {
+            bytes.push(digit(*high).wrapping_mul(16).wrapping_add(digit(*low)))?;
+        }
+    }
+    Ok(bytes)
+}
+
+/// The message of a kind with this payload.
+fn msg_of(rt: &impl Abort, alloc: Global, kind: u8, text: &str) -> Result<Msg, Fail> {
+    let payload = bytes_of(alloc, text)?;
+    if is_control_kind(kind) {
+        return Ok(Msg::Control(read_control(alloc, kind, &payload)?));
+    }
+    if is_meta_kind(kind) {
+        return Ok(Msg::Meta(read_meta(alloc, kind, &payload)?));
+    }
+    if is_listed(kind) {
+        return Ok(Msg::Draw(read_draw(alloc, kind, &payload)?));
+    }
+    match (kind, payload.as_slice()) {
+        (6, [part, rest @ ..]) if is_listed(*part) => Ok(Msg::Part(read_draw(alloc, *part, rest)?)),
+        (128, []) => Ok(Msg::Point),
+        (255, [target, redo]) => Ok(Msg::Undo {
+            target: *target,
+            redo: *redo == 1,
+        }),
+        _ => panic!(rt; "{text} is no message of kind {kind}"),
+    }
+}
+
+/// Notes entries, each a user, a kind and a payload.
+fn note(
+    rt: &impl Abort,
+    alloc: Global,
+    rights: &mut Rights,
+    rows: &[(u8, u8, &str)],
+) -> Result<(), Fail> {
+    for (user, kind, text) in rows {
+        rights.note(&Entry {
+            user: *user,
+            msg: msg_of(rt, alloc, *kind, text)?,
+        })?;
+    }
+    Ok(())
+}
+
+/// Checks which of the four users may send messages, each a kind, a payload and the users.
+fn check(
+    rt: &impl Abort,
+    alloc: Global,
+    rights: &Rights,
+    rows: &[(u8, &str, &str)],
+) -> Result<(), Fail> {
+    for (kind, text, users) in rows {
+        let msg = msg_of(rt, alloc, *kind, text)?;
+        for user in 1..5u8 {
+            assert_eq!(rt;
+                rights.permits(user, &msg),
+                users.as_bytes().contains(&(b'0' + user)),
+                "{kind} {text} of user {user}"
+            );
+        }
+    }
+    Ok(())
+}
+
+/// The rights of the four users.
+fn session(rt: &impl Abort, alloc: Global) -> Result<Rights, Fail> {
+    let mut rights = Rights::new(alloc);
+    let rows = [
+        (1, 32, "0061"),
+        (2, 32, "0062"),
+        (3, 32, "0163"),
+        (4, 32, "0064"),
+        (1, 34, "01"),
+        (1, 36, "02"),
+    ];
+    note(rt, alloc, &mut rights, &rows)?;
+    Ok(rights)
+}
+
+#[test]
+fn messages_that_draw_nothing(rt: HostRuntime) -> Result<(), Fail> {
+    let alloc = rt.alloc();
+    let rows = [
+        (0, "61", ""),
+        (1, "00", "1234"),
+        (2, "00", "1234"),
+        (3, "00000000", "1234"),
+        (4, "0001010000000000000001", ""),
+        (5, "", "1"),
+        (7, "", "1"),
+        (32, "0061", ""),
+        (33, "", ""),
+        (34, "01", "1"),
+        (35, "68", "1234"),
+        (36, "", "1"),
+        (37, "0000000000000000", ""),
+        (64, "0000000000000000", "1234"),
+        (65, "0000000000000000", "1234"),
+        (66, "", "1"),
+        // A layer of user 4, and one of the operator.
+        (67, "04010003", "14"),
+        (67, "01040003", "1"),
+        (68, "0303030303030303", "1"),
+        (69, "23", ""),
+        (6, "820401000000", "1"),
+        (128, "", "1234"),
+        // One's own strokes, and those of user 4.
+        (255, "0000", "1234"),
+        (255, "0401", "14"),
+    ];
+    check(&rt, alloc, &session(&rt, alloc)?, &rows)
+}
+
+#[test]
+fn commands(rt: HostRuntime) -> Result<(), Fail> {
+    let alloc = rt.alloc();
+    let mut rights = session(&rt, alloc)?;
+    let rows = [
+        (129, "00000000000000020000000100000000", "1"),
+        (130, "0401000000", "14"),
+        (131, "0401800100", "14"),
+        (132, "04014869", "14"),
+        (133, "040100000102", "14"),
+        (134, "0401", "14"),
+        (134, "0104", "1"),
+        (
+            136,
+            "01010100000000000000000000000100000001ff00ff00",
+            "1234",
+        ),
+        (147, "ff00ff00", "1"),
+    ];
+    check(&rt, alloc, &rights, &rows)?;
+    // Each tier at some feature.
+    note(&rt, alloc, &mut rights, &[(1, 68, "0001020301020201")])?;
+    let rows = [
+        (129, "00000000000000020000000100000000", "123"),
+        (134, "0401", "12"),
+        (134, "0301", "123"),
+        (136, "01010100000000000000000000000100000001ff00ff00", "1"),
+        (
+            137,
+            "01010100000000000000000000000100000001ffff0000",
+            "1234",
+        ),
+        (146, "0101000000000000008000000000008000", "1"),
+        (147, "ff00ff00", "1234"),
+        (149, "01010000000000000000ff00000100000980", "1234"),
+        (150, "01010000000000000000ff00000100000980", "1234"),
+        (
+            152,
+            "0101000000000000000000000002000000010000000100000000",
+            "12",
+        ),
+        (64, "0000000000000000", "123"),
+        (255, "0000", "12"),
+        (255, "0400", "1"),
+    ];
+    check(&rt, alloc, &rights, &rows)
+}
+
+#[test]
+fn locks(rt: HostRuntime) -> Result<(), Fail> {
+    let alloc = rt.alloc();
+    let mut rights = session(&rt, alloc)?;
+    // Each entry, and who may begin a stroke behind it.
+    for (entry, users) in [
+        ((1, 66, "00"), "1"),
+        ((4, 32, "0064"), "1"),
+        ((1, 66, "0104"), "123"),
+        ((4, 32, "0064"), "1234"),
+        ((1, 66, "010203"), "14"),
+        ((1, 32, "0061"), "14"),
+    ] {
+        note(&rt, alloc, &mut rights, &[entry])?;
+        check(&rt, alloc, &rights, &[(128, "", users)])?;
+    }
+    assert!(rt; !rights.is_operator(1));
+    check(&rt, alloc, &rights, &[(34, "01", "")])
+}
+
+#[test]
+fn rules_of_layers(rt: HostRuntime) -> Result<(), Fail> {
+    let alloc = rt.alloc();
+    let mut rights = session(&rt, alloc)?;
+    note(
+        &rt,
+        alloc,
+        &mut rights,
+        &[(1, 67, "02010103"), (1, 67, "00010103")],
+    )?;
+    // What the rule of layer 257 says, and who may paint there.
+    for (payload, users) in [
+        ("01010103", ""),
+        ("01010001", "12"),
+        ("0101000303", "13"),
+        ("0101000104", "1"),
+        ("010100010204", "12"),
+        ("01010003", "1234"),
+    ] {
+        note(&rt, alloc, &mut rights, &[(1, 67, payload)])?;
+        let rect = "01010100000000000000000000000100000001ffff0000";
+        check(&rt, alloc, &rights, &[(137, rect, users)])?;
+    }
+    Ok(())
+}
+
+#[test]
+fn carried(rt: HostRuntime) -> Result<(), Fail> {
+    let alloc = rt.alloc();
+    let mut rights = session(&rt, alloc)?;
+    let rows = [
+        (1, 34, "0104"),
+        (1, 66, "000203"),
+        (1, 67, "0201000103"),
+        (1, 67, "01020003"),
+        (1, 67, "0201010204"),
+    ];
+    note(&rt, alloc, &mut rights, &rows)?;
+    rights.reserve()?;
+    let present = Vec::from_slice(alloc, &[1, 2, 3])?;
+    let mut bytes = Vec::new(alloc);
+    for meta in &rights.carry(&Ids::from_vec(present))? {
+        bytes.push(kind_of_meta(meta))?;
+        write_meta(meta, &mut bytes)?;
+    }
+    let expected = "22012402420002034403030000000303034301020003430201010204";
+    assert_eq!(rt; bytes, bytes_of(alloc, expected)?);
+    Ok(())
+}

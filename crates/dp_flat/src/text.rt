@@ -1,0 +1,115 @@
+//! The texts of pixels, in pieces.
+
+ghost use Rattle.std.specs.Prelude.{◌≡◌, ◌+◌, ◌≤◌, ◌++◌, length, codes, decimal};
+ghost use Rattle.std.specs.List.{flat_map};
+ghost use Rattle.arrayvec.specs.ArrayVec.{array_vec_len};
+ghost use Rattle.dp_plain.specs.Picture.{head};
+ghost use Rattle.dp_flat.specs.Texts.{name_of, pixel_text_of};
+
+use arrayvec::{ArrayString, ArrayVec};
+use dp_blend::{Pixel, to8};
+use itoa::Buffer;
+
+/// The most pixels that are put into a piece at once.
+pub(crate) const STRETCH: usize = 256;
+
+/// The most bytes of a pixel: those of the line `255 255 255`.
+const PIXEL_BYTES: usize = 12;
+
+/// The most bytes of so many pixels.
+pub(crate) const STRETCH_BYTES: usize = STRETCH * PIXEL_BYTES;
+
+/// The most bytes that are written at once.
+pub(crate) const PIECE_BYTES: usize = 4 * STRETCH_BYTES;
+
+/// A piece of a text.
+pub(crate) type Piece = ArrayVec<u8, PIECE_BYTES>;
+
+/// A form in which the picture is written.
+#[derive(Clone, Copy)]
+pub(crate) enum Format {
+    /// Three bytes a pixel.
+    P6,
+    /// A line of three decimal numbers a pixel.
+    P3,
+}
+
+impl Format {
+    /// The first line of a text in the format.
+    fn name(self) -> &'static str
+        ensures value { result.now ≡ name_of self }
+        ensures short { length result.now ≤ 3 }
+    {
+        match self {
+            Format::P6 => "P6\n",
+            Format::P3 => "P3\n",
+        }
+    }
+}
+
+/// The head of a picture of this width and height.
+pub(crate) fn head_of(format: Format, width: u32, height: u32) -> ArrayString<96>
+    ensures { result.bytes ≡ head (name_of format) width height }
+{
+    let mut digits = Buffer::new();
+    let mut head = ArrayString::new();
+    head.push_str(format.name());
+    head.push_str(digits.format(width));
+    head.push_str(" ");
+    head.push_str(digits.format(height));
+    head.push_str("\n255\n");
+    head
+}
+
+/// Adds the texts of some pixels.
+pub(crate) fn push_pixels(format: Format, pixels: &[Pixel], piece: &mut Piece)
+    requires few { length pixels.now ≤ STRETCH }
+    requires room { array_vec_len piece.old + STRETCH_BYTES ≤ PIECE_BYTES }
+    ensures { piece.new.items ≡ piece.old.items ++ flat_map (pixel_text_of format) pixels.now }
+{
+    for pixel in pixels {
+        push_pixel(format, *pixel, piece);
+    }
+}
+
+/// Adds the text of a pixel.
+#[inline]
+fn push_pixel(format: Format, pixel: Pixel, piece: &mut Piece)
+    requires { array_vec_len piece.old + PIXEL_BYTES ≤ PIECE_BYTES }
+    ensures items { piece.new.items ≡ piece.old.items ++ pixel_text_of format pixel }
+    ensures short { array_vec_len piece.new ≤ array_vec_len piece.old + PIXEL_BYTES }
+{
+    let [red, green, blue] = [to8(pixel.r()), to8(pixel.g()), to8(pixel.b())];
+    match format {
+        Format::P6 => push_all(&[red, green, blue], piece),
+        Format::P3 => push_all(line_of(red, green, blue).as_bytes(), piece),
+    }
+}
+
+/// Adds the bytes.
+#[inline]
+pub(crate) fn push_all(bytes: &[u8], piece: &mut Piece)
+    requires { array_vec_len piece.old + length bytes.now ≤ PIECE_BYTES }
+    ensures { piece.new.items ≡ piece.old.items ++ bytes.now }
+{
+    for byte in bytes {
+        piece.push(*byte);
+    }
+}
+
+/// The line of a pixel of these bytes.
+fn line_of(red: u8, green: u8, blue: u8) -> ArrayString<PIXEL_BYTES>
+    ensures value { result.bytes
+        ≡ decimal red ++ codes " " ++ decimal green ++ codes " " ++ decimal blue ++ codes "\n" }
+    ensures short { length result.bytes ≤ PIXEL_BYTES }
+{
+    let mut digits = Buffer::new();
+    let mut line = ArrayString::new();
+    line.push_str(digits.format(red));
+    line.push_str(" ");
+    line.push_str(digits.format(green));
+    line.push_str(" ");
+    line.push_str(digits.format(blue));
+    line.push_str("\n");
+    line
+}
