@@ -5,7 +5,8 @@ use Rattle.std.proofs.Common.{refl, sym, ap, subst, ◌∙◌, inl, inr, arith, 
 use Rattle.std.specs.Int.{bit_at}
 use Rattle.std.proofs.lemmas.Bool.{cases_eq, cond-true, cond-false, eq-eqb, ne_eqb}
 use Rattle.std.proofs.lemmas.List.{get_or-set_same, get_or-set_other}
-use Rattle.std.proofs.lemmas.Nat.Bits.{shr_and_one, bit_at-zero, bit_at-lt, bit_at_and, bit_at_set_same, bit_at_set_other}
+use Rattle.std.proofs.lemmas.Nat.Bits.{shr_and_one, bit_at-zero, bit_at-lt, bit_at_and, bit_at_set_same}
+use Rattle.std.proofs.lemmas.Nat.Bits.{bit_at_set_other}
 use Rattle.std.proofs.lemmas.Nat.Bits.{bit_at_clear_same, bit_at_clear_other}
 use Rattle.dp_acl.specs.Standing.{mark_of}
 use Rattle.dp_acl.specs.Marks.{bit_of, marks_of}
@@ -73,15 +74,18 @@ module _ (words : List ℕ) (id word : ℕ) (present : Bool)
           (get_or-set_other words (id / 64) (user / 64) word 0 elsewhere)
     ]
 
-    bit-set : (user : ℕ) → bit_of (set words (id / 64) word) user ≡ (if id == user then present else bit_of words user)
+    bit-set : (user : ℕ) → bit_of (set words (id / 64) word) user
+        ≡ (if id == user then present else bit_of words user)
     bit-set user = elim (cases_eq id user) [
-      | inl same ↦ subst (λ u. bit_of (set words (id / 64) word) u ≡ (if id == u then present else bit_of words u)) same bit-set_same
+      | inl same ↦ subst (λ u. bit_of (set words (id / 64) word) u
+          ≡ (if id == u then present else bit_of words u)) same bit-set_same
       | inr differs ↦ bit-set_other user differs
           ∙ sym (cond-false (id == user) present (bit_of words user) (ne_eqb id user differs))
     ]
 
     marks-set : (marks : List Bool) → marks_of words ≡ marks → (user : ℕ) → user < 256
-        → mark_of (marks_of (set words (id / 64) word)) user ≡ (if id == user then present else mark_of marks user)
+        → mark_of (marks_of (set words (id / 64) word)) user
+        ≡ (if id == user then present else mark_of marks user)
     marks-set marks view user low =
         mark-bit (set words (id / 64) word) user low
         ∙ bit-set user
@@ -119,7 +123,8 @@ marks-take_out words marks id place present four small here is view user low =
     (18446744073709551615 - 1 * 2 ^ (id % 64) % 18446744073709551616)))) user) here
     ∙ marks-set words id word false (omega arith)
     (bit_at_clear_same w64 (get_or words (id / 64) 0) (id % 64) (omega arith))
-    (λ k short differs. bit_at_clear_other w64 (get_or words (id / 64) 0) (id % 64) (omega arith) k short differs)
+    (λ k short differs. bit_at_clear_other w64 (get_or words (id / 64) 0) (id % 64)
+    (omega arith) k short differs)
     marks view user low
     ∙ ap (λ b. if id == user then b else mark_of marks user) (sym is)
 

@@ -9,7 +9,8 @@ use Rattle.std.proofs.lemmas.List.Sums.{length-filter, count_by-le-length}
 use Rattle.std.proofs.lemmas.List.Elements.{All-head, All-tail, All-cons, All-nil, All-weaker}
 use Rattle.dp_msg_meta.specs.Fields.{RiseFrom}
 use Rattle.dp_msg_meta.specs.declared.message.Meta.{Meta}
-use Rattle.dp_msg_meta.specs.declared.message.Meta.TheVariants.{Owners, Trusted, UserAcl, LayerAcl, FeatureTiers}
+use Rattle.dp_msg_meta.specs.declared.message.Meta.TheVariants.{Owners, Trusted, UserAcl, LayerAcl}
+use Rattle.dp_msg_meta.specs.declared.message.Meta.TheVariants.{FeatureTiers}
 use Rattle.dp_messages.specs.declared.message.Entry.{Entry}
 use Rattle.dp_acl.specs.Looking.{numbers_below, LayerRule}
 use Rattle.dp_acl.specs.Rights.{is_operator, is_trusted, are_all_locked, is_lock_listed, tiers_of, rule_of}
@@ -46,7 +47,8 @@ length-filter_le p xs = omega (arith, length-filter p xs, count_by-le-length p x
 -- they are few
 pub length-rise : (low : ℕ) (ids : List ℕ) → low ≤ 255 → RiseFrom low ids → length ids + low ≤ 255
 length-rise low [] small rise = omega arith
-length-rise low (id ∷ ids) small rise = omega (arith, rise.0, rise.1, length-rise (id + 1) ids (omega (arith, rise.1)) rise.2)
+length-rise low (id ∷ ids) small rise =
+    omega (arith, rise.0, rise.1, length-rise (id + 1) ids (omega (arith, rise.1)) rise.2)
 
 -- and they are ids of users
 ids-rise : (low : ℕ) (ids : List ℕ) → RiseFrom low ids → All (λ id. id < 256) ids

@@ -4,7 +4,8 @@ use Rattle.std.proofs.Common.{Bool, true, false, cond, IsTrue, List, [], ◌∷�
 use Rattle.std.proofs.Common.{refl, sym, ap, ◌∙◌, inl, inr, arith}
 use Rattle.std.specs.List.{filter, list_all, range_with_len}
 use Rattle.std.specs.Int.{bit_at}
-use Rattle.std.proofs.lemmas.Bool.{cases_eq, eqb-true, eqb-false, eq-eqb, ne_eqb, cond-true, cond-false, false≢true}
+use Rattle.std.proofs.lemmas.Bool.{cases_eq, eqb-true, eqb-false, eq-eqb, ne_eqb, cond-true, cond-false}
+use Rattle.std.proofs.lemmas.Bool.{false≢true}
 use Rattle.std.proofs.lemmas.List.Sums.{AllPass-from_list_all, list_all-from_AllPass}
 use Rattle.std.proofs.lemmas.List.Elements.{All-get_or, All-from_get_or}
 use Rattle.std.proofs.lemmas.Nat.Bits.{bit_at-zero, bit_at-lt, same_from_bits_below}
@@ -13,15 +14,18 @@ use Rattle.dp_acl.specs.Rights.{is_open_to}
 use Rattle.dp_acl.specs.Carrying.{in_order}
 use Rattle.dp_acl.specs.Standing.{mark_of, Mark}
 use Rattle.dp_acl.specs.Marks.{bit_of, marks_of, marked}
-use Rattle.dp_acl.proofs.ListLemmas.{filter-same, All-range, filter-numbers, filter-none, filter-numbers_nil, lists-filter}
+use Rattle.dp_acl.proofs.ListLemmas.{filter-same, All-range, filter-numbers, filter-none}
+use Rattle.dp_acl.proofs.ListLemmas.{filter-numbers_nil, lists-filter}
 use Rattle.dp_acl.proofs.BitLemmas.{mark-bit}
 
 -- ids that are listed and marked alike are the marked ones
-pub marked-in_order : (marks : List Bool) (ids : List ℕ) → Mark marks (lists ids) → marked marks ≡ in_order ids
+pub marked-in_order : (marks : List Bool) (ids : List ℕ) → Mark marks (lists ids)
+    → marked marks ≡ in_order ids
 marked-in_order marks ids same = filter-numbers (mark_of marks) (lists ids) 256 same
 
 -- where no word has a bit, nobody is marked
-marked-zero : (words : List ℕ) → length words ≡ 4 → list_all (λ w. w == 0) words ≡ true → marked (marks_of words) ≡ []
+marked-zero : (words : List ℕ) → length words ≡ 4 → list_all (λ w. w == 0) words ≡ true
+    → marked (marks_of words) ≡ []
 marked-zero words four zeros =
     filter-numbers (mark_of (marks_of words)) (λ _. false) 256 none ∙ filter-none (numbers_below 256)
   where
@@ -140,7 +144,12 @@ length-one id n = length-filter_one id 0 n
 length-listed : (ids : List ℕ) (n : ℕ) → length (filter (lists ids) (numbers_below n)) ≤ length ids
 length-listed [] n = omega (arith, ap length (filter-none (numbers_below n)))
 length-listed (id ∷ ids) n =
-    omega (arith, length-filter_or (λ k. id == k) (lists ids) (numbers_below n), length-one id n, length-listed ids n)
+    omega (
+      arith,
+      length-filter_or (λ k. id == k) (lists ids) (numbers_below n),
+      length-one id n,
+      length-listed ids n,
+    )
 
 -- ids in order are no more than the ids
 pub length-in_order : (ids : List ℕ) → length (in_order ids) ≤ length ids

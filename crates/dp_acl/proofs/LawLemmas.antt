@@ -18,13 +18,15 @@ use Rattle.dp_messages.specs.declared.message.Msg.TheVariants as msg
 use Rattle.dp_messages.specs.declared.message.Entry.{Entry}
 use Rattle.dp_acl.specs.Looking as said
 use Rattle.dp_acl.specs.Looking.{numbers_below, lists, is_join_of, has_joined, LayerRule, layer_rule}
-use Rattle.dp_acl.specs.Rights.{is_listed, is_operator, is_trusted, is_registered, are_all_locked, is_lock_listed}
+use Rattle.dp_acl.specs.Rights.{is_listed, is_operator, is_trusted, is_registered, are_all_locked}
+use Rattle.dp_acl.specs.Rights.{is_lock_listed}
 use Rattle.dp_acl.specs.Rights.{is_locked, tier_of, tiers_of, has_feature, rule_of, is_open_to, lets_paint}
 use Rattle.dp_acl.specs.Rights.{may_paint, may_edit_layer, creator_of}
 use Rattle.dp_acl.specs.Permitted.{permits_control, permits_meta, permits_draw, permitted}
 use Rattle.dp_acl.specs.Laws.{filtered, ForbiddenChangesNoRight, SpelledIdsAreInOrder}
 use Rattle.dp_acl.proofs.ListLemmas.{filter-same, filter-none, All-range}
-use Rattle.dp_acl.proofs.PushLemmas.{joined-push, listed_behind, listed-push, registered-push, all_locked-push}
+use Rattle.dp_acl.proofs.PushLemmas.{joined-push, listed_behind, listed-push, registered-push}
+use Rattle.dp_acl.proofs.PushLemmas.{all_locked-push}
 use Rattle.dp_acl.proofs.PushLemmas.{tiers-push, rule-push}
 
 -- ---- ids in order
@@ -85,11 +87,13 @@ record LooksSame (one other : List Entry) : Type 0 where
   rules : (layer : ℕ) → rule_of one layer ≡ rule_of other layer
 
 module _ (one other : List Entry) (e : Entry) (same : LooksSame one other) where
-  listed-same : (ids : Msg → Option (List ℕ)) → ((user : ℕ) → is_listed ids one user ≡ is_listed ids other user)
+  listed-same : (ids : Msg → Option (List ℕ))
+      → ((user : ℕ) → is_listed ids one user ≡ is_listed ids other user)
       → (user : ℕ) → is_listed ids (one ++ e ∷ []) user ≡ is_listed ids (other ++ e ∷ []) user
   listed-same ids were user =
       listed-push ids user one e
-      ∙ ap (λ b. listed_behind (is_join_of user e) b (ids e.msg) (is_listed ids one user) user) (same.joined user)
+      ∙ ap (λ b. listed_behind (is_join_of user e) b (ids e.msg) (is_listed ids one user) user)
+      (same.joined user)
       ∙ ap (λ b. listed_behind (is_join_of user e) (has_joined other user) (ids e.msg) b user) (were user)
       ∙ sym (listed-push ids user other e)
 
@@ -101,7 +105,8 @@ module _ (one other : List Entry) (e : Entry) (same : LooksSame one other) where
     operators = listed-same said.owners same.operators;
     trusted = listed-same said.trusted same.trusted;
     registered = λ user. registered-push one e user
-        ∙ ap (λ b. if is_join_of user e then unwrap_or (said.joined e.msg) false else b) (same.registered user)
+        ∙ ap (λ b. if is_join_of user e then unwrap_or (said.joined e.msg) false else b)
+        (same.registered user)
         ∙ sym (registered-push other e user);
     all_locked = all_locked-push one e
         ∙ ap (λ b. option_map_or (λ listed. lists listed 0) (said.locked_users e.msg) b) same.all_locked
@@ -124,7 +129,8 @@ same-append (e ∷ after) one other same =
     (same-append after (one ++ e ∷ []) (other ++ e ∷ []) (same-push one other e same)))
 
 -- an entry that stands in place of a forbidden message
-same-filtered : (before : List Entry) (sender kind : ℕ) → LooksSame (before ++ filtered sender kind ∷ []) before
+same-filtered : (before : List Entry) (sender kind : ℕ)
+    → LooksSame (before ++ filtered sender kind ∷ []) before
 same-filtered before sender kind = record {
   joined = λ user. joined-push before (filtered sender kind) user;
   operators = λ user. listed-push said.owners user before (filtered sender kind);
@@ -143,9 +149,11 @@ module _ (one other : List Entry) (same : LooksSame one other) (user : ℕ) wher
   tier-same =
       ap (λ b. if b then 0 else if is_trusted one user then 1 else if is_registered one user then 2 else 3)
       (same.operators user)
-      ∙ ap (λ b. if is_operator other user then 0 else if b then 1 else if is_registered one user then 2 else 3)
+      ∙ ap (λ b. if is_operator other user then 0 else if b then 1
+      else if is_registered one user then 2 else 3)
       (same.trusted user)
-      ∙ ap (λ b. if is_operator other user then 0 else if is_trusted other user then 1 else if b then 2 else 3)
+      ∙ ap (λ b. if is_operator other user then 0 else if is_trusted other user then 1
+      else if b then 2 else 3)
       (same.registered user)
 
   locked-same : is_locked one user ≡ is_locked other user
@@ -170,7 +178,8 @@ module _ (one other : List Entry) (same : LooksSame one other) (user : ℕ) wher
   lets-same rule =
       ap (λ b. not rule.locked && (b || (nat_le (tier_of one user) rule.tier && is_open_to rule.ids user)))
       (same.operators user)
-      ∙ ap (λ t. not rule.locked && (is_operator other user || (nat_le t rule.tier && is_open_to rule.ids user)))
+      ∙ ap (λ t. not rule.locked &&
+      (is_operator other user || (nat_le t rule.tier && is_open_to rule.ids user)))
       tier-same
 
   lets-same_of : (o : Option LayerRule)
@@ -201,8 +210,11 @@ module _ (one other : List Entry) (same : LooksSame one other) (user : ℕ) wher
       ∙ ap (λ b. not (is_locked other user) && (has_feature other user (λ tiers. tiers.edit_layers)
       || (b && creator_of layer == user))) (feature-same (λ tiers. tiers.own_layers))
 
-  undo-cases : (b : Bool) → (if b then not (is_locked one user) && has_feature one user (λ tiers. tiers.undo) else is_operator one user)
-      ≡ (if b then not (is_locked other user) && has_feature other user (λ tiers. tiers.undo) else is_operator other user)
+  undo-cases : (own : Bool)
+      → (if own then not (is_locked one user) && has_feature one user (λ tiers. tiers.undo)
+      else is_operator one user)
+      ≡ (if own then not (is_locked other user) && has_feature other user (λ tiers. tiers.undo)
+      else is_operator other user)
   undo-cases true = use-same (λ tiers. tiers.undo)
   undo-cases false = same.operators user
 
@@ -225,7 +237,8 @@ module _ (one other : List Entry) (same : LooksSame one other) (user : ℕ) wher
   meta-same (meta.Laser x y) = feature-same (λ tiers. tiers.laser)
   meta-same (meta.MovePointer x y) = refl
   meta-same (meta.UserAcl ids) = same.operators user
-  meta-same (meta.LayerAcl layer locked tier ids) = ap (λ b. b || creator_of layer == user) (same.operators user)
+  meta-same (meta.LayerAcl layer locked tier ids) = ap (λ b. b || creator_of layer == user)
+      (same.operators user)
   meta-same (meta.FeatureTiers tiers) = same.operators user
   meta-same (meta.Filtered kind) = refl
 

@@ -7,7 +7,8 @@ use Rattle.std.proofs.lemmas.Bool.{cases_eq, cond-true, cond-false, eq-eqb, ne_e
 use Rattle.std.proofs.lemmas.List.{map-id}
 use Rattle.std.proofs.lemmas.List.Elements.{All-head, All-tail, filter-append}
 use Rattle.std.proofs.lemmas.Map.Views.{any-filter_same}
-use Rattle.std.proofs.lemmas.List.FromFn.{length-range_with_len, get_or-range_with_len, get_or-map-range_with_len}
+use Rattle.std.proofs.lemmas.List.FromFn.{length-range_with_len, get_or-range_with_len}
+use Rattle.std.proofs.lemmas.List.FromFn.{get_or-map-range_with_len}
 use Rattle.std.proofs.lemmas.List.FromFn.{map-range_with_len_more}
 use Rattle.dp_acl.specs.Looking.{numbers_below, lists}
 
@@ -99,7 +100,8 @@ unfolding numbers_below
 filter-numbers_none p = refl
 
 -- the ids so far with one more number, whether it passes or not
-pub filter-numbers_yes : (p : ℕ → Bool) (n : ℕ) (xs ys : List ℕ) → xs ≡ filter p (numbers_below n) → p n ≡ true
+pub filter-numbers_yes : (p : ℕ → Bool) (n : ℕ) (xs ys : List ℕ) → xs ≡ filter p (numbers_below n)
+    → p n ≡ true
     → ys ≡ xs ++ n ∷ [] → ys ≡ filter p (numbers_below (n + 1))
 filter-numbers_yes p n xs ys so_far passes more =
     more ∙ ap (λ zs. zs ++ n ∷ []) so_far

@@ -4,7 +4,8 @@ use Rattle.std.proofs.Common.{if◌then◌else◌, List, [], ◌∷◌, ◌++◌
 use Rattle.std.proofs.Common.{Option, Some, None, is_some, unwrap_or, refl, sym, ap, ◌∙◌, arith, append-nil}
 use Rattle.std.specs.List.{filter, filter_map, cons_option, after_last, prefix_len, suffix_len}
 use Rattle.std.specs.Option.{option_map_or, option_or}
-use Rattle.std.proofs.lemmas.Bool.{cond-true, cond-false, not_from_true, not_from_false, and_parts, false≢true}
+use Rattle.std.proofs.lemmas.Bool.{cond-true, cond-false, not_from_true, not_from_false, and_parts}
+use Rattle.std.proofs.lemmas.Bool.{false≢true}
 use Rattle.std.proofs.lemmas.List.{length_push, reverse-append, length-reverse, drop_all, drop-append-le}
 use Rattle.std.proofs.lemmas.List.Sums.{prefix_len-le-length}
 use Rattle.std.proofs.lemmas.List.Elements.{filter-append, filter_map-append}
@@ -49,7 +50,8 @@ after_last-push {X} p xs x = by_case (p x) refl
     turned : suffix_len q (xs ++ x ∷ []) ≡ cond (not (p x)) (1 + n) 0
     turned = ap (prefix_len q) (reverse-append xs (x ∷ []))
 
-    by_case : (b : Bool) → p x ≡ b → after_last p (xs ++ x ∷ []) ≡ (if p x then [] else after_last p xs ++ x ∷ [])
+    by_case : (b : Bool) → p x ≡ b → after_last p (xs ++ x ∷ [])
+        ≡ (if p x then [] else after_last p xs ++ x ∷ [])
     by_case true passes =
         let none : suffix_len q (xs ++ x ∷ []) ≡ 0 =
         turned ∙ cond-false (not (p x)) (1 + n) 0 (not_from_true (p x) passes) in
@@ -147,7 +149,8 @@ module _ (said : Msg → Option (List ℕ)) (user : ℕ) where
 
   pub listed-push : (history : List Entry) (e : Entry)
       → is_listed said (history ++ e ∷ []) user
-      ≡ listed_behind (is_join_of user e) (has_joined history user) (said e.msg) (is_listed said history user) user
+      ≡ listed_behind (is_join_of user e) (has_joined history user) (said e.msg)
+      (is_listed said history user) user
   listed-push history e =
       ap Listed (since-push history e user)
       ∙ cases (is_join_of user e) (has_joined history user) (after_last (is_join_of user) history) e
@@ -182,4 +185,5 @@ registered-push history e user = by_case (is_join_of user e) refl
         ap (λ es. unwrap_or (last_said joined es) false) (filter-append (is_join_of user) history (e ∷ []))
         ∙ ap (λ b. unwrap_or (last_said joined (mine ++ (if b then e ∷ [] else []))) false) is
         ∙ ap (λ es. unwrap_or (last_said joined es) false) (append-nil mine)
-        ∙ sym (cond-false (is_join_of user e) (unwrap_or (joined e.msg) false) (is_registered history user) is)
+        ∙ sym (cond-false (is_join_of user e) (unwrap_or (joined e.msg) false)
+        (is_registered history user) is)

@@ -1,6 +1,7 @@
 -- The rules of the layers: searching, changing and going through them.
-use Rattle.std.proofs.Common.{◌≡◌, ◌≢◌, ℕ, zero, suc, ◌+◌, ◌-◌, ◌<◌, ◌≤◌, ◌==◌, Bool, true, false, cond, if◌then◌else◌}
-use Rattle.std.proofs.Common.{List, [], ◌∷◌, length, get_or, take, drop, set, map, All, Option, Some, None}
+use Rattle.std.proofs.Common.{◌≡◌, ◌≢◌, ℕ, zero, suc, ◌+◌, ◌-◌, ◌<◌, ◌≤◌, ◌==◌, Bool, true, false, cond}
+use Rattle.std.proofs.Common.{if◌then◌else◌}
+use Rattle.std.proofs.Common.{List, [], ◌∷◌, ◌++◌, length, get_or, take, drop, set, map, All, Option, Some, None}
 use Rattle.std.proofs.Common.{Result, Ok, Err, IfOk, IfErr, refl, sym, ap, subst, ◌∙◌, arith}
 use Rattle.std.specs.Option.{option_map}
 use Rattle.std.specs.List.{insert}
@@ -9,8 +10,11 @@ use Rattle.std.specs.Ordering.{nat_cmp, ordering_index}
 use Rattle.std.proofs.lemmas.Cmp.{ranked}
 use Rattle.std.proofs.lemmas.Bool.{cond-true, cond-false, eq-eqb, ne_eqb, eqb-true}
 use Rattle.std.proofs.lemmas.Bool.Decides.{nat_tests}
-use Rattle.std.proofs.lemmas.List.Edits.{length-insert, get_or-insert_below, get_or-insert_at, get_or-insert_above}
+use Rattle.std.proofs.lemmas.List.{append_assoc, map_more}
+use Rattle.std.proofs.lemmas.List.Edits.{length-insert, get_or-insert_below, get_or-insert_at}
+use Rattle.std.proofs.lemmas.List.Edits.{get_or-insert_above}
 use Rattle.std.proofs.lemmas.List.Elements.{All-tail, All-append, All-cons, All-take, All-drop}
+use Rattle.dp_msg_meta.specs.declared.message.Meta.{Meta}
 use Rattle.dp_acl.specs.declared.rules.Rule.{Rule}
 use Rattle.dp_acl.specs.Looking.{LayerRule}
 use Rattle.dp_acl.specs.Standing.{KeptRule, kept_rule}
@@ -185,7 +189,8 @@ module _ (rules : List Rule) (layer place : ℕ) (are : AreRules rules) (gap : I
         let below : (k : ℕ) → k < place → key new k ≡ key rules k =
         λ k low. ap (λ (x : Rule). x.layer) (get_or-insert_below rules place r d k low gap.within) in
         let here : (k : ℕ) → k ≡ place → key new k ≡ layer =
-        λ k same. ap (key new) same ∙ ap (λ (x : Rule). x.layer) (get_or-insert_at rules place r d gap.within) ∙ is in
+        λ k same. ap (key new) same
+        ∙ ap (λ (x : Rule). x.layer) (get_or-insert_at rules place r d gap.within) ∙ is in
         let above : (k : ℕ) → place < k → key new k ≡ key rules (k - 1) =
         λ k high. subst (λ q. key new q ≡ key rules (k - 1)) {x = k - 1 + 1} (omega arith)
         (ap (λ (x : Rule). x.layer) (get_or-insert_above rules place r d (k - 1) (omega arith) gap.within)) in
@@ -240,3 +245,15 @@ rise-kept rules are = rise-from 0 rules are.rise are.layers (λ d some. omega ar
 pub acls-kept : (rules : List Rule) → map (λ r. acl_of (kept_of r)) rules ≡ map acl_of (map kept_of rules)
 acls-kept [] = refl
 acls-kept (r ∷ rules) = ap (λ ms. acl_of (kept_of r) ∷ ms) (acls-kept rules)
+
+-- the messages so far, with the one of the next rule
+pub acls-more : (was before after : List Meta) (rules : List Rule) (i : ℕ) (d : Rule) (m : Meta)
+    → i < length rules → before ≡ was ++ map (λ r. acl_of (kept_of r)) (take i rules)
+    → after ≡ before ++ m ∷ [] → m ≡ acl_of (kept_of (get_or rules i d))
+    → after ≡ was ++ map (λ r. acl_of (kept_of r)) (take (i + 1) rules)
+acls-more was before after rules i d m short so_far pushed is =
+    pushed
+    ∙ ap (λ ms. ms ++ m ∷ []) so_far
+    ∙ append_assoc was (map (λ r. acl_of (kept_of r)) (take i rules)) (m ∷ [])
+    ∙ ap (λ x. was ++ (map (λ r. acl_of (kept_of r)) (take i rules) ++ x ∷ [])) is
+    ∙ ap (λ ms. was ++ ms) (sym (map_more (λ r. acl_of (kept_of r)) rules i d short))

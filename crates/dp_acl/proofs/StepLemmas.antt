@@ -1,7 +1,7 @@
 -- What is kept behind one more entry stands for the longer history.
 use Rattle.std.proofs.Common.{◌≡◌, ℕ, ◌<◌, ◌==◌, ◌||◌, Bool, true, false, if◌then◌else◌}
 use Rattle.std.proofs.Common.{List, [], ◌∷◌, ◌++◌, All, Option, Some, None, IfSome, unwrap_or}
-use Rattle.std.proofs.Common.{refl, sym, ap, subst, ◌∙◌}
+use Rattle.std.proofs.Common.{rules, refl, sym, ap, subst, ◌∙◌}
 use Rattle.std.specs.Option.{option_map, option_map_or, option_or}
 use Rattle.dp_msg_meta.specs.declared.message.Meta.{Meta}
 use Rattle.dp_msg_meta.specs.declared.message.Meta.TheVariants.{LayerAcl}
@@ -14,7 +14,8 @@ use Rattle.dp_acl.specs.Rights.{is_listed, rule_of}
 use Rattle.dp_acl.specs.Standing.{Kept, KeptRule, Mark, mark_of, kept_rule, rule_in_order, StandsFor}
 use Rattle.dp_acl.specs.Marks.{marked}
 use Rattle.dp_acl.specs.Step.{meta_entry, listed_after, IsKeptAfter}
-use Rattle.dp_acl.proofs.PushLemmas.{joined-push, listed_behind, listed-push, registered-push, all_locked-push}
+use Rattle.dp_acl.proofs.PushLemmas.{joined-push, listed_behind, listed-push, registered-push}
+use Rattle.dp_acl.proofs.PushLemmas.{all_locked-push}
 use Rattle.dp_acl.proofs.PushLemmas.{tiers-push, rule-push}
 use Rattle.dp_acl.proofs.IdLemmas.{marked-in_order}
 
@@ -34,8 +35,10 @@ module _ (before after : Kept) (history : List Entry) (e : Entry)
       → Mark new (is_listed ids (history ++ e ∷ []))
   listed-step ids old new marks was user low =
       marks user low
-      ∙ ap (λ b. listed_behind (is_join_of user e) b (ids e.msg) (mark_of old user) user) (stands.joined user low)
-      ∙ ap (λ b. listed_behind (is_join_of user e) (has_joined history user) (ids e.msg) b user) (was user low)
+      ∙ ap (λ b. listed_behind (is_join_of user e) b (ids e.msg) (mark_of old user) user)
+      (stands.joined user low)
+      ∙ ap (λ b. listed_behind (is_join_of user e) (has_joined history user) (ids e.msg) b user)
+      (was user low)
       ∙ sym (listed-push ids user history e)
 
   -- what is kept behind the entry stands for the history with it
@@ -72,72 +75,12 @@ module _ (before after : Kept) (history : List Entry) (e : Entry)
 pub kept-other : (kept : Kept) (user : ℕ) (m : Msg) → ((meta : Meta) → m ≡ msg.Meta meta → ⊥)
     → IsKeptAfter kept (record { user = user; msg = m }) kept
 kept-other kept user (msg.Meta meta) other = absurd (other meta refl)
-kept-other kept user (msg.Control m) other = record {
-  joined = λ u low. refl;
-  operators = λ u low. refl;
-  trusted = λ u low. refl;
-  registered = λ u low. refl;
-  all_locked = refl;
-  lock_listed = λ u low. refl;
-  tiers = refl;
-  rules = λ layer small. refl;
-  ids = λ layer small. tt;
-}
-kept-other kept user (msg.Part m) other = record {
-  joined = λ u low. refl;
-  operators = λ u low. refl;
-  trusted = λ u low. refl;
-  registered = λ u low. refl;
-  all_locked = refl;
-  lock_listed = λ u low. refl;
-  tiers = refl;
-  rules = λ layer small. refl;
-  ids = λ layer small. tt;
-}
-kept-other kept user msg.Point other = record {
-  joined = λ u low. refl;
-  operators = λ u low. refl;
-  trusted = λ u low. refl;
-  registered = λ u low. refl;
-  all_locked = refl;
-  lock_listed = λ u low. refl;
-  tiers = refl;
-  rules = λ layer small. refl;
-  ids = λ layer small. tt;
-}
-kept-other kept user (msg.Undo target redo) other = record {
-  joined = λ u low. refl;
-  operators = λ u low. refl;
-  trusted = λ u low. refl;
-  registered = λ u low. refl;
-  all_locked = refl;
-  lock_listed = λ u low. refl;
-  tiers = refl;
-  rules = λ layer small. refl;
-  ids = λ layer small. tt;
-}
-kept-other kept user (msg.Draw m) other = record {
-  joined = λ u low. refl;
-  operators = λ u low. refl;
-  trusted = λ u low. refl;
-  registered = λ u low. refl;
-  all_locked = refl;
-  lock_listed = λ u low. refl;
-  tiers = refl;
-  rules = λ layer small. refl;
-  ids = λ layer small. tt;
-}
-kept-other kept user (msg.Opaque kind body) other = record {
-  joined = λ u low. refl;
-  operators = λ u low. refl;
-  trusted = λ u low. refl;
-  registered = λ u low. refl;
-  all_locked = refl;
-  lock_listed = λ u low. refl;
-  tiers = refl;
-  rules = λ layer small. refl;
-  ids = λ layer small. tt;
-}
+kept-other kept user (msg.Control m) other = search rules
+kept-other kept user (msg.Part m) other = search rules
+kept-other kept user msg.Point other = search rules
+kept-other kept user (msg.Undo target redo) other = search rules
+kept-other kept user (msg.Draw m) other = search rules
+kept-other kept user (msg.Opaque kind body) other = search rules
 
 -- how much memory is spared doesn't matter
 pub stands-room : (kept : Kept) (room : ℕ) (history : List Entry) → StandsFor kept history

@@ -93,6 +93,7 @@ impl Rules {
         }
     }
 
+    /// The allocator of the rules.
     pub(crate) fn allocator(&self) -> Global {
         *self.rules.allocator()
     }

@@ -7,7 +7,7 @@ returns-clause-entries c = λ input es ds end other h k.
     let laws : Laws StandsInReplay = record {
       first = c.one_front.ensures;
       splitting = c.one_splitting.ensures;
-      entry = λ before frame e f s t. c.one_answer.ensures.entry frame e f s.0 t.0;
+      entry = λ before frame e f s t. c.one_answer.ensures.entry frame e f s t;
     } in
     (same_reading StandsInReplay laws 0 replay_limit input es ds end other h k).0
 
@@ -16,6 +16,6 @@ returns-clause-end c = λ input es ds end other h k.
     let laws : Laws StandsInReplay = record {
       first = c.one_front.ensures;
       splitting = c.one_splitting.ensures;
-      entry = λ before frame e f s t. c.one_answer.ensures.entry frame e f s.0 t.0;
+      entry = λ before frame e f s t. c.one_answer.ensures.entry frame e f s t;
     } in
     (same_reading StandsInReplay laws 0 replay_limit input es ds end other h k).1

@@ -46,7 +46,8 @@ returns c = λ history stands.
     let same : slice ≡ present = c.as_slice-present.ensures.value in
     let kept = the_view c.self.inside in
     let stands' = subst (λ (k : Kept). StandsFor k history) (sym c.self.view_is) stands in
-    five-pushed c.in_ok-metas.metas.items c.push.new.self.items c.push-2.new.self.items c.push-3.new.self.items
+    five-pushed c.in_ok-metas.metas.items c.push.new.self.items c.push-2.new.self.items
+    c.push-3.new.self.items
     c.push-4.new.self.items c.carry.new.metas.items
     (Owners c.from_vec.result) (Trusted c.from_vec-2.result) (UserAcl c.from_vec-3.result)
     (FeatureTiers c.self.inside.tiers) (map acl_of c.self.inside.rules.rules)
@@ -54,7 +55,8 @@ returns c = λ history stands.
     c.in_ok-push-3.ensures.items c.in_ok-push-4.ensures.items c.in_ok-carry.ensures.carried
     ∙ same-start c.from_vec.result (filter (mark_of kept.operators) present)
     c.from_vec-2.result (filter (mark_of kept.trusted) present)
-    c.from_vec-3.result ((if kept.all_locked then 0 ∷ [] else []) ++ filter (mark_of kept.lock_listed) present)
+    c.from_vec-3.result
+    ((if kept.all_locked then 0 ∷ [] else []) ++ filter (mark_of kept.lock_listed) present)
     (FeatureTiers c.self.inside.tiers ∷ map acl_of c.self.inside.rules.rules)
     (c.from_vec.ensures ∙ c.in_ok-owners.ensures ∙ ap (filter (mark_of kept.operators)) same)
     (c.from_vec-2.ensures ∙ c.in_ok-trusted.ensures ∙ ap (filter (mark_of kept.trusted)) same)

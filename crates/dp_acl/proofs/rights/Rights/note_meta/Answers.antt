@@ -5,7 +5,8 @@ use Rattle.dp_acl.proofs.rights.Rights.note_meta.Goals as goal
 
 pub returns-in-Join-clause-kept : goal.returns-in-Join-clause-kept
 returns-in-Join-clause-kept c =
-    subst (λ m. IsKeptAfter c.args.self.now (meta_entry c.args.user m) c.note_join.new.self) (sym c.in-Join.is)
+    subst (λ m. IsKeptAfter c.args.self.now (meta_entry c.args.user m) c.note_join.new.self)
+    (sym c.in-Join.is)
     (c.note_join.ensures.kept c.in-Join.name)
 
 pub returns-in-Owners-clause-kept : goal.returns-in-Owners-clause-kept

@@ -6,7 +6,8 @@ use Rattle.dp_acl.proofs.rights.Rights.note_reserved.Goals as goal
 pub returns-in-Meta-clause-stands : goal.returns-in-Meta-clause-stands
 returns-in-Meta-clause-stands c = λ history stands.
     stands-push c.args.self.now c.note_meta.new.self history c.args.entry.now
-    (subst (λ m. IsKeptAfter c.args.self.now (record { user = c.args.entry.now.user; msg = m }) c.note_meta.new.self)
+    (subst (λ m. IsKeptAfter c.args.self.now
+    (record { user = c.args.entry.now.user; msg = m }) c.note_meta.new.self)
     (sym c.in-Meta.is) c.note_meta.ensures.kept) stands
 
 pub returns-in_default : goal.returns-in_default

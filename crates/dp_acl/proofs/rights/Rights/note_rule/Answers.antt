@@ -11,7 +11,8 @@ use Rattle.dp_acl.proofs.rights.Rights.note_rule.Goals as goal
 pub put-requires-clause-short : goal.put-requires-clause-short
 put-requires-clause-short c =
     let ids = c.as_slice.result.now in
-    let same : length ids ≤ 255 = subst (λ xs. length xs ≤ 255) (sym c.as_slice.ensures.value) c.as_slice.ensures.short in
+    let same : length ids ≤ 255 = subst (λ xs. length xs ≤ 255)
+    (sym c.as_slice.ensures.value) c.as_slice.ensures.short in
     omega (arith, ap length (marked-in_order c.of.result ids c.of.ensures.marks), length-in_order ids)
 
 pub returns-clause-kept : goal.returns-clause-kept
