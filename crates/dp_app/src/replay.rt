@@ -6,11 +6,11 @@ ghost use Rattle.dp_app.specs.Shown.{WritesShown};
 
 use crate::reading::{Reading, read_entries};
 use crate::status::reads_to_end;
+use dp_canvas::Canvas;
+use dp_flat::{PictureEnd, write_p6};
 use dp_io::{Sink, Source};
 use dp_lines::RunEnd;
 use dp_messages::Entry;
-use dp_canvas::Canvas;
-use dp_flat::{PictureEnd, write_p6};
 use dp_plain::show_on;
 use dp_steps::Steps;
 use std::alloc::Global;

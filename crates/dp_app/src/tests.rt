@@ -37,6 +37,12 @@ fn frame(word: &str) -> &str {
         "MOVE_RIGHT" => "001a98010101000000000000000000000002000000010000000100000000",
         "MOVE_LEFT" => "001a98010101000000010000000000000002000000010000000000000000",
         "MOVE_ONE" => "001a98010101000000010000000000000001000000010000000000000000",
+        "ATTR_HALF" => "000583010101800100",
+        "LAYER2" => "000582010102000000",
+        "FILL2" => "0017890101020100000000000000000000000100000001ff0000ff",
+        "GROUP" => "000582010200000001",
+        "TO_GROUP" => "00068501010102000200",
+        "GREEN" => "00049301ff00ff00",
         "CONTROL" => concat_control(),
         "META" => concat_meta(),
         other => other,
@@ -83,8 +89,18 @@ fn rows() -> &'static str {
 10|bad message at 0|00001401 0000||
 10|bad message at 0|000222010201||
 10|bad message at 0|001192010101000000000000000001000000000000||
-10|bad message at 29|SIZE LAYER 000583010101800100||
-10|bad message at 29|SIZE LAYER 00049301ff00ff00||
+0||SIZE11 LAYER RED0 ATTR_HALF|1 1|ff7f7f
+0||SIZE11 LAYER RED0 LAYER2 FILL2|1 1|0000ff
+0||SIZE11 LAYER RED0 LAYER2 FILL2 00068501010200000000|1 1|ff0000
+0||SIZE11 LAYER RED0 GROUP TO_GROUP|1 1|ff0000
+0||SIZE11 LAYER RED0 GROUP TO_GROUP 000583010200ff0101|1 1|ffffff
+0||SIZE11 LAYER RED0 GROUP TO_GROUP 000286010200|1 1|ffffff
+0||SIZE11 LAYER RED0 000286010101 GREEN|1 1|00ff00
+0||SIZE11 LAYER RED0 GREEN 000583010101ff0000|1 1|ffffff
+0||SIZE11 LAYER RED0 GREEN 000583010101ff0200|1 1|000000
+0||SIZE11 LAYER RED0 GREEN 00058301010100ff00|1 1|ffffff
+0||SIZE11 LAYER RED0 GREEN 000584010101486921|1 1|ff0000
+0||SIZE11 000582010201000001 000582010102020100 FILL2 000582010202020101 000582010203020201 000582010101020300 RED0 000583010203800100 000583010202ff0200 000583010201800100|1 1|7f7fbf
 0||SIZE LAYER RED0 001789010101000000000000000000000000010000000180000000|2 1|ff8080ffffff
 0||SIZE LAYER TILE IMAGE1|2 1|ff000000ff00
 0||SIZE LAYER TILE IMAGE1 SQUARE1|2 1|ff00000000ff
@@ -109,7 +125,7 @@ fn rows() -> &'static str {
 0||SIZE LAYER RED0 MARK SIZE LAYER BLUE1|2 1|ffffff0000ff
 0||SIZE LAYER RED0 MARK|0 0|
 0||SIZE MARK LAYER MARK SIZE|2 1|ffffffffffff
-10|bad message at 20|SIZE 000582010101000001||"
+0||SIZE 000582010101000001 RED0|2 1|ffffffffffff"
 }
 
 fn digit(c: u8) -> u8 {
@@ -306,6 +322,28 @@ fn a_tile_put_twice(rt: HostRuntime) -> Result<(), Fail> {
     for pixel in pixels.chunks(3) {
         assert_eq!(rt; pixel, [255, 0, 0].as_slice());
     }
+    Ok(())
+}
+
+/// A canvas 4096 by 4096 that is filled, and the fill undone.
+#[test]
+fn the_greatest_canvas(rt: HostRuntime) -> Result<(), Fail> {
+    let alloc = rt.alloc();
+    let input = input_of(
+        alloc,
+        "0010810100000000000010000000100000000000 LAYER POINT \
+         0017890101010100000000000000000000100000001000ffff0000 UNDO",
+    )?;
+    let words = [String::from_str(alloc, "replay")?];
+    let mut source = MemSource::new(input, 4096, Vec::new(alloc));
+    let mut output = MemSink::new(alloc, 50_400_000, 50_400_000, Vec::new(alloc))?;
+    let mut diag = MemSink::new(alloc, 100, 100, Vec::new(alloc))?;
+    let outcome = drawpile(alloc, &words, &mut source, &mut output, &mut diag);
+    assert_eq!(rt; outcome, Outcome { status: 0 });
+    assert_eq!(rt; output.as_slice().len(), 17 + 50_331_648);
+    let pixels = output.as_slice().get(17..).unwrap_or(&[]);
+    assert!(rt; output.as_slice().starts_with(b"P6\n4096 4096\n255\n"));
+    assert!(rt; pixels.iter().all(|byte| *byte == 255));
     Ok(())
 }
 

@@ -1,9 +1,8 @@
 -- The text of a picture by its rows.
-use Rattle.std.proofs.Common.{◌≡◌, ℕ, ◌+◌, ◌-◌, ◌<◌, ◌≤◌, List, [], ◌∷◌, ◌++◌, map, suc, zero, refl, sym, ap, ◌∙◌, subst, arith, add-one}
+use Rattle.std.proofs.Common.{◌≡◌, ℕ, ◌+◌, ◌-◌, ◌<◌, List, ◌∷◌, ◌++◌, map, suc, zero, sym, ap, ◌∙◌, subst, arith}
 use Rattle.std.proofs.lemmas.List.{append_assoc, append-nil}
 use Rattle.std.proofs.lemmas.Grind.{flat_map-append}
 use Rattle.std.specs.List.{range_with_len, flat_map}
-use Rattle.std.specs.Io.KnownBytes.{Appends}
 use Rattle.std.specs.declared.option.Option.{Option}
 use Rattle.dp_blend.specs.Color.{Channels}
 use Rattle.dp_blend.specs.Canvas.{below, canvas_of}
@@ -59,7 +58,7 @@ text_failed a b text board y front row is inside some =
     let all : y + 1 + rest ≡ board.height = omega arith in
     let others = flat_map (λ y. map (λ x. seen board x y) (below board.width)) (range_with_len (0 + (y + 1)) rest) in
     let whole : front ++ flat_map text (canvas_of board.width (y + 1) (seen board)) ++ flat_map text others
-        ≡ front ++ flat_map text (canvas_of board.width board.height (seen board)) =
+    ≡ front ++ flat_map text (canvas_of board.width board.height (seen board)) =
     append_assoc front (flat_map text (canvas_of board.width (y + 1) (seen board))) (flat_map text others)
     ∙ ap (λ l. front ++ l) (sym (flat_map-append text (canvas_of board.width (y + 1) (seen board)) others)
     ∙ ap (flat_map text) (sym (canvas_split board.width (y + 1) rest (seen board)) ∙ ap (λ n. canvas_of board.width n (seen board)) all)) in

@@ -11,3 +11,6 @@ mod writing;
 
 pub use pixel::flatten;
 pub use writing::{PictureEnd, write_p3, write_p6};
+
+#[cfg(test)]
+mod tests;

@@ -1,6 +1,6 @@
 -- A fade by one changes nothing, and what was filled is white.
 use Rattle.std.proofs.Common.{get_or, ap, ◌∙◌, arith}
-use Rattle.dp_blend.specs.Color.{Channels, clear, white}
+use Rattle.dp_blend.specs.Color.{Channels, clear}
 use Rattle.dp_blend.specs.Blending.{blend}
 use Rattle.dp_blend.specs.declared.modes.Mode.TheVariants.{Normal}
 use Rattle.dp_flat.proofs.compose.lay_on_white.Goals as goal

@@ -1,6 +1,8 @@
 -- Each row's text stands behind those above, and the last piece ends the text.
-use Rattle.std.proofs.Common.{◌≡◌, ◌++◌, length, take, subst, ap, ◌∙◌, arith}
-use Rattle.dp_plain.specs.Picture.{head}
+use Rattle.std.proofs.Common.{◌≡◌, ◌++◌, take, subst, ap, ◌∙◌, arith}
+use Rattle.std.specs.List.{flat_map}
+use Rattle.dp_blend.specs.Canvas.{canvas_of}
+use Rattle.dp_plain.specs.Picture.{head, seen}
 use Rattle.dp_flat.specs.Composing.{seen_row}
 use Rattle.dp_flat.specs.Texts.{GrowsBefore, name_of, pixel_text_of}
 use Rattle.dp_flat.proofs.Prefixes.{before_on, before_failed, last_written, last_cut}
@@ -10,21 +12,29 @@ use Rattle.dp_flat.proofs.writing.put_picture.Goals as goal
 pub returns-in_err-put_row-clause-prefix : goal.returns-in_err-put_row-clause-prefix
 returns-in_err-put_row-clause-prefix g c =
     let board = g.V.BoardView.board c.args.board.now in
+    let held = g.S.Sink.held in
+    let text = pixel_text_of c.args.format in
     let front = head (name_of c.args.format) board.width board.height in
-    let row : take c.width-width.result c.draw_row.new.memory ≡ seen_row board c.loop-y.y =
-    ap (λ n. take n c.draw_row.new.memory) c.width-width.ensures.value ∙ c.draw_row.ensures in
-    text_failed _ _ (pixel_text_of c.args.format) board c.loop-y.y front _ row (omega (arith, c.height-height.ensures.value))
-    (before_failed _ _ _ _ _ _ c.loop-y.invariant.before c.in_err-put_row.ensures.prefix)
+    let shown = take c.width-width.result c.draw_row.new.memory in
+    let row : shown ≡ seen_row board c.loop-y.y = ap (λ n. take n c.draw_row.new.memory) c.width-width.ensures.value ∙ c.draw_row.ensures in
+    text_failed (held c.args.out.now) (held c.put_row.new.out) text board c.loop-y.y front shown row (omega (arith, c.height-height.ensures.value))
+    (before_failed (held c.args.out.now) (held c.loop-y.out) (held c.put_row.new.out) c.loop-y.piece.items
+    (front ++ flat_map text (canvas_of board.width c.loop-y.y (seen board))) (flat_map text shown)
+    c.loop-y.invariant.before c.in_err-put_row.ensures.prefix)
 
 pub loop-y-preserved : goal.loop-y-preserved
 loop-y-preserved g c =
     let board = g.V.BoardView.board c.args.board.now in
+    let held = g.S.Sink.held in
+    let text = pixel_text_of c.args.format in
     let front = head (name_of c.args.format) board.width board.height in
-    let row : take c.width-width.result c.draw_row.new.memory ≡ seen_row board c.loop-y.y =
-    ap (λ n. take n c.draw_row.new.memory) c.width-width.ensures.value ∙ c.draw_row.ensures in
+    let shown = take c.width-width.result c.draw_row.new.memory in
+    let row : shown ≡ seen_row board c.loop-y.y = ap (λ n. take n c.draw_row.new.memory) c.width-width.ensures.value ∙ c.draw_row.ensures in
     record {
-      before = subst (GrowsBefore _ _ _) (text_more (pixel_text_of c.args.format) board c.loop-y.y front _ row)
-          (before_on _ _ _ _ _ _ _ c.loop-y.invariant.before c.in_ok-put_row.ensures.before);
+      before = subst (GrowsBefore (held c.args.out.now) (held c.put_row.new.out) c.put_row.new.piece.items) (text_more text board c.loop-y.y front shown row)
+          (before_on (held c.args.out.now) (held c.loop-y.out) (held c.put_row.new.out) c.loop-y.piece.items
+          (front ++ flat_map text (canvas_of board.width c.loop-y.y (seen board))) (flat_map text shown) c.put_row.new.piece.items
+          c.loop-y.invariant.before c.in_ok-put_row.ensures.before);
       kept = c.in_ok-put_row.ensures.cause.kept ∙ c.loop-y.invariant.kept;
     }
 

@@ -1,4 +1,4 @@
-use Rattle.std.proofs.Common.{◌≡◌, ◌*◌, ◌++◌, length}
+use Rattle.std.proofs.Common.{◌≡◌, ◌++◌}
 use Rattle.std.specs.List.{flat_map}
 use Rattle.dp_blend.specs.Canvas.{canvas_of}
 use Rattle.dp_plain.specs.Picture.{head, seen}
@@ -9,8 +9,8 @@ use Rattle.dp_flat.proofs.writing.put_picture.Given as goal
 abbrev pub invariant-loop-y : goal.invariant-loop-y
 invariant-loop-y g l =
     let board = g.V.BoardView.board l.board in record {
-  before : GrowsBefore (g.S.Sink.held l.initial.out) (g.S.Sink.held l.out) l.piece.items
-      (head (name_of l.format) board.width board.height
-      ++ flat_map (pixel_text_of l.format) (canvas_of board.width l.y (seen board)));
-  kept : g.S.Sink.faults l.out ≡ g.S.Sink.faults l.initial.out;
-}
+      before : GrowsBefore (g.S.Sink.held l.initial.out) (g.S.Sink.held l.out) l.piece.items
+          (head (name_of l.format) board.width board.height
+          ++ flat_map (pixel_text_of l.format) (canvas_of board.width l.y (seen board)));
+      kept : g.S.Sink.faults l.out ≡ g.S.Sink.faults l.initial.out;
+    }

@@ -1,0 +1,34 @@
+-- Each layer covers the canvas, and the rows stay a tree.
+use Rattle.std.proofs.Common.{◌≡◌, ℕ, ◌*◌, zero, suc, List, [], ◌∷◌, length, All, sym, ap, ◌∙◌, arith}
+use Rattle.std.specs.Prelude.{Option, None, Some}
+use Rattle.std.specs.Option.{ForSome, option_map}
+use Rattle.dp_blend.specs.Color.{Channels}
+use Rattle.dp_blend.specs.Canvas.{canvas_of}
+use Rattle.dp_layers.specs.Rows.{Row, map_contents}
+use Rattle.dp_plain.specs.Board.{Covers}
+use Rattle.dp_flat.proofs.tests.PlainColorsBoardView.width.Goals as goal
+
+abbrev LengthLaw : Type 0
+LengthLaw = (w h : ℕ) (f : ℕ → ℕ → Channels) → length (canvas_of w h f) ≡ w * h
+
+one_covers : (w h : ℕ) (color : Option Channels) → LengthLaw
+    → ForSome (option_map (λ c. canvas_of w h (λ x y. c)) color) (λ pixels. length pixels ≡ w * h)
+one_covers w h None law = λ pixels e. absurd (cc)
+one_covers w h (Some c) law = λ pixels e.
+    let same : canvas_of w h (λ x y. c) ≡ pixels = cc in
+    ap length (sym same) ∙ law w h (λ x y. c)
+
+all_cover : (w h : ℕ) (rows : List (Row Channels)) → LengthLaw → All (Covers w h) (map_contents (λ c. canvas_of w h (λ x y. c)) rows)
+all_cover w h [] law k d inside = absurd (omega arith)
+all_cover w h (row ∷ rows) law zero d inside = one_covers w h row.content law
+all_cover w h (row ∷ rows) law (suc k) d inside = all_cover w h rows law k d (omega arith)
+
+pub returns-clause-board : goal.returns-clause-board
+returns-clause-board c =
+    let board = c.args.self.now in record {
+      width = board.wide;
+      height = board.high;
+      both = (λ none. absurd (omega (arith, board.some_wide)), λ none. absurd (omega (arith, board.some_high)));
+      tree = c.contents_ride_along.ensures.tree _ board.tree c.rows-rows.ensures.tree;
+      each = all_cover board.width board.height board.tree c.length_of_canvas.ensures;
+    }

@@ -1,0 +1,185 @@
+//! Worked pictures, with the bytes that they have to give.
+
+ghost use Rattle.std.specs.Prelude.{◌≡◌, ◌≤◌};
+
+use crate::{PictureEnd, flatten, write_p3, write_p6};
+use dp_blend::{Mode, Pixel, length_of_canvas, of_argb, pixel_of_canvas, row_fill, to8};
+use dp_io::MemSink;
+use dp_layers::{LayerRow, Tree, contents_ride_along};
+use dp_msg_draw::{Draw, Title};
+use dp_plain::BoardView;
+use std::alloc::Global;
+use std::process::Abort;
+use std::test::Fail;
+
+/// A board of which each paint layer has one colour everywhere.
+#[derive(Drop)]
+struct PlainColors {
+    width: u32,
+    height: u32,
+    background: u32,
+    tree: Tree<Pixel>,
+    ghost wide: { width ≤ 4096 },
+    ghost some_wide: { 1 ≤ width },
+    ghost high: { height ≤ 4096 },
+    ghost some_high: { 1 ≤ height },
+}
+
+impl BoardView for PlainColors {
+    ghost use Rattle.dp_blend.specs.Canvas.{canvas_of};
+    ghost use Rattle.dp_layers.specs.Rows.{map_contents};
+
+    ghost board = { λ b. record {
+      width = b.width;
+      height = b.height;
+      background = b.background;
+      rows = map_contents (λ color. canvas_of b.width b.height (λ x y. color)) b.tree;
+    } };
+
+    fn width(&self) -> u32 {
+        contents_ride_along::<Pixel, [Pixel; 1]>();
+        length_of_canvas();
+        let _rows = self.tree.rows();
+        self.width
+    }
+
+    fn height(&self) -> u32 {
+        self.width();
+        self.height
+    }
+
+    fn background(&self) -> u32 {
+        self.background
+    }
+
+    fn rows(&self) -> &[LayerRow] {
+        contents_ride_along::<Pixel, [Pixel; 1]>();
+        self.tree.rows()
+    }
+
+    fn copy_row(&self, id: u16, _y: u32, row: &mut [Pixel]) {
+        contents_ride_along::<Pixel, [Pixel; 1]>();
+        pixel_of_canvas();
+        let color = self.tree.content(id).copied().unwrap_or(Pixel::CLEAR);
+        row_fill(Mode::Replace, color, row);
+    }
+
+    fn pixel(&self, id: u16, x: u32, y: u32) -> Option<Pixel> {
+        contents_ride_along::<Pixel, [Pixel; 1]>();
+        pixel_of_canvas();
+        if x < self.width && y < self.height {
+            self.tree.content(id).copied()
+        } else {
+            None
+        }
+    }
+}
+
+/// Makes a row of the list: a layer of this colour, or a group.
+fn create(
+    alloc: Global,
+    tree: &mut Tree<Pixel>,
+    id: u16,
+    parent: u16,
+    color: Option<Pixel>,
+) -> Result<(), Fail> {
+    let op = Draw::LayerCreate {
+        id,
+        parent,
+        group: color.is_none(),
+        title: Title::new(alloc),
+    };
+    tree.create(&op, color)?;
+    Ok(())
+}
+
+/// Gives the row of the id an opacity and a mode, and hides it or not.
+fn set(tree: &mut Tree<Pixel>, id: u16, opacity: u8, mode: u8, hidden: bool) -> Result<(), Fail> {
+    let op = Draw::LayerAttr {
+        id,
+        opacity,
+        mode,
+        hidden,
+    };
+    tree.attr(&op)?;
+    Ok(())
+}
+
+/// A group 1 with a red layer 2 and a blue layer 3 in it, and of these opacities and modes.
+fn group(
+    alloc: Global,
+    opacity: [u8; 3],
+    mode: [u8; 3],
+    hidden: bool,
+) -> Result<Tree<Pixel>, Fail> {
+    let mut tree = Tree::new(alloc);
+    create(alloc, &mut tree, 1, 0, None)?;
+    create(alloc, &mut tree, 2, 1, Some(of_argb(0xffff_0000)))?;
+    create(alloc, &mut tree, 3, 1, Some(of_argb(0xff00_00ff)))?;
+    set(&mut tree, 1, opacity[0], mode[0], hidden)?;
+    set(&mut tree, 2, opacity[1], mode[1], false)?;
+    set(&mut tree, 3, opacity[2], mode[2], false)?;
+    Ok(tree)
+}
+
+#[test]
+fn shows_groups(rt: HostRuntime) -> Result<(), Fail> {
+    let alloc = rt.alloc();
+    let cases: [([u8; 3], [u8; 3], bool, [u8; 3]); 6] = [
+        ([255, 255, 255], [1, 1, 1], false, [0, 0, 255]),
+        ([255, 255, 255], [1, 1, 1], true, [0, 255, 0]),
+        ([128, 255, 255], [1, 1, 1], false, [0, 127, 128]),
+        ([255, 255, 128], [1, 1, 1], false, [127, 0, 128]),
+        ([255, 255, 0], [1, 1, 255], false, [0, 255, 0]),
+        ([0, 255, 255], [255, 1, 1], false, [255, 255, 255]),
+    ];
+    for (opacity, mode, hidden, want) in cases {
+        let board = PlainColors {
+            width: 1,
+            height: 1,
+            background: 0xff00_ff00,
+            tree: group(alloc, opacity, mode, hidden)?,
+        };
+        let pixel = flatten(&board, 0, 0);
+        assert_eq!(rt; [to8(pixel.r()), to8(pixel.g()), to8(pixel.b())], want);
+        let mut sink = MemSink::new(alloc, 40, 5, Vec::new(alloc))?;
+        assert_eq!(rt; write_p6(alloc, &board, &mut sink), Ok(()));
+        assert!(rt; sink.as_slice().starts_with(b"P6\n1 1\n255\n"));
+        assert!(rt; sink.as_slice().ends_with(&want));
+    }
+    Ok(())
+}
+
+#[test]
+fn writes_lines(rt: HostRuntime) -> Result<(), Fail> {
+    let alloc = rt.alloc();
+    let board = PlainColors {
+        width: 2,
+        height: 1,
+        background: 0x80ff_0000,
+        tree: Tree::new(alloc),
+    };
+    let mut sink = MemSink::new(alloc, 60, 7, Vec::new(alloc))?;
+    assert_eq!(rt; write_p3(alloc, &board, &mut sink), Ok(()));
+    assert_eq!(rt;
+        sink.as_slice(),
+        b"P3\n2 1\n255\n255 127 127\n255 127 127\n".as_slice()
+    );
+    Ok(())
+}
+
+// Rows of one pixel share a piece: the head and 3068 pixels are in the first.
+#[test]
+fn a_failing_sink_holds_a_prefix(rt: HostRuntime) -> Result<(), Fail> {
+    let alloc = rt.alloc();
+    let board = PlainColors {
+        width: 1,
+        height: 4096,
+        background: 0xff01_0203,
+        tree: Tree::new(alloc),
+    };
+    let mut sink = MemSink::new(alloc, 20000, 20000, [2].to_vec(alloc)?)?;
+    assert_eq!(rt; write_p6(alloc, &board, &mut sink), Err(PictureEnd::Failed));
+    assert_eq!(rt; sink.as_slice().len(), 14 + 3 * 3068);
+    Ok(())
+}
