@@ -1,10 +1,13 @@
 //! Worked commands and histories, with the boards that they have to give.
 
-ghost use Rattle.std.specs.Prelude.{◌≡◌, ◌<◌};
+ghost use Rattle.std.specs.Prelude.{◌≡◌, ◌<◌, IsTrue};
+ghost use Rattle.dp_layers.specs.Layers.{is_paint_row};
+ghost use Rattle.dp_layers.specs.Rows.{layers_of};
 
 use crate::{BoardView, PlainBoard, act_of, is_command, plain_replay};
 use dp_blend::{Pixel, of_argb};
 use dp_board::{Act, Board};
+use dp_layers::rows_by_id;
 use dp_messages::{Entry, Msg};
 use dp_msg_draw::{Colors, Dab, Dabs, Draw, TileContent, TilePixel, Title};
 use dp_msg_meta::Meta;
@@ -241,6 +244,36 @@ fn check_pixels<D: Ledger, T: Ledger>(
     check_draws(rt, alloc, board, &rows, draws, tiles)
 }
 
+/// The letters of the upper row of the pixels of a paint layer.
+fn upper_row<B: BoardView>(alloc: Global, board: &B, id: u16) -> Result<String, AllocError>
+    requires paint { IsTrue (is_paint_row (layers_of (B.board board.now).rows) id) }
+    requires high { 0 < (B.board board.now).height }
+{
+    let mut pixels = vec![in alloc; Pixel::CLEAR; board.width() as usize]?;
+    board.copy_row(id, 0, &mut pixels);
+    pixels
+        .iter()
+        .map(|pixel| letter(Some(*pixel)))
+        .collect(alloc)
+}
+
+/// A board of one paint layer has these letters in the upper row of its pixels.
+fn check_upper_row<B: BoardView>(
+    rt: &impl Abort,
+    alloc: Global,
+    board: &B,
+    want: &str,
+) -> Result<(), Fail> {
+    rows_by_id();
+    assert!(rt; board.height() > 0);
+    let rows = board.rows();
+    assert!(rt; rows.len() == 1);
+    let row = &rows[0];
+    assert!(rt; !row.group);
+    assert_eq!(rt; upper_row(alloc, board, row.id)?.as_str(), want);
+    Ok(())
+}
+
 /// A second board is equal, and stays as it is when the first one changes.
 fn check_share<B: Board<Op = Draw> + BoardView, D: Ledger, T: Ledger>(
     rt: &impl Abort,
@@ -252,6 +285,7 @@ fn check_share<B: Board<Op = Draw> + BoardView, D: Ledger, T: Ledger>(
     let other = board.share(draws, tiles)?;
     board.draw(&Draw::LayerDelete { id: 1 }, draws, tiles)?;
     assert_eq!(rt; shown(alloc, &other)?.as_str(), "2x2 0/1:RRRR");
+    check_upper_row(rt, alloc, &other, "RR")?;
     assert_eq!(rt; other.background(), BLUE);
     let row = other.rows().last().ok_or("a row")?;
     assert_eq!(rt; row.title.as_slice(), b"sky".as_slice());

@@ -18,13 +18,22 @@ loop-row-preserved g c =
           let y = w.in_ok-share.field-0 in
           let so_far = filter_map held_by (take i rows) in
           record {
-            same = rw (w.contents-is, some_next held_by rows i c.row-item.result in_list c.row-item.is x (sym w.in-Some.ensures.value))
-                (w.in_ok-push.ensures.items ∙ ap (λ xs. xs ++ y ∷ []) c.loop-row.invariant.same ∙ ap (λ z. so_far ++ z ∷ []) w.in_ok-share.ensures.same);
+            same = rw (
+              w.contents-is,
+              some_next held_by rows i c.row-item.result in_list c.row-item.is x
+                  (sym w.in-Some.ensures.value),
+            )
+                (w.in_ok-push.ensures.items ∙ ap (λ xs. xs ++ y ∷ []) c.loop-row.invariant.same
+                ∙ ap (λ z. so_far ++ z ∷ []) w.in_ok-share.ensures.same);
             no_tile = omega arith;
           }
       | in_default w ↦
           record {
-            same = rw (w.contents-is, none_next held_by rows i c.row-item.result in_list c.row-item.is (sym w.in_default.ensures.value))
+            same = rw (
+              w.contents-is,
+              none_next held_by rows i c.row-item.result in_list c.row-item.is
+                  (sym w.in_default.ensures.value),
+            )
                 c.loop-row.invariant.same;
             no_tile = omega arith;
           }
