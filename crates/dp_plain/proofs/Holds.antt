@@ -1,10 +1,10 @@
 -- What boards hold, through every command.
 use Rattle.std.proofs.Common.{◌≡◌, ◌==◌, ℕ, ◌*◌, ◌≤◌, Bool, true, false, not, cond, ◌&&◌, List, []}
-use Rattle.std.proofs.Common.{◌∷◌, ◌++◌, map, length, get_or}
-use Rattle.std.proofs.Common.{Option, None, Some, refl, ap, sym, ◌∙◌, subst, ⊎_elim, arith, ◌↔◌}
+use Rattle.std.proofs.Common.{◌∷◌, ◌++◌, length, get_or}
+use Rattle.std.proofs.Common.{Option, None, Some, refl, ap, sym, ◌∙◌, subst, ⊎_elim, arith}
 use Rattle.std.specs.Prelude.{ℤ, pos, ◌+ℤ◌, is_some, option_map, All}
-use Rattle.std.specs.Option.{ForSome, option_map_or}
-use Rattle.std.specs.List.{filter, filter_map, cons_option}
+use Rattle.std.specs.Option.{ForSome}
+use Rattle.std.specs.List.{filter, cons_option}
 use Rattle.std.proofs.lemmas.Bool.{cond_both, cases_Bool, and_parts}
 use Rattle.std.proofs.lemmas.Option.{none-some, same_Some}
 use Rattle.std.proofs.lemmas.List.Elements.{All-nil, All-cons, All-head, All-tail, All-append}
@@ -18,19 +18,19 @@ use Rattle.dp_layers.specs.Layers.{has_id, is_in, is_paint_row}
 use Rattle.dp_layers.specs.Rows.{Row, layers_of, contents_of, content_of, fill_row, with_content}
 use Rattle.dp_layers.specs.Rows.{map_content, map_contents}
 use Rattle.dp_layers.specs.Changes.{change_row, with_layer, rows_changed, set_attr, set_title}
-use Rattle.dp_layers.specs.Changes.{set_parent, new_row, created}
-use Rattle.dp_layers.specs.Changes.{behind, placed, moved, deleted, has_effect, effect_on}
+use Rattle.dp_layers.specs.Changes.{set_parent, new_row}
+use Rattle.dp_layers.specs.Changes.{behind, placed, has_effect, effect_on}
 use Rattle.dp_layers.specs.Changes.{rows_after, makes_paint_row}
 use Rattle.dp_layers.specs.Tree.{IsTree}
 use Rattle.dp_pixels.specs.Drawing.{pixels_after}
 use Rattle.dp_plain.specs.Board.{Board, Covers, IsBoard}
 use Rattle.dp_plain.specs.Drawing.{is_side, side, with_sides, resized, new_content, arranged}
-use Rattle.dp_plain.specs.Drawing.{with_change, painted_layer, painted, draw}
+use Rattle.dp_plain.specs.Drawing.{with_change, painted, draw}
 use Rattle.dp_plain.specs.Drawing.{IsArranging, pixels_moved}
 use Rattle.dp_plain.specs.Holding.{ContentsFit, IsHeld}
 use Rattle.dp_plain.proofs.Canvas.{length-canvas_of}
 use Rattle.dp_plain.proofs.Resizes.{side_bounds}
-use Rattle.dp_plain.proofs.Rows.{tree_mapped, tree_of_contents, tree_changed}
+use Rattle.dp_plain.proofs.Rows.{tree_of_contents, tree_changed}
 
 -- ---- what every content passes
 

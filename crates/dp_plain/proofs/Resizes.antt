@@ -1,6 +1,6 @@
 -- The board on new sides.
-use Rattle.std.proofs.Common.{◌≡◌, ℕ, ◌≤◌, cond, true, false, ◌&&◌, Some, None, Option, List, refl}
-use Rattle.std.proofs.Common.{sym, ◌∙◌, ap, ◌⊎◌, ⊎_elim, arith}
+use Rattle.std.proofs.Common.{◌≡◌, ℕ, ◌≤◌, cond, true, false, ◌&&◌, Some, None, Option, List}
+use Rattle.std.proofs.Common.{sym, ◌∙◌, ap, ◌⊎◌, ⊎_elim}
 use Rattle.std.specs.Prelude.{ℤ, pos, negsuc, ◌+ℤ◌, nat_le}
 use Rattle.std.proofs.lemmas.Bool.{and_left, and_right, and_parts, false_from_ne_true, cond-true}
 use Rattle.std.proofs.lemmas.Bool.{cond-false, leb-true, false≢true}

@@ -1,5 +1,5 @@
 -- What is read of a board whose contents are seen as their pixels.
-use Rattle.std.proofs.Common.{◌≡◌, ℕ, ◌<◌, Bool, true, false, cond, List, [], length, map, Option}
+use Rattle.std.proofs.Common.{◌≡◌, ℕ, ◌<◌, Bool, true, false, cond, List, [], map, Option}
 use Rattle.std.proofs.Common.{None, Some, refl, ap, sym, ◌∙◌}
 use Rattle.std.specs.Prelude.{unwrap_or, option_map, nat_lt, ◌&&◌}
 use Rattle.std.proofs.lemmas.Bool.{lt-ltb}

@@ -1,4 +1,4 @@
-use Rattle.std.proofs.Common.{◌≡◌, ◌∙◌, ◌+◌, ap, length, map, Bool, List}
+use Rattle.std.proofs.Common.{◌∙◌, ◌+◌, ap, length, map, Bool, List}
 use Rattle.std.specs.List.{fold}
 use Rattle.dp_board.specs.Commands.{commands}
 use Rattle.dp_plain.specs.Replay.{user_act_of}

@@ -1,11 +1,10 @@
 use Rattle.std.proofs.Common.{◌≡◌, ◌∙◌, ap, sym, subst, not, true, false, refl, Bor, Option, None}
-use Rattle.std.proofs.Common.{Some, Ok, Err, List}
+use Rattle.std.proofs.Common.{Some, Ok, Err}
 use Rattle.std.specs.Prelude.{Result, OnOk, OnErr, is_some, option_copied}
 use Rattle.std.proofs.lemmas.Bool.{false≢true}
 use Rattle.std.proofs.lemmas.Result.{on_ok_weaker, on_err_weaker}
-use Rattle.dp_blend.specs.Color.{Channels}
 use Rattle.dp_layers.specs.Layers.{is_paint_row}
-use Rattle.dp_layers.specs.Rows.{Row, layers_of, content_of, with_content, map_contents}
+use Rattle.dp_layers.specs.Rows.{layers_of, with_content, map_contents}
 use Rattle.dp_pixels.specs.Drawing.{pixels_after}
 use Rattle.dp_plain.proofs.Rows.{layers_of-filled, filled_twice, filled_same}
 use Rattle.dp_plain.proofs.Holds.{fit_found, held_filled}

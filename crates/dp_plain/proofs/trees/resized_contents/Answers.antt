@@ -1,6 +1,5 @@
-use Rattle.std.proofs.Common.{◌≡◌, ◌∙◌, ◌++◌, ◌∷◌, [], ap, sym, subst, arith, map, take, length, ◌<◌}
+use Rattle.std.proofs.Common.{◌≡◌, ◌++◌, ◌∷◌, [], sym, subst, arith, length, ◌<◌}
 use Rattle.std.specs.Prelude.{All}
-use Rattle.std.specs.List.{filter_map}
 use Rattle.std.proofs.lemmas.List.Elements.{All-push}
 use Rattle.dp_layers.specs.declared.row.LayerRow.{LayerRow}
 use Rattle.dp_layers.specs.Rows.{content_of}

@@ -1,4 +1,4 @@
-use Rattle.std.proofs.Common.{◌≡◌, ◌∙◌, ◌++◌, ◌∷◌, [], ap, sym, arith, take, length, ◌<◌}
+use Rattle.std.proofs.Common.{◌∙◌, ◌++◌, ◌∷◌, [], ap, sym, arith, take, length, ◌<◌}
 use Rattle.std.specs.List.{filter_map}
 use Rattle.dp_layers.specs.declared.row.LayerRow.{LayerRow}
 use Rattle.dp_layers.specs.Rows.{content_of}

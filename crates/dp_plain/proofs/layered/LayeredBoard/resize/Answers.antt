@@ -1,10 +1,10 @@
-use Rattle.std.proofs.Common.{◌≡◌, ◌∙◌, sym, subst, inl, inr, ap, arith, List, w32, to_z, of_z}
-use Rattle.std.specs.Prelude.{pos, ◌+ℤ◌, FitsSigned}
+use Rattle.std.proofs.Common.{◌≡◌, ◌∙◌, sym, subst, inl, inr, arith, w32}
+use Rattle.std.specs.Prelude.{FitsSigned}
 use Rattle.std.proofs.lemmas.Int.{to_z-of_z}
 use Rattle.dp_layers.specs.Rows.{map_contents}
 use Rattle.dp_plain.specs.Board.{Board}
 use Rattle.dp_plain.specs.Drawing.{resized}
-use Rattle.dp_plain.proofs.Resizes.{resized_to, resized_not, side_fits}
+use Rattle.dp_plain.proofs.Resizes.{resized_to, resized_not}
 use Rattle.dp_plain.proofs.layered.LayeredBoard.resize.Goals as goal
 use Rattle.dp_plain.proofs.layered.LayeredBoard.resize.Goals.{in_default-via-in-Some+in_default}
 use Rattle.dp_plain.proofs.layered.LayeredBoard.resize.Goals.{in_default-via-in_default}

@@ -1,4 +1,4 @@
-use Rattle.std.proofs.Common.{◌≡◌, ◌∙◌, ◌+◌, ◌*◌, ◌-◌, ◌≤◌, ap, take, drop, length, arith, List}
+use Rattle.std.proofs.Common.{◌∙◌, ◌+◌, ◌*◌, ◌-◌, ap, take, drop, arith, List}
 use Rattle.std.proofs.lemmas.Nat.{mul-le}
 use Rattle.dp_blend.specs.Color.{Channels}
 use Rattle.dp_plain.proofs.Canvas.{row_of_pixels}
