@@ -1,5 +1,6 @@
 -- A canvas that moves, and its sides.
-use Rattle.std.proofs.Common.{◌≡◌, ℕ, ◌+◌, ◌*◌, ◌<◌, ◌≤◌, List, [], ◌∷◌, ◌++◌, map, cond, Bool, Some, None, refl, sym, ◌∙◌, ap, arith}
+use Rattle.std.proofs.Common.{◌≡◌, ℕ, ◌+◌, ◌*◌, ◌<◌, ◌≤◌, List, [], ◌∷◌, ◌++◌, map, cond, Bool}
+use Rattle.std.proofs.Common.{Some, None, refl, sym, ◌∙◌, ap, arith}
 use Rattle.std.specs.Prelude.{ℤ, pos, negsuc, ◌-ℤ◌, ◌+ℤ◌, ◌≤ℤ◌, ◌<ℤ◌, replicate}
 use Rattle.std.proofs.lemmas.Bool.Decides.{nat_tests}
 use Rattle.std.proofs.lemmas.Int.{ints}
@@ -17,7 +18,8 @@ use Rattle.dp_plain.proofs.Canvas.{is_canvas_of, canvas_of-more, row_more}
 -- ---- sides
 
 -- a whole number from 1 to 4096 is the length of a side
-side_in_range : (n : ℤ) → pos 1 ≤ℤ n → n ≤ℤ pos 4096 → Some (nat_abs n) ≡ cond (is_side n) (Some (side n)) None
+side_in_range : (n : ℤ) → pos 1 ≤ℤ n → n ≤ℤ pos 4096
+    → Some (nat_abs n) ≡ cond (is_side n) (Some (side n)) None
 side_in_range (pos n) low high =
     let at_least : 1 ≤ n = omega (arith, ints) in
     let at_most : n ≤ 4096 = omega (arith, ints) in
@@ -28,9 +30,13 @@ side_in_range (negsuc n) low high = absurd (omega (arith, ints))
 -- the sum of a side and two offsets, as the code computes it
 abbrev pub grown : ℕ → ℤ → ℤ → ℤ
 grown old before after =
-    to_z w64 (of_z w64 (to_z w64 (of_z w64 (to_z w64 old +ℤ to_z w64 (of_z w64 (to_z w32 (of_z w32 before))))) +ℤ to_z w64 (of_z w64 (to_z w32 (of_z w32 after)))))
+    to_z w64
+    (of_z w64
+    (to_z w64 (of_z w64 (to_z w64 old +ℤ to_z w64 (of_z w64 (to_z w32 (of_z w32 before))))) +ℤ
+    to_z w64 (of_z w64 (to_z w32 (of_z w32 after)))))
 
-pub side_from_range : (m n : ℤ) → m ≡ n → pos 1 ≤ℤ n → n ≤ℤ pos 4096 → Some (nat_abs m) ≡ cond (is_side n) (Some (side n)) None
+pub side_from_range : (m n : ℤ) → m ≡ n → pos 1 ≤ℤ n → n ≤ℤ pos 4096
+    → Some (nat_abs m) ≡ cond (is_side n) (Some (side n)) None
 side_from_range m n is low high = ap (λ (z : ℤ). Some (nat_abs z)) is ∙ side_in_range n low high
 
 -- another whole number is no length of a side
@@ -56,11 +62,14 @@ map-same f g (x ∷ xs) same = ap (λ y. y ∷ map f xs) (same x) ∙ ap (λ ys.
 
 -- the difference of a place and an offset, as the code computes it
 abbrev pub difference : ℕ → ℤ → ℤ
-difference place offset = to_z w64 (of_z w64 (to_z w64 place -ℤ to_z w64 (of_z w64 (to_z w32 (of_z w32 offset)))))
+difference place offset = to_z w64
+    (of_z w64 (to_z w64 place -ℤ to_z w64 (of_z w64 (to_z w32 (of_z w32 offset)))))
 
 -- one pixel more of a row that moves
-pub row_moved_more : (before now row : List Channels) (left place : ℤ) (n : ℕ) (p : Channels) → now ≡ before ++ row_moved n row left
-    → p ≡ pixel_in row place → place ≡ pos n -ℤ left → now ++ p ∷ [] ≡ before ++ row_moved (n + 1) row left
+pub row_moved_more : (before now row : List Channels) (left place : ℤ) (n : ℕ) (p : Channels)
+    → now ≡ before ++ row_moved n row left
+    → p ≡ pixel_in row place → place ≡ pos n -ℤ left
+    → now ++ p ∷ [] ≡ before ++ row_moved (n + 1) row left
 row_moved_more before now row left place n p is pixel at =
     ap (λ ps. ps ++ p ∷ []) is
     ∙ (append_assoc before (row_moved n row left) (p ∷ [])
@@ -68,21 +77,28 @@ row_moved_more before now row left place n p is pixel at =
     ∙ ap (λ ps. before ++ ps) (sym (row_more (λ x. pixel_in row (pos x -ℤ left)) n))))
 
 -- one row more of a canvas that moves
-pub pixels_moved_more : (width height : ℕ) (pixels now row : List Channels) (new_width k : ℕ) (left top y : ℤ)
+pub pixels_moved_more : (width height : ℕ) (pixels now row : List Channels) (new_width k : ℕ)
+    (left top y : ℤ)
     → now ≡ pixels_moved width height pixels new_width k left top → y ≡ pos k -ℤ top
     → ((x : ℤ) → pixel_in row x ≡ pixel_of width height pixels x y)
     → now ++ row_moved new_width row left ≡ pixels_moved width height pixels new_width (k + 1) left top
 pixels_moved_more width height pixels now row new_width k left top y is place same =
-    let moved : row_moved new_width row left ≡ map (λ x. pixel_of width height pixels (pos x -ℤ left) (pos k -ℤ top)) (below new_width) =
-    map-same _ _ (below new_width) (λ x. same (pos x -ℤ left) ∙ ap (λ z. pixel_of width height pixels (pos x -ℤ left) z) place) in
+    let moved : row_moved new_width row left ≡ map
+    (λ x. pixel_of width height pixels (pos x -ℤ left) (pos k -ℤ top)) (below new_width) =
+    map-same _ _ (below new_width) (λ x. same (pos x -ℤ left)
+    ∙ ap (λ z. pixel_of width height pixels (pos x -ℤ left) z) place) in
     ap (λ ps. ps ++ row_moved new_width row left) is
     ∙ (ap (λ ps. pixels_moved width height pixels new_width k left top ++ ps) moved
-    ∙ sym (canvas_of-more new_width k (λ x y. pixel_of width height pixels (pos x -ℤ left) (pos y -ℤ top))))
+    ∙ sym
+    (canvas_of-more new_width k (λ x y. pixel_of width height pixels (pos x -ℤ left) (pos y -ℤ top))))
 
 -- ---- clear canvases
 
 -- a canvas of one colour
-pub replicate-canvas : (width height : ℕ) (p : Channels) → replicate (width * height) p ≡ canvas_of width height (λ x y. p)
+pub replicate-canvas : (width height : ℕ) (p : Channels)
+    → replicate (width * height) p ≡ canvas_of width height (λ x y. p)
 replicate-canvas width height p =
-    is_canvas_of width height (λ x y. p) (replicate (width * height) p) (length-replicate (width * height) p) (λ x y in_x in_y.
-    get_or-replicate (width * height) (y * width + x) p clear (omega (arith, mul-add-lt y width x height in_y in_x)))
+    is_canvas_of width height (λ x y. p) (replicate (width * height) p)
+    (length-replicate (width * height) p) (λ x y in_x in_y.
+    get_or-replicate (width * height) (y * width + x) p clear
+    (omega (arith, mul-add-lt y width x height in_y in_x)))

@@ -11,19 +11,25 @@ use Rattle.dp_plain.specs.Replay.{user_act_of}
 use Rattle.dp_plain.specs.Kinds.{kind_of_entry}
 
 -- the kinds of entries are their acts, with nothing in place of their commands
-kinds_are_acts : (entries : List Entry) → map kind_of_entry entries ≡ map_commands (λ (command : Draw). tt) (map user_act_of entries)
+kinds_are_acts : (entries : List Entry)
+    → map kind_of_entry entries ≡ map_commands (λ (command : Draw). tt) (map user_act_of entries)
 unfolding kind_of_entry
 kinds_are_acts [] = refl
-kinds_are_acts (entry ∷ entries) = ap (λ (acts : List (UserAct (Unit {0}))). kind_of_entry entry ∷ acts) (kinds_are_acts entries)
+kinds_are_acts (entry ∷ entries) = ap (λ (acts : List (UserAct (Unit {0}))). kind_of_entry entry ∷ acts)
+    (kinds_are_acts entries)
 
 -- the flags of the kinds of entries are those of their acts
-pub flags_of_acts : CommandsDoNotCount Draw (Unit {0}) → (depth : ℕ) (entries : List Entry) (kinds : List (UserAct (Unit {0}))) (flags : List Bool) →
-    kinds ≡ map kind_of_entry entries → flags ≡ drawn_flags depth kinds → flags ≡ drawn_flags depth (map user_act_of entries)
+pub flags_of_acts : CommandsDoNotCount Draw (Unit {0})
+    → (depth : ℕ) (entries : List Entry) (kinds : List (UserAct (Unit {0}))) (flags : List Bool) →
+    kinds ≡ map kind_of_entry entries → flags ≡ drawn_flags depth kinds
+    → flags ≡ drawn_flags depth (map user_act_of entries)
 flags_of_acts law depth entries kinds flags k f =
     f ∙ ap (λ (acts : List (UserAct (Unit {0}))). drawn_flags depth acts) (k ∙ kinds_are_acts entries)
     ∙ law (λ _. tt) depth (map user_act_of entries)
 
 -- there is a flag for each entry
-pub flags_fit : EachActHasAFlag Draw → (depth : ℕ) (entries : List Entry) (flags : List Bool) → flags ≡ drawn_flags depth (map user_act_of entries)
+pub flags_fit : EachActHasAFlag Draw → (depth : ℕ) (entries : List Entry) (flags : List Bool)
+    → flags ≡ drawn_flags depth (map user_act_of entries)
     → length flags ≡ length entries
-flags_fit law depth entries flags e = ap length e ∙ law depth (map user_act_of entries) ∙ length-map entries user_act_of
+flags_fit law depth entries flags e = ap length e ∙ law depth (map user_act_of entries)
+    ∙ length-map entries user_act_of

@@ -5,11 +5,13 @@ use Rattle.std.specs.Prelude.{is_some, option_map, All}
 use Rattle.std.specs.List.{IsDistinct, cons_option}
 use Rattle.std.proofs.lemmas.Bool.{cond_both, cases_Bool, eqb-true}
 use Rattle.std.proofs.lemmas.List.{length-map, get_or-map}
-use Rattle.std.proofs.lemmas.List.Elements.{All-nil, All-cons, All-head, All-tail, All-map, All-from_recursion}
+use Rattle.std.proofs.lemmas.List.Elements.{All-nil, All-cons, All-head, All-tail, All-map}
+use Rattle.std.proofs.lemmas.List.Elements.{All-from_recursion}
 use Rattle.std.proofs.lemmas.Map.Keys.{IsDistinct-head, IsDistinct-tail}
 use Rattle.dp_blend.specs.Color.{Channels}
 use Rattle.dp_layers.specs.declared.row.LayerRow.{LayerRow}
-use Rattle.dp_layers.specs.Rows.{Row, layers_of, contents_of, content_of, fill_row, with_content, map_content, map_contents}
+use Rattle.dp_layers.specs.Rows.{Row, layers_of, contents_of, content_of, fill_row, with_content}
+use Rattle.dp_layers.specs.Rows.{map_content, map_contents}
 use Rattle.dp_layers.specs.Tree.{IsLayerTree, IsTree}
 use Rattle.dp_plain.specs.Drawing.{with_change}
 
@@ -24,13 +26,15 @@ pub map-each : {A B : Type 0} (f g : A → B) (xs : List A) → All (λ x. f x �
 map-each f g [] each = refl
 map-each {A} f g (x ∷ xs) each =
     let P : A → Type 0 = λ y. f y ≡ g y in
-    ap (λ y. y ∷ map f xs) (All-head P x xs each) ∙ ap (λ ys. g x ∷ ys) (map-each f g xs (All-tail P x xs each))
+    ap (λ y. y ∷ map f xs) (All-head P x xs each)
+    ∙ ap (λ ys. g x ∷ ys) (map-each f g xs (All-tail P x xs each))
 
 pub map-itself : {A : Type 0} (f : A → A) (xs : List A) → All (λ x. f x ≡ x) xs → map f xs ≡ xs
 map-itself f [] each = refl
 map-itself {A} f (x ∷ xs) each =
     let P : A → Type 0 = λ y. f y ≡ y in
-    ap (λ y. y ∷ map f xs) (All-head P x xs each) ∙ ap (λ ys. x ∷ ys) (map-itself f xs (All-tail P x xs each))
+    ap (λ y. y ∷ map f xs) (All-head P x xs each)
+    ∙ ap (λ ys. x ∷ ys) (map-itself f xs (All-tail P x xs each))
 
 cond-same : {A : Type 0} (b : Bool) (x y z : A) → (b ≡ true → x ≡ y) → cond b x z ≡ cond b y z
 cond-same true x y z same = same refl
@@ -38,20 +42,24 @@ cond-same false x y z same = refl
 
 -- ---- rows that keep their layers
 
-pub layers_of-map : {X Y : Type 0} (f : Row X → Row Y) → ((row : Row X) → (f row).layer ≡ row.layer) → (rows : List (Row X))
+pub layers_of-map : {X Y : Type 0} (f : Row X → Row Y) → ((row : Row X) → (f row).layer ≡ row.layer)
+    → (rows : List (Row X))
     → layers_of (map f rows) ≡ layers_of rows
 layers_of-map f same [] = refl
 layers_of-map f same (row ∷ rows) =
-    ap (λ (l : LayerRow). l ∷ layers_of (map f rows)) (same row) ∙ ap (λ ls. row.layer ∷ ls) (layers_of-map f same rows)
+    ap (λ (l : LayerRow). l ∷ layers_of (map f rows)) (same row)
+    ∙ ap (λ ls. row.layer ∷ ls) (layers_of-map f same rows)
 
 pub tree_mapped : {X Y : Type 0} (f : Row X → Row Y) → ((row : Row X) → (f row).layer ≡ row.layer)
-    → ((row : Row X) → is_some (f row).content ≡ is_some row.content) → (rows : List (Row X)) → IsTree rows → IsTree (map f rows)
+    → ((row : Row X) → is_some (f row).content ≡ is_some row.content) → (rows : List (Row X))
+    → IsTree rows → IsTree (map f rows)
 tree_mapped {X} {Y} f same kind rows tree =
     let P : List LayerRow → Type 0 = λ ls. IsLayerTree ls in
     record {
       layers = subst P (sym (layers_of-map f same rows)) tree.layers;
       contents = All-map (λ (row : Row Y). is_some row.content ≡ not row.layer.group) f rows
-          (λ k d in_list. kind (get_or rows k d) ∙ tree.contents k d in_list ∙ ap (λ l. not l.group) (sym (same (get_or rows k d))));
+          (λ k d in_list. kind (get_or rows k d) ∙ tree.contents k d in_list
+          ∙ ap (λ l. not l.group) (sym (same (get_or rows k d))));
     }
 
 pub some_mapped : {X Y : Type 0} (f : X → Y) (o : Option X) → is_some (option_map f o) ≡ is_some o
@@ -59,8 +67,10 @@ some_mapped f None = refl
 some_mapped f (Some x) = refl
 
 -- what f makes of each content
-pub tree_of_contents : {X Y : Type 0} (f : X → Y) (rows : List (Row X)) → IsTree rows → IsTree (map_contents f rows)
-tree_of_contents f rows tree = tree_mapped (map_content f) (λ row. refl) (λ row. some_mapped f row.content) rows tree
+pub tree_of_contents : {X Y : Type 0} (f : X → Y) (rows : List (Row X)) → IsTree rows
+    → IsTree (map_contents f rows)
+tree_of_contents f rows tree = tree_mapped (map_content f) (λ row. refl)
+    (λ row. some_mapped f row.content) rows tree
 
 pub content_of-mapped : {X Y : Type 0} (f : X → Y) (rows : List (Row X)) (id : ℕ)
     → content_of (map_contents f rows) id ≡ option_map f (content_of rows id)
@@ -70,14 +80,17 @@ content_of-mapped f (row ∷ rows) id =
     (λ (missed : (row.layer.id == id) ≡ false). rw missed (content_of-mapped f rows id))
     (cases_Bool (row.layer.id == id))
 
-cons_mapped : {X Y : Type 0} (f : X → Y) (o : Option X) (xs : List X) → map f (cons_option o xs) ≡ cons_option (option_map f o) (map f xs)
+cons_mapped : {X Y : Type 0} (f : X → Y) (o : Option X) (xs : List X)
+    → map f (cons_option o xs) ≡ cons_option (option_map f o) (map f xs)
 cons_mapped f None xs = refl
 cons_mapped f (Some x) xs = refl
 
-pub contents_of-mapped : {X Y : Type 0} (f : X → Y) (rows : List (Row X)) → contents_of (map_contents f rows) ≡ map f (contents_of rows)
+pub contents_of-mapped : {X Y : Type 0} (f : X → Y) (rows : List (Row X))
+    → contents_of (map_contents f rows) ≡ map f (contents_of rows)
 contents_of-mapped f [] = refl
 contents_of-mapped f (row ∷ rows) =
-    ap (cons_option (option_map f row.content)) (contents_of-mapped f rows) ∙ sym (cons_mapped f row.content (contents_of rows))
+    ap (cons_option (option_map f row.content)) (contents_of-mapped f rows)
+    ∙ sym (cons_mapped f row.content (contents_of rows))
 
 -- ---- what is found at an id
 
@@ -86,11 +99,13 @@ abbrev pub HaveIds : {X : Type 0} → List (Row X) → Type 0
 HaveIds rows = IsDistinct ◌==◌ (map (λ l. l.id) (layers_of rows))
 
 -- what each row holds is found at its id
-pub content_itself : {X : Type 0} (rows : List (Row X)) → HaveIds rows → All (λ row. content_of rows row.layer.id ≡ row.content) rows
+pub content_itself : {X : Type 0} (rows : List (Row X)) → HaveIds rows
+    → All (λ row. content_of rows row.layer.id ≡ row.content) rows
 content_itself {X} [] distinct = All-nil (λ (row : Row X). content_of [] row.layer.id ≡ row.content)
 content_itself {X} (row ∷ rows) distinct =
     let ids : List ℕ = map (λ l. l.id) (layers_of rows) in
-    let others = All-from_recursion (λ id. (row.layer.id == id) ≡ false) ids (IsDistinct-head ◌==◌ row.layer.id ids distinct) in
+    let others = All-from_recursion (λ id. (row.layer.id == id) ≡ false) ids
+    (IsDistinct-head ◌==◌ row.layer.id ids distinct) in
     let rest = content_itself rows (IsDistinct-tail ◌==◌ row.layer.id ids distinct) in
     let first : (row.layer.id == row.layer.id) ≡ true = eq-eqb row.layer.id row.layer.id refl in
     All-cons (λ (q : Row X). content_of (row ∷ rows) q.layer.id ≡ q.content) row rows
@@ -99,24 +114,30 @@ content_itself {X} (row ∷ rows) distinct =
     let at : get_or ids k d.layer.id ≡ (get_or rows k d).layer.id =
     ap (λ is. get_or is k d.layer.id) (map-map (λ (q : Row X). q.layer) (λ l. l.id) rows)
     ∙ get_or-map (λ (q : Row X). q.layer.id) rows k d d.layer.id in_list in
-    let count : length ids ≡ length rows = length-map (layers_of rows) (λ l. l.id) ∙ length-map rows (λ (q : Row X). q.layer) in
+    let count : length ids ≡ length rows = length-map (layers_of rows) (λ l. l.id)
+    ∙ length-map rows (λ (q : Row X). q.layer) in
     let P : ℕ → Type 0 = λ id. (row.layer.id == id) ≡ false in
-    let away : (row.layer.id == (get_or rows k d).layer.id) ≡ false = subst P at (others k d.layer.id (subst (λ n. k < n) (sym count) in_list)) in
+    let away : (row.layer.id == (get_or rows k d).layer.id) ≡ false = subst P at
+    (others k d.layer.id (subst (λ n. k < n) (sym count) in_list)) in
     rw away (rest k d in_list))
 
 -- where the row of an id holds x, so does each row of the id
-held_at : {X : Type 0} (rows : List (Row X)) (id : ℕ) (o : Option X) → HaveIds rows → content_of rows id ≡ o
+held_at : {X : Type 0} (rows : List (Row X)) (id : ℕ) (o : Option X) → HaveIds rows
+    → content_of rows id ≡ o
     → All (λ row. (row.layer.id == id) ≡ true → row.content ≡ o) rows
 held_at rows id o distinct found = λ k d in_list here.
-    sym (content_itself rows distinct k d in_list) ∙ ap (content_of rows) (eqb-true (get_or rows k d).layer.id id here) ∙ found
+    sym (content_itself rows distinct k d in_list)
+    ∙ ap (content_of rows) (eqb-true (get_or rows k d).layer.id id here) ∙ found
 
 -- ---- x put into the row of an id
 
 fill-layer : {X : Type 0} (id : ℕ) (x : X) (row : Row X) → (fill_row id x row).layer ≡ row.layer
 fill-layer {X} id x row =
-    cond_both (row.layer.id == id) (record row { content = Some x }) row (λ (q : Row X). q.layer ≡ row.layer) (λ _. refl) (λ _. refl)
+    cond_both (row.layer.id == id) (record row { content = Some x }) row
+    (λ (q : Row X). q.layer ≡ row.layer) (λ _. refl) (λ _. refl)
 
-pub layers_of-filled : {X : Type 0} (rows : List (Row X)) (id : ℕ) (x : X) → layers_of (with_content rows id x) ≡ layers_of rows
+pub layers_of-filled : {X : Type 0} (rows : List (Row X)) (id : ℕ) (x : X)
+    → layers_of (with_content rows id x) ≡ layers_of rows
 layers_of-filled rows id x = layers_of-map (fill_row id x) (fill-layer id x) rows
 
 -- what f makes of x
@@ -124,10 +145,12 @@ pub filled-mapped : {X Y : Type 0} (f : X → Y) (rows : List (Row X)) (id : ℕ
     → map_contents f (with_content rows id x) ≡ with_content (map_contents f rows) id (f x)
 filled-mapped {X} {Y} f rows id x =
     map-map (fill_row id x) (map_content f) rows
-    ∙ map-each (λ row. map_content f (fill_row id x row)) (λ row. fill_row id (f x) (map_content f row)) rows (λ k d in_list. one (get_or rows k d))
+    ∙ map-each (λ row. map_content f (fill_row id x row)) (λ row. fill_row id (f x) (map_content f row))
+    rows (λ k d in_list. one (get_or rows k d))
     ∙ sym (map-map (map_content f) (fill_row id (f x)) rows)
   where
-    through : (b : Bool) (p q : Row X) → map_content f (cond b p q) ≡ cond b (map_content f p) (map_content f q)
+    through : (b : Bool) (p q : Row X)
+        → map_content f (cond b p q) ≡ cond b (map_content f p) (map_content f q)
     through true p q = refl
     through false p q = refl
 
@@ -135,20 +158,26 @@ filled-mapped {X} {Y} f rows id x =
     one row = through (row.layer.id == id) (record row { content = Some x }) row
 
 -- the last one stays
-pub filled_twice : {X : Type 0} (rows : List (Row X)) (id : ℕ) (x y : X) → with_content (with_content rows id x) id y ≡ with_content rows id y
+pub filled_twice : {X : Type 0} (rows : List (Row X)) (id : ℕ) (x y : X)
+    → with_content (with_content rows id x) id y ≡ with_content rows id y
 filled_twice {X} rows id x y =
-    map-map (fill_row id x) (fill_row id y) rows ∙ map-each (λ row. fill_row id y (fill_row id x row)) (fill_row id y) rows (λ k d in_list. one (get_or rows k d))
+    map-map (fill_row id x) (fill_row id y) rows
+    ∙ map-each (λ row. fill_row id y (fill_row id x row)) (fill_row id y) rows
+    (λ k d in_list. one (get_or rows k d))
   where
     one : (row : Row X) → fill_row id y (fill_row id x row) ≡ fill_row id y row
     one row =
-        cond_both (row.layer.id == id) (record row { content = Some x }) row (λ (q : Row X). fill_row id y q ≡ fill_row id y row)
+        cond_both (row.layer.id == id) (record row { content = Some x }) row
+        (λ (q : Row X). fill_row id y q ≡ fill_row id y row)
         (λ here. rw here refl) (λ _. refl)
 
 -- what the row holds is put back
-pub filled_same : {X : Type 0} (rows : List (Row X)) (id : ℕ) (x : X) → HaveIds rows → content_of rows id ≡ Some x
+pub filled_same : {X : Type 0} (rows : List (Row X)) (id : ℕ) (x : X) → HaveIds rows
+    → content_of rows id ≡ Some x
     → with_content rows id x ≡ rows
 filled_same {X} rows id x distinct found =
-    map-itself (fill_row id x) rows (λ k d in_list. one (get_or rows k d) (held_at rows id (Some x) distinct found k d in_list))
+    map-itself (fill_row id x) rows
+    (λ k d in_list. one (get_or rows k d) (held_at rows id (Some x) distinct found k d in_list))
   where
     one : (row : Row X) → ((row.layer.id == id) ≡ true → row.content ≡ Some x) → fill_row id x row ≡ row
     one row held =
@@ -163,28 +192,36 @@ module _ (id : ℕ) (change : List Channels → List Channels) where
       cond_both (row.layer.id == id) (record row { content = option_map change row.content }) row
       (λ (q : Row (List Channels)). q.layer ≡ row.layer) (λ _. refl) (λ _. refl)
 
-  change-kind : (row : Row (List Channels)) → is_some (with_change id change row).content ≡ is_some row.content
+  change-kind : (row : Row (List Channels))
+      → is_some (with_change id change row).content ≡ is_some row.content
   change-kind row =
       cond_both (row.layer.id == id) (record row { content = option_map change row.content }) row
-      (λ (q : Row (List Channels)). is_some q.content ≡ is_some row.content) (λ _. some_mapped change row.content) (λ _. refl)
+      (λ (q : Row (List Channels)). is_some q.content ≡ is_some row.content)
+      (λ _. some_mapped change row.content) (λ _. refl)
 
-  pub tree_changed : (rows : List (Row (List Channels))) → IsTree rows → IsTree (map (with_change id change) rows)
+  pub tree_changed : (rows : List (Row (List Channels))) → IsTree rows
+      → IsTree (map (with_change id change) rows)
   tree_changed rows tree = tree_mapped (with_change id change) change-layer change-kind rows tree
 
   -- where no paint row has the id, no row changes
-  pub changed_none : (rows : List (Row (List Channels))) → HaveIds rows → content_of rows id ≡ None → map (with_change id change) rows ≡ rows
+  pub changed_none : (rows : List (Row (List Channels))) → HaveIds rows → content_of rows id ≡ None
+      → map (with_change id change) rows ≡ rows
   changed_none rows distinct none =
-      map-itself (with_change id change) rows (λ k d in_list. one (get_or rows k d) (held_at rows id None distinct none k d in_list))
+      map-itself (with_change id change) rows
+      (λ k d in_list. one (get_or rows k d) (held_at rows id None distinct none k d in_list))
     where
-      one : (row : Row (List Channels)) → ((row.layer.id == id) ≡ true → row.content ≡ None) → with_change id change row ≡ row
+      one : (row : Row (List Channels)) → ((row.layer.id == id) ≡ true → row.content ≡ None)
+          → with_change id change row ≡ row
       one row held =
-          cond_both (row.layer.id == id) (record row { content = option_map change row.content }) row (λ (q : Row (List Channels)). q ≡ row)
+          cond_both (row.layer.id == id) (record row { content = option_map change row.content }) row
+          (λ (q : Row (List Channels)). q ≡ row)
           (λ here. ap (λ o. record row { content = option_map change o }) (held here)
           ∙ ap (λ (o : Option (List Channels)). record row { content = o }) (sym (held here)))
           (λ _. refl)
 
   -- the pixels of the paint row of the id are changed
-  pub changed_some : (rows : List (Row (List Channels))) (old : List Channels) → HaveIds rows → content_of rows id ≡ Some old
+  pub changed_some : (rows : List (Row (List Channels))) (old : List Channels) → HaveIds rows
+      → content_of rows id ≡ Some old
       → map (with_change id change) rows ≡ with_content rows id (change old)
   changed_some rows old distinct found =
       map-each (with_change id change) (fill_row id (change old)) rows (λ k d in_list.
@@ -193,5 +230,6 @@ module _ (id : ℕ) (change : List Channels → List Channels) where
       one : (row : Row (List Channels)) → ((row.layer.id == id) ≡ true → row.content ≡ Some old)
           → with_change id change row ≡ fill_row id (change old) row
       one row held =
-          cond-same (row.layer.id == id) (record row { content = option_map change row.content }) (record row { content = Some (change old) }) row
+          cond-same (row.layer.id == id) (record row { content = option_map change row.content })
+          (record row { content = Some (change old) }) row
           (λ here. ap (λ o. record row { content = option_map change o }) (held here))

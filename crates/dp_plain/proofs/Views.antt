@@ -1,5 +1,6 @@
 -- What is read of a board whose contents are seen as their pixels.
-use Rattle.std.proofs.Common.{◌≡◌, ℕ, ◌<◌, Bool, true, false, cond, List, [], length, map, Option, None, Some, refl, ap, sym, ◌∙◌}
+use Rattle.std.proofs.Common.{◌≡◌, ℕ, ◌<◌, Bool, true, false, cond, List, [], map, Option}
+use Rattle.std.proofs.Common.{None, Some, refl, ap, sym, ◌∙◌}
 use Rattle.std.specs.Prelude.{unwrap_or, option_map, nat_lt, ◌&&◌}
 use Rattle.std.proofs.lemmas.Bool.{lt-ltb}
 use Rattle.dp_blend.specs.Color.{Channels}
@@ -9,41 +10,54 @@ use Rattle.dp_layers.specs.Tree.{IsTree}
 use Rattle.dp_plain.specs.Board.{Board}
 use Rattle.dp_plain.specs.Drawing.{with_change}
 use Rattle.dp_plain.specs.Viewing.{pixel_in}
-use Rattle.dp_plain.proofs.Rows.{HaveIds, layers_of-map, content_of-mapped, tree_of_contents, filled-mapped, changed_none, changed_some}
+use Rattle.dp_plain.proofs.Rows.{HaveIds, layers_of-map, content_of-mapped, tree_of_contents}
+use Rattle.dp_plain.proofs.Rows.{filled-mapped, changed_none, changed_some}
 
 module _ {C : Type 0} (pixels : C → List Channels) (rows : List (Row C)) where
   pub layers_seen : layers_of (map_contents pixels rows) ≡ layers_of rows
   layers_seen = layers_of-map (map_content pixels) (λ row. refl) rows
 
   module _ (id : ℕ) where
-    pub content_seen : (o : Option C) → content_of rows id ≡ o → content_of (map_contents pixels rows) id ≡ option_map pixels o
+    pub content_seen : (o : Option C) → content_of rows id ≡ o
+        → content_of (map_contents pixels rows) id ≡ option_map pixels o
     content_seen o found = content_of-mapped pixels rows id ∙ ap (option_map pixels) found
 
-    pub pixels_seen : (x : C) → content_of rows id ≡ Some x → unwrap_or (content_of (map_contents pixels rows) id) [] ≡ pixels x
-    pixels_seen x found = ap (λ (o : Option (List Channels)). unwrap_or o []) (content_seen (Some x) found)
+    pub pixels_seen : (x : C) → content_of rows id ≡ Some x
+        → unwrap_or (content_of (map_contents pixels rows) id) [] ≡ pixels x
+    pixels_seen x found = ap (λ (o : Option (List Channels)). unwrap_or o [])
+        (content_seen (Some x) found)
 
-pub pixel_none : (board : Board) (id x y : ℕ) → content_of board.rows id ≡ None → None ≡ pixel_in board id x y
+pub pixel_none : (board : Board) (id x y : ℕ) → content_of board.rows id ≡ None
+    → None ≡ pixel_in board id x y
 pixel_none board id x y none = rw none (either (nat_lt x board.width && nat_lt y board.height))
   where
     either : (b : Bool) → ◌≡◌ {A = Option Channels} None (cond b None None)
     either true = refl
     either false = refl
 
-pub pixel_some : (board : Board) (id x y : ℕ) (pixels : List Channels) → content_of board.rows id ≡ Some pixels
+pub pixel_some : (board : Board) (id x y : ℕ) (pixels : List Channels)
+    → content_of board.rows id ≡ Some pixels
     → x < board.width → y < board.height → Some (pixel_at board.width pixels x y) ≡ pixel_in board id x y
-pixel_some board id x y pixels found in_x in_y = rw (lt-ltb x board.width in_x, lt-ltb y board.height in_y, found) refl
+pixel_some board id x y pixels found in_x in_y = rw
+    (lt-ltb x board.width in_x, lt-ltb y board.height in_y, found) refl
 
 -- ---- a command on the pixels of the layer of an id
 
-module _ {C : Type 0} (pixels : C → List Channels) (rows : List (Row C)) (tree : IsTree rows) (id : ℕ) (change : List Channels → List Channels) where
+module _ {C : Type 0} (pixels : C → List Channels) (rows : List (Row C)) (tree : IsTree rows) (id : ℕ)
+    (change : List Channels → List Channels) where
   ids : HaveIds (map_contents pixels rows)
   ids = (tree_of_contents pixels rows tree).layers.distinct
 
-  pub painted_none : content_of rows id ≡ None → map_contents pixels rows ≡ map (with_change id change) (map_contents pixels rows)
-  painted_none none = sym (changed_none id change (map_contents pixels rows) ids (content_seen pixels rows id None none))
+  pub painted_none : content_of rows id ≡ None
+      → map_contents pixels rows ≡ map (with_change id change) (map_contents pixels rows)
+  painted_none none = sym
+      (changed_none id change (map_contents pixels rows) ids (content_seen pixels rows id None none))
 
   pub painted_some : (old new : C) → content_of rows id ≡ Some old → pixels new ≡ change (pixels old)
-      → map_contents pixels (with_content rows id new) ≡ map (with_change id change) (map_contents pixels rows)
+      → map_contents pixels (with_content rows id new) ≡ map (with_change id change)
+      (map_contents pixels rows)
   painted_some old new found is =
       filled-mapped pixels rows id new ∙ ap (with_content (map_contents pixels rows) id) is
-      ∙ sym (changed_some id change (map_contents pixels rows) (pixels old) ids (content_seen pixels rows id (Some old) found))
+      ∙ sym
+      (changed_some id change (map_contents pixels rows) (pixels old) ids
+      (content_seen pixels rows id (Some old) found))

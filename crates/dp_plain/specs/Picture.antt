@@ -1,10 +1,10 @@
 -- The picture of a board, and its texts.
 use Rattle.std.specs.Prelude.{ℕ, zero, suc, Bool, not, ◌&&◌, ◌==◌, if◌then◌else◌, unwrap_or}
-use Rattle.std.specs.Prelude.{List, [], ◌∷◌, ◌++◌, map, codes, decimal}
+use Rattle.std.specs.Prelude.{List, [], ◌∷◌, ◌++◌, codes, decimal}
 use Rattle.std.specs.List.{filter, flat_map, fold}
 use Rattle.dp_blend.specs.Color.{Channels, clear, white, from8, to8, fade, of_argb}
 use Rattle.dp_blend.specs.Blending.{blend, mode_numbered}
-use Rattle.dp_blend.specs.Canvas.{below, canvas_of, pixel_at}
+use Rattle.dp_blend.specs.Canvas.{canvas_of, pixel_at}
 use Rattle.dp_blend.specs.declared.modes.Mode.{Mode}
 use Rattle.dp_blend.specs.declared.modes.Mode.TheVariants.{Normal}
 use Rattle.dp_layers.specs.declared.row.LayerRow.{LayerRow}

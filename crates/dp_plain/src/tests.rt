@@ -1,10 +1,13 @@
 //! Worked commands and histories, with the boards that they have to give.
 
-ghost use Rattle.std.specs.Prelude.{◌≡◌, ◌<◌};
+ghost use Rattle.std.specs.Prelude.{◌≡◌, ◌<◌, IsTrue};
+ghost use Rattle.dp_layers.specs.Layers.{is_paint_row};
+ghost use Rattle.dp_layers.specs.Rows.{layers_of};
 
 use crate::{BoardView, PlainBoard, act_of, is_command, plain_replay};
 use dp_blend::{Pixel, of_argb};
 use dp_board::{Act, Board};
+use dp_layers::rows_by_id;
 use dp_messages::{Entry, Msg};
 use dp_msg_draw::{Colors, Dab, Dabs, Draw, TileContent, TilePixel, Title};
 use dp_msg_meta::Meta;
@@ -117,7 +120,7 @@ fn letter(pixel: Option<Pixel>) -> char {
 }
 
 /// Adds the letters of the pixels of a layer.
-fn push_letters(text: &mut String, board: &PlainBoard, id: u16) -> Result<(), AllocError> {
+fn push_letters<B: BoardView>(text: &mut String, board: &B, id: u16) -> Result<(), AllocError> {
     for y in 0..board.height() {
         for x in 0..board.width() {
             text.push(letter(board.pixel(id, x, y)))?;
@@ -127,7 +130,7 @@ fn push_letters(text: &mut String, board: &PlainBoard, id: u16) -> Result<(), Al
 }
 
 /// The board's sides, and each row's parent, id and pixels.
-fn shown(alloc: Global, board: &PlainBoard) -> Result<String, AllocError> {
+fn shown<B: BoardView>(alloc: Global, board: &B) -> Result<String, AllocError> {
     let width = board.width();
     let height = board.height();
     let mut text = format!(in alloc; "{width}x{height}")?;
@@ -145,26 +148,42 @@ fn is_one<L: Ledger>(_steps: &Steps<L>)
     requires { _steps.now ≡ 1 }
 {}
 
-/// The commands on the canvas and on layers, each with the board that it leaves.
+/// Draws the commands one after the other, and checks what the board shows after each.
+fn check_draws<B: Board<Op = Draw> + BoardView, D: Ledger, T: Ledger>(
+    rt: &impl Abort,
+    alloc: Global,
+    board: &mut B,
+    rows: &[(Draw, &str)],
+    draws: &mut Steps<D>,
+    tiles: &mut Steps<T>,
+) -> Result<(), Fail> {
+    for (command, want) in rows {
+        board.draw(command, draws, tiles)?;
+        assert_eq!(rt; shown(alloc, board)?.as_str(), *want, "{command:?}");
+    }
+    Ok(())
+}
+
+/// The commands on the canvas and on layers.
 fn check_layers<D: Ledger, T: Ledger>(
     rt: &impl Abort,
     alloc: Global,
-    draws: Blank,
-    tiles: Blank,
-) -> Result<(), Fail>
-    requires draws_name { draws.name ≡ D.name }
-    requires draws_parts { draws.parts ≡ D.parts }
-    requires draws_some { 0 < draws.parts }
-    requires tiles_name { tiles.name ≡ T.name }
-    requires tiles_parts { tiles.parts ≡ T.parts }
-    requires tiles_some { 0 < tiles.parts }
-{
-    let mut draws = Steps::<D>::new(draws);
-    let mut tiles = Steps::<T>::new(tiles);
-    let mut board = PlainBoard::new(alloc);
-    board.draw(&Draw::Background { color: BLUE }, &mut draws, &mut tiles)?;
-    is_one(&draws);
-    for (command, want) in [
+    board: &mut PlainBoard,
+    draws: &mut Steps<D>,
+    tiles: &mut Steps<T>,
+) -> Result<(), Fail> {
+    let attr = Draw::LayerAttr {
+        id: 3,
+        opacity: 7,
+        mode: 9,
+        hidden: true,
+    };
+    let to = Draw::LayerMove {
+        id: 1,
+        parent: 2,
+        above: 2,
+    };
+    let rows = [
         (resize(0, 2, 1, 0), "2x1"),
         (create(alloc, 1, 0, false), "2x1 0/1:.."),
         (fill(1, 0, 0, RED), "2x1 0/1:R."),
@@ -176,47 +195,106 @@ fn check_layers<D: Ledger, T: Ledger>(
         (fill(9, 0, 0, RED), "2x1 0/1:R. 0/2:-- 2/3:.B"),
         (resize(0, 4095, 0, 0), "2x1 0/1:R. 0/2:-- 2/3:.B"),
         (resize(1, 1, 0, -1), "2x2 0/1:.... 0/2:---- 2/3:..B."),
-        (
-            Draw::LayerMove {
-                id: 1,
-                parent: 2,
-                above: 2,
-            },
-            "2x2 0/2:---- 2/1:.... 2/3:..B.",
-        ),
-        (
-            Draw::LayerAttr {
-                id: 3,
-                opacity: 7,
-                mode: 9,
-                hidden: true,
-            },
-            "2x2 0/2:---- 2/1:.... 2/3:..B.",
-        ),
-    ] {
-        board.draw(&command, &mut draws, &mut tiles)?;
-        assert_eq!(rt; shown(alloc, &board)?.as_str(), want, "{command:?}");
-    }
-    let other = board.share(&mut draws, &mut tiles)?;
-    board.draw(&Draw::LayerDelete { id: 2 }, &mut draws, &mut tiles)?;
-    assert_eq!(rt; shown(alloc, &board)?.as_str(), "2x2");
-    assert_eq!(rt;
-        shown(alloc, &other)?.as_str(),
-        "2x2 0/2:---- 2/1:.... 2/3:..B."
-    );
-    assert_eq!(rt; other.background(), BLUE);
-    let row = other.rows().last().ok_or("a row")?;
-    assert_eq!(rt; (row.opacity, row.mode, row.hidden), (7, 9, true));
+        (to, "2x2 0/2:---- 2/1:.... 2/3:..B."),
+        (attr, "2x2 0/2:---- 2/1:.... 2/3:..B."),
+        (Draw::LayerDelete { id: 2 }, "2x2"),
+    ];
+    check_draws(rt, alloc, board, &rows, draws, tiles)
+}
+
+/// The commands on pixels.
+fn check_pixels<D: Ledger, T: Ledger>(
+    rt: &impl Abort,
+    alloc: Global,
+    board: &mut PlainBoard,
+    draws: &mut Steps<D>,
+    tiles: &mut Steps<T>,
+) -> Result<(), Fail> {
+    let title = Title::from_vec(b"sky".to_vec(alloc)?).ok_or("a title")?;
+    let image = image(alloc, 1)?;
+    let round = dab(alloc, 1, 0, 1, true)?;
+    let square = dab(alloc, 1, 1, 1, false)?;
+    let to = Draw::MoveRect {
+        layer: 1,
+        sx: 1,
+        sy: 0,
+        w: 1,
+        h: 1,
+        tx: 0,
+        ty: 1,
+    };
+    let tile = Draw::PutTile {
+        layer: 1,
+        col: 0,
+        row: 0,
+        repeat: 0,
+        content: TileContent::Solid(RED_TILE),
+    };
+    let rows = [
+        (resize(0, 2, 2, 0), "2x2"),
+        (create(alloc, 1, 0, false), "2x2 0/1:...."),
+        (Draw::LayerTitle { id: 1, title }, "2x2 0/1:...."),
+        (Draw::Background { color: BLUE }, "2x2 0/1:...."),
+        (image, "2x2 0/1:RB.."),
+        (round, "2x2 0/1:RBR."),
+        (square, "2x2 0/1:RBRR"),
+        (to, "2x2 0/1:R.BR"),
+        (tile, "2x2 0/1:RRRR"),
+    ];
+    check_draws(rt, alloc, board, &rows, draws, tiles)
+}
+
+/// The letters of the upper row of the pixels of a paint layer.
+fn upper_row<B: BoardView>(alloc: Global, board: &B, id: u16) -> Result<String, AllocError>
+    requires paint { IsTrue (is_paint_row (layers_of (B.board board.now).rows) id) }
+    requires high { 0 < (B.board board.now).height }
+{
+    let mut pixels = vec![in alloc; Pixel::CLEAR; board.width() as usize]?;
+    board.copy_row(id, 0, &mut pixels);
+    pixels
+        .iter()
+        .map(|pixel| letter(Some(*pixel)))
+        .collect(alloc)
+}
+
+/// A board of one paint layer has these letters in the upper row of its pixels.
+fn check_upper_row<B: BoardView>(
+    rt: &impl Abort,
+    alloc: Global,
+    board: &B,
+    want: &str,
+) -> Result<(), Fail> {
+    rows_by_id();
+    assert!(rt; board.height() > 0);
+    let rows = board.rows();
+    assert!(rt; rows.len() == 1);
+    let row = &rows[0];
+    assert!(rt; !row.group);
+    assert_eq!(rt; upper_row(alloc, board, row.id)?.as_str(), want);
     Ok(())
 }
 
-#[test]
-fn layers(rt: HostRuntime) -> Result<(), Fail> {
-    check_layers::<Brand, Brand>(&rt, rt.alloc(), Blank::new(1), Blank::new(1))
+/// A second board is equal, and stays as it is when the first one changes.
+fn check_share<B: Board<Op = Draw> + BoardView, D: Ledger, T: Ledger>(
+    rt: &impl Abort,
+    alloc: Global,
+    board: &mut B,
+    draws: &mut Steps<D>,
+    tiles: &mut Steps<T>,
+) -> Result<(), Fail> {
+    let other = board.share(draws, tiles)?;
+    board.draw(&Draw::LayerDelete { id: 1 }, draws, tiles)?;
+    assert_eq!(rt; shown(alloc, &other)?.as_str(), "2x2 0/1:RRRR");
+    check_upper_row(rt, alloc, &other, "RR")?;
+    assert_eq!(rt; other.background(), BLUE);
+    let row = other.rows().last().ok_or("a row")?;
+    assert_eq!(rt; row.title.as_slice(), b"sky".as_slice());
+    assert_eq!(rt; shown(alloc, board)?.as_str(), "2x2");
+    Ok(())
 }
 
-/// The commands on pixels on a canvas of 2 by 2, each with the pixels that it leaves.
-fn check_pixels<D: Ledger, T: Ledger>(
+/// Draws the commands on layers and those on pixels on a board each.
+fn check_commands<D: Ledger, T: Ledger>(
     rt: &impl Abort,
     alloc: Global,
     draws: Blank,
@@ -231,53 +309,26 @@ fn check_pixels<D: Ledger, T: Ledger>(
 {
     let mut draws = Steps::<D>::new(draws);
     let mut tiles = Steps::<T>::new(tiles);
+    check_layers(
+        rt,
+        alloc,
+        &mut PlainBoard::new(alloc),
+        &mut draws,
+        &mut tiles,
+    )?;
     let mut board = PlainBoard::new(alloc);
-    let title = Title::from_vec(b"sky".to_vec(alloc)?).ok_or("a title")?;
-    for (command, want) in [
-        (resize(0, 2, 2, 0), "2x2"),
-        (create(alloc, 1, 0, false), "2x2 0/1:...."),
-        (Draw::LayerTitle { id: 1, title }, "2x2 0/1:...."),
-        (image(alloc, 1)?, "2x2 0/1:RB.."),
-        (dab(alloc, 1, 0, 1, true)?, "2x2 0/1:RBR."),
-        (dab(alloc, 1, 1, 1, false)?, "2x2 0/1:RBRR"),
-        (
-            Draw::MoveRect {
-                layer: 1,
-                sx: 1,
-                sy: 0,
-                w: 1,
-                h: 1,
-                tx: 0,
-                ty: 1,
-            },
-            "2x2 0/1:R.BR",
-        ),
-        (
-            Draw::PutTile {
-                layer: 1,
-                col: 0,
-                row: 0,
-                repeat: 0,
-                content: TileContent::Solid(RED_TILE),
-            },
-            "2x2 0/1:RRRR",
-        ),
-    ] {
-        board.draw(&command, &mut draws, &mut tiles)?;
-        assert_eq!(rt; shown(alloc, &board)?.as_str(), want, "{command:?}");
-    }
-    let row = board.rows().last().ok_or("a row")?;
-    assert_eq!(rt; row.title.as_slice(), b"sky".as_slice());
-    Ok(())
+    check_pixels(rt, alloc, &mut board, &mut draws, &mut tiles)?;
+    check_share(rt, alloc, &mut board, &mut draws, &mut tiles)
 }
 
 #[test]
-fn pixels(rt: HostRuntime) -> Result<(), Fail> {
-    check_pixels::<Brand, Brand>(&rt, rt.alloc(), Blank::new(1), Blank::new(1))
+fn commands(rt: HostRuntime) -> Result<(), Fail> {
+    check_commands::<Brand, Brand>(&rt, rt.alloc(), Blank::new(1), Blank::new(1))
 }
 
 /// The entry of a word: its user, what it does, and a column or a target. `P` opens a group, `U`
-/// and `R` are undo and redo, `r` and `b` fill a column of layer 1 with red and with blue.
+/// and `R` are undo and redo, `r` and `b` fill a column of layer 1 with red and with blue, `M` is
+/// the mark of a reset.
 fn entry_of(rt: &impl Abort, word: &str) -> Entry {
     let [user, kind, last] = word.as_bytes() else {
         panic!(rt; "{word} has not three letters");
@@ -304,8 +355,16 @@ fn entry_of(rt: &impl Abort, word: &str) -> Entry {
     }
 }
 
+/// Adds the entries of words.
+fn push_entries(rt: &impl Abort, entries: &mut Vec<Entry>, words: &str) -> Result<(), AllocError> {
+    for word in words.split_whitespace() {
+        entries.push(entry_of(rt, word))?;
+    }
+    Ok(())
+}
+
 /// A history: the words of the front, then user 1 makes a canvas of 3 by 1 pixels with a layer, and
-/// then the other words follow.
+/// then the other words.
 fn history_of(
     rt: &impl Abort,
     alloc: Global,
@@ -313,37 +372,26 @@ fn history_of(
     words: &str,
 ) -> Result<Vec<Entry>, AllocError> {
     let mut entries = Vec::new(alloc);
-    for word in front.split_whitespace() {
-        entries.push(entry_of(rt, word))?;
-    }
-    for command in [resize(0, 3, 1, 0), create(alloc, 1, 0, false)] {
-        entries.push(Entry {
-            user: 1,
-            msg: Msg::Draw(command),
-        })?;
-    }
-    for word in words.split_whitespace() {
-        entries.push(entry_of(rt, word))?;
-    }
+    push_entries(rt, &mut entries, front)?;
+    entries.push(Entry {
+        user: 1,
+        msg: Msg::Draw(resize(0, 3, 1, 0)),
+    })?;
+    entries.push(Entry {
+        user: 1,
+        msg: Msg::Draw(create(alloc, 1, 0, false)),
+    })?;
+    push_entries(rt, &mut entries, words)?;
     Ok(entries)
 }
 
-/// Histories, each with the board that it shows.
+/// What histories show.
 fn check_replays<D: Ledger, T: Ledger>(
     rt: &impl Abort,
     alloc: Global,
-    draws: Blank,
-    tiles: Blank,
-) -> Result<(), Fail>
-    requires draws_name { draws.name ≡ D.name }
-    requires draws_parts { draws.parts ≡ D.parts }
-    requires draws_some { 0 < draws.parts }
-    requires tiles_name { tiles.name ≡ T.name }
-    requires tiles_parts { tiles.parts ≡ T.parts }
-    requires tiles_some { 0 < tiles.parts }
-{
-    let mut draws = Steps::<D>::new(draws);
-    let mut tiles = Steps::<T>::new(tiles);
+    draws: &mut Steps<D>,
+    tiles: &mut Steps<T>,
+) -> Result<(), Fail> {
     for (front, words, want) in [
         // in the history's order
         ("", "1r0 1b0 1r2", "3x1 0/1:B.R"),
@@ -358,15 +406,37 @@ fn check_replays<D: Ledger, T: Ledger>(
         ("1r0 1M0 1r0 1M0", "1r2", "3x1 0/1:..R"),
     ] {
         let entries = history_of(rt, alloc, front, words)?;
-        let board = plain_replay(alloc, &entries, &mut draws, &mut tiles)?;
+        let board = plain_replay(alloc, &entries, draws, tiles)?;
         assert_eq!(rt; shown(alloc, &board)?.as_str(), want, "{front} {words}");
     }
     Ok(())
 }
 
+/// Replays histories, and counts a draw.
+fn check_histories<D: Ledger, T: Ledger>(
+    rt: &impl Abort,
+    alloc: Global,
+    draws: Blank,
+    tiles: Blank,
+) -> Result<(), Fail>
+    requires draws_name { draws.name ≡ D.name }
+    requires draws_parts { draws.parts ≡ D.parts }
+    requires draws_some { 0 < draws.parts }
+    requires tiles_name { tiles.name ≡ T.name }
+    requires tiles_parts { tiles.parts ≡ T.parts }
+    requires tiles_some { 0 < tiles.parts }
+{
+    let mut draws = Steps::<D>::new(draws);
+    let mut tiles = Steps::<T>::new(tiles);
+    let mut board = PlainBoard::new(alloc);
+    board.draw(&resize(0, 1, 1, 0), &mut draws, &mut tiles)?;
+    is_one(&draws);
+    check_replays(rt, alloc, &mut draws, &mut tiles)
+}
+
 #[test]
-fn replays(rt: HostRuntime) -> Result<(), Fail> {
-    check_replays::<Brand, Brand>(&rt, rt.alloc(), Blank::new(1), Blank::new(1))?;
+fn histories(rt: HostRuntime) -> Result<(), Fail> {
+    check_histories::<Brand, Brand>(&rt, rt.alloc(), Blank::new(1), Blank::new(1))?;
     let entry = entry_of(&rt, "3U2");
     assert!(rt; matches!(act_of(&entry)?, Act::Undo { who: 2 }));
     assert!(rt; !is_command(&entry.msg));

@@ -173,8 +173,8 @@ fn shared_contents<C: Content, T: Ledger>(
     contents_in_order::<C>();
     let mut contents = Vec::new(alloc);
     for row in tree.rows() {
-        if let Some(content) = tree.content(row.id) {
-            contents.push(content.share(tiles)?)?;
+        if let Some(held) = tree.content(row.id) {
+            contents.push(held.share(tiles)?)?;
         }
     }
     Ok(contents)

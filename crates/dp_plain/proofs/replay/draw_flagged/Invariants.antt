@@ -8,7 +8,8 @@ use Rattle.dp_plain.proofs.replay.draw_flagged.Given as goal
 abbrev pub invariant-loop-k : goal.invariant-loop-k
 invariant-loop-k g l =
     record {
-      board : fold g.B.Board.drawn l.board (commands (map user_act_of (drop l.k l.entries)) (drop l.k l.flags))
+      board : fold g.B.Board.drawn l.board
+          (commands (map user_act_of (drop l.k l.entries)) (drop l.k l.flags))
           ≡ fold g.B.Board.drawn l.initial.board (commands (map user_act_of l.entries) l.flags);
       draws : l.draws + length (commands (map user_act_of (drop l.k l.entries)) (drop l.k l.flags))
           ≡ l.initial.draws + length (commands (map user_act_of l.entries) l.flags);

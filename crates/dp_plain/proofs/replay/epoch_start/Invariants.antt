@@ -8,7 +8,8 @@ abbrev pub invariant-loop-start : goal.invariant-loop-start
 invariant-loop-start l =
     record {
       within : l.start ≤ length l.entries;
-      none : (k : ℕ) (d : Entry) → l.start ≤ k → k < length l.entries → is_mark (get_or l.entries k d) ≡ false;
+      none : (k : ℕ) (d : Entry) → l.start ≤ k → k < length l.entries
+          → is_mark (get_or l.entries k d) ≡ false;
     }
 
 abbrev pub decreases-loop-start : goal.decreases-loop-start

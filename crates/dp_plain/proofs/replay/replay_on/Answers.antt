@@ -1,4 +1,4 @@
-use Rattle.std.proofs.Common.{◌≡◌, ◌∙◌, ◌+◌, ap, length, map, Bool, List}
+use Rattle.std.proofs.Common.{◌∙◌, ◌+◌, ap, length, map, Bool, List}
 use Rattle.std.specs.List.{fold}
 use Rattle.dp_board.specs.Commands.{commands}
 use Rattle.dp_plain.specs.Replay.{user_act_of}
@@ -8,19 +8,26 @@ use Rattle.dp_plain.proofs.replay.replay_on.Goals as goal
 pub draw_flagged-requires : goal.draw_flagged-requires
 draw_flagged-requires g c =
     flags_fit c.each_act_has_a_flag.ensures 30 c.args.entries.now c.deref-2.result.now
-    (flags_of_acts c.commands_do_not_count.ensures 30 c.args.entries.now c.deref.result.now c.deref-2.result.now
+    (flags_of_acts c.commands_do_not_count.ensures 30 c.args.entries.now c.deref.result.now
+    c.deref-2.result.now
     (c.deref.ensures.value ∙ c.in_ok-kinds.ensures) (c.deref-2.ensures.value ∙ c.in_ok-flags.ensures))
 
 pub returns-clause-board : goal.returns-clause-board
 returns-clause-board g c =
     c.in_ok-draw_flagged.ensures.board
-    ∙ ap (λ (flags : List Bool). fold g.B.Board.drawn c.args.board (commands (map user_act_of c.args.entries.now) flags))
-    (flags_of_acts c.commands_do_not_count.ensures 30 c.args.entries.now c.deref.result.now c.deref-2.result.now
+    ∙ ap
+    (λ (flags : List Bool). fold g.B.Board.drawn c.args.board
+    (commands (map user_act_of c.args.entries.now) flags))
+    (flags_of_acts c.commands_do_not_count.ensures 30 c.args.entries.now c.deref.result.now
+    c.deref-2.result.now
     (c.deref.ensures.value ∙ c.in_ok-kinds.ensures) (c.deref-2.ensures.value ∙ c.in_ok-flags.ensures))
 
 pub returns-clause-draws : goal.returns-clause-draws
 returns-clause-draws g c =
     c.in_ok-draw_flagged.ensures.draws
-    ∙ ap (λ (flags : List Bool). c.args.draws.now + length (commands (map user_act_of c.args.entries.now) flags))
-    (flags_of_acts c.commands_do_not_count.ensures 30 c.args.entries.now c.deref.result.now c.deref-2.result.now
+    ∙ ap
+    (λ (flags : List Bool). c.args.draws.now + length
+    (commands (map user_act_of c.args.entries.now) flags))
+    (flags_of_acts c.commands_do_not_count.ensures 30 c.args.entries.now c.deref.result.now
+    c.deref-2.result.now
     (c.deref.ensures.value ∙ c.in_ok-kinds.ensures) (c.deref-2.ensures.value ∙ c.in_ok-flags.ensures))

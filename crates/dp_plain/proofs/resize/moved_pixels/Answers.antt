@@ -11,6 +11,9 @@ loop-y-preserved c =
     let left_fits : FitsSigned w32 r.left = search rules in
     let top_fits : FitsSigned w32 r.top = search rules in
     c.in_ok-push_moved_row.ensures
-    ∙ (ap (λ (z : ℤ). c.loop-y.moved.items ++ row_moved r.new_width c.row_at-row.result.now z) (to_z-of_z w32 r.left left_fits)
-    ∙ pixels_moved_more r.width r.height c.args.pixels.now c.loop-y.moved.items c.row_at-row.result.now r.new_width c.loop-y.y r.left r.top (difference c.loop-y.y r.top)
+    ∙
+    (ap (λ (z : ℤ). c.loop-y.moved.items ++ row_moved r.new_width c.row_at-row.result.now z)
+    (to_z-of_z w32 r.left left_fits)
+    ∙ pixels_moved_more r.width r.height c.args.pixels.now c.loop-y.moved.items c.row_at-row.result.now
+    r.new_width c.loop-y.y r.left r.top (difference c.loop-y.y r.top)
     c.loop-y.invariant (omega (arith, ints)) c.row_at-row.ensures)

@@ -5,4 +5,5 @@ use Rattle.dp_plain.proofs.resize.moved_pixels.Given as goal
 -- the rows above y are made
 abbrev pub invariant-loop-y : goal.invariant-loop-y
 invariant-loop-y l =
-    l.moved.items ≡ pixels_moved l.resize.width l.resize.height l.pixels l.resize.new_width l.y l.resize.left l.resize.top
+    l.moved.items ≡ pixels_moved l.resize.width l.resize.height l.pixels l.resize.new_width l.y
+    l.resize.left l.resize.top

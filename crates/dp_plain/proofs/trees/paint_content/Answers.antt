@@ -1,10 +1,10 @@
-use Rattle.std.proofs.Common.{◌≡◌, ◌∙◌, ap, sym, subst, not, true, false, refl, Bor, Option, None, Some, Ok, Err, List}
+use Rattle.std.proofs.Common.{◌≡◌, ◌∙◌, ap, sym, subst, not, true, false, refl, Bor, Option, None}
+use Rattle.std.proofs.Common.{Some, Ok, Err}
 use Rattle.std.specs.Prelude.{Result, OnOk, OnErr, is_some, option_copied}
 use Rattle.std.proofs.lemmas.Bool.{false≢true}
 use Rattle.std.proofs.lemmas.Result.{on_ok_weaker, on_err_weaker}
-use Rattle.dp_blend.specs.Color.{Channels}
 use Rattle.dp_layers.specs.Layers.{is_paint_row}
-use Rattle.dp_layers.specs.Rows.{Row, layers_of, content_of, with_content, map_contents}
+use Rattle.dp_layers.specs.Rows.{layers_of, with_content, map_contents}
 use Rattle.dp_pixels.specs.Drawing.{pixels_after}
 use Rattle.dp_plain.proofs.Rows.{layers_of-filled, filled_twice, filled_same}
 use Rattle.dp_plain.proofs.Holds.{fit_found, held_filled}
@@ -24,11 +24,13 @@ returns-then-is_none-clause-ok g c =
     let rows = c.args.tree.now in
     painted_none (g.C.Content.pixels c.args.width c.args.height) rows c.requires.held.tree c.args.id
     (pixels_after c.args.width c.args.height c.args.op.now)
-    (sym c.content.ensures.value ∙ none_copied c.content.result (c.is_none.ensures ∙ ap not c.if-is_none.true))
+    (sym c.content.ensures.value
+    ∙ none_copied c.content.result (c.is_none.ensures ∙ ap not c.if-is_none.true))
 
 pub paint-painted-requires-clause-fits : goal.paint-painted-requires-clause-fits
 paint-painted-requires-clause-fits g c =
-    fit_found (g.C.Content.fits c.args.width c.args.height) c.args.tree.now c.args.id c.put_content-content.result c.requires.held.each
+    fit_found (g.C.Content.fits c.args.width c.args.height) c.args.tree.now c.args.id
+    c.put_content-content.result c.requires.held.each
     c.put_content-content.ensures.old
 
 pub put_content-stand_in-requires : goal.put_content-stand_in-requires
@@ -43,12 +45,17 @@ returns-clause-held g c =
     let rows = c.args.tree.now in
     let fits = g.C.Content.fits in
     let new = c.paint-painted.new.self in
-    let paint : is_paint_row (layers_of rows) c.args.id ≡ true = sym c.content.ensures.paint ∙ c.is_none.ensures ∙ ap not c.if-is_none.false in
-    let was = fit_found (fits c.args.width c.args.height) rows c.args.id c.put_content-content.result c.requires.held.each
+    let paint : is_paint_row (layers_of rows) c.args.id ≡ true = sym c.content.ensures.paint
+    ∙ c.is_none.ensures ∙ ap not c.if-is_none.false in
+    let was = fit_found (fits c.args.width c.args.height) rows c.args.id c.put_content-content.result
+    c.requires.held.each
     c.put_content-content.ensures.old in
-    held_filled fits c.args.width c.args.height rows c.put_content-stand_in.new.self c.requires.held c.trees_stay_trees.ensures.filled c.args.id new paint
-    (either_way c.paint-painted.result c.paint-painted.ensures.fits c.paint-painted.ensures.err (λ ok. ok) (λ same. subst (fits c.args.width c.args.height) (sym same) was))
-    (c.put_content-stand_in.ensures.new ∙ ap (λ rs. with_content rs c.args.id new) c.put_content-content.ensures.new
+    held_filled fits c.args.width c.args.height rows c.put_content-stand_in.new.self c.requires.held
+    c.trees_stay_trees.ensures.filled c.args.id new paint
+    (either_way c.paint-painted.result c.paint-painted.ensures.fits c.paint-painted.ensures.err (λ ok. ok)
+    (λ same. subst (fits c.args.width c.args.height) (sym same) was))
+    (c.put_content-stand_in.ensures.new
+    ∙ ap (λ rs. with_content rs c.args.id new) c.put_content-content.ensures.new
     ∙ filled_twice rows c.args.id c.stand_in.result new)
 
 pub returns-clause-ok : goal.returns-clause-ok
@@ -59,9 +66,11 @@ returns-clause-ok g c =
     let old = c.put_content-content.result in
     let new = c.paint-painted.new.self in
     on_ok_weaker c.paint-painted.result
-    (λ is. ap (map_contents pixels) (c.put_content-stand_in.ensures.new ∙ ap (λ rs. with_content rs c.args.id new) c.put_content-content.ensures.new
+    (λ is. ap (map_contents pixels) (c.put_content-stand_in.ensures.new
+    ∙ ap (λ rs. with_content rs c.args.id new) c.put_content-content.ensures.new
     ∙ filled_twice rows c.args.id c.stand_in.result new)
-    ∙ painted_some pixels rows c.requires.held.tree c.args.id change old new c.put_content-content.ensures.old is)
+    ∙ painted_some pixels rows c.requires.held.tree c.args.id change old new
+    c.put_content-content.ensures.old is)
     c.paint-painted.ensures.pixels
 
 pub returns-clause-err : goal.returns-clause-err
@@ -70,7 +79,9 @@ returns-clause-err g c =
     let old = c.put_content-content.result in
     let new = c.paint-painted.new.self in
     on_err_weaker c.paint-painted.result
-    (λ same. c.put_content-stand_in.ensures.new ∙ ap (λ rs. with_content rs c.args.id new) c.put_content-content.ensures.new
+    (λ same. c.put_content-stand_in.ensures.new
+    ∙ ap (λ rs. with_content rs c.args.id new) c.put_content-content.ensures.new
     ∙ filled_twice rows c.args.id c.stand_in.result new ∙ ap (with_content rows c.args.id) same
-    ∙ filled_same rows c.args.id old c.requires.held.tree.layers.distinct c.put_content-content.ensures.old)
+    ∙ filled_same rows c.args.id old c.requires.held.tree.layers.distinct
+    c.put_content-content.ensures.old)
     c.paint-painted.ensures.err

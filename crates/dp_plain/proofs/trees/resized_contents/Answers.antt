@@ -1,6 +1,5 @@
-use Rattle.std.proofs.Common.{◌≡◌, ◌∙◌, ◌++◌, ◌∷◌, [], ap, sym, subst, arith, map, take, length, ◌<◌}
+use Rattle.std.proofs.Common.{◌≡◌, ◌++◌, ◌∷◌, [], sym, subst, arith, length, ◌<◌}
 use Rattle.std.specs.Prelude.{All}
-use Rattle.std.specs.List.{filter_map}
 use Rattle.std.proofs.lemmas.List.Elements.{All-push}
 use Rattle.dp_layers.specs.declared.row.LayerRow.{LayerRow}
 use Rattle.dp_layers.specs.Rows.{content_of}
@@ -12,7 +11,8 @@ use Rattle.dp_plain.proofs.trees.resized_contents.Goals.{in-Some+in_ok-resize+in
 
 pub resize-requires : goal.resize-requires
 resize-requires g c = record {
-  fits = fit_found (g.C.Content.fits c.args.change.width c.args.change.height) c.args.tree.now c.row-item.result.id c.in-Some.content.now c.requires
+  fits = fit_found (g.C.Content.fits c.args.change.width c.args.change.height) c.args.tree.now
+      c.row-item.result.id c.in-Some.content.now c.requires
       (sym c.in-Some.ensures.value);
 }
 
@@ -29,19 +29,27 @@ loop-row-preserved g c =
     elim c.match-content.branch [
       | in-Some+in_ok-resize+in_ok-push w ↦
           let y = w.in_ok-resize.field-0 in
-          let added : c.match-content.contents.items ≡ made ++ y ∷ [] = rw w.contents-is w.in_ok-push.ensures.items in
+          let added : c.match-content.contents.items ≡ made ++ y ∷ [] = rw w.contents-is
+          w.in_ok-push.ensures.items in
           record {
             fit = subst (All (g.C.Content.fits change.new_width change.new_height)) (sym added)
-                (All-push (g.C.Content.fits change.new_width change.new_height) made y c.loop-row.invariant.fit w.in_ok-resize.ensures.fits);
-            pixels = changed_next held rows i c.row-item.result in_list c.row-item.is old new (pixels_resized change) w.in-Some.content.now y made
-                c.match-content.contents.items (sym w.in-Some.ensures.value) c.loop-row.invariant.pixels added w.in_ok-resize.ensures.pixels;
+                (All-push (g.C.Content.fits change.new_width change.new_height) made y
+                c.loop-row.invariant.fit w.in_ok-resize.ensures.fits);
+            pixels = changed_next held rows i c.row-item.result in_list c.row-item.is old new
+                (pixels_resized change) w.in-Some.content.now y made
+                c.match-content.contents.items (sym w.in-Some.ensures.value) c.loop-row.invariant.pixels
+                added w.in_ok-resize.ensures.pixels;
             rise = omega arith;
             few = omega arith;
           }
       | in_default w ↦
           record {
             fit = rw w.contents-is c.loop-row.invariant.fit;
-            pixels = rw (w.contents-is, none_next held rows i c.row-item.result in_list c.row-item.is (sym w.in_default.ensures.value))
+            pixels = rw (
+              w.contents-is,
+              none_next held rows i c.row-item.result in_list c.row-item.is
+                  (sym w.in_default.ensures.value),
+            )
                 c.loop-row.invariant.pixels;
             rise = omega arith;
             few = omega arith;

@@ -15,6 +15,8 @@ pub returns-clause-pixels : goal.returns-clause-pixels
 returns-clause-pixels g c =
     let change = c.args.change in
     let new = g.C.Content.pixels change.new_width change.new_height in
-    changed_tree (g.C.Content.pixels change.width change.height) new (pixels_resized change) c.args.tree.now c.in_ok-resized.resized
-    c.one_tree.ensures c.rows-rows.ensures.tree c.rows-resized_rows.ensures.tree c.in_ok-resized.ensures.rows
+    changed_tree (g.C.Content.pixels change.width change.height) new
+    (pixels_resized change) c.args.tree.now c.in_ok-resized.resized
+    c.one_tree.ensures c.rows-rows.ensures.tree c.rows-resized_rows.ensures.tree
+    c.in_ok-resized.ensures.rows
     (ap (map new) c.in_ok-resized.ensures.contents ∙ c.in_ok-resized_contents.ensures.pixels)

@@ -7,6 +7,7 @@ use Rattle.dp_plain.proofs.trees.shared_contents.Given as goal
 abbrev pub invariant-loop-row : goal.invariant-loop-row
 invariant-loop-row g l =
     record {
-      same : l.contents.items ≡ filter_map (λ row. content_of l.tree row.id) (take l.row-index l.row-items);
+      same : l.contents.items ≡ filter_map (λ row. content_of l.tree row.id)
+          (take l.row-index l.row-items);
       no_tile : l.tiles ≡ l.initial.tiles;
     }

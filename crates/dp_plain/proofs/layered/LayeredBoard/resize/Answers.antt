@@ -1,12 +1,13 @@
-use Rattle.std.proofs.Common.{◌≡◌, ◌∙◌, sym, subst, inl, inr, ap, arith, List, w32, to_z, of_z}
-use Rattle.std.specs.Prelude.{pos, ◌+ℤ◌, FitsSigned}
+use Rattle.std.proofs.Common.{◌≡◌, ◌∙◌, sym, subst, inl, inr, arith, w32}
+use Rattle.std.specs.Prelude.{FitsSigned}
 use Rattle.std.proofs.lemmas.Int.{to_z-of_z}
 use Rattle.dp_layers.specs.Rows.{map_contents}
 use Rattle.dp_plain.specs.Board.{Board}
 use Rattle.dp_plain.specs.Drawing.{resized}
-use Rattle.dp_plain.proofs.Resizes.{resized_to, resized_not, side_fits}
+use Rattle.dp_plain.proofs.Resizes.{resized_to, resized_not}
 use Rattle.dp_plain.proofs.layered.LayeredBoard.resize.Goals as goal
-use Rattle.dp_plain.proofs.layered.LayeredBoard.resize.Goals.{in_default-via-in-Some+in_default, in_default-via-in_default}
+use Rattle.dp_plain.proofs.layered.LayeredBoard.resize.Goals.{in_default-via-in-Some+in_default}
+use Rattle.dp_plain.proofs.layered.LayeredBoard.resize.Goals.{in_default-via-in_default}
 
 pub returns-in_default-clause-ok : goal.returns-in_default-clause-ok
 returns-in_default-clause-ok g c =
@@ -57,8 +58,17 @@ returns-clause-ok g c =
       background = inside.background;
       rows = map_contents (g.C.Content.pixels inside.width inside.height) inside.tree;
     } in
-    let rows = map_contents (g.C.Content.pixels c.in-Some-Some.new_width c.in-Some-Some.new_height) c.in_ok-self-inside.field-0 in
+    let rows = map_contents (g.C.Content.pixels c.in-Some-Some.new_width c.in-Some-Some.new_height)
+    c.in_ok-self-inside.field-0 in
     let is = simp to_z-of_z at c.in_ok-self-inside.ensures.pixels in
-    let new : Board = record { width = c.in-Some-Some.new_width; height = c.in-Some-Some.new_height; background = inside.background; rows = rows } in
-    subst (λ (b : Board). new ≡ resized b c.args.top c.args.right c.args.bottom c.args.left) c.self.view_is
-    (resized_to view c.args.top c.args.right c.args.bottom c.args.left c.in-Some-Some.new_width c.in-Some-Some.new_height rows width height is)
+    let new : Board = record {
+      width = c.in-Some-Some.new_width;
+      height = c.in-Some-Some.new_height;
+      background =
+          inside.background;
+      rows = rows;
+    } in
+    subst (λ (b : Board). new ≡ resized b c.args.top c.args.right c.args.bottom c.args.left)
+    c.self.view_is
+    (resized_to view c.args.top c.args.right c.args.bottom c.args.left c.in-Some-Some.new_width
+    c.in-Some-Some.new_height rows width height is)

@@ -1,5 +1,4 @@
 use Rattle.std.proofs.Common.{◌≡◌, ◌∙◌, ap, sym, subst, true}
-use Rattle.std.specs.Prelude.{is_some}
 use Rattle.std.proofs.lemmas.Bool.{false≢true}
 use Rattle.dp_layers.specs.Layers.{is_paint_row}
 use Rattle.dp_layers.specs.Rows.{layers_of}
@@ -13,19 +12,26 @@ use Rattle.dp_plain.proofs.layered.LayeredBoardBoardView.copy_row.Goals as goal
 pub copy_row-requires-clause-fits : goal.copy_row-requires-clause-fits
 copy_row-requires-clause-fits g c =
     let inside = c.self.inside in
-    fit_found (g.C.Content.fits inside.width inside.height) inside.tree c.args.id c.in-Some.content.now c.self.invariant.each (sym c.in-Some.ensures.value)
+    fit_found (g.C.Content.fits inside.width inside.height) inside.tree c.args.id c.in-Some.content.now
+    c.self.invariant.each (sym c.in-Some.ensures.value)
 
 pub returns-in-Some : goal.returns-in-Some
 returns-in-Some g c =
     let inside = c.self.inside in
-    subst (λ (board : Board). c.copy_row.new.row ≡ pixels_in_row board.width (pixels_of board c.args.id) c.args.y) c.self.view_is
+    subst
+    (λ (board : Board). c.copy_row.new.row ≡ pixels_in_row board.width
+    (pixels_of board c.args.id) c.args.y) c.self.view_is
     (c.copy_row.ensures ∙ ap (λ pixels. pixels_in_row inside.width pixels c.args.y)
-    (sym (pixels_seen (g.C.Content.pixels inside.width inside.height) inside.tree c.args.id c.in-Some.content.now (sym c.in-Some.ensures.value))))
+    (sym
+    (pixels_seen (g.C.Content.pixels inside.width inside.height) inside.tree c.args.id
+    c.in-Some.content.now (sym c.in-Some.ensures.value))))
 
 pub returns-in_default : goal.returns-in_default
 returns-in_default g c =
     let inside = c.self.inside in
     let paint : is_paint_row (layers_of inside.tree) c.args.id ≡ true =
-    ap (λ layers. is_paint_row layers c.args.id) (sym (layers_seen (g.C.Content.pixels inside.width inside.height) inside.tree))
-    ∙ subst (λ (board : Board). is_paint_row (layers_of board.rows) c.args.id ≡ true) (sym c.self.view_is) c.requires.paint in
+    ap (λ layers. is_paint_row layers c.args.id)
+    (sym (layers_seen (g.C.Content.pixels inside.width inside.height) inside.tree))
+    ∙ subst (λ (board : Board). is_paint_row (layers_of board.rows) c.args.id ≡ true)
+    (sym c.self.view_is) c.requires.paint in
     absurd (false≢true (c.in_default.ensures.paint ∙ paint))
