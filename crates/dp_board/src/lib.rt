@@ -20,10 +20,10 @@ mod tests;
 mod window;
 
 pub use act::{Act, UserAct};
-pub use number_board::{NumberBoard, SetNumber};
 pub use board::Board;
 pub use flags::drawn_flags;
 pub use laws::{
     commands_do_not_count, each_act_has_a_flag, groups_are_points, strokes_go_on,
     window_is_of_last_points,
 };
+pub use number_board::{NumberBoard, SetNumber};
