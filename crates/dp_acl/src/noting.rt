@@ -40,7 +40,7 @@ impl Rights {
             → StandsFor self.new (history ++ entry.now ∷ [])) }
         ensures err { OnErr result (self.new ≡ record self.old { room = self.new.room }) }
     {
-        self.reserve()?;
+        self.reserve(1)?;
         self.note_reserved(entry);
         Ok(())
     }

@@ -75,16 +75,16 @@ impl Rights {
         }
     }
 
-    /// Makes the memory ready that noting any one entry needs.
+    /// Makes the memory ready that noting so many entries needs.
     ///
     /// # Errors
     ///
     /// Where memory runs out.
-    pub fn reserve(&mut self) -> Result<(), AllocError>
+    pub fn reserve(&mut self, count: usize) -> Result<(), AllocError>
         ensures kept { self.new ≡ record self.old { room = self.new.room } }
-        ensures room { OnOk result (1 ≤ self.new.room) }
+        ensures room { OnOk result (count ≤ self.new.room) }
     {
-        self.rules.reserve()
+        self.rules.reserve(count)
     }
 
     /// Whether the user is an operator.

@@ -98,12 +98,12 @@ impl Rules {
         *self.rules.allocator()
     }
 
-    /// Makes room for one more rule. The only error is want of memory.
-    pub(crate) fn reserve(&mut self) -> Result<(), AllocError>
+    /// Makes room for so many more rules. The only error is want of memory.
+    pub(crate) fn reserve(&mut self, count: usize) -> Result<(), AllocError>
         ensures kept { self.new.rules ≡ self.old.rules }
-        ensures room { OnOk result (1 ≤ self.new.room) }
+        ensures room { OnOk result (count ≤ self.new.room) }
     {
-        self.rules.reserve(1)
+        self.rules.reserve(count)
     }
 
     /// The rule of the layer.

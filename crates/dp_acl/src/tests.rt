@@ -244,7 +244,7 @@ fn carried(rt: HostRuntime) -> Result<(), Fail> {
         (1, 67, "0201010204"),
     ];
     note(&rt, alloc, &mut rights, &rows)?;
-    rights.reserve()?;
+    rights.reserve(1)?;
     let present = Vec::from_slice(alloc, &[1, 2, 3])?;
     let mut bytes = Vec::new(alloc);
     for meta in &rights.carry(&Ids::from_vec(present))? {

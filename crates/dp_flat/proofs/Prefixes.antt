@@ -1,5 +1,6 @@
 -- What a sink holds after several pieces of a text, the last of them perhaps in part.
-use Rattle.std.proofs.Common.{◌≡◌, ℕ, ◌+◌, List, [], ◌++◌, length, take, Ok, Err, OnOk, subst, refl, sym, ap, ◌∙◌, arith, length-append}
+use Rattle.std.proofs.Common.{◌≡◌, ℕ, ◌+◌, List, [], ◌++◌, length, take, Ok, Err, OnOk, subst, refl, sym}
+use Rattle.std.proofs.Common.{ap, ◌∙◌, arith, length-append}
 use Rattle.std.proofs.lemmas.List.{append_assoc, append-nil, take-append-le}
 use Rattle.std.proofs.Math.Seq.{take-append-add, take-length}
 use Rattle.std.proofs.KnownBytes.{Appends-nil, Appends-trans}
@@ -16,12 +17,14 @@ pub grows_whole : (a b : Option (List ℕ)) (xs : List ℕ) → Appends a b xs �
 grows_whole a b xs whole = (length xs, omega arith, subst (Appends a b) (sym (take-length xs)) whole)
 
 -- a prefix of the first bytes is a prefix of all
-pub grows_within : (a b : Option (List ℕ)) (xs ys : List ℕ) → GrowsByPrefix a b xs → GrowsByPrefix a b (xs ++ ys)
+pub grows_within : (a b : Option (List ℕ)) (xs ys : List ℕ) → GrowsByPrefix a b xs
+    → GrowsByPrefix a b (xs ++ ys)
 grows_within a b xs ys (n, within, some) =
     (n, omega (arith, length-append xs ys), subst (Appends a b) (sym (take-append-le n xs ys within)) some)
 
 -- the first bytes were appended, and then a prefix of the others
-pub grows_after : (a b c : Option (List ℕ)) (xs ys : List ℕ) → Appends a b xs → GrowsByPrefix b c ys → GrowsByPrefix a c (xs ++ ys)
+pub grows_after : (a b c : Option (List ℕ)) (xs ys : List ℕ) → Appends a b xs → GrowsByPrefix b c ys
+    → GrowsByPrefix a c (xs ++ ys)
 grows_after a b c xs ys first (n, within, some) = (
   length xs + n,
   omega (arith, length-append xs ys),
@@ -39,16 +42,19 @@ pub before_none : (a : Option (List ℕ)) (piece : List ℕ) → GrowsBefore a a
 before_none a piece = record { bytes = []; appended = Appends-nil a; whole = refl }
 
 -- more of the text was put into the piece
-pub before_more : (a b : Option (List ℕ)) (piece text more now : List ℕ) → GrowsBefore a b piece text → now ≡ piece ++ more
+pub before_more : (a b : Option (List ℕ)) (piece text more now : List ℕ) → GrowsBefore a b piece text
+    → now ≡ piece ++ more
     → GrowsBefore a b now (text ++ more)
 before_more a b piece text more now before put = record {
   bytes = before.bytes;
   appended = before.appended;
-  whole = ap (λ l. before.bytes ++ l) put ∙ sym (append_assoc before.bytes piece more) ∙ ap (λ l. l ++ more) before.whole;
+  whole = ap (λ l. before.bytes ++ l) put ∙ sym (append_assoc before.bytes piece more)
+      ∙ ap (λ l. l ++ more) before.whole;
 }
 
 -- the piece and more of the text were written in turn, but for another piece
-pub before_on : (a b c : Option (List ℕ)) (piece text more now : List ℕ) → GrowsBefore a b piece text → GrowsBefore b c now (piece ++ more)
+pub before_on : (a b c : Option (List ℕ)) (piece text more now : List ℕ) → GrowsBefore a b piece text
+    → GrowsBefore b c now (piece ++ more)
     → GrowsBefore a c now (text ++ more)
 before_on a b c piece text more now before after = record {
   bytes = before.bytes ++ after.bytes;
@@ -58,19 +64,22 @@ before_on a b c piece text more now before after = record {
 }
 
 -- the piece and more of the text were written in part
-pub before_failed : (a b c : Option (List ℕ)) (piece text more : List ℕ) → GrowsBefore a b piece text → GrowsByPrefix b c (piece ++ more)
+pub before_failed : (a b c : Option (List ℕ)) (piece text more : List ℕ) → GrowsBefore a b piece text
+    → GrowsByPrefix b c (piece ++ more)
     → GrowsByPrefix a c (text ++ more)
 before_failed a b c piece text more before some =
     subst (GrowsByPrefix a c) (sym (append_assoc before.bytes piece more) ∙ ap (λ l. l ++ more) before.whole)
     (grows_after a b c before.bytes (piece ++ more) before.appended some)
 
 -- the piece was written
-pub before_written : (a b c : Option (List ℕ)) (piece text : List ℕ) → GrowsBefore a b piece text → Appends b c piece → Appends a c text
+pub before_written : (a b c : Option (List ℕ)) (piece text : List ℕ) → GrowsBefore a b piece text
+    → Appends b c piece → Appends a c text
 before_written a b c piece text before last =
     subst (Appends a c) before.whole (Appends-trans a b c before.bytes piece before.appended last)
 
 -- the piece was written in part
-pub before_cut : (a b c : Option (List ℕ)) (piece text : List ℕ) → GrowsBefore a b piece text → GrowsByPrefix b c piece
+pub before_cut : (a b c : Option (List ℕ)) (piece text : List ℕ) → GrowsBefore a b piece text
+    → GrowsByPrefix b c piece
     → GrowsByPrefix a c text
 before_cut a b c piece text before some =
     subst (GrowsByPrefix a c) before.whole (grows_after a b c before.bytes piece before.appended some)
@@ -88,32 +97,42 @@ pub toward_none : (a : Option (List ℕ)) (piece rest : List ℕ) → GrowsTowar
 toward_none a piece rest = record { done = piece; before = before_none a piece; left = refl }
 
 -- the piece was written, and more of the text was put into the next one
-pub toward_more : (a b c : Option (List ℕ)) (piece room now more rest others text : List ℕ) → GrowsToward a b piece rest text
-    → GrowsBefore b c room piece → now ≡ room ++ more → rest ≡ more ++ others → GrowsToward a c now others text
+pub toward_more : (a b c : Option (List ℕ)) (piece room now more rest others text : List ℕ)
+    → GrowsToward a b piece rest text
+    → GrowsBefore b c room piece → now ≡ room ++ more → rest ≡ more ++ others
+    → GrowsToward a c now others text
 toward_more a b c piece room now more rest others text before made put split = record {
   done = before.done ++ more;
-  before = before_on a b c piece before.done more now before.before (before_more b c room piece more now made put);
+  before = before_on a b c piece before.done more now before.before
+      (before_more b c room piece more now made put);
   left = append_assoc before.done more others ∙ ap (λ l. before.done ++ l) (sym split) ∙ before.left;
 }
 
 -- the piece was written in part
-pub toward_failed : (a b c : Option (List ℕ)) (piece rest text : List ℕ) → GrowsToward a b piece rest text → GrowsByPrefix b c piece
+pub toward_failed : (a b c : Option (List ℕ)) (piece rest text : List ℕ) → GrowsToward a b piece rest text
+    → GrowsByPrefix b c piece
     → GrowsByPrefix a c text
 toward_failed a b c piece rest text before some =
-    subst (GrowsByPrefix a c) before.left (grows_within a c before.done rest (before_cut a b c piece before.done before.before some))
+    subst (GrowsByPrefix a c) before.left
+    (grows_within a c before.done rest (before_cut a b c piece before.done before.before some))
 
 -- nothing is still to come
-pub toward_all : (a b : Option (List ℕ)) (piece text : List ℕ) → GrowsToward a b piece [] text → GrowsBefore a b piece text
-toward_all a b piece text before = subst (GrowsBefore a b piece) (sym (append-nil before.done) ∙ before.left) before.before
+pub toward_all : (a b : Option (List ℕ)) (piece text : List ℕ) → GrowsToward a b piece [] text
+    → GrowsBefore a b piece text
+toward_all a b piece text before = subst (GrowsBefore a b piece)
+    (sym (append-nil before.done) ∙ before.left) before.before
 
 -- the last piece was written, where the call says so
-pub last_written : {T E : Type 0} (a b c : Option (List ℕ)) (piece last text : List ℕ) (result : Result T E) → GrowsBefore a b piece text → last ≡ piece
+pub last_written : {T E : Type 0} (a b c : Option (List ℕ)) (piece last text : List ℕ)
+    (result : Result T E) → GrowsBefore a b piece text → last ≡ piece
     → OnOk result (Appends b c last) → OnOk result (Appends a c text)
 last_written a b c piece last text (Err e) before is written = tt
 last_written a b c piece last text (Ok done) before is written =
     before_written a b c piece text before (subst (Appends b c) is written)
 
 -- the last piece was written in part
-pub last_cut : (a b c : Option (List ℕ)) (piece last text : List ℕ) → GrowsBefore a b piece text → last ≡ piece
+pub last_cut : (a b c : Option (List ℕ)) (piece last text : List ℕ) → GrowsBefore a b piece text
+    → last ≡ piece
     → GrowsByPrefix b c last → GrowsByPrefix a c text
-last_cut a b c piece last text before is some = before_cut a b c piece text before (subst (GrowsByPrefix b c) is some)
+last_cut a b c piece last text before is some = before_cut a b c piece text before
+    (subst (GrowsByPrefix b c) is some)

@@ -17,7 +17,7 @@ pub use content::Content;
 pub use geometry::Resize;
 pub use layered::LayeredBoard;
 pub use plain::{PlainBoard, PlainPixels};
-pub use replay::{act_of, is_command, plain_replay, show_on};
+pub use replay::{act_of, is_command, plain_replay, replay_on, show_on};
 pub use view::BoardView;
 
 #[cfg(test)]

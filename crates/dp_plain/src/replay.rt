@@ -108,8 +108,13 @@ fn is_mark(entry: &Entry) -> bool
     matches!(&entry.msg, Msg::Meta(Meta::ResetMark { .. }))
 }
 
-/// The commands of the entries but for the undone ones, drawn in their order on the board.
-fn replay_on<B: Board<Op = Draw>, D: Ledger, T: Ledger>(
+/// The commands of the entries but for the undone ones, drawn in their order on the board. It draws each
+/// of them once. The rule: docs/protocol.md, "Strokes, undo and redo".
+///
+/// # Errors
+///
+/// Where memory runs out.
+pub fn replay_on<B: Board<Op = Draw>, D: Ledger, T: Ledger>(
     alloc: Global,
     mut board: B,
     entries: &[Entry],

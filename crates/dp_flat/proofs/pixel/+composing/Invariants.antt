@@ -11,4 +11,5 @@ decreases-show_pixel g l = 2 * l.depth + 1
 -- the rows before the index are laid on the pixel
 abbrev pub invariant-compose_pixel-loop-row : goal.invariant-compose_pixel-loop-row
 invariant-compose_pixel-loop-row g l =
-    l.under ≡ composed_by (g.V.BoardView.board l.board) (l.depth - 1) l.parent (take l.row-index l.row-items) l.place.0 l.place.1 l.fn.start
+    l.under ≡ composed_by (g.V.BoardView.board l.board) (l.depth - 1) l.parent
+    (take l.row-index l.row-items) l.place.0 l.place.1 l.fn.start

@@ -8,6 +8,7 @@ use Rattle.dp_flat.proofs.text.push_pixels.Given as goal
 -- the texts of the pixels before the index are added
 abbrev pub invariant-loop-pixel : goal.invariant-loop-pixel
 invariant-loop-pixel l = record {
-  text : l.piece.items ≡ l.initial.piece.items ++ flat_map (pixel_text_of l.format) (take l.pixel-index l.pixels);
+  text : l.piece.items ≡ l.initial.piece.items ++ flat_map (pixel_text_of l.format)
+      (take l.pixel-index l.pixels);
   short : array_vec_len l.piece ≤ array_vec_len l.initial.piece + PIXEL_BYTES * l.pixel-index;
 }

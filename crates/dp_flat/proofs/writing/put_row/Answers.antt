@@ -16,11 +16,13 @@ pub loop-pixels-preserved : goal.loop-pixels-preserved
 loop-pixels-preserved g c =
     let text = pixel_text_of c.args.format in
     let steps = c.in-Some.ensures.steps in
-    let split = ap (flat_map text) steps.1.0 ∙ flat_map-append text c.in-Some.pixels.now (chunks_rest c.next.new.self) in
+    let split = ap (flat_map text) steps.1.0 ∙ flat_map-append text c.in-Some.pixels.now
+    (chunks_rest c.next.new.self) in
     record {
       can = omega (arith, steps.0);
       finite = tt;
       size = steps.0 ∙ c.loop-pixels.invariant.size;
-      toward = toward_more _ _ _ _ _ _ _ _ _ _ c.loop-pixels.invariant.toward c.in_ok-make_room.ensures.before c.push_pixels.ensures split;
+      toward = toward_more _ _ _ _ _ _ _ _ _ _ c.loop-pixels.invariant.toward
+          c.in_ok-make_room.ensures.before c.push_pixels.ensures split;
       kept = c.in_ok-make_room.ensures.cause.kept ∙ c.loop-pixels.invariant.kept;
     }

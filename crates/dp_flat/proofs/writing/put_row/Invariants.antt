@@ -13,6 +13,7 @@ invariant-loop-pixels g l = record {
   finite : (goal.iterator-loop-pixels g).is_finite l.pixels-iterator;
   size : chunks_size l.pixels-iterator ≡ STRETCH;
   toward : GrowsToward (g.S.Sink.held l.initial.out) (g.S.Sink.held l.out) l.piece.items
-      (flat_map (pixel_text_of l.format) (chunks_rest l.pixels-iterator)) (l.initial.piece.items ++ flat_map (pixel_text_of l.format) l.row);
+      (flat_map (pixel_text_of l.format) (chunks_rest l.pixels-iterator))
+      (l.initial.piece.items ++ flat_map (pixel_text_of l.format) l.row);
   kept : g.S.Sink.faults l.out ≡ g.S.Sink.faults l.initial.out;
 }

@@ -18,7 +18,8 @@ one_covers w h (Some c) law = λ pixels e.
     let same : canvas_of w h (λ x y. c) ≡ pixels = cc in
     ap length (sym same) ∙ law w h (λ x y. c)
 
-all_cover : (w h : ℕ) (rows : List (Row Channels)) → LengthLaw → All (Covers w h) (map_contents (λ c. canvas_of w h (λ x y. c)) rows)
+all_cover : (w h : ℕ) (rows : List (Row Channels)) → LengthLaw → All (Covers w h)
+    (map_contents (λ c. canvas_of w h (λ x y. c)) rows)
 all_cover w h [] law k d inside = absurd (omega arith)
 all_cover w h (row ∷ rows) law zero d inside = one_covers w h row.content law
 all_cover w h (row ∷ rows) law (suc k) d inside = all_cover w h rows law k d (omega arith)
@@ -28,7 +29,11 @@ returns-clause-board c =
     let board = c.args.self.now in record {
       width = board.wide;
       height = board.high;
-      both = (λ none. absurd (omega (arith, board.some_wide)), λ none. absurd (omega (arith, board.some_high)));
+      both = (
+        λ none. absurd (omega (arith, board.some_wide)),
+        λ none.
+            absurd (omega (arith, board.some_high)),
+      );
       tree = c.contents_ride_along.ensures.tree _ board.tree c.rows-rows.ensures.tree;
       each = all_cover board.width board.height board.tree c.length_of_canvas.ensures;
     }

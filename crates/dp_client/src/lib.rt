@@ -1,0 +1,13 @@
+//! A client of a session: what it has taken, what it has said that isn't answered, and what it shows.
+//!
+//! The rule: docs/protocol.md, "The client".
+#![tactic(auto)]
+
+mod answers;
+mod client;
+mod own;
+#[cfg(test)]
+mod tests;
+
+pub use client::{Client, Taken};
+pub use own::Own;

@@ -1,0 +1,49 @@
+//! A store of rows, as its callers see it.
+
+ghost use Rattle.std.specs.Prelude.{◌≡◌, ℕ, List, Option};
+ghost use Rattle.dp_keeper.specs.declared.row.Row.{Row as Kept};
+ghost use Rattle.dp_keeper.specs.Keeping.{Puts, Counts, IsPage};
+
+use crate::row::{Row, Rows};
+
+/// Why a store did not do what it was asked.
+#[derive(Clone, Copy, Debug, PartialEq, Eq)]
+pub enum KeepError {
+    /// The store failed, and counted it.
+    Failed,
+    /// Memory ran out, and nothing was done.
+    Memory,
+}
+
+/// A store of rows. It counts its faults; what it holds is told where a file's content can be known.
+pub trait Keeper {
+    /// The rows, where they are told.
+    ghost held: { Self → Option (List Kept) };
+
+    /// How often the store has failed; the count stops at the greatest `u64`.
+    ghost faults: { Self → ℕ };
+
+    /// Adds a row behind the others.
+    ///
+    /// # Errors
+    ///
+    /// `Failed` where the store failed: the row may have been added. `Memory` where memory ran out: it
+    /// was not.
+    fn put(&mut self, row: &Row) -> Result<(), KeepError>
+        ensures rows { Puts (held self.old) row.now result (held self.new) }
+        ensures count { Counts (faults self.old) result (faults self.new) };
+
+    /// The rows from a place on, so many at most.
+    ///
+    /// # Errors
+    ///
+    /// `Failed` where the store failed, and `Memory` where memory ran out. The rows stay.
+    fn rows(&mut self, from: u64, max: u32) -> Result<Rows, KeepError>
+        ensures page { IsPage (held self.old) from max result }
+        ensures stay { held self.new ≡ held self.old }
+        ensures count { Counts (faults self.old) result (faults self.new) };
+
+    /// How often the store has failed. It takes no memory.
+    fn count(&self) -> u64
+        ensures { result ≡ faults self.now };
+}

@@ -1,0 +1,14 @@
+//! Stores of rows: what keeps the events of a session.
+#![tactic(auto)]
+
+mod keeper;
+mod memory;
+mod row;
+mod sure;
+#[cfg(test)]
+mod tests;
+
+pub use keeper::{KeepError, Keeper};
+pub use memory::MemKeeper;
+pub use row::{Row, RowBytes, Rows};
+pub use sure::SureKeeper;
