@@ -2,10 +2,12 @@
 //! Payloads are hexadecimal. User 1 is the operator, 2 is trusted, 3 is registered, and 4 is a guest.
 
 use super::*;
+use dp_frame::Octets;
 use dp_messages::{Entry, Msg};
 use dp_msg_draw::{is_listed, read_draw};
 use dp_msg_meta::{
-    Ids, is_control_kind, is_meta_kind, kind_of_meta, read_control, read_meta, write_meta,
+    Ids, Meta, Tiers, is_control_kind, is_meta_kind, kind_of_meta, read_control, read_meta,
+    write_meta,
 };
 use std::alloc::Global;
 use std::process::Abort;
@@ -48,6 +50,10 @@ fn msg_of(rt: &impl Abort, alloc: Global, kind: u8, text: &str) -> Result<Msg, F
         (255, [target, redo]) => Ok(Msg::Undo {
             target: *target,
             redo: *redo == 1,
+        }),
+        (200, _) => Ok(Msg::Opaque {
+            kind,
+            body: Octets::from_vec(payload),
         }),
         _ => panic!(rt; "{text} is no message of kind {kind}"),
     }
@@ -130,6 +136,7 @@ fn messages_that_draw_nothing(rt: HostRuntime) -> Result<(), Fail> {
         (68, "0303030303030303", "1"),
         (69, "23", ""),
         (6, "820401000000", "1"),
+        (200, "0102", "1234"),
         (128, "", "1234"),
         // One's own strokes, and those of user 4.
         (255, "0000", "1234"),
@@ -186,6 +193,73 @@ fn commands(rt: HostRuntime) -> Result<(), Fail> {
     check(&rt, alloc, &rights, &rows)
 }
 
+/// The tiers of the features, in the order of a payload.
+fn tiers_of(tiers: [u8; 8]) -> Tiers {
+    let [
+        image,
+        move_,
+        resize,
+        background,
+        edit_layers,
+        own_layers,
+        laser,
+        undo,
+    ] = tiers;
+    Tiers {
+        image,
+        move_,
+        resize,
+        background,
+        edit_layers,
+        own_layers,
+        laser,
+        undo,
+    }
+}
+
+/// Each tier at each feature, while all others are the operators'.
+#[test]
+fn tiers(rt: HostRuntime) -> Result<(), Fail> {
+    let alloc = rt.alloc();
+    let mut rights = session(&rt, alloc)?;
+    // A message of each feature, in the order of a payload; the layers are user 5's, and user 4's.
+    for (feature, kind, payload, users) in [
+        (
+            0,
+            136,
+            "01010100000000000000000000000100000001ff00ff00",
+            ["1", "12", "123", "1234"],
+        ),
+        (
+            1,
+            152,
+            "0101000000000000000000000002000000010000000100000000",
+            ["1", "12", "123", "1234"],
+        ),
+        (
+            2,
+            129,
+            "00000000000000020000000100000000",
+            ["1", "12", "123", "1234"],
+        ),
+        (3, 147, "ff00ff00", ["1", "12", "123", "1234"]),
+        (4, 134, "0501", ["1", "12", "123", "1234"]),
+        (5, 134, "0401", ["1", "1", "1", "14"]),
+        (6, 64, "0000000000000000", ["1", "12", "123", "1234"]),
+        (7, 255, "0000", ["1", "12", "123", "1234"]),
+    ] {
+        for (tier, permitted) in users.iter().enumerate() {
+            let mut all = [0; 8];
+            all[feature] = tier as u8;
+            let tiers = tiers_of(all);
+            let msg = Msg::Meta(Meta::FeatureTiers { tiers });
+            rights.note(&Entry { user: 1, msg })?;
+            check(&rt, alloc, &rights, &[(kind, payload, permitted)])?;
+        }
+    }
+    Ok(())
+}
+
 #[test]
 fn locks(rt: HostRuntime) -> Result<(), Fail> {
     let alloc = rt.alloc();
@@ -226,8 +300,19 @@ fn rules_of_layers(rt: HostRuntime) -> Result<(), Fail> {
         ("01010003", "1234"),
     ] {
         note(&rt, alloc, &mut rights, &[(1, 67, payload)])?;
-        let rect = "01010100000000000000000000000100000001ffff0000";
-        check(&rt, alloc, &rights, &[(137, rect, users)])?;
+        let rows = [
+            (136, "01010100000000000000000000000100000001ff00ff00", users),
+            (137, "01010100000000000000000000000100000001ffff0000", users),
+            (146, "0101000000000000008000000000008000", users),
+            (149, "01010000000000000000ff00000100000980", users),
+            (150, "01010000000000000000ff00000100000980", users),
+            (
+                152,
+                "0101000000000000000000000002000000010000000100000000",
+                users,
+            ),
+        ];
+        check(&rt, alloc, &rights, &rows)?;
     }
     Ok(())
 }
