@@ -1,0 +1,151 @@
+-- The laws of sessions.
+use Rattle.std.proofs.Common.{◌≡◌, ℕ, suc, ◌+◌, ◌≤◌, ◌==◌, Bool, true, false, if◌then◌else◌, List, [], ◌∷◌, ◌++◌, length}
+use Rattle.std.proofs.Common.{map, fold, All, Option, None, Some, Result, Ok, Err}
+use Rattle.std.proofs.Common.{refl, sym, ap, subst, ◌∙◌, arith, append-nil, append_assoc, length-append}
+use Rattle.std.specs.List.{filter}
+use Rattle.std.specs.Option.{option_map_or}
+use Rattle.std.specs.declared.alloc.AllocError.{AllocError}
+use Rattle.dp_msg_meta.specs.declared.message.Meta.TheVariants.{Leave}
+use Rattle.dp_messages.specs.declared.message.Msg.{Msg}
+use Rattle.dp_messages.specs.declared.message.Msg.TheVariants as msg
+use Rattle.dp_messages.specs.declared.message.Entry.{Entry}
+use Rattle.dp_acl.specs.Rights.{is_operator}
+use Rattle.dp_session.specs.declared.connection.Connection.{Connection}
+use Rattle.dp_session.specs.declared.connection.Ending.TheVariants as ending
+use Rattle.dp_session.specs.declared.event.Event.{Event}
+use Rattle.dp_session.specs.declared.event.Event.TheVariants as event
+use Rattle.dp_session.specs.declared.event.Reply.{Reply}
+use Rattle.dp_session.specs.declared.event.Reply.TheVariants as reply
+use Rattle.dp_session.specs.declared.event.ShutAt.{ShutAt}
+use Rattle.dp_session.specs.declared.plan.Decision.{Decision}
+use Rattle.dp_session.specs.declared.plan.Decision.TheVariants as decision
+use Rattle.dp_session.specs.State.{State, Acted, first_state, acted, stays, opened_as, free_id, is_name, join_entries}
+use Rattle.dp_session.specs.State.{closed_by, left, owners_behind, entry_of, open_connection, with_connection}
+use Rattle.dp_session.specs.State.{says_by, after_shut}
+use Rattle.dp_session.specs.Past.{Past, Happening, Came, WasShut, shut_at, woven, happened, state_after, state_of}
+use Rattle.dp_session.specs.Past.{Serves, Step, refused}
+use Rattle.dp_session.specs.Plans.{decided}
+use Rattle.dp_session.specs.Laws.{Continues, Outcome, IsRun, IsFault, AreFaults}
+use Rattle.dp_session.proofs.Weaving.{state-came}
+use Rattle.dp_session.proofs.PlanLemmas.{acted_by, says-decided}
+
+-- ---- answers
+
+came_in : List Happening → ℕ
+came_in [] = 0
+came_in (Came e ∷ more) = suc (came_in more)
+came_in (WasShut conn ∷ more) = came_in more
+
+came_in-append : (hs gs : List Happening) → came_in (hs ++ gs) ≡ came_in hs + came_in gs
+unfolding came_in
+came_in-append [] gs = omega arith
+came_in-append (Came e ∷ hs) gs = omega (arith, came_in-append hs gs)
+came_in-append (WasShut conn ∷ hs) gs = came_in-append hs gs
+
+came_in-shut : (shut : List ShutAt) → came_in (map (λ s. WasShut s.conn) shut) ≡ 0
+unfolding came_in
+came_in-shut [] = refl
+came_in-shut (s ∷ shut) = came_in-shut shut
+
+came_in-woven : (n : ℕ) (journal : List Event) (shut : List ShutAt) → came_in (woven n journal shut) ≡ length journal
+unfolding came_in
+came_in-woven n [] shut = came_in-shut (filter (λ s. s.n == n) shut)
+came_in-woven n (e ∷ journal) shut =
+    omega (
+      arith,
+      came_in-append (shut_at n shut) (Came e ∷ woven (n + 1) journal shut),
+      came_in-shut (filter (λ s. s.n == n) shut),
+      came_in-woven (n + 1) journal shut,
+    )
+
+shut-answers : (s : State) (conn : ℕ) (o : Option Connection)
+    → (option_map_or (λ c. with_connection s conn (record c { ending = ending.Shut })) o s).answers ≡ s.answers
+shut-answers s conn None = refl
+shut-answers s conn (Some c) = refl
+
+answers-run : (s : State) (hs : List Happening) → length (fold happened s hs).answers ≡ length s.answers + came_in hs
+unfolding came_in
+answers-run s [] = omega arith
+answers-run s (Came e ∷ more) =
+    answers-run (happened s (Came e)) more
+    ∙ omega (arith, length-append s.answers ((acted s e).reply ∷ []))
+answers-run s (WasShut conn ∷ more) =
+    answers-run (after_shut s conn) more
+    ∙ ap (λ rs. length rs + came_in more) (shut-answers s conn (open_connection s conn))
+
+-- one answer for each event
+pub answered-once : (past : Past) → length (state_of past).answers ≡ length past.journal
+answered-once past =
+    omega (arith, answers-run first_state (woven 0 past.journal past.shut), came_in-woven 0 past.journal past.shut)
+
+-- ---- growing
+
+if-grows : (s : State) (b : Bool) (x y : Acted) → Continues s.live x.state.live → Continues s.live y.state.live
+    → Continues s.live (if b then x else y).state.live
+if-grows s true x y hx hy = hx
+if-grows s false x y hx hy = hy
+
+option-grows : (s : State) (f : Connection → Acted) (o : Option Connection) (x : Acted)
+    → ((c : Connection) → Continues s.live (f c).state.live) → Continues s.live x.state.live
+    → Continues s.live (option_map_or f o x).state.live
+option-grows s f None x hf hx = hx
+option-grows s f (Some c) x hf hx = hf c
+
+same-grows : (s : State) → Continues s.live s.live
+same-grows s = ([], sym (append-nil s.live))
+
+opened-grows : (s : State) (registered : Bool) (name : List ℕ) (o : Option ℕ)
+    → Continues s.live (opened_as s registered name o).state.live
+opened-grows s registered name None = same-grows s
+opened-grows s registered name (Some user) = (join_entries s user registered name, refl)
+
+closed-grows : (s : State) (conn : ℕ) (c : Connection) → Continues s.live (closed_by s conn c).state.live
+closed-grows s conn c =
+    let owners = owners_behind (is_operator s.live c.user) (left s conn c) in
+    let leave = entry_of c.user (msg.Meta Leave) in
+    (leave ∷ owners, append_assoc s.live (leave ∷ []) owners)
+
+decided-grows : (s : State) (conn : ℕ) (c : Connection) (m : Msg) (d : Decision)
+    → Continues s.live (acted_by s conn c m d).state.live
+decided-grows s conn c m decision.Ignore = same-grows s
+decided-grows s conn c m decision.Acknowledge = same-grows s
+decided-grows s conn c m decision.Place = (_, refl)
+decided-grows s conn c m decision.Filter = (_, refl)
+
+-- an event adds entries behind the live history
+acted-grows : (s : State) (e : Event) → Continues s.live (acted s e).state.live
+acted-grows s (event.Open name registered) =
+    if-grows s (is_name name) (opened_as s registered name (free_id s)) (stays s reply.NameRefused)
+    (opened-grows s registered name (free_id s)) (same-grows s)
+acted-grows s (event.Say conn m) =
+    option-grows s (says_by s conn m) (open_connection s conn) (stays s reply.Ignored)
+    (λ c. subst (λ a. Continues s.live a.state.live) (sym (says-decided s conn c m))
+    (decided-grows s conn c m (decided s c m))) (same-grows s)
+acted-grows s (event.Close conn) =
+    option-grows s (closed_by s conn) (open_connection s conn) (stays s reply.Ignored) (closed-grows s conn) (same-grows s)
+
+-- a history goes on behind one more event
+pub history-grows : (journal : List Event) (shut : List ShutAt) (e : Event) → All (λ s. s.n ≤ length journal) shut
+    → Continues (state_after journal shut).live (state_after (journal ++ e ∷ []) shut).live
+history-grows journal shut e before =
+    subst (λ s. Continues (state_after journal shut).live s.live) (sym (state-came journal shut e before))
+    (acted-grows (state_after journal shut) e)
+
+-- ---- faults
+
+stays-broken : (past : Past) (e : Event) (answer : Result Reply AllocError) (new : Past) (first : ℕ)
+    → past.broke ≡ Some first → Step past e answer new → IsFault first answer × (new.broke ≡ Some first)
+stays-broken past e (Ok answer) new first broke step =
+    let h : Serves (Some first) past e answer new = subst (λ b. Serves b past e answer new) broke step in
+    (h.reply, ap (λ p. p.broke) h.after ∙ broke)
+stays-broken past (event.Open name registered) (Err want) new first broke step = (tt, ap (λ p. p.broke) step ∙ broke)
+stays-broken past (event.Say conn m) (Err want) new first broke step = (tt, ap (λ p. p.broke) step ∙ broke)
+stays-broken past (event.Close conn) (Err want) new first broke step = (tt, ap (λ p. p.broke) step ∙ broke)
+
+-- each outcome is that fault
+pub broken-for_good : (past : Past) (first : ℕ) (log : List Outcome) → past.broke ≡ Some first → IsRun past log
+    → AreFaults first log
+broken-for_good past first [] broke run = tt
+broken-for_good past first (outcome ∷ log) broke run =
+    let h = stays-broken past outcome.event outcome.answer outcome.left first broke run.0 in
+    (h.0, broken-for_good outcome.left first log h.1 run.1)

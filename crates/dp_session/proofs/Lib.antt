@@ -1,0 +1,9 @@
+pub mod Ranges
+pub mod Holders
+pub mod Weaving
+pub mod TableLemmas
+pub mod PlanLemmas
+pub mod QuietLemmas
+pub mod LawLemmas
+pub mod ReadLemmas
+pub mod SessionLemmas

@@ -1,0 +1,229 @@
+-- What a step makes of the past.
+use Rattle.std.proofs.Common.{◌≡◌, ◌⊎◌, ℕ, Bool, true, false, List, [], ◌∷◌, ◌++◌, length, Option, None, Some, Result, Ok, Err, MatchBool, MatchResult, MatchOption, IsOk, OnErr, IfOk}
+use Rattle.std.proofs.Common.{refl, sym, ap, subst, ◌∙◌, inl, inr}
+use Rattle.std.specs.declared.alloc.AllocError.{AllocError}
+use Rattle.dp_io.specs.Faults.{Rose}
+use Rattle.dp_keeper.specs.declared.row.Row.{Row}
+use Rattle.dp_keeper.specs.declared.keeper.KeepError.{KeepError}
+use Rattle.dp_keeper.specs.declared.keeper.KeepError.TheVariants.{Failed, Memory}
+use Rattle.dp_keeper.specs.Keeping.{with_row, Puts, Counts}
+use Rattle.dp_session.specs.declared.event.Event.{Event}
+use Rattle.dp_session.specs.declared.event.Reply.{Reply}
+use Rattle.dp_session.specs.declared.event.Reply.TheVariants.{Ended, StoreFault}
+use Rattle.dp_session.specs.declared.event.ShutAt.{ShutAt}
+use Rattle.dp_session.specs.declared.plan.Ready.{Ready}
+use Rattle.dp_session.specs.declared.tables.Tables.{Tables}
+use Rattle.dp_session.specs.State.{acted}
+use Rattle.dp_session.specs.Rows.{row_of, has_room}
+use Rattle.dp_session.specs.Past.{Past, state_after, shut_with, kept, refused, quieted, answer_to, row_behind, Accepts, Breaks, Refuses, Serves}
+use Rattle.dp_session.specs.Tables.{quiet_of, flagged_by, AreTables, IsSame}
+use Rattle.dp_session.specs.Plans.{IsPlan}
+use Rattle.dp_session.specs.Puts.{past_of, IsReady, IsOut, IsUndone, IsPut}
+use Rattle.dp_session.proofs.QuietLemmas.{past-quieted}
+
+-- pasts are the same by their parts
+past-eq : (j k : List Event) (s t : List ShutAt) (q r : List ℕ) (broke : Option ℕ) (told : Option (List Row)) (count : ℕ)
+    → j ≡ k → s ≡ t → q ≡ r
+    → ◌≡◌ {A = Past} (record { journal = j; shut = s; quiet = q; broke = broke; told = told; count = count })
+    (record { journal = k; shut = t; quiet = r; broke = broke; told = told; count = count })
+past-eq j k s t q r broke told count ej es eq =
+    ap (λ x. record { journal = x; shut = s; quiet = q; broke = broke; told = told; count = count }) ej
+    ∙ ap (λ x. record { journal = k; shut = x; quiet = q; broke = broke; told = told; count = count }) es
+    ∙ ap (λ x. record { journal = k; shut = t; quiet = x; broke = broke; told = told; count = count }) eq
+
+-- the past after an event that was refused for want of memory
+pub quieted-is : (old new : Tables) (e : Event) (broke : Option ℕ) (told : Option (List Row)) (count : ℕ) → AreTables old
+    → new.journal.items ≡ old.journal.items → new.shut.items ≡ old.shut.items
+    → new.quiet.items ≡ flagged_by e old.quiet.items
+    → past_of new broke told count ≡ quieted (past_of old broke told count) e
+quieted-is old new e broke told count are ej es eq =
+    past-eq new.journal.items old.journal.items new.shut.items old.shut.items (quiet_of new.quiet.items)
+    (quiet_of (flagged_by e old.quiet.items)) broke told count ej es (ap quiet_of eq)
+    ∙ sym (past-quieted (past_of old broke told count) e old.quiet.items refl (are.flags ∙ ap length are.of.table))
+
+-- nothing was done
+pub undone-is : (old new : Tables) (broke : Option ℕ) (told : Option (List Row)) (count : ℕ) → IsUndone old new
+    → past_of new broke told count ≡ past_of old broke told count
+undone-is old new broke told count undone =
+    past-eq new.journal.items old.journal.items new.shut.items old.shut.items (quiet_of new.quiet.items)
+    (quiet_of old.quiet.items) broke told count undone.journal undone.shut undone.quiet
+
+-- the past after an event that was left out
+pub out-is : (old new : Tables) (e : Event) (broke : Option ℕ) (told : Option (List Row)) (count : ℕ) → IsOut old e new
+    → past_of new broke told count ≡ refused (past_of old broke told count) e
+out-is old new e broke told count out =
+    past-eq new.journal.items old.journal.items new.shut.items (refused (past_of old broke told count) e).shut
+    (quiet_of new.quiet.items) (quiet_of old.quiet.items) broke told count out.journal out.shut out.quiet
+
+-- an event that was kept
+pub serves-kept : (old new : Tables) (e : Event) (reply : Reply) (told later : Option (List Row)) (count now : ℕ) (row : Row)
+    → has_room old.journal.items e ≡ true → IsPut old e (Ok reply) new → later ≡ with_row row told
+    → row ≡ record { n = length old.journal.items; bytes = row_of e } → now ≡ count
+    → Serves None (past_of old None told count) e reply (past_of new None later now)
+serves-kept old new e reply told later count now row room put rows row_is counts =
+    let P = past_of old None told count in
+    subst (λ b. MatchBool b (Accepts P e reply (past_of new None later now) ⊎ Breaks P e reply (past_of new None later now)) (Refuses P e Ended reply (past_of new None later now)))
+    (sym room)
+    (inl (record {
+      reply = put.1;
+      after = past-eq new.journal.items (kept P e).journal new.shut.items old.shut.items (quiet_of new.quiet.items)
+          (quiet_of old.quiet.items) None later now put.0.journal put.0.shut put.0.quiet
+          ∙ ap (λ t. record (kept P e) { told = t; count = now }) (rows ∙ ap (λ r. with_row r told) row_is)
+          ∙ ap (λ n. record (kept P e) { count = n }) counts;
+    }))
+
+-- the first fault
+pub serves-failed : (old new : Tables) (e : Event) (told later : Option (List Row)) (count now : ℕ) (row : Row)
+    → has_room old.journal.items e ≡ true → IsOut old e new → (later ≡ told) ⊎ (later ≡ with_row row told)
+    → row ≡ record { n = length old.journal.items; bytes = row_of e } → Rose count now
+    → Serves None (past_of old None told count) e (StoreFault now) (past_of new (Some now) later now)
+serves-failed old new e told later count now row room out rows row_is rose =
+    let P = past_of old None told count in
+    let N = past_of new (Some now) later now in
+    subst (λ b. MatchBool b (Accepts P e (StoreFault now) N ⊎ Breaks P e (StoreFault now) N) (Refuses P e Ended (StoreFault now) N))
+    (sym room)
+    (inr (record {
+      count = now;
+      told = later;
+      rose = rose;
+      rows = subst (λ r. (later ≡ told) ⊎ (later ≡ with_row r told)) row_is rows;
+      reply = refl;
+      after = past-eq new.journal.items old.journal.items new.shut.items (refused P e).shut
+          (quiet_of new.quiet.items) (quiet_of old.quiet.items) (Some now) later now out.journal out.shut out.quiet;
+    }))
+
+-- the session has ended
+pub serves-ended : (past new : Past) (e : Event) (given : Reply) → has_room past.journal e ≡ false → past.broke ≡ None
+    → Refuses past e Ended given new → Serves past.broke past e given new
+serves-ended past new e given room broke refuses =
+    subst (λ b. Serves b past e given new) (sym broke)
+    (subst (λ b. MatchBool b (Accepts past e given new ⊎ Breaks past e given new) (Refuses past e Ended given new)) (sym room) refuses)
+
+-- a fault stays
+pub serves-broken : (past new : Past) (e : Event) (given : Reply) (first : ℕ) → past.broke ≡ Some first
+    → Refuses past e (StoreFault first) given new → Serves past.broke past e given new
+serves-broken past new e given first broke refuses =
+    subst (λ b. Serves b past e given new) (sym broke) refuses
+
+-- ---- tables in between, of which only the memory differs
+
+-- nothing was done
+pub same-undone : (old new : Tables) → IsSame old new → IsUndone old new
+same-undone old new same = record { journal = same.journal; shut = same.shut; quiet = ap quiet_of same.quiet }
+
+-- an event was left out
+pub same-out : (old mid new : Tables) (e : Event) → IsSame old mid → IsOut mid e new → IsOut old e new
+same-out old mid new e same out = record {
+  journal = out.journal ∙ same.journal;
+  shut = out.shut ∙ ap (λ n. shut_with n mid.shut.items e) (ap length same.journal)
+      ∙ ap (λ s. shut_with (length old.journal.items) s e) same.shut;
+  quiet = out.quiet ∙ ap quiet_of same.quiet;
+}
+
+-- what is ready stays so
+pub same-ready : (old mid : Tables) (e : Event) (ready : Ready) → IsSame old mid → IsReady old e ready → IsReady mid e ready
+same-ready old mid e ready same is = record {
+  plan = subst (λ s. IsPlan s e ready.plan)
+      (sym (ap (λ j. state_after j mid.shut.items) same.journal ∙ ap (state_after old.journal.items) same.shut)) is.plan;
+  row = is.row ∙ ap (λ n. record { n = n; bytes = row_of e }) (sym (ap length same.journal));
+  room = ap (λ j. has_room j e) same.journal ∙ is.room;
+}
+
+-- so is what became of a row
+pub same-put : (old mid new : Tables) (e : Event) (r : Result Reply KeepError) → IsSame old mid → IsPut mid e r new
+    → IsPut old e r new
+same-put old mid new e (Ok reply) same put = (
+  record {
+    journal = put.0.journal ∙ ap (λ j. j ++ e ∷ []) same.journal;
+    shut = put.0.shut ∙ same.shut;
+    quiet = put.0.quiet ∙ ap quiet_of same.quiet;
+  },
+  put.1 ∙ ap (λ s. (acted s e).reply) (ap (λ j. state_after j mid.shut.items) same.journal ∙ ap (state_after old.journal.items) same.shut),
+)
+same-put old mid new e (Err Failed) same put = same-out old mid new e same put
+same-put old mid new e (Err Memory) same put = record {
+  journal = put.journal ∙ same.journal;
+  shut = put.shut ∙ same.shut;
+  quiet = put.quiet ∙ ap quiet_of same.quiet;
+}
+
+-- what the store did, as it is answered
+pub puts-follow : {T : Type 0} (a b : Option (List Row)) (row : Row) (o : Result T KeepError) (r : Result Reply KeepError)
+    → MatchResult o (λ done. IsOk r) (λ error. r ≡ Err error) → Puts a row o b → Puts a row r b
+puts-follow a b row (Ok done) (Ok reply) same puts = puts
+puts-follow a b row (Ok done) (Err error) same puts = cc
+puts-follow a b row (Err Failed) r same puts = subst (λ x. Puts a row x b) (sym same) puts
+puts-follow a b row (Err Memory) r same puts = subst (λ x. Puts a row x b) (sym same) puts
+
+-- how it counted
+pub counts-follow : {T : Type 0} (a b : ℕ) (o : Result T KeepError) (r : Result Reply KeepError)
+    → MatchResult o (λ done. IsOk r) (λ error. r ≡ Err error) → Counts a o b → Counts a r b
+counts-follow a b (Ok done) (Ok reply) same counts = counts
+counts-follow a b (Ok done) (Err error) same counts = cc
+counts-follow a b (Err Failed) r same counts = subst (λ x. Counts a x b) (sym same) counts
+counts-follow a b (Err Memory) r same counts = subst (λ x. Counts a x b) (sym same) counts
+
+-- a fact holds of an error, too
+pub on-err : {T E : Type 0} (r : Result T E) (P : Type 0) → P → OnErr r P
+on-err (Ok x) P p = tt
+on-err (Err e) P p = p
+
+-- ---- what is known by the past itself
+
+is-none : {X : Type 0} (o : Option X) → ((x : X) → o ≡ Some x → ⊥) → o ≡ None
+is-none None not = refl
+is-none (Some x) not = absurd (not x refl)
+
+-- a fact for no value
+pub none-of : {X : Type 0} (o : Option X) (A : Type 0) (B : X → Type 0) → ((x : X) → o ≡ Some x → ⊥) → MatchOption o A B → A
+none-of None A B not h = h
+none-of (Some x) A B not h = absurd (not x refl)
+
+-- an event that was kept
+pub past-kept : (P : Past) (old new : Tables) (e : Event) (reply : Reply) (broke : Option ℕ) (told later : Option (List Row))
+    (count now : ℕ) (row : Row) → past_of old broke told count ≡ P → ((x : ℕ) → broke ≡ Some x → ⊥)
+    → has_room old.journal.items e ≡ true → row ≡ record { n = length old.journal.items; bytes = row_of e }
+    → IsPut old e (Ok reply) new → later ≡ with_row row told → now ≡ count
+    → Serves P.broke P e reply (past_of new broke later now)
+past-kept P old new e reply broke told later count now row past not room row_is put rows counts =
+    subst (λ p. Serves p.broke p e reply (past_of new broke later now)) past
+    (subst (λ b. Serves b (past_of old b told count) e reply (past_of new b later now)) (sym (is-none broke not))
+    (serves-kept old new e reply told later count now row room put rows row_is counts))
+
+-- the first fault
+pub past-failed : (P : Past) (old new : Tables) (e : Event) (broke : Option ℕ) (told later : Option (List Row))
+    (count now first : ℕ) (row : Row) → past_of old broke told count ≡ P → ((x : ℕ) → broke ≡ Some x → ⊥)
+    → has_room old.journal.items e ≡ true → row ≡ record { n = length old.journal.items; bytes = row_of e }
+    → IsOut old e new → (later ≡ told) ⊎ (later ≡ with_row row told) → Rose count now → first ≡ now
+    → Serves P.broke P e (StoreFault first) (past_of new (Some first) later now)
+past-failed P old new e broke told later count now first row past not room row_is out rows rose is =
+    subst (λ p. Serves p.broke p e (StoreFault first) (past_of new (Some first) later now)) past
+    (subst (λ n. Serves broke (past_of old broke told count) e (StoreFault n) (past_of new (Some n) later now)) (sym is)
+    (subst (λ b. Serves b (past_of old b told count) e (StoreFault now) (past_of new (Some now) later now)) (sym (is-none broke not))
+    (serves-failed old new e told later count now row room out rows row_is rose)))
+
+-- memory ran out in the store
+pub past-undone : (P : Past) (old new : Tables) (broke : Option ℕ) (told later : Option (List Row)) (count now : ℕ)
+    → past_of old broke told count ≡ P → IsUndone old new → later ≡ told → now ≡ count
+    → past_of new broke later now ≡ P
+past-undone P old new broke told later count now past undone rows counts =
+    ap (λ t. past_of new broke t now) rows ∙ ap (past_of new broke told) counts
+    ∙ undone-is old new broke told count undone ∙ past
+
+-- the session has ended
+pub past-ended : (P new : Past) (old : Tables) (e : Event) (r : Result Reply AllocError) (broke : Option ℕ)
+    (told : Option (List Row)) (count : ℕ) → past_of old broke told count ≡ P → ((x : ℕ) → broke ≡ Some x → ⊥)
+    → has_room old.journal.items e ≡ false → IfOk r (λ given. Refuses P e Ended given new)
+    → IfOk r (λ given. Serves P.broke P e given new)
+past-ended P new old e (Err want) broke told count past not room h = h
+past-ended P new old e (Ok given) broke told count past not room h =
+    serves-ended P new e given (ap (λ p. has_room p.journal e) (sym past) ∙ room)
+    (ap (λ p. p.broke) (sym past) ∙ is-none broke not) h
+
+-- a fault stays
+pub past-broken : (P new : Past) (old : Tables) (e : Event) (r : Result Reply AllocError) (broke : Option ℕ)
+    (told : Option (List Row)) (count first : ℕ) → past_of old broke told count ≡ P → broke ≡ Some first
+    → IfOk r (λ given. Refuses P e (StoreFault first) given new) → IfOk r (λ given. Serves P.broke P e given new)
+past-broken P new old e (Err want) broke told count first past is h = h
+past-broken P new old e (Ok given) broke told count first past is h =
+    serves-broken P new e given first (ap (λ p. p.broke) (sym past) ∙ is) h

@@ -1,0 +1,141 @@
+-- What has come to a session, and where it leads.
+use Rattle.std.specs.Prelude.{◌≡◌, ◌⊎◌, ℕ, ◌+◌, ◌||◌, ◌==◌, if◌then◌else◌, is_some}
+use Rattle.std.specs.Prelude.{Option, None, Some, MatchBool, Result, Ok, Err}
+use Rattle.std.specs.Prelude.{List, [], ◌∷◌, ◌++◌, length, take, drop, map, max}
+use Rattle.std.specs.List.{filter, fold, list_any, range_with_len}
+use Rattle.std.specs.declared.alloc.AllocError.{AllocError}
+use Rattle.dp_messages.specs.declared.message.Entry.{Entry}
+use Rattle.dp_io.specs.Faults.{Rose}
+use Rattle.dp_keeper.specs.declared.row.Row.{Row}
+use Rattle.dp_keeper.specs.Keeping.{with_row}
+use Rattle.dp_session.specs.declared.event.Event.{Event}
+use Rattle.dp_session.specs.declared.event.Event.TheVariants as event
+use Rattle.dp_session.specs.declared.event.Reply.{Reply}
+use Rattle.dp_session.specs.declared.event.Reply.TheVariants.{Ended, StoreFault}
+use Rattle.dp_session.specs.declared.event.ShutAt.{ShutAt}
+use Rattle.dp_session.specs.Rows.{row_of, has_room}
+use Rattle.dp_session.specs.State.{State, first_state, acted, after_event, after_shut, connection_of}
+
+-- What contracts see of a session. A closing that a store fault or the limits refused is in `shut`, with
+-- the number of events before it.
+pub record Past : Type 0 where
+  -- the events that were kept
+  pub journal : List Event
+  -- the closings that were refused, each with how many events were kept before it
+  pub shut : List ShutAt
+  -- the connections whose Close was refused for want of memory, by rising number
+  pub quiet : List ℕ
+  -- how often the keeper had failed when a put of this session failed first
+  pub broke : Option ℕ
+  -- the keeper's rows, where it tells them
+  pub told : Option (List Row)
+  -- how often the keeper has failed
+  pub count : ℕ
+
+-- ---- where it leads
+
+-- an event that was kept, or a connection that was closed by a Close that was refused
+pub data Happening : Type 0 where
+  Came : Event → Happening
+  WasShut : ℕ → Happening
+
+-- the connections that were closed so while n events were kept
+abbrev pub shut_at : ℕ → List ShutAt → List Happening
+shut_at n shut = map (λ s. WasShut s.conn) (filter (λ s. s.n == n) shut)
+
+-- all in one list, from the moment on when n events were kept
+abbrev pub woven : ℕ → List Event → List ShutAt → List Happening
+woven n [] shut = shut_at n shut
+woven n (e ∷ journal) shut = shut_at n shut ++ (Came e ∷ woven (n + 1) journal shut)
+
+-- the state after a happening
+abbrev pub happened : State → Happening → State
+happened s (Came e) = after_event s e
+happened s (WasShut conn) = after_shut s conn
+
+-- the state to which events and closings that were refused lead
+abbrev pub state_after : List Event → List ShutAt → State
+state_after journal shut = fold happened first_state (woven 0 journal shut)
+
+-- the state to which a session's past leads
+abbrev pub state_of : Past → State
+state_of past = state_after past.journal past.shut
+
+-- the event's own answer
+abbrev pub answer_to : Past → Event → Reply
+answer_to past e = (acted (state_of past) e).reply
+
+-- ---- one step
+
+-- the row that is kept of an event
+abbrev pub row_behind : Past → Event → Row
+row_behind past e = record { n = length past.journal; bytes = row_of e }
+
+-- the past after an event that was kept
+abbrev pub kept : Past → Event → Past
+kept past e = record past {
+  journal = past.journal ++ e ∷ [];
+  told = with_row (row_behind past e) past.told;
+}
+
+-- the closings with one more, if the event that was refused is a Close
+abbrev pub shut_with : ℕ → List ShutAt → Event → List ShutAt
+shut_with n shut (event.Open name registered) = shut
+shut_with n shut (event.Say conn m) = shut
+shut_with n shut (event.Close conn) = shut ++ record { conn = conn; n = n } ∷ []
+
+-- the past after an event that a store fault or the limits refused
+abbrev pub refused : Past → Event → Past
+refused past e = record past { shut = shut_with (length past.journal) past.shut e }
+
+-- the quiet connections with one more, if it was given out
+abbrev pub quiet_with : State → ℕ → List ℕ → List ℕ
+quiet_with s conn quiet =
+    if is_some (connection_of s conn)
+    then filter (λ number. number == conn || list_any (λ other. other == number) quiet)
+    (range_with_len 1 (length s.connections))
+    else quiet
+
+-- the past after an event that was refused for want of memory
+abbrev pub quieted : Past → Event → Past
+quieted past (event.Open name registered) = past
+quieted past (event.Say conn m) = past
+quieted past (event.Close conn) =
+    record past { quiet = quiet_with (state_of past) conn past.quiet }
+
+-- the first failed put: the keeper counted it, with the row or without it
+pub record Breaks (old : Past) (e : Event) (answer : Reply) (new : Past) : Type 0 where
+  pub count : ℕ
+  pub told : Option (List Row)
+  pub rose : Rose old.count count
+  pub rows : (told ≡ old.told) ⊎ (told ≡ with_row (row_behind old e) old.told)
+  pub reply : answer ≡ StoreFault count
+  pub after : new ≡ record (refused old e) { broke = Some count; told = told; count = count }
+
+-- the event was kept, and answered by its own answer
+pub record Accepts (old : Past) (e : Event) (answer : Reply) (new : Past) : Type 0 where
+  pub reply : answer ≡ answer_to old e
+  pub after : new ≡ kept old e
+
+-- the event was refused with this answer
+pub record Refuses (old : Past) (e : Event) (refusal answer : Reply) (new : Past) : Type 0 where
+  pub reply : answer ≡ refusal
+  pub after : new ≡ refused old e
+
+-- What may be answered, by whether a put has failed before: then that fault, for ever; else that the
+-- session has ended, exactly where there is no room; else the event's own answer, or the first fault.
+abbrev pub Serves : Option ℕ → Past → Event → Reply → Past → Type 0
+Serves (Some first) old e answer new = Refuses old e (StoreFault first) answer new
+Serves None old e answer new =
+    MatchBool (has_room old.journal e)
+    (Accepts old e answer new ⊎ Breaks old e answer new)
+    (Refuses old e Ended answer new)
+
+-- one step of a session; want of memory keeps nothing, and makes the connection of a Close quiet
+abbrev pub Step : Past → Event → Result Reply AllocError → Past → Type 0
+Step old e (Ok answer) new = Serves old.broke old e answer new
+Step old e (Err want) new = new ≡ quieted old e
+
+-- the step over a keeper that never fails and tells its rows
+abbrev pub sure_step : Past → Event → Past
+sure_step past e = if has_room past.journal e then kept past e else refused past e

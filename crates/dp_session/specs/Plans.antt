@@ -1,0 +1,116 @@
+-- What is ready to be kept of an event, and when it is what the event makes.
+use Rattle.std.specs.Prelude.{◌≡◌, ℕ, ◌-◌, ◌<◌, Bool, true, false, not, ◌&&◌, ◌==◌, if◌then◌else◌}
+use Rattle.std.specs.Prelude.{Option, None, Some, option_to_list, MatchOption}
+use Rattle.std.specs.Prelude.{List, [], ◌∷◌, ◌++◌, length, map, slice_get, slice_set}
+use Rattle.std.specs.List.{find, list_any}
+use Rattle.dp_msg_meta.specs.declared.message.Control.TheVariants.{Ping, Disconnect, Ack, ResetBegin, ResetEnd}
+use Rattle.dp_messages.specs.declared.message.Msg.{Msg}
+use Rattle.dp_messages.specs.declared.message.Msg.TheVariants as msg
+use Rattle.dp_messages.specs.declared.message.Entry.{Entry}
+use Rattle.dp_acl.specs.Permitted.{permitted}
+use Rattle.dp_session.specs.declared.connection.Connection.{Connection}
+use Rattle.dp_session.specs.declared.event.Event.{Event}
+use Rattle.dp_session.specs.declared.event.Event.TheVariants as event
+use Rattle.dp_session.specs.declared.event.Reply.{Reply}
+use Rattle.dp_session.specs.declared.item.Item.{Item}
+use Rattle.dp_session.specs.declared.item.Item.TheVariants as item
+use Rattle.dp_session.specs.declared.plan.Change.{Change}
+use Rattle.dp_session.specs.declared.plan.Change.TheVariants.{Stays, Adds, Becomes}
+use Rattle.dp_session.specs.declared.plan.Placing.{Placing}
+use Rattle.dp_session.specs.declared.plan.Placing.TheVariants.{Said, Own}
+use Rattle.dp_session.specs.declared.plan.Plan.{Plan}
+use Rattle.dp_session.specs.declared.plan.Decision.{Decision}
+use Rattle.dp_session.specs.declared.plan.Decision.TheVariants.{Ignore, Acknowledge, Place, Filter}
+use Rattle.dp_session.specs.State.{State, is_open, acted, user_ids, epoch_of}
+use Rattle.dp_session.specs.Tables.{mark, is_holder}
+
+-- the event
+abbrev pub event_of : Placing → Event
+event_of (Said conn entry) = event.Say conn entry.msg
+event_of (Own e first second) = e
+
+-- the entries that it places
+abbrev pub entries_of : Placing → List Entry
+entries_of (Said conn entry) = entry ∷ []
+entries_of (Own e first second) = option_to_list first ++ option_to_list second
+
+-- the entries as they are kept, where the event is the journal's n-th
+abbrev pub items_of : ℕ → Placing → List Item
+items_of n (Said conn entry) = item.Said n entry.user ∷ []
+items_of n (Own e first second) = map item.Own (option_to_list first ++ option_to_list second)
+
+-- the connections after the change
+abbrev pub changed : Change → List Connection → List Connection
+changed Stays connections = connections
+changed (Adds connection) connections = connections ++ connection ∷ []
+changed (Becomes conn connection) connections = slice_set connections (conn - 1) connection
+
+-- the marks after the change
+abbrev pub marks_after : Change → List Bool → List Bool
+marks_after Stays present = present
+marks_after (Adds connection) present = slice_set present connection.user true
+marks_after (Becomes conn connection) present =
+    if is_open connection then present else slice_set present connection.user false
+
+-- the quiet flags after the change
+abbrev pub quiet_after : Change → List Bool → List Bool
+quiet_after Stays quiet = quiet
+quiet_after (Adds connection) quiet = quiet ++ false ∷ []
+quiet_after (Becomes conn connection) quiet = quiet
+
+-- A connection that is added is open, and its user is not present; one that becomes another was open, and
+-- stays its user's.
+abbrev pub IsChange : List Connection → Change → Type 0
+IsChange connections Stays = Unit {0}
+IsChange connections (Adds connection) =
+    (is_open connection ≡ true) × (list_any (is_holder connection.user) connections ≡ false)
+IsChange connections (Becomes conn connection) =
+    (0 < conn)
+    × MatchOption (slice_get connections (conn - 1)) ⊥
+    (λ old. (is_open old ≡ true) × (old.user ≡ connection.user))
+
+-- the state with the entries placed and the change made
+abbrev pub planned : State → Plan → State
+planned s plan = record s {
+  live = s.live ++ entries_of plan.placing;
+  connections = changed plan.change s.connections;
+}
+
+-- the plan is what the event makes of the state
+pub record IsPlan (s : State) (e : Event) (plan : Plan) : Type 0 where
+  pub event : event_of plan.placing ≡ e
+  pub acted : acted s e ≡ record { state = planned s plan; reply = plan.reply }
+  pub change : IsChange s.connections plan.change
+
+-- the user, who joins, as the first operator, where no one is marked
+abbrev pub first_operator : List Bool → ℕ → Option ℕ
+first_operator present user = if list_any (mark present) user_ids then None else Some user
+
+-- The user who becomes operator when another leaves, where these are marked who stay: the lowest of
+-- them, if the other was operator and none of them is.
+abbrev pub next_operator : (ℕ → Bool) → List Bool → ℕ → Option ℕ
+next_operator is_operator present user =
+    if is_operator user && not (list_any (λ other. mark present other && is_operator other) user_ids)
+    then find (mark present) user_ids
+    else None
+
+-- ---- what is said
+
+-- what becomes of a message by the rights; resets are filtered so far
+abbrev pub said_as : State → Connection → Msg → Decision
+said_as s connection (msg.Control ResetBegin) = Filter
+said_as s connection (msg.Control ResetEnd) = Filter
+said_as s connection (msg.Part command) = Filter
+said_as s connection m = if permitted s.live connection.user m then Place else Filter
+
+-- nothing is heard of a connection that hasn't acknowledged the live epoch
+abbrev pub heard_as : State → Connection → Msg → Decision
+heard_as s connection m = if connection.acknowledged then said_as s connection m else Ignore
+
+-- what becomes of a message of an open connection
+abbrev pub decided : State → Connection → Msg → Decision
+decided s connection (msg.Control (Ping pong)) = Ignore
+decided s connection (msg.Control (Disconnect reason)) = Ignore
+decided s connection (msg.Control (Ack epoch)) =
+    if epoch == epoch_of s && not connection.acknowledged then Acknowledge else Ignore
+decided s connection m = heard_as s connection m

@@ -1,0 +1,289 @@
+-- The state of a session, and what one event makes of it.
+use Rattle.std.specs.Prelude.{ℕ, ◌+◌, ◌-◌, ◌<◌, Bool, true, false, not, ◌&&◌, ◌||◌, ◌==◌, nat_le}
+use Rattle.std.specs.Prelude.{if◌then◌else◌, Option, None, Some, is_some}
+use Rattle.std.specs.Prelude.{List, [], ◌∷◌, ◌++◌, length, slice_get, slice_set, map}
+use Rattle.std.specs.List.{filter, find, list_any, range_with_len}
+use Rattle.std.specs.Option.{option_map_or}
+use Rattle.std.specs.Str.{is_utf8}
+use Rattle.dp_msg_draw.specs.declared.draw.Draw.{Draw}
+use Rattle.dp_msg_meta.specs.declared.message.Control.TheVariants.{Ping, Disconnect, Ack, ResetBegin, ResetEnd}
+use Rattle.dp_msg_meta.specs.declared.message.Meta.{Meta}
+use Rattle.dp_msg_meta.specs.declared.message.Meta.TheVariants.{Join, Leave, Owners, ResetMark, Filtered}
+use Rattle.dp_messages.specs.declared.message.Msg.{Msg}
+use Rattle.dp_messages.specs.declared.message.Msg.TheVariants as msg
+use Rattle.dp_messages.specs.declared.message.Entry.{Entry}
+use Rattle.dp_messages.specs.Messages.{kind_of}
+use Rattle.dp_acl.specs.Rights.{is_operator}
+use Rattle.dp_acl.specs.Permitted.{permitted}
+use Rattle.dp_session.specs.declared.event.Event.{Event}
+use Rattle.dp_session.specs.declared.event.Event.TheVariants as event
+use Rattle.dp_session.specs.declared.event.Reply.{Reply}
+use Rattle.dp_session.specs.declared.event.Reply.TheVariants as reply
+use Rattle.dp_session.specs.declared.connection.Place.{Place}
+use Rattle.dp_session.specs.declared.connection.Ending.{Ending}
+use Rattle.dp_session.specs.declared.connection.Ending.TheVariants as ending
+use Rattle.dp_session.specs.declared.connection.Connection.{Connection}
+
+-- a reset that is being sent: the connection that sends it, and the commands so far
+pub record Stream : Type 0 where
+  pub owner : ℕ
+  pub commands : List Draw
+
+-- The histories of the epochs before, the live history, the connections in the order of their Opened
+-- (the first has number 1), the reset that is being sent, and the answer to each event so far.
+pub record State : Type 0 where
+  pub ended : List (List Entry)
+  pub live : List Entry
+  pub connections : List Connection
+  pub stream : Option Stream
+  pub answers : List Reply
+
+-- an entry of the server's own
+abbrev pub own_entry : Meta → Entry
+own_entry m = record { user = 0; msg = msg.Meta m }
+
+-- a user's entry
+abbrev pub entry_of : ℕ → Msg → Entry
+entry_of user m = record { user = user; msg = m }
+
+-- a session to which nothing has come: epoch 0 has its mark
+abbrev pub first_state : State
+first_state = record {
+  ended = [];
+  live = own_entry (ResetMark 0 0) ∷ [];
+  connections = [];
+  stream = None;
+  answers = [];
+}
+
+-- the number of the live epoch
+abbrev pub epoch_of : State → ℕ
+epoch_of s = length s.ended
+
+-- where the next entry stands
+abbrev pub here : State → Place
+here s = record { epoch = epoch_of s; index = length s.live }
+
+-- the state with these entries behind the live history
+abbrev pub placed : State → List Entry → State
+placed s entries = record s { live = s.live ++ entries }
+
+-- ---- connections and users
+
+-- the connection of a number among these, if it was given out
+abbrev pub connection_in : List Connection → ℕ → Option Connection
+connection_in connections conn = if conn == 0 then None else slice_get connections (conn - 1)
+
+-- the connection of a number, if it was given out
+abbrev pub connection_of : State → ℕ → Option Connection
+connection_of s conn = connection_in s.connections conn
+
+-- a connection that ended so has ended
+abbrev pub is_ended : Ending → Bool
+is_ended ending.Running = false
+is_ended (ending.Left place) = true
+is_ended ending.Shut = true
+
+-- the connection is open
+abbrev pub is_open : Connection → Bool
+is_open connection = not (is_ended connection.ending)
+
+-- the connection, if there is one and it is open
+abbrev pub where_open : Option Connection → Option Connection
+where_open None = None
+where_open (Some connection) = if is_open connection then Some connection else None
+
+-- the connection of a number among these, if it was given out and is open
+abbrev pub open_in : List Connection → ℕ → Option Connection
+open_in connections conn = where_open (connection_in connections conn)
+
+-- the connection of a number, if it was given out and is open
+abbrev pub open_connection : State → ℕ → Option Connection
+open_connection s conn = open_in s.connections conn
+
+-- the least number above this one of a connection among these that is open
+abbrev pub next_open : List Connection → ℕ → Option ℕ
+next_open connections after =
+    find (λ conn. is_some (open_in connections conn))
+    (range_with_len (after + 1) (length connections - after))
+
+-- the state with another connection of the number
+abbrev pub with_connection : State → ℕ → Connection → State
+with_connection s conn connection =
+    record s { connections = slice_set s.connections (conn - 1) connection }
+
+-- the id is held by a connection that is open: the user is present
+abbrev pub is_present : State → ℕ → Bool
+is_present s user =
+    list_any (λ connection. is_open connection && connection.user == user) s.connections
+
+-- all ids of users
+unfoldable pub user_ids : List ℕ
+user_ids = range_with_len 1 254
+
+-- the present users, by rising id
+abbrev pub present_users : State → List ℕ
+present_users s = filter (is_present s) user_ids
+
+-- the lowest id that no one holds
+abbrev pub free_id : State → Option ℕ
+free_id s = find (λ user. not (is_present s user)) user_ids
+
+-- ---- opening
+
+-- a name is 1 to 32 bytes of UTF-8
+abbrev pub is_name : List ℕ → Bool
+is_name name = nat_le 1 (length name) && nat_le (length name) 32 && is_utf8 name
+
+-- the entries that a user who joins makes: the Join, and behind it the first user is operator
+abbrev pub join_entries : State → ℕ → Bool → List ℕ → List Entry
+join_entries s user registered name =
+    let join = entry_of user (msg.Meta (Join registered name)) in
+    join ∷ (if list_any (is_present s) user_ids then [] else own_entry (Owners (user ∷ [])) ∷ [])
+
+-- a new connection of the user, who joins here
+abbrev pub new_connection : State → ℕ → Connection
+new_connection s user =
+    record { user = user; acknowledged = true; joined = here s; ending = ending.Running }
+
+-- the state after the user has joined
+abbrev pub joined : State → ℕ → Bool → List ℕ → State
+joined s user registered name =
+    record (placed s (join_entries s user registered name)) {
+      connections = s.connections ++ new_connection s user ∷ [];
+    }
+
+-- a state, and what is answered
+pub record Acted : Type 0 where
+  pub state : State
+  pub reply : Reply
+
+-- the state stays
+abbrev pub stays : State → Reply → Acted
+stays s answer = record { state = s; reply = answer }
+
+-- a user with the lowest id that no one holds, if there is one, joins
+abbrev pub opened_as : State → Bool → List ℕ → Option ℕ → Acted
+opened_as s registered name None = stays s reply.Full
+opened_as s registered name (Some user) = record {
+  state = joined s user registered name;
+  reply = reply.Opened (length s.connections + 1) user (epoch_of s) (length s.live);
+}
+
+-- an Open
+abbrev pub opened : State → List ℕ → Bool → Acted
+opened s name registered =
+    if is_name name then opened_as s registered name (free_id s) else stays s reply.NameRefused
+
+-- ---- closing
+
+-- the stream, unless the connection owns it
+abbrev pub stream_without : ℕ → Option Stream → Option Stream
+stream_without conn None = None
+stream_without conn (Some stream) = if stream.owner == conn then None else Some stream
+
+-- the connection's user leaves: the Leave is placed, and a reset that it was sending is dropped
+abbrev pub left : State → ℕ → Connection → State
+left s conn connection =
+    record (with_connection (placed s (entry_of connection.user (msg.Meta Leave) ∷ [])) conn
+    (record connection { ending = ending.Left (here s) })) {
+      stream = stream_without conn s.stream;
+    }
+
+-- the user becomes the only operator, if there is one
+abbrev pub next_owner : Option ℕ → List Entry
+next_owner None = []
+next_owner (Some user) = own_entry (Owners (user ∷ [])) ∷ []
+
+-- The entries behind the Leave of a user who was operator or not: where no operator is present any
+-- more, but somebody is, the lowest present id is the next one.
+abbrev pub owners_behind : Bool → State → List Entry
+owners_behind was_operator s =
+    if was_operator && not (list_any (is_operator s.live) (present_users s))
+    then next_owner (find (is_present s) user_ids)
+    else []
+
+-- a Close of an open connection
+abbrev pub closed_by : State → ℕ → Connection → Acted
+closed_by s conn connection =
+    let gone = left s conn connection in
+    record {
+      state = placed gone (owners_behind (is_operator s.live connection.user) gone);
+      reply = reply.Placed (epoch_of s) (length s.live);
+    }
+
+-- a Close
+abbrev pub closed : State → ℕ → Acted
+closed s conn = option_map_or (closed_by s conn) (open_connection s conn) (stays s reply.Ignored)
+
+-- ---- saying
+
+-- the message is placed, with its user
+abbrev pub said : State → ℕ → Msg → Acted
+said s user m = record {
+  state = placed s (entry_of user m ∷ []);
+  reply = reply.Placed (epoch_of s) (length s.live);
+}
+
+-- an entry in place of the message is placed
+abbrev pub filtered : State → ℕ → Msg → Acted
+filtered s user m = record {
+  state = placed s (entry_of user (msg.Meta (Filtered (kind_of m))) ∷ []);
+  reply = reply.Filtered (epoch_of s) (length s.live);
+}
+
+-- a message that is the user's own affair: it is placed where it is permitted
+abbrev pub judged : State → ℕ → Msg → Acted
+judged s user m = if permitted s.live user m then said s user m else filtered s user m
+
+-- an Ack of the epoch counts where the epoch is the live one and the connection hasn't acknowledged it
+abbrev pub acknowledged_by : State → ℕ → Connection → ℕ → Acted
+acknowledged_by s conn connection epoch =
+    if epoch == epoch_of s && not connection.acknowledged
+    then record {
+      state = with_connection s conn (record connection { acknowledged = true });
+      reply = reply.Noted;
+    }
+    else stays s reply.Ignored
+
+-- what a connection says that has acknowledged the live epoch; resets are filtered so far
+abbrev pub said_by : State → Connection → Msg → Acted
+said_by s connection (msg.Control ResetBegin) =
+    filtered s connection.user (msg.Control ResetBegin)
+said_by s connection (msg.Control ResetEnd) = filtered s connection.user (msg.Control ResetEnd)
+said_by s connection (msg.Part command) = filtered s connection.user (msg.Part command)
+said_by s connection m = judged s connection.user m
+
+-- where the connection has acknowledged the live epoch, it says so
+abbrev pub heard : State → Connection → Msg → Acted
+heard s connection m =
+    if connection.acknowledged then said_by s connection m else stays s reply.Ignored
+
+-- a Say of an open connection
+abbrev pub says_by : State → ℕ → Msg → Connection → Acted
+says_by s conn (msg.Control (Ping pong)) connection = stays s reply.Ignored
+says_by s conn (msg.Control (Disconnect reason)) connection = stays s reply.Ignored
+says_by s conn (msg.Control (Ack epoch)) connection = acknowledged_by s conn connection epoch
+says_by s conn m connection = heard s connection m
+
+-- a Say
+abbrev pub says : State → ℕ → Msg → Acted
+says s conn m = option_map_or (says_by s conn m) (open_connection s conn) (stays s reply.Ignored)
+
+-- ---- all events
+
+-- what an event makes of the state, and its answer
+abbrev pub acted : State → Event → Acted
+acted s (event.Open name registered) = opened s name registered
+acted s (event.Say conn m) = says s conn m
+acted s (event.Close conn) = closed s conn
+
+-- the state after an event that is journalled, with its answer
+abbrev pub after_event : State → Event → State
+after_event s e = let a = acted s e in record a.state { answers = s.answers ++ a.reply ∷ [] }
+
+-- the state after a connection was closed without a Leave
+abbrev pub after_shut : State → ℕ → State
+after_shut s conn =
+    option_map_or (λ connection. with_connection s conn (record connection { ending = ending.Shut }))
+    (open_connection s conn) s

@@ -1,0 +1,25 @@
+//! The session: events into one history, with their journal.
+//!
+//! The rule: docs/protocol.md, "The session".
+#![tactic(auto)]
+
+mod connection;
+mod event;
+mod item;
+mod keeping;
+mod laws;
+mod plan;
+mod planning;
+mod presence;
+mod pulling;
+mod row;
+mod session;
+mod tables;
+
+pub use connection::{Connection, Ending, Place};
+pub use event::{Answer, Entries, Event, Journal, Query, Reply, Shut, ShutAt};
+pub use laws::{faults_for_good, histories_grow, one_answer_each};
+pub use session::Session;
+
+#[cfg(test)]
+mod tests;

@@ -1,0 +1,186 @@
+//! A session over any store of rows.
+
+ghost use Rattle.std.specs.Prelude.{◌≡◌, [], None, IfOk, OnErr};
+ghost use Rattle.dp_keeper.specs.Keeping.{Puts, Counts};
+ghost use Rattle.dp_session.specs.Past.{Refuses, Serves, Step, state_of};
+ghost use Rattle.dp_session.specs.Tables.{AreTables};
+ghost use Rattle.dp_session.specs.Puts.{IsReady, IsPut};
+ghost use Rattle.dp_session.specs.Pulling.{answered};
+ghost use Rattle.dp_session.specs.State.{next_open};
+
+use crate::event::{Answer, Event, Journal, Query, Reply, Shut};
+use crate::plan::Ready;
+use crate::tables::{Tables, next_open};
+use dp_hall::Machine;
+use dp_keeper::{KeepError, Keeper};
+use std::alloc::{AllocError, Global};
+use std::marker::Model;
+
+/// A session: users with their connections, one history, and the journal of the events that made it, each
+/// of which is a row of the store. Contracts see it as its past.
+///
+/// The rule: docs/protocol.md, "The session".
+#[derive(Drop)]
+pub struct Session<K: Keeper> {
+    keeper: K,
+    tables: Tables,
+    broke: Option<u64>,
+}
+
+impl<K: Keeper> Model for Session<K> {
+    ghost use Rattle.dp_session.specs.Past.{Past};
+    ghost use Rattle.dp_session.specs.Tables.{AreTables};
+    ghost use Rattle.dp_session.specs.Puts.{past_of};
+
+    ghost Value = { Past };
+
+    ghost view = { λ s. past_of s.tables s.broke (K.held s.keeper) (K.faults s.keeper) };
+
+    ghost invariant = { λ s. AreTables s.tables };
+}
+
+/// Keeps an event that is ready, if its row is put. If the store fails, the event is left out, and if memory
+/// runs out, nothing is done.
+fn put<K: Keeper>(
+    keeper: &mut K,
+    tables: &mut Tables,
+    event: &Event,
+    ready: Ready,
+) -> Result<Reply, KeepError>
+    requires tables { AreTables tables.old }
+    requires ready { IsReady tables.old event.now ready }
+    ensures rows { Puts (K.held keeper.old) ready.row result (K.held keeper.new) }
+    ensures count { Counts (K.faults keeper.old) result (K.faults keeper.new) }
+    ensures tables { AreTables tables.new }
+    ensures outcome { IsPut tables.old event.now result tables.new }
+{
+    let Ok(()) = tables.make_room() else {
+        drop(ready);
+        return Err(KeepError::Memory);
+    };
+    let outcome = keeper.put(&ready.row);
+    tables.finish(event, ready, outcome)
+}
+
+impl<K: Keeper + Drop> Session<K> {
+    /// A session to which nothing has come, over a store without rows.
+    ///
+    /// # Errors
+    ///
+    /// Where memory runs out.
+    ///
+    /// The rule: docs/protocol.md, "The session".
+    pub fn new(alloc: Global, keeper: K) -> Result<Session<K>, AllocError>
+        ensures { IfOk result (λ session. session ≡ record {
+          journal = [];
+          shut = [];
+          quiet = [];
+          broke = None;
+          told = K.held keeper;
+          count = K.faults keeper;
+        }) }
+    {
+        let tables = Tables::new(alloc)?;
+        Ok(Session {
+            keeper,
+            tables,
+            broke: None,
+        })
+    }
+}
+
+impl<K: Keeper> Session<K> {
+    /// The least number above this one of a connection that is open. It takes no memory.
+    ///
+    /// The rule: docs/protocol.md, "The session".
+    pub fn conns(&self, after: u32) -> Option<u32>
+        ensures { result ≡ next_open (state_of self.now).connections after }
+    {
+        next_open(&self.tables.connections, after)
+    }
+
+    /// The store, the events that were kept, and the closings that were refused.
+    pub fn into_parts(self) -> (K, Journal, Shut)
+        ensures told { K.held result.0 ≡ self.told }
+        ensures count { K.faults result.0 ≡ self.count }
+        ensures journal { result.1 ≡ self.journal }
+        ensures shut { result.2 ≡ self.shut }
+    {
+        let Session {
+            keeper,
+            tables,
+            broke: _,
+        } = self;
+        let (journal, shut) = tables.into_parts();
+        (keeper, Journal::from_vec(journal), Shut::from_vec(shut))
+    }
+
+    /// Refuses an event with this answer, if there is memory.
+    fn refuse(&mut self, event: &Event, answer: Reply) -> Result<Reply, AllocError>
+        ensures refused { IfOk result (λ given.
+            Refuses self.old event.now answer given self.new) }
+        ensures err { OnErr result (self.new ≡ self.old) }
+    {
+        self.tables.make_room()?;
+        self.tables.leave_out(event);
+        Ok(answer)
+    }
+
+    /// Serves an event, if there is memory.
+    fn serve(&mut self, event: &Event) -> Result<Reply, AllocError>
+        ensures served { IfOk result (λ answer.
+            Serves self.old.broke self.old event.now answer self.new) }
+        ensures err { OnErr result (self.new ≡ self.old) }
+    {
+        if let Some(count) = self.broke {
+            return self.refuse(event, Reply::StoreFault { count });
+        }
+        let Some(ready) = self.tables.prepare(event)? else {
+            return self.refuse(event, Reply::Ended);
+        };
+        match put(&mut self.keeper, &mut self.tables, event, ready) {
+            Ok(reply) => Ok(reply),
+            Err(KeepError::Memory) => Err(AllocError),
+            Err(KeepError::Failed) => {
+                let count = self.keeper.count();
+                self.broke = Some(count);
+                Ok(Reply::StoreFault { count })
+            }
+        }
+    }
+}
+
+impl<K: Keeper> Machine for Session<K> {
+    type Event = Event;
+
+    type Reply = Reply;
+
+    type Query = Query;
+
+    type Answer = Answer;
+
+    ghost may_step = { Step };
+
+    ghost answer = { answered };
+
+    #[tactic(none)]
+    fn step(&mut self, event: &Event) -> Result<Reply, AllocError> {
+        match self.serve(event) {
+            Ok(reply) => Ok(reply),
+            Err(error) => {
+                self.tables.quieten(event);
+                Err(error)
+            }
+        }
+    }
+
+    fn ask(&self, query: &Query) -> Result<Answer, AllocError> {
+        let Query::Pull {
+            conn,
+            epoch,
+            at,
+            max,
+        } = *query;
+        self.tables.pull(conn, epoch, at, max)
+    }
+}

@@ -1,0 +1,143 @@
+//! Sessions, with what they answer, worked out from the rule by hand.
+
+use super::*;
+use dp_frame::Octets;
+use dp_hall::Machine;
+use dp_keeper::{Keeper, MemKeeper, Rows, SureKeeper};
+use dp_messages::Msg;
+use dp_msg_meta::{Control, Ids, Meta};
+use std::alloc::Global;
+use std::test::Fail;
+
+/// The answer to an Open with this name.
+fn open<K: Keeper>(alloc: Global, session: &mut Session<K>, name: &[u8]) -> Result<Reply, Fail> {
+    let name = Octets::from_vec(Vec::from_slice(alloc, name)?);
+    let registered = false;
+    Ok(session.step(&Event::Open { name, registered })?)
+}
+
+/// The answer to a Say.
+fn say<K: Keeper>(session: &mut Session<K>, conn: u32, msg: Msg) -> Result<Reply, Fail> {
+    Ok(session.step(&Event::Say { conn, msg })?)
+}
+
+/// The answer to a Close.
+fn close<K: Keeper>(session: &mut Session<K>, conn: u32) -> Result<Reply, Fail> {
+    Ok(session.step(&Event::Close { conn })?)
+}
+
+/// How many entries a Pull gives, from where on; `None` for Gone.
+fn pull<K: Keeper>(
+    session: &Session<K>,
+    conn: u32,
+    epoch: u32,
+    at: u32,
+    max: u32,
+) -> Result<Option<(u32, usize)>, Fail> {
+    let query = Query::Pull {
+        conn,
+        epoch,
+        at,
+        max,
+    };
+    Ok(match session.ask(&query)? {
+        Answer::Entries { at, list, .. } => Some((at, list.as_slice().len())),
+        Answer::Gone => None,
+    })
+}
+
+#[test]
+fn each_answer(rt: HostRuntime) -> Result<(), Fail> {
+    let alloc = rt.alloc();
+    let mut session = Session::new(alloc, SureKeeper::new(Rows::new(alloc)))?;
+    for (name, answer) in [
+        (b"".as_slice(), Reply::NameRefused),
+        (b"\xff".as_slice(), Reply::NameRefused),
+        (
+            b"abcdefghijklmnopqrstuvwxyz0123456".as_slice(),
+            Reply::NameRefused,
+        ),
+        (
+            b"abcdefghijklmnopqrstuvwxyz012345".as_slice(),
+            Reply::Opened {
+                conn: 1,
+                user: 1,
+                epoch: 0,
+                at: 1,
+            },
+        ),
+        (
+            b"a".as_slice(),
+            Reply::Opened {
+                conn: 2,
+                user: 2,
+                epoch: 0,
+                at: 3,
+            },
+        ),
+    ] {
+        assert_eq!(rt; open(alloc, &mut session, name)?, answer);
+    }
+    let owners = Msg::Meta(Meta::Owners {
+        ids: Ids::from_vec(Vec::new(alloc)),
+    });
+    let ack = Msg::Control(Control::Ack { epoch: 0 });
+    assert_eq!(rt;
+        say(&mut session, 2, owners)?,
+        Reply::Filtered { epoch: 0, at: 4 }
+    );
+    assert_eq!(rt;
+        say(&mut session, 2, Msg::Point)?,
+        Reply::Placed { epoch: 0, at: 5 }
+    );
+    assert_eq!(rt; say(&mut session, 2, ack)?, Reply::Ignored);
+    assert_eq!(rt; close(&mut session, 1)?, Reply::Placed { epoch: 0, at: 6 });
+    assert_eq!(rt; close(&mut session, 1)?, Reply::Ignored);
+    assert_eq!(rt; session.conns(0), Some(2));
+    assert_eq!(rt; pull(&session, 1, 0, 5, 9)?, Some((5, 2)));
+    assert_eq!(rt; pull(&session, 1, 0, 7, 9)?, None);
+    assert_eq!(rt; pull(&session, 2, 0, 7, 9)?, Some((7, 1)));
+    assert_eq!(rt; pull(&session, 2, 1, 7, 0)?, Some((0, 1)));
+    Ok(())
+}
+
+#[test]
+fn ids_are_given_again(rt: HostRuntime) -> Result<(), Fail> {
+    let alloc = rt.alloc();
+    let mut session = Session::new(alloc, SureKeeper::new(Rows::new(alloc)))?;
+    for _ in 0..254 {
+        open(alloc, &mut session, b"a")?;
+    }
+    assert_eq!(rt; open(alloc, &mut session, b"a")?, Reply::Full);
+    close(&mut session, 7)?;
+    assert_eq!(rt;
+        open(alloc, &mut session, b"a")?,
+        Reply::Opened {
+            conn: 255,
+            user: 7,
+            epoch: 0,
+            at: 257,
+        }
+    );
+    Ok(())
+}
+
+#[test]
+fn faults(rt: HostRuntime) -> Result<(), Fail> {
+    let alloc = rt.alloc();
+    for (kept, rows) in [(false, 1), (true, 2)] {
+        let fails = vec![in alloc; (2, kept)]?;
+        let keeper = MemKeeper::new(Rows::new(alloc), fails, Vec::new(alloc));
+        let mut session = Session::new(alloc, keeper)?;
+        open(alloc, &mut session, b"a")?;
+        let fault = Reply::StoreFault { count: 1 };
+        assert_eq!(rt; say(&mut session, 1, Msg::Point)?, fault);
+        assert_eq!(rt; close(&mut session, 1)?, fault);
+        assert_eq!(rt; session.conns(0), None);
+        let (keeper, journal, shut) = session.into_parts();
+        assert_eq!(rt; keeper.held().as_slice().len(), rows);
+        assert_eq!(rt; journal.as_slice().len(), 1);
+        assert_eq!(rt; shut.as_slice(), [ShutAt { conn: 1, n: 1 }].as_slice());
+    }
+    Ok(())
+}
