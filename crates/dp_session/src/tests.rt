@@ -7,6 +7,7 @@ use dp_keeper::{Keeper, MemKeeper, Rows, SureKeeper};
 use dp_messages::Msg;
 use dp_msg_meta::{Control, Ids, Meta};
 use std::alloc::Global;
+use std::process::Abort;
 use std::test::Fail;
 
 /// The answer to an Open with this name.
@@ -119,6 +120,47 @@ fn ids_are_given_again(rt: HostRuntime) -> Result<(), Fail> {
             at: 257,
         }
     );
+    Ok(())
+}
+
+/// The answer to the event of a number: two users join, say something and leave.
+fn act<K: Keeper>(alloc: Global, session: &mut Session<K>, number: usize) -> Result<Reply, Fail> {
+    match number {
+        1 | 2 | 7 => open(alloc, session, b"a"),
+        3 | 8 => say(session, 1, Msg::Point),
+        4 | 5 | 9 => say(session, 2, Msg::Point),
+        6 => close(session, 1),
+        _ => close(session, 2),
+    }
+}
+
+/// Ten events over a store that fails at the put of this number, with the row kept or lost.
+fn fails_at(rt: &impl Abort, alloc: Global, call: usize, kept: bool) -> Result<(), Fail> {
+    let fails = vec![in alloc; (call as u64, kept)]?;
+    let keeper = MemKeeper::new(Rows::new(alloc), fails, Vec::new(alloc));
+    let mut session = Session::new(alloc, keeper)?;
+    let fault = Reply::StoreFault { count: 1 };
+    for number in 1..11 {
+        let answer = act(alloc, &mut session, number)?;
+        assert_eq!(rt; answer == fault, number >= call, "{number} of {call}");
+    }
+    let (keeper, journal, shut) = session.into_parts();
+    assert_eq!(rt;
+        keeper.held().as_slice().len() + 1,
+        if kept { call + 1 } else { call }
+    );
+    assert_eq!(rt; journal.as_slice().len() + 1, call);
+    let closings = if call <= 6 { 2 } else { 1 };
+    assert_eq!(rt; shut.as_slice().len(), closings);
+    Ok(())
+}
+
+#[test]
+fn a_store_that_fails_at_each_put(rt: HostRuntime) -> Result<(), Fail> {
+    for call in 1..11 {
+        fails_at(&rt, rt.alloc(), call, false)?;
+        fails_at(&rt, rt.alloc(), call, true)?;
+    }
     Ok(())
 }
 
