@@ -145,11 +145,10 @@ fn fails_at(rt: &impl Abort, alloc: Global, call: usize, kept: bool) -> Result<(
         assert_eq!(rt; answer == fault, number >= call, "{number} of {call}");
     }
     let (keeper, journal, shut) = session.into_parts();
-    assert_eq!(rt;
-        keeper.held().as_slice().len() + 1,
-        if kept { call + 1 } else { call }
-    );
-    assert_eq!(rt; journal.as_slice().len() + 1, call);
+    let before = call.wrapping_sub(1);
+    let rows = if kept { call } else { before };
+    assert_eq!(rt; keeper.held().as_slice().len(), rows);
+    assert_eq!(rt; journal.as_slice().len(), before);
     let closings = if call <= 6 { 2 } else { 1 };
     assert_eq!(rt; shut.as_slice().len(), closings);
     Ok(())
