@@ -12,6 +12,3 @@ pub use laws::{
 };
 pub use row::LayerRow;
 pub use tree::Tree;
-
-#[cfg(test)]
-mod tests;

@@ -20,6 +20,3 @@ pub use laws::{one_draw, same_draw_is_equality};
 pub use lists::{Colors, Dab, Dabs, TilePixel, TilePixels, Title};
 pub use reading::read_draw;
 pub use writing::write_draw;
-
-#[cfg(test)]
-mod tests;

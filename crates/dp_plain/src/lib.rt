@@ -19,6 +19,3 @@ pub use layered::LayeredBoard;
 pub use plain::{PlainBoard, PlainPixels};
 pub use replay::{act_of, is_command, plain_replay, replay_on, show_on};
 pub use view::BoardView;
-
-#[cfg(test)]
-mod tests;

@@ -4,13 +4,13 @@ ghost use Rattle.std.specs.Prelude.{◌≡◌, ◌<◌, IsTrue};
 ghost use Rattle.dp_layers.specs.Layers.{is_paint_row};
 ghost use Rattle.dp_layers.specs.Rows.{layers_of};
 
-use crate::{BoardView, PlainBoard, act_of, is_command, plain_replay};
 use dp_blend::{Pixel, of_argb};
 use dp_board::{Act, Board};
 use dp_layers::rows_by_id;
 use dp_messages::{Entry, Msg};
 use dp_msg_draw::{Colors, Dab, Dabs, Draw, TileContent, TilePixel, Title};
 use dp_msg_meta::Meta;
+use dp_plain::{BoardView, PlainBoard, act_of, is_command, plain_replay};
 use dp_steps::Steps;
 use std::alloc::{AllocError, Global};
 use std::marker::Brand;

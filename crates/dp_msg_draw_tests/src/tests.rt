@@ -1,4 +1,7 @@
-use super::*;
+use dp_msg_draw::{
+    Colors, Dab, Dabs, Draw, PayloadError, TileContent, TilePixel, Title, is_listed, kind_of_draw,
+    read_draw, same_draw, write_draw,
+};
 use std::alloc::Global;
 use std::process::Abort;
 use std::test::*;

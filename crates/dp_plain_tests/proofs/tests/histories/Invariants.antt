@@ -1,4 +1,4 @@
-use Rattle.dp_plain.proofs.tests.histories.Given as goal
+use Rattle.dp_plain_tests.proofs.tests.histories.Given as goal
 
 abbrev pub ghosts-check_histories-D-Ledger : goal.ghosts-check_histories-D-Ledger
 ghosts-check_histories-D-Ledger g a = record { name = a.draws.name; parts = a.draws.parts }

@@ -1,6 +1,6 @@
 //! The tree against lists that are worked out from the rule by hand.
 
-use crate::{LayerRow, Tree};
+use dp_layers::{LayerRow, Tree};
 use dp_msg_draw::{Draw, Title};
 use std::alloc::Global;
 use std::process::Abort;

@@ -1,4 +1,4 @@
-use Rattle.dp_plain.proofs.tests.commands.Given as goal
+use Rattle.dp_plain_tests.proofs.tests.commands.Given as goal
 
 abbrev pub ghosts-check_commands-D-Ledger : goal.ghosts-check_commands-D-Ledger
 ghosts-check_commands-D-Ledger g a = record { name = a.draws.name; parts = a.draws.parts }
