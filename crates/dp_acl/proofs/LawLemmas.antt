@@ -17,13 +17,13 @@ use Rattle.dp_messages.specs.declared.message.Msg.{Msg}
 use Rattle.dp_messages.specs.declared.message.Msg.TheVariants as msg
 use Rattle.dp_messages.specs.declared.message.Entry.{Entry}
 use Rattle.dp_acl.specs.Looking as said
-use Rattle.dp_acl.specs.Looking.{numbers_below, lists, is_join_of, has_joined, LayerRule, layer_rule}
+use Rattle.dp_acl.specs.Looking.{numbers_below, lists, is_join_of, has_joined, owners, LayerRule, layer_rule}
 use Rattle.dp_acl.specs.Rights.{is_listed, is_operator, is_trusted, is_registered, are_all_locked}
 use Rattle.dp_acl.specs.Rights.{is_lock_listed}
 use Rattle.dp_acl.specs.Rights.{is_locked, tier_of, tiers_of, has_feature, rule_of, is_open_to, lets_paint}
 use Rattle.dp_acl.specs.Rights.{may_paint, may_edit_layer, creator_of}
 use Rattle.dp_acl.specs.Permitted.{permits_control, permits_meta, permits_draw, permitted}
-use Rattle.dp_acl.specs.Laws.{filtered, ForbiddenChangesNoRight, SpelledIdsAreInOrder}
+use Rattle.dp_acl.specs.Laws.{filtered, ForbiddenChangesNoRight, OperatorsStay, SpelledIdsAreInOrder}
 use Rattle.dp_acl.proofs.ListLemmas.{filter-same, filter-none, All-range}
 use Rattle.dp_acl.proofs.PushLemmas.{joined-push, listed_behind, listed-push, registered-push}
 use Rattle.dp_acl.proofs.PushLemmas.{all_locked-push}
@@ -272,3 +272,11 @@ forbidden_changes_nothing before after sender kind user m =
     ap (λ es. permitted es user m) (sym (append_assoc before (filtered sender kind ∷ []) after))
     ∙ permitted-same (before ++ filtered sender kind ∷ [] ++ after) (before ++ after)
     (same-append after (before ++ filtered sender kind ∷ []) before (same-filtered before sender kind)) user m
+
+-- ---- operators
+
+pub operators-stay : OperatorsStay
+operators-stay history e user none other =
+    listed-push owners user history e
+    ∙ ap (λ b. listed_behind b (has_joined history user) (owners e.msg) (is_operator history user) user) other
+    ∙ ap (λ o. listed_behind false (has_joined history user) o (is_operator history user) user) none

@@ -1,10 +1,12 @@
 -- Laws of rights.
-use Rattle.std.specs.Prelude.{◌≡◌, ℕ, List, ◌∷◌, ◌++◌}
+use Rattle.std.specs.Prelude.{◌≡◌, ℕ, Bool, false, Option, None, List, [], ◌∷◌, ◌++◌}
 use Rattle.dp_msg_meta.specs.Fields.{RiseFrom}
 use Rattle.dp_msg_meta.specs.declared.message.Meta.TheVariants.{Filtered}
 use Rattle.dp_messages.specs.declared.message.Msg.{Msg}
 use Rattle.dp_messages.specs.declared.message.Msg.TheVariants as msg
 use Rattle.dp_messages.specs.declared.message.Entry.{Entry}
+use Rattle.dp_acl.specs.Looking.{is_join_of, owners}
+use Rattle.dp_acl.specs.Rights.{is_operator}
 use Rattle.dp_acl.specs.Permitted.{permitted}
 use Rattle.dp_acl.specs.Carrying.{in_order}
 
@@ -21,3 +23,10 @@ ForbiddenChangesNoRight =
 -- ids that rise, as a message spells them, stand in order
 abbrev pub SpelledIdsAreInOrder : Type 0
 SpelledIdsAreInOrder = (low : ℕ) (ids : List ℕ) → RiseFrom low ids → in_order ids ≡ ids
+
+-- an entry that names no operators and is no Join of the user leaves whether the user is one
+abbrev pub OperatorsStay : Type 0
+OperatorsStay =
+    (history : List Entry) (e : Entry) (user : ℕ)
+    → owners e.msg ≡ None → is_join_of user e ≡ false
+    → is_operator (history ++ e ∷ []) user ≡ is_operator history user

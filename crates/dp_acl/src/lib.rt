@@ -11,8 +11,5 @@ mod permits;
 mod rights;
 mod rules;
 
-pub use laws::{forbidden_changes_no_right, spelled_ids_are_in_order};
+pub use laws::{forbidden_changes_no_right, operators_stay, spelled_ids_are_in_order};
 pub use rights::Rights;
-
-#[cfg(test)]
-mod tests;

@@ -82,6 +82,7 @@ impl Rights {
     /// Where memory runs out.
     pub fn reserve(&mut self, count: usize) -> Result<(), AllocError>
         ensures kept { self.new ≡ record self.old { room = self.new.room } }
+        ensures stands { (history : List Item) → StandsFor self.old history → StandsFor self.new history }
         ensures room { OnOk result (count ≤ self.new.room) }
     {
         self.rules.reserve(count)

@@ -1,11 +1,11 @@
 -- The laws of sessions.
-use Rattle.std.proofs.Common.{◌≡◌, ℕ, suc, ◌+◌, ◌≤◌, ◌==◌, Bool, true, false, if◌then◌else◌, List, [], ◌∷◌, ◌++◌, length}
+use Rattle.std.proofs.Common.{◌≡◌, ℕ, suc, ◌+◌, ◌*◌, ◌≤◌, ◌==◌, ◌&&◌, not, Bool, true, false, if◌then◌else◌, List, [], ◌∷◌, ◌++◌, length}
 use Rattle.std.proofs.Common.{map, fold, All, Option, None, Some, Result, Ok, Err}
 use Rattle.std.proofs.Common.{refl, sym, ap, subst, ◌∙◌, arith, append-nil, append_assoc, length-append}
 use Rattle.std.specs.List.{filter}
 use Rattle.std.specs.Option.{option_map_or}
 use Rattle.std.specs.declared.alloc.AllocError.{AllocError}
-use Rattle.dp_msg_meta.specs.declared.message.Meta.TheVariants.{Leave}
+use Rattle.dp_msg_meta.specs.declared.message.Meta.TheVariants.{Join, Leave, Owners}
 use Rattle.dp_messages.specs.declared.message.Msg.{Msg}
 use Rattle.dp_messages.specs.declared.message.Msg.TheVariants as msg
 use Rattle.dp_messages.specs.declared.message.Entry.{Entry}
@@ -20,13 +20,17 @@ use Rattle.dp_session.specs.declared.event.ShutAt.{ShutAt}
 use Rattle.dp_session.specs.declared.plan.Decision.{Decision}
 use Rattle.dp_session.specs.declared.plan.Decision.TheVariants as decision
 use Rattle.dp_session.specs.State.{State, Acted, first_state, acted, stays, opened_as, free_id, is_name, join_entries}
-use Rattle.dp_session.specs.State.{closed_by, left, owners_behind, entry_of, open_connection, with_connection}
+use Rattle.dp_session.specs.State.{closed_by, left, owners_behind, next_owner, own_entry, entry_of, open_connection, with_connection}
+use Rattle.dp_session.specs.State.{is_present, present_users, user_ids}
 use Rattle.dp_session.specs.State.{says_by, after_shut}
 use Rattle.dp_session.specs.Past.{Past, Happening, Came, WasShut, shut_at, woven, happened, state_after, state_of}
-use Rattle.dp_session.specs.Past.{Serves, Step, refused}
+use Rattle.dp_session.specs.Past.{Serves, Step, refused, kept, shut_with, sure_step}
+use Rattle.dp_session.specs.Rows.{has_room}
+use Rattle.std.specs.List.{list_any, find}
+use Rattle.std.proofs.lemmas.List.Elements.{All-weaker, All-push}
 use Rattle.dp_session.specs.Plans.{decided}
-use Rattle.dp_session.specs.Laws.{Continues, Outcome, IsRun, IsFault, AreFaults}
-use Rattle.dp_session.proofs.Weaving.{state-came}
+use Rattle.dp_session.specs.Laws.{Continues, Outcome, IsRun, IsFault, AreFaults, ShutBefore, shut_by}
+use Rattle.dp_session.proofs.Weaving.{state-came, state-shut}
 use Rattle.dp_session.proofs.PlanLemmas.{acted_by, says-decided}
 
 -- ---- answers
@@ -80,46 +84,76 @@ answered-once past =
 
 -- ---- growing
 
-if-grows : (s : State) (b : Bool) (x y : Acted) → Continues s.live x.state.live → Continues s.live y.state.live
-    → Continues s.live (if b then x else y).state.live
+-- a history is another with at most two entries more
+Grows : List Entry → List Entry → Type 0
+Grows before after = (more : List Entry) × (after ≡ before ++ more) × (length more ≤ 2)
+
+if-grows : (s : State) (b : Bool) (x y : Acted) → Grows s.live x.state.live → Grows s.live y.state.live
+    → Grows s.live (if b then x else y).state.live
 if-grows s true x y hx hy = hx
 if-grows s false x y hx hy = hy
 
 option-grows : (s : State) (f : Connection → Acted) (o : Option Connection) (x : Acted)
-    → ((c : Connection) → Continues s.live (f c).state.live) → Continues s.live x.state.live
-    → Continues s.live (option_map_or f o x).state.live
+    → ((c : Connection) → Grows s.live (f c).state.live) → Grows s.live x.state.live
+    → Grows s.live (option_map_or f o x).state.live
 option-grows s f None x hf hx = hx
 option-grows s f (Some c) x hf hx = hf c
 
-same-grows : (s : State) → Continues s.live s.live
-same-grows s = ([], sym (append-nil s.live))
+same-grows : (s : State) → Grows s.live s.live
+unfolding Grows
+same-grows s = ([], sym (append-nil s.live), omega arith)
+
+joins-few : (b : Bool) (join owners : Entry) → length (join ∷ (if b then [] else owners ∷ [])) ≤ 2
+joins-few true join owners = omega arith
+joins-few false join owners = omega arith
 
 opened-grows : (s : State) (registered : Bool) (name : List ℕ) (o : Option ℕ)
-    → Continues s.live (opened_as s registered name o).state.live
+    → Grows s.live (opened_as s registered name o).state.live
+unfolding Grows
 opened-grows s registered name None = same-grows s
-opened-grows s registered name (Some user) = (join_entries s user registered name, refl)
+opened-grows s registered name (Some user) = (
+  join_entries s user registered name,
+  refl,
+  joins-few (list_any (is_present s) user_ids) (entry_of user (msg.Meta (Join registered name)))
+      (own_entry (Owners (user ∷ []))),
+)
 
-closed-grows : (s : State) (conn : ℕ) (c : Connection) → Continues s.live (closed_by s conn c).state.live
+owner-few : (b : Bool) (o : Option ℕ) → length (if b then next_owner o else []) ≤ 1
+owner-few true None = omega arith
+owner-few true (Some user) = omega arith
+owner-few false o = omega arith
+
+closed-grows : (s : State) (conn : ℕ) (c : Connection) → Grows s.live (closed_by s conn c).state.live
+unfolding Grows
 closed-grows s conn c =
-    let owners = owners_behind (is_operator s.live c.user) (left s conn c) in
-    let leave = entry_of c.user (msg.Meta Leave) in
-    (leave ∷ owners, append_assoc s.live (leave ∷ []) owners)
+    let gone = left s conn c in
+    let owners = owners_behind (is_operator s.live c.user) gone in
+    let leave = entry_of c.user (msg.Meta Leave) in (
+      leave ∷ owners,
+      append_assoc s.live (leave ∷ []) owners,
+      omega (
+        arith,
+        owner-few (is_operator s.live c.user && not (list_any (is_operator gone.live) (present_users gone)))
+            (find (is_present gone) user_ids),
+      ),
+    )
 
 decided-grows : (s : State) (conn : ℕ) (c : Connection) (m : Msg) (d : Decision)
-    → Continues s.live (acted_by s conn c m d).state.live
+    → Grows s.live (acted_by s conn c m d).state.live
+unfolding Grows
 decided-grows s conn c m decision.Ignore = same-grows s
 decided-grows s conn c m decision.Acknowledge = same-grows s
-decided-grows s conn c m decision.Place = (_, refl)
-decided-grows s conn c m decision.Filter = (_, refl)
+decided-grows s conn c m decision.Place = (_, refl, omega arith)
+decided-grows s conn c m decision.Filter = (_, refl, omega arith)
 
 -- an event adds entries behind the live history
-acted-grows : (s : State) (e : Event) → Continues s.live (acted s e).state.live
+acted-grows : (s : State) (e : Event) → Grows s.live (acted s e).state.live
 acted-grows s (event.Open name registered) =
     if-grows s (is_name name) (opened_as s registered name (free_id s)) (stays s reply.NameRefused)
     (opened-grows s registered name (free_id s)) (same-grows s)
 acted-grows s (event.Say conn m) =
     option-grows s (says_by s conn m) (open_connection s conn) (stays s reply.Ignored)
-    (λ c. subst (λ a. Continues s.live a.state.live) (sym (says-decided s conn c m))
+    (λ c. subst (λ a. Grows s.live a.state.live) (sym (says-decided s conn c m))
     (decided-grows s conn c m (decided s c m))) (same-grows s)
 acted-grows s (event.Close conn) =
     option-grows s (closed_by s conn) (open_connection s conn) (stays s reply.Ignored) (closed-grows s conn) (same-grows s)
@@ -127,9 +161,59 @@ acted-grows s (event.Close conn) =
 -- a history goes on behind one more event
 pub history-grows : (journal : List Event) (shut : List ShutAt) (e : Event) → All (λ s. s.n ≤ length journal) shut
     → Continues (state_after journal shut).live (state_after (journal ++ e ∷ []) shut).live
+unfolding Grows
 history-grows journal shut e before =
     subst (λ s. Continues (state_after journal shut).live s.live) (sym (state-came journal shut e before))
-    (acted-grows (state_after journal shut) e)
+    (let g = acted-grows (state_after journal shut) e in (g.0, g.1))
+
+shut-live : (s : State) (conn : ℕ) (o : Option Connection)
+    → (option_map_or (λ c. with_connection s conn (record c { ending = ending.Shut })) o s).live ≡ s.live
+shut-live s conn None = refl
+shut-live s conn (Some c) = refl
+
+live-run : (s : State) (hs : List Happening) → length (fold happened s hs).live ≤ length s.live + 2 * came_in hs
+unfolding came_in Grows
+live-run s [] = omega arith
+live-run s (Came e ∷ more) =
+    let g = acted-grows s e in
+    omega (arith, live-run (happened s (Came e)) more, ap length g.1, length-append s.live g.0, g.2)
+live-run s (WasShut conn ∷ more) =
+    omega (arith, live-run (after_shut s conn) more, ap length (shut-live s conn (open_connection s conn)))
+
+-- at most two entries for each event
+pub short-history : (past : Past) → length (state_of past).live ≤ 2 * length past.journal + 1
+short-history past =
+    omega (arith, live-run first_state (woven 0 past.journal past.shut), came_in-woven 0 past.journal past.shut)
+
+-- ---- one more event
+
+pub refused-leads : (past : Past) (e : Event) → state_of (refused past e) ≡ shut_by (state_of past) e
+refused-leads past (event.Open name registered) = refl
+refused-leads past (event.Say conn m) = refl
+refused-leads past (event.Close conn) = state-shut past.journal past.shut conn
+
+weaker : {m : ℕ} (n : ℕ) (shut : List ShutAt) → All (λ s. s.n ≤ m) shut → m ≤ n → All (λ s. s.n ≤ n) shut
+weaker {m} n shut before le =
+    All-weaker (λ (s : ShutAt). s.n ≤ m) (λ (s : ShutAt). s.n ≤ n) (λ s h. omega (arith, h, le)) shut before
+
+stays-before : (past : Past) (e : Event) (n : ℕ) → ShutBefore past → length past.journal ≤ n
+    → All (λ s. s.n ≤ n) (shut_with (length past.journal) past.shut e)
+stays-before past (event.Open name registered) n before le =
+    weaker n past.shut before le
+stays-before past (event.Say conn m) n before le =
+    weaker n past.shut before le
+stays-before past (event.Close conn) n before le =
+    All-push (λ (s : ShutAt). s.n ≤ n) past.shut (record { conn = conn; n = length past.journal }) (weaker n past.shut before le) le
+
+pub before-step : (past : Past) (e : Event) → ShutBefore past → ShutBefore (sure_step past e)
+before-step past e before =
+    by_room (has_room past.journal e)
+  where
+    by_room : (b : Bool) → ShutBefore (if b then kept past e else refused past e)
+    by_room true =
+        All-weaker (λ (s : ShutAt). s.n ≤ length past.journal) (λ (s : ShutAt). s.n ≤ length (past.journal ++ e ∷ []))
+        (λ s h. omega (arith, h, length-append past.journal (e ∷ []))) past.shut before
+    by_room false = stays-before past e (length past.journal) before (omega arith)
 
 -- ---- faults
 

@@ -20,7 +20,7 @@ use Rattle.dp_acl.specs.Looking.{owners}
 use Rattle.dp_acl.specs.Rights.{is_operator}
 use Rattle.dp_acl.specs.Permitted.{permitted}
 use Rattle.dp_acl.specs.Standing.{Kept, StandsFor}
-use Rattle.dp_acl.proofs.PushLemmas.{listed-push}
+use Rattle.dp_acl.specs.Laws.{OperatorsStay}
 use Rattle.dp_session.specs.declared.connection.Place.{Place}
 use Rattle.dp_session.specs.declared.connection.Ending.TheVariants as ending
 use Rattle.dp_session.specs.declared.connection.Connection.{Connection}
@@ -199,7 +199,7 @@ module _ (s : State) (journal : List Event) (cs : List Connection) (live : List 
   stays_none conn None h = refl
   stays_none conn (Some stream) h = cc
 
-  module _ (conn : ℕ) (c : Connection) (found : open_in cs conn ≡ Some c) where
+  module _ (stay : OperatorsStay) (conn : ℕ) (c : Connection) (found : open_in cs conn ≡ Some c) where
     found_here : open_in s.connections conn ≡ Some c
     found_here = ap (λ cs. open_in cs conn) (sym are.table) ∙ found
 
@@ -215,7 +215,7 @@ module _ (s : State) (journal : List Event) (cs : List Connection) (live : List 
 
     -- who is operator behind the Leave
     left-operator : (user : ℕ) → is_operator (left s conn c).live user ≡ is_operator s.live user
-    left-operator user = listed-push owners user s.live (entry_of c.user (msg.Meta Leave))
+    left-operator user = stay s.live (entry_of c.user (msg.Meta Leave)) user refl refl
 
     -- who becomes operator
     owners-planned : (second : Option Entry)

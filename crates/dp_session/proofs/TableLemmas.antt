@@ -13,7 +13,6 @@ use Rattle.std.proofs.lemmas.Bool.{cases_lt, ltb-true, leb-true}
 use Rattle.dp_msg_meta.specs.declared.message.Meta.TheVariants.{ResetMark}
 use Rattle.dp_messages.specs.declared.message.Entry.{Entry}
 use Rattle.dp_acl.specs.Standing.{Kept, StandsFor}
-use Rattle.dp_acl.proofs.StepLemmas.{stands-room}
 use Rattle.dp_session.specs.declared.connection.Connection.{Connection}
 use Rattle.dp_session.specs.declared.event.Event.{Event}
 use Rattle.dp_session.specs.declared.event.Event.TheVariants as event
@@ -119,14 +118,14 @@ module _ (s : State) (journal : List Event) (cs : List Connection) (live : List 
   live-length = sym (length-map live (entry_in journal)) ∙ ap length are.entries
 
   -- memory that is ready doesn't matter
-  pub AreOf-room : (room : ℕ) → AreOf s journal cs live (record rights { room = room }) present
-  AreOf-room room = record {
+  pub AreOf-room : (after : Kept) → StandsFor after s.live → AreOf s journal cs live after present
+  AreOf-room after stands = record {
     ended = are.ended;
     stream = are.stream;
     table = are.table;
     entries = are.entries;
     said = are.said;
-    stands = stands-room rights room s.live are.stands;
+    stands = stands;
     ids = are.ids;
     marks = are.marks;
     few = are.few;
@@ -253,16 +252,16 @@ tables-first t ej es ec eq el eb stands ep = record {
 }
 
 -- tables that are the same but for memory that is ready
-pub tables-same : (old new : Tables) → IsSame old new → AreTables old → AreTables new
-tables-same old new same are = record {
+pub tables-same : (old new : Tables) → IsSame old new
+    → ((history : List Entry) → StandsFor old.rights history → StandsFor new.rights history)
+    → AreTables old → AreTables new
+tables-same old new same stays are = record {
   of = AreOf-eq (state_in old) (state_in new) old.journal.items new.journal.items old.connections.items
       new.connections.items old.live.items new.live.items new.rights old.present new.present
       (ap (λ j. state_after j new.shut.items) same.journal ∙ ap (state_after old.journal.items) same.shut)
       same.journal same.connections same.live same.present
-      (subst (λ r. AreOf (state_in old) old.journal.items old.connections.items old.live.items r old.present)
-      (sym same.rights)
       (AreOf-room (state_in old) old.journal.items old.connections.items old.live.items old.rights old.present
-      are.of new.rights.room));
+      are.of new.rights (stays (state_in old).live are.of.stands));
   before = subst (λ s. All (λ (x : ShutAt). x.n ≤ length new.journal.items) s) (sym same.shut)
       (subst (λ j. All (λ (x : ShutAt). x.n ≤ length j) old.shut.items) (sym same.journal) are.before);
   bytes = same.bytes ∙ are.bytes ∙ sym (ap row_bytes same.journal);

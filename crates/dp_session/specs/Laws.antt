@@ -1,10 +1,13 @@
 -- What laws of sessions speak of.
-use Rattle.std.specs.Prelude.{◌≡◌, ℕ, List, [], ◌∷◌, ◌++◌, Result, Ok, Err}
+use Rattle.std.specs.Prelude.{◌≡◌, ◌≤◌, ℕ, List, [], ◌∷◌, ◌++◌, length, Result, Ok, Err}
+use Rattle.std.specs.List.{All}
 use Rattle.std.specs.declared.alloc.AllocError.{AllocError}
 use Rattle.dp_messages.specs.declared.message.Entry.{Entry}
 use Rattle.dp_session.specs.declared.event.Event.{Event}
 use Rattle.dp_session.specs.declared.event.Reply.{Reply}
 use Rattle.dp_session.specs.declared.event.Reply.TheVariants.{StoreFault}
+use Rattle.dp_session.specs.declared.event.Event.TheVariants as event
+use Rattle.dp_session.specs.State.{State, after_shut}
 use Rattle.dp_session.specs.Past.{Past, Step}
 
 -- a history is another with more entries behind it
@@ -32,3 +35,13 @@ IsFault first (Err want) = Unit {0}
 abbrev pub AreFaults : ℕ → List Outcome → Type 0
 AreFaults first [] = Unit {0}
 AreFaults first (outcome ∷ log) = IsFault first outcome.answer × AreFaults first log
+
+-- each closing that was refused was so while no more events were kept than now
+abbrev pub ShutBefore : Past → Type 0
+ShutBefore past = All (λ s. s.n ≤ length past.journal) past.shut
+
+-- the state behind an event that the limits refused: a Close closes its connection
+abbrev pub shut_by : State → Event → State
+shut_by s (event.Open name registered) = s
+shut_by s (event.Say conn m) = s
+shut_by s (event.Close conn) = after_shut s conn

@@ -139,3 +139,7 @@ Step old e (Err want) new = new ≡ quieted old e
 -- the step over a keeper that never fails and tells its rows
 abbrev pub sure_step : Past → Event → Past
 sure_step past e = if has_room past.journal e then kept past e else refused past e
+
+-- and its answer
+abbrev pub sure_answer : Past → Event → Reply
+sure_answer past e = if has_room past.journal e then answer_to past e else Ended

@@ -1,10 +1,14 @@
 //! Laws of sessions, each the contract of a function that does nothing.
 
-ghost use Rattle.std.specs.Prelude.{◌≡◌, ◌≤◌, ◌∷◌, ◌++◌, [], ℕ, List, Some, All, length};
+ghost use Rattle.std.specs.Prelude.{◌≡◌, ◌≤◌, ◌+◌, ◌*◌, ◌∷◌, ◌++◌, [], ℕ, List, Some, All, length};
 ghost use Rattle.dp_session.specs.declared.event.Event.{Event as Came};
 ghost use Rattle.dp_session.specs.declared.event.ShutAt.{ShutAt};
-ghost use Rattle.dp_session.specs.Past.{Past, state_after, state_of};
-ghost use Rattle.dp_session.specs.Laws.{Continues, Outcome, IsRun, AreFaults};
+ghost use Rattle.dp_session.specs.Past.{Past, state_after, state_of, kept, refused, sure_step};
+ghost use Rattle.dp_session.specs.State.{after_event};
+ghost use Rattle.dp_session.specs.Laws.{Continues, Outcome, IsRun, AreFaults, ShutBefore, shut_by};
+
+use crate::session::Session;
+use dp_keeper::Keeper;
 
 /// A session has one answer for each event of its journal, whatever was closed between.
 pub fn one_answer_each()
@@ -23,3 +27,25 @@ pub fn faults_for_good()
     ensures { (past : Past) (first : ℕ) (log : List Outcome)
         → past.broke ≡ Some first → IsRun past log → AreFaults first log }
 {}
+
+/// Where one more event leads: one that is kept, and one that the limits refuse.
+pub fn steps_lead_on()
+    ensures kept { (past : Past) (e : Came) → ShutBefore past
+        → state_of (kept past e) ≡ after_event (state_of past) e }
+    ensures refused { (past : Past) (e : Came)
+        → state_of (refused past e) ≡ shut_by (state_of past) e }
+    ensures before { (past : Past) (e : Came) → ShutBefore past → ShutBefore (sure_step past e) }
+{}
+
+/// A history has at most two entries for each event, behind its mark.
+pub fn histories_are_short()
+    ensures { (past : Past) → length (state_of past).live ≤ 2 * length past.journal + 1 }
+{}
+
+/// What is moved to another thread.
+fn crosses<T: Send>() {}
+
+/// A session over a store that may cross threads may cross them.
+pub fn sessions_cross_threads<K: Keeper + Send>() {
+    crosses::<Session<K>>();
+}

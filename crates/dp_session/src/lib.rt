@@ -14,12 +14,13 @@ mod presence;
 mod pulling;
 mod row;
 mod session;
+mod sure;
 mod tables;
 
 pub use connection::{Connection, Ending, Place};
 pub use event::{Answer, Entries, Event, Journal, Query, Reply, Shut, ShutAt};
-pub use laws::{faults_for_good, histories_grow, one_answer_each};
+pub use laws::{
+    faults_for_good, histories_are_short, histories_grow, one_answer_each, sessions_cross_threads,
+    steps_lead_on,
+};
 pub use session::Session;
-
-#[cfg(test)]
-mod tests;

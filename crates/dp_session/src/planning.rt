@@ -13,6 +13,7 @@ use crate::plan::{Change, Decision, Placing, Plan, Ready};
 use crate::presence::{first_operator, free_id, next_operator};
 use crate::row::make_row;
 use crate::tables::{EPOCH, Tables, open_connection};
+use dp_acl::operators_stay;
 use dp_frame::Octets;
 use dp_keeper::{Row, RowBytes};
 use dp_messages::{Entry, Msg};
@@ -131,6 +132,7 @@ impl Tables {
             return Ok(still(event, Reply::Ignored));
         };
         let here = self.here();
+        operators_stay();
         let next = next_operator(&self.rights, &self.present, connection.user);
         let second = owner_entry(self.allocator(), next)?;
         Ok(Plan {

@@ -22,7 +22,7 @@ use std::marker::Model;
 /// The rule: docs/protocol.md, "The session".
 #[derive(Drop)]
 pub struct Session<K: Keeper> {
-    keeper: K,
+    pub(crate) keeper: K,
     tables: Tables,
     broke: Option<u64>,
 }

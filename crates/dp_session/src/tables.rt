@@ -18,7 +18,9 @@ ghost use Rattle.std.specs.Prelude.{
   vec_len,
   IfOk,
   OnOk,
+  List,
 };
+ghost use Rattle.dp_acl.specs.Standing.{StandsFor};
 ghost use Rattle.dp_session.specs.Rows.{event_limit, byte_limit};
 ghost use Rattle.dp_session.specs.State.{connection_in, open_in, next_open, here};
 ghost use Rattle.dp_session.specs.Tables.{state_in, AreTables, HasRoom, IsSame};
@@ -172,6 +174,8 @@ impl Tables {
     /// then, too, but for memory that may be ready.
     pub(crate) fn reserve(&mut self) -> Result<(), AllocError>
         ensures same { IsSame self.old self.new }
+        ensures stands { (history : List Entry) → StandsFor self.old.rights history
+            → StandsFor self.new.rights history }
         ensures room { OnOk result (HasRoom self.new) }
     {
         self.journal.reserve(1)?;

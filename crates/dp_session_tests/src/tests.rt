@@ -1,11 +1,13 @@
 //! Sessions, with what they answer, worked out from the rule by hand.
 
-use super::*;
+ghost use Rattle.std.specs.Prelude.{None};
+
 use dp_frame::Octets;
 use dp_hall::Machine;
-use dp_keeper::{Keeper, MemKeeper, Rows, SureKeeper};
+use dp_keeper::{KeepError, Keeper, MemKeeper, Row, Rows, SureKeeper};
 use dp_messages::Msg;
 use dp_msg_meta::{Control, Ids, Meta};
+use dp_session::{Answer, Event, Query, Reply, Session, ShutAt};
 use std::alloc::Global;
 use std::process::Abort;
 use std::test::Fail;
@@ -180,5 +182,71 @@ fn faults(rt: HostRuntime) -> Result<(), Fail> {
         assert_eq!(rt; journal.as_slice().len(), 1);
         assert_eq!(rt; shut.as_slice(), [ShutAt { conn: 1, n: 1 }].as_slice());
     }
+    Ok(())
+}
+
+/// A store that keeps nothing.
+#[derive(Drop)]
+struct Forgetful {}
+
+impl Keeper for Forgetful {
+    ghost held = { λ k. None };
+
+    ghost faults = { λ k. 0 };
+
+    fn put(&mut self, _row: &Row) -> Result<(), KeepError> {
+        Ok(())
+    }
+
+    fn rows(&mut self, _from: u64, _max: u32) -> Result<Rows, KeepError> {
+        Err(KeepError::Memory)
+    }
+
+    fn count(&self) -> u64 {
+        0
+    }
+}
+
+/// The user says a message of an unlisted kind, with so many bytes.
+fn say_bytes(
+    alloc: Global,
+    session: &mut Session<Forgetful>,
+    length: usize,
+) -> Result<Reply, Fail> {
+    let body = Octets::from_vec(vec![in alloc; 0; length]?);
+    say(session, 1, Msg::Opaque { kind: 64, body })
+}
+
+/// The row of the Open has 3 bytes, each Say has 6 beside its payload, and a Close has 5: of 2^30 bytes
+/// 49159 are left behind 16382 of the greatest payloads.
+#[test]
+fn ends_where_no_room_is_left(rt: HostRuntime) -> Result<(), Fail> {
+    let alloc = rt.alloc();
+    let mut session = Session::new(alloc, Forgetful {})?;
+    open(alloc, &mut session, b"a")?;
+    for k in 0..16382 {
+        let placed = Reply::Placed {
+            epoch: 0,
+            at: k + 3,
+        };
+        assert_eq!(rt; say_bytes(alloc, &mut session, 65535)?, placed);
+    }
+    for (length, answer) in [
+        (65535, Reply::Ended),
+        (49154, Reply::Ended),
+        (
+            49153,
+            Reply::Placed {
+                epoch: 0,
+                at: 16385,
+            },
+        ),
+        (0, Reply::Ended),
+    ] {
+        assert_eq!(rt; say_bytes(alloc, &mut session, length)?, answer);
+    }
+    assert_eq!(rt; session.conns(0), Some(1));
+    assert_eq!(rt; close(&mut session, 1)?, Reply::Ended);
+    assert_eq!(rt; session.conns(0), None);
     Ok(())
 }
