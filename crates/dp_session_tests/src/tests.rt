@@ -8,25 +8,71 @@ use dp_keeper::{KeepError, Keeper, MemKeeper, Row, Rows, SureKeeper};
 use dp_messages::Msg;
 use dp_msg_meta::{Control, Ids, Meta};
 use dp_session::{Answer, Event, Query, Reply, Session, ShutAt};
-use std::alloc::Global;
+use std::alloc::{AllocError, Global};
 use std::process::Abort;
 use std::test::Fail;
 
-/// The answer to an Open with this name.
-fn open<K: Keeper>(alloc: Global, session: &mut Session<K>, name: &[u8]) -> Result<Reply, Fail> {
+/// A user asks to join under this name.
+fn open(alloc: Global, name: &[u8]) -> Result<Event, AllocError> {
     let name = Octets::from_vec(Vec::from_slice(alloc, name)?);
     let registered = false;
-    Ok(session.step(&Event::Open { name, registered })?)
+    Ok(Event::Open { name, registered })
 }
 
-/// The answer to a Say.
-fn say<K: Keeper>(session: &mut Session<K>, conn: u32, msg: Msg) -> Result<Reply, Fail> {
-    Ok(session.step(&Event::Say { conn, msg })?)
+/// The event of a word. A number behind the word is that of the connection.
+fn event(alloc: Global, word: &str) -> Result<Event, AllocError> {
+    match word {
+        "OPEN" => open(alloc, b"a"),
+        "OPEN without a name" => open(alloc, b""),
+        "OPEN as no text" => open(alloc, b"\xff"),
+        "OPEN as 32 bytes" => open(alloc, b"abcdefghijklmnopqrstuvwxyz012345"),
+        "OPEN as 33 bytes" => open(alloc, b"abcdefghijklmnopqrstuvwxyz0123456"),
+        "POINT 1" => Ok(Event::Say {
+            conn: 1,
+            msg: Msg::Point,
+        }),
+        "POINT 2" => Ok(Event::Say {
+            conn: 2,
+            msg: Msg::Point,
+        }),
+        "OWNERS 2" => Ok(Event::Say {
+            conn: 2,
+            msg: Msg::Meta(Meta::Owners {
+                ids: Ids::from_vec(Vec::new(alloc)),
+            }),
+        }),
+        "ACK 2" => Ok(Event::Say {
+            conn: 2,
+            msg: Msg::Control(Control::Ack { epoch: 0 }),
+        }),
+        "CLOSE 2" => Ok(Event::Close { conn: 2 }),
+        "CLOSE 7" => Ok(Event::Close { conn: 7 }),
+        _ => Ok(Event::Close { conn: 1 }),
+    }
 }
 
-/// The answer to a Close.
-fn close<K: Keeper>(session: &mut Session<K>, conn: u32) -> Result<Reply, Fail> {
-    Ok(session.step(&Event::Close { conn })?)
+/// Serves the event of a word, and checks the answer.
+fn serve<K: Keeper>(
+    rt: &impl Abort,
+    alloc: Global,
+    session: &mut Session<K>,
+    word: &str,
+    answer: Reply,
+) -> Result<(), AllocError> {
+    let event = event(alloc, word)?;
+    let given = session.step(&event)?;
+    assert_eq!(rt; given, answer, "{word}");
+    Ok(())
+}
+
+/// An Open that is answered so.
+const fn opened(conn: u32, user: u8, at: u32) -> Reply {
+    Reply::Opened {
+        conn,
+        user,
+        epoch: 0,
+        at,
+    }
 }
 
 /// How many entries a Pull gives, from where on; `None` for Gone.
@@ -36,7 +82,7 @@ fn pull<K: Keeper>(
     epoch: u32,
     at: u32,
     max: u32,
-) -> Result<Option<(u32, usize)>, Fail> {
+) -> Result<Option<(u32, usize)>, AllocError> {
     let query = Query::Pull {
         conn,
         epoch,
@@ -51,136 +97,112 @@ fn pull<K: Keeper>(
 
 #[test]
 fn each_answer(rt: HostRuntime) -> Result<(), Fail> {
-    let alloc = rt.alloc();
-    let mut session = Session::new(alloc, SureKeeper::new(Rows::new(alloc)))?;
-    for (name, answer) in [
-        (b"".as_slice(), Reply::NameRefused),
-        (b"\xff".as_slice(), Reply::NameRefused),
-        (
-            b"abcdefghijklmnopqrstuvwxyz0123456".as_slice(),
-            Reply::NameRefused,
-        ),
-        (
-            b"abcdefghijklmnopqrstuvwxyz012345".as_slice(),
-            Reply::Opened {
-                conn: 1,
-                user: 1,
-                epoch: 0,
-                at: 1,
-            },
-        ),
-        (
-            b"a".as_slice(),
-            Reply::Opened {
-                conn: 2,
-                user: 2,
-                epoch: 0,
-                at: 3,
-            },
-        ),
+    let mut session = Session::new(rt.alloc(), SureKeeper::new(Rows::new(rt.alloc())))?;
+    for (word, answer) in [
+        ("OPEN without a name", Reply::NameRefused),
+        ("OPEN as no text", Reply::NameRefused),
+        ("OPEN as 33 bytes", Reply::NameRefused),
+        ("OPEN as 32 bytes", opened(1, 1, 1)),
+        ("OPEN", opened(2, 2, 3)),
+        ("OWNERS 2", Reply::Filtered { epoch: 0, at: 4 }),
+        ("POINT 2", Reply::Placed { epoch: 0, at: 5 }),
+        ("ACK 2", Reply::Ignored),
+        ("CLOSE 1", Reply::Placed { epoch: 0, at: 6 }),
+        ("CLOSE 1", Reply::Ignored),
     ] {
-        assert_eq!(rt; open(alloc, &mut session, name)?, answer);
+        serve(&rt, rt.alloc(), &mut session, word, answer)?;
     }
-    let owners = Msg::Meta(Meta::Owners {
-        ids: Ids::from_vec(Vec::new(alloc)),
-    });
-    let ack = Msg::Control(Control::Ack { epoch: 0 });
-    assert_eq!(rt;
-        say(&mut session, 2, owners)?,
-        Reply::Filtered { epoch: 0, at: 4 }
-    );
-    assert_eq!(rt;
-        say(&mut session, 2, Msg::Point)?,
-        Reply::Placed { epoch: 0, at: 5 }
-    );
-    assert_eq!(rt; say(&mut session, 2, ack)?, Reply::Ignored);
-    assert_eq!(rt; close(&mut session, 1)?, Reply::Placed { epoch: 0, at: 6 });
-    assert_eq!(rt; close(&mut session, 1)?, Reply::Ignored);
     assert_eq!(rt; session.conns(0), Some(2));
-    assert_eq!(rt; pull(&session, 1, 0, 5, 9)?, Some((5, 2)));
-    assert_eq!(rt; pull(&session, 1, 0, 7, 9)?, None);
-    assert_eq!(rt; pull(&session, 2, 0, 7, 9)?, Some((7, 1)));
-    assert_eq!(rt; pull(&session, 2, 1, 7, 0)?, Some((0, 1)));
+    for ((conn, epoch, at, max), given) in [
+        ((1, 0, 5, 9), Some((5, 2))),
+        ((1, 0, 7, 9), None),
+        ((2, 0, 7, 9), Some((7, 1))),
+        ((2, 1, 7, 0), Some((0, 1))),
+    ] {
+        assert_eq!(rt; pull(&session, conn, epoch, at, max)?, given);
+    }
     Ok(())
 }
 
 #[test]
 fn ids_are_given_again(rt: HostRuntime) -> Result<(), Fail> {
-    let alloc = rt.alloc();
-    let mut session = Session::new(alloc, SureKeeper::new(Rows::new(alloc)))?;
-    for _ in 0..254 {
-        open(alloc, &mut session, b"a")?;
+    let mut session = Session::new(rt.alloc(), SureKeeper::new(Rows::new(rt.alloc())))?;
+    for user in 1..255u8 {
+        let conn = u32::from(user);
+        let at = if user == 1 { 1 } else { conn + 1 };
+        serve(
+            &rt,
+            rt.alloc(),
+            &mut session,
+            "OPEN",
+            opened(conn, user, at),
+        )?;
     }
-    assert_eq!(rt; open(alloc, &mut session, b"a")?, Reply::Full);
-    close(&mut session, 7)?;
-    assert_eq!(rt;
-        open(alloc, &mut session, b"a")?,
-        Reply::Opened {
-            conn: 255,
-            user: 7,
-            epoch: 0,
-            at: 257,
-        }
-    );
+    for (word, answer) in [
+        ("OPEN", Reply::Full),
+        ("CLOSE 7", Reply::Placed { epoch: 0, at: 256 }),
+        ("OPEN", opened(255, 7, 257)),
+    ] {
+        serve(&rt, rt.alloc(), &mut session, word, answer)?;
+    }
     Ok(())
 }
 
-/// The answer to the event of a number: two users join, say something and leave.
-fn act<K: Keeper>(alloc: Global, session: &mut Session<K>, number: usize) -> Result<Reply, Fail> {
-    match number {
-        1 | 2 | 7 => open(alloc, session, b"a"),
-        3 | 8 => say(session, 1, Msg::Point),
-        4 | 5 | 9 => say(session, 2, Msg::Point),
-        6 => close(session, 1),
-        _ => close(session, 2),
+/// Two users join, say something and leave.
+static EVENTS: [&str; 10] = [
+    "OPEN", "OPEN", "POINT 1", "POINT 2", "POINT 2", "CLOSE 1", "OPEN", "POINT 1", "POINT 2",
+    "CLOSE 2",
+];
+
+/// The answers to these events over a store that fails at the put of this number: whether each is a fault.
+fn run_to_fault(
+    rt: &impl Abort,
+    alloc: Global,
+    session: &mut Session<MemKeeper>,
+    call: usize,
+) -> Result<(), AllocError> {
+    for (k, word) in EVENTS.iter().enumerate() {
+        let event = event(alloc, word)?;
+        let answer = session.step(&event)?;
+        assert_eq!(rt;
+            answer == Reply::StoreFault { count: 1 },
+            k + 1 >= call,
+            "{word}"
+        );
     }
+    Ok(())
 }
 
-/// Ten events over a store that fails at the put of this number, with the row kept or lost.
-fn fails_at(rt: &impl Abort, alloc: Global, call: usize, kept: bool) -> Result<(), Fail> {
+/// A store that fails at the put of this number, with the row kept or lost: the closings behind are `closings`.
+fn fails_at(
+    rt: &impl Abort,
+    alloc: Global,
+    call: usize,
+    kept: bool,
+    closings: &[ShutAt],
+) -> Result<(), Fail> {
     let fails = vec![in alloc; (call as u64, kept)]?;
     let keeper = MemKeeper::new(Rows::new(alloc), fails, Vec::new(alloc));
     let mut session = Session::new(alloc, keeper)?;
-    let fault = Reply::StoreFault { count: 1 };
-    for number in 1..11 {
-        let answer = act(alloc, &mut session, number)?;
-        assert_eq!(rt; answer == fault, number >= call, "{number} of {call}");
-    }
+    run_to_fault(rt, alloc, &mut session, call)?;
     let (keeper, journal, shut) = session.into_parts();
     let before = call.wrapping_sub(1);
-    let rows = if kept { call } else { before };
-    assert_eq!(rt; keeper.held().as_slice().len(), rows);
+    assert_eq!(rt;
+        keeper.held().as_slice().len(),
+        if kept { call } else { before }
+    );
     assert_eq!(rt; journal.as_slice().len(), before);
-    let closings = if call <= 6 { 2 } else { 1 };
-    assert_eq!(rt; shut.as_slice().len(), closings);
+    assert_eq!(rt; shut.as_slice(), closings);
     Ok(())
 }
 
 #[test]
-fn a_store_that_fails_at_each_put(rt: HostRuntime) -> Result<(), Fail> {
-    for call in 1..11 {
-        fails_at(&rt, rt.alloc(), call, false)?;
-        fails_at(&rt, rt.alloc(), call, true)?;
-    }
-    Ok(())
-}
-
-#[test]
-fn faults(rt: HostRuntime) -> Result<(), Fail> {
-    let alloc = rt.alloc();
-    for (kept, rows) in [(false, 1), (true, 2)] {
-        let fails = vec![in alloc; (2, kept)]?;
-        let keeper = MemKeeper::new(Rows::new(alloc), fails, Vec::new(alloc));
-        let mut session = Session::new(alloc, keeper)?;
-        open(alloc, &mut session, b"a")?;
-        let fault = Reply::StoreFault { count: 1 };
-        assert_eq!(rt; say(&mut session, 1, Msg::Point)?, fault);
-        assert_eq!(rt; close(&mut session, 1)?, fault);
-        assert_eq!(rt; session.conns(0), None);
-        let (keeper, journal, shut) = session.into_parts();
-        assert_eq!(rt; keeper.held().as_slice().len(), rows);
-        assert_eq!(rt; journal.as_slice().len(), 1);
-        assert_eq!(rt; shut.as_slice(), [ShutAt { conn: 1, n: 1 }].as_slice());
+fn a_store_that_fails(rt: HostRuntime) -> Result<(), Fail> {
+    let first = [ShutAt { conn: 1, n: 2 }, ShutAt { conn: 2, n: 2 }];
+    let last = [ShutAt { conn: 2, n: 9 }];
+    for kept in [false, true] {
+        fails_at(&rt, rt.alloc(), 3, kept, &first)?;
+        fails_at(&rt, rt.alloc(), 10, kept, &last)?;
     }
     Ok(())
 }
@@ -207,29 +229,29 @@ impl Keeper for Forgetful {
     }
 }
 
-/// The user says a message of an unlisted kind, with so many bytes.
+/// Connection 1 says a message of an unlisted kind, with so many bytes.
 fn say_bytes(
     alloc: Global,
     session: &mut Session<Forgetful>,
     length: usize,
-) -> Result<Reply, Fail> {
+) -> Result<Reply, AllocError> {
     let body = Octets::from_vec(vec![in alloc; 0; length]?);
-    say(session, 1, Msg::Opaque { kind: 64, body })
+    let msg = Msg::Opaque { kind: 64, body };
+    session.step(&Event::Say { conn: 1, msg })
 }
 
 /// The row of the Open has 3 bytes, each Say has 6 beside its payload, and a Close has 5: of 2^30 bytes
 /// 49159 are left behind 16382 of the greatest payloads.
 #[test]
 fn ends_where_no_room_is_left(rt: HostRuntime) -> Result<(), Fail> {
-    let alloc = rt.alloc();
-    let mut session = Session::new(alloc, Forgetful {})?;
-    open(alloc, &mut session, b"a")?;
+    let mut session = Session::new(rt.alloc(), Forgetful {})?;
+    serve(&rt, rt.alloc(), &mut session, "OPEN", opened(1, 1, 1))?;
     for k in 0..16382 {
         let placed = Reply::Placed {
             epoch: 0,
             at: k + 3,
         };
-        assert_eq!(rt; say_bytes(alloc, &mut session, 65535)?, placed);
+        assert_eq!(rt; say_bytes(rt.alloc(), &mut session, 65535)?, placed);
     }
     for (length, answer) in [
         (65535, Reply::Ended),
@@ -243,10 +265,10 @@ fn ends_where_no_room_is_left(rt: HostRuntime) -> Result<(), Fail> {
         ),
         (0, Reply::Ended),
     ] {
-        assert_eq!(rt; say_bytes(alloc, &mut session, length)?, answer);
+        assert_eq!(rt; say_bytes(rt.alloc(), &mut session, length)?, answer);
     }
     assert_eq!(rt; session.conns(0), Some(1));
-    assert_eq!(rt; close(&mut session, 1)?, Reply::Ended);
+    serve(&rt, rt.alloc(), &mut session, "CLOSE 1", Reply::Ended)?;
     assert_eq!(rt; session.conns(0), None);
     Ok(())
 }
