@@ -236,7 +236,7 @@ fn say_bytes(
     length: usize,
 ) -> Result<Reply, AllocError> {
     let body = Octets::from_vec(vec![in alloc; 0; length]?);
-    let msg = Msg::Opaque { kind: 64, body };
+    let msg = Msg::Opaque { kind: 200, body };
     session.step(&Event::Say { conn: 1, msg })
 }
 

@@ -1,0 +1,2 @@
+pub mod OneAction
+pub mod Words

@@ -1,0 +1,92 @@
+-- What the words of a line ask for is what the line asks for.
+use Rattle.std.proofs.Common.{◌≡◌, ℕ, List, [], ◌∷◌, Option, Some, None, Result, Ok, Err, slice_get, false, Bor, sym, ◌∙◌, subst}
+use Rattle.std.specs.Option.{option_copied, is_some}
+use Rattle.std.specs.Prelude.{IfOk, IfSome, IfNone}
+use Rattle.dp_lines.specs.Lines.{words}
+use Rattle.dp_messages.specs.declared.message.Msg.{Msg}
+use Rattle.dp_schedule.specs.declared.action.Action.{Action}
+use Rattle.dp_schedule.specs.declared.action.Action.TheVariants.{Join, Act, Show}
+use Rattle.dp_schedule.specs.declared.action.Deed.TheVariants.{Say, Up, Take, Leave, Cut}
+use Rattle.dp_schedule.specs.Asking.{Asks, TellsMessage}
+use Rattle.dp_schedule.specs.Reading.{WordsAsk}
+
+-- a list with two items and no third
+pub two_words : (all : List (List ℕ)) (first second : List ℕ)
+    → slice_get all 0 ≡ Some first → slice_get all 1 ≡ Some second → slice_get all 2 ≡ None
+    → all ≡ first ∷ second ∷ []
+two_words [] first second a b none = absurd (cc (a))
+two_words (x ∷ []) first second a b none = absurd (cc (b))
+two_words (x ∷ y ∷ []) first second a b none = cc
+two_words (x ∷ y ∷ z ∷ more) first second a b none = absurd (cc (none))
+
+-- a list with three items and no fourth
+pub three_words : (all : List (List ℕ)) (first second third : List ℕ)
+    → slice_get all 0 ≡ Some first → slice_get all 1 ≡ Some second → slice_get all 2 ≡ Some third
+    → slice_get all 3 ≡ None
+    → all ≡ first ∷ second ∷ third ∷ []
+three_words [] first second third a b c none = absurd (cc (a))
+three_words (x ∷ []) first second third a b c none = absurd (cc (b))
+three_words (x ∷ y ∷ []) first second third a b c none = absurd (cc (c))
+three_words (x ∷ y ∷ z ∷ []) first second third a b c none = cc
+three_words (x ∷ y ∷ z ∷ w ∷ more) first second third a b c none = absurd (cc (none))
+
+-- a word that isn't there
+pub no_word : (found : Option (Bor (List ℕ))) (item : Option (List ℕ))
+    → option_copied found ≡ item → false ≡ is_some found → item ≡ None
+no_word None item same none = sym same
+no_word (Some word) item same none = absurd (cc (none))
+
+-- what the words ask for, the line does
+line_asks : (line : List ℕ) (all : List (List ℕ)) → words line ≡ all
+    → (action : Action) → WordsAsk all action → Asks line action
+line_asks line all same (Join name registered) asks = same ∙ asks
+line_asks line all same (Act client deed) (tail, names, ends) = (
+  tail,
+  record { word = names.word; parts = same ∙ names.parts; number = names.number },
+  ends,
+)
+line_asks line all same (Show client shown) names =
+    record { word = names.word; parts = same ∙ names.parts; number = names.number }
+
+-- what the line asks for, its words do
+words_ask : (line : List ℕ) (all : List (List ℕ)) → words line ≡ all
+    → (action : Action) → Asks line action → WordsAsk all action
+words_ask line all same (Join name registered) asks = sym same ∙ asks
+words_ask line all same (Act client deed) (tail, names, ends) = (
+  tail,
+  record { word = names.word; parts = sym same ∙ names.parts; number = names.number },
+  ends,
+)
+words_ask line all same (Show client shown) names =
+    record { word = names.word; parts = sym same ∙ names.parts; number = names.number }
+
+-- the answer to the words is the answer to the line
+pub found_asked : {E : Type 0} (line : List ℕ) (all : List (List ℕ)) → words line ≡ all
+    → (r : Result (Option Action) E)
+    → IfOk r (λ found. IfSome found (WordsAsk all)) → IfOk r (λ found. IfSome found (Asks line))
+found_asked line all same (Err e) asks = tt
+found_asked line all same (Ok None) asks = tt
+found_asked line all same (Ok (Some action)) asks = line_asks line all same action asks
+
+pub none_asked : {E : Type 0} (line : List ℕ) (all : List (List ℕ)) → words line ≡ all
+    → (r : Result (Option Action) E)
+    → IfOk r (λ found. IfNone found ((action : Action) → ¬ WordsAsk all action))
+    → IfOk r (λ found. IfNone found ((action : Action) → ¬ Asks line action))
+none_asked line all same (Err e) none = tt
+none_asked line all same (Ok (Some action)) none = tt
+none_asked line all same (Ok None) none =
+    λ action asks. none action (words_ask line all same action asks)
+
+-- three words ask for a message that the third tells
+pub third_tells : (first second third : List ℕ) (action : Action)
+    → WordsAsk (first ∷ second ∷ third ∷ []) action → (m : Msg) × TellsMessage third m
+third_tells first second third (Join name registered) asks = absurd (cc (asks))
+third_tells first second third (Act client (Say m)) (tail, names, (word, ends, tells)) =
+    let parts = names.parts in
+    let same : word ≡ third = cc in
+    (m, subst (λ (w : List ℕ). TellsMessage w m) same tells)
+third_tells first second third (Act client Up) (tail, names, ends) = let parts = names.parts in absurd (cc (parts, ends))
+third_tells first second third (Act client Take) (tail, names, ends) = let parts = names.parts in absurd (cc (parts, ends))
+third_tells first second third (Act client Leave) (tail, names, ends) = let parts = names.parts in absurd (cc (parts, ends))
+third_tells first second third (Act client Cut) (tail, names, ends) = let parts = names.parts in absurd (cc (parts, ends))
+third_tells first second third (Show client shown) names = let parts = names.parts in absurd (cc (parts))

@@ -1,0 +1,156 @@
+//! Lines with what they ask for, lines that ask for nothing, and what is told as text.
+
+use super::*;
+use std::alloc::Global;
+use std::process::Abort;
+use std::test::Fail;
+
+/// Lines, and what each asks for.
+static ASKING: [(&[u8], &str); 14] = [
+    (
+        b"join ann",
+        "Join { name: Octets { bytes: [97, 110, 110] }, registered: false }",
+    ),
+    (
+        b"member bo",
+        "Join { name: Octets { bytes: [98, 111] }, registered: true }",
+    ),
+    (
+        b"join ",
+        "Join { name: Octets { bytes: [] }, registered: false }",
+    ),
+    (b"say 1 80", "Act { client: 1, deed: Say(Point) }"),
+    (
+        b"say 20 ff0301",
+        "Act { client: 20, deed: Say(Undo { target: 3, redo: true }) }",
+    ),
+    (
+        b"say 20 Ff0300",
+        "Act { client: 20, deed: Say(Undo { target: 3, redo: false }) }",
+    ),
+    (b"up 1", "Act { client: 1, deed: Up }"),
+    (b"take 10", "Act { client: 10, deed: Take }"),
+    (b"leave 2", "Act { client: 2, deed: Leave }"),
+    (b"cut 0", "Act { client: 0, deed: Cut }"),
+    (b"cut 4294967295", "Act { client: 4294967295, deed: Cut }"),
+    (b"view 3", "Show { client: 3, shown: View }"),
+    (b"conf 3", "Show { client: 3, shown: Confirmed }"),
+    (
+        b"join 3",
+        "Join { name: Octets { bytes: [51] }, registered: false }",
+    ),
+];
+
+#[test]
+fn lines_ask_for_actions(rt: HostRuntime) -> Result<(), Fail> {
+    let alloc = rt.alloc();
+    for (line, wanted) in &ASKING {
+        let action = read_action(alloc, line)?.ok_or("an action")?;
+        let shown = format!(in alloc; "{action:?}")?;
+        assert_eq!(rt; shown.as_str(), *wanted);
+    }
+    one_action();
+    Ok(())
+}
+
+/// Lines that ask for nothing.
+static ASKING_NOTHING: [&[u8]; 26] = [
+    b"",
+    b"join",
+    b"join a b",
+    b"jion a",
+    b"Join a",
+    b"member",
+    b"up",
+    b"up ",
+    b"up 0x",
+    b"up 03",
+    b"up 1 ",
+    b" up 1",
+    b"up  1",
+    b"up 4294967296",
+    b"take 1 2",
+    b"leave 1 80",
+    b"view",
+    b"conf ann",
+    b"say 1",
+    b"say 1 ",
+    b"say 1 8",
+    b"say 1 zz",
+    b"say 1 80 80",
+    b"say one 80",
+    // A kind below 32, whose payload spells a message and whose payload doesn't.
+    b"say 1 05",
+    b"say 1 00",
+];
+
+#[test]
+fn lines_ask_for_nothing(rt: HostRuntime) -> Result<(), Fail> {
+    for line in &ASKING_NOTHING {
+        assert!(rt; read_action(rt.alloc(), line)?.is_none());
+    }
+    Ok(())
+}
+
+/// Whether a message of a kind that isn't listed may be said with a payload of so many bytes.
+fn may_be_said(rt: &impl Abort, alloc: Global, payload_len: usize) -> Result<bool, Fail> {
+    assert!(rt; payload_len < 100_000);
+    let mut line = Vec::from_slice(alloc, b"say 1 7f")?;
+    for _ in 0..payload_len {
+        line.extend_from_slice(b"00")?;
+    }
+    Ok(read_action(alloc, line.as_slice())?.is_some())
+}
+
+#[test]
+fn a_payload_has_at_most_65535_bytes(rt: HostRuntime) -> Result<(), Fail> {
+    assert!(rt; may_be_said(&rt, rt.alloc(), 65_535)?);
+    assert!(rt; !may_be_said(&rt, rt.alloc(), 65_536)?);
+    Ok(())
+}
+
+/// What is told, and its text.
+static TOLD: [(Told, &str); 16] = [
+    (
+        Told::Joined {
+            client: 12,
+            user: 3,
+            epoch: 4,
+            at: 56,
+        },
+        "joined 12 user 3 at 4:56\n",
+    ),
+    (Told::Full, "full\n"),
+    (Told::NameRefused, "name refused\n"),
+    (Told::Ended, "ended\n"),
+    (Told::Said(10), "said 10\n"),
+    (Told::Empty, "empty\n"),
+    (Told::Placed { epoch: 0, at: 1 }, "placed 0:1\n"),
+    (Told::Filtered { epoch: 1, at: 0 }, "filtered 1:0\n"),
+    (Told::Ignored, "ignored\n"),
+    (Told::Noted, "noted\n"),
+    (Told::Left { epoch: 7, at: 89 }, "left 7:89\n"),
+    (Told::Leaving, "leaving\n"),
+    (
+        Told::Cut {
+            epoch: 4_294_967_295,
+            at: 2,
+        },
+        "cut 4294967295:2\n",
+    ),
+    (Told::Took { epoch: 2, at: 3 }, "took 2:3\n"),
+    (Told::Nothing, "nothing\n"),
+    (Told::Gone, "gone\n"),
+];
+
+#[test]
+fn what_is_told_has_its_text(rt: HostRuntime) -> Result<(), Fail> {
+    for (told, wanted) in &TOLD {
+        let text = told.text(rt.alloc())?;
+        assert_eq!(rt; text.as_slice(), wanted.as_bytes());
+    }
+    assert_eq!(rt; Told::Said(1), Told::Said(1));
+    assert_ne!(rt; Told::Empty, Told::Nothing);
+    assert_ne!(rt; Shown::View, Shown::Confirmed);
+    Ok(())
+}
