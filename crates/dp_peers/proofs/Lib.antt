@@ -1,0 +1,7 @@
+pub mod LawLists
+pub mod LawLemmas
+pub mod LawWorlds
+pub mod LawRenaming
+pub mod LawStrokes
+pub mod LawForbidden
+pub mod CallLemmas

@@ -1,0 +1,13 @@
+//! The world of a schedule: a session, its clients, and the messages on their way to it.
+//!
+//! The rule: docs/protocol.md, "The world".
+#![tactic(auto)]
+
+mod laws;
+mod peer;
+mod telling;
+mod world;
+
+pub use laws::{headline, worlds_stay_worlds};
+pub use peer::{Peer, Presence};
+pub use world::World;
