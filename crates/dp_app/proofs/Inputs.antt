@@ -12,7 +12,7 @@ use Rattle.dp_frame.specs.Frames.{spelling, HoldsNoFrame}
 use Rattle.dp_frame.specs.Stream.{Stream}
 use Rattle.dp_messages.specs.declared.message.Entry.{Entry}
 use Rattle.dp_lines.specs.declared.run_end.RunEnd.{RunEnd}
-use Rattle.dp_lines.specs.declared.run_end.RunEnd.TheVariants.{Done, ReadFault, WriteFault, Memory, Long, Truncated, BadMessage}
+use Rattle.dp_lines.specs.declared.run_end.RunEnd.TheVariants.{ReadFault, Memory, Long, BadMessage}
 use Rattle.dp_app.specs.Input.{Tells, TellsUpTo, StandsInReplay, replay_limit, HoldsNoCause, ReplayComesTo, ReplayTookWithin}
 use Rattle.dp_app.specs.History.{Follows, IsStop, StopsAt}
 use Rattle.dp_app.specs.Read.{HasRead, EndsReading, BlamesReading, end_of}

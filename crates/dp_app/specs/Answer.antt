@@ -1,5 +1,5 @@
 -- What the program answers: its status, what it writes, and the line that it says.
-use Rattle.std.specs.Prelude.{◌≡◌, ℕ, ◌<◌, ◌⊎◌, List, [], ◌∷◌, ◌++◌, codes, decimal, map, string_bytes, Option, IfSome}
+use Rattle.std.specs.Prelude.{◌≡◌, ℕ, ◌⊎◌, List, [], ◌∷◌, ◌++◌, codes, decimal, map, string_bytes, Option, IfSome}
 use Rattle.std.specs.declared.string.String.{String}
 use Rattle.std.specs.Io.KnownBytes.{Appends, Keeps, IsAtEnd}
 use Rattle.dp_io.specs.Faults.{Rose}
@@ -10,19 +10,38 @@ use Rattle.dp_plain.specs.Picture.{p6}
 use Rattle.dp_lines.specs.declared.run_end.RunEnd.{RunEnd}
 use Rattle.dp_lines.specs.declared.run_end.RunEnd.TheVariants.{Done, BadLine, ReadFault, WriteFault, LinkFault}
 use Rattle.dp_lines.specs.declared.run_end.RunEnd.TheVariants.{Memory, Long, Truncated, BadMessage, Closed, BadHeader}
+use Rattle.dp_lines.specs.declared.line.Line.{Line}
+use Rattle.dp_lines.specs.Ends.{LinesEnd}
+use Rattle.dp_lines.specs.Ends as ends
+use Rattle.dp_schedule.specs.declared.action.Action.{Action}
+use Rattle.dp_peers.specs.World.{world_after}
+use Rattle.dp_peers.specs.Report.{report}
+use Rattle.dp_peers.specs.Headline.{Headline}
+use Rattle.dp_world.specs.Schedule.{WorldComesTo}
 use Rattle.dp_app.specs.Input.{ReplayComesTo, ReplayTookWithin}
 
--- the word of the command `replay`
+-- the words of the commands
 abbrev pub replay_word : List ℕ
 replay_word = codes "replay"
 
+abbrev pub world_word : List ℕ
+world_word = codes "world"
+
+-- the words are this single one
+abbrev pub AreWord : {A : Type 0} → List ℕ → List (String A) → Type 0
+AreWord word words = map string_bytes words ≡ word ∷ []
+
 -- the words are the single word `replay`
 abbrev pub IsReplay : {A : Type 0} → List (String A) → Type 0
-IsReplay words = map string_bytes words ≡ replay_word ∷ []
+IsReplay words = AreWord replay_word words
+
+-- the words are the single word `world`
+abbrev pub IsWorld : {A : Type 0} → List (String A) → Type 0
+IsWorld words = AreWord world_word words
 
 -- the words are a command
 abbrev pub IsCommand : {A : Type 0} → List (String A) → Type 0
-IsCommand words = IsReplay words
+IsCommand words = IsReplay words ⊎ IsWorld words
 
 -- the status of a run that ends so
 abbrev pub status_of : RunEnd → ℕ
@@ -74,16 +93,32 @@ abbrev pub replay_answer : List Entry → RunEnd → Answer
 replay_answer entries end =
     record { status = status_of end; text = replay_text entries end; line = line_of end }
 
+-- how a run of a schedule ends whose input comes to this end
+abbrev pub run_end_of : LinesEnd → RunEnd
+run_end_of ends.AllDone = Done
+run_end_of (ends.BadLine n) = BadLine n
+run_end_of ends.TooLong = Long
+
+-- the answer of `world` to an input that asks for these actions and comes to this end
+abbrev pub world_answer : List Action → LinesEnd → Answer
+world_answer actions end = record {
+  status = status_of (run_end_of end);
+  text = report actions;
+  line = line_of (run_end_of end);
+}
+
 -- the answer to words that are no command
 abbrev pub usage_answer : Answer
 usage_answer = record { status = 1; text = []; line = usage_line }
 
--- The answer that the words and the input's bytes are due: for `replay` that of what the input comes
--- to, and the line about the words where they are no command.
+-- The answer that the words and the input's bytes are due: for a command that of what the input comes
+-- to, and the line about the words where they are none.
 abbrev pub IsDue : {A : Type 0} → List (String A) → List ℕ → Answer → Type 0
 IsDue words input answer =
     (IsReplay words × (entries : List Entry) × (end : RunEnd) × ReplayComesTo input entries end
     × (answer ≡ replay_answer entries end))
+    ⊎ (IsWorld words × (done : List Line) × (actions : List Action) × (end : LinesEnd)
+    × WorldComesTo input done actions end × (answer ≡ world_answer actions end))
     ⊎ (¬ IsCommand words × (answer ≡ usage_answer))
 
 -- the answer is given: the exit status is its own, the output grew by its text, and diag by its line
@@ -123,13 +158,6 @@ Leaves input left old new Long = Keeps old new × StopsAtCause input left Long
 Leaves input left old new (BadMessage n) = Keeps old new × StopsAtCause input left (BadMessage n)
 Leaves input left old new _ = ⊥
 
--- What the counts of faults of the input and the output do in a run that ends so: that of the fault
--- rises, and each other stays what it was.
-abbrev pub Blames : ℕ → ℕ → ℕ → ℕ → RunEnd → Type 0
-Blames input input_now output output_now ReadFault = Rose input input_now × (output_now ≡ output)
-Blames input input_now output output_now WriteFault = (input_now ≡ input) × Rose output output_now
-Blames input input_now output output_now _ = (input_now ≡ input) × (output_now ≡ output)
-
 -- the line of the end is said, and the status is the end's; or diag failed behind a prefix of the
 -- line, and it is 4
 abbrev pub Says : Option (List ℕ) → Option (List ℕ) → ℕ → ℕ → ℕ → RunEnd → Type 0
@@ -142,3 +170,9 @@ abbrev pub SaysUsage : Option (List ℕ) → Option (List ℕ) → ℕ → ℕ �
 SaysUsage old new before now status =
     ((status ≡ 1) × Appends old new usage_line)
     ⊎ ((status ≡ 4) × Rose before now × GrowsByPrefix old new usage_line)
+
+-- the headline holds of the world behind the lines that an input of these bytes does
+abbrev pub HasHeadline : List ℕ → Type 0
+HasHeadline bytes =
+    (done : List Line) (actions : List Action) (end : LinesEnd)
+    → WorldComesTo bytes done actions end → Headline (world_after actions)

@@ -14,6 +14,3 @@ pub use dp_lines::RunEnd;
 pub use laws::one_reading;
 pub use program::{Outcome, drawpile};
 pub use status::status_of;
-
-#[cfg(test)]
-mod tests;

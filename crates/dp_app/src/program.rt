@@ -4,16 +4,20 @@ ghost use Rattle.std.specs.Prelude.{◌≡◌, ◌≢◌, ◌⊎◌, ◌<◌, �
 ghost use Rattle.std.specs.Io.KnownBytes.{Keeps, IsAtEnd};
 ghost use Rattle.dp_io.specs.Faults.{Rose};
 ghost use Rattle.dp_lines.specs.declared.run_end.RunEnd.{RunEnd as run_end};
-ghost use Rattle.dp_app.specs.Answer.{Answer, IsCommand, IsReplay, IsDue, IsGiven};
-ghost use Rattle.dp_app.specs.Answer.{Blames, Leaves, Says, SaysUsage};
+ghost use Rattle.dp_world.specs.Running.{Blames, WorldLeaves};
+ghost use Rattle.dp_app.specs.Answer.{Answer, IsCommand, IsReplay, IsWorld, IsDue, IsGiven};
+ghost use Rattle.dp_app.specs.Answer.{HasHeadline, Leaves, Says, SaysUsage};
+ghost use Rattle.dp_app.specs.Commands.{CommandLeaves};
 
 use crate::laws::one_reading;
 use crate::replay::run_replay;
 use crate::saying::{say, say_usage};
-use crate::words::is_replay;
+use crate::words::{Command, command_of};
 use dp_io::{Failed, Sink, Source};
 use dp_lines::RunEnd;
+use dp_peers::headline;
 use dp_steps::Steps;
+use dp_world::{one_schedule, run_world};
 use std::alloc::Global;
 use std::marker::Brand;
 use std::sync::ledger::{Blank, Ledger};
@@ -52,13 +56,29 @@ pub fn drawpile<I: Source, O: Sink, E: Sink>(
         (O.faults output.old) (O.faults output.new) end
         × Says (E.held diag.old) (E.held diag.new) (E.faults diag.old) (E.faults diag.new)
         result.status end }
-    ensures replay_to_end { IsReplay words.now → (result.status ≡ 0) ⊎ (result.status ≡ 9)
+
+    // So does `world`: what is written is the report of the lines that are done.
+    ensures world { IsWorld words.now → (end : run_end)
+        × WorldLeaves (I.left input.old) (I.left input.new) (O.held output.old) (O.held output.new) end
+        × Blames (I.faults input.old) (I.faults input.new)
+        (O.faults output.old) (O.faults output.new) end
+        × Says (E.held diag.old) (E.held diag.new) (E.faults diag.old) (E.faults diag.new)
+        result.status end }
+
+    // And whatever the input comes to: behind the lines that are done each client has taken a front of the
+    // history of its epoch, its confirmed canvas is that front replayed, its view the same with its unanswered
+    // sends drawn, and a message that is not permitted changes nothing.
+    ensures headline { IsWorld words.now → IfSome (I.left input.old) HasHeadline }
+
+    // Of both: the input is read to its end, faults are told, and none is passed over.
+    ensures to_end { IsCommand words.now → (result.status ≡ 0) ⊎ (result.status ≡ 9)
         → IsAtEnd (I.left input.new) }
-    ensures replay_fault_told { IsReplay words.now → I.faults input.old < I.faults input.new
+    ensures fault_told { IsCommand words.now → I.faults input.old < I.faults input.new
         → (result.status ≡ 3)
         ⊎ ((result.status ≡ 4) × Rose (E.faults diag.old) (E.faults diag.new)) }
-    ensures replay_uncounted { IsReplay words.now
-        → (result.status ≡ 0) ⊎ (result.status ≡ 8) ⊎ (result.status ≡ 9) ⊎ (result.status ≡ 10)
+    ensures unfailed { IsCommand words.now
+        → (result.status ≡ 0) ⊎ (result.status ≡ 2) ⊎ (result.status ≡ 8) ⊎ (result.status ≡ 9)
+        ⊎ (result.status ≡ 10)
         → (I.faults input.new ≡ I.faults input.old) × (O.faults output.new ≡ O.faults output.old) }
 
     // Faults have their causes.
@@ -88,20 +108,30 @@ pub fn drawpile<I: Source, O: Sink, E: Sink>(
         (O.held output.old) (O.held output.new) (E.held diag.old) (E.held diag.new)) }
 {
     one_reading();
-    if !is_replay(words) {
+    one_schedule();
+    headline();
+    let Some(command) = command_of(words) else {
         return Outcome {
             status: say_usage(diag),
         };
-    }
-    let end = run_counted::<_, _, Brand, Brand>(alloc, input, output, Blank::new(1), Blank::new(1));
+    };
+    let end = run_counted::<_, _, Brand, Brand>(
+        alloc,
+        command,
+        input,
+        output,
+        Blank::new(1),
+        Blank::new(1),
+    );
     Outcome {
         status: say(diag, end),
     }
 }
 
-/// Runs `replay` with counters over these blanks.
+/// Runs a command with counters over these blanks.
 fn run_counted<I: Source, O: Sink, D: Ledger, T: Ledger>(
     alloc: Global,
+    command: Command,
     input: &mut I,
     output: &mut O,
     draws: Blank,
@@ -109,7 +139,7 @@ fn run_counted<I: Source, O: Sink, D: Ledger, T: Ledger>(
 ) -> RunEnd
     requires draws { (draws.name ≡ D.name) × (draws.parts ≡ D.parts) × (0 < draws.parts) }
     requires tiles { (tiles.name ≡ T.name) × (tiles.parts ≡ T.parts) × (0 < tiles.parts) }
-    ensures leaves { Leaves (I.left input.old) (I.left input.new)
+    ensures leaves { CommandLeaves command (I.left input.old) (I.left input.new)
         (O.held output.old) (O.held output.new) result }
     ensures blames { Blames (I.faults input.old) (I.faults input.new)
         (O.faults output.old) (O.faults output.new) result }
@@ -118,5 +148,8 @@ fn run_counted<I: Source, O: Sink, D: Ledger, T: Ledger>(
 {
     let mut draws = Steps::<D>::new(draws);
     let mut tiles = Steps::<T>::new(tiles);
-    run_replay(alloc, input, output, &mut draws, &mut tiles)
+    match command {
+        Command::Replay => run_replay(alloc, input, output, &mut draws, &mut tiles),
+        Command::World => run_world(alloc, input, output, &mut draws, &mut tiles),
+    }
 }

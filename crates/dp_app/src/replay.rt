@@ -1,7 +1,8 @@
 //! The command `replay`: frames on the input, a picture on the output.
 
 ghost use Rattle.std.specs.Prelude.{◌≤◌};
-ghost use Rattle.dp_app.specs.Answer.{Blames, Leaves};
+ghost use Rattle.dp_world.specs.Running.{Blames};
+ghost use Rattle.dp_app.specs.Answer.{Leaves};
 ghost use Rattle.dp_app.specs.Shown.{WritesShown};
 
 use crate::reading::{Reading, read_entries};

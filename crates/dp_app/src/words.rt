@@ -1,14 +1,38 @@
 //! The program's words.
 
-ghost use Rattle.std.specs.Prelude.{◌≡◌, ◌↔◌, IsTrue};
-ghost use Rattle.dp_app.specs.Answer.{IsReplay};
+ghost use Rattle.std.specs.Prelude.{◌≡◌, ◌↔◌, IsTrue, IfSome, IfNone, codes};
+ghost use Rattle.dp_app.specs.Answer.{AreWord, IsCommand};
+ghost use Rattle.dp_app.specs.Commands.{NamesCommand};
 
-/// Whether the words are the single word `replay`.
-pub(crate) fn is_replay(words: &[String]) -> bool
-    ensures { IsTrue result ↔ IsReplay words.now }
+/// What the program does.
+#[derive(Clone, Copy, Debug, PartialEq, Eq)]
+pub(crate) enum Command {
+    /// Frames on the input, a picture on the output.
+    Replay,
+    /// A schedule on the input, its report on the output.
+    World,
+}
+
+/// The command that the words ask for, if they are one.
+pub(crate) fn command_of(words: &[String]) -> Option<Command>
+    ensures some { IfSome result (NamesCommand words.now) }
+    ensures none { IfNone result (¬ IsCommand words.now) }
+{
+    if are_word(words, "replay") {
+        return Some(Command::Replay);
+    }
+    if are_word(words, "world") {
+        return Some(Command::World);
+    }
+    None
+}
+
+/// Whether the words are this single one.
+fn are_word(words: &[String], word: &str) -> bool
+    ensures { IsTrue result ↔ AreWord word.now words.now }
 {
     match words {
-        [word] => word.as_str() == "replay",
+        [only] => only.as_str() == word,
         _ => false,
     }
 }

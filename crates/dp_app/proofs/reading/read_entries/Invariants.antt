@@ -1,4 +1,4 @@
-use Rattle.std.proofs.Common.{◌≡◌, ◌+◌, ◌≤◌, ◌^◌, length}
+use Rattle.std.proofs.Common.{◌≡◌, ◌+◌, ◌^◌, length}
 use Rattle.std.specs.Prelude.{IfSome}
 use Rattle.dp_frame.specs.Frames.{HoldsNoFrame}
 use Rattle.dp_app.specs.Read.{HasRead}

@@ -2,7 +2,7 @@ use Rattle.std.proofs.Common.{List, subst, sym}
 use Rattle.std.specs.Prelude.{IfSome}
 use Rattle.dp_messages.specs.declared.message.Entry.{Entry}
 use Rattle.dp_app.specs.Read.{EndsReading}
-use Rattle.dp_app.proofs.Replaying.{shown_leaves, shown_blames, read_blames, nothing_leaves}
+use Rattle.dp_app.proofs.Replaying.{shown_leaves, shown_blames}
 use Rattle.dp_app.proofs.replay.run_replay.Goals as goal
 
 pub returns-then-reads_to_end-clause-leaves : goal.returns-then-reads_to_end-clause-leaves

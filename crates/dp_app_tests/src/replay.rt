@@ -1,8 +1,8 @@
-//! Worked runs of the program, through its top call.
+//! Worked runs of `replay`, through the program's top call.
 
 ghost use Rattle.std.specs.Prelude.{◌≤◌, None, length};
 
-use super::*;
+use dp_app::{Outcome, drawpile};
 use dp_io::{Failed, MemSink, MemSource, Source};
 use std::alloc::Global;
 use std::process::Abort;
@@ -354,7 +354,8 @@ fn words_that_are_no_command(rt: HostRuntime) -> Result<(), Fail> {
         "",
         "replays",
         "Replay",
-        "world",
+        "worlds",
+        "world replay",
         "replay replay",
         "replay x",
         "--help",

@@ -1,0 +1,7 @@
+//! The tests of the program, through its top call.
+#![tactic(auto)]
+
+#[cfg(test)]
+mod replay;
+#[cfg(test)]
+mod world;

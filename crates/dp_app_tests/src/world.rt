@@ -1,0 +1,468 @@
+//! Worked schedules, through the program's top call: their lines, and what each prints.
+
+ghost use Rattle.std.specs.Prelude.{◌≤◌, None, length};
+
+use dp_app::{Outcome, drawpile};
+use dp_io::{Failed, MemSink, MemSource, Source};
+use std::alloc::Global;
+use std::process::Abort;
+use std::test::Fail;
+
+/// What a word of a line stands for. Other words stand for themselves.
+fn word_of(word: &str) -> &str {
+    match word {
+        "SIZE" => "8100000000000000020000000100000000",
+        "WIDE" => "8100000000000000800000000100000000",
+        "LAYER" => "820101000000",
+        "RED0" => "8901010100000000000000000000000100000001ffff0000",
+        "RED01" => "8901010100000000000000000000000200000001ffff0000",
+        "BLUE1" => "8901010100000001000000000000000100000001ff0000ff",
+        "RED63" => "890101010000003f000000000000000100000001ffff0000",
+        "BLUE64" => "8901010100000040000000000000000100000001ff0000ff",
+        "POINT" => "80",
+        "UNDO" => "ff0000",
+        "REDO" => "ff0001",
+        "LOCK" => "4301010103",
+        "TIERS" => "440303030303030303",
+        "ALL" => "4200",
+        "CHAT" => "236869",
+        _ => word,
+    }
+}
+
+/// A canvas 2 by 1 with a layer, by one client.
+const START: &str = "join ann|joined 1 user 1 at 0:1
+say 1 SIZE|said 1
+up 1|placed 0:3
+say 1 LAYER|said 2
+up 1|placed 0:4";
+
+/// The same, with a second client.
+const START2: &str = "join ann|joined 1 user 1 at 0:1
+join bob|joined 2 user 2 at 0:3
+say 1 SIZE|said 1
+up 1|placed 0:4
+say 1 LAYER|said 2
+up 1|placed 0:5";
+
+/// The same on a canvas 128 wide.
+const WIDE2: &str = "join ann|joined 1 user 1 at 0:1
+join bob|joined 2 user 2 at 0:3
+say 1 WIDE|said 1
+up 1|placed 0:4
+say 1 LAYER|said 2
+up 1|placed 0:5";
+
+/// A line of a row is a line of the input, and behind a bar what it prints: words, or a picture in brackets, whose
+/// pixels are red, blue and white, each with how often it stands there, and its rows parted by a slash. `takes C N M` stands
+/// for the lines that take the entries from N to M.
+static ROWS: [(&str, &[&str]); 24] = [
+    ("", &[START]),
+    ("", &[START2]),
+    (
+        "",
+        &[
+            START2,
+            "say 1 RED01|said 3\nsay 2 BLUE1|said 1\nup 2|placed 0:6\nup 1|placed 0:7\nview 1|[2R]",
+            "takes 1 0 5\nconf 1|[2W]\nview 1|[2R]\ntake 1|took 0:6\nconf 1|[1W1B]\nview 1|[2R]",
+            "take 1|took 0:7\nconf 1|[2R]\nview 1|[2R]\ntake 1|nothing",
+            "takes 2 0 5\nconf 2|[2W]\nview 2|[1W1B]\ntake 2|took 0:6\nview 2|[1W1B]\ntake 2|took 0:7\nview 2|[2R]\nconf 2|[2R]",
+        ],
+    ),
+    (
+        "",
+        &[
+            WIDE2,
+            "say 1 RED63|said 3\nsay 2 BLUE64|said 1\nup 2|placed 0:6\nup 1|placed 0:7\nview 1|[63W1R64W]",
+            "takes 1 0 7\nview 1|[63W1R1B63W]\ntakes 2 0 5\nview 2|[64W1B63W]\ntakes 2 6 7\nview 2|[63W1R1B63W]",
+        ],
+    ),
+    (
+        "",
+        &[
+            START,
+            "say 1 POINT|said 3\nup 1|placed 0:5\nsay 1 RED0|said 4\nup 1|placed 0:6\nsay 1 UNDO|said 5\nup 1|placed 0:7",
+            "say 1 BLUE1|said 6\ntakes 1 0 6\nconf 1|[1R1W]\nview 1|[1R1B]\ntake 1|took 0:7\nconf 1|[2W]\nview 1|[1W1B]",
+            "up 1|placed 0:8\ntake 1|took 0:8\nconf 1|[1W1B]\nview 1|[1W1B]",
+        ],
+    ),
+    (
+        "",
+        &[
+            START,
+            "say 1 POINT|said 3\nup 1|placed 0:5\ntakes 1 0 5\nsay 1 RED0|said 1\nup 1|placed 0:6\ntake 1|took 0:6\nconf 1|[1R1W]",
+            "say 1 UNDO|said 1\nup 1|placed 0:7\ntake 1|took 0:7\nconf 1|[2W]\nsay 1 REDO|said 1\nup 1|placed 0:8\ntake 1|took 0:8\nconf 1|[1R1W]",
+            "say 1 REDO|said 1\nup 1|placed 0:9\ntake 1|took 0:9\nconf 1|[1R1W]\nsay 1 UNDO|said 1\nup 1|placed 0:10\ntake 1|took 0:10\nconf 1|[2W]",
+            "say 1 BLUE1|said 1\nup 1|placed 0:11\ntake 1|took 0:11\nconf 1|[1W1B]\nsay 1 REDO|said 1\nup 1|placed 0:12\ntake 1|took 0:12\nconf 1|[1W1B]",
+        ],
+    ),
+    (
+        "",
+        &[
+            START2,
+            "say 1 POINT|said 3\nup 1|placed 0:6\nsay 1 RED0|said 4\nup 1|placed 0:7\npoints 2 29 8\nsay 1 UNDO|said 5\nup 1|placed 0:37",
+            "takes 1 0 36\nconf 1|[1R1W]\ntake 1|took 0:37\nconf 1|[2W]\nview 1|[2W]",
+        ],
+    ),
+    (
+        "",
+        &[
+            START2,
+            "say 1 POINT|said 3\nup 1|placed 0:6\nsay 1 RED0|said 4\nup 1|placed 0:7\npoints 2 30 8\nsay 1 UNDO|said 5\nup 1|placed 0:38",
+            "takes 1 0 38\nconf 1|[1R1W]\nview 1|[1R1W]",
+        ],
+    ),
+    (
+        "",
+        &[
+            START2,
+            "say 2 SIZE|said 1\nup 2|filtered 0:6\nview 2|[2W]\ntakes 2 0 5\nview 2|[4W/4W]\nconf 2|[2W]\ntake 2|took 0:6\nview 2|[2W]",
+        ],
+    ),
+    (
+        "",
+        &[
+            START2,
+            "say 1 POINT|said 3\nup 1|placed 0:6\nsay 1 RED0|said 4\nup 1|placed 0:7\nleave 1|leaving\nleave 1|gone\ntake 1|took 0:0",
+            "up 1|left 0:8\njoin cat|joined 3 user 1 at 0:10\nsay 3 UNDO|said 1\nup 3|placed 0:11\ntakes 3 0 10\nconf 3|[1R1W]\ntake 3|took 0:11\nconf 3|[2W]",
+            "say 3 SIZE|said 1\nup 3|filtered 0:12\nsay 1 POINT|gone\nup 1|gone\ntake 1|gone\nleave 1|gone\ncut 1|gone\nconf 1|[]\nview 1|[1R1W]",
+        ],
+    ),
+    (
+        "",
+        &["member ann|joined 1 user 1 at 0:1\nmember bob|joined 2 user 2 at 0:3\nup 2|empty"],
+    ),
+    (
+        "",
+        &[
+            START2,
+            "say 1 LOCK|said 3\nup 1|placed 0:6\nsay 1 RED0|said 4\nup 1|filtered 0:7",
+        ],
+    ),
+    (
+        "",
+        &[
+            START2,
+            "say 1 TIERS|said 3\nup 1|placed 0:6\nsay 2 SIZE|said 1\nup 2|placed 0:7",
+        ],
+    ),
+    (
+        "",
+        &[
+            START2,
+            "say 1 ALL|said 3\nup 1|placed 0:6\nsay 2 RED0|said 1\nup 2|filtered 0:7\nsay 1 RED0|said 4\nup 1|placed 0:8",
+        ],
+    ),
+    (
+        "",
+        &[
+            "join abcdefghijklmnopqrstuvwxyz0123456|name refused\njoin |name refused\njoin abcdefghijklmnopqrstuvwxyz012345|joined 1 user 1 at 0:1",
+        ],
+    ),
+    (
+        "",
+        &[
+            START,
+            "say 1 RED0|said 3\nsay 1 BLUE1|said 4\ncut 1|cut 0:5\nup 1|gone\ncut 1|gone\nsay 1 POINT|gone\njoin bob|joined 2 user 1 at 0:6",
+        ],
+    ),
+    (
+        "",
+        &[
+            START,
+            "say 1 CHAT|said 3\nsay 1 c8|said 4\nup 1|placed 0:5\nup 1|placed 0:6\nup 1|empty\ntakes 1 0 6\nview 1|[2W]",
+        ],
+    ),
+    (
+        "",
+        &[
+            START,
+            "say 1 RED0|said 3\nleave 1|leaving\nsay 1 POINT|gone\nup 1|placed 0:5\nup 1|left 0:6\ntake 1|gone\njoin ann|joined 2 user 1 at 0:7\ntakes 2 0 8\nconf 2|[1R1W]",
+        ],
+    ),
+    ("bad line 3", &["join ann|joined 1 user 1 at 0:1\n\nup 2"]),
+    (
+        "bad line 2",
+        &["join ann|joined 1 user 1 at 0:1\njoin\njoin bob"],
+    ),
+    ("bad line 1", &["jion ann"]),
+    (
+        "bad line 4",
+        &["# a line that is passed over\n\njoin ann|joined 1 user 1 at 0:1\nsay 1 00"],
+    ),
+    ("bad line 2", &["join ann|joined 1 user 1 at 0:1\nup 1 1"]),
+    ("bad line 2", &["join ann|joined 1 user 1 at 0:1\nup 01"]),
+];
+
+/// The line of a pixel.
+fn pixel(letter: u8) -> &'static [u8] {
+    match letter {
+        b'R' => b"255 0 0\n",
+        b'B' => b"0 0 255\n",
+        _ => b"255 255 255\n",
+    }
+}
+
+/// The lines of pixels, each with how often it stands there, and how many they are.
+fn pixels(alloc: Global, runs: &str) -> Result<(Vec<u8>, u32), Fail> {
+    let mut lines = Vec::new(alloc);
+    let mut total = 0u32;
+    let mut count = 0u32;
+    for letter in runs.bytes() {
+        if letter.is_ascii_digit() {
+            let digit = u32::from(letter.wrapping_sub(b'0'));
+            count = count.wrapping_mul(10).wrapping_add(digit);
+        } else {
+            for _ in 0..count {
+                lines.extend_from_slice(pixel(letter))?;
+            }
+            total = total.wrapping_add(count);
+            count = 0;
+        }
+    }
+    Ok((lines, total))
+}
+
+/// The text of a picture: its rows, parted by a slash.
+fn put_picture(runs: &str, out: &mut Vec<u8>) -> Result<(), Fail> {
+    let alloc = *out.allocator();
+    let (lines, total) = pixels(alloc, runs)?;
+    let rows = if total == 0 {
+        0
+    } else {
+        runs.split('/').count() as u32
+    };
+    let width = total.checked_div(rows).unwrap_or(0);
+    let head = format!(in alloc; "P3\n{width} {rows}\n255\n")?;
+    out.extend_from_slice(head.as_bytes())?;
+    out.extend_from_slice(&lines)?;
+    Ok(())
+}
+
+/// What a line prints.
+fn put_printed(printed: &str, out: &mut Vec<u8>) -> Result<(), Fail> {
+    if printed.is_empty() {
+        return Ok(());
+    }
+    if printed.starts_with('[') {
+        return put_picture(printed.trim_matches(['[', ']']), out);
+    }
+    out.extend_from_slice(printed.as_bytes())?;
+    out.push(b'\n')?;
+    Ok(())
+}
+
+/// A line of the input, with what its words stand for.
+fn put_line(line: &str, out: &mut Vec<u8>) -> Result<(), Fail> {
+    for (k, word) in line.split(' ').enumerate() {
+        if k > 0 {
+            out.push(b' ')?;
+        }
+        out.extend_from_slice(word_of(word).as_bytes())?;
+    }
+    out.push(b'\n')?;
+    Ok(())
+}
+
+/// An input, and what it is to print.
+#[derive(Drop)]
+struct Case {
+    input: Vec<u8>,
+    report: Vec<u8>,
+}
+
+impl Case {
+    fn new(alloc: Global) -> Case {
+        Case {
+            input: Vec::new(alloc),
+            report: Vec::new(alloc),
+        }
+    }
+
+    /// Adds a line, and what it prints.
+    fn line(&mut self, line: &str, printed: &str) -> Result<(), Fail> {
+        put_line(line, &mut self.input)?;
+        put_printed(printed, &mut self.report)
+    }
+
+    /// The client takes the entries from one index to another.
+    fn takes(&mut self, client: u32, from: u32, to: u32) -> Result<(), Fail> {
+        let alloc = *self.input.allocator();
+        for at in from..=to {
+            let line = format!(in alloc; "take {client}")?;
+            let printed = format!(in alloc; "took 0:{at}")?;
+            self.line(&line, &printed)?;
+        }
+        Ok(())
+    }
+
+    /// The client says so many undo points, which are placed from an index on.
+    fn points(&mut self, client: u32, count: u32, from: u32) -> Result<(), Fail> {
+        let alloc = *self.input.allocator();
+        for k in 0..count {
+            let (said, at) = (k.wrapping_add(1), from.wrapping_add(k));
+            let line = format!(in alloc; "say {client} POINT")?;
+            let printed = format!(in alloc; "said {said}")?;
+            self.line(&line, &printed)?;
+            let line = format!(in alloc; "up {client}")?;
+            let printed = format!(in alloc; "placed 0:{at}")?;
+            self.line(&line, &printed)?;
+        }
+        Ok(())
+    }
+
+    /// Adds a line of a row.
+    fn row_line(&mut self, text: &str) -> Result<(), Fail> {
+        let mut words = text.split(' ');
+        let first = words.next().unwrap_or("");
+        if first != "takes" && first != "points" {
+            let mut halves = text.split('|');
+            let line = halves.next().unwrap_or("");
+            return self.line(line, halves.next().unwrap_or(""));
+        }
+        let client = words.next().unwrap_or("").parse::<u32>()?;
+        let second = words.next().unwrap_or("").parse::<u32>()?;
+        let third = words.next().unwrap_or("").parse::<u32>()?;
+        if first == "takes" {
+            self.takes(client, second, third)
+        } else {
+            self.points(client, second, third)
+        }
+    }
+
+    /// Adds the lines of a row's part.
+    fn part(&mut self, part: &str) -> Result<(), Fail> {
+        for line in part.split('\n') {
+            self.row_line(line)?;
+        }
+        Ok(())
+    }
+}
+
+/// What a run leaves.
+#[derive(Drop)]
+struct Run {
+    status: u8,
+    output: MemSink,
+    diag: MemSink,
+}
+
+/// Runs a schedule in pieces of this length; the calls fail that are listed by their numbers from 1.
+fn world(
+    rt: &impl Abort,
+    alloc: Global,
+    input: &[u8],
+    piece: usize,
+    read_fails: &[u64],
+    write_fails: &[u64],
+) -> Result<Run, Fail> {
+    assert!(rt; piece >= 1);
+    let words = [String::from_str(alloc, "world")?];
+    let bytes = Vec::from_slice(alloc, input)?;
+    let mut source = MemSource::new(bytes, piece, Vec::from_slice(alloc, read_fails)?);
+    let mut output = MemSink::new(alloc, 100_000, piece, Vec::from_slice(alloc, write_fails)?)?;
+    let mut diag = MemSink::new(alloc, 100, 100, Vec::new(alloc))?;
+    let status = drawpile(alloc, &words, &mut source, &mut output, &mut diag).status;
+    Ok(Run {
+        status,
+        output,
+        diag,
+    })
+}
+
+/// One row, in pieces of a few lengths.
+fn check_row(rt: &impl Abort, alloc: Global, line: &str, parts: &[&str]) -> Result<(), Fail> {
+    let mut case = Case::new(alloc);
+    for part in parts {
+        case.part(part)?;
+    }
+    let status = if line.is_empty() { 0 } else { 2 };
+    for piece in [1, 7, 4096] {
+        let run = world(rt, alloc, &case.input, piece, &[], &[])?;
+        assert_eq!(rt; run.output.as_slice(), case.report.as_slice());
+        assert_eq!(rt; run.status, status);
+        assert!(rt; run.diag.as_slice().starts_with(line.as_bytes()));
+    }
+    Ok(())
+}
+
+#[test]
+fn worked_rows(rt: HostRuntime) -> Result<(), Fail> {
+    for (line, parts) in &ROWS {
+        check_row(&rt, rt.alloc(), line, parts)?;
+    }
+    Ok(())
+}
+
+/// 254 users join, and then there is no id for another, until one leaves.
+#[test]
+fn all_ids_are_held(rt: HostRuntime) -> Result<(), Fail> {
+    let alloc = rt.alloc();
+    let mut case = Case::new(alloc);
+    case.line("join a", "joined 1 user 1 at 0:1")?;
+    for user in 2..=254u32 {
+        let at = user + 1;
+        let printed = format!(in alloc; "joined {user} user {user} at 0:{at}")?;
+        case.line("join a", &printed)?;
+    }
+    case.part("join a|full\ncut 7|cut 0:256\njoin a|joined 255 user 7 at 0:257\njoin a|full")?;
+    let run = world(&rt, rt.alloc(), &case.input, 4096, &[], &[])?;
+    assert_eq!(rt; run.output.as_slice(), case.report.as_slice());
+    assert_eq!(rt; run.status, 0);
+    Ok(())
+}
+
+/// A read that fails: the report is that of the lines that were whole before. In pieces of 20 bytes the first
+/// ends in the second line.
+#[test]
+fn a_read_that_fails(rt: HostRuntime) -> Result<(), Fail> {
+    let mut case = Case::new(rt.alloc());
+    case.part(START)?;
+    for (call, report) in [
+        (1, b"".as_slice()),
+        (2, b"joined 1 user 1 at 0:1\n".as_slice()),
+        (3, b"joined 1 user 1 at 0:1\n".as_slice()),
+        (
+            4,
+            b"joined 1 user 1 at 0:1\nsaid 1\nplaced 0:3\n".as_slice(),
+        ),
+    ] {
+        let run = world(&rt, rt.alloc(), &case.input, 20, &[call], &[])?;
+        assert_eq!(rt; run.status, 3, "at call {call}");
+        assert_eq!(rt; run.output.as_slice(), report, "at call {call}");
+        assert_eq!(rt; run.diag.as_slice(), b"read fault\n".as_slice());
+    }
+    Ok(())
+}
+
+/// A write that fails at each call: a byte at a time, so what is written is a prefix of the report.
+#[test]
+fn a_write_that_fails_at_each_call(rt: HostRuntime) -> Result<(), Fail> {
+    let mut case = Case::new(rt.alloc());
+    case.part(START)?;
+    case.part("view 1|[2W]")?;
+    for call in 1..=case.report.len() as u64 {
+        let run = world(&rt, rt.alloc(), &case.input, 1, &[], &[call])?;
+        assert_eq!(rt; run.status, 4, "at call {call}");
+        assert_eq!(rt; run.output.as_slice().len() as u64 + 1, call);
+        assert!(rt; case.report.starts_with(run.output.as_slice()));
+        assert_eq!(rt; run.diag.as_slice(), b"write fault\n".as_slice());
+    }
+    Ok(())
+}
+
+/// 64 MiB of empty lines are a schedule, and a byte more is too much.
+#[test]
+fn inputs_about_the_limit(rt: HostRuntime) -> Result<(), Fail> {
+    for (more, status, line) in [
+        (0, 0, b"".as_slice()),
+        (1, 8, b"input too long\n".as_slice()),
+    ] {
+        let input = vec![in rt.alloc(); b'\n'; 67_108_864 + more]?;
+        let run = world(&rt, rt.alloc(), &input, 4096, &[], &[])?;
+        assert_eq!(rt; run.status, status);
+        assert!(rt; run.output.as_slice().is_empty());
+        assert_eq!(rt; run.diag.as_slice(), line);
+    }
+    Ok(())
+}

@@ -1,0 +1,6 @@
+pub mod Lists
+pub mod Steps
+pub mod Answering
+pub mod Events
+pub mod Clients
+pub mod Forks

@@ -1,0 +1,6 @@
+//! Laws of schedules: what a client's own steps lead to, and which of its sends are unanswered.
+#![tactic(auto)]
+
+mod laws;
+
+pub use laws::{clients_go_by_their_steps, forks_are_plain, no_fork_is_lost};

@@ -1,0 +1,71 @@
+-- Lines that are steps are a front of those that the input comes to.
+use Rattle.std.proofs.Common.{◌≡◌, ℕ, ◌⊎◌, inl, inr, List, [], ◌∷◌, ◌++◌, refl, sym, ap, ◌∙◌, subst}
+use Rattle.std.specs.Prelude.{Option}
+use Rattle.dp_io.specs.Streams.{GrowsByPrefix}
+use Rattle.dp_lines.specs.declared.line.Line.{Line}
+use Rattle.dp_lines.specs.Ends.{LinesEnd, AllDone, BadLine, TooLong, LinesComeTo, AreSteps, seen}
+use Rattle.dp_schedule.specs.declared.action.Action.{Action}
+use Rattle.dp_peers.specs.Report.{printed, along, report}
+use Rattle.dp_peers.specs.World.{world_after}
+use Rattle.dp_world.specs.Schedule.{AskFor, IsStep, world_limit, WorldComesTo}
+use Rattle.dp_world.specs.Going.{HasBegunOf}
+use Rattle.dp_world.proofs.Prefixes.{grows_within}
+use Rattle.dp_world.proofs.Called.{OneAction}
+use Rattle.dp_world.proofs.Reports.{asked_front, report-append}
+
+-- the first list goes on behind the second
+record Beyond (xs us vs : List Line) : Type 0 where
+  first : Line
+  more : List Line
+  behind : List Line
+  longer : xs ≡ us ++ first ∷ more
+  next : vs ≡ first ∷ behind
+
+-- of two fronts of a list one is a front of the other
+two_fronts : (xs ys us vs : List Line) → xs ++ ys ≡ us ++ vs
+    → ((more : List Line) × (us ≡ xs ++ more)) ⊎ Beyond xs us vs
+two_fronts [] ys us vs same = inl (us, refl)
+two_fronts (x ∷ xs) ys [] vs same = inr record { first = x; more = xs; behind = xs ++ ys; longer = refl; next = sym same }
+two_fronts (x ∷ xs) ys (u ∷ us) vs same =
+    let head : x ≡ u = cc (same) in
+    let tail : xs ++ ys ≡ us ++ vs = cc (same) in
+    elim (two_fronts xs ys us vs tail) [
+      | inl (more, is) ↦ inl (more, ap (λ (l : Line). l ∷ us) (sym head) ∙ ap (λ (ls : List Line). x ∷ ls) is)
+      | inr b ↦ inr record {
+        first = b.first;
+        more = b.more;
+        behind = b.behind;
+        longer = ap (λ (l : Line). l ∷ xs) head ∙ ap (λ (ls : List Line). u ∷ ls) b.longer;
+        next = b.next;
+      }
+    ]
+
+-- lines that are seen and are steps are the first of those that the input comes to
+pub front_of_done : (bytes : List ℕ) (done behind others : List Line) (end : LinesEnd)
+    → seen world_limit bytes ≡ done ++ behind → AreSteps IsStep done → LinesComeTo IsStep world_limit bytes others end
+    → (more : List Line) × (others ≡ done ++ more)
+front_of_done bytes done behind others AllDone whole steps (few, all, are) = (behind, all ∙ whole)
+front_of_done bytes done behind others TooLong whole steps (many, all, are) = (behind, all ∙ whole)
+front_of_done bytes done behind others (BadLine n) whole steps stops =
+    elim (two_fronts done behind others (stops.line ∷ stops.behind) (sym whole ∙ stops.next)) [
+      | inl front ↦ front
+      | inr b ↦
+          let line : b.first ≡ stops.line = cc (b.next) in
+          let longer : done ≡ others ++ stops.line ∷ b.more =
+          b.longer ∙ ap (λ (l : Line). others ++ l ∷ b.more) line in
+          absurd (stops.bad (steps others stops.line b.more longer))
+    ]
+
+-- so a prefix of their report is one of the report that the input is due
+pub begun_due : OneAction → (bytes : List ℕ) (old now : Option (List ℕ)) → HasBegunOf (seen world_limit bytes) old now
+    → (done : List Line) (actions : List Action) (end : LinesEnd) → WorldComesTo bytes done actions end
+    → GrowsByPrefix old now (report actions)
+begun_due one bytes old now begun done actions end (comes, asked) =
+    let first = begun.begun in
+    let front = front_of_done bytes begun.done begun.behind done end begun.parts first.steps comes in
+    let asked_whole = subst (λ (ls : List Line). AskFor ls actions) front.1 asked in
+    let begins = asked_front one begun.done front.0 first.actions actions first.asked asked_whole in
+    let reports : report actions ≡ report first.actions ++ along printed (world_after first.actions) begins.rest =
+    ap report begins.whole ∙ report-append first.actions begins.rest in
+    subst (GrowsByPrefix old now) (sym reports)
+    (grows_within old now (report first.actions) (along printed (world_after first.actions) begins.rest) first.text)

@@ -1,0 +1,9 @@
+pub mod Called
+pub mod Reports
+pub mod Prefixes
+pub mod Shown
+pub mod Lines
+pub mod Fronts
+pub mod Going
+pub mod Reading
+pub mod Leaving

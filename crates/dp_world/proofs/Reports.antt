@@ -1,0 +1,76 @@
+-- What lines ask for one after the other, and what the actions make and print.
+use Rattle.std.proofs.Common.{◌≡◌, ℕ, List, [], ◌∷◌, ◌++◌, refl, sym, ap, ◌∙◌, append_assoc}
+use Rattle.std.specs.List.{fold}
+use Rattle.std.proofs.lemmas.List.{append-nil}
+use Rattle.std.proofs.lemmas.List.Sums.{fold_push}
+use Rattle.dp_lines.specs.declared.line.Line.{Line}
+use Rattle.dp_schedule.specs.declared.action.Action.{Action}
+use Rattle.dp_schedule.specs.Asking.{Asks}
+use Rattle.dp_peers.specs.Report.{printed, along, report}
+use Rattle.dp_peers.specs.World.{World, first_world, after, world_after}
+use Rattle.dp_world.specs.Schedule.{AskFor}
+use Rattle.dp_world.proofs.Called.{OneAction}
+
+-- ---- asking
+
+-- one line more asks for one action more
+pub asked_more : (done : List Line) (actions : List Action) (line : Line) (action : Action)
+    → AskFor done actions → Asks line.bytes action → AskFor (done ++ line ∷ []) (actions ++ action ∷ [])
+asked_more [] [] line action asked asks = (asks, tt)
+asked_more [] (first ∷ actions) line action asked asks = absurd asked
+asked_more (first ∷ done) [] line action asked asks = absurd asked
+asked_more (first ∷ done) (one ∷ actions) line action (here, asked) asks =
+    (here, asked_more done actions line action asked asks)
+
+-- the first of the lines ask for the first of the actions
+pub record Begins (actions more : List Action) : Type 0 where
+  pub rest : List Action
+  pub whole : more ≡ actions ++ rest
+
+pub asked_front : OneAction → (done behind : List Line) (actions more : List Action)
+    → AskFor done actions → AskFor (done ++ behind) more → Begins actions more
+asked_front one [] behind [] more front whole = record { rest = more; whole = refl }
+asked_front one [] behind (action ∷ actions) more front whole = absurd front
+asked_front one (line ∷ done) behind [] more front whole = absurd front
+asked_front one (line ∷ done) behind (action ∷ actions) [] front whole = absurd whole
+asked_front one (line ∷ done) behind (action ∷ actions) (other ∷ more) (here, front) (there, whole) =
+    let begins = asked_front one done behind actions more front whole in
+    let first : other ≡ action = one line.bytes other action there here in
+    let others = begins.whole in record { rest = begins.rest; whole = cc }
+
+-- lines ask for their actions in one way
+pub asked_same : OneAction → (done : List Line) (actions more : List Action)
+    → AskFor done actions → AskFor done more → actions ≡ more
+asked_same one [] [] [] h k = refl
+asked_same one [] (action ∷ actions) more h k = absurd h
+asked_same one [] [] (other ∷ more) h k = absurd k
+asked_same one (line ∷ done) [] more h k = absurd h
+asked_same one (line ∷ done) (action ∷ actions) [] h k = absurd k
+asked_same one (line ∷ done) (action ∷ actions) (other ∷ more) (here, h) (there, k) =
+    let first : action ≡ other = one line.bytes action other here there in
+    let others : actions ≡ more = asked_same one done actions more h k in cc
+
+-- ---- what the actions make and print
+
+pub along-append : (world : World) (actions more : List Action)
+    → along printed world (actions ++ more) ≡ along printed world actions ++ along printed (fold after world actions) more
+along-append world [] more = refl
+along-append world (action ∷ actions) more =
+    ap (λ (b : List ℕ). printed world action ++ b) (along-append (after world action) actions more)
+    ∙ sym (append_assoc (printed world action) (along printed (after world action) actions) (along printed (fold after (after world action) actions) more))
+
+-- a report goes on
+pub report-append : (actions more : List Action)
+    → report (actions ++ more) ≡ report actions ++ along printed (world_after actions) more
+report-append actions more = along-append first_world actions more
+
+-- one action more
+pub report_more : (actions : List Action) (action : Action)
+    → report (actions ++ action ∷ []) ≡ report actions ++ printed (world_after actions) action
+report_more actions action =
+    report-append actions (action ∷ [])
+    ∙ ap (λ (b : List ℕ). report actions ++ b) (append-nil (printed (world_after actions) action))
+
+pub world_more : (actions : List Action) (action : Action)
+    → world_after (actions ++ action ∷ []) ≡ after (world_after actions) action
+world_more actions action = fold_push after first_world actions action

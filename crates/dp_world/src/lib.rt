@@ -1,0 +1,13 @@
+//! The report of a schedule: its lines on the input, what each prints on the output.
+//!
+//! The rule: docs/protocol.md, "The world".
+#![tactic(auto)]
+
+mod doing;
+mod feeding;
+mod laws;
+mod run;
+mod steps;
+
+pub use laws::one_schedule;
+pub use run::run_world;
