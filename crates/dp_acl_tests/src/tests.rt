@@ -2,13 +2,9 @@
 //! Payloads are hexadecimal. User 1 is the operator, 2 is trusted, 3 is registered, and 4 is a guest.
 
 use dp_acl::Rights;
-use dp_frame::Octets;
-use dp_messages::{Entry, Msg};
-use dp_msg_draw::{is_listed, read_draw};
-use dp_msg_meta::{
-    Ids, Meta, Tiers, is_control_kind, is_meta_kind, kind_of_meta, read_control, read_meta,
-    write_meta,
-};
+use dp_frame::{Frame, Octets};
+use dp_messages::{Entry, Msg, decode};
+use dp_msg_meta::{Ids, Meta, Tiers, kind_of_meta, write_meta};
 use std::alloc::Global;
 use std::process::Abort;
 use std::test::Fail;
@@ -32,31 +28,12 @@ fn bytes_of(alloc: Global, text: &str) -> Result<Vec<u8>, Fail> {
     Ok(bytes)
 }
 
-/// The message of a kind with this payload.
-fn msg_of(rt: &impl Abort, alloc: Global, kind: u8, text: &str) -> Result<Msg, Fail> {
+/// The entry of a user, a kind and a payload.
+fn entry_of(rt: &impl Abort, alloc: Global, user: u8, kind: u8, text: &str) -> Result<Entry, Fail> {
     let payload = bytes_of(alloc, text)?;
-    if is_control_kind(kind) {
-        return Ok(Msg::Control(read_control(alloc, kind, &payload)?));
-    }
-    if is_meta_kind(kind) {
-        return Ok(Msg::Meta(read_meta(alloc, kind, &payload)?));
-    }
-    if is_listed(kind) {
-        return Ok(Msg::Draw(read_draw(alloc, kind, &payload)?));
-    }
-    match (kind, payload.as_slice()) {
-        (6, [part, rest @ ..]) if is_listed(*part) => Ok(Msg::Part(read_draw(alloc, *part, rest)?)),
-        (128, []) => Ok(Msg::Point),
-        (255, [target, redo]) => Ok(Msg::Undo {
-            target: *target,
-            redo: *redo == 1,
-        }),
-        (200, _) => Ok(Msg::Opaque {
-            kind,
-            body: Octets::from_vec(payload),
-        }),
-        _ => panic!(rt; "{text} is no message of kind {kind}"),
-    }
+    assert!(rt; payload.len() < 65_536);
+    let frame = Frame::new(kind, user, Octets::from_vec(payload));
+    Ok(decode(alloc, &frame)?)
 }
 
 /// Notes entries, each a user, a kind and a payload.
@@ -67,10 +44,8 @@ fn note(
     rows: &[(u8, u8, &str)],
 ) -> Result<(), Fail> {
     for (user, kind, text) in rows {
-        rights.note(&Entry {
-            user: *user,
-            msg: msg_of(rt, alloc, *kind, text)?,
-        })?;
+        let entry = entry_of(rt, alloc, *user, *kind, text)?;
+        rights.note(&entry)?;
     }
     Ok(())
 }
@@ -83,10 +58,10 @@ fn check(
     rows: &[(u8, &str, &str)],
 ) -> Result<(), Fail> {
     for (kind, text, users) in rows {
-        let msg = msg_of(rt, alloc, *kind, text)?;
+        let entry = entry_of(rt, alloc, 0, *kind, text)?;
         for user in 1..5u8 {
             assert_eq!(rt;
-                rights.permits(user, &msg),
+                rights.permits(user, &entry.msg),
                 users.as_bytes().contains(&(b'0' + user)),
                 "{kind} {text} of user {user}"
             );

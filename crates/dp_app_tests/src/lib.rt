@@ -4,4 +4,6 @@
 #[cfg(test)]
 mod replay;
 #[cfg(test)]
+mod running;
+#[cfg(test)]
 mod world;

@@ -2,6 +2,7 @@
 
 ghost use Rattle.std.specs.Prelude.{◌≤◌, None, length};
 
+use crate::running::{Faults, NO_FAULTS, run};
 use dp_app::{Outcome, drawpile};
 use dp_io::{Failed, MemSink, MemSource, Source};
 use std::alloc::Global;
@@ -166,58 +167,6 @@ fn picture_of(alloc: Global, head: &str, pixels: &str) -> Result<Vec<u8>, Fail> 
     Ok(bytes)
 }
 
-/// The calls that fail, by their numbers from 1, of a run's input, output and diag.
-#[derive(Clone, Copy)]
-struct Faults<'a> {
-    input: &'a [u64],
-    output: &'a [u64],
-    diag: &'a [u64],
-}
-
-const NO_FAULTS: Faults<'static> = Faults {
-    input: &[],
-    output: &[],
-    diag: &[],
-};
-
-/// What a run leaves.
-#[derive(Drop)]
-struct Run {
-    status: u8,
-    output: MemSink,
-    diag: MemSink,
-}
-
-/// Runs `replay` on the input in pieces of this length, and writes in pieces of this length.
-fn replay(
-    rt: &impl Abort,
-    alloc: Global,
-    input: &[u8],
-    piece: usize,
-    faults: Faults<'_>,
-) -> Result<Run, Fail> {
-    assert!(rt; piece >= 1);
-    let words = [String::from_str(alloc, "replay")?];
-    let mut source = MemSource::new(
-        Vec::from_slice(alloc, input)?,
-        piece,
-        Vec::from_slice(alloc, faults.input)?,
-    );
-    let mut output = MemSink::new(
-        alloc,
-        320_000,
-        piece,
-        Vec::from_slice(alloc, faults.output)?,
-    )?;
-    let mut diag = MemSink::new(alloc, 1000, piece, Vec::from_slice(alloc, faults.diag)?)?;
-    let status = drawpile(alloc, &words, &mut source, &mut output, &mut diag).status;
-    Ok(Run {
-        status,
-        output,
-        diag,
-    })
-}
-
 /// One row, in pieces of every length.
 fn check_row(rt: &impl Abort, alloc: Global, row: &str) -> Result<(), Fail> {
     let mut parts = row.split('|');
@@ -227,7 +176,7 @@ fn check_row(rt: &impl Abort, alloc: Global, row: &str) -> Result<(), Fail> {
     let head = parts.next().unwrap_or("");
     let picture = picture_of(alloc, head, parts.next().unwrap_or(""))?;
     for piece in 1..=input.len().min(300) + 1 {
-        let run = replay(rt, alloc, &input, piece, NO_FAULTS)?;
+        let run = run(rt, alloc, "replay", &input, piece, NO_FAULTS)?;
         assert_eq!(rt; run.status, status, "{row} in pieces of {piece}");
         assert_eq!(rt;
             run.output.as_slice(),
@@ -260,7 +209,7 @@ fn a_tile_of_equal_pixels(rt: HostRuntime) -> Result<(), Fail> {
     for _ in 0..4096 {
         input.extend_from_slice(&[0; 8])?;
     }
-    let run = replay(&rt, alloc, &input, 4096, NO_FAULTS)?;
+    let run = run(&rt, alloc, "replay", &input, 4096, NO_FAULTS)?;
     assert_eq!(rt; run.status, 10);
     assert_eq!(rt; run.diag.as_slice(), b"bad message at 0\n".as_slice());
     assert!(rt; run.output.as_slice().is_empty());
@@ -284,7 +233,7 @@ fn a_round_dab_of_size_255(rt: HostRuntime) -> Result<(), Fail> {
         alloc,
         "0010810100000000000001400000014000000000 LAYER 001295010101000000a0000000a0ff0000010000ffff",
     )?;
-    let run = replay(&rt, alloc, &input, 4096, NO_FAULTS)?;
+    let run = run(&rt, alloc, "replay", &input, 4096, NO_FAULTS)?;
     assert_eq!(rt; run.status, 0);
     let pixels = run.output.as_slice().get(15..).unwrap_or(&[]);
     assert_eq!(rt; pixels.len(), 3 * 320 * 320);
@@ -315,7 +264,7 @@ fn a_tile_put_twice(rt: HostRuntime) -> Result<(), Fail> {
         alloc,
         "0010810100000000000000800000004000000000 LAYER 001192010101000000000001008000000000008000",
     )?;
-    let run = replay(&rt, alloc, &input, 4096, NO_FAULTS)?;
+    let run = run(&rt, alloc, "replay", &input, 4096, NO_FAULTS)?;
     assert_eq!(rt; run.status, 0);
     let pixels = run.output.as_slice().get(14..).unwrap_or(&[]);
     assert_eq!(rt; pixels.len(), 3 * 8192);
@@ -389,9 +338,10 @@ fn a_failing_read(rt: HostRuntime) -> Result<(), Fail> {
         (3, 10, b"bad message at 20\n".as_slice()),
     ] {
         let calls = [call];
-        let run = replay(
+        let run = run(
             &rt,
             alloc,
+            "replay",
             &input,
             20,
             Faults {
@@ -414,9 +364,10 @@ fn a_write_that_fails_at_each_call(rt: HostRuntime) -> Result<(), Fail> {
     // A byte at a time: the call that fails has the bytes before it written.
     for call in 1..=picture.len() as u64 {
         let calls = [call];
-        let run = replay(
+        let run = run(
             &rt,
             alloc,
+            "replay",
             &input,
             1,
             Faults {
@@ -445,9 +396,10 @@ fn a_diag_that_fails(rt: HostRuntime) -> Result<(), Fail> {
     let input = input_of(alloc, "SIZE LAYER 00")?;
     for call in [1, 2, 16] {
         let calls = [call];
-        let run = replay(
+        let run = run(
             &rt,
             alloc,
+            "replay",
             &input,
             1,
             Faults {

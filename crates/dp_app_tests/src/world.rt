@@ -1,10 +1,8 @@
 //! Worked schedules, through the program's top call: their lines, and what each prints.
 
-ghost use Rattle.std.specs.Prelude.{◌≤◌, None, length};
-
-use dp_app::{Outcome, drawpile};
-use dp_io::{Failed, MemSink, MemSource, Source};
-use std::alloc::Global;
+use crate::running::{Faults, NO_FAULTS, run};
+use dp_lines::put_number;
+use std::alloc::{AllocError, Global};
 use std::process::Abort;
 use std::test::Fail;
 
@@ -55,7 +53,7 @@ up 1|placed 0:5";
 
 /// A line of a row is a line of the input, and behind a bar what it prints: words, or a picture in brackets, whose
 /// pixels are red, blue and white, each with how often it stands there, and its rows parted by a slash. `takes C N M` stands
-/// for the lines that take the entries from N to M.
+/// for the lines that take the entries from N to M, and `points K N` for K undo points of the second client, placed from N on.
 static ROWS: [(&str, &[&str]); 24] = [
     ("", &[START]),
     ("", &[START2]),
@@ -100,7 +98,7 @@ static ROWS: [(&str, &[&str]); 24] = [
         "",
         &[
             START2,
-            "say 1 POINT|said 3\nup 1|placed 0:6\nsay 1 RED0|said 4\nup 1|placed 0:7\npoints 2 29 8\nsay 1 UNDO|said 5\nup 1|placed 0:37",
+            "say 1 POINT|said 3\nup 1|placed 0:6\nsay 1 RED0|said 4\nup 1|placed 0:7\npoints 29 8\nsay 1 UNDO|said 5\nup 1|placed 0:37",
             "takes 1 0 36\nconf 1|[1R1W]\ntake 1|took 0:37\nconf 1|[2W]\nview 1|[2W]",
         ],
     ),
@@ -108,7 +106,7 @@ static ROWS: [(&str, &[&str]); 24] = [
         "",
         &[
             START2,
-            "say 1 POINT|said 3\nup 1|placed 0:6\nsay 1 RED0|said 4\nup 1|placed 0:7\npoints 2 30 8\nsay 1 UNDO|said 5\nup 1|placed 0:38",
+            "say 1 POINT|said 3\nup 1|placed 0:6\nsay 1 RED0|said 4\nup 1|placed 0:7\npoints 30 8\nsay 1 UNDO|said 5\nup 1|placed 0:38",
             "takes 1 0 38\nconf 1|[1R1W]\nview 1|[1R1W]",
         ],
     ),
@@ -203,9 +201,8 @@ fn pixel(letter: u8) -> &'static [u8] {
     }
 }
 
-/// The lines of pixels, each with how often it stands there, and how many they are.
-fn pixels(alloc: Global, runs: &str) -> Result<(Vec<u8>, u32), Fail> {
-    let mut lines = Vec::new(alloc);
+/// Adds the lines of pixels, each with how often it stands there, and answers how many they are.
+fn put_pixels(runs: &str, out: &mut Vec<u8>) -> Result<u32, AllocError> {
     let mut total = 0u32;
     let mut count = 0u32;
     for letter in runs.bytes() {
@@ -214,33 +211,49 @@ fn pixels(alloc: Global, runs: &str) -> Result<(Vec<u8>, u32), Fail> {
             count = count.wrapping_mul(10).wrapping_add(digit);
         } else {
             for _ in 0..count {
-                lines.extend_from_slice(pixel(letter))?;
+                out.extend_from_slice(pixel(letter))?;
             }
             total = total.wrapping_add(count);
             count = 0;
         }
     }
-    Ok((lines, total))
+    Ok(total)
 }
 
-/// The text of a picture: its rows, parted by a slash.
-fn put_picture(runs: &str, out: &mut Vec<u8>) -> Result<(), Fail> {
-    let alloc = *out.allocator();
-    let (lines, total) = pixels(alloc, runs)?;
-    let rows = if total == 0 {
-        0
-    } else {
-        runs.split('/').count() as u32
-    };
-    let width = total.checked_div(rows).unwrap_or(0);
-    let head = format!(in alloc; "P3\n{width} {rows}\n255\n")?;
-    out.extend_from_slice(head.as_bytes())?;
-    out.extend_from_slice(&lines)?;
+/// How many pixels these are.
+fn count_pixels(alloc: Global, runs: &str) -> Result<u32, AllocError> {
+    put_pixels(runs, &mut Vec::new(alloc))
+}
+
+/// Adds texts, each with the number behind it, and a newline.
+fn put_numbers(parts: &[(&str, u32)], out: &mut Vec<u8>) -> Result<(), AllocError> {
+    for (text, number) in parts {
+        out.extend_from_slice(text.as_bytes())?;
+        put_number(*number, out)?;
+    }
+    out.push(b'\n')?;
     Ok(())
 }
 
-/// What a line prints.
-fn put_printed(printed: &str, out: &mut Vec<u8>) -> Result<(), Fail> {
+/// Adds the text of a picture: its rows, parted by a slash.
+fn put_picture(runs: &str, out: &mut Vec<u8>) -> Result<(), AllocError> {
+    let total = count_pixels(*out.allocator(), runs)?;
+    let rows = if total == 0 {
+        0
+    } else {
+        runs.split('/').count()
+    };
+    let rows = u32::try_from(rows).unwrap_or(1);
+    let width = total.checked_div(rows).unwrap_or(0);
+    out.extend_from_slice(b"P3\n")?;
+    put_numbers(&[("", width), (" ", rows)], out)?;
+    out.extend_from_slice(b"255\n")?;
+    put_pixels(runs, out)?;
+    Ok(())
+}
+
+/// Adds what a line prints.
+fn put_printed(printed: &str, out: &mut Vec<u8>) -> Result<(), AllocError> {
     if printed.is_empty() {
         return Ok(());
     }
@@ -252,8 +265,8 @@ fn put_printed(printed: &str, out: &mut Vec<u8>) -> Result<(), Fail> {
     Ok(())
 }
 
-/// A line of the input, with what its words stand for.
-fn put_line(line: &str, out: &mut Vec<u8>) -> Result<(), Fail> {
+/// Adds a line of the input, with what its words stand for.
+fn put_line(line: &str, out: &mut Vec<u8>) -> Result<(), AllocError> {
     for (k, word) in line.split(' ').enumerate() {
         if k > 0 {
             out.push(b' ')?;
@@ -279,145 +292,114 @@ impl Case {
         }
     }
 
-    /// Adds a line, and what it prints.
-    fn line(&mut self, line: &str, printed: &str) -> Result<(), Fail> {
-        put_line(line, &mut self.input)?;
-        put_printed(printed, &mut self.report)
-    }
-
     /// The client takes the entries from one index to another.
-    fn takes(&mut self, client: u32, from: u32, to: u32) -> Result<(), Fail> {
-        let alloc = *self.input.allocator();
+    fn takes(&mut self, client: u32, from: u32, to: u32) -> Result<(), AllocError> {
         for at in from..=to {
-            let line = format!(in alloc; "take {client}")?;
-            let printed = format!(in alloc; "took 0:{at}")?;
-            self.line(&line, &printed)?;
+            put_numbers(&[("take ", client)], &mut self.input)?;
+            put_numbers(&[("took 0:", at)], &mut self.report)?;
         }
         Ok(())
     }
 
-    /// The client says so many undo points, which are placed from an index on.
-    fn points(&mut self, client: u32, count: u32, from: u32) -> Result<(), Fail> {
-        let alloc = *self.input.allocator();
+    /// The second client says so many undo points, which are placed from an index on.
+    fn points(&mut self, count: u32, from: u32) -> Result<(), AllocError> {
         for k in 0..count {
-            let (said, at) = (k.wrapping_add(1), from.wrapping_add(k));
-            let line = format!(in alloc; "say {client} POINT")?;
-            let printed = format!(in alloc; "said {said}")?;
-            self.line(&line, &printed)?;
-            let line = format!(in alloc; "up {client}")?;
-            let printed = format!(in alloc; "placed 0:{at}")?;
-            self.line(&line, &printed)?;
+            self.input.extend_from_slice(b"say 2 80\nup 2\n")?;
+            put_numbers(&[("said ", k.wrapping_add(1))], &mut self.report)?;
+            put_numbers(&[("placed 0:", from.wrapping_add(k))], &mut self.report)?;
         }
         Ok(())
     }
 
     /// Adds a line of a row.
-    fn row_line(&mut self, text: &str) -> Result<(), Fail> {
-        let mut words = text.split(' ');
-        let first = words.next().unwrap_or("");
-        if first != "takes" && first != "points" {
-            let mut halves = text.split('|');
-            let line = halves.next().unwrap_or("");
-            return self.line(line, halves.next().unwrap_or(""));
+    fn line(&mut self, text: &str) -> Result<(), AllocError> {
+        let mut numbers = text
+            .split(' ')
+            .skip(1)
+            .map(|word| word.parse().unwrap_or(0));
+        if text.starts_with("takes ") {
+            let client = numbers.next().unwrap_or(0);
+            let from = numbers.next().unwrap_or(0);
+            return self.takes(client, from, numbers.next().unwrap_or(0));
         }
-        let client = words.next().unwrap_or("").parse::<u32>()?;
-        let second = words.next().unwrap_or("").parse::<u32>()?;
-        let third = words.next().unwrap_or("").parse::<u32>()?;
-        if first == "takes" {
-            self.takes(client, second, third)
-        } else {
-            self.points(client, second, third)
+        if text.starts_with("points ") {
+            let count = numbers.next().unwrap_or(0);
+            return self.points(count, numbers.next().unwrap_or(0));
         }
+        let mut halves = text.split('|');
+        put_line(halves.next().unwrap_or(""), &mut self.input)?;
+        put_printed(halves.next().unwrap_or(""), &mut self.report)
     }
 
     /// Adds the lines of a row's part.
-    fn part(&mut self, part: &str) -> Result<(), Fail> {
+    fn part(&mut self, part: &str) -> Result<(), AllocError> {
         for line in part.split('\n') {
-            self.row_line(line)?;
+            self.line(line)?;
         }
         Ok(())
     }
 }
 
-/// What a run leaves.
-#[derive(Drop)]
-struct Run {
-    status: u8,
-    output: MemSink,
-    diag: MemSink,
-}
-
-/// Runs a schedule in pieces of this length; the calls fail that are listed by their numbers from 1.
-fn world(
-    rt: &impl Abort,
-    alloc: Global,
-    input: &[u8],
-    piece: usize,
-    read_fails: &[u64],
-    write_fails: &[u64],
-) -> Result<Run, Fail> {
-    assert!(rt; piece >= 1);
-    let words = [String::from_str(alloc, "world")?];
-    let bytes = Vec::from_slice(alloc, input)?;
-    let mut source = MemSource::new(bytes, piece, Vec::from_slice(alloc, read_fails)?);
-    let mut output = MemSink::new(alloc, 100_000, piece, Vec::from_slice(alloc, write_fails)?)?;
-    let mut diag = MemSink::new(alloc, 100, 100, Vec::new(alloc))?;
-    let status = drawpile(alloc, &words, &mut source, &mut output, &mut diag).status;
-    Ok(Run {
-        status,
-        output,
-        diag,
-    })
-}
-
-/// One row, in pieces of a few lengths.
-fn check_row(rt: &impl Abort, alloc: Global, line: &str, parts: &[&str]) -> Result<(), Fail> {
+/// The case of these parts.
+fn case_of(alloc: Global, parts: &[&str]) -> Result<Case, AllocError> {
     let mut case = Case::new(alloc);
     for part in parts {
         case.part(part)?;
     }
-    let status = if line.is_empty() { 0 } else { 2 };
-    for piece in [1, 7, 4096] {
-        let run = world(rt, alloc, &case.input, piece, &[], &[])?;
-        assert_eq!(rt; run.output.as_slice(), case.report.as_slice());
-        assert_eq!(rt; run.status, status);
-        assert!(rt; run.diag.as_slice().starts_with(line.as_bytes()));
-    }
+    Ok(case)
+}
+
+/// The case gives its report in pieces of this length, and this line on diag.
+fn check(
+    rt: &impl Abort,
+    alloc: Global,
+    case: &Case,
+    line: &str,
+    piece: usize,
+) -> Result<(), Fail> {
+    let run = run(rt, alloc, "world", &case.input, piece, NO_FAULTS)?;
+    assert_eq!(rt; run.output.as_slice(), case.report.as_slice());
+    assert_eq!(rt; run.status, if line.is_empty() { 0 } else { 2 });
+    assert!(rt; run.diag.as_slice().starts_with(line.as_bytes()));
     Ok(())
 }
 
 #[test]
 fn worked_rows(rt: HostRuntime) -> Result<(), Fail> {
     for (line, parts) in &ROWS {
-        check_row(&rt, rt.alloc(), line, parts)?;
+        let case = case_of(rt.alloc(), parts)?;
+        for piece in [1, 7, 4096] {
+            check(&rt, rt.alloc(), &case, line, piece)?;
+        }
     }
     Ok(())
 }
 
-/// 254 users join, and then there is no id for another, until one leaves.
+/// 254 users join.
+fn all_joined(alloc: Global) -> Result<Case, AllocError> {
+    let mut case = Case::new(alloc);
+    for user in 1..=254u32 {
+        let at = if user == 1 { 1 } else { user + 1 };
+        case.input.extend_from_slice(b"join a\n")?;
+        let told = [("joined ", user), (" user ", user), (" at 0:", at)];
+        put_numbers(&told, &mut case.report)?;
+    }
+    Ok(case)
+}
+
+/// Then there is no id for another, until one leaves.
 #[test]
 fn all_ids_are_held(rt: HostRuntime) -> Result<(), Fail> {
-    let alloc = rt.alloc();
-    let mut case = Case::new(alloc);
-    case.line("join a", "joined 1 user 1 at 0:1")?;
-    for user in 2..=254u32 {
-        let at = user + 1;
-        let printed = format!(in alloc; "joined {user} user {user} at 0:{at}")?;
-        case.line("join a", &printed)?;
-    }
+    let mut case = all_joined(rt.alloc())?;
     case.part("join a|full\ncut 7|cut 0:256\njoin a|joined 255 user 7 at 0:257\njoin a|full")?;
-    let run = world(&rt, rt.alloc(), &case.input, 4096, &[], &[])?;
-    assert_eq!(rt; run.output.as_slice(), case.report.as_slice());
-    assert_eq!(rt; run.status, 0);
-    Ok(())
+    check(&rt, rt.alloc(), &case, "", 4096)
 }
 
 /// A read that fails: the report is that of the lines that were whole before. In pieces of 20 bytes the first
 /// ends in the second line.
 #[test]
 fn a_read_that_fails(rt: HostRuntime) -> Result<(), Fail> {
-    let mut case = Case::new(rt.alloc());
-    case.part(START)?;
+    let case = case_of(rt.alloc(), &[START])?;
     for (call, report) in [
         (1, b"".as_slice()),
         (2, b"joined 1 user 1 at 0:1\n".as_slice()),
@@ -427,7 +409,12 @@ fn a_read_that_fails(rt: HostRuntime) -> Result<(), Fail> {
             b"joined 1 user 1 at 0:1\nsaid 1\nplaced 0:3\n".as_slice(),
         ),
     ] {
-        let run = world(&rt, rt.alloc(), &case.input, 20, &[call], &[])?;
+        let calls = [call];
+        let faults = Faults {
+            input: &calls,
+            ..NO_FAULTS
+        };
+        let run = run(&rt, rt.alloc(), "world", &case.input, 20, faults)?;
         assert_eq!(rt; run.status, 3, "at call {call}");
         assert_eq!(rt; run.output.as_slice(), report, "at call {call}");
         assert_eq!(rt; run.diag.as_slice(), b"read fault\n".as_slice());
@@ -438,11 +425,14 @@ fn a_read_that_fails(rt: HostRuntime) -> Result<(), Fail> {
 /// A write that fails at each call: a byte at a time, so what is written is a prefix of the report.
 #[test]
 fn a_write_that_fails_at_each_call(rt: HostRuntime) -> Result<(), Fail> {
-    let mut case = Case::new(rt.alloc());
-    case.part(START)?;
-    case.part("view 1|[2W]")?;
+    let case = case_of(rt.alloc(), &[START, "view 1|[2W]"])?;
     for call in 1..=case.report.len() as u64 {
-        let run = world(&rt, rt.alloc(), &case.input, 1, &[], &[call])?;
+        let calls = [call];
+        let faults = Faults {
+            output: &calls,
+            ..NO_FAULTS
+        };
+        let run = run(&rt, rt.alloc(), "world", &case.input, 1, faults)?;
         assert_eq!(rt; run.status, 4, "at call {call}");
         assert_eq!(rt; run.output.as_slice().len() as u64 + 1, call);
         assert!(rt; case.report.starts_with(run.output.as_slice()));
@@ -459,7 +449,7 @@ fn inputs_about_the_limit(rt: HostRuntime) -> Result<(), Fail> {
         (1, 8, b"input too long\n".as_slice()),
     ] {
         let input = vec![in rt.alloc(); b'\n'; 67_108_864 + more]?;
-        let run = world(&rt, rt.alloc(), &input, 4096, &[], &[])?;
+        let run = run(&rt, rt.alloc(), "world", &input, 4096, NO_FAULTS)?;
         assert_eq!(rt; run.status, status);
         assert!(rt; run.output.as_slice().is_empty());
         assert_eq!(rt; run.diag.as_slice(), line);

@@ -2,60 +2,69 @@
 
 use dp_layers::{LayerRow, Tree};
 use dp_msg_draw::{Draw, Title};
-use std::alloc::Global;
+use std::alloc::{AllocError, Global};
 use std::process::Abort;
 use std::test::Fail;
 
-/// A new paint row.
-fn paint(alloc: Global, id: u16, parent: u16) -> Draw {
-    Draw::LayerCreate {
-        id,
-        parent,
-        group: false,
-        title: Title::new(alloc),
+/// A command on layers, without a title.
+#[derive(Clone, Copy, Debug)]
+enum Order {
+    /// A new paint row of this id, in this parent.
+    Paint(u16, u16),
+    /// A new group.
+    Group(u16, u16),
+    /// The attributes of the row: opacity 7, this mode, hidden.
+    Attr(u16, u8),
+    /// The empty title.
+    Untitled(u16),
+    /// The row goes into this parent, behind this row.
+    To(u16, u16, u16),
+    Delete(u16),
+}
+
+use Order::{Attr, Delete, Group, Paint, To, Untitled};
+
+/// The command.
+fn command(alloc: Global, order: Order) -> Draw {
+    match order {
+        Paint(id, parent) => Draw::LayerCreate {
+            id,
+            parent,
+            group: false,
+            title: Title::new(alloc),
+        },
+        Group(id, parent) => Draw::LayerCreate {
+            id,
+            parent,
+            group: true,
+            title: Title::new(alloc),
+        },
+        Attr(id, mode) => Draw::LayerAttr {
+            id,
+            opacity: 7,
+            mode,
+            hidden: true,
+        },
+        Untitled(id) => Draw::LayerTitle {
+            id,
+            title: Title::new(alloc),
+        },
+        To(id, parent, above) => Draw::LayerMove { id, parent, above },
+        Delete(id) => Draw::LayerDelete { id },
     }
 }
 
-/// A new group.
-fn group(alloc: Global, id: u16, parent: u16) -> Draw {
-    Draw::LayerCreate {
-        id,
-        parent,
-        group: true,
-        title: Title::new(alloc),
+/// Takes the command, and answers whether it had effect; a new paint row holds its own id.
+fn take(alloc: Global, tree: &mut Tree<u16>, order: Order) -> Result<bool, AllocError> {
+    let op = command(alloc, order);
+    match order {
+        Paint(id, _) => tree.create(&op, Some(id)),
+        Group(..) => tree.create(&op, None),
+        Attr(..) => tree.attr(&op),
+        Untitled(_) => tree.title(&op),
+        To(..) => tree.shift(&op),
+        Delete(_) => tree.delete(&op),
     }
-}
-
-fn to(id: u16, parent: u16, above: u16) -> Draw {
-    Draw::LayerMove { id, parent, above }
-}
-
-fn delete(id: u16) -> Draw {
-    Draw::LayerDelete { id }
-}
-
-fn attr(id: u16, mode: u8) -> Draw {
-    Draw::LayerAttr {
-        id,
-        opacity: 7,
-        mode,
-        hidden: true,
-    }
-}
-
-/// Takes the command; a new paint row holds its own id.
-fn take(tree: &mut Tree<u16>, op: &Draw) -> Result<bool, Fail> {
-    let effect = match op {
-        Draw::LayerCreate { id, group, .. } => {
-            tree.create(op, if *group { None } else { Some(*id) })?
-        }
-        Draw::LayerAttr { .. } => tree.attr(op)?,
-        Draw::LayerTitle { .. } => tree.title(op)?,
-        Draw::LayerMove { .. } => tree.shift(op)?,
-        Draw::LayerDelete { .. } => tree.delete(op)?,
-        _ => false,
-    };
-    Ok(effect)
 }
 
 /// The rows are these ids with these parents, and each paint row still holds its own id.
@@ -75,7 +84,7 @@ fn expect(rt: &impl Abort, tree: &Tree<u16>, rows: &[(u16, u16)]) {
 fn nested(rt: &impl Abort, alloc: Global, count: u16) -> Result<Tree<u16>, Fail> {
     let mut tree = Tree::new(alloc);
     for id in 1..=count {
-        assert!(rt; take(&mut tree, &group(alloc, id, id - 1))?);
+        assert!(rt; take(alloc, &mut tree, Group(id, id - 1))?);
     }
     Ok(tree)
 }
@@ -84,15 +93,15 @@ fn nested(rt: &impl Abort, alloc: Global, count: u16) -> Result<Tree<u16>, Fail>
 fn forest(rt: &impl Abort, alloc: Global) -> Result<Tree<u16>, Fail> {
     let mut tree = Tree::new(alloc);
     let ops = [
-        group(alloc, 10, 0),
-        paint(alloc, 11, 10),
-        group(alloc, 12, 10),
-        paint(alloc, 13, 12),
-        paint(alloc, 20, 0),
-        group(alloc, 30, 0),
+        Group(10, 0),
+        Paint(11, 10),
+        Group(12, 10),
+        Paint(13, 12),
+        Paint(20, 0),
+        Group(30, 0),
     ];
     for op in &ops {
-        assert!(rt; take(&mut tree, op)?);
+        assert!(rt; take(alloc, &mut tree, *op)?);
     }
     expect(rt, &tree, &FOREST);
     Ok(tree)
@@ -103,7 +112,7 @@ const FOREST: [(u16, u16); 6] = [(10, 0), (11, 10), (12, 10), (13, 12), (20, 0),
 #[test]
 fn a_row_is_created_last_and_opaque(rt: HostRuntime) -> Result<(), Fail> {
     let mut tree = forest(&rt, rt.alloc())?;
-    assert!(rt; take(&mut tree, &paint(rt.alloc(), 21, 30))?);
+    assert!(rt; take(rt.alloc(), &mut tree, Paint(21, 30))?);
     let last = tree.rows().last().ok_or("a row")?;
     assert_eq!(rt; (last.id, last.parent, last.group), (21, 30, false));
     assert_eq!(rt; (last.opacity, last.mode, last.hidden), (255, 1, false));
@@ -113,10 +122,10 @@ fn a_row_is_created_last_and_opaque(rt: HostRuntime) -> Result<(), Fail> {
 #[test]
 fn rows_are_nested_16_deep(rt: HostRuntime) -> Result<(), Fail> {
     let mut tree = nested(&rt, rt.alloc(), 16)?;
-    assert!(rt; !take(&mut tree, &group(rt.alloc(), 17, 16))?);
-    assert!(rt; !take(&mut tree, &paint(rt.alloc(), 17, 16))?);
+    assert!(rt; !take(rt.alloc(), &mut tree, Group(17, 16))?);
+    assert!(rt; !take(rt.alloc(), &mut tree, Paint(17, 16))?);
     assert_eq!(rt; tree.rows().len(), 16);
-    assert!(rt; take(&mut tree, &paint(rt.alloc(), 17, 15))?);
+    assert!(rt; take(rt.alloc(), &mut tree, Paint(17, 15))?);
     Ok(())
 }
 
@@ -124,11 +133,11 @@ fn rows_are_nested_16_deep(rt: HostRuntime) -> Result<(), Fail> {
 fn a_move_nests_16_deep(rt: HostRuntime) -> Result<(), Fail> {
     let mut tree = nested(&rt, rt.alloc(), 14)?;
     for (id, parent) in [(20, 0), (21, 20), (22, 21)] {
-        assert!(rt; take(&mut tree, &group(rt.alloc(), id, parent))?);
+        assert!(rt; take(rt.alloc(), &mut tree, Group(id, parent))?);
     }
-    assert!(rt; !take(&mut tree, &to(20, 14, 0))?);
+    assert!(rt; !take(rt.alloc(), &mut tree, To(20, 14, 0))?);
     assert_eq!(rt; tree.rows().get(14).map(|row| row.parent), Some(0));
-    assert!(rt; take(&mut tree, &to(20, 13, 0))?);
+    assert!(rt; take(rt.alloc(), &mut tree, To(20, 13, 0))?);
     assert_eq!(rt; tree.rows().first().map(|row| row.id), Some(20));
     Ok(())
 }
@@ -137,63 +146,63 @@ fn a_move_nests_16_deep(rt: HostRuntime) -> Result<(), Fail> {
 fn there_are_256_rows(rt: HostRuntime) -> Result<(), Fail> {
     let mut tree = Tree::new(rt.alloc());
     for id in 1..=256 {
-        assert!(rt; take(&mut tree, &paint(rt.alloc(), id, 0))?);
+        assert!(rt; take(rt.alloc(), &mut tree, Paint(id, 0))?);
     }
-    assert!(rt; !take(&mut tree, &paint(rt.alloc(), 257, 0))?);
-    assert!(rt; take(&mut tree, &delete(3))?);
-    assert!(rt; take(&mut tree, &paint(rt.alloc(), 257, 0))?);
+    assert!(rt; !take(rt.alloc(), &mut tree, Paint(257, 0))?);
+    assert!(rt; take(rt.alloc(), &mut tree, Delete(3))?);
+    assert!(rt; take(rt.alloc(), &mut tree, Paint(257, 0))?);
     Ok(())
 }
 
 #[test]
 fn moves(rt: HostRuntime) -> Result<(), Fail> {
-    let rows: [(Draw, [(u16, u16); 6]); 11] = [
+    let rows: [(Order, [(u16, u16); 6]); 11] = [
         // to the front, where it is already and from elsewhere
-        (to(10, 0, 0), FOREST),
+        (To(10, 0, 0), FOREST),
         (
-            to(20, 0, 0),
+            To(20, 0, 0),
             [(20, 0), (10, 0), (11, 10), (12, 10), (13, 12), (30, 0)],
         ),
         // behind each other row
         (
-            to(20, 0, 10),
+            To(20, 0, 10),
             [(10, 0), (20, 0), (11, 10), (12, 10), (13, 12), (30, 0)],
         ),
         (
-            to(20, 0, 11),
+            To(20, 0, 11),
             [(10, 0), (11, 10), (20, 0), (12, 10), (13, 12), (30, 0)],
         ),
         (
-            to(20, 0, 12),
+            To(20, 0, 12),
             [(10, 0), (11, 10), (12, 10), (20, 0), (13, 12), (30, 0)],
         ),
-        (to(20, 0, 13), FOREST),
+        (To(20, 0, 13), FOREST),
         (
-            to(20, 0, 30),
+            To(20, 0, 30),
             [(10, 0), (11, 10), (12, 10), (13, 12), (30, 0), (20, 0)],
         ),
         // out of a group, and rows below it stay in their places
         (
-            to(12, 0, 30),
+            To(12, 0, 30),
             [(10, 0), (11, 10), (13, 12), (20, 0), (30, 0), (12, 0)],
         ),
         (
-            to(10, 30, 30),
+            To(10, 30, 30),
             [(11, 10), (12, 10), (13, 12), (20, 0), (30, 0), (10, 30)],
         ),
         // into a group, behind a row of another parent
         (
-            to(20, 12, 11),
+            To(20, 12, 11),
             [(10, 0), (11, 10), (20, 12), (12, 10), (13, 12), (30, 0)],
         ),
         (
-            to(13, 10, 10),
+            To(13, 10, 10),
             [(10, 0), (13, 10), (11, 10), (12, 10), (20, 0), (30, 0)],
         ),
     ];
     for (op, after) in &rows {
         let mut tree = forest(&rt, rt.alloc())?;
-        assert!(rt; take(&mut tree, op)?, "{op:?}");
+        assert!(rt; take(rt.alloc(), &mut tree, *op)?, "{op:?}");
         expect(&rt, &tree, after);
     }
     Ok(())
@@ -209,7 +218,7 @@ fn deletes(rt: HostRuntime) -> Result<(), Fail> {
     ];
     for (id, after) in &rows {
         let mut tree = forest(&rt, rt.alloc())?;
-        assert!(rt; take(&mut tree, &delete(*id))?);
+        assert!(rt; take(rt.alloc(), &mut tree, Delete(*id))?);
         expect(&rt, &tree, after);
     }
     Ok(())
@@ -217,33 +226,28 @@ fn deletes(rt: HostRuntime) -> Result<(), Fail> {
 
 #[test]
 fn refusals_leave_the_rows(rt: HostRuntime) -> Result<(), Fail> {
-    let alloc = rt.alloc();
-    let title = Draw::LayerTitle {
-        id: 9,
-        title: Title::new(alloc),
-    };
     let ops = [
-        paint(alloc, 0, 0),
-        paint(alloc, 20, 0),
-        group(alloc, 10, 0),
-        paint(alloc, 14, 11),
-        paint(alloc, 14, 9),
-        attr(9, 1),
-        attr(20, 3),
-        title,
-        to(9, 0, 0),
-        to(20, 11, 0),
-        to(20, 9, 0),
-        to(10, 10, 0),
-        to(10, 12, 0),
-        to(20, 0, 20),
-        to(20, 0, 9),
-        delete(9),
-        delete(0),
+        Paint(0, 0),
+        Paint(20, 0),
+        Group(10, 0),
+        Paint(14, 11),
+        Paint(14, 9),
+        Attr(9, 1),
+        Attr(20, 3),
+        Untitled(9),
+        To(9, 0, 0),
+        To(20, 11, 0),
+        To(20, 9, 0),
+        To(10, 10, 0),
+        To(10, 12, 0),
+        To(20, 0, 20),
+        To(20, 0, 9),
+        Delete(9),
+        Delete(0),
     ];
     let mut tree = forest(&rt, rt.alloc())?;
     for op in &ops {
-        assert!(rt; !take(&mut tree, op)?, "{op:?}");
+        assert!(rt; !take(rt.alloc(), &mut tree, *op)?, "{op:?}");
         expect(&rt, &tree, &FOREST);
     }
     assert!(rt;
@@ -258,8 +262,8 @@ fn refusals_leave_the_rows(rt: HostRuntime) -> Result<(), Fail> {
 fn a_row_takes_its_attributes_and_its_title(rt: HostRuntime) -> Result<(), Fail> {
     let mut tree = forest(&rt, rt.alloc())?;
     let title = Title::from_vec(b"sky".to_vec(rt.alloc())?).ok_or("a title")?;
-    assert!(rt; take(&mut tree, &attr(12, 9))?);
-    assert!(rt; take(&mut tree, &Draw::LayerTitle { id: 12, title })?);
+    assert!(rt; take(rt.alloc(), &mut tree, Attr(12, 9))?);
+    assert!(rt; tree.title(&Draw::LayerTitle { id: 12, title })?);
     let row: &LayerRow = tree.rows().get(2).ok_or("a row")?;
     assert_eq!(rt; (row.opacity, row.mode, row.hidden), (7, 9, true));
     assert_eq!(rt; row.title.as_slice(), b"sky".as_slice());

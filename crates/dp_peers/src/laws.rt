@@ -4,7 +4,8 @@ ghost use Rattle.std.specs.Prelude.{List};
 ghost use Rattle.dp_schedule.specs.declared.action.Action.{Action};
 ghost use Rattle.dp_peers.specs.World.{World, first_world, after, world_after};
 ghost use Rattle.dp_peers.specs.Keeping.{IsWorld};
-ghost use Rattle.dp_peers.specs.Headline.{Headline};
+ghost use Rattle.dp_peers.specs.Headline.{Headline, ForbiddenChangesNothing};
+ghost use Rattle.dp_session.specs.State.{State};
 
 use dp_acl::forbidden_changes_no_right;
 use dp_session::steps_lead_on;
@@ -17,6 +18,14 @@ pub fn worlds_stay_worlds()
     steps_lead_on();
 }
 
+/// In every state of a session a message that is answered Filtered changes no canvas and no right, whatever
+/// entries come behind it.
+pub fn forbidden_changes_nothing()
+    ensures { (state : State) → ForbiddenChangesNothing state }
+{
+    forbidden_changes_no_right();
+}
+
 /// After every schedule each client has taken a prefix of the history of its epoch; its confirmed canvas is
 /// that prefix replayed, and its view the same with its unanswered sends drawn behind it. A message that is
 /// not permitted changes no canvas and no right.
@@ -24,5 +33,5 @@ pub fn headline()
     ensures { (actions : List Action) → Headline (world_after actions) }
 {
     worlds_stay_worlds();
-    forbidden_changes_no_right();
+    forbidden_changes_nothing();
 }

@@ -8,6 +8,6 @@ mod peer;
 mod telling;
 mod world;
 
-pub use laws::{headline, worlds_stay_worlds};
+pub use laws::{forbidden_changes_nothing, headline, worlds_stay_worlds};
 pub use peer::{Peer, Presence};
 pub use world::World;

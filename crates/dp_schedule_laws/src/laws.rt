@@ -18,8 +18,8 @@ pub fn clients_go_by_their_steps()
         → IfSome (peer_of (world_after actions) number) (λ peer. GoesBy peer.state (own_steps number actions)) }
 {}
 
-/// After a schedule of such messages as lines say, in which no event was answered Ended, a client's fork is its sends without the first n, n
-/// the number of own answers that it has taken.
+/// After a schedule of such messages as lines say, in which no event was answered Ended, a client's fork is its
+/// sends without the first n, n the number of own answers that it has taken.
 pub fn forks_are_plain()
     ensures few { (actions : List Action) (number : ℕ) → IsUnended actions
         → IfSome (peer_of (world_after actions) number) (λ peer.

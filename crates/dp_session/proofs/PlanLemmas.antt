@@ -1,9 +1,9 @@
 -- What an event makes of a state, as it is planned.
-use Rattle.std.proofs.Common.{◌≡◌, ℕ, ◌+◌, ◌-◌, ◌<◌, ◌≤◌, ◌==◌, Bool, true, false, not, ◌&&◌, cond, if◌then◌else◌, nat_le, IsSome}
+use Rattle.std.proofs.Common.{◌≡◌, ℕ, ◌+◌, ◌-◌, ◌<◌, ◌≤◌, ◌==◌, Bool, true, false, not, ◌&&◌, if◌then◌else◌, nat_le, IsSome}
 use Rattle.std.proofs.Common.{List, [], ◌∷◌, ◌++◌, length, set, Option, None, Some, is_some}
 use Rattle.std.proofs.Common.{refl, sym, ap, subst, ◌∙◌, ⊎_elim, arith, append-nil, append_assoc}
 use Rattle.std.specs.Prelude.{option_to_list}
-use Rattle.std.specs.List.{list_any, find, filter, slice_get}
+use Rattle.std.specs.List.{list_any, find, slice_get}
 use Rattle.std.specs.Option.{MatchOption, option_map_or}
 use Rattle.std.proofs.lemmas.Bool.{cases_eq, cases_Bool, eq-eqb, ne_eqb, le-leb}
 use Rattle.std.proofs.lemmas.Str.{IsUtf8-from_is_utf8, is_utf8-from_IsUtf8}
@@ -16,10 +16,9 @@ use Rattle.dp_messages.specs.declared.message.Msg.{Msg}
 use Rattle.dp_messages.specs.declared.message.Msg.TheVariants as msg
 use Rattle.dp_messages.specs.declared.message.Entry.{Entry}
 use Rattle.dp_messages.specs.Messages.{kind_of}
-use Rattle.dp_acl.specs.Looking.{owners}
 use Rattle.dp_acl.specs.Rights.{is_operator}
 use Rattle.dp_acl.specs.Permitted.{permitted}
-use Rattle.dp_acl.specs.Standing.{Kept, StandsFor}
+use Rattle.dp_acl.specs.Standing.{Kept}
 use Rattle.dp_acl.specs.Laws.{OperatorsStay}
 use Rattle.dp_session.specs.declared.connection.Place.{Place}
 use Rattle.dp_session.specs.declared.connection.Ending.TheVariants as ending
@@ -35,13 +34,13 @@ use Rattle.dp_session.specs.declared.plan.Decision.{Decision}
 use Rattle.dp_session.specs.declared.plan.Decision.TheVariants as decision
 use Rattle.dp_session.specs.declared.plan.Plan.{Plan}
 use Rattle.dp_session.specs.State.{State, Stream, Acted, acted, stays, here, epoch_of, entry_of, own_entry, is_name}
-use Rattle.dp_session.specs.State.{is_open, is_present, free_id, user_ids, opened_as, join_entries, new_connection, joined}
-use Rattle.dp_session.specs.State.{connection_in, where_open, open_in, open_connection, with_connection, placed, left}
+use Rattle.dp_session.specs.State.{is_open, is_present, free_id, user_ids, opened_as, new_connection}
+use Rattle.dp_session.specs.State.{connection_in, where_open, open_in, with_connection, left}
 use Rattle.dp_session.specs.State.{closed_by, owners_behind, next_owner, present_users, stream_without}
-use Rattle.dp_session.specs.State.{says_by, heard, said_by, judged, said, filtered, acknowledged_by}
-use Rattle.dp_session.specs.Tables.{mark, is_holder, MarksHolders, AreOf}
-use Rattle.dp_session.specs.Plans.{planned, changed, marks_after, IsChange, IsPlan, first_operator, next_operator}
-use Rattle.dp_session.specs.Plans.{said_as, heard_as, decided}
+use Rattle.dp_session.specs.State.{says_by, said, filtered}
+use Rattle.dp_session.specs.Tables.{mark, is_holder, AreOf}
+use Rattle.dp_session.specs.Plans.{IsChange, IsPlan, first_operator, next_operator}
+use Rattle.dp_session.specs.Plans.{decided}
 use Rattle.dp_session.proofs.Ranges.{find_user-same, find_user-passes, any_user-same, list_any-filter, list_any-find}
 use Rattle.dp_session.proofs.Holders.{any-marked, marks-changed}
 use Rattle.dp_session.specs.declared.tables.Tables.{Tables}

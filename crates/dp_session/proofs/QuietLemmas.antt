@@ -1,9 +1,9 @@
 -- The quiet connections as flags, and as their numbers.
 use Rattle.std.proofs.Common.{◌≡◌, ℕ, zero, suc, ◌+◌, ◌-◌, ◌<◌, ◌≤◌, ◌==◌, Bool, true, false, ◌&&◌, ◌||◌, cond, if◌then◌else◌}
-use Rattle.std.proofs.Common.{List, [], ◌∷◌, ◌++◌, length, get_or, set, Option, None, Some, is_some}
-use Rattle.std.proofs.Common.{refl, sym, ap, subst, ◌∙◌, ⊎_elim, arith, append-nil, length-append, add-one}
-use Rattle.std.specs.List.{list_any, find, filter, slice_get, range_with_len}
-use Rattle.std.proofs.lemmas.Bool.{cases_eq, cases_Bool, eq-eqb, ne_eqb, cases_lt}
+use Rattle.std.proofs.Common.{List, [], ◌∷◌, ◌++◌, length, get_or, set, None, Some, is_some}
+use Rattle.std.proofs.Common.{refl, sym, ap, ◌∙◌, ⊎_elim, arith, append-nil, length-append}
+use Rattle.std.specs.List.{list_any, filter, slice_get, range_with_len}
+use Rattle.std.proofs.lemmas.Bool.{cases_eq, cases_Bool, eq-eqb, ne_eqb}
 use Rattle.std.proofs.lemmas.List.{get_or-set_other, get_or_append_left, set_past}
 use Rattle.std.proofs.lemmas.List.Elements.{filter-append}
 use Rattle.std.proofs.lemmas.Option.{slice_get_cases}
@@ -16,7 +16,7 @@ use Rattle.dp_session.specs.declared.plan.Change.{Change}
 use Rattle.dp_session.specs.declared.plan.Change.TheVariants.{Stays, Adds, Becomes}
 use Rattle.dp_session.specs.declared.event.Event.{Event}
 use Rattle.dp_session.specs.declared.event.Event.TheVariants as event
-use Rattle.dp_session.specs.State.{State, connection_in, connection_of}
+use Rattle.dp_session.specs.State.{State}
 use Rattle.dp_session.specs.Past.{Past, quiet_with, quieted, state_of}
 use Rattle.dp_session.specs.Tables.{mark, quiet_of, flagged, flagged_by}
 use Rattle.dp_session.specs.Plans.{quiet_after}

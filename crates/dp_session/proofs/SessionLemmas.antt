@@ -1,5 +1,5 @@
 -- What a step makes of the past.
-use Rattle.std.proofs.Common.{◌≡◌, ◌⊎◌, ℕ, Bool, true, false, List, [], ◌∷◌, ◌++◌, length, Option, None, Some, Result, Ok, Err, MatchBool, MatchResult, MatchOption, IsOk, OnErr, IfOk}
+use Rattle.std.proofs.Common.{◌≡◌, ◌⊎◌, ℕ, true, false, List, [], ◌∷◌, ◌++◌, length, Option, None, Some, Result, Ok, Err, MatchBool, MatchResult, MatchOption, IsOk, OnErr, IfOk}
 use Rattle.std.proofs.Common.{refl, sym, ap, subst, ◌∙◌, inl, inr}
 use Rattle.std.specs.declared.alloc.AllocError.{AllocError}
 use Rattle.dp_io.specs.Faults.{Rose}
@@ -15,7 +15,7 @@ use Rattle.dp_session.specs.declared.plan.Ready.{Ready}
 use Rattle.dp_session.specs.declared.tables.Tables.{Tables}
 use Rattle.dp_session.specs.State.{acted}
 use Rattle.dp_session.specs.Rows.{row_of, has_room}
-use Rattle.dp_session.specs.Past.{Past, state_after, shut_with, kept, refused, quieted, answer_to, row_behind, Accepts, Breaks, Refuses, Serves}
+use Rattle.dp_session.specs.Past.{Past, state_after, shut_with, kept, refused, quieted, Accepts, Breaks, Refuses, Serves}
 use Rattle.dp_session.specs.Tables.{quiet_of, flagged_by, AreTables, IsSame}
 use Rattle.dp_session.specs.Plans.{IsPlan}
 use Rattle.dp_session.specs.Puts.{past_of, IsReady, IsOut, IsUndone, IsPut}

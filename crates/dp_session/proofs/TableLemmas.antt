@@ -1,9 +1,9 @@
 -- When tables are those of a state.
-use Rattle.std.proofs.Common.{◌≡◌, ℕ, zero, suc, ◌+◌, ◌-◌, ◌*◌, ◌<◌, ◌≤◌, ◌==◌, Bool, true, false, not, ◌&&◌, cond, nat_lt, nat_le}
-use Rattle.std.proofs.Common.{List, [], ◌∷◌, ◌++◌, length, get_or, set, map, count_by, sum_by, All, Option, None, Some}
-use Rattle.std.proofs.Common.{refl, sym, ap, subst, ◌∙◌, ⊎_elim, arith, append-nil, append_assoc, length-append}
+use Rattle.std.proofs.Common.{◌≡◌, ℕ, zero, suc, ◌+◌, ◌<◌, ◌≤◌, Bool, true, false, ◌&&◌, cond, nat_lt, nat_le}
+use Rattle.std.proofs.Common.{List, [], ◌∷◌, ◌++◌, length, set, map, All, Option, None, Some}
+use Rattle.std.proofs.Common.{refl, sym, ap, subst, ◌∙◌, ⊎_elim, arith, length-append}
 use Rattle.std.specs.Prelude.{option_to_list}
-use Rattle.std.specs.List.{list_any, slice_get}
+use Rattle.std.specs.List.{slice_get}
 use Rattle.std.proofs.lemmas.List.{map-append, length-map}
 use Rattle.std.proofs.lemmas.List.Elements.{All-head, All-tail, All-append, All-cons, All-nil, All-push, All-weaker}
 use Rattle.std.proofs.Math.ListN.{length-set, replicate}
@@ -23,15 +23,14 @@ use Rattle.dp_session.specs.declared.plan.Change.TheVariants.{Stays, Adds, Becom
 use Rattle.dp_session.specs.declared.plan.Placing.{Placing}
 use Rattle.dp_session.specs.declared.plan.Placing.TheVariants.{Said, Own}
 use Rattle.dp_session.specs.declared.plan.Plan.{Plan}
-use Rattle.dp_session.specs.State.{State, first_state, is_open, is_present, own_entry, with_connection, open_connection, open_in, after_shut, after_event, acted}
+use Rattle.dp_session.specs.State.{State, first_state, is_open, is_present, own_entry, after_shut, after_event, acted}
 use Rattle.dp_session.specs.declared.event.ShutAt.{ShutAt}
-use Rattle.dp_session.specs.declared.connection.Ending.TheVariants as ending
 use Rattle.dp_session.specs.declared.tables.Tables.{Tables}
 use Rattle.dp_session.specs.Rows.{row_of, row_bytes, event_limit, byte_limit, has_room}
 use Rattle.dp_session.specs.Past.{state_after}
-use Rattle.dp_session.specs.Tables.{state_in, AreTables, IsSame, quiet_of, flagged}
+use Rattle.dp_session.specs.Tables.{state_in, AreTables, IsSame}
 use Rattle.dp_session.specs.Tables.{message_of, IsSay, entry_in, IsIn, mark, is_holder, MarksHolders, AreOf}
-use Rattle.dp_session.specs.Plans.{event_of, entries_of, items_of, changed, marks_after, quiet_after, IsChange, planned, IsPlan}
+use Rattle.dp_session.specs.Plans.{event_of, entries_of, items_of, changed, marks_after, quiet_after, IsChange, IsPlan}
 use Rattle.dp_session.proofs.Weaving.{state-came, state-shut}
 use Rattle.dp_session.proofs.Holders.{any-marked, marks-changed}
 

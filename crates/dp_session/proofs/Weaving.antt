@@ -1,5 +1,5 @@
 -- One more event, or one more Close that was refused, is one more happening at the end.
-use Rattle.std.proofs.Common.{◌≡◌, ℕ, zero, suc, ◌+◌, ◌<◌, ◌≤◌, ◌==◌, Bool, true, false, cond}
+use Rattle.std.proofs.Common.{◌≡◌, ℕ, ◌+◌, ◌<◌, ◌≤◌, ◌==◌, false, cond}
 use Rattle.std.proofs.Common.{List, [], ◌∷◌, ◌++◌, length, map, fold, All, refl, sym, ap, ◌∙◌, arith, append_assoc, append-nil}
 use Rattle.std.specs.List.{filter}
 use Rattle.std.proofs.lemmas.Bool.{eq-eqb, ne_eqb}
@@ -9,7 +9,7 @@ use Rattle.std.proofs.lemmas.List.Elements.{filter-append, All-head, All-tail}
 use Rattle.dp_session.specs.declared.event.Event.{Event}
 use Rattle.dp_session.specs.declared.event.ShutAt.{ShutAt}
 use Rattle.dp_session.specs.State.{first_state, after_event, after_shut}
-use Rattle.dp_session.specs.Past.{Happening, Came, WasShut, shut_at, woven, happened, state_after}
+use Rattle.dp_session.specs.Past.{Came, WasShut, shut_at, woven, happened, state_after}
 
 -- none was refused at a later moment
 none_at : (n : ℕ) (shut : List ShutAt) → All (λ s. s.n < n) shut → shut_at n shut ≡ []

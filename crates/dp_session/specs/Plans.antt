@@ -1,7 +1,7 @@
 -- What is ready to be kept of an event, and when it is what the event makes.
 use Rattle.std.specs.Prelude.{◌≡◌, ℕ, ◌-◌, ◌<◌, Bool, true, false, not, ◌&&◌, ◌==◌, if◌then◌else◌}
 use Rattle.std.specs.Prelude.{Option, None, Some, option_to_list, MatchOption}
-use Rattle.std.specs.Prelude.{List, [], ◌∷◌, ◌++◌, length, map, slice_get, slice_set}
+use Rattle.std.specs.Prelude.{List, [], ◌∷◌, ◌++◌, map, slice_get, slice_set}
 use Rattle.std.specs.List.{find, list_any}
 use Rattle.dp_msg_meta.specs.declared.message.Control.TheVariants.{Ping, Disconnect, Ack, ResetBegin, ResetEnd}
 use Rattle.dp_messages.specs.declared.message.Msg.{Msg}
@@ -11,7 +11,6 @@ use Rattle.dp_acl.specs.Permitted.{permitted}
 use Rattle.dp_session.specs.declared.connection.Connection.{Connection}
 use Rattle.dp_session.specs.declared.event.Event.{Event}
 use Rattle.dp_session.specs.declared.event.Event.TheVariants as event
-use Rattle.dp_session.specs.declared.event.Reply.{Reply}
 use Rattle.dp_session.specs.declared.item.Item.{Item}
 use Rattle.dp_session.specs.declared.item.Item.TheVariants as item
 use Rattle.dp_session.specs.declared.plan.Change.{Change}

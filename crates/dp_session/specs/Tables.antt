@@ -1,6 +1,6 @@
 -- What a session keeps, and when it is the state to which its past leads.
 use Rattle.std.specs.Prelude.{◌≡◌, ℕ, ◌+◌, ◌-◌, ◌*◌, ◌<◌, ◌≤◌, ◌&&◌, ◌==◌, Bool, true, false, if◌then◌else◌}
-use Rattle.std.specs.Prelude.{Option, None, Some, List, [], ◌∷◌, ◌++◌, length, map, slice_get, slice_set}
+use Rattle.std.specs.Prelude.{Option, None, Some, List, [], length, map, slice_get, slice_set}
 use Rattle.std.specs.Prelude.{slice_index_or, count_by, All, vec_len, vec_capacity}
 use Rattle.std.specs.List.{filter, range_with_len}
 use Rattle.dp_messages.specs.declared.message.Msg.{Msg}
@@ -15,7 +15,7 @@ use Rattle.dp_session.specs.declared.item.Item.{Item}
 use Rattle.dp_session.specs.declared.item.Item.TheVariants.{Said, Own}
 use Rattle.dp_session.specs.declared.tables.Tables.{Tables}
 use Rattle.dp_session.specs.Rows.{row_bytes, event_limit, byte_limit}
-use Rattle.dp_session.specs.State.{State, Stream, entry_of, is_open}
+use Rattle.dp_session.specs.State.{State, entry_of, is_open}
 use Rattle.dp_session.specs.Past.{state_after}
 
 -- ---- entries

@@ -83,14 +83,19 @@ impl Tables {
         requires { AreTables self.now }
         ensures { IfOk result (IsPlan (state_in self.now) (Event.Open name.now registered)) }
     {
-        let event = Event::Open {
-            name: name.copy()?,
-            registered,
-        };
+        let copy = name.copy()?;
         let Some(text) = name_text(self.allocator(), name.as_slice())? else {
+            let event = Event::Open {
+                name: copy,
+                registered,
+            };
             return Ok(still(event, Reply::NameRefused));
         };
         let Some(user) = free_id(&self.present) else {
+            let event = Event::Open {
+                name: copy,
+                registered,
+            };
             return Ok(still(event, Reply::Full));
         };
         let here = self.here();
@@ -110,7 +115,10 @@ impl Tables {
                 ending: Ending::Running,
             }),
             placing: Placing::Own {
-                event,
+                event: Event::Open {
+                    name: copy,
+                    registered,
+                },
                 first: Some(Entry {
                     user,
                     msg: Msg::Meta(Meta::Join {
@@ -127,9 +135,8 @@ impl Tables {
         requires { AreTables self.now }
         ensures { IfOk result (IsPlan (state_in self.now) (Event.Close conn)) }
     {
-        let event = Event::Close { conn };
         let Some(connection) = open_connection(&self.connections, conn) else {
-            return Ok(still(event, Reply::Ignored));
+            return Ok(still(Event::Close { conn }, Reply::Ignored));
         };
         let here = self.here();
         operators_stay();
@@ -148,7 +155,7 @@ impl Tables {
                 },
             },
             placing: Placing::Own {
-                event,
+                event: Event::Close { conn },
                 first: Some(Entry {
                     user: connection.user,
                     msg: Msg::Meta(Meta::Leave),

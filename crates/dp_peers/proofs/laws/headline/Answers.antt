@@ -1,11 +1,10 @@
 use Rattle.dp_session.specs.Past.{state_of}
 use Rattle.dp_peers.specs.World.{world_after}
-use Rattle.dp_peers.proofs.LawForbidden.{forbidden-nothing}
 use Rattle.dp_peers.proofs.LawWorlds.{all-show}
 use Rattle.dp_peers.proofs.laws.headline.Goals as goal
 
 pub returns : goal.returns
 returns c = λ actions. record {
   clients = all-show c.worlds_stay_worlds.ensures.stays c.worlds_stay_worlds.ensures.first actions;
-  forbidden = forbidden-nothing c.forbidden_changes_no_right.ensures (state_of (world_after actions).past);
+  forbidden = c.forbidden_changes_nothing.ensures (state_of (world_after actions).past);
 }

@@ -1,4 +1,4 @@
-use Rattle.std.proofs.Common.{◌≡◌, None, Some, is_some, if◌then◌else◌, sym, ap, ◌∙◌}
+use Rattle.std.proofs.Common.{None, Some, is_some, if◌then◌else◌, sym, ap, ◌∙◌}
 use Rattle.dp_session.specs.State.{user_ids}
 use Rattle.dp_session.specs.Tables.{mark}
 use Rattle.dp_session.proofs.Ranges.{list_any-find}

@@ -1,5 +1,4 @@
-use Rattle.std.proofs.Common.{◌≡◌, ◌&&◌, true, false, refl, sym, ap, ◌∙◌, ⊎_elim, arith, rules}
-use Rattle.std.proofs.Math.Bool.{and-false}
+use Rattle.std.proofs.Common.{◌≡◌, ◌&&◌, true, sym, ◌∙◌, arith, rules}
 use Rattle.dp_acl.specs.Rights.{is_operator}
 use Rattle.dp_session.specs.Tables.{mark}
 use Rattle.dp_session.proofs.Ranges.{find_user-first, find_user-none, both}

@@ -1,4 +1,4 @@
-use Rattle.std.proofs.Common.{◌≡◌, sym, arith, rules}
+use Rattle.std.proofs.Common.{sym, arith, rules}
 use Rattle.dp_session.specs.Tables.{mark}
 use Rattle.dp_session.proofs.Ranges.{find_user-first, find_user-none}
 use Rattle.dp_session.proofs.presence.lowest_present.Goals as goal

@@ -1,5 +1,4 @@
 use Rattle.std.proofs.Common.{refl}
-use Rattle.dp_session.specs.Rows.{has_room}
 use Rattle.dp_session.proofs.SessionLemmas.{past-kept, past-failed, past-undone, past-ended, past-broken, none-of, on-err}
 use Rattle.dp_session.proofs.session.Session.serve.Goals as goal
 
