@@ -55,16 +55,22 @@ fn command(alloc: Global, order: Order) -> Draw {
 }
 
 /// Takes the command, and answers whether it had effect; a new paint row holds its own id.
-fn take(alloc: Global, tree: &mut Tree<u16>, order: Order) -> Result<bool, AllocError> {
-    let op = command(alloc, order);
-    match order {
-        Paint(id, _) => tree.create(&op, Some(id)),
-        Group(..) => tree.create(&op, None),
-        Attr(..) => tree.attr(&op),
-        Untitled(_) => tree.title(&op),
-        To(..) => tree.shift(&op),
-        Delete(_) => tree.delete(&op),
+fn take_command(tree: &mut Tree<u16>, op: &Draw) -> Result<bool, AllocError> {
+    match op {
+        Draw::LayerCreate { id, group, .. } => {
+            tree.create(op, if *group { None } else { Some(*id) })
+        }
+        Draw::LayerAttr { .. } => tree.attr(op),
+        Draw::LayerTitle { .. } => tree.title(op),
+        Draw::LayerMove { .. } => tree.shift(op),
+        Draw::LayerDelete { .. } => tree.delete(op),
+        _ => Ok(false),
     }
+}
+
+/// Takes the command of an order.
+fn take(alloc: Global, tree: &mut Tree<u16>, order: Order) -> Result<bool, AllocError> {
+    take_command(tree, &command(alloc, order))
 }
 
 /// The rows are these ids with these parents, and each paint row still holds its own id.
