@@ -8,7 +8,7 @@ use Rattle.std.proofs.lemmas.List.{get_or-set_same, get_or-set_other}
 use Rattle.std.proofs.lemmas.Nat.Bits.{shr_and_one, bit_at-zero, bit_at-lt, bit_at_and, bit_at_set_same}
 use Rattle.std.proofs.lemmas.Nat.Bits.{bit_at_set_other}
 use Rattle.std.proofs.lemmas.Nat.Bits.{bit_at_clear_same, bit_at_clear_other}
-use Rattle.dp_acl.specs.Standing.{mark_of}
+use Rattle.dp_acl.specs.Table.{mark_of}
 use Rattle.dp_acl.specs.Marks.{bit_of, marks_of}
 use Rattle.dp_acl.proofs.ListLemmas.{get_or-map-numbers}
 

@@ -12,10 +12,10 @@ use Rattle.dp_msg_meta.specs.declared.message.Meta.{Meta}
 use Rattle.dp_msg_meta.specs.declared.message.Meta.TheVariants.{Owners, Trusted, UserAcl, LayerAcl}
 use Rattle.dp_msg_meta.specs.declared.message.Meta.TheVariants.{FeatureTiers}
 use Rattle.dp_messages.specs.declared.message.Entry.{Entry}
-use Rattle.dp_acl.specs.Looking.{numbers_below, LayerRule}
+use Rattle.dp_acl.specs.LookBack.{numbers_below, LayerRule}
 use Rattle.dp_acl.specs.Rights.{is_operator, is_trusted, are_all_locked, is_lock_listed, tiers_of, rule_of}
-use Rattle.dp_acl.specs.Carrying.{acl_with, carried_rule, carried_rules, carried}
-use Rattle.dp_acl.specs.Standing.{Kept, KeptRule, Mark, mark_of, kept_rule, rule_in_order, StandsFor}
+use Rattle.dp_acl.specs.Carried.{acl_with, carried_rule, carried_rules, carried}
+use Rattle.dp_acl.specs.Table.{Kept, KeptRule, Mark, mark_of, kept_rule, rule_in_order, StandsFor}
 use Rattle.dp_acl.specs.RuleTable.{acl_of, RulesRise}
 use Rattle.dp_acl.proofs.ListLemmas.{filter-same, All-range, All-numbers}
 use Rattle.dp_acl.proofs.RuleLemmas.{kept_rule-cons}
@@ -76,7 +76,7 @@ kept_rule-below (k ∷ ks) low layer rise below =
     (ne_eqb k.layer layer (λ e. omega (arith, rise.0)))
     ∙ kept_rule-below ks (suc k.layer) layer rise.2 (omega (arith, rise.0))
 
--- the rules behind the first tell of the layers above it
+-- the rules after the first tell of the layers above it
 acl_by-rest : (k : KeptRule) (ks : List KeptRule) (low layer : ℕ) → low ≡ k.layer → low < layer
     → acl_by (k ∷ ks) layer ≡ acl_by ks layer
 acl_by-rest k ks low layer same above =

@@ -9,10 +9,10 @@ use Rattle.std.proofs.lemmas.Bool.{false≢true}
 use Rattle.std.proofs.lemmas.List.Sums.{AllPass-from_list_all, list_all-from_AllPass}
 use Rattle.std.proofs.lemmas.List.Elements.{All-get_or, All-from_get_or}
 use Rattle.std.proofs.lemmas.Nat.Bits.{bit_at-zero, bit_at-lt, same_from_bits_below}
-use Rattle.dp_acl.specs.Looking.{numbers_below, lists}
+use Rattle.dp_acl.specs.LookBack.{numbers_below, lists}
 use Rattle.dp_acl.specs.Rights.{is_open_to}
-use Rattle.dp_acl.specs.Carrying.{in_order}
-use Rattle.dp_acl.specs.Standing.{mark_of, Mark}
+use Rattle.dp_acl.specs.Carried.{in_order}
+use Rattle.dp_acl.specs.Table.{mark_of, Mark}
 use Rattle.dp_acl.specs.Marks.{bit_of, marks_of, marked}
 use Rattle.dp_acl.proofs.ListLemmas.{filter-same, All-range, filter-numbers, filter-none}
 use Rattle.dp_acl.proofs.ListLemmas.{filter-numbers_nil, lists-filter}

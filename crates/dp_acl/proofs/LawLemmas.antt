@@ -16,8 +16,8 @@ use Rattle.dp_msg_meta.specs.declared.message.Meta.TheVariants as meta
 use Rattle.dp_messages.specs.declared.message.Msg.{Msg}
 use Rattle.dp_messages.specs.declared.message.Msg.TheVariants as msg
 use Rattle.dp_messages.specs.declared.message.Entry.{Entry}
-use Rattle.dp_acl.specs.Looking as said
-use Rattle.dp_acl.specs.Looking.{numbers_below, lists, is_join_of, has_joined, owners, LayerRule, layer_rule}
+use Rattle.dp_acl.specs.LookBack as said
+use Rattle.dp_acl.specs.LookBack.{numbers_below, lists, is_join_of, has_joined, owners, LayerRule, layer_rule}
 use Rattle.dp_acl.specs.Rights.{is_listed, is_operator, is_trusted, is_registered, are_all_locked}
 use Rattle.dp_acl.specs.Rights.{is_lock_listed}
 use Rattle.dp_acl.specs.Rights.{is_locked, tier_of, tiers_of, has_feature, rule_of, is_open_to, lets_paint}
@@ -118,7 +118,7 @@ module _ (one other : List Entry) (e : Entry) (same : LooksSame one other) where
         ∙ ap (λ o. option_or (layer_rule layer e.msg) o) (same.rules layer) ∙ sym (rule-push other e layer);
   }
 
--- with the same entries behind
+-- with the same entries after
 same-append : (after one other : List Entry) → LooksSame one other → LooksSame (one ++ after) (other ++ after)
 same-append [] one other same =
     subst (λ es. LooksSame es (other ++ [])) (sym (append-nil one))

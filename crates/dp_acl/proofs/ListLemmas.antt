@@ -10,7 +10,7 @@ use Rattle.std.proofs.lemmas.Map.Views.{any-filter_same}
 use Rattle.std.proofs.lemmas.List.FromFn.{length-range_with_len, get_or-range_with_len}
 use Rattle.std.proofs.lemmas.List.FromFn.{get_or-map-range_with_len}
 use Rattle.std.proofs.lemmas.List.FromFn.{map-range_with_len_more}
-use Rattle.dp_acl.specs.Looking.{numbers_below, lists}
+use Rattle.dp_acl.specs.LookBack.{numbers_below, lists}
 
 and_true : (b : Bool) → (b && true) ≡ b
 and_true true = refl

@@ -4,9 +4,9 @@ use Rattle.std.proofs.Common.{Option, Some, None, IfSome, sym, ap, ◌∙◌}
 use Rattle.std.specs.Option.{option_map, option_map_or}
 use Rattle.std.proofs.lemmas.Option.{same_Some, none-some}
 use Rattle.dp_messages.specs.declared.message.Entry.{Entry}
-use Rattle.dp_acl.specs.Looking.{LayerRule}
+use Rattle.dp_acl.specs.LookBack.{LayerRule}
 use Rattle.dp_acl.specs.Rights.{is_operator, is_locked, tier_of, rule_of, lets_paint, may_paint}
-use Rattle.dp_acl.specs.Standing.{rule_in_order}
+use Rattle.dp_acl.specs.Table.{rule_in_order}
 use Rattle.dp_acl.proofs.IdLemmas.{open-in_order}
 
 lets-in_order : (history : List Entry) (user : ℕ) (rule : LayerRule) → user < 256

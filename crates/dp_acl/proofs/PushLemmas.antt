@@ -1,4 +1,4 @@
--- What looking back finds behind one more entry.
+-- What looking back finds after one more entry.
 use Rattle.std.proofs.Common.{◌≡◌, ℕ, ◌+◌, ◌-◌, ◌≤◌, ◌==◌, ◌&&◌, ◌||◌, not, Bool, true, false, cond}
 use Rattle.std.proofs.Common.{if◌then◌else◌, List, [], ◌∷◌, ◌++◌, length, drop, reverse, slice_get}
 use Rattle.std.proofs.Common.{Option, Some, None, is_some, unwrap_or, refl, sym, ap, ◌∙◌, arith, append-nil}
@@ -12,8 +12,8 @@ use Rattle.std.proofs.lemmas.List.Elements.{filter-append, filter_map-append}
 use Rattle.std.proofs.lemmas.List.Folds.{list_any-append}
 use Rattle.dp_messages.specs.declared.message.Msg.{Msg}
 use Rattle.dp_messages.specs.declared.message.Entry.{Entry}
-use Rattle.dp_acl.specs.Looking.{lists, last_said, joined, locked_users, feature_tiers, layer_rule}
-use Rattle.dp_acl.specs.Looking.{is_join_of, has_joined, since_join}
+use Rattle.dp_acl.specs.LookBack.{lists, last_said, joined, locked_users, feature_tiers, layer_rule}
+use Rattle.dp_acl.specs.LookBack.{is_join_of, has_joined, since_join}
 use Rattle.dp_acl.specs.Rights.{is_listed, is_registered, are_all_locked, tiers_of, first_tiers, rule_of}
 
 -- ---- lists
@@ -33,7 +33,7 @@ last_item-more xs (Some x) =
     let last : length (xs ++ x ∷ []) - 1 ≡ length xs = omega (arith, length_push xs x) in
     ap (slice_get (xs ++ x ∷ [])) last ∙ slice_get-last xs x
 
--- what stands behind the last item that passes, with one more item
+-- what stands after the last item that passes, with one more item
 after_last-push : {X : Type 0} (p : X → Bool) (xs : List X) (x : X)
     → after_last p (xs ++ x ∷ []) ≡ (if p x then [] else after_last p xs ++ x ∷ [])
 after_last-push {X} p xs x = by_case (p x) refl
@@ -122,7 +122,7 @@ since-push history e user =
     ∙ ap (λ es. if is_join_of user e || has_joined history user then es else [])
     (after_last-push (is_join_of user) history e)
 
--- whether a user is listed behind an entry: whether it is the user's Join, whether the user had joined,
+-- whether a user is listed after an entry: whether it is the user's Join, whether the user had joined,
 -- what it lists, and whether the user was listed
 abbrev pub listed_behind : Bool → Bool → Option (List ℕ) → Bool → ℕ → Bool
 listed_behind joins had_joined ids was_listed user =

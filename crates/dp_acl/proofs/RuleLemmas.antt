@@ -16,8 +16,8 @@ use Rattle.std.proofs.lemmas.List.Edits.{get_or-insert_above}
 use Rattle.std.proofs.lemmas.List.Elements.{All-tail, All-append, All-cons, All-take, All-drop}
 use Rattle.dp_msg_meta.specs.declared.message.Meta.{Meta}
 use Rattle.dp_acl.specs.declared.rules.Rule.{Rule}
-use Rattle.dp_acl.specs.Looking.{LayerRule}
-use Rattle.dp_acl.specs.Standing.{KeptRule, kept_rule}
+use Rattle.dp_acl.specs.LookBack.{LayerRule}
+use Rattle.dp_acl.specs.Table.{KeptRule, kept_rule}
 use Rattle.dp_acl.specs.Marks.{marked}
 use Rattle.dp_acl.specs.RuleTable.{acl_of, RulesRise}
 use Rattle.dp_acl.specs.Inside.{kept_of, LayersRise, AreRules, IsPlaceOf, IsGapFor}

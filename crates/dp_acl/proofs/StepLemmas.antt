@@ -1,4 +1,4 @@
--- What is kept behind one more entry stands for the longer history.
+-- What is kept after one more entry stands for the longer history.
 use Rattle.std.proofs.Common.{◌≡◌, ℕ, ◌<◌, ◌==◌, ◌||◌, Bool, true, false, if◌then◌else◌}
 use Rattle.std.proofs.Common.{List, [], ◌∷◌, ◌++◌, All, Option, Some, None, IfSome, unwrap_or}
 use Rattle.std.proofs.Common.{rules, refl, sym, ap, subst, ◌∙◌}
@@ -8,10 +8,10 @@ use Rattle.dp_msg_meta.specs.declared.message.Meta.TheVariants.{LayerAcl}
 use Rattle.dp_messages.specs.declared.message.Msg.{Msg}
 use Rattle.dp_messages.specs.declared.message.Msg.TheVariants as msg
 use Rattle.dp_messages.specs.declared.message.Entry.{Entry}
-use Rattle.dp_acl.specs.Looking as said
-use Rattle.dp_acl.specs.Looking.{lists, LayerRule, layer_rule, is_join_of, has_joined}
+use Rattle.dp_acl.specs.LookBack as said
+use Rattle.dp_acl.specs.LookBack.{lists, LayerRule, layer_rule, is_join_of, has_joined}
 use Rattle.dp_acl.specs.Rights.{is_listed, rule_of}
-use Rattle.dp_acl.specs.Standing.{Kept, KeptRule, Mark, mark_of, kept_rule, rule_in_order, StandsFor}
+use Rattle.dp_acl.specs.Table.{Kept, KeptRule, Mark, mark_of, kept_rule, rule_in_order, StandsFor}
 use Rattle.dp_acl.specs.Marks.{marked}
 use Rattle.dp_acl.specs.Step.{meta_entry, listed_after, IsKeptAfter}
 use Rattle.dp_acl.proofs.PushLemmas.{joined-push, listed_behind, listed-push, registered-push}
@@ -41,7 +41,7 @@ module _ (before after : Kept) (history : List Entry) (e : Entry)
       (was user low)
       ∙ sym (listed-push ids user history e)
 
-  -- what is kept behind the entry stands for the history with it
+  -- what is kept after the entry stands for the history with it
   pub stands-push : StandsFor after (history ++ e ∷ [])
   stands-push = record {
     joined = λ user low. step.joined user low

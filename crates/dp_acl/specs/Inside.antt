@@ -1,7 +1,7 @@
 -- The rules as the code holds them.
 use Rattle.std.specs.Prelude.{◌≡◌, ℕ, ◌<◌, ◌≤◌, List, length, slice_index_or, All}
 use Rattle.dp_acl.specs.declared.rules.Rule.{Rule}
-use Rattle.dp_acl.specs.Standing.{KeptRule}
+use Rattle.dp_acl.specs.Table.{KeptRule}
 use Rattle.dp_acl.specs.Marks.{marked}
 
 -- the rule of a layer, with the ids that are marked

@@ -5,10 +5,10 @@ use Rattle.dp_msg_meta.specs.declared.message.Meta.TheVariants.{Filtered}
 use Rattle.dp_messages.specs.declared.message.Msg.{Msg}
 use Rattle.dp_messages.specs.declared.message.Msg.TheVariants as msg
 use Rattle.dp_messages.specs.declared.message.Entry.{Entry}
-use Rattle.dp_acl.specs.Looking.{is_join_of, owners}
+use Rattle.dp_acl.specs.LookBack.{is_join_of, owners}
 use Rattle.dp_acl.specs.Rights.{is_operator}
 use Rattle.dp_acl.specs.Permitted.{permitted}
-use Rattle.dp_acl.specs.Carrying.{in_order}
+use Rattle.dp_acl.specs.Carried.{in_order}
 
 -- the entry that stands in place of a forbidden message of this kind
 abbrev pub filtered : ℕ → ℕ → Entry

@@ -1,8 +1,8 @@
-pub mod Looking
+pub mod LookBack
 pub mod Rights
 pub mod Permitted
-pub mod Carrying
-pub mod Standing
+pub mod Carried
+pub mod Table
 pub mod Laws
 pub mod Marks
 pub mod RuleTable

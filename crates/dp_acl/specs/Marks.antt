@@ -2,8 +2,8 @@
 use Rattle.std.specs.Prelude.{ℕ, ◌/◌, ◌%◌, ◌==◌, Bool, List, map, slice_index}
 use Rattle.std.specs.List.{filter}
 use Rattle.std.specs.Int.{bit_at}
-use Rattle.dp_acl.specs.Looking.{numbers_below}
-use Rattle.dp_acl.specs.Standing.{mark_of}
+use Rattle.dp_acl.specs.LookBack.{numbers_below}
+use Rattle.dp_acl.specs.Table.{mark_of}
 
 -- the bit of an id in words of 64 bits is set
 abbrev pub bit_of : List ℕ → ℕ → Bool

@@ -69,7 +69,7 @@ permits_undo history user target =
     then not (is_locked history user) && has_feature history user (λ tiers. tiers.undo)
     else is_operator history user
 
--- the user may send the message behind the history of the epoch
+-- the user may send the message after the history of the epoch
 abbrev pub permitted : List Entry → ℕ → Msg → Bool
 permitted history user (msg.Control m) = permits_control history user m
 permitted history user (msg.Meta m) = permits_meta history user m

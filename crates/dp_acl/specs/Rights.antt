@@ -6,19 +6,19 @@ use Rattle.std.specs.Option.{option_map_or}
 use Rattle.dp_msg_meta.specs.declared.message.Tiers.{Tiers}
 use Rattle.dp_messages.specs.declared.message.Msg.{Msg}
 use Rattle.dp_messages.specs.declared.message.Entry.{Entry}
-use Rattle.dp_acl.specs.Looking.{lists, last_said, joined, owners, trusted, locked_users}
-use Rattle.dp_acl.specs.Looking.{feature_tiers, LayerRule, layer_rule, is_join_of, since_join}
+use Rattle.dp_acl.specs.LookBack.{lists, last_said, joined, owners, trusted, locked_users}
+use Rattle.dp_acl.specs.LookBack.{feature_tiers, LayerRule, layer_rule, is_join_of, since_join}
 
--- the last list of this kind stands behind the user's last Join, and lists the user
+-- the last list of this kind stands after the user's last Join, and lists the user
 abbrev pub is_listed : (Msg → Option (List ℕ)) → List Entry → ℕ → Bool
 is_listed ids history user =
     option_map_or (λ listed. lists listed user) (last_said ids (since_join history user)) false
 
--- the last Owners stands behind the user's last Join, and lists the user
+-- the last Owners stands after the user's last Join, and lists the user
 abbrev pub is_operator : List Entry → ℕ → Bool
 is_operator = is_listed owners
 
--- the last Trusted stands behind the user's last Join, and lists the user
+-- the last Trusted stands after the user's last Join, and lists the user
 abbrev pub is_trusted : List Entry → ℕ → Bool
 is_trusted = is_listed trusted
 
@@ -40,7 +40,7 @@ abbrev pub are_all_locked : List Entry → Bool
 are_all_locked history =
     option_map_or (λ listed. lists listed 0) (last_said locked_users history) false
 
--- the last UserAcl stands behind the user's last Join, and lists the user
+-- the last UserAcl stands after the user's last Join, and lists the user
 abbrev pub is_lock_listed : List Entry → ℕ → Bool
 is_lock_listed = is_listed locked_users
 

@@ -2,7 +2,7 @@
 use Rattle.std.specs.Prelude.{ℕ, suc, ◌<◌, ◌≤◌, List, [], ◌∷◌}
 use Rattle.dp_msg_meta.specs.declared.message.Meta.{Meta}
 use Rattle.dp_msg_meta.specs.declared.message.Meta.TheVariants.{LayerAcl}
-use Rattle.dp_acl.specs.Standing.{KeptRule}
+use Rattle.dp_acl.specs.Table.{KeptRule}
 
 -- the rules, and for how many more of them memory is spared
 pub record RuleTable : Type 0 where

@@ -1,19 +1,19 @@
--- What is kept behind one more entry, by what is kept before it.
+-- What is kept after one more entry, by what is kept before it.
 use Rattle.std.specs.Prelude.{◌≡◌, ℕ, ◌<◌, Bool, false, ◌&&◌, ◌||◌, if◌then◌else◌}
 use Rattle.std.specs.Prelude.{Option, unwrap_or, IfSome, List, All}
 use Rattle.std.specs.Option.{option_map, option_map_or, option_or}
 use Rattle.dp_msg_meta.specs.declared.message.Meta.{Meta}
 use Rattle.dp_messages.specs.declared.message.Msg.TheVariants as msg
 use Rattle.dp_messages.specs.declared.message.Entry.{Entry}
-use Rattle.dp_acl.specs.Looking as said
-use Rattle.dp_acl.specs.Looking.{lists, is_join_of}
-use Rattle.dp_acl.specs.Standing.{Kept, Mark, mark_of, kept_rule, rule_in_order}
+use Rattle.dp_acl.specs.LookBack as said
+use Rattle.dp_acl.specs.LookBack.{lists, is_join_of}
+use Rattle.dp_acl.specs.Table.{Kept, Mark, mark_of, kept_rule, rule_in_order}
 
 -- a message about rights, as an entry
 abbrev pub meta_entry : ℕ → Meta → Entry
 meta_entry user m = record { user = user; msg = msg.Meta m }
 
--- Whether a user is listed: not behind a Join; behind a new list, where it lists the user and the user
+-- Whether a user is listed: not after a Join; after a new list, where it lists the user and the user
 -- has joined; and else as before.
 abbrev pub listed_after : Kept → Entry → Option (List ℕ) → List Bool → ℕ → Bool
 listed_after before e ids marks user =
@@ -21,7 +21,7 @@ listed_after before e ids marks user =
     else option_map_or (λ listed. mark_of before.joined user && lists listed user) ids
     (mark_of marks user)
 
--- what is kept behind the entry
+-- what is kept after the entry
 pub record IsKeptAfter (before : Kept) (e : Entry) (after : Kept) : Type 0 where
   pub joined : Mark after.joined (λ user. is_join_of user e || mark_of before.joined user)
   pub operators : Mark after.operators (listed_after before e (said.owners e.msg) before.operators)

@@ -17,9 +17,9 @@ ghost use Rattle.std.specs.Prelude.{
   All,
 };
 ghost use Rattle.std.specs.List.{filter, list_all};
-ghost use Rattle.dp_acl.specs.Looking.{lists};
+ghost use Rattle.dp_acl.specs.LookBack.{lists};
 ghost use Rattle.dp_acl.specs.Rights.{is_open_to};
-ghost use Rattle.dp_acl.specs.Standing.{mark_of, Mark};
+ghost use Rattle.dp_acl.specs.Table.{mark_of, Mark};
 ghost use Rattle.dp_acl.specs.Marks.{marked};
 
 use std::alloc::{AllocError, Global};
@@ -119,7 +119,7 @@ impl IdSet {
         self.is_empty() || self.contains(id)
     }
 
-    /// Those of the ids that are in the set, in order. The only error is want of memory.
+    /// Those of the ids that are in the set, in order.
     pub(crate) fn among(&self, alloc: Global, ids: &[u8]) -> Result<Vec<u8>, AllocError>
         ensures { IfOk result (λ found. found.items ≡ filter (mark_of self.now) ids.now) }
     {
@@ -129,7 +129,7 @@ impl IdSet {
             .collect(alloc)
     }
 
-    /// The ids of the set, rising. The only error is want of memory.
+    /// The ids of the set, rising.
     pub(crate) fn to_vec(&self, alloc: Global) -> Result<Vec<u8>, AllocError>
         ensures { IfOk result (λ ids. ids.items ≡ marked self.now) }
     {

@@ -3,10 +3,10 @@
 //! The rule: docs/protocol.md, "Rights".
 #![tactic(auto)]
 
-mod carrying;
+mod carried;
 mod id_set;
 mod laws;
-mod noting;
+mod note;
 mod permits;
 mod rights;
 mod rules;

@@ -7,7 +7,7 @@ ghost use Rattle.dp_acl.specs.Rights.{tier_of, is_locked, lets_paint, may_paint,
 ghost use Rattle.dp_acl.specs.Rights.{creator_of};
 ghost use Rattle.dp_acl.specs.Permitted.{permits_control, permits_meta, permits_draw, permits_undo};
 ghost use Rattle.dp_acl.specs.Permitted.{permitted};
-ghost use Rattle.dp_acl.specs.Standing.{StandsFor};
+ghost use Rattle.dp_acl.specs.Table.{StandsFor};
 ghost use Rattle.dp_acl.specs.Inside.{kept_of};
 
 use crate::rights::Rights;

@@ -3,7 +3,7 @@
 ghost use Rattle.std.specs.Prelude.{◌≡◌, ℕ, ◌≤◌, List, [], OnOk};
 ghost use Rattle.dp_messages.specs.declared.message.Entry.{Entry as Item};
 ghost use Rattle.dp_acl.specs.Rights.{is_operator};
-ghost use Rattle.dp_acl.specs.Standing.{StandsFor};
+ghost use Rattle.dp_acl.specs.Table.{StandsFor};
 
 use crate::id_set::IdSet;
 use crate::rules::Rules;
@@ -27,7 +27,7 @@ pub struct Rights {
 }
 
 impl Model for Rights {
-    ghost use Rattle.dp_acl.specs.Standing.{Kept};
+    ghost use Rattle.dp_acl.specs.Table.{Kept};
 
     ghost Value = { Kept };
 
@@ -58,8 +58,6 @@ const FIRST_TIERS: Tiers = Tiers {
 
 impl Rights {
     /// The rights at the start of an epoch, before its first entry.
-    ///
-    /// The rule: docs/protocol.md, "Rights".
     pub fn new(alloc: Global) -> Rights
         ensures { StandsFor result [] }
     {
@@ -76,10 +74,6 @@ impl Rights {
     }
 
     /// Makes the memory ready that noting so many entries needs.
-    ///
-    /// # Errors
-    ///
-    /// Where memory runs out.
     pub fn reserve(&mut self, count: usize) -> Result<(), AllocError>
         ensures kept { self.new ≡ record self.old { room = self.new.room } }
         ensures stands { (history : List Item) → StandsFor self.old history → StandsFor self.new history }
@@ -89,8 +83,6 @@ impl Rights {
     }
 
     /// Whether the user is an operator.
-    ///
-    /// The rule: docs/protocol.md, "Rights".
     pub fn is_operator(&self, user: u8) -> bool
         ensures { (history : List Item) → StandsFor self.now history
             → result ≡ is_operator history user }

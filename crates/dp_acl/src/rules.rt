@@ -18,7 +18,7 @@ ghost use Rattle.std.specs.Prelude.{
   OnErr,
 };
 ghost use Rattle.std.specs.Option.{option_map};
-ghost use Rattle.dp_acl.specs.Standing.{kept_rule};
+ghost use Rattle.dp_acl.specs.Table.{kept_rule};
 ghost use Rattle.dp_acl.specs.Marks.{marked};
 ghost use Rattle.dp_acl.specs.RuleTable.{acl_of, RulesRise};
 ghost use Rattle.dp_acl.specs.Inside.{kept_of, AreRules, IsPlaceOf, IsGapFor};
@@ -60,7 +60,7 @@ impl Model for Rules {
 }
 
 impl Rule {
-    /// The LayerAcl that says the rule, which has at most 255 ids. The only error is want of memory.
+    /// The LayerAcl that says the rule, which has at most 255 ids.
     fn to_acl(&self, alloc: Global) -> Result<Meta, AllocError>
         requires { length (marked self.now.ids) ≤ 255 }
         ensures { IfOk result (λ meta. meta ≡ acl_of (kept_of self.now)) }
@@ -98,7 +98,7 @@ impl Rules {
         *self.rules.allocator()
     }
 
-    /// Makes room for so many more rules. The only error is want of memory.
+    /// Makes room for so many more rules.
     pub(crate) fn reserve(&mut self, count: usize) -> Result<(), AllocError>
         ensures kept { self.new.rules ≡ self.old.rules }
         ensures room { OnOk result (count ≤ self.new.room) }
@@ -135,7 +135,7 @@ impl Rules {
         }
     }
 
-    /// Adds a LayerAcl for each rule at the end, by rising layer. The only error is want of memory.
+    /// Adds a LayerAcl for each rule at the end, by rising layer.
     pub(crate) fn carry(&self, metas: &mut Vec<Meta>) -> Result<(), AllocError>
         ensures carried { OnOk result
             (metas.new.items ≡ metas.old.items ++ map acl_of self.now.rules) }

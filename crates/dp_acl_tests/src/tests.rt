@@ -239,7 +239,7 @@ fn tiers(rt: HostRuntime) -> Result<(), Fail> {
 fn locks(rt: HostRuntime) -> Result<(), Fail> {
     let alloc = rt.alloc();
     let mut rights = session(&rt, alloc)?;
-    // Each entry, and who may begin a stroke behind it.
+    // Each entry, and who may begin a stroke after it.
     for (entry, users) in [
         ((1, 66, "00"), "1"),
         ((4, 32, "0064"), "1"),

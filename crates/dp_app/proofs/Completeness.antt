@@ -12,14 +12,14 @@ use Rattle.dp_lines.specs.declared.line.Line.{Line}
 use Rattle.dp_lines.specs.Ends.{LinesEnd}
 use Rattle.dp_lines.specs.Ends as ends
 use Rattle.dp_schedule.specs.declared.action.Action.{Action}
-use Rattle.dp_peers.specs.Report.{report}
+use Rattle.dp_sim.specs.Report.{report}
 use Rattle.dp_world.specs.Schedule.{WorldComesTo}
-use Rattle.dp_world.specs.Running.{Blames, WorldLeaves}
+use Rattle.dp_world.specs.RunEnds.{Blames, WorldLeaves}
 use Rattle.dp_app.specs.Input.{ReplayComesTo}
 use Rattle.dp_app.specs.Answer.{Answer, IsCommand, IsReplay, IsWorld, IsDue, IsGiven, Leaves, Says, SaysUsage, status_of, line_of, replay_text, replay_answer, usage_answer, world_answer, world_word, replay_word, run_end_of, HasHeadline}
 use Rattle.dp_app.specs.Commands.{NamesCommand, CommandLeaves}
-use Rattle.dp_peers.specs.World.{world_after}
-use Rattle.dp_peers.specs.Headline.{Headline}
+use Rattle.dp_sim.specs.World.{world_after}
+use Rattle.dp_sim.specs.Headline.{Headline}
 use Rattle.dp_app.specs.declared.words.Command.{Command}
 use Rattle.dp_app.specs.declared.words.Command.TheVariants.{Replay, World}
 
@@ -33,7 +33,7 @@ pub keeps_same : (old : Option (List ℕ)) → Keeps old old
 keeps_same None = tt
 keeps_same (Some bytes) = refl
 
--- an end that is none of a fault or of want of memory leaves what it is due
+-- an end that is none of a fault or of out of memory leaves what it is due
 due_left : (bytes : List ℕ) (left old new : Option (List ℕ)) (end : RunEnd) → Leaves (Some bytes) left old new end →
     end ≢ ReadFault → end ≢ WriteFault → status_of end ≢ 7 →
     (entries : List Entry) × ReplayComesTo bytes entries end × Appends old new (replay_text entries end)

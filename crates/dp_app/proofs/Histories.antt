@@ -6,13 +6,13 @@ use Rattle.std.proofs.lemmas.Grind.{flat_map-append}
 use Rattle.dp_frame.specs.Frames.{FrameParts, IsFrame, spelling, HoldsNoFrame}
 use Rattle.dp_frame.specs.Stream.{Stream}
 use Rattle.dp_messages.specs.declared.message.Entry.{Entry}
-use Rattle.dp_messages.specs.Decoding.{Carries}
-use Rattle.dp_messages.specs.declared.decoding.DecodeError.{DecodeError}
-use Rattle.dp_messages.specs.declared.decoding.DecodeError.TheVariants as refusal
+use Rattle.dp_messages.specs.Decoded.{Carries}
+use Rattle.dp_messages.specs.declared.decoder.DecodeError.{DecodeError}
+use Rattle.dp_messages.specs.declared.decoder.DecodeError.TheVariants as refusal
 use Rattle.dp_lines.specs.declared.run_end.RunEnd.{RunEnd}
 use Rattle.dp_lines.specs.declared.run_end.RunEnd.TheVariants.{Memory, BadMessage}
 use Rattle.dp_app.specs.Input.{StandFor, Tells, StandsInReplay}
-use Rattle.dp_app.specs.History.{Follows, IsStop, StopsAt, IsRefusedAt, IsStopFor}
+use Rattle.dp_app.specs.FrameReader.{Follows, IsStop, StopsAt, IsRefusedAt, IsStopFor}
 
 each_more : (frames : List FrameParts) (f : FrameParts) → AllByRecursion IsFrame frames → IsFrame f → AllByRecursion IsFrame (frames ++ f ∷ [])
 each_more [] f each fits = (fits, tt)
@@ -99,7 +99,7 @@ follows_tells read entries stream none h =
 abbrev pub Gives : Result Entry DecodeError → Entry → Type 0
 Gives result entry = (result ≡ Ok entry) ⊎ (result ≡ Err refusal.Memory)
 
--- a frame that is refused, but for want of memory, is a bad message
+-- a frame that is refused, but because memory ran out, is a bad message
 pub refused_at : (f : FrameParts) (error : DecodeError) (n : ℕ) (end : RunEnd) →
     ((entry : Entry) → Carries f entry → Gives (Err error) entry) → IsStopFor error n end → IsRefusedAt f n end
 refused_at f (refusal.Unknown k) n end gives stop =

@@ -14,7 +14,7 @@ use Rattle.dp_messages.specs.declared.message.Entry.{Entry}
 use Rattle.dp_lines.specs.declared.run_end.RunEnd.{RunEnd}
 use Rattle.dp_lines.specs.declared.run_end.RunEnd.TheVariants.{ReadFault, Memory, Long, BadMessage}
 use Rattle.dp_app.specs.Input.{Tells, TellsUpTo, StandsInReplay, replay_limit, HoldsNoCause, ReplayComesTo, ReplayTookWithin}
-use Rattle.dp_app.specs.History.{Follows, IsStop, StopsAt}
+use Rattle.dp_app.specs.FrameReader.{Follows, IsStop, StopsAt}
 use Rattle.dp_app.specs.Read.{HasRead, EndsReading, BlamesReading, end_of}
 use Rattle.dp_app.proofs.Histories.{follows_tells}
 
@@ -35,7 +35,7 @@ ends_read input left entries stream none short h = at_held stream.held refl
         let held : stream.held ≢ [] = λ f. let g : b ∷ bs ≡ [] = sym e ∙ f in cc in
         rw (e, eqb-suc-zero (length bs)) (stream.held, follows_tells input entries stream none h, held, sym (read_len input entries stream h), short)
 
--- an input of which a chunk was read behind what was read before
+-- an input of which a chunk was read after what was read before
 record Chunked (input : List ℕ) (left : Option (List ℕ)) (entries : List Entry) (stream : Stream) (chunk : List ℕ) : Type 0 where
   read : List ℕ
   rest : List ℕ
@@ -112,7 +112,7 @@ told_at_fault (Some input) now new entries stream room h none fits keeps =
     kept None impossible = absurd impossible
     kept (Some rest) e = ap Some e
 
--- a chunk was taken behind what holds no cause to end
+-- a chunk was taken after what holds no cause to end
 took_chunk : (input : List ℕ) (left : Option (List ℕ)) (entries : List Entry) (stream : Stream) (room : ℕ) (chunk : List ℕ) →
     Chunked input left entries stream chunk → HoldsNoFrame stream.held → stream.at + length stream.held + room ≡ 2 ^ 30 →
     length chunk ≤ 4096 → ReplayTookWithin 4096 input left
@@ -223,7 +223,7 @@ end_blames before now stream kept = by_test (length stream.held == 0) refl
     by_test true t = rw t kept
     by_test false t = rw t kept
 
--- nor is want of memory or a bad message
+-- nor is out of memory or a bad message
 pub stop_blames : (before now : ℕ) (end : RunEnd) → IsStop end → now ≡ before → BlamesReading before now end
 stop_blames before now Memory stop kept = kept
 stop_blames before now (BadMessage n) stop kept = kept

@@ -31,7 +31,7 @@ same_tells M laws bytes es ds r s t u =
     let same = laws.splitting bytes t.frames u.frames r s t.splits u.splits in
     (same_entries M laws 0 u.frames es ds (subst (λ (frames : List FrameParts). StandFor M 0 frames es) same.0 t.stand) u.stand, same.1)
 
--- the first of two runs of frames with the same bytes is one frame, and the bytes behind it are the same
+-- the first of two runs of frames with the same bytes is one frame, and the bytes after it are the same
 same_first : (M : ℕ → FrameParts → Entry → Type 0) → Laws M → (f g : FrameParts) (fs gs : List FrameParts) (xs ys : List ℕ) → IsFrame f → IsFrame g →
     flat_map spelling (f ∷ fs) ++ xs ≡ flat_map spelling (g ∷ gs) ++ ys → (f ≡ g) × (flat_map spelling fs ++ xs ≡ flat_map spelling gs ++ ys)
 same_first M laws f g fs gs xs ys fits fits_too whole =
@@ -61,7 +61,7 @@ never_bad M laws k n (f ∷ fs) (g ∷ gs) (d ∷ ds) bad more rest at each each
     let next : n ≡ (k + 1) + length fs = omega (arith, at) in
     never_bad M laws (k + 1) n fs gs ds bad more rest next each.1 each_too.1 fits nothing stand.1 none same.1
 
--- the first frame that may not stand where it is stands at one place, behind one list of entries
+-- the first frame that may not stand where it is stands at one place, after one list of entries
 same_bad : (M : ℕ → FrameParts → Entry → Type 0) → Laws M → (k i j : ℕ) (fs gs : List FrameParts) (es ds : List Entry) (b c : FrameParts) (m n : List ℕ) →
     i ≡ k + length fs → j ≡ k + length gs → AllByRecursion IsFrame fs → AllByRecursion IsFrame gs → IsFrame b → IsFrame c →
     ((entry : Entry) → M i b entry → ⊥) → ((entry : Entry) → M j c entry → ⊥) →

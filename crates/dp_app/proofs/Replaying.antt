@@ -9,7 +9,7 @@ use Rattle.dp_plain.specs.Picture.{p6}
 use Rattle.dp_lines.specs.declared.run_end.RunEnd.{RunEnd}
 use Rattle.dp_lines.specs.declared.run_end.RunEnd.TheVariants.{Done, ReadFault, Memory, Long, Truncated, BadMessage}
 use Rattle.dp_app.specs.Read.{EndsReading, BlamesReading, ReadsToEnd}
-use Rattle.dp_world.specs.Running.{Blames}
+use Rattle.dp_world.specs.RunEnds.{Blames}
 use Rattle.dp_app.specs.Answer.{Leaves, ShowsPart}
 use Rattle.dp_app.specs.Shown.{WritesShown}
 use Rattle.dp_app.proofs.Completeness.{keeps_same}

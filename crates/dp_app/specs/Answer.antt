@@ -14,9 +14,9 @@ use Rattle.dp_lines.specs.declared.line.Line.{Line}
 use Rattle.dp_lines.specs.Ends.{LinesEnd}
 use Rattle.dp_lines.specs.Ends as ends
 use Rattle.dp_schedule.specs.declared.action.Action.{Action}
-use Rattle.dp_peers.specs.World.{world_after}
-use Rattle.dp_peers.specs.Report.{report}
-use Rattle.dp_peers.specs.Headline.{Headline}
+use Rattle.dp_sim.specs.World.{world_after}
+use Rattle.dp_sim.specs.Report.{report}
+use Rattle.dp_sim.specs.Headline.{Headline}
 use Rattle.dp_world.specs.Schedule.{WorldComesTo}
 use Rattle.dp_app.specs.Input.{ReplayComesTo, ReplayTookWithin}
 
@@ -158,7 +158,7 @@ Leaves input left old new Long = Keeps old new × StopsAtCause input left Long
 Leaves input left old new (BadMessage n) = Keeps old new × StopsAtCause input left (BadMessage n)
 Leaves input left old new _ = ⊥
 
--- the line of the end is said, and the status is the end's; or diag failed behind a prefix of the
+-- the line of the end is said, and the status is the end's; or diag failed after a prefix of the
 -- line, and it is 4
 abbrev pub Says : Option (List ℕ) → Option (List ℕ) → ℕ → ℕ → ℕ → RunEnd → Type 0
 Says old new before now status end =
@@ -171,7 +171,7 @@ SaysUsage old new before now status =
     ((status ≡ 1) × Appends old new usage_line)
     ⊎ ((status ≡ 4) × Rose before now × GrowsByPrefix old new usage_line)
 
--- the headline holds of the world behind the lines that an input of these bytes does
+-- the headline holds of the world after the lines that an input of these bytes does
 abbrev pub HasHeadline : List ℕ → Type 0
 HasHeadline bytes =
     (done : List Line) (actions : List Action) (end : LinesEnd)

@@ -2,7 +2,7 @@
 use Rattle.std.specs.Prelude.{ℕ, List, Option}
 use Rattle.std.specs.declared.string.String.{String}
 use Rattle.dp_lines.specs.declared.run_end.RunEnd.{RunEnd}
-use Rattle.dp_world.specs.Running.{WorldLeaves}
+use Rattle.dp_world.specs.RunEnds.{WorldLeaves}
 use Rattle.dp_app.specs.declared.words.Command.{Command}
 use Rattle.dp_app.specs.declared.words.Command.TheVariants.{Replay, World}
 use Rattle.dp_app.specs.Answer.{IsReplay, IsWorld, Leaves}

@@ -5,7 +5,7 @@ use Rattle.std.specs.Prelude.{Option, Some, ⊤}
 use Rattle.std.specs.List.{AllByRecursion, flat_map}
 use Rattle.dp_frame.specs.Frames.{FrameParts, IsFrame, spelling, Splits}
 use Rattle.dp_messages.specs.declared.message.Entry.{Entry}
-use Rattle.dp_messages.specs.Decoding.{Carries}
+use Rattle.dp_messages.specs.Decoded.{Carries}
 use Rattle.dp_lines.specs.declared.run_end.RunEnd.{RunEnd}
 use Rattle.dp_lines.specs.declared.run_end.RunEnd.TheVariants.{Done, Long, Truncated, BadMessage}
 
@@ -23,7 +23,7 @@ pub record Tells (MayStand : ℕ → FrameParts → Entry → Type 0) (bytes : L
   pub stand : StandFor MayStand 0 frames entries
   pub splits : Splits bytes frames rest
 
--- behind whole frames that stand for the entries comes, n bytes on, a whole one that may not stand there
+-- after whole frames that stand for the entries comes, n bytes on, a whole one that may not stand there
 pub record TellsUpTo (MayStand : ℕ → FrameParts → Entry → Type 0) (bytes : List ℕ) (entries : List Entry) (n : ℕ) : Type 0 where
   pub frames : List FrameParts
   pub bad : FrameParts
@@ -53,7 +53,7 @@ ComesTo MayStand first limit input entries Long =
     × (limit < length input)
 ComesTo MayStand first limit input entries _ = ⊥
 
--- These bytes hold no cause to end: they are no more than count, and behind the first ones they are
+-- These bytes hold no cause to end: they are no more than count, and after the first ones they are
 -- whole frames that stand for entries and a rest that holds no whole frame.
 pub record HoldsNoCause (MayStand : ℕ → FrameParts → Entry → Type 0) (first limit : ℕ) (bytes : List ℕ) : Type 0 where
   pub entries : List Entry
@@ -61,7 +61,7 @@ pub record HoldsNoCause (MayStand : ℕ → FrameParts → Entry → Type 0) (fi
   pub tells : Tells MayStand (drop first bytes) entries rest
   pub counts : length bytes ≤ limit
 
--- What was taken of an input of which these bytes are left is a part that meets P, and behind it at
+-- What was taken of an input of which these bytes are left is a part that meets P, and after it at
 -- most so many bytes.
 pub record TookWithin (P : List ℕ → Type 0) (most : ℕ) (input : List ℕ) (left : Option (List ℕ)) : Type 0 where
   pub taken : List ℕ

@@ -6,7 +6,7 @@ use Rattle.dp_lines.specs.declared.run_end.RunEnd.{RunEnd}
 use Rattle.dp_lines.specs.declared.run_end.RunEnd.TheVariants.{Done, ReadFault, Memory, Long, Truncated, BadMessage}
 use Rattle.dp_app.specs.Input.{ReplayComesTo, ReplayTookWithin}
 use Rattle.dp_io.specs.Faults.{Rose}
-use Rattle.dp_app.specs.History.{Follows}
+use Rattle.dp_app.specs.FrameReader.{Follows}
 
 -- of an input that tells its bytes these are read, and the rest is left
 pub record HasRead (input : List ℕ) (left : Option (List ℕ)) (entries : List Entry) (stream : Stream) : Type 0 where
@@ -16,8 +16,8 @@ pub record HasRead (input : List ℕ) (left : Option (List ℕ)) (entries : List
   pub whole : input ≡ read ++ rest
   pub follows : Follows read entries stream
 
--- How reading an input ended of which these bytes are left: by its bytes, with a piece at most behind
--- what holds no cause; by a fault, with nothing behind it; or for want of memory.
+-- How reading an input ended of which these bytes are left: by its bytes, with a piece at most after
+-- what holds no cause; by a fault, with nothing after it; or because memory ran out.
 abbrev pub EndsReading : List ℕ → Option (List ℕ) → List Entry → RunEnd → Type 0
 EndsReading input left entries Memory = Unit {0}
 EndsReading input left entries ReadFault = ReplayTookWithin 0 input left
@@ -42,6 +42,6 @@ ReadsToEnd Done = Unit {0}
 ReadsToEnd (Truncated n) = Unit {0}
 ReadsToEnd _ = ⊥
 
--- the end of an input of which these bytes are held behind the last whole frame
+-- the end of an input of which these bytes are held after the last whole frame
 abbrev pub end_of : Stream → RunEnd
 end_of stream = if length stream.held == 0 then Done else Truncated stream.at

@@ -9,7 +9,7 @@ use Rattle.dp_plain.specs.Picture.{p6}
 use Rattle.dp_lines.specs.declared.run_end.RunEnd.{RunEnd}
 use Rattle.dp_lines.specs.declared.run_end.RunEnd.TheVariants.{Memory, WriteFault}
 
--- the picture was written and the run ends as given; or the output failed behind a prefix of it; or
+-- the picture was written and the run ends as given; or the output failed after a prefix of it; or
 -- memory ran out before it
 abbrev pub WritesShown : Option (List ℕ) → Option (List ℕ) → ℕ → ℕ → List Entry → RunEnd → RunEnd → Type 0
 WritesShown old new before now entries given end =

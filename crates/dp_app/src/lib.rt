@@ -1,12 +1,12 @@
 //! The program: its words, its status, what it reads and what it writes.
 #![tactic(auto)]
 
-mod history;
+mod frame_reader;
 mod laws;
 mod program;
-mod reading;
+mod entries;
 mod replay;
-mod saying;
+mod diagnostics;
 mod status;
 mod words;
 

@@ -4,18 +4,18 @@ ghost use Rattle.std.specs.Prelude.{◌≡◌, ◌≢◌, ◌⊎◌, ◌<◌, �
 ghost use Rattle.std.specs.Io.KnownBytes.{Keeps, IsAtEnd};
 ghost use Rattle.dp_io.specs.Faults.{Rose};
 ghost use Rattle.dp_lines.specs.declared.run_end.RunEnd.{RunEnd as run_end};
-ghost use Rattle.dp_world.specs.Running.{Blames, WorldLeaves};
+ghost use Rattle.dp_world.specs.RunEnds.{Blames, WorldLeaves};
 ghost use Rattle.dp_app.specs.Answer.{Answer, IsCommand, IsReplay, IsWorld, IsDue, IsGiven};
 ghost use Rattle.dp_app.specs.Answer.{HasHeadline, Leaves, Says, SaysUsage};
 ghost use Rattle.dp_app.specs.Commands.{CommandLeaves};
 
 use crate::laws::one_reading;
 use crate::replay::run_replay;
-use crate::saying::{say, say_usage};
+use crate::diagnostics::{say, say_usage};
 use crate::words::{Command, command_of};
 use dp_io::{Failed, Sink, Source};
 use dp_lines::RunEnd;
-use dp_peers::headline;
+use dp_sim::headline;
 use dp_steps::Steps;
 use dp_world::{one_schedule, run_world};
 use std::alloc::Global;
@@ -29,7 +29,7 @@ pub struct Outcome {
     pub status: u8,
 }
 
-/// The program: its words behind its name, its input, its output, and where it says why it ended.
+/// The program: its words after its name, its input, its output, and where it says why it ended.
 /// Nothing else is read or written.
 pub fn drawpile<I: Source, O: Sink, E: Sink>(
     alloc: Global,
@@ -65,7 +65,7 @@ pub fn drawpile<I: Source, O: Sink, E: Sink>(
         × Says (E.held diag.old) (E.held diag.new) (E.faults diag.old) (E.faults diag.new)
         result.status end }
 
-    // And whatever the input comes to: behind the lines that are done each client has taken a front of the
+    // And whatever the input comes to: after the lines that are done each client has taken a prefix of the
     // history of its epoch, its confirmed canvas is that front replayed, its view the same with its unanswered
     // sends drawn, and a message that is not permitted changes nothing.
     ensures headline { IsWorld words.now → IfSome (I.left input.old) HasHeadline }

@@ -1,11 +1,11 @@
 //! The command `replay`: frames on the input, a picture on the output.
 
 ghost use Rattle.std.specs.Prelude.{◌≤◌};
-ghost use Rattle.dp_world.specs.Running.{Blames};
+ghost use Rattle.dp_world.specs.RunEnds.{Blames};
 ghost use Rattle.dp_app.specs.Answer.{Leaves};
 ghost use Rattle.dp_app.specs.Shown.{WritesShown};
 
-use crate::reading::{Reading, read_entries};
+use crate::entries::{Reading, read_entries};
 use crate::status::reads_to_end;
 use dp_canvas::Canvas;
 use dp_flat::{PictureEnd, write_p6};

@@ -500,7 +500,7 @@ fn inputs_about_the_limit(rt: HostRuntime) -> Result<(), Fail> {
     let alloc = rt.alloc();
     let words = [String::from_str(alloc, "replay")?];
     // Frames of exactly 1 GiB; a bad frame that is whole with the last byte of it, and a byte
-    // behind; a bad frame that is whole a byte later.
+    // after; a bad frame that is whole a byte later.
     for (title, behind, status, line) in [
         (247, "", 0, ""),
         (243, "0000140100", 10, "bad message at 1073741820\n"),

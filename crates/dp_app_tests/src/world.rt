@@ -51,8 +51,8 @@ up 1|placed 0:4
 say 1 LAYER|said 2
 up 1|placed 0:5";
 
-/// A line of a row is a line of the input, and behind a bar what it prints: words, or a picture in brackets, whose
-/// pixels are red, blue and white, each with how often it stands there, and its rows parted by a slash. `takes C N M` stands
+/// A line of a row is a line of the input, and after a bar what it prints: words, or a picture in brackets, whose
+/// pixels are red, blue and white, each with how often it stands there, and its rows separated by a slash. `takes C N M` stands
 /// for the lines that take the entries from N to M, and `points K N` for K undo points of the second client, placed from N on.
 static ROWS: [(&str, &[&str]); 24] = [
     ("", &[START]),
@@ -225,7 +225,7 @@ fn count_pixels(alloc: Global, runs: &str) -> Result<u32, AllocError> {
     put_pixels(runs, &mut Vec::new(alloc))
 }
 
-/// Adds texts, each with the number behind it, and a newline.
+/// Adds texts, each with the number after it, and a newline.
 fn put_numbers(parts: &[(&str, u32)], out: &mut Vec<u8>) -> Result<(), AllocError> {
     for (text, number) in parts {
         out.extend_from_slice(text.as_bytes())?;
@@ -235,7 +235,7 @@ fn put_numbers(parts: &[(&str, u32)], out: &mut Vec<u8>) -> Result<(), AllocErro
     Ok(())
 }
 
-/// Adds the text of a picture: its rows, parted by a slash.
+/// Adds the text of a picture: its rows, separated by a slash.
 fn put_picture(runs: &str, out: &mut Vec<u8>) -> Result<(), AllocError> {
     let total = count_pixels(*out.allocator(), runs)?;
     let rows = if total == 0 {

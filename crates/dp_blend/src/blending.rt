@@ -10,8 +10,6 @@ use crate::color::{ONE, Pixel, fade, mul};
 use crate::modes::Mode;
 
 /// The destination `dst` after the source `src` is blended with it.
-///
-/// The rule: docs/protocol.md, "Numbers and blending".
 #[inline]
 pub fn blend(mode: Mode, src: Pixel, dst: Pixel) -> Pixel
     ensures value { result ≡ blend mode src dst }

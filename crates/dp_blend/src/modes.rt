@@ -6,8 +6,6 @@ ghost use Rattle.std.specs.Prelude.{◌≡◌, IfSome};
 ghost use Rattle.dp_blend.specs.Blending.{mode_numbered, number_of};
 
 /// How a source is blended with a destination.
-///
-/// The rule: docs/protocol.md, "Numbers and blending".
 #[derive(Clone, Copy, Debug, PartialEq, Eq)]
 pub enum Mode {
     /// The source's alpha takes the destination away.

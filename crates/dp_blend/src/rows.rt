@@ -16,8 +16,6 @@ use crate::modes::Mode;
 
 /// Blends the source with each pixel of the row, faded by the mask at its place: 32768 blends all of
 /// it, and where the mask is 0 the pixel stays.
-///
-/// The rule: docs/protocol.md, "Numbers and blending".
 pub fn row_blend(mode: Mode, src: Pixel, mask: &[u16], row: &mut [Pixel])
     requires same_length { length mask.now ≡ length row.old }
     requires within { All (λ m. m ≤ 32768) mask.now }
@@ -37,8 +35,6 @@ pub fn row_blend(mode: Mode, src: Pixel, mask: &[u16], row: &mut [Pixel])
 }
 
 /// Blends the source with each pixel of the row.
-///
-/// The rule: docs/protocol.md, "Numbers and blending".
 pub fn row_fill(mode: Mode, src: Pixel, row: &mut [Pixel])
     ensures value { row.new ≡ row_filled mode src row.old }
     ensures places { (k : ℕ) (d : Channels) → k < length row.old →
@@ -56,8 +52,6 @@ pub fn row_fill(mode: Mode, src: Pixel, row: &mut [Pixel])
 
 /// Blends with each pixel of the row the source at its place, faded by `by`, of which 32768 is one.
 /// A fade by 0 blends the clear pixel, so that in the mode Replace it leaves the row clear.
-///
-/// The rule: docs/protocol.md, "Numbers and blending".
 pub fn row_merge(mode: Mode, by: u16, sources: &[Pixel], row: &mut [Pixel])
     requires same_length { length sources.now ≡ length row.old }
     requires within { by ≤ 32768 }

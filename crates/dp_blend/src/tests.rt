@@ -151,7 +151,7 @@ fn is_mask(mask: &[u16]) -> bool
     mask.iter().all(|m| *m <= 32768)
 }
 
-/// Fills the front of a row, and a copy of it by the plain loop.
+/// Fills the prefix of a row, and a copy of it by the plain loop.
 fn fill_both(rt: &impl Abort, mode: Mode, src: Pixel, len: usize)
     requires { len ≤ 70 }
 {
@@ -175,7 +175,7 @@ fn fills_rows_as_the_plain_loop_does(rt: HostRuntime) {
     }
 }
 
-/// Blends the front of a row through a mask, and a copy of it by the plain loop. The mask is one of
+/// Blends the prefix of a row through a mask, and a copy of it by the plain loop. The mask is one of
 /// six numbers throughout, or each of them six times in turn.
 fn blend_both(rt: &impl Abort, mode: Mode, kind: usize, len: usize)
     requires { len ≤ 70 }
@@ -207,7 +207,7 @@ fn blends_rows_through_masks_as_the_plain_loop_does(rt: HostRuntime) {
     }
 }
 
-/// Merges the front of two rows, and of copies by the plain loop.
+/// Merges the prefix of two rows, and of copies by the plain loop.
 fn merge_both(rt: &impl Abort, mode: Mode, by: u16, len: usize)
     requires opacity { by ≤ 32768 }
     requires len { len ≤ 70 }

@@ -23,7 +23,7 @@ after_act-map_act f user s sender (Redo who) = refl
 after_act-map_act f user s sender (Draw op) = refl
 after_act-map_act f user s sender Other = refl
 
--- the strokes behind a list of acts with other commands
+-- the strokes after a list of acts with other commands
 fold-map_commands : {A B : Type 0} → (f : A → B) (user : ℕ) (s : Strokes) (acts : List (UserAct A)) → fold (after_act user) s (map_commands f acts) ≡ fold (after_act user) s acts
 unfolding act_by
 fold-map_commands f user s [] = refl

@@ -22,7 +22,7 @@ slice_get-append [] ys i x is = cc
 slice_get-append (y ∷ xs) ys zero x is = is
 slice_get-append (y ∷ xs) ys (suc i) x is = slice_get-append xs ys i x is
 
--- the last stands behind all others
+-- the last stands after all others
 slice_get-last : {X : Type 0} → (xs : List X) (x : X) → slice_get (xs ++ x ∷ []) (length xs) ≡ Some x
 slice_get-last [] x = refl
 slice_get-last (y ∷ xs) x = slice_get-last xs x
@@ -113,14 +113,14 @@ after_act-are_points user before s a here all =
     (λ same. groups_after-are_points user before s a.user a.act here (eqb-true (concerned a) user same) more)
     (λ other. more)
 
--- the groups behind more acts are Points
+-- the groups after more acts are Points
 fold-are_points : {Op : Type 0} → (user : ℕ) (before rest : List (UserAct Op)) (s : Strokes) → s.position ≡ length before → AllGroups (IsPointOf user before) s.groups → AllGroups (IsPointOf user (before ++ rest)) (fold (after_act user) s rest).groups
 fold-are_points user before [] s here all = AllGroups-append user before [] s.groups all
 fold-are_points user before (a ∷ rest) s here all =
     subst (λ acts. AllGroups (IsPointOf user acts) (fold (after_act user) (after_act user s a) rest).groups) (append_assoc before (a ∷ []) rest)
     (fold-are_points user (before ++ a ∷ []) rest (after_act user s a) (omega (arith, here, length-append before (a ∷ []))) (after_act-are_points user before s a here all))
 
--- the groups behind a history are Points
+-- the groups after a history are Points
 strokes-are_points : {Op : Type 0} → (depth user : ℕ) (acts : List (UserAct Op)) → AllGroups (IsPointOf user acts) (strokes depth user acts).groups
 strokes-are_points {Op} depth user acts =
     let none : AllGroups (IsPointOf {Op = Op} user []) no_groups = record { done = All-nil (IsPointOf {Op = Op} user []); undone = All-nil (IsPointOf {Op = Op} user []) } in

@@ -44,7 +44,7 @@ window_after-points position (Redo who) w points has = window_cut w points has
 window_after-points position (Draw op) w points has = window_cut w points has
 window_after-points position Other w points has = window_cut w points has
 
--- the strokes behind more acts, from a window that has the last of some Points
+-- the strokes after more acts, from a window that has the last of some Points
 fold-is_of_last_points : {Op : Type 0} → (user : ℕ) (acts : List (UserAct Op)) (s : Strokes) (depth : ℕ) (points : List ℕ) → s.window.depth ≡ depth → s.window.points ≡ last_few depth points → let t = fold (after_act user) s acts in (t.position ≡ s.position + length acts) × (t.window.depth ≡ depth) × (t.window.points ≡ last_few depth (points ++ points_from s.position acts))
 fold-is_of_last_points user [] s depth points same has =
     (omega arith, same, has ∙ ap (last_few depth) (sym (append-nil points)))

@@ -5,7 +5,7 @@ use Rattle.dp_board.specs.declared.act.Act.TheVariants.{Draw}
 use Rattle.dp_board.specs.declared.act.UserAct.{UserAct}
 use Rattle.dp_board.specs.Strokes.{is_among, last_of, strokes}
 
--- the group that a command joins behind the history `before`: the last done one of its user, or
+-- the group that a command joins after the history `before`: the last done one of its user, or
 -- group 0 (None)
 abbrev pub joined : {Op : Type 0} → ℕ → ℕ → List (UserAct Op) → Option ℕ
 joined depth user before = last_of (strokes depth user before).groups.done
@@ -20,12 +20,12 @@ abbrev pub is_drawn : {Op : Type 0} → ℕ → List (UserAct Op) → List (User
 is_drawn depth all before user =
     is_group_drawn (strokes depth user all).groups.done (joined depth user before)
 
--- an act behind `before` is a command that is drawn
+-- an act after `before` is a command that is drawn
 abbrev pub flag_of : {Op : Type 0} → ℕ → List (UserAct Op) → List (UserAct Op) → ℕ → Act Op → Bool
 flag_of depth all before user (Draw op) = is_drawn depth all before user
 flag_of depth all before user act = false
 
--- for each act behind `before`, whether it is a command that is drawn
+-- for each act after `before`, whether it is a command that is drawn
 abbrev pub flags_from : {Op : Type 0}
     → ℕ → List (UserAct Op) → List (UserAct Op) → List (UserAct Op) → List Bool
 flags_from depth all before [] = []

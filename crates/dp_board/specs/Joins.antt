@@ -18,7 +18,7 @@ abbrev pub join_of : {Op : Type 0} → ℕ → Groups → Act Op → Join
 join_of user g (Draw op) = join_in user (last_of g.done)
 join_of user g act = NoCommand
 
--- what each act behind `before` joins
+-- what each act after `before` joins
 abbrev pub joins_from : {Op : Type 0} → ℕ → List (UserAct Op) → List (UserAct Op) → List Join
 joins_from depth before [] = []
 joins_from depth before (a ∷ rest) =

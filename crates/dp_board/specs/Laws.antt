@@ -13,7 +13,7 @@ CommandsDoNotCount A B =
     (f : A → B) (depth : ℕ) (acts : List (UserAct A))
     → drawn_flags depth (map_commands f acts) ≡ drawn_flags depth acts
 
--- an act behind a history changes a user's strokes as `after_act` says
+-- an act after a history changes a user's strokes as `after_act` says
 abbrev pub StrokesGoOn : Type 0 → Type 0
 StrokesGoOn Op =
     (depth user : ℕ) (acts : List (UserAct Op)) (a : UserAct Op)

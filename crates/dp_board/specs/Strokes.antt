@@ -17,7 +17,7 @@ pub record Groups : Type 0 where
   pub done : List ℕ
   pub undone : List ℕ
 
--- a user's strokes behind a history, which has as many acts as `position` says
+-- a user's strokes after a history, which has as many acts as `position` says
 pub record Strokes : Type 0 where
   pub position : ℕ
   pub window : Window
@@ -141,10 +141,10 @@ after_act user s a = record s {
   groups = if concerned a == user then groups_after s a.act else s.groups;
 }
 
--- a user's strokes behind a history
+-- a user's strokes after a history
 abbrev pub strokes : {Op : Type 0} → ℕ → ℕ → List (UserAct Op) → Strokes
 strokes depth user acts = fold (after_act user) (no_strokes depth) acts
 
--- the group that an act behind a history moves, whoever's it is
+-- the group that an act after a history moves, whoever's it is
 abbrev pub moved_by : {Op : Type 0} → ℕ → List (UserAct Op) → UserAct Op → Option ℕ
 moved_by depth before a = moved (strokes depth (concerned a) before) a.act

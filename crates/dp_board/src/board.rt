@@ -48,10 +48,6 @@ pub trait Board: Sized + Drop {
         ensures few_tiles { tiles.new ≤ tiles.old + weight op.now };
 
     /// A second board of the same value. It draws nothing and makes no tile.
-    ///
-    /// # Errors
-    ///
-    /// Where memory runs out.
     fn share<D: Ledger, T: Ledger>(
         &self,
         draws: &mut Steps<D>,
@@ -62,10 +58,6 @@ pub trait Board: Sized + Drop {
         ensures no_tile { tiles.new ≡ tiles.old };
 
     /// An equal operation.
-    ///
-    /// # Errors
-    ///
-    /// Where memory runs out.
     fn copy_op(alloc: Global, op: &Self::Op) -> Result<Self::Op, AllocError>
         ensures { IfOk result (λ copy. copy ≡ op.now) };
 

@@ -38,7 +38,6 @@ fn flags_of(alloc: Global, done: &[SortedGroups], joins: &[Join]) -> Result<Vec<
 /// `depth` points of all users. At one depth the time is in proportion to the number of acts, but
 /// for the sorting of each user's groups. The rule: docs/protocol.md, "Strokes, undo and redo".
 ///
-/// The only error is want of memory.
 pub fn drawn_flags<Op>(
     alloc: Global,
     depth: u32,

@@ -15,12 +15,12 @@ pub fn each_act_has_a_flag<Op>()
     ensures { EachActHasAFlag Op }
 {}
 
-/// An act behind a history changes the strokes that the history leaves.
+/// An act after a history changes the strokes that the history leaves.
 pub fn strokes_go_on<Op>()
     ensures { StrokesGoOn Op }
 {}
 
-/// The window behind a history has the last points of it, as many as the depth at most.
+/// The window after a history has the last points of it, as many as the depth at most.
 pub fn window_is_of_last_points<Op>()
     ensures { WindowIsOfLastPoints Op }
 {}

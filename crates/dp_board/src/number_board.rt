@@ -32,10 +32,6 @@ impl Model for NumberBoard {
 
 impl NumberBoard {
     /// A row of so many zeros.
-    ///
-    /// # Errors
-    ///
-    /// Where memory runs out.
     pub fn new(alloc: Global, len: usize) -> Result<NumberBoard, AllocError>
         ensures { IfOk result (λ board. board ≡ replicate len 0) }
     {

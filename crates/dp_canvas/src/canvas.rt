@@ -3,7 +3,7 @@
 ghost use Rattle.std.specs.Prelude.{◌≡◌, false};
 ghost use Rattle.dp_pixels.specs.Feet.{reach};
 ghost use Rattle.dp_plain.specs.Board.{empty_board, IsBoard};
-ghost use Rattle.dp_plain.specs.Drawing.{draw};
+ghost use Rattle.dp_plain.specs.Commands.{draw};
 
 use dp_blend::Pixel;
 use dp_board::Board;

@@ -150,7 +150,7 @@ fn layers(rt: HostRuntime) -> Result<(), Fail> {
                 (0x0200, 0, 0, None),
             ],
         },
-        // A layer goes to the front of the list; the other goes into a group, and is resized with it.
+        // A layer goes to the prefix of the list; the other goes into a group, and is resized with it.
         Case {
             commands: &[
                 TWO_BY_ONE,

@@ -7,7 +7,7 @@ use Rattle.std.proofs.lemmas.List.Elements.{filter_map-append}
 use Rattle.std.proofs.lemmas.List.Sums.{fold-append}
 use Rattle.dp_messages.specs.declared.message.Msg.{Msg}
 use Rattle.dp_plain.specs.Board.{Board}
-use Rattle.dp_plain.specs.Drawing.{draw, draw_all}
+use Rattle.dp_plain.specs.Commands.{draw, draw_all}
 use Rattle.dp_client.specs.Client.{command_of}
 
 -- what a function gives of one item

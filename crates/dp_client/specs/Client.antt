@@ -9,7 +9,7 @@ use Rattle.dp_messages.specs.declared.message.Msg.TheVariants as msg
 use Rattle.dp_messages.specs.declared.message.Entry.{Entry}
 use Rattle.dp_messages.specs.Equality.{same_message}
 use Rattle.dp_plain.specs.Board.{Board}
-use Rattle.dp_plain.specs.Drawing.{draw_all}
+use Rattle.dp_plain.specs.Commands.{draw_all}
 use Rattle.dp_plain.specs.Replay.{replay}
 use Rattle.dp_client.specs.declared.own.Own.{Own}
 use Rattle.dp_client.specs.declared.own.Own.TheVariants.{Stranger, Echo, Dropped, Lost}
@@ -47,7 +47,7 @@ may_answer (msg.Meta Leave) = false
 may_answer (msg.Meta (Filtered kind)) = nat_le 32 kind
 may_answer m = true
 
--- how many entries behind its mark an epoch carried from the one before
+-- how many entries after its mark an epoch carried from the one before
 abbrev pub carried_by : Msg → ℕ
 carried_by (msg.Meta (ResetMark epoch carried)) = carried
 carried_by m = 0
@@ -57,7 +57,7 @@ abbrev pub carried_in : List Entry → ℕ
 carried_in [] = 0
 carried_in (entry ∷ entries) = carried_by entry.msg
 
--- own answers stand behind this index: that of the user's Join in the Welcome's epoch, else that of the
+-- own answers stand after this index: that of the user's Join in the Welcome's epoch, else that of the
 -- last carried entry
 abbrev pub last_before : State → ℕ
 last_before s = if s.epoch == s.joined_epoch then s.joined_at else carried_in s.taken
@@ -121,17 +121,17 @@ abbrev pub took : State → Entry → State
 took s entry = took_at (marked entry.msg) s entry
 
 -- where the entry stands, and the epoch to be acknowledged
-abbrev pub told_at : Option ℕ → State → Taken
-told_at None s = record { ack = None; epoch = s.epoch; at = length s.taken }
-told_at (Some epoch) s = record {
+abbrev pub taken_at : Option ℕ → State → Taken
+taken_at None s = record { ack = None; epoch = s.epoch; at = length s.taken }
+taken_at (Some epoch) s = record {
   ack = if is_first_mark s epoch then None else Some epoch;
   epoch = epoch;
   at = 0;
 }
 
 -- what the client tells of an entry that it takes
-abbrev pub told : State → Entry → Taken
-told s entry = told_at (marked entry.msg) s
+abbrev pub taken_of : State → Entry → Taken
+taken_of s entry = taken_at (marked entry.msg) s
 
 -- what a client does of its own: it says a message, or takes an entry
 pub data Step : Type 0 where

@@ -34,7 +34,7 @@ pub(crate) fn marked(msg: &Msg) -> Option<u32>
     }
 }
 
-/// How many entries behind its mark an epoch carried.
+/// How many entries after its mark an epoch carried.
 fn carried_by(msg: &Msg) -> u32
     ensures { result ≡ carried_by msg.now }
 {

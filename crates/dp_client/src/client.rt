@@ -2,10 +2,10 @@
 
 ghost use Rattle.std.specs.Prelude.{◌≡◌, ◌-◌, ◌^◌, ◌<◌, ◌≤◌, length, Some, None, option_to_list, IfOk, OnOk, OnErr};
 ghost use Rattle.dp_messages.specs.Messages.{kind_of};
-ghost use Rattle.dp_client.specs.Client.{welcomed, own_of, last_before, is_own_answer, said, took, told};
+ghost use Rattle.dp_client.specs.Client.{welcomed, own_of, last_before, is_own_answer, said, took, taken_of};
 ghost use Rattle.dp_client.specs.Client.{command_of, confirmed, marked, view};
 ghost use Rattle.std.specs.List.{filter_map};
-ghost use Rattle.dp_plain.specs.Drawing.{draw_all};
+ghost use Rattle.dp_plain.specs.Commands.{draw_all};
 
 use crate::answers::{carried_in, is_filtered, marked, may_answer};
 use crate::own::Own;
@@ -121,7 +121,7 @@ impl Client {
     /// Where memory runs out. The client is then as it was.
     pub fn take(&mut self, entry: &Entry) -> Result<Taken, AllocError>
         requires { length self.old.taken < 2 ^ 32 - 1 }
-        ensures told { IfOk result (λ taken. taken ≡ told self.old entry.now) }
+        ensures taken_of { IfOk result (λ taken. taken ≡ taken_of self.old entry.now) }
         ensures ok { OnOk result (self.new ≡ took self.old entry.now) }
         ensures err { OnErr result (self.new ≡ self.old) }
     {
@@ -135,7 +135,7 @@ impl Client {
     fn take_other(&mut self, entry: &Entry) -> Result<Taken, AllocError>
         requires few { length self.old.taken < 2 ^ 32 - 1 }
         requires other { marked entry.now.msg ≡ None }
-        ensures told { IfOk result (λ taken. taken ≡ told self.old entry.now) }
+        ensures taken_of { IfOk result (λ taken. taken ≡ taken_of self.old entry.now) }
         ensures ok { OnOk result (self.new ≡ took self.old entry.now) }
         ensures err { OnErr result (self.new ≡ self.old) }
     {
@@ -159,7 +159,7 @@ impl Client {
     /// Takes a mark of an epoch.
     fn take_mark(&mut self, entry: &Entry, epoch: u32) -> Result<Taken, AllocError>
         requires { marked entry.now.msg ≡ Some epoch }
-        ensures told { IfOk result (λ taken. taken ≡ told self.old entry.now) }
+        ensures taken_of { IfOk result (λ taken. taken ≡ taken_of self.old entry.now) }
         ensures ok { OnOk result (self.new ≡ took self.old entry.now) }
         ensures err { OnErr result (self.new ≡ self.old) }
     {
@@ -181,7 +181,7 @@ impl Client {
         })
     }
 
-    /// Own answers stand behind this index.
+    /// Own answers stand after this index.
     fn last_before(&self) -> u32
         ensures { result ≡ last_before self.now }
     {
@@ -219,10 +219,6 @@ impl Client {
     }
 
     /// The confirmed canvas.
-    ///
-    /// # Errors
-    ///
-    /// Where memory runs out.
     pub fn confirmed<D: Ledger, T: Ledger>(
         &self,
         draws: &mut Steps<D>,
@@ -235,10 +231,6 @@ impl Client {
     }
 
     /// The view.
-    ///
-    /// # Errors
-    ///
-    /// Where memory runs out.
     pub fn view<D: Ledger, T: Ledger>(
         &self,
         draws: &mut Steps<D>,

@@ -17,8 +17,8 @@ use Rattle.dp_layers.specs.Layers.{nesting_limit}
 use Rattle.dp_layers.specs.Rows.{layers_of}
 use Rattle.dp_plain.specs.Board.{Board}
 use Rattle.dp_plain.specs.Picture.{compose, is_seen_in, laid, pixels_of, row_pixel, seen}
-use Rattle.dp_plain.specs.Viewing.{pixels_in_row}
-use Rattle.dp_flat.specs.Composing.{shown, seen_row, IsShown}
+use Rattle.dp_plain.specs.View.{pixels_in_row}
+use Rattle.dp_flat.specs.Composed.{shown, seen_row, IsShown}
 
 -- the pixel after one more row of the list was laid on it
 abbrev pub laid_on : Board → ℕ → ℕ → ℕ → Channels → LayerRow → Channels

@@ -86,7 +86,7 @@ before_cut a b c piece text before some =
 
 -- ---- a text of which some is still to come
 
--- the text was appended, but for the piece and for what is still to come behind it
+-- the text was appended, but for the piece and for what is still to come after it
 pub record GrowsToward (old new : Option (List ℕ)) (piece rest text : List ℕ) : Type 0 where
   pub done : List ℕ
   pub before : GrowsBefore old new piece done

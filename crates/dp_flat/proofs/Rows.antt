@@ -10,7 +10,7 @@ use Rattle.dp_blend.specs.Canvas.{below, canvas_of}
 use Rattle.dp_plain.specs.Board.{Board}
 use Rattle.dp_plain.specs.Picture.{picture, seen}
 use Rattle.dp_io.specs.Streams.{GrowsByPrefix}
-use Rattle.dp_flat.specs.Composing.{seen_row}
+use Rattle.dp_flat.specs.Composed.{seen_row}
 use Rattle.dp_flat.specs.Texts.{GrowsBefore}
 use Rattle.dp_flat.proofs.Prefixes.{grows_within}
 

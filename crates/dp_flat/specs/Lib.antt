@@ -1,3 +1,3 @@
-pub mod Composing
+pub mod Composed
 pub mod Ends
 pub mod Texts

@@ -7,7 +7,7 @@ ghost use Rattle.dp_layers.specs.Layers.{row_of};
 ghost use Rattle.dp_layers.specs.Rows.{layers_of};
 ghost use Rattle.dp_plain.specs.Board.{IsBoard};
 ghost use Rattle.dp_plain.specs.Picture.{laid, mode_of};
-ghost use Rattle.dp_flat.specs.Composing.{IsComposed, IsShown, seen_row};
+ghost use Rattle.dp_flat.specs.Composed.{IsComposed, IsShown, seen_row};
 
 use dp_blend::{Mode, ONE, Pixel, fade_by_one_keeps, from8, of_argb, row_fill, row_merge};
 use dp_layers::{LayerRow, rows_by_id};

@@ -7,10 +7,10 @@
 mod compose;
 mod pixel;
 mod text;
-mod writing;
+mod picture;
 
 pub use pixel::flatten;
-pub use writing::{PictureEnd, write_p3, write_p6};
+pub use picture::{PictureEnd, write_p3, write_p6};
 
 #[cfg(test)]
 mod tests;

@@ -3,7 +3,7 @@
 ghost use Rattle.std.specs.Prelude.{◌≡◌, ◌<◌};
 ghost use Rattle.dp_layers.specs.Rows.{layers_of};
 ghost use Rattle.dp_plain.specs.Picture.{compose, row_pixel, seen};
-ghost use Rattle.dp_flat.specs.Composing.{shown};
+ghost use Rattle.dp_flat.specs.Composed.{shown};
 
 use crate::compose::{LEVELS, mode_of};
 use dp_blend::{Mode, Pixel, blend, fade, from8, of_argb};

@@ -1,4 +1,4 @@
--- One frame and the bytes behind it.
+-- One frame and the bytes after it.
 use Rattle.std.proofs.Common.{◌≡◌, ℕ, ◌+◌, ◌*◌, ◌/◌, ◌%◌, ◌<◌, ◌≤◌, List, [], ◌∷◌, ◌++◌, length, get_or, take, drop, refl, sym, ap, ◌∙◌, arith, length-append}
 use Rattle.std.proofs.lemmas.List.{take_at, drop_at, take-append-drop, length-take-le}
 use Rattle.byteorder.specs.Endian.{big_number}
@@ -50,7 +50,7 @@ no_frame_partial bytes partial f more fits whole =
     let number : big_number 2 bytes ≡ length f.body = ap (big_number 2) whole ∙ first_number f more fits in
     omega (arith, ap length whole, length-append (spelling f) more)
 
--- a header with the payload that it announces behind it is a frame, and the rest follows
+-- a header with the payload that it announces after it is a frame, and the rest follows
 pub frame_in_front : (a b c d : ℕ) (tail : List ℕ) → a < 256 → b < 256 → a * 256 + b ≤ length tail → (f : FrameParts) × (more : List ℕ) × IsFrame f × (a ∷ b ∷ c ∷ d ∷ tail ≡ spelling f ++ more)
 frame_in_front a b c d tail small_a small_b enough =
     let n = a * 256 + b in
@@ -76,7 +76,7 @@ holds_frame (a ∷ b ∷ c ∷ d ∷ tail) small long enough none =
     let found = frame_in_front a b c d tail (small 0) (small 1) (omega arith) in
     none found.0 found.1 found.2 found.3
 
--- what is taken from the front is a frame, and the rest is behind it
+-- what is taken from the front is a frame, and the rest is after it
 pub frame_and_rest : (held rest : List ℕ) (len : ℕ) (f : FrameParts) → take len held ≡ spelling f → rest ≡ drop len held → held ≡ spelling f ++ rest
 frame_and_rest held rest len f front back =
     sym (take-append-drop len held) ∙ ap (λ (b : List ℕ). b ++ drop len held) front ∙ ap (λ (b : List ℕ). spelling f ++ b) (sym back)

@@ -54,7 +54,7 @@ back_small : (front back : List ℕ) → AllByRecursion (λ b. b < 256) (front +
 back_small [] back small = small
 back_small (x ∷ front) back small = back_small front back small.1
 
--- what the bytes behind the first frame have, the bytes have
+-- what the bytes after the first frame have, the bytes have
 splitting_with : (n : ℕ) → ((more : List ℕ) → length more ≤ n → AllByRecursion (λ b. b < 256) more → (fs : List FrameParts) × (rest : List ℕ) × Splits more fs rest)
     → (bytes : List ℕ) → length bytes ≤ suc n → AllByRecursion (λ b. b < 256) bytes
     → HoldsNoFrame bytes ⊎ ((f : FrameParts) × (more : List ℕ) × IsFrame f × (bytes ≡ spelling f ++ more))
@@ -90,12 +90,12 @@ frame_behind f bytes (g ∷ gs) rest fits p =
       record { whole = front.1; each = p.each.1; partial = p.partial },
     )
 
--- all of the frames of two lists, one list behind the other
+-- all of the frames of two lists, one list after the other
 all_frames : (fs gs : List FrameParts) → AllByRecursion IsFrame fs → AllByRecursion IsFrame gs → AllByRecursion IsFrame (fs ++ gs)
 all_frames [] gs fits_f fits_g = fits_g
 all_frames (f ∷ fs) gs fits_f fits_g = (fits_f.0, all_frames fs gs fits_f.1 fits_g)
 
--- the frames of a rest with more bytes behind it come behind the frames before the rest
+-- the frames of a rest with more bytes after it come after the frames before the rest
 pub further_behind : (bytes more : List ℕ) (fs gs : List FrameParts) (rest last : List ℕ) → Splits bytes fs rest → Splits (rest ++ more) gs last → Splits (bytes ++ more) (fs ++ gs) last
 further_behind bytes more fs gs rest last p q = record {
   whole =

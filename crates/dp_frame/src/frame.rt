@@ -65,8 +65,6 @@ impl Frame {
 
 /// Adds the bytes of the frame at the end: four of the header, and the payload. An error, want of
 /// memory, changes nothing.
-///
-/// The rule: docs/protocol.md, "Frames".
 pub fn write_frame(frame: &Frame, out: &mut Octets) -> Result<(), AllocError>
     ensures ok { OnOk result (out.new ≡ out.old ++ spelling frame.now) }
     ensures err { OnErr result (out.new ≡ out.old) }

@@ -32,7 +32,7 @@ pub fn no_frames()
     ensures { (bytes : List ℕ) → HoldsNoFrame bytes → Splits bytes [] bytes }
 {}
 
-/// A frame stands in front of bytes exactly where it is the first of the frames: the bytes behind
+/// A frame stands in front of bytes exactly where it is the first of the frames: the bytes after
 /// it have the other frames and the same rest.
 pub fn first_frame()
     ensures put { (f : FrameParts) (bytes : List ℕ) (frames : List FrameParts) (rest : List ℕ)
@@ -43,7 +43,7 @@ pub fn first_frame()
 {}
 
 /// Where more bytes come, the frames so far stay, and the rest with those bytes has the frames that
-/// come behind them.
+/// come after them.
 pub fn further_frames()
     ensures { (bytes more : List ℕ) (frames others : List FrameParts) (rest last : List ℕ)
         → Splits bytes frames rest → Splits (rest ++ more) others last

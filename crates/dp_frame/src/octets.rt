@@ -57,7 +57,7 @@ impl Octets {
         self.bytes.is_empty()
     }
 
-    /// Adds the bytes at the end. An error, want of memory, changes nothing.
+    /// Adds the bytes at the end. After an error nothing has changed.
     pub fn append(&mut self, bytes: &[u8]) -> Result<(), AllocError>
         ensures ok { OnOk result (self.new ≡ self.old ++ bytes.now) }
         ensures err { OnErr result (self.new ≡ self.old) }
@@ -65,7 +65,7 @@ impl Octets {
         self.bytes.extend_from_slice(bytes)
     }
 
-    /// Adds two runs of bytes at the end. An error, want of memory, adds neither.
+    /// Adds two runs of bytes at the end. An error, out of memory, adds neither.
     pub(crate) fn append_both(&mut self, front: &[u8], back: &[u8]) -> Result<(), AllocError>
         ensures ok { OnOk result (self.new ≡ self.old ++ front.now ++ back.now) }
         ensures err { OnErr result (self.new ≡ self.old) }
@@ -75,7 +75,7 @@ impl Octets {
         self.bytes.extend_from_slice(back)
     }
 
-    /// The same bytes once more. The only error is want of memory.
+    /// The same bytes once more.
     pub fn copy(&self) -> Result<Octets, AllocError>
         ensures { IfOk result (λ copy. copy ≡ self.now) }
     {

@@ -45,7 +45,7 @@ impl Splitter {
         }
     }
 
-    /// Adds the bytes behind those that are held. An error, want of memory, changes nothing.
+    /// Adds the bytes after those that are held. After an error nothing has changed.
     pub fn feed(&mut self, bytes: &[u8]) -> Result<(), AllocError>
         requires { self.old.at + length self.old.held + length bytes.now < 2 ^ 64 }
         ensures ok { OnOk result (self.new.held ≡ self.old.held ++ bytes.now) }
@@ -55,9 +55,9 @@ impl Splitter {
         self.buffer.extend_from_slice(bytes)
     }
 
-    /// Takes the first frame, if a whole one is held. An error, want of memory, changes nothing.
+    /// Takes the first frame, if a whole one is held. After an error nothing has changed.
     pub fn take_frame(&mut self) -> Result<Option<Frame>, AllocError>
-        // The frame is the front of what was held, and the rest is kept.
+        // The frame is the prefix of what was held, and the rest is kept.
         ensures front { IfOk result (λ taken. IfSome taken
             (λ f. self.old.held ≡ spelling f ++ self.new.held)) }
         ensures fits { IfOk result (λ taken. IfSome taken IsFrame) }
@@ -115,7 +115,7 @@ fn whole_len(bytes: &[u8]) -> Option<usize>
     if len <= bytes.len() { Some(len) } else { None }
 }
 
-/// The frame that the bytes spell. The only error is want of memory.
+/// The frame that the bytes spell.
 fn read_frame(alloc: Global, bytes: &[u8]) -> Result<Frame, AllocError>
     requires { IsFrameLength bytes.now (length bytes.now) }
     ensures value { IfOk result (λ f. bytes.now ≡ spelling f) }

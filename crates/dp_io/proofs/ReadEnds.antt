@@ -26,7 +26,7 @@ ends_exactly (Some x) None (Ok n) buf bound bytes = absurd bytes.0
 ends_exactly (Some x) (Some y) (Ok n) buf bound bytes =
     λ room. (λ zero. none_left x y buf n bytes.0 zero (bytes.1 zero room), λ none. none_given x y buf n bound.1 bytes.0 none)
 
--- a piece was copied from the place on: it was the front of what was left there
+-- a piece was copied from the place on: it was the prefix of what was left there
 pub piece_copied : (left bytes buf : List ℕ) (at count : ℕ) → left ≡ drop at bytes
     → take count buf ≡ take count (take (length bytes - at) (drop at bytes)) → left ≡ take count buf ++ drop (at + count) bytes
 piece_copied left bytes buf at count is copied =

@@ -1,4 +1,4 @@
--- The devices behind the adapters, and their counts of errors.
+-- The devices after the adapters, and their counts of errors.
 use Rattle.std.specs.Prelude.{ℕ}
 use Rattle.dp_io.specs.declared.adapters.StdSource.{StdSource}
 use Rattle.dp_io.specs.declared.adapters.StdSink.{StdSink}

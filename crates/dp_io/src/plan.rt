@@ -8,7 +8,7 @@ use std::marker::Model;
 
 /// The numbers of the calls that are to fail, counted from 1, with the calls and the faults so far.
 ///
-/// Both counts stop at `u64::MAX`, and a call behind that many is never to fail.
+/// Both counts stop at `u64::MAX`, and a call after that many is never to fail.
 #[derive(Drop)]
 pub(crate) struct FaultPlan {
     fails: Vec<u64>,

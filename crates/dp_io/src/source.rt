@@ -19,7 +19,7 @@ pub trait Source {
     /// How often the source has failed.
     ghost faults: { Self → ℕ };
 
-    /// Moves the first bytes that are left into the front of the buffer, and answers how many.
+    /// Moves the first bytes that are left into the prefix of the buffer, and answers how many.
     ///
     /// With a buffer that isn't empty, `Ok(0)` comes exactly where nothing is left.
     ///

@@ -55,7 +55,7 @@ impl Source for SureSource {
     }
 }
 
-/// Copies the first `count` bytes to the front of the buffer.
+/// Copies the first `count` bytes to the prefix of the buffer.
 pub(crate) fn copy_front(from: &[u8], to: &mut [u8], count: usize)
     requires from { count ≤ length from.now }
     requires to { count ≤ length to.old }

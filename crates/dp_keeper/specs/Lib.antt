@@ -1,2 +1,2 @@
-pub mod Keeping
-pub mod Failing
+pub mod Store
+pub mod FailingStore

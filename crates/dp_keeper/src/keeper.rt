@@ -2,7 +2,7 @@
 
 ghost use Rattle.std.specs.Prelude.{◌≡◌, ℕ, List, Option};
 ghost use Rattle.dp_keeper.specs.declared.row.Row.{Row as Kept};
-ghost use Rattle.dp_keeper.specs.Keeping.{Puts, Counts, IsPage};
+ghost use Rattle.dp_keeper.specs.Store.{Puts, Counts, IsPage};
 
 use crate::row::{Row, Rows};
 
@@ -23,7 +23,7 @@ pub trait Keeper {
     /// How often the store has failed; the count stops at the greatest `u64`.
     ghost faults: { Self → ℕ };
 
-    /// Adds a row behind the others.
+    /// Adds a row after the others.
     ///
     /// # Errors
     ///
@@ -33,7 +33,7 @@ pub trait Keeper {
         ensures rows { Puts (held self.old) row.now result (held self.new) }
         ensures count { Counts (faults self.old) result (faults self.new) };
 
-    /// The rows from a place on, so many at most.
+    /// The rows from a place on, at most that many.
     ///
     /// # Errors
     ///

@@ -20,7 +20,7 @@ pub struct MemKeeper {
 }
 
 impl Model for MemKeeper {
-    ghost use Rattle.dp_keeper.specs.Failing.{Failing};
+    ghost use Rattle.dp_keeper.specs.FailingStore.{Failing};
 
     ghost Value = { Failing };
 

@@ -117,11 +117,7 @@ impl Rows {
         Ok(())
     }
 
-    /// Copies of the rows from a place on, so many at most.
-    ///
-    /// # Errors
-    ///
-    /// Where memory runs out.
+    /// Copies of the rows from a place on, at most that many.
     pub fn page(&self, from: u64, max: u32) -> Result<Rows, AllocError>
         ensures { IfOk result (λ page. page ≡ take max (drop from self.now)) }
     {
@@ -144,7 +140,7 @@ fn rest_of(rows: &[Row], from: u64) -> &[Row]
     }
 }
 
-/// The first rows, so many at most.
+/// The first rows, at most that many.
 fn prefix_of(rows: &[Row], max: usize) -> &[Row]
     ensures { result.now ≡ take max rows.now }
 {

@@ -97,7 +97,7 @@ module _ (id : ℕ) (change : LayerRow → LayerRow) where
       All-map HoldsByKind (λ row. with_layer row (change_row id change row.layer)) rows
       (λ k d in_list. each k d in_list ∙ ap not (sym (change-group keeps (get_or rows k d).layer)))
 
--- a row may be placed behind another one as before, where the ids are kept
+-- a row may be placed after another one as before, where the ids are kept
 pub place_after : (f : LayerRow → LayerRow) → ((row : LayerRow) → (f row).id ≡ row.id)
     → (layers : List LayerRow) (id above : ℕ)
     → (above == 0 || (has_row layers above && not (above == id))) ≡ true

@@ -64,7 +64,7 @@ module _ {X : Type 0} (flags : List Bool) (xs ys : List X) (k i : ℕ)
     long = h.long;
   }
 
-  -- an item that stays changes places with the one behind the front
+  -- an item that stays changes places with the one after the front
   pub sift_yes : (zs : List X) → get_or flags i false ≡ true → SwappedAt ys zs k i
       → SiftsInPlace flags xs zs (k + 1) (i + 1)
   sift_yes zs is swapped =

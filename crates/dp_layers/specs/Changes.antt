@@ -66,7 +66,7 @@ abbrev pub set_parent : ℕ → LayerRow → LayerRow
 set_parent parent row = record row { parent = parent }
 
 -- the row may stand in the parent, which is the root or a group that is neither the row itself nor
--- below it, and first or behind another row
+-- below it, and first or after another row
 abbrev pub can_stand : List LayerRow → ℕ → ℕ → ℕ → Bool
 can_stand rows id parent above =
     is_root_or_group rows parent && not (is_in rows parent id)
@@ -78,13 +78,13 @@ can_move rows id parent above =
     has_row rows id && can_stand rows id parent above
     && are_within (map (change_row id (set_parent parent)) rows)
 
--- the rows, with the taken ones directly behind the first that passes the test
+-- the rows, with the taken ones directly after the first that passes the test
 abbrev pub behind : {R : Type 0} → (R → Bool) → List R → List R → List R
 behind test taken [] = []
 behind test taken (row ∷ rows) =
     if test row then row ∷ (taken ++ rows) else row ∷ behind test taken rows
 
--- The row of the id is taken out and stands directly behind the row `above`, or first where that is
+-- The row of the id is taken out and stands directly after the row `above`, or first where that is
 -- 0. Rows below it stay in their places. (`has` tells whether a row has an id.)
 abbrev pub placed : {R : Type 0} → (ℕ → R → Bool) → List R → ℕ → ℕ → List R
 placed has rows id above =

@@ -40,7 +40,7 @@ carried xs from to =
     let rest = remove xs from in
     take to rest ++ (take 1 (drop from xs) ++ drop to rest)
 
--- where an item stands directly behind the row `above`, or first where that is 0, once the item at
+-- where an item stands directly after the row `above`, or first where that is 0, once the item at
 -- `from` is taken out
 abbrev pub place_behind : List LayerRow → ℕ → ℕ → ℕ
 place_behind rows from above =

@@ -114,7 +114,7 @@ pub(crate) fn can_create(rows: &[LayerRow], id: u16, parent: u16) -> bool
         && is_within(NESTING_LIMIT - 1, rows, parent)
 }
 
-/// The row may stand in the parent, behind the row `above`.
+/// The row may stand in the parent, after the row `above`.
 pub(crate) fn can_stand(rows: &[LayerRow], id: u16, parent: u16, above: u16) -> bool
     ensures { result ≡ can_stand rows.now id parent above }
 {
@@ -123,7 +123,7 @@ pub(crate) fn can_stand(rows: &[LayerRow], id: u16, parent: u16, above: u16) -> 
         && (above == 0 || has_row(rows, above) && above != id)
 }
 
-/// The place directly behind the row `above`, or the first, once the row at a place is taken out.
+/// The place directly after the row `above`, or the first, once the row at a place is taken out.
 pub(crate) fn place_behind(rows: &[LayerRow], from: usize, above: u16) -> usize
     ensures { result ≡ place_behind rows.now from above }
 {

@@ -142,7 +142,7 @@ impl<X: Drop> Tree<X> {
     }
 
     /// LayerAttr: gives the row its opacity and mode, and hides it or shows it. True exactly where
-    /// the command has an effect. The rule: docs/protocol.md, "The layers".
+    /// the command has an effect.
     ///
     /// # Errors
     ///
@@ -176,7 +176,6 @@ impl<X: Drop> Tree<X> {
     }
 
     /// LayerTitle: gives the row its title. True exactly where the command has an effect.
-    /// The rule: docs/protocol.md, "The layers".
     ///
     /// # Errors
     ///
@@ -197,8 +196,8 @@ impl<X: Drop> Tree<X> {
         Ok(true)
     }
 
-    /// LayerMove: puts the row into another parent, and behind another row. True exactly where the
-    /// command has an effect. The rule: docs/protocol.md, "The layers".
+    /// LayerMove: puts the row into another parent, and after another row. True exactly where the
+    /// command has an effect.
     ///
     /// # Errors
     ///
@@ -227,7 +226,7 @@ impl<X: Drop> Tree<X> {
     }
 
     /// LayerDelete: takes the row away, with all rows below it. True exactly where the command has
-    /// an effect. The rule: docs/protocol.md, "The layers".
+    /// an effect.
     ///
     /// # Errors
     ///
@@ -252,10 +251,6 @@ impl<X: Drop> Tree<X> {
 
     /// A tree of the same rows, whose paint rows hold the contents, the bottom one the first. There
     /// are as many contents as paint rows.
-    ///
-    /// # Errors
-    ///
-    /// Where memory runs out.
     pub fn remake(&self, contents: Vec<X>) -> Result<Tree<X>, AllocError>
         requires { length contents.items ≡ count_by (λ row. not row.group) (layers_of self.now) }
         ensures rows { IfOk result (λ tree. layers_of tree ≡ layers_of self.now) }

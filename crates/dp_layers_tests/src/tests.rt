@@ -17,7 +17,7 @@ enum Order {
     Attr(u16, u8),
     /// The empty title.
     Untitled(u16),
-    /// The row goes into this parent, behind this row.
+    /// The row goes into this parent, after this row.
     To(u16, u16, u16),
     Delete(u16),
 }
@@ -169,7 +169,7 @@ fn moves(rt: HostRuntime) -> Result<(), Fail> {
             To(20, 0, 0),
             [(20, 0), (10, 0), (11, 10), (12, 10), (13, 12), (30, 0)],
         ),
-        // behind each other row
+        // after each other row
         (
             To(20, 0, 10),
             [(10, 0), (20, 0), (11, 10), (12, 10), (13, 12), (30, 0)],
@@ -196,7 +196,7 @@ fn moves(rt: HostRuntime) -> Result<(), Fail> {
             To(10, 30, 30),
             [(11, 10), (12, 10), (13, 12), (20, 0), (30, 0), (10, 30)],
         ),
-        // into a group, behind a row of another parent
+        // into a group, after a row of another parent
         (
             To(20, 12, 11),
             [(10, 0), (11, 10), (20, 12), (12, 10), (13, 12), (30, 0)],

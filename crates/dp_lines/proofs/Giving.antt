@@ -9,7 +9,7 @@ use Rattle.dp_lines.specs.declared.lines.LineError.{LineError}
 use Rattle.dp_lines.specs.declared.lines.LineError.TheVariants.{Long}
 use Rattle.dp_lines.specs.Lines.{newline, Lacks, ended, open_rest, if_any, lines, is_comment, is_skipped, is_overlong, numbered}
 use Rattle.dp_lines.specs.Held.{Held, ended_from, lines_from, given, NextIsLong}
-use Rattle.dp_lines.specs.Taking.{first_line, behind_first, Keeps, IsEnd}
+use Rattle.dp_lines.specs.Taken.{first_line, behind_first, Keeps, IsEnd}
 use Rattle.dp_lines.proofs.Numbering.{numbered-append, numbered_skipped, numbered_kept, lines_behind_kept}
 use Rattle.dp_lines.proofs.Pieces.{ended_none, rest_none}
 
@@ -53,7 +53,7 @@ given_line from held new behind line (Ok (Some other)) first is taken left =
 given_line from held new behind line (Ok None) first is taken left = absurd (cc)
 given_line from held new behind line (Err error) first is taken left = ap from (sym left)
 
--- what is the same behind the line is the same after the call
+-- what is the same after the line is the same after the call
 pub same_after : {A : Type 0} (of : Held → A) (held new behind : Held) (r : Result (Option Line) LineError)
     → of behind ≡ of held → OnOk r (new ≡ behind) → OnErr r (new ≡ held) → of new ≡ of held
 same_after of held new behind (Ok next) same taken left = ap of taken ∙ same
@@ -147,7 +147,7 @@ pub line_of_rest : (bytes : List ℕ) → Lacks newline bytes → 0 < length byt
     → lines bytes ≡ bytes ∷ []
 line_of_rest bytes lacks some = lines_of_rest bytes lacks ∙ if_any_some bytes some
 
--- no bytes are left behind all of them
+-- no bytes are left after all of them
 pub none_behind : (held : Held) → lines_from (behind_first held (length held.bytes)) ≡ []
 none_behind held =
     ap (λ (b : List ℕ). numbered (held.count + 1) (lines b)) (drop_all (length held.bytes) held.bytes (omega arith))

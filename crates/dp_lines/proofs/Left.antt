@@ -7,7 +7,7 @@ use Rattle.dp_lines.proofs.Giving.{lines_from_parts}
 use Rattle.dp_lines.proofs.Numbering.{numbered-append}
 use Rattle.dp_lines.proofs.Pieces.{ended-append, rest-append}
 
--- the lines of what was fed, with more lines behind them
+-- the lines of what was fed, with more lines after them
 pub lines_behind : (all : List ℕ) (done : List Line) (held : Held) (behind : List (List ℕ))
     → IsLeft all done held
     → numbered 0 (ended all ++ behind) ≡ done ++ (ended_from held ++ numbered (held.count + length (ended held.bytes)) behind)

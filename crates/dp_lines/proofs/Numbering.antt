@@ -5,7 +5,7 @@ use Rattle.std.proofs.lemmas.List.{take-append-drop, drop_more}
 use Rattle.dp_lines.specs.declared.line.Line.{Line}
 use Rattle.dp_lines.specs.Lines.{newline, ended, open_rest, is_skipped, numbered}
 use Rattle.dp_lines.specs.Held.{Held, ended_from}
-use Rattle.dp_lines.specs.Taking.{first_line, behind_first, Keeps, IsEnd}
+use Rattle.dp_lines.specs.Taken.{first_line, behind_first, Keeps, IsEnd}
 use Rattle.dp_lines.proofs.Pieces.{ended_at, rest_at}
 
 -- a line that is passed over is counted
@@ -84,7 +84,7 @@ keeps_behind_skipped held len end skipped = record {
   fed = refl;
 }
 
--- taking one that isn't passed over leaves the lines behind it
+-- taking one that isn't passed over leaves the lines after it
 pub lines_behind_kept : (held : Held) (len : ℕ) → IsEnd held.bytes len
     → is_skipped (take len held.bytes) ≡ false
     → ended_from held ≡ first_line held len ∷ ended_from (behind_first held (len + 1))

@@ -27,7 +27,7 @@ pieces_at separator part more lacks =
 pub some_piece : (separator : ℕ) (bytes : List ℕ) → 0 < length (pieces separator bytes)
 some_piece separator bytes = omega (arith, length-slice_split (λ byte. byte == separator) bytes)
 
--- the bytes are parts, each but the last with the separator behind it
+-- the bytes are parts, each but the last with the separator after it
 pub data Parts (separator : ℕ) : List ℕ → Type 0 where
   last : (bytes : List ℕ) → Lacks separator bytes → Parts separator bytes
   next : (bytes part behind : List ℕ) → bytes ≡ part ++ separator ∷ behind → Lacks separator part → Parts separator behind → Parts separator bytes
@@ -84,7 +84,7 @@ unfolding ended
 ended_at line more lacks =
     ap all_but_last (pieces_at newline line more lacks) ∙ front_more line (pieces newline more) (some_piece newline more)
 
--- and what stands behind it has the rest
+-- and what stands after it has the rest
 pub rest_at : (line more : List ℕ) → Lacks newline line
     → open_rest (line ++ newline ∷ more) ≡ open_rest more
 unfolding open_rest

@@ -5,7 +5,7 @@ use Rattle.std.proofs.lemmas.Bool.{eqb-true, eqb-false, cases_lt, cases_Bool, co
 use Rattle.std.proofs.lemmas.List.Elements.{All-nil, All-cons}
 use Rattle.std.proofs.lemmas.List.Quantifiers.{position-Some}
 use Rattle.dp_lines.specs.Lines.{newline, Lacks}
-use Rattle.dp_lines.specs.Taking.{IsScanned, IsEnd}
+use Rattle.dp_lines.specs.Taken.{IsScanned, IsEnd}
 
 -- a byte of the scanned front is no newline
 scanned_at : (bytes : List ℕ) (from : ℕ) → IsScanned bytes from → (k d : ℕ) → k < from
@@ -14,14 +14,14 @@ scanned_at bytes from scanned k d below =
     let within : k < length (take from bytes) = omega (arith, length-take from bytes, scanned.within) in
     subst (λ (b : ℕ). b ≢ newline) (get_or-take from bytes k d below) (scanned.none k d within)
 
--- a byte at k, seen as one behind the scanned front
+-- a byte at k, seen as one after the scanned front
 behind_at : (bytes : List ℕ) (from k d : ℕ) → from ≤ k
     → get_or (drop from bytes) (k - from) d ≡ get_or bytes k d
 behind_at bytes from k d above =
     let same : from + (k - from) ≡ k = omega arith in
     get_or-drop from bytes (k - from) d ∙ ap (λ (j : ℕ). get_or bytes j d) same
 
--- neither the scanned front nor what is searched behind it holds a newline, up to `len`
+-- neither the scanned front nor what is searched after it holds a newline, up to `len`
 none_up_to : (bytes : List ℕ) (from len : ℕ) → IsScanned bytes from → len ≤ length bytes
     → ((k d : ℕ) → k + from < len → get_or (drop from bytes) k d ≢ newline) → (k d : ℕ) → k < len
     → get_or bytes k d ≢ newline
@@ -30,7 +30,7 @@ none_up_to bytes from len scanned within behind k d below = elim (cases_lt k fro
   | inr above ↦ subst (λ (b : ℕ). b ≢ newline) (behind_at bytes from k d above) (behind (k - from) d (omega arith))
 ]
 
--- the first newline behind the scanned front is the first of all
+-- the first newline after the scanned front is the first of all
 pub found_end : (bytes : List ℕ) (from at : ℕ) → IsScanned bytes from
     → position (λ byte. byte == newline) (drop from bytes) ≡ Some at → IsEnd bytes (from + at)
 found_end bytes from at scanned found =
@@ -70,7 +70,7 @@ none_found test xs none = elim (cases_lt (position_or_len test xs) (length xs)) 
   | inr above ↦ above
 ]
 
--- where none is found behind the scanned front, there is none
+-- where none is found after the scanned front, there is none
 pub found_none : (bytes : List ℕ) (from : ℕ) → IsScanned bytes from
     → position (λ byte. byte == newline) (drop from bytes) ≡ None → Lacks newline bytes
 found_none bytes from scanned none =

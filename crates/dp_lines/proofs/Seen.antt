@@ -1,4 +1,4 @@
--- The lines that are seen of an input, and those that are given of a front of it.
+-- The lines that are seen of an input, and those that are given of a prefix of it.
 use Rattle.std.proofs.Common.{◌≡◌, ◌≢◌, ℕ, ◌+◌, ◌-◌, ◌<◌, ◌≤◌, ◌⊎◌, inl, inr, true, not, cond, nat_lt, nat_le, List, [], ◌∷◌, ◌++◌, length, take, refl, sym, ap, ◌∙◌, subst, arith, append_assoc, length-append}
 use Rattle.std.specs.Prelude.{IsTrue}
 use Rattle.std.proofs.Math.Seq.{take-append-add}
@@ -80,7 +80,7 @@ given_seen limit all more done held left counts =
     let s = sees limit all more counts in
     (_, seen_behind limit all more done held s left)
 
--- bytes that are too long stay so with more behind them
+-- bytes that are too long stay so with more after them
 long_on : (bytes more : List ℕ) → is_overlong bytes ≡ true → is_overlong (bytes ++ more) ≡ true
 long_on [] more long = absurd (cc (long))
 long_on (byte ∷ bytes) more long =

@@ -11,7 +11,7 @@ pub data LinesEnd : Type 0 where
   BadLine : ℕ → LinesEnd
   TooLong : LinesEnd
 
--- the lines of a front of a longer input: the ended ones, and the open rest where it is too long
+-- the lines of a prefix of a longer input: the ended ones, and the open rest where it is too long
 -- already
 abbrev pub front_lines : List ℕ → List (List ℕ)
 front_lines bytes =
@@ -34,7 +34,7 @@ AreSteps IsStep all =
     (before : List Line) (line : Line) (behind : List Line)
     → all ≡ before ++ line ∷ behind → IsDoable IsStep before line
 
--- behind the lines `done`, which are steps, the line of this number is none
+-- after the lines `done`, which are steps, the line of this number is none
 pub record StopsAt (IsStep : List Line → Line → Type 0) (all done : List Line) (n : ℕ) : Type 0 where
   pub line : Line
   pub behind : List Line

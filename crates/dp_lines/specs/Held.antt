@@ -4,7 +4,7 @@ use Rattle.dp_lines.specs.declared.line.Line.{Line}
 use Rattle.dp_lines.specs.declared.lines.LineError.{LineError}
 use Rattle.dp_lines.specs.Lines.{ended, open_rest, lines, numbered, is_overlong}
 
--- how many lines were taken, those that are passed over too; the bytes behind them; and how many
+-- how many lines were taken, those that are passed over too; the bytes after them; and how many
 -- bytes were fed
 pub record Held : Type 0 where
   pub count : ℕ

@@ -3,4 +3,4 @@ pub mod Held
 pub mod Hexadecimal
 pub mod Lines
 pub mod Numbers
-pub mod Taking
+pub mod Taken

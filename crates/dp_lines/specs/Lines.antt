@@ -33,7 +33,7 @@ all_but_last xs = take (length xs - 1) xs
 unfoldable pub ended : List ℕ → List (List ℕ)
 ended bytes = all_but_last (pieces newline bytes)
 
--- what stands behind the last newline
+-- what stands after the last newline
 unfoldable pub open_rest : List ℕ → List ℕ
 open_rest bytes = slice_index_or (pieces newline bytes) (length (pieces newline bytes) - 1) []
 

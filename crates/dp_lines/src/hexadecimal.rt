@@ -10,9 +10,6 @@ use hex::{FromHexError, decode, encode};
 use std::alloc::{AllocError, Global};
 
 /// The bytes that the word tells by its digits, of either case; `None` where it isn't hexadecimal.
-/// The only error is want of memory.
-///
-/// The rule: docs/protocol.md, "Lines".
 pub fn hex_of(alloc: Global, word: &[u8]) -> Result<Option<Vec<u8>>, AllocError>
     ensures { IfOk result (λ found. option_map (λ bytes. bytes.items) found ≡ hex_bytes word.now) }
 {
@@ -23,10 +20,8 @@ pub fn hex_of(alloc: Global, word: &[u8]) -> Result<Option<Vec<u8>>, AllocError>
     }
 }
 
-/// Adds the digits of the bytes at the end, in lower case. An error, want of memory, changes
+/// Adds the digits of the bytes at the end, in lower case. An error, out of memory, changes
 /// nothing.
-///
-/// The rule: docs/protocol.md, "Lines".
 pub fn put_hex(bytes: &[u8], out: &mut Vec<u8>) -> Result<(), AllocError>
     ensures ok { OnOk result (out.new.items ≡ out.old.items ++ hex_text bytes.now) }
     ensures err { OnErr result (out.new.items ≡ out.old.items) }

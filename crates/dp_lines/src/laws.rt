@@ -71,7 +71,7 @@ pub fn still_left()
         → IsLeft all done held → numbered 0 (lines all) ≡ done ++ lines_from held }
 {}
 
-/// What was given of a front of an input that counts is the front of the lines that are seen of it.
+/// What was given of a prefix of an input that counts is the prefix of the lines that are seen of it.
 pub fn lines_seen()
     ensures given { (limit : ℕ) (all more : List ℕ) (done : List Line) (held : Held)
         → IsLeft all done held → length all ≤ limit
@@ -95,7 +95,7 @@ pub fn lines_seen()
         → seen limit all ≡ done ++ lines_from held }
 {}
 
-/// No lines are steps, and steps with a line behind them that is doable there are steps.
+/// No lines are steps, and steps with a line after them that is doable there are steps.
 pub fn further_step<S: Steps>()
     ensures none { AreSteps S.is_step [] }
     ensures more { (done : List Line) (line : Line)

@@ -47,8 +47,6 @@ impl LineBytes {
 }
 
 /// A line that isn't passed over, and its number: the first line of the text has the number 1.
-///
-/// The rule: docs/protocol.md, "Lines".
 #[derive(Drop, Debug)]
 pub struct Line {
     pub number: u32,

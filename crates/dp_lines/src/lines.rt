@@ -5,7 +5,7 @@ ghost use Rattle.std.specs.Prelude.{◌==◌, [], false, length, take, position,
 ghost use Rattle.std.specs.Prelude.{IsSome, IfSome, IfNone, IfOk, OnOk, OnErr};
 ghost use Rattle.dp_lines.specs.Lines.{newline, Lacks, ended, open_rest, lines};
 ghost use Rattle.dp_lines.specs.Lines.{is_comment, is_skipped, is_overlong};
-ghost use Rattle.dp_lines.specs.Taking.{IsScanned, IsEnd};
+ghost use Rattle.dp_lines.specs.Taken.{IsScanned, IsEnd};
 
 use crate::{Line, LineBytes};
 use bytes::BytesMut;
@@ -28,7 +28,7 @@ pub enum LineError {
     /// The next line, which has this number, is too long.
     #[error("line {0} is too long")]
     Long(u32),
-    /// Want of memory.
+    /// out of memory.
     #[error("out of memory")]
     Memory,
 }
@@ -47,7 +47,7 @@ pub struct Lines {
 
 impl Model for Lines {
     ghost use Rattle.dp_lines.specs.Held.{Held};
-    ghost use Rattle.dp_lines.specs.Taking.{IsScanned};
+    ghost use Rattle.dp_lines.specs.Taken.{IsScanned};
     ghost use Rattle.std.specs.Prelude.{◌+◌, ◌-◌, ◌^◌, ◌<◌, ◌≤◌, length};
 
     ghost Value = { Held };
@@ -74,7 +74,7 @@ impl Lines {
         }
     }
 
-    /// Adds the bytes behind those that are held. An error, want of memory, changes nothing.
+    /// Adds the bytes after those that are held. After an error nothing has changed.
     pub fn feed(&mut self, bytes: &[u8]) -> Result<(), AllocError>
         requires { self.old.fed + length bytes.now < 2 ^ 32 - 1 }
         ensures ok { OnOk result (self.new.bytes ≡ self.old.bytes ++ bytes.now) }
@@ -89,8 +89,6 @@ impl Lines {
 
     /// Gives the next line that is held with its newline, if there is one. Lines that are passed
     /// over may be taken and counted whatever the answer; nothing else is lost.
-    ///
-    /// The rule: docs/protocol.md, "Lines".
     pub fn next_line(&mut self) -> Result<Option<Line>, LineError>
         // The lines to come are the one that is given, if one is, and then those that are left.
         ensures lines { ended_from self.old ≡ given result ++ ended_from self.new }
@@ -101,7 +99,7 @@ impl Lines {
         ensures long { (n : ℕ) → (result ≡ Err (LineError.Long n)) ↔ NextIsLong self.old n }
         ensures memory { result ≡ Err LineError.Memory → ended_from self.old ≢ [] }
 
-        // Each line is counted once, and what stands behind the last newline stays.
+        // Each line is counted once, and what stands after the last newline stays.
         ensures count { self.new.count + length (ended self.new.bytes)
             ≡ self.old.count + length (ended self.old.bytes) }
         ensures rest { open_rest self.new.bytes ≡ open_rest self.old.bytes }
@@ -115,8 +113,6 @@ impl Lines {
 
     /// Gives the next line of what is held, where the last line needs no newline. Lines that are
     /// passed over may be taken and counted whatever the answer; nothing else is lost.
-    ///
-    /// The rule: docs/protocol.md, "Lines".
     pub fn finish(&mut self) -> Result<Option<Line>, LineError>
         // The lines to come are the one that is given, if one is, and then those that are left.
         ensures lines { lines_from self.old ≡ given result ++ lines_from self.new }
@@ -127,7 +123,7 @@ impl Lines {
         ensures long { (n : ℕ) → (result ≡ Err (LineError.Long n)) ↔ NextIsLong self.old n }
         ensures memory { result ≡ Err LineError.Memory → lines_from self.old ≢ [] }
 
-        // Each line is counted once, and an error leaves what stands behind the last newline.
+        // Each line is counted once, and an error leaves what stands after the last newline.
         ensures count { self.new.count + length (lines self.new.bytes)
             ≡ self.old.count + length (lines self.old.bytes) }
         ensures rest { OnErr result (open_rest self.new.bytes ≡ open_rest self.old.bytes) }
@@ -142,7 +138,7 @@ impl Lines {
 
 impl Lines {
     ghost use Rattle.dp_lines.specs.Held.{ended_from, lines_from, given, NextIsLong, IsInLimit};
-    ghost use Rattle.dp_lines.specs.Taking.{first_line, behind_first, Keeps};
+    ghost use Rattle.dp_lines.specs.Taken.{first_line, behind_first, Keeps};
 
     /// Takes the lines off that are passed over, up to the first other one, and answers where that
     /// one's newline stands; `None` where no further newline is held.

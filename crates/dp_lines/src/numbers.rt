@@ -10,8 +10,6 @@ use std::alloc::AllocError;
 use std::str;
 
 /// The number that the word is; `None` where it is none.
-///
-/// The rule: docs/protocol.md, "Lines".
 pub fn number(word: &[u8]) -> Option<u32>
     ensures some { IfSome result (IsNumber word.now) }
     ensures none { IfNone result ((n : ℕ) → ¬ IsNumber word.now n) }
@@ -35,9 +33,7 @@ fn told_number(word: &[u8]) -> Option<u32>
     text.parse::<u32>().ok()
 }
 
-/// Adds the number in decimal at the end. An error, want of memory, changes nothing.
-///
-/// The rule: docs/protocol.md, "Lines".
+/// Adds the number in decimal at the end. After an error nothing has changed.
 pub fn put_number(n: u32, out: &mut Vec<u8>) -> Result<(), AllocError>
     ensures ok { OnOk result (out.new.items ≡ out.old.items ++ decimal n) }
     ensures err { OnErr result (out.new.items ≡ out.old.items) }

@@ -8,12 +8,10 @@ ghost use Rattle.dp_lines.specs.Lines.{words};
 
 use crate::Line;
 
-/// The byte that parts two words.
+/// The byte that separates two words.
 const SPACE: u8 = b' ';
 
 /// The word of the line at index `k`; `None` where it has no more than `k` words.
-///
-/// The rule: docs/protocol.md, "Lines".
 pub fn word(line: &Line, k: usize) -> Option<&[u8]>
     ensures { option_copied result ≡ slice_get (words line.now.bytes) k }
 {
@@ -21,8 +19,6 @@ pub fn word(line: &Line, k: usize) -> Option<&[u8]>
 }
 
 /// How many words the line has: at least one.
-///
-/// The rule: docs/protocol.md, "Lines".
 pub fn word_count(line: &Line) -> usize
     ensures { result ≡ length (words line.now.bytes) }
 {

@@ -12,8 +12,8 @@ use Rattle.dp_messages.specs.declared.message.Msg.{Msg}
 use Rattle.dp_messages.specs.declared.message.Msg.TheVariants as msg
 use Rattle.dp_messages.specs.declared.message.Entry.{Entry}
 use Rattle.dp_messages.specs.Messages.{Spells, IsListedKind}
-use Rattle.dp_messages.specs.Decoding.{Carries}
-use Rattle.dp_messages.specs.Hearing.{is_disconnect, AreHeard, Hears}
+use Rattle.dp_messages.specs.Decoded.{Carries}
+use Rattle.dp_messages.specs.Heard.{is_disconnect, AreHeard, Hears}
 use Rattle.dp_messages.proofs.KindRanges.{KindLaws, InRange, in_range, not_listed, to_control, to_meta, to_draw}
 
 -- what the layers below say of one spelling

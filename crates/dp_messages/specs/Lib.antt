@@ -1,4 +1,4 @@
 pub mod Messages
-pub mod Decoding
-pub mod Hearing
+pub mod Decoded
+pub mod Heard
 pub mod Equality

@@ -4,11 +4,11 @@ ghost use Rattle.std.specs.Prelude.{◌≡◌, ◌≤◌, ◌↔◌, ℕ, List, 
 ghost use Rattle.dp_frame.specs.Frames.{FrameParts};
 ghost use Rattle.dp_messages.specs.declared.message.Msg.{Msg as Message};
 ghost use Rattle.dp_messages.specs.declared.message.Entry.{Entry};
-ghost use Rattle.dp_messages.specs.declared.decoding.DecodeError.{DecodeError};
+ghost use Rattle.dp_messages.specs.declared.decoder.DecodeError.{DecodeError};
 ghost use Rattle.dp_messages.specs.Messages.{Spells};
-ghost use Rattle.dp_messages.specs.Decoding.{Carries, IsRefused};
+ghost use Rattle.dp_messages.specs.Decoded.{Carries, IsRefused};
 ghost use Rattle.dp_messages.specs.Equality.{same_message};
-ghost use Rattle.dp_messages.specs.Hearing.{Hears};
+ghost use Rattle.dp_messages.specs.Heard.{Hears};
 
 use dp_frame::one_splitting;
 use dp_msg_draw::{one_draw, same_draw_is_equality};

@@ -54,7 +54,7 @@ impl Msg {
         }
     }
 
-    /// An equal message. The only error is want of memory.
+    /// An equal message.
     pub fn copy(&self) -> Result<Msg, AllocError>
         ensures { IfOk result (λ m. m ≡ self.now) }
     {
@@ -77,7 +77,7 @@ impl Msg {
 }
 
 impl Entry {
-    /// An equal entry. The only error is want of memory.
+    /// An equal entry.
     pub fn copy(&self) -> Result<Entry, AllocError>
         ensures { IfOk result (λ e. e ≡ self.now) }
     {

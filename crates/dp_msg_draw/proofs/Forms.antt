@@ -106,7 +106,7 @@ content_back : {bytes rest : List ℕ} → bytes ≡ 1 ∷ rest → (content : T
 content_back e (Solid p) s = let differ : 1 ∷ _ ≡ content_bytes (Solid p) = sym e ∙ s.bytes_are in absurd (cc)
 content_back e (Pixels ps) s = (ps, record { bytes_are = ap (drop 1) (sym e ∙ s.bytes_are); is_valid = s.is_valid })
 
--- where the pixels behind form 1 aren't read, the content isn't
+-- where the pixels after form 1 aren't read, the content isn't
 pub content_fails : {bytes rest : List ℕ} → bytes ≡ 1 ∷ rest → (e : PayloadError) → Answers (Spells (flat_map pixel_bytes) IsTile rest) (Err e) → Answers (Spells content_bytes IsContent bytes) (Err e)
 content_fails e = same_error _ _ (content_back e) (λ pixels s. (Pixels pixels, record { bytes_are = e ∙ ap (λ (b : List ℕ). 1 ∷ b) s.bytes_are; is_valid = s.is_valid }))
 

@@ -1,4 +1,4 @@
--- Pixels are all equal where the bytes behind the first one are a front of all the bytes.
+-- Pixels are all equal where the bytes after the first one are a prefix of all the bytes.
 use Rattle.std.proofs.Common.{◌≡◌, ℕ, ◌*◌, ◌-◌, ◌≤◌, Bool, true, false, List, [], ◌∷◌, ◌++◌, length, drop, take, refl, sym, ap, subst, ◌∙◌, append_assoc, arith, All, nat_eq}
 use Rattle.std.specs.List.{flat_map}
 use Rattle.std.specs.Cmp.Lexicographic.{pointwise}
@@ -27,7 +27,7 @@ repeats_if_equal p (q ∷ qs) all =
     let first : q ≡ p = All-head (λ (r : TilePixel). r ≡ p) q qs all in
     (rest.0, ap (λ (r : TilePixel). pixel_bytes p ++ (pixel_bytes r ++ flat_map pixel_bytes qs)) first ∙ ap (λ (b : List ℕ). pixel_bytes p ++ b) rest.1 ∙ ap (λ (r : TilePixel). pixel_bytes r ++ (flat_map pixel_bytes qs ++ rest.0)) (sym first))
 
--- whether the bytes behind the first pixel are a front of all the bytes
+-- whether the bytes after the first pixel are a prefix of all the bytes
 abbrev behind : List ℕ → List ℕ
 behind bytes = take (length bytes - 8) (drop 8 bytes)
 

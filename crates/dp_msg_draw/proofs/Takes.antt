@@ -1,4 +1,4 @@
--- What follows where a part is taken from the front of bytes, and what a whole is.
+-- What follows where a part is taken from the prefix of bytes, and what a whole is.
 use Rattle.std.proofs.Common.{◌≡◌, ℕ, ◌≤◌, List, [], ◌++◌, length, refl, sym, ap, ◌∙◌, append_assoc, arith, Err}
 use Rattle.std.proofs.lemmas.List.{append-nil}
 use Rattle.dp_msg_draw.specs.declared.error.PayloadError.{PayloadError}
@@ -45,7 +45,7 @@ pub same_error : {X Y : Type 0} (P : X → Type 0) (Q : Y → Type 0) → ((y : 
 same_error P Q back on Malformed none = λ y q. let p = back y q in none p.0 p.1
 same_error P Q back on Memory there = on there.0 there.1
 
--- where the rest behind a part isn't read, the whole isn't
+-- where the rest after a part isn't read, the whole isn't
 pub both_fail : {X Y : Type 0} {spell : X → List ℕ} {valid : X → Type 0} (spell' : Y → List ℕ) (valid' : Y → Type 0) → IsPart spell valid
     → {bytes rest : List ℕ} {x : X} → Begins spell valid bytes x rest → (e : PayloadError) → Answers (Spells spell' valid' rest) (Err e)
     → Answers (Spells {X = X × Y} (λ p. spell p.0 ++ spell' p.1) (λ p. valid p.0 × valid' p.1) bytes) (Err e)

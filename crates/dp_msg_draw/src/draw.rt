@@ -116,7 +116,7 @@ pub enum Draw {
 }
 
 impl TileContent {
-    /// Equal content. The only error is want of memory.
+    /// Equal content.
     pub fn copy(&self) -> Result<TileContent, AllocError>
         ensures { IfOk result (λ c. c ≡ self.now) }
     {
@@ -147,7 +147,7 @@ macro_rules! copied {
 }
 
 impl Draw {
-    /// An equal message. The only error is want of memory, which titles, colours, pixels and dabs take.
+    /// An equal message. The only error is out of memory, which titles, colours, pixels and dabs take.
     pub fn copy(&self) -> Result<Draw, AllocError>
         ensures same { IfOk result (λ m. m ≡ self.now) }
         ensures memory { OnErr result (TakesMemory (draw_kind self.now)) }
@@ -171,7 +171,6 @@ impl Draw {
 }
 
 /// Whether a kind is one of the drawing messages.
-/// The rule: docs/protocol.md, "Drawing messages".
 pub fn is_listed(kind: u8) -> bool
     ensures { IsTrue result ↔ IsDrawKind kind }
 {
@@ -186,7 +185,6 @@ pub(crate) fn is_listed_mode(mode: u8) -> bool
 }
 
 /// The number of a message's kind, the type byte of its frame.
-/// The rule: docs/protocol.md, "Drawing messages".
 pub fn kind_of_draw(m: &Draw) -> u8
     ensures kind { result ≡ draw_kind m.now }
     ensures listed { IsDrawKind result }

@@ -1,4 +1,4 @@
-//! Parts of a payload: how each is taken from the front of bytes, and how it is put at their end.
+//! Parts of a payload: how each is taken from the prefix of bytes, and how it is put at their end.
 
 ghost use Rattle.std.specs.Prelude.{◌≡◌, ◌<◌, ◌^◌, ◌++◌, ℕ, List, length, IfSome, IfNone, OnOk};
 ghost use Rattle.std.specs.Int.{w32};
@@ -19,7 +19,7 @@ pub(crate) trait Part: Drop {
 
     ghost valid: { Self → Type 0 };
 
-    /// The part at the front, and the bytes behind it.
+    /// The part at the front, and the bytes after it.
     fn take(bytes: &[u8]) -> Option<(Self, &[u8])>
         ensures some { IfSome result (λ x. Begins spelling valid bytes.now x.0 x.1.now) }
         ensures none { IfNone result ((x : Self) (rest : List ℕ)

@@ -102,8 +102,8 @@ impl Rest for Image {
     }
 }
 
-/// The 4096 pixels that these bytes are, not all equal. Pixels are all equal where the bytes behind
-/// the first one are a front of all the bytes.
+/// The 4096 pixels that these bytes are, not all equal. Pixels are all equal where the bytes after
+/// the first one are a prefix of all the bytes.
 fn read_pixels(alloc: Global, bytes: &[u8]) -> Result<TilePixels, PayloadError>
     ensures { Answers (Spells (flat_map pixel_bytes) IsTile bytes.now) result }
 {

@@ -26,8 +26,6 @@ pub fn kind_of_control(m: &Control) -> u8
 }
 
 /// The kind of a meta message, the type byte of its frame.
-///
-/// The rule: docs/protocol.md, "Control and meta messages".
 pub fn kind_of_meta(m: &Meta) -> u8
     ensures value { result ≡ meta_kind m.now }
     ensures meta { IsMetaKind result }
@@ -63,7 +61,7 @@ pub fn is_meta_kind(kind: u8) -> bool
 }
 
 impl Control {
-    /// The same message again. The only error is want of memory, which a name takes.
+    /// The same message again. The only error is out of memory, which a name takes.
     pub fn copy(&self) -> Result<Control, AllocError>
         ensures same { IfOk result (λ m. m ≡ self.now) }
         ensures memory { OnErr result (TakesMemory (control_kind self.now)) }
@@ -91,7 +89,7 @@ impl Control {
 }
 
 impl Meta {
-    /// The same message again. The only error is want of memory, which a name, a text and ids take.
+    /// The same message again. The only error is out of memory, which a name, a text and ids take.
     pub fn copy(&self) -> Result<Meta, AllocError>
         ensures same { IfOk result (λ m. m ≡ self.now) }
         ensures memory { OnErr result (TakesMemory (meta_kind self.now)) }

@@ -13,8 +13,8 @@ mod message;
 mod meta_reader;
 mod meta_writer;
 mod output;
-mod reading;
-mod writing;
+mod reader;
+mod writer;
 
 pub use equality::{same_control, same_meta};
 pub use error::PayloadError;
@@ -22,8 +22,8 @@ pub use kinds::{is_control_kind, is_meta_kind, kind_of_control, kind_of_meta};
 pub use laws::{control_equality, meta_equality, one_control, one_meta};
 pub use lists::{Ids, NameBytes, Text};
 pub use message::{Control, Meta, Tiers};
-pub use reading::{read_control, read_meta};
-pub use writing::{write_control, write_meta};
+pub use reader::{read_control, read_meta};
+pub use writer::{write_control, write_meta};
 
 #[cfg(test)]
 mod tests;

@@ -51,7 +51,7 @@ impl Ids {
         self.ids.as_slice()
     }
 
-    /// The same ids again. The only error is want of memory.
+    /// The same ids again.
     pub fn copy(&self) -> Result<Ids, AllocError>
         ensures { IfOk result (λ ids. ids ≡ self.now) }
     {
@@ -111,7 +111,7 @@ impl NameBytes {
         self.bytes.as_slice()
     }
 
-    /// The same name again. The only error is want of memory.
+    /// The same name again.
     pub fn copy(&self) -> Result<NameBytes, AllocError>
         ensures { IfOk result (λ name. name ≡ self.now) }
     {
@@ -169,7 +169,7 @@ impl Text {
         }
     }
 
-    /// A text with a copy of these characters. The only error is want of memory.
+    /// A text with a copy of these characters.
     pub fn from_str(alloc: Global, text: &str) -> Result<Text, AllocError>
         requires { length text.now ≤ 65535 }
         ensures { IfOk result (λ made. made ≡ text.now) }
@@ -194,7 +194,7 @@ impl Text {
         self.text.as_str()
     }
 
-    /// The same text again. The only error is want of memory.
+    /// The same text again.
     pub fn copy(&self) -> Result<Text, AllocError>
         ensures { IfOk result (λ text. text ≡ self.now) }
     {

@@ -37,8 +37,6 @@ pub enum Control {
 }
 
 /// A message of the history that draws nothing.
-///
-/// The rule: docs/protocol.md, "Control and meta messages".
 #[derive(Debug, Drop, PartialEq)]
 pub enum Meta {
     /// A user is there. The name has 1 to 32 bytes of UTF-8.
@@ -97,8 +95,6 @@ pub enum Meta {
 }
 
 /// The tier of each feature, 0 to 3: 0 operators, 1 trusted, 2 registered, 3 everyone.
-///
-/// The rule: docs/protocol.md, "Control and meta messages".
 #[derive(Clone, Copy, Debug, PartialEq, Eq)]
 pub struct Tiers {
     pub image: u8,

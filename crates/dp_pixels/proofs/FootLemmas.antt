@@ -19,7 +19,7 @@ use Rattle.dp_pixels.specs.declared.dabs.Shape.{Shape}
 use Rattle.dp_pixels.specs.declared.dabs.Shape.TheVariants.{Round, Square}
 use Rattle.dp_pixels.specs.Rectangles.{canvas_rect, clipped, is_in, joined, rect_at, share_place}
 use Rattle.dp_pixels.specs.Dabs.{dab_covers, dab_rect, placed_dabs}
-use Rattle.dp_pixels.specs.Drawing.{dab_blended, dabs_blended, drawn, filled, image_color, image_index, imaged, moved, pixel_drawn, stroked}
+use Rattle.dp_pixels.specs.Commands.{dab_blended, dabs_blended, drawn, filled, image_color, image_index, imaged, moved, pixel_drawn, stroked}
 use Rattle.dp_pixels.specs.Tiles.{tile_changed, is_in_tiles, tile_number, tiles_along}
 use Rattle.dp_pixels.specs.Feet.{Footprint, Area, Two, All, around, feet_meet, foot, foot_layer, greatest_canvas, is_in_foot, meets_area}
 use Rattle.dp_pixels.proofs.Rectangles.{IsIn, is_in-true, is_in_by, is_in-false, in_or_out, clipped_in, clipped_by}

@@ -7,7 +7,7 @@ use Rattle.dp_blend.specs.Canvas.{canvas_of, pixel_at}
 use Rattle.dp_msg_draw.specs.declared.draw.Draw.{Draw}
 use Rattle.dp_msg_draw.specs.declared.draw.Draw.TheVariants as op
 use Rattle.dp_pixels.specs.Rectangles.{canvas_rect, is_in}
-use Rattle.dp_pixels.specs.Drawing.{drawn, moved, pixel_drawn, pixel_of, pixels_after, pixels_drawn, pixels_moved}
+use Rattle.dp_pixels.specs.Commands.{drawn, moved, pixel_drawn, pixel_of, pixels_after, pixels_drawn, pixels_moved}
 use Rattle.dp_pixels.proofs.Moves.{old_pixel, on_whole}
 
 -- what holds with a value goes on to what follows from it

@@ -4,7 +4,7 @@ pub mod Strokes
 pub mod Images
 pub mod SpanLemmas
 pub mod Discs
-pub mod Windows
+pub mod Regions
 pub mod Merges
 pub mod TileLemmas
 pub mod TileLaws
@@ -13,5 +13,5 @@ pub mod Layers
 pub mod FootLemmas
 pub mod PixelLemmas
 pub mod Squares
-pub mod Parts
+pub mod Clips
 pub mod Whole

@@ -12,11 +12,11 @@ use Rattle.dp_blend.specs.Blending.{blend}
 use Rattle.dp_blend.specs.declared.modes.Mode.TheVariants.{Normal, Replace}
 use Rattle.dp_pixels.specs.declared.rect.Place.{Place}
 use Rattle.dp_pixels.specs.declared.rect.Rect.{Rect}
-use Rattle.dp_pixels.specs.declared.window.Window.{Window}
-use Rattle.dp_pixels.specs.Windows.{IsPainted, on_canvas}
+use Rattle.dp_pixels.specs.declared.region.Region.{Region}
+use Rattle.dp_pixels.specs.Regions.{IsPainted, on_canvas}
 use Rattle.dp_pixels.proofs.Whole.{CanvasLaw, whole_window, whole_at}
 use Rattle.dp_pixels.specs.Rectangles.{canvas_rect, clipped, is_in, rect_at}
-use Rattle.dp_pixels.specs.Drawing.{image_index, moved, pixel_of, pixels_moved}
+use Rattle.dp_pixels.specs.Commands.{image_index, moved, pixel_of, pixels_moved}
 use Rattle.dp_pixels.proofs.SpanLemmas.{same_test}
 use Rattle.dp_pixels.proofs.Rectangles.{IsIn, is_in-true, is_in_by, is_in-false, clipped_in, clipped_by}
 
@@ -178,22 +178,22 @@ on_whole width height x y in_x in_y =
     is_in_by (canvas_rect width height) (pos x) (pos y) (record { x0 = omega (arith, ints); x1 = omega (arith, ints); y0 = omega (arith, ints); y1 = omega (arith, ints) })
 
 -- a canvas on which the source is cleared and then the copy of it blended
-pub move_whole : CanvasLaw → (width height sx sy w h across down : ℕ) (tx ty : ℤ) (window : Window) (area : Rect) (corner : Place) (old cleared new copied : List Channels)
-    → window ≡ whole_window width height → length old ≡ width * height → across ≡ min w (width - sx) → down ≡ min h (height - sy)
+pub move_whole : CanvasLaw → (width height sx sy w h across down : ℕ) (tx ty : ℤ) (region : Region) (area : Rect) (corner : Place) (old cleared new copied : List Channels)
+    → region ≡ whole_window width height → length old ≡ width * height → across ≡ min w (width - sx) → down ≡ min h (height - sy)
     → sx + across ≤ width → sy + down ≤ height → area ≡ rect_at (pos sx) (pos sy) across down → corner.x ≡ tx → corner.y ≡ ty
     → ((i j : ℕ) (d : Channels) → i < across → j < down → get_or copied (j * across + i) d ≡ get_or old ((sy + j) * width + (sx + i)) d)
-    → IsPainted window width (on_canvas window (λ x y p. cond (is_in area x y) (blend Replace clear p) p)) old cleared
-    → IsPainted window width (on_canvas window (λ x y p. cond (is_in (rect_at corner.x corner.y across down) x y) (blend Normal (get_or copied (image_index corner.x corner.y across x y) clear) p) p)) cleared new
+    → IsPainted region width (on_canvas region (λ x y p. cond (is_in area x y) (blend Replace clear p) p)) old cleared
+    → IsPainted region width (on_canvas region (λ x y p. cond (is_in (rect_at corner.x corner.y across down) x y) (blend Normal (get_or copied (image_index corner.x corner.y across x y) clear) p) p)) cleared new
     → new ≡ pixels_moved width height sx sy w h tx ty old
-move_whole law width height sx sy w h across down tx ty window area corner old cleared new copied whole len across_is down_is in_width in_height area_is x_is y_is copy clears merges =
+move_whole law width height sx sy w h across down tx ty region area corner old cleared new copied whole len across_is down_is in_width in_height area_is x_is y_is copy clears merges =
     law width height (λ x y. moved width height sx sy w h tx ty (pixel_of width height old) (pos x) (pos y)) new (merges.len ∙ (clears.len ∙ len)) (λ x y in_x in_y.
-    let on : is_in (canvas_rect window.canvas_width window.canvas_height) (pos x) (pos y) ≡ true =
-    ap (λ (v : Window). is_in (canvas_rect v.canvas_width v.canvas_height) (pos x) (pos y)) whole ∙ on_whole width height x y in_x in_y in
+    let on : is_in (canvas_rect region.canvas_width region.canvas_height) (pos x) (pos y) ≡ true =
+    ap (λ (v : Region). is_in (canvas_rect v.canvas_width v.canvas_height) (pos x) (pos y)) whole ∙ on_whole width height x y in_x in_y in
     let merged = λ (left top : ℤ) (p : Channels). cond (is_in (rect_at left top across down) (pos x) (pos y)) (blend Normal (get_or copied (image_index left top across (pos x) (pos y)) clear) p) p in
     let base = λ (r : Rect). cond (is_in r (pos x) (pos y)) clear (pixel_at width old x y) in
-    whole_at width height window _ cleared new whole merges x y in_x in_y
-    ∙ (cond-true (is_in (canvas_rect window.canvas_width window.canvas_height) (pos x) (pos y)) _ (pixel_at width cleared x y) on
-    ∙ (ap (merged corner.x corner.y) (whole_at width height window _ old cleared whole clears x y in_x in_y ∙ (cond-true (is_in (canvas_rect window.canvas_width window.canvas_height) (pos x) (pos y)) _ (pixel_at width old x y) on ∙ ap base area_is))
+    whole_at width height region _ cleared new whole merges x y in_x in_y
+    ∙ (cond-true (is_in (canvas_rect region.canvas_width region.canvas_height) (pos x) (pos y)) _ (pixel_at width cleared x y) on
+    ∙ (ap (merged corner.x corner.y) (whole_at width height region _ old cleared whole clears x y in_x in_y ∙ (cond-true (is_in (canvas_rect region.canvas_width region.canvas_height) (pos x) (pos y)) _ (pixel_at width old x y) on ∙ ap base area_is))
     ∙ (ap (λ (z : ℤ). merged z corner.y (base (rect_at (pos sx) (pos sy) across down))) x_is
     ∙ (ap (λ (z : ℤ). merged tx z (base (rect_at (pos sx) (pos sy) across down))) y_is
     ∙ moved_at width height sx sy w h across down tx ty x y old copied across_is down_is in_width in_height copy in_x in_y)))))

@@ -23,7 +23,7 @@ use Rattle.dp_pixels.specs.declared.dabs.Shape.TheVariants.{Round, Square}
 use Rattle.dp_pixels.specs.Rectangles.{canvas_rect, clipped, is_in, rect_at}
 use Rattle.dp_pixels.specs.Dabs.{dab_covers, placed_dabs}
 use Rattle.dp_pixels.specs.Colors.{FitsColors, FitsStroke}
-use Rattle.dp_pixels.specs.Drawing.{dab_blended, dabs_blended, drawn, filled, image_color, image_index, imaged, moved, pixel_drawn, stroked}
+use Rattle.dp_pixels.specs.Commands.{dab_blended, dabs_blended, drawn, filled, image_color, image_index, imaged, moved, pixel_drawn, stroked}
 use Rattle.dp_pixels.specs.Tiles.{content_at, is_in_tiles, is_tile_pixel, replaced_by, tile_changed}
 use Rattle.dp_pixels.proofs.Rectangles.{is_in_by, is_in-true, clipped_in}
 

@@ -6,7 +6,7 @@ use Rattle.std.proofs.lemmas.Bool.{cases_Bool, false_from_ne_true}
 use Rattle.dp_pixels.specs.declared.rect.Rect.{Rect}
 use Rattle.dp_pixels.specs.declared.rect.Place.{Place}
 use Rattle.dp_pixels.specs.Rectangles.{is_in, clipped}
-use Rattle.dp_pixels.specs.Windows.{IsRowIn}
+use Rattle.dp_pixels.specs.Regions.{IsRowIn}
 
 -- a place is in a rectangle
 pub record IsIn (r : Rect) (x y : ℤ) : Type 0 where

@@ -12,10 +12,10 @@ use Rattle.dp_msg_draw.specs.declared.lists.Dab.{Dab}
 use Rattle.dp_pixels.specs.declared.rect.Place.{Place}
 use Rattle.dp_pixels.specs.declared.dabs.PlacedDab.{PlacedDab}
 use Rattle.dp_pixels.specs.declared.dabs.Shape.{Shape}
-use Rattle.dp_pixels.specs.declared.window.Window.{Window}
+use Rattle.dp_pixels.specs.declared.region.Region.{Region}
 use Rattle.dp_pixels.specs.Rectangles.{is_in, canvas_rect}
-use Rattle.dp_pixels.specs.Drawing.{dab_blended, dabs_blended, stroked}
-use Rattle.dp_pixels.specs.Windows.{IsPainted, on_canvas}
+use Rattle.dp_pixels.specs.Commands.{dab_blended, dabs_blended, stroked}
+use Rattle.dp_pixels.specs.Regions.{IsPainted, on_canvas}
 use Rattle.dp_pixels.proofs.Windows.{painted_same, painted_then}
 use Rattle.dp_pixels.specs.Near.{IsNear}
 use Rattle.dp_pixels.specs.Dabs.{int_sum, placed_dabs}
@@ -36,7 +36,7 @@ no_dab = record { dx = pos 0; dy = pos 0; size = 0; opacity = 0 }
 abbrev pub put : ℤ → ℤ → Dab → PlacedDab
 put x y dab = record { at = record { x = x; y = y }; size = dab.size; opacity = dab.opacity }
 
--- the dab behind a place
+-- the dab after a place
 abbrev pub behind : Place → Dab → PlacedDab
 behind last dab = put (last.x +ℤ dab.dx) (last.y +ℤ dab.dy) dab
 
@@ -70,7 +70,7 @@ last_none at dabs near = record {
   near = record { x = omega (arith, near.x); y = omega (arith, near.y) };
 }
 
--- the dab behind the last one is the last of one dab more
+-- the dab after the last one is the last of one dab more
 pub last_more : (left top : ℤ) (dabs : List Dab) (k : ℕ) (last : Place) (placed : PlacedDab) → k < length dabs
     → placed ≡ behind last (get_or dabs k no_dab) → unsigned_abs placed.at.x ≤ unsigned_abs last.x + 128 → unsigned_abs placed.at.y ≤ unsigned_abs last.y + 128
     → IsLast left top dabs k last → IsLast left top dabs (k + 1) placed.at
@@ -100,27 +100,27 @@ placed_is left top dabs k last placed d within is before =
     ∙ (ap (λ (z : ℤ). put z (top +ℤ sum_of (λ (e : Dab). e.dy) dabs (k + 1)) dab) to_x
     ∙ (ap (λ (z : ℤ). put (last.x +ℤ dab.dx) z dab) to_y ∙ sym is))
 
--- a window with one dab more
-pub dabs_more : (window : Window) (stride : ℕ) (shape : Shape) (mode : Mode) (color : Channels) (dabs : List PlacedDab) (k : ℕ) (dab : PlacedDab) (old now new : List Channels)
+-- a region with one dab more
+pub dabs_more : (region : Region) (stride : ℕ) (shape : Shape) (mode : Mode) (color : Channels) (dabs : List PlacedDab) (k : ℕ) (dab : PlacedDab) (old now new : List Channels)
     → k < length dabs → get_or dabs k dab ≡ dab
-    → IsPainted window stride (on_canvas window (dabs_blended shape mode color (take k dabs))) old now
-    → IsPainted window stride (on_canvas window (dab_blended shape mode color dab)) now new
-    → IsPainted window stride (on_canvas window (dabs_blended shape mode color (take (k + 1) dabs))) old new
-dabs_more window stride shape mode color dabs k dab old now new within is before here =
-    painted_same window stride _ (on_canvas window (dabs_blended shape mode color (take (k + 1) dabs))) old new (λ i j p in_x in_y.
-    let x = pos (window.x + i) in
-    let y = pos (window.y + j) in
+    → IsPainted region stride (on_canvas region (dabs_blended shape mode color (take k dabs))) old now
+    → IsPainted region stride (on_canvas region (dab_blended shape mode color dab)) now new
+    → IsPainted region stride (on_canvas region (dabs_blended shape mode color (take (k + 1) dabs))) old new
+dabs_more region stride shape mode color dabs k dab old now new within is before here =
+    painted_same region stride _ (on_canvas region (dabs_blended shape mode color (take (k + 1) dabs))) old new (λ i j p in_x in_y.
+    let x = pos (region.x + i) in
+    let y = pos (region.y + j) in
     let step = λ (under : Channels) (d : PlacedDab). dab_blended shape mode color d x y under in
     let more : step (fold step p (take k dabs)) dab ≡ fold step p (take (k + 1) dabs) =
     ap (step (fold step p (take k dabs))) (sym is) ∙ sym (fold_more step p dabs k dab within) in
-    on_both (is_in (canvas_rect window.canvas_width window.canvas_height) x y) (λ q. step q dab) (fold step p (take k dabs)) p _ more)
-    (painted_then window stride _ _ old now new before here)
+    on_both (is_in (canvas_rect region.canvas_width region.canvas_height) x y) (λ q. step q dab) (fold step p (take k dabs)) p _ more)
+    (painted_then region stride _ _ old now new before here)
   where
     on_both : (t : Bool) (f : Channels → Channels) (a p b : Channels) → f a ≡ b → cond t (f (cond t a p)) (cond t a p) ≡ cond t b p
     on_both true f a p b is = is
     on_both false f a p b is = refl
 
--- the dab behind the last one is in the list of the dabs, and the last of one dab more
+-- the dab after the last one is in the list of the dabs, and the last of one dab more
 pub record IsNext (left top : ℤ) (dabs : List Dab) (k : ℕ) (placed : PlacedDab) : Type 0 where
   pub last : IsLast left top dabs (k + 1) placed.at
   pub within : k < length (placed_dabs left top dabs)
@@ -135,12 +135,12 @@ next_is left top dabs k last placed within is near_x near_y before = record {
   is = placed_is left top dabs k last placed placed within is before;
 }
 
--- a window on which the same dabs are drawn, by other names
-pub stroke_as : (window : Window) (stride mode : ℕ) (color as_color : Channels) (shape as_shape : Shape) (dabs as_dabs : List PlacedDab) (old new : List Channels)
+-- a region on which the same dabs are drawn, by other names
+pub stroke_as : (region : Region) (stride mode : ℕ) (color as_color : Channels) (shape as_shape : Shape) (dabs as_dabs : List PlacedDab) (old new : List Channels)
     → color ≡ as_color → shape ≡ as_shape → dabs ≡ as_dabs
-    → IsPainted window stride (on_canvas window (stroked mode color shape dabs)) old new
-    → IsPainted window stride (on_canvas window (stroked mode as_color as_shape as_dabs)) old new
-stroke_as window stride mode color as_color shape as_shape dabs as_dabs old new colors shapes lists painted =
-    subst (λ (p : Channels). IsPainted window stride (on_canvas window (stroked mode p as_shape as_dabs)) old new) colors
-    (subst (λ (s : Shape). IsPainted window stride (on_canvas window (stroked mode color s as_dabs)) old new) shapes
-    (subst (λ (l : List PlacedDab). IsPainted window stride (on_canvas window (stroked mode color shape l)) old new) lists painted))
+    → IsPainted region stride (on_canvas region (stroked mode color shape dabs)) old new
+    → IsPainted region stride (on_canvas region (stroked mode as_color as_shape as_dabs)) old new
+stroke_as region stride mode color as_color shape as_shape dabs as_dabs old new colors shapes lists painted =
+    subst (λ (p : Channels). IsPainted region stride (on_canvas region (stroked mode p as_shape as_dabs)) old new) colors
+    (subst (λ (s : Shape). IsPainted region stride (on_canvas region (stroked mode color s as_dabs)) old new) shapes
+    (subst (λ (l : List PlacedDab). IsPainted region stride (on_canvas region (stroked mode color shape l)) old new) lists painted))

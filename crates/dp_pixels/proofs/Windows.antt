@@ -7,8 +7,8 @@ use Rattle.std.proofs.lemmas.Int.{ints}
 use Rattle.std.proofs.lemmas.List.{get_or_append_left, get_or-append_right, get_or-take, get_or-drop, length-take-le, length-take, length-drop}
 use Rattle.std.proofs.Math.Nat.{mul-le-mul_right}
 use Rattle.dp_blend.specs.Color.{Channels}
-use Rattle.dp_pixels.specs.declared.window.Window.{Window}
-use Rattle.dp_pixels.specs.Windows.{IsPainted}
+use Rattle.dp_pixels.specs.declared.region.Region.{Region}
+use Rattle.dp_pixels.specs.Regions.{IsPainted}
 use borrow.Rule.Slice.PartMut.{mid_of, post_of, put_mid, same_len_mid}
 
 -- ---- a part of a list that is written
@@ -36,35 +36,35 @@ part_old a k i j xs d place within =
     let index : a + j ≡ i = omega arith in
     get_or-take k (drop a xs) j d within ∙ (get_or-drop a xs j d ∙ ap (λ n. get_or xs n d) index)
 
--- ---- windows
+-- ---- regions
 
--- a change of all places of a window that keeps each pixel
-pub painted_none : (window : Window) (stride : ℕ) (change : ℤ → ℤ → Channels → Channels) (old : List Channels)
-    → ((i j : ℕ) (p : Channels) → i < window.width → j < window.height → change (pos (window.x + i)) (pos (window.y + j)) p ≡ p)
-    → IsPainted window stride change old old
-painted_none window stride change old keeps = record {
+-- a change of all places of a region that keeps each pixel
+pub painted_none : (region : Region) (stride : ℕ) (change : ℤ → ℤ → Channels → Channels) (old : List Channels)
+    → ((i j : ℕ) (p : Channels) → i < region.width → j < region.height → change (pos (region.x + i)) (pos (region.y + j)) p ≡ p)
+    → IsPainted region stride change old old
+painted_none region stride change old keeps = record {
   len = refl;
   inside = λ i j d in_x in_y. sym (keeps i j _ in_x in_y);
   outside = λ k d apart. refl;
 }
 
--- changes that are equal at each place of the window
-pub painted_same : (window : Window) (stride : ℕ) (f g : ℤ → ℤ → Channels → Channels) (old new : List Channels)
-    → ((i j : ℕ) (p : Channels) → i < window.width → j < window.height → f (pos (window.x + i)) (pos (window.y + j)) p ≡ g (pos (window.x + i)) (pos (window.y + j)) p)
-    → IsPainted window stride f old new → IsPainted window stride g old new
-painted_same window stride f g old new same painted = record {
+-- changes that are equal at each place of the region
+pub painted_same : (region : Region) (stride : ℕ) (f g : ℤ → ℤ → Channels → Channels) (old new : List Channels)
+    → ((i j : ℕ) (p : Channels) → i < region.width → j < region.height → f (pos (region.x + i)) (pos (region.y + j)) p ≡ g (pos (region.x + i)) (pos (region.y + j)) p)
+    → IsPainted region stride f old new → IsPainted region stride g old new
+painted_same region stride f g old new same painted = record {
   len = painted.len;
   inside = λ i j d in_x in_y. painted.inside i j d in_x in_y ∙ same i j _ in_x in_y;
   outside = painted.outside;
 }
 
 -- one change after the other
-pub painted_then : (window : Window) (stride : ℕ) (f g : ℤ → ℤ → Channels → Channels) (old now new : List Channels)
-    → IsPainted window stride f old now → IsPainted window stride g now new → IsPainted window stride (λ x y p. g x y (f x y p)) old new
-painted_then window stride f g old now new first next = record {
+pub painted_then : (region : Region) (stride : ℕ) (f g : ℤ → ℤ → Channels → Channels) (old now new : List Channels)
+    → IsPainted region stride f old now → IsPainted region stride g now new → IsPainted region stride (λ x y p. g x y (f x y p)) old new
+painted_then region stride f g old now new first next = record {
   len = next.len ∙ first.len;
   inside = λ i j d in_x in_y.
-      next.inside i j d in_x in_y ∙ ap (g (pos (window.x + i)) (pos (window.y + j))) (first.inside i j d in_x in_y);
+      next.inside i j d in_x in_y ∙ ap (g (pos (region.x + i)) (pos (region.y + j))) (first.inside i j d in_x in_y);
   outside = λ k d apart. next.outside k d apart ∙ first.outside k d apart;
 }
 
@@ -79,21 +79,21 @@ row_order : (i j k stride : ℕ) → i < stride → j < k → j * stride + i < k
 row_order i j k stride within order = let rows : (j + 1) * stride ≤ k * stride = mul-le-mul_right stride (omega arith) in omega arith
 
 -- a part of row k is painted, after the rows above it; outside of the part nothing changes
-module _ (window : Window) (stride : ℕ) (change : ℤ → ℤ → Channels → Channels) (old now part : List Channels) (k left right size : ℕ) (wide : window.width ≤ stride) (long : window.height * stride ≤ length old) (span : left + size ≡ right) (in_width : right ≤ window.width) (in_height : k < window.height) (before : IsPainted window stride (above (pos (window.y + k)) change) old now) (part_len : length part ≡ size) (made : (n : ℕ) (d : Channels) → n < size → get_or part n d ≡ change (pos (window.x + (left + n))) (pos (window.y + k)) (get_or (mid_of (k * stride + left) size now) n d)) (stays : (i : ℕ) (p : Channels) → i < window.width → (i < left) ⊎ (right ≤ i) → change (pos (window.x + i)) (pos (window.y + k)) p ≡ p) where
+module _ (region : Region) (stride : ℕ) (change : ℤ → ℤ → Channels → Channels) (old now part : List Channels) (k left right size : ℕ) (wide : region.width ≤ stride) (long : region.height * stride ≤ length old) (span : left + size ≡ right) (in_width : right ≤ region.width) (in_height : k < region.height) (before : IsPainted region stride (above (pos (region.y + k)) change) old now) (part_len : length part ≡ size) (made : (n : ℕ) (d : Channels) → n < size → get_or part n d ≡ change (pos (region.x + (left + n))) (pos (region.y + k)) (get_or (mid_of (k * stride + left) size now) n d)) (stays : (i : ℕ) (p : Channels) → i < region.width → (i < left) ⊎ (right ≤ i) → change (pos (region.x + i)) (pos (region.y + k)) p ≡ p) where
   -- the row is in the list
   row_fits : k * stride + right ≤ length now
   row_fits =
-      let rows : (k + 1) * stride ≤ window.height * stride = mul-le-mul_right stride (omega arith) in
+      let rows : (k + 1) * stride ≤ region.height * stride = mul-le-mul_right stride (omega arith) in
       omega (arith, before.len)
 
   -- the pixel at a place of row k
-  row_inside : (i : ℕ) (d : Channels) → i < window.width
-      → get_or (put_mid (k * stride + left) size now part) (k * stride + i) d ≡ change (pos (window.x + i)) (pos (window.y + k)) (get_or old (k * stride + i) d)
+  row_inside : (i : ℕ) (d : Channels) → i < region.width
+      → get_or (put_mid (k * stride + left) size now part) (k * stride + i) d ≡ change (pos (region.x + i)) (pos (region.y + k)) (get_or old (k * stride + i) d)
   row_inside i d in_x =
       let fits = row_fits in
-      let not_yet : int_lt (pos (window.y + k)) (pos (window.y + k)) ≡ false = grind (arith, ints) in
+      let not_yet : int_lt (pos (region.y + k)) (pos (region.y + k)) ≡ false = grind (arith, ints) in
       let old_there : get_or now (k * stride + i) d ≡ get_or old (k * stride + i) d =
-      before.inside i k d in_x in_height ∙ ap (λ (t : Bool). cond t (change (pos (window.x + i)) (pos (window.y + k)) (get_or old (k * stride + i) d)) (get_or old (k * stride + i) d)) not_yet in
+      before.inside i k d in_x in_height ∙ ap (λ (t : Bool). cond t (change (pos (region.x + i)) (pos (region.y + k)) (get_or old (k * stride + i) d)) (get_or old (k * stride + i) d)) not_yet in
       ⊎_elim
       (λ (is_left : i < left).
       part_below (k * stride + left) size (k * stride + i) now part d (omega arith) (omega arith)
@@ -104,42 +104,42 @@ module _ (window : Window) (stride : ℕ) (change : ℤ → ℤ → Channels →
       let at : left + (i - left) ≡ i = omega arith in
       part_within (k * stride + left) size (k * stride + i) (i - left) now part d (omega arith) (omega arith) (omega arith)
       ∙ (made (i - left) d (omega arith)
-      ∙ (ap (λ (n : ℕ). change (pos (window.x + n)) (pos (window.y + k)) (get_or (mid_of (k * stride + left) size now) (i - left) d)) at
-      ∙ ap (change (pos (window.x + i)) (pos (window.y + k))) (part_old (k * stride + left) size (k * stride + i) (i - left) now d (omega arith) (omega arith) ∙ old_there))))
+      ∙ (ap (λ (n : ℕ). change (pos (region.x + n)) (pos (region.y + k)) (get_or (mid_of (k * stride + left) size now) (i - left) d)) at
+      ∙ ap (change (pos (region.x + i)) (pos (region.y + k))) (part_old (k * stride + left) size (k * stride + i) (i - left) now d (omega arith) (omega arith) ∙ old_there))))
       (λ (is_right : right ≤ i).
       part_above (k * stride + left) size (k * stride + i) now part d (omega arith) part_len (omega arith)
       ∙ (old_there ∙ sym (stays i _ in_x (inr is_right))))
       (cases_lt i right))
       (cases_lt i left)
 
-  -- the pixel at a place of the window
-  more_inside : (i j : ℕ) (d : Channels) → i < window.width → j < window.height
-      → get_or (put_mid (k * stride + left) size now part) (j * stride + i) d ≡ above (pos (window.y + (k + 1))) change (pos (window.x + i)) (pos (window.y + j)) (get_or old (j * stride + i) d)
+  -- the pixel at a place of the region
+  more_inside : (i j : ℕ) (d : Channels) → i < region.width → j < region.height
+      → get_or (put_mid (k * stride + left) size now part) (j * stride + i) d ≡ above (pos (region.y + (k + 1))) change (pos (region.x + i)) (pos (region.y + j)) (get_or old (j * stride + i) d)
   more_inside i j d in_x in_y =
       let fits = row_fits in
-      let row = λ (m : ℕ) (t : Bool). cond t (change (pos (window.x + i)) (pos (window.y + m)) (get_or old (m * stride + i) d)) (get_or old (m * stride + i) d) in
+      let row = λ (m : ℕ) (t : Bool). cond t (change (pos (region.x + i)) (pos (region.y + m)) (get_or old (m * stride + i) d)) (get_or old (m * stride + i) d) in
       ⊎_elim
       (λ (same : j ≡ k).
-      let P : ℕ → Type 0 = λ m. get_or (put_mid (k * stride + left) size now part) (m * stride + i) d ≡ row m (int_lt (pos (window.y + m)) (pos (window.y + (k + 1)))) in
-      let now_so : int_lt (pos (window.y + k)) (pos (window.y + (k + 1))) ≡ true = grind (arith, ints) in
+      let P : ℕ → Type 0 = λ m. get_or (put_mid (k * stride + left) size now part) (m * stride + i) d ≡ row m (int_lt (pos (region.y + m)) (pos (region.y + (k + 1)))) in
+      let now_so : int_lt (pos (region.y + k)) (pos (region.y + (k + 1))) ≡ true = grind (arith, ints) in
       subst P (sym same) (row_inside i d in_x ∙ sym (ap (row k) now_so)))
       (⊎_elim
       (λ (over : j < k).
       let order = row_order i j k stride (omega arith) over in
-      let was : int_lt (pos (window.y + j)) (pos (window.y + k)) ≡ true = grind (arith, ints) in
-      let is : int_lt (pos (window.y + j)) (pos (window.y + (k + 1))) ≡ true = grind (arith, ints) in
+      let was : int_lt (pos (region.y + j)) (pos (region.y + k)) ≡ true = grind (arith, ints) in
+      let is : int_lt (pos (region.y + j)) (pos (region.y + (k + 1))) ≡ true = grind (arith, ints) in
       part_below (k * stride + left) size (j * stride + i) now part d (omega arith) (omega arith)
       ∙ (before.inside i j d in_x in_y ∙ ap (row j) (was ∙ sym is)))
       (λ (under : k < j).
       let below : (k + 1) * stride ≤ j * stride = mul-le-mul_right stride (omega arith) in
-      let was : int_lt (pos (window.y + j)) (pos (window.y + k)) ≡ false = grind (arith, ints) in
-      let is : int_lt (pos (window.y + j)) (pos (window.y + (k + 1))) ≡ false = grind (arith, ints) in
+      let was : int_lt (pos (region.y + j)) (pos (region.y + k)) ≡ false = grind (arith, ints) in
+      let is : int_lt (pos (region.y + j)) (pos (region.y + (k + 1))) ≡ false = grind (arith, ints) in
       part_above (k * stride + left) size (j * stride + i) now part d (omega arith) part_len (omega arith)
       ∙ (before.inside i j d in_x in_y ∙ ap (row j) (was ∙ sym is))))
       (cases_order j k)
 
   -- the pixel at another index
-  more_outside : (n : ℕ) (d : Channels) → ((i j : ℕ) → i < window.width → j < window.height → n ≢ j * stride + i)
+  more_outside : (n : ℕ) (d : Channels) → ((i j : ℕ) → i < region.width → j < region.height → n ≢ j * stride + i)
       → get_or (put_mid (k * stride + left) size now part) n d ≡ get_or old n d
   more_outside n d apart =
       let fits = row_fits in
@@ -152,7 +152,7 @@ module _ (window : Window) (stride : ℕ) (change : ℤ → ℤ → Channels →
       (cases_lt n (k * stride + right)))
       (cases_lt n (k * stride + left))
 
-  pub painted_more : IsPainted window stride (above (pos (window.y + (k + 1))) change) old (put_mid (k * stride + left) size now part)
+  pub painted_more : IsPainted region stride (above (pos (region.y + (k + 1))) change) old (put_mid (k * stride + left) size now part)
   painted_more = record {
     len = same_len_mid (k * stride + left) size now part (part_len ∙ sym (mid_length row_fits)) ∙ before.len;
     inside = more_inside;

@@ -2,9 +2,9 @@ pub mod Rectangles
 pub mod Near
 pub mod Dabs
 pub mod Spans
-pub mod Parts
-pub mod Windows
+pub mod Clips
+pub mod Regions
 pub mod Tiles
 pub mod Colors
-pub mod Drawing
+pub mod Commands
 pub mod Feet

@@ -3,11 +3,11 @@
 ghost use Rattle.std.specs.Prelude.{◌≡◌, ◌*◌, ◌<◌, ◌^◌, ℕ, ℤ, pos, List, length, IsOk, OnErr, OnOk, false};
 ghost use Rattle.dp_blend.specs.Color.{Channels};
 ghost use Rattle.dp_blend.specs.Canvas.{canvas_of, pixel_at};
-ghost use Rattle.dp_pixels.specs.Drawing.{is_move, pixels_after, pixels_drawn};
-ghost use Rattle.dp_pixels.specs.Windows.{IsPainted};
+ghost use Rattle.dp_pixels.specs.Commands.{is_move, pixels_after, pixels_drawn};
+ghost use Rattle.dp_pixels.specs.Regions.{IsPainted};
 
-use crate::draw::draw_window;
-use crate::window::Window;
+use crate::draw::draw_region;
+use crate::region::Region;
 use dp_blend::{Pixel, equal_pixels_at_each_place, length_of_canvas, pixel_of_canvas};
 use dp_msg_draw::Draw;
 use std::alloc::{AllocError, Global};
@@ -24,12 +24,12 @@ pub(crate) fn canvas_law()
     equal_pixels_at_each_place();
 }
 
-/// The window that is the whole canvas.
-pub(crate) fn whole(width: u32, height: u32) -> Window
+/// The region that is the whole canvas.
+pub(crate) fn whole(width: u32, height: u32) -> Region
     ensures { result
         ≡ record { x = 0; y = 0; width = width; height = height; canvas_width = width; canvas_height = height } }
 {
-    Window {
+    Region {
         x: 0,
         y: 0,
         width,
@@ -45,5 +45,5 @@ pub(crate) fn draw_whole(op: &Draw, width: u32, height: u32, pixels: &mut [Pixel
     ensures { pixels.new ≡ pixels_drawn width height op.now pixels.old }
 {
     canvas_law();
-    draw_window(op, &whole(width, height), width as usize, pixels);
+    draw_region(op, &whole(width, height), width as usize, pixels);
 }

@@ -4,7 +4,7 @@ ghost use Rattle.std.specs.Prelude.{◌≡◌, ◌<◌, ◌≤◌, ◌^◌, ◌+
 ghost use Rattle.std.specs.List.{list_any};
 ghost use Rattle.dp_pixels.specs.Near.{IsNear};
 ghost use Rattle.dp_pixels.specs.Dabs.{dab_rect, dab_covers, is_in_disc, placed_dabs};
-ghost use Rattle.dp_pixels.specs.Drawing.{dabs_blended};
+ghost use Rattle.dp_pixels.specs.Commands.{dabs_blended};
 
 use crate::rect::{Place, Rect};
 use dp_blend::{Mode, Pixel, blend, fade, from8};
@@ -97,7 +97,7 @@ fn is_in_disc(size: u8, i: u8, j: u8) -> bool
 
 /// The dabs of a message: their shape, the message's place, and the list.
 #[derive(Clone, Copy)]
-pub(crate) struct Stroke<'a> {
+pub(crate) struct DabRun<'a> {
     pub shape: Shape,
     pub at: Place,
     pub dabs: &'a [Dab],
@@ -105,7 +105,7 @@ pub(crate) struct Stroke<'a> {
     ghost short: { length dabs.now ≤ 16380 },
 }
 
-impl Stroke<'_> {
+impl DabRun<'_> {
     /// Whether one of the dabs covers a place.
     pub(crate) fn covers(self, place: Place) -> bool
         ensures { result ≡ list_any (λ dab. dab_covers self.entry.shape dab place.x place.y)

@@ -1,114 +1,114 @@
-//! Commands that are drawn on a window.
+//! Commands that are drawn on a region.
 
 ghost use Rattle.std.specs.Prelude.{◌≡◌, ◌≤◌, ◌*◌, ◌^◌, pos, length};
 ghost use Rattle.dp_pixels.specs.Near.{IsNear};
 ghost use Rattle.dp_pixels.specs.Dabs.{placed_dabs};
 ghost use Rattle.dp_pixels.specs.Tiles.{tile_changed};
-ghost use Rattle.dp_pixels.specs.Drawing.{dab_blended, filled, imaged, pixel_drawn, stroked};
-ghost use Rattle.dp_pixels.specs.Windows.{IsPainted, on_canvas};
+ghost use Rattle.dp_pixels.specs.Commands.{dab_blended, filled, imaged, pixel_drawn, stroked};
+ghost use Rattle.dp_pixels.specs.Regions.{IsPainted, on_canvas};
 
-use crate::dabs::{PlacedDab, Shape, Stroke};
+use crate::dabs::{PlacedDab, Shape, DabRun};
 use crate::disc::Disc;
 use crate::fill::Fill;
 use crate::image::{Image, ImageFill};
-use crate::paint::paint_window;
-use crate::place::{opaque, rect_of, stroke_of};
+use crate::paint::paint_region;
+use crate::place::{opaque, rect_of, dab_run_of};
 use crate::rect::Rect;
 use crate::tiles::{TileRun, tiles_along};
-use crate::window::Window;
+use crate::region::Region;
 use dp_blend::{Mode, Pixel, fade, from8, of_argb};
 use dp_msg_draw::{Draw, TileContent};
 
 /// Fills a rectangle, by the number of the mode.
-fn fill_window(
+fn fill_region(
     mode: u8,
     area: Rect,
     color: u32,
-    window: &Window,
+    region: &Region,
     stride: usize,
     pixels: &mut [Pixel],
 )
-    requires wide { window.now.width ≤ stride }
-    requires long { window.now.height * stride ≤ length pixels.old }
-    ensures { IsPainted window.now stride (on_canvas window.now (filled mode area color))
+    requires wide { region.now.width ≤ stride }
+    requires long { region.now.height * stride ≤ length pixels.old }
+    ensures { IsPainted region.now stride (on_canvas region.now (filled mode area color))
         pixels.old pixels.new }
 {
     if let Some(mode) = Mode::from_u8(mode) {
         let source = of_argb(color);
         let fill = Fill { area, mode, source };
-        paint_window(&fill, window, stride, pixels);
+        paint_region(&fill, region, stride, pixels);
     }
 }
 
 /// Puts an image, by the number of the mode.
-fn image_window(mode: u8, image: Image, window: &Window, stride: usize, pixels: &mut [Pixel])
-    requires wide { window.now.width ≤ stride }
-    requires long { window.now.height * stride ≤ length pixels.old }
-    ensures { IsPainted window.now stride
-        (on_canvas window.now
+fn image_window(mode: u8, image: Image, region: &Region, stride: usize, pixels: &mut [Pixel])
+    requires wide { region.now.width ≤ stride }
+    requires long { region.now.height * stride ≤ length pixels.old }
+    ensures { IsPainted region.now stride
+        (on_canvas region.now
         (imaged mode (pos image.entry.x) (pos image.entry.y) image.entry.w image.entry.h
         image.entry.colors.now))
         pixels.old pixels.new }
 {
     if let Some(mode) = Mode::from_u8(mode) {
-        paint_window(&ImageFill { mode, image }, window, stride, pixels);
+        paint_region(&ImageFill { mode, image }, region, stride, pixels);
     }
 }
 
 /// Draws one dab.
-fn dab_window(
+fn dab_region(
     shape: Shape,
     dab: PlacedDab,
     mode: Mode,
     color: Pixel,
-    window: &Window,
+    region: &Region,
     stride: usize,
     pixels: &mut [Pixel],
 )
     requires near { IsNear (2 ^ 39) dab.at }
-    requires wide { window.now.width ≤ stride }
-    requires long { window.now.height * stride ≤ length pixels.old }
-    ensures { IsPainted window.now stride (on_canvas window.now (dab_blended shape mode color dab))
+    requires wide { region.now.width ≤ stride }
+    requires long { region.now.height * stride ≤ length pixels.old }
+    ensures { IsPainted region.now stride (on_canvas region.now (dab_blended shape mode color dab))
         pixels.old pixels.new }
 {
     let source = fade(color, from8(dab.opacity));
     match shape {
         Shape::Round => {
             let disc = Disc { dab, mode, source };
-            paint_window(&disc, window, stride, pixels);
+            paint_region(&disc, region, stride, pixels);
         }
         Shape::Square => {
             let area = dab.rect();
             let fill = Fill { area, mode, source };
-            paint_window(&fill, window, stride, pixels);
+            paint_region(&fill, region, stride, pixels);
         }
     }
 }
 
 /// Draws dabs one after the other, by the number of their mode.
-fn stroke_window(
+fn dab_run_region(
     number: u8,
     color: Pixel,
-    stroke: Stroke,
-    window: &Window,
+    run: DabRun,
+    region: &Region,
     stride: usize,
     pixels: &mut [Pixel],
 )
-    requires wide { window.now.width ≤ stride }
-    requires long { window.now.height * stride ≤ length pixels.old }
-    ensures { IsPainted window.now stride
-        (on_canvas window.now
-        (stroked number color stroke.entry.shape
-        (placed_dabs stroke.entry.at.x stroke.entry.at.y stroke.entry.dabs.now)))
+    requires wide { region.now.width ≤ stride }
+    requires long { region.now.height * stride ≤ length pixels.old }
+    ensures { IsPainted region.now stride
+        (on_canvas region.now
+        (stroked number color run.entry.shape
+        (placed_dabs run.entry.at.x run.entry.at.y run.entry.dabs.now)))
         pixels.old pixels.new }
 {
     let Some(mode) = Mode::from_u8(number) else {
         return;
     };
-    let mut last = stroke.at;
-    for dab in stroke.dabs {
+    let mut last = run.at;
+    for dab in run.dabs {
         let placed = PlacedDab::behind(last, *dab);
-        dab_window(stroke.shape, placed, mode, color, window, stride, pixels);
+        dab_region(run.shape, placed, mode, color, region, stride, pixels);
         last = placed.at;
     }
 }
@@ -119,18 +119,18 @@ fn tile_window(
     row: u16,
     repeat: u16,
     content: &TileContent,
-    window: &Window,
+    region: &Region,
     stride: usize,
     pixels: &mut [Pixel],
 )
-    requires wide { window.now.width ≤ stride }
-    requires long { window.now.height * stride ≤ length pixels.old }
-    ensures { IsPainted window.now stride
-        (on_canvas window.now
-        (tile_changed window.now.canvas_width window.now.canvas_height col row repeat content.now))
+    requires wide { region.now.width ≤ stride }
+    requires long { region.now.height * stride ≤ length pixels.old }
+    ensures { IsPainted region.now stride
+        (on_canvas region.now
+        (tile_changed region.now.canvas_width region.now.canvas_height col row repeat content.now))
         pixels.old pixels.new }
 {
-    let (width, height) = (window.canvas_width, window.canvas_height);
+    let (width, height) = (region.canvas_width, region.canvas_height);
     if (col as u64) < tiles_along(width) && (row as u64) < tiles_along(height) {
         let run = TileRun {
             width,
@@ -140,20 +140,20 @@ fn tile_window(
             repeat,
             content,
         };
-        paint_window(&run, window, stride, pixels);
+        paint_region(&run, region, stride, pixels);
     }
 }
 
-/// Draws a command other than MoveRect on a window, in a list of pixels whose rows are `stride` long.
-/// The pixels of the window that are on the canvas change, and all others stay; a command that is no
+/// Draws a command other than MoveRect on a region, in a list of pixels whose rows are `stride` long.
+/// The pixels of the region that are on the canvas change, and all others stay; a command that is no
 /// pixel command, and MoveRect, changes none. It takes no memory.
 ///
 /// The rule: docs/protocol.md, "Pixel commands".
-pub fn draw_window(op: &Draw, window: &Window, stride: usize, pixels: &mut [Pixel])
-    requires wide { window.now.width ≤ stride }
-    requires long { window.now.height * stride ≤ length pixels.old }
-    ensures { IsPainted window.now stride
-        (pixel_drawn window.now.canvas_width window.now.canvas_height op.now)
+pub fn draw_region(op: &Draw, region: &Region, stride: usize, pixels: &mut [Pixel])
+    requires wide { region.now.width ≤ stride }
+    requires long { region.now.height * stride ≤ length pixels.old }
+    ensures { IsPainted region.now stride
+        (pixel_drawn region.now.canvas_width region.now.canvas_height op.now)
         pixels.old pixels.new }
 {
     match op {
@@ -167,7 +167,7 @@ pub fn draw_window(op: &Draw, window: &Window, stride: usize, pixels: &mut [Pixe
             ..
         } => {
             let area = rect_of(*x, *y, *w, *h);
-            fill_window(*mode, area, *color, window, stride, pixels);
+            fill_region(*mode, area, *color, region, stride, pixels);
         }
         Draw::PutImage {
             mode,
@@ -185,7 +185,7 @@ pub fn draw_window(op: &Draw, window: &Window, stride: usize, pixels: &mut [Pixe
                 h: *h,
                 colors: colors.as_slice(),
             };
-            image_window(*mode, image, window, stride, pixels);
+            image_window(*mode, image, region, stride, pixels);
         }
         Draw::PutTile {
             col,
@@ -194,7 +194,7 @@ pub fn draw_window(op: &Draw, window: &Window, stride: usize, pixels: &mut [Pixe
             content,
             ..
         } => {
-            tile_window(*col, *row, *repeat, content, window, stride, pixels);
+            tile_window(*col, *row, *repeat, content, region, stride, pixels);
         }
         Draw::DabsRound {
             x,
@@ -206,8 +206,8 @@ pub fn draw_window(op: &Draw, window: &Window, stride: usize, pixels: &mut [Pixe
             dabs,
             ..
         } => {
-            let stroke = stroke_of(Shape::Round, *x, *y, dabs);
-            stroke_window(*mode, opaque(*r, *g, *b), stroke, window, stride, pixels);
+            let run = dab_run_of(Shape::Round, *x, *y, dabs);
+            dab_run_region(*mode, opaque(*r, *g, *b), run, region, stride, pixels);
         }
         Draw::DabsSquare {
             x,
@@ -219,8 +219,8 @@ pub fn draw_window(op: &Draw, window: &Window, stride: usize, pixels: &mut [Pixe
             dabs,
             ..
         } => {
-            let stroke = stroke_of(Shape::Square, *x, *y, dabs);
-            stroke_window(*mode, opaque(*r, *g, *b), stroke, window, stride, pixels);
+            let run = dab_run_of(Shape::Square, *x, *y, dabs);
+            dab_run_region(*mode, opaque(*r, *g, *b), run, region, stride, pixels);
         }
         _ => {}
     }

@@ -5,7 +5,7 @@ ghost use Rattle.std.specs.Option.{option_map_or};
 ghost use Rattle.dp_blend.specs.Color.{Channels, of_argb};
 ghost use Rattle.dp_blend.specs.Blending.{blend};
 ghost use Rattle.dp_pixels.specs.Rectangles.{is_in, rect_at};
-ghost use Rattle.dp_pixels.specs.Drawing.{image_color, image_index};
+ghost use Rattle.dp_pixels.specs.Commands.{image_color, image_index};
 
 use crate::paint::Paint;
 use crate::rect::{Place, Rect};

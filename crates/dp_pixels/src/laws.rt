@@ -8,7 +8,7 @@ ghost use Rattle.dp_msg_draw.specs.declared.draw.Draw.{Draw};
 ghost use Rattle.dp_pixels.specs.declared.rect.Rect.{Rect};
 ghost use Rattle.dp_pixels.specs.Rectangles.{canvas_rect, clipped, is_in, share_place};
 ghost use Rattle.dp_pixels.specs.Colors.{FitsColors};
-ghost use Rattle.dp_pixels.specs.Drawing.{drawn};
+ghost use Rattle.dp_pixels.specs.Commands.{drawn};
 ghost use Rattle.dp_pixels.specs.Feet.{Footprint, feet_meet, foot, foot_layer, greatest_canvas};
 ghost use Rattle.dp_pixels.specs.Feet.{is_in_foot, squares_of, squares_shared};
 

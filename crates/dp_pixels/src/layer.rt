@@ -1,10 +1,10 @@
 //! Commands that are drawn on all pixels of a layer.
 
 ghost use Rattle.std.specs.Prelude.{◌≡◌, ◌*◌, false, length, IsOk, OnErr, OnOk};
-ghost use Rattle.dp_pixels.specs.Drawing.{is_move, pixels_after};
+ghost use Rattle.dp_pixels.specs.Commands.{is_move, pixels_after};
 
 use crate::canvas::draw_whole;
-use crate::moving::{Move, move_pixels};
+use crate::move_rect::{Move, move_pixels};
 use dp_blend::{Pixel, equal_canvases};
 use dp_msg_draw::Draw;
 use std::alloc::{AllocError, Global};

@@ -11,16 +11,16 @@ mod fill;
 mod image;
 mod laws;
 mod layer;
-mod moving;
+mod move_rect;
 mod paint;
 mod patch;
 mod place;
 mod rect;
 mod span;
 mod tiles;
-mod window;
+mod region;
 
-pub use draw::draw_window;
+pub use draw::draw_region;
 pub use laws::{
     feet_apart, pixels_stay_outside_the_foot, pixels_stay_pixels, shared_places,
     squares_are_counted, the_foot_tells_all,
@@ -28,7 +28,7 @@ pub use laws::{
 pub use layer::draw_pixels;
 pub use place::{covers, pixel_after};
 pub use rect::Rect;
-pub use window::Window;
+pub use region::Region;
 
 #[cfg(test)]
 mod tests;

@@ -1,13 +1,13 @@
-//! What a command or a dab does to the rows of a window.
+//! What a command or a dab does to the rows of a region.
 
 ghost use Rattle.std.specs.Prelude.{◌≡◌, ◌≤◌, ◌<◌, ◌*◌, ℕ, ℤ, pos, ◌+ℤ◌, false, length, slice_index_or};
 ghost use Rattle.dp_blend.specs.Color.{Channels};
 ghost use Rattle.dp_pixels.specs.declared.rect.Rect.{Rect as Area};
 ghost use Rattle.dp_pixels.specs.Rectangles.{is_in};
-ghost use Rattle.dp_pixels.specs.Windows.{IsPainted, IsRowIn, on_canvas};
+ghost use Rattle.dp_pixels.specs.Regions.{IsPainted, IsRowIn, on_canvas};
 
 use crate::rect::{Place, Rect};
-use crate::window::Window;
+use crate::region::Region;
 use dp_blend::Pixel;
 
 /// A change of pixels, each by its place and by the old pixel there.
@@ -30,27 +30,27 @@ pub(crate) trait Paint {
             ≡ change self.now (place.x +ℤ pos k) place.y (slice_index_or row.old k d) };
 }
 
-/// Changes the pixels of a window that are on its canvas, in a list whose rows are `stride` long.
-pub(crate) fn paint_window<P: Paint>(
+/// Changes the pixels of a region that are on its canvas, in a list whose rows are `stride` long.
+pub(crate) fn paint_region<P: Paint>(
     paint: &P,
-    window: &Window,
+    region: &Region,
     stride: usize,
     pixels: &mut [Pixel],
 )
-    requires wide { window.now.width ≤ stride }
-    requires long { window.now.height * stride ≤ length pixels.old }
-    ensures { IsPainted window.now stride (on_canvas window.now (P.change paint.now)) pixels.old pixels.new }
+    requires wide { region.now.width ≤ stride }
+    requires long { region.now.height * stride ≤ length pixels.old }
+    ensures { IsPainted region.now stride (on_canvas region.now (P.change paint.now)) pixels.old pixels.new }
 {
-    let part = window.part(paint.bounds());
-    if part.left >= part.right {
+    let clip = region.clip(paint.bounds());
+    if clip.left >= clip.right {
         return;
     }
-    for j in part.top..part.bottom {
+    for j in clip.top..clip.bottom {
         let place = Place {
-            x: window.x as i64 + part.left as i64,
-            y: window.y as i64 + j as i64,
+            x: region.x as i64 + clip.left as i64,
+            y: region.y as i64 + j as i64,
         };
         let start = j * stride;
-        paint.paint_row(place, &mut pixels[start + part.left..start + part.right]);
+        paint.paint_row(place, &mut pixels[start + clip.left..start + clip.right]);
     }
 }

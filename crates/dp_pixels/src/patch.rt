@@ -6,7 +6,7 @@ ghost use Rattle.dp_blend.specs.Blending.{blend};
 ghost use Rattle.dp_blend.specs.declared.modes.Mode.{Mode as BlendMode};
 ghost use Rattle.dp_pixels.specs.Near.{IsNear};
 ghost use Rattle.dp_pixels.specs.Rectangles.{is_in, rect_at};
-ghost use Rattle.dp_pixels.specs.Drawing.{image_index};
+ghost use Rattle.dp_pixels.specs.Commands.{image_index};
 
 use crate::paint::Paint;
 use crate::rect::{Place, Rect};
@@ -24,7 +24,7 @@ pub(crate) struct Patch<'a> {
 }
 
 impl Patch<'_> {
-    ghost use Rattle.dp_pixels.specs.Windows.{IsRowIn};
+    ghost use Rattle.dp_pixels.specs.Regions.{IsRowIn};
 
     /// The index of the first pixel of a row of so many.
     fn start(&self, place: Place, len: usize) -> usize

@@ -4,9 +4,9 @@ ghost use Rattle.std.specs.Prelude.{◌≡◌, pos, IsTrue};
 ghost use Rattle.dp_blend.specs.Color.{premultiplied};
 ghost use Rattle.dp_pixels.specs.Rectangles.{rect_at};
 ghost use Rattle.dp_pixels.specs.Dabs.{placed_dabs};
-ghost use Rattle.dp_pixels.specs.Drawing.{covers, filled, imaged, is_stamp, pixel_after, stroked};
+ghost use Rattle.dp_pixels.specs.Commands.{covers, filled, imaged, is_stamp, pixel_after, stroked};
 
-use crate::dabs::{Shape, Stroke};
+use crate::dabs::{Shape, DabRun};
 use crate::image::Image;
 use crate::rect::{Place, Rect};
 use dp_blend::{Mode, Pixel, blend, of_argb};
@@ -31,14 +31,14 @@ pub(crate) fn rect_of(x: u32, y: u32, w: u32, h: u32) -> Rect
 }
 
 /// The dabs of a message.
-pub(crate) fn stroke_of(shape: Shape, x: i32, y: i32, dabs: &Dabs) -> Stroke<'_>
+pub(crate) fn dab_run_of(shape: Shape, x: i32, y: i32, dabs: &Dabs) -> DabRun<'_>
     ensures shape { result.shape ≡ shape }
     ensures x { result.at.x ≡ x }
     ensures y { result.at.y ≡ y }
     ensures dabs { result.dabs.now ≡ dabs.now }
     ensures placed { placed_dabs result.at.x result.at.y result.dabs.now ≡ placed_dabs x y dabs.now }
 {
-    Stroke {
+    DabRun {
         shape,
         at: Place {
             x: x as i64,
@@ -59,8 +59,8 @@ pub fn covers(op: &Draw, x: i64, y: i64) -> bool
     match op {
         Draw::FillRect { x, y, w, h, .. } => rect_of(*x, *y, *w, *h).contains(place),
         Draw::PutImage { x, y, w, h, .. } => rect_of(*x, *y, *w, *h).contains(place),
-        Draw::DabsRound { x, y, dabs, .. } => stroke_of(Shape::Round, *x, *y, dabs).covers(place),
-        Draw::DabsSquare { x, y, dabs, .. } => stroke_of(Shape::Square, *x, *y, dabs).covers(place),
+        Draw::DabsRound { x, y, dabs, .. } => dab_run_of(Shape::Round, *x, *y, dabs).covers(place),
+        Draw::DabsSquare { x, y, dabs, .. } => dab_run_of(Shape::Square, *x, *y, dabs).covers(place),
         _ => false,
     }
 }
@@ -88,21 +88,19 @@ fn imaged(mode: u8, image: Image, place: Place, old: Pixel) -> Pixel
 }
 
 /// The pixel at a place after dabs, of the number of their mode.
-fn stroked(mode: u8, source: Pixel, stroke: Stroke, place: Place, old: Pixel) -> Pixel
+fn stroked(mode: u8, source: Pixel, run: DabRun, place: Place, old: Pixel) -> Pixel
     ensures { result
-        ≡ stroked mode source stroke.entry.shape
-        (placed_dabs stroke.entry.at.x stroke.entry.at.y stroke.entry.dabs.now)
+        ≡ stroked mode source run.entry.shape
+        (placed_dabs run.entry.at.x run.entry.at.y run.entry.dabs.now)
         place.x place.y old }
 {
     match Mode::from_u8(mode) {
-        Some(mode) => stroke.pixel_after(mode, source, place, old),
+        Some(mode) => run.pixel_after(mode, source, place, old),
         None => old,
     }
 }
 
 /// The pixel at a place after a fill, an image or dabs, of the old pixel there. It takes no memory.
-///
-/// The rule: docs/protocol.md, "Pixel commands".
 pub fn pixel_after(op: &Draw, x: i64, y: i64, old: Pixel) -> Pixel
     requires { IsTrue (is_stamp op.now) }
     ensures { result ≡ pixel_after op.now x y old }
@@ -146,8 +144,8 @@ pub fn pixel_after(op: &Draw, x: i64, y: i64, old: Pixel) -> Pixel
             dabs,
             ..
         } => {
-            let stroke = stroke_of(Shape::Round, *x, *y, dabs);
-            stroked(*mode, opaque(*r, *g, *b), stroke, place, old)
+            let run = dab_run_of(Shape::Round, *x, *y, dabs);
+            stroked(*mode, opaque(*r, *g, *b), run, place, old)
         }
         Draw::DabsSquare {
             x,
@@ -159,8 +157,8 @@ pub fn pixel_after(op: &Draw, x: i64, y: i64, old: Pixel) -> Pixel
             dabs,
             ..
         } => {
-            let stroke = stroke_of(Shape::Square, *x, *y, dabs);
-            stroked(*mode, opaque(*r, *g, *b), stroke, place, old)
+            let run = dab_run_of(Shape::Square, *x, *y, dabs);
+            stroked(*mode, opaque(*r, *g, *b), run, place, old)
         }
         _ => old,
     }

@@ -1,9 +1,9 @@
 //! Worked pixels.
 
 ghost use Rattle.std.specs.Prelude.{◌<◌, IsTrue};
-ghost use Rattle.dp_pixels.specs.Drawing.{is_stamp};
+ghost use Rattle.dp_pixels.specs.Commands.{is_stamp};
 
-use crate::{Window, covers, draw_pixels, draw_window, pixel_after};
+use crate::{Region, covers, draw_pixels, draw_region, pixel_after};
 use dp_blend::{Pixel, of_argb};
 use dp_msg_draw::{Colors, Dab, Dabs, Draw, TileContent, TilePixel, TilePixels};
 use std::alloc::Global;
@@ -307,7 +307,7 @@ fn fills_and_images_blend_where_they_cover(rt: HostRuntime) -> Result<(), Fail> 
 fn a_window_is_drawn_within_its_stride(rt: HostRuntime) {
     let op = fill(1, (0, 2, 3, 9), RED);
     let red = of_argb(RED);
-    let window = Window {
+    let region = Region {
         x: 1,
         y: 1,
         width: 3,
@@ -316,7 +316,7 @@ fn a_window_is_drawn_within_its_stride(rt: HostRuntime) {
         canvas_height: 4,
     };
     let mut pixels = [CLEAR; 10];
-    draw_window(&op, &window, 4, &mut pixels);
+    draw_region(&op, &region, 4, &mut pixels);
     for (k, pixel) in pixels.iter().enumerate() {
         assert_eq!(rt; *pixel == red, k == 4 || k == 5, "at {k}");
     }

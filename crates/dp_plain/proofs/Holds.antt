@@ -22,12 +22,12 @@ use Rattle.dp_layers.specs.Changes.{set_parent, new_row}
 use Rattle.dp_layers.specs.Changes.{behind, placed, has_effect, effect_on}
 use Rattle.dp_layers.specs.Changes.{rows_after, makes_paint_row}
 use Rattle.dp_layers.specs.Tree.{IsTree}
-use Rattle.dp_pixels.specs.Drawing.{pixels_after}
+use Rattle.dp_pixels.specs.Commands.{pixels_after}
 use Rattle.dp_plain.specs.Board.{Board, Covers, IsBoard}
-use Rattle.dp_plain.specs.Drawing.{is_side, side, with_sides, resized, new_content, arranged}
-use Rattle.dp_plain.specs.Drawing.{with_change, painted, draw}
-use Rattle.dp_plain.specs.Drawing.{IsArranging, pixels_moved}
-use Rattle.dp_plain.specs.Holding.{ContentsFit, IsHeld}
+use Rattle.dp_plain.specs.Commands.{is_side, side, with_sides, resized, new_content, arranged}
+use Rattle.dp_plain.specs.Commands.{with_change, painted, draw}
+use Rattle.dp_plain.specs.Commands.{IsArranging, pixels_moved}
+use Rattle.dp_plain.specs.Contents.{ContentsFit, IsHeld}
 use Rattle.dp_plain.proofs.Canvas.{length-canvas_of}
 use Rattle.dp_plain.proofs.Resizes.{side_bounds}
 use Rattle.dp_plain.proofs.Rows.{tree_of_contents, tree_changed}

@@ -10,9 +10,9 @@ use Rattle.std.proofs.Common.{to_z, of_z, w32, w64}
 use lib.IntN.{nat_abs}
 use Rattle.dp_blend.specs.Color.{Channels, clear}
 use Rattle.dp_blend.specs.Canvas.{below, canvas_of}
-use Rattle.dp_pixels.specs.Drawing.{pixel_of}
-use Rattle.dp_plain.specs.Drawing.{is_side, side, pixels_moved}
-use Rattle.dp_plain.specs.Moving.{pixel_in, row_moved}
+use Rattle.dp_pixels.specs.Commands.{pixel_of}
+use Rattle.dp_plain.specs.Commands.{is_side, side, pixels_moved}
+use Rattle.dp_plain.specs.Moves.{pixel_in, row_moved}
 use Rattle.dp_plain.proofs.Canvas.{is_canvas_of, canvas_of-more, row_more}
 
 -- ---- sides

@@ -8,7 +8,7 @@ use Rattle.std.proofs.lemmas.Option.{cond_some, none-some}
 use Rattle.dp_blend.specs.Color.{Channels}
 use Rattle.dp_layers.specs.Rows.{Row, map_contents}
 use Rattle.dp_plain.specs.Board.{Board}
-use Rattle.dp_plain.specs.Drawing.{is_side, side, pixels_moved, resized}
+use Rattle.dp_plain.specs.Commands.{is_side, side, pixels_moved, resized}
 
 -- the length of a side, where the whole number is one
 abbrev pub side_if : ℤ → Option ℕ

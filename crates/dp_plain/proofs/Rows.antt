@@ -13,7 +13,7 @@ use Rattle.dp_layers.specs.declared.row.LayerRow.{LayerRow}
 use Rattle.dp_layers.specs.Rows.{Row, layers_of, contents_of, content_of, fill_row, with_content}
 use Rattle.dp_layers.specs.Rows.{map_content, map_contents}
 use Rattle.dp_layers.specs.Tree.{IsLayerTree, IsTree}
-use Rattle.dp_plain.specs.Drawing.{with_change}
+use Rattle.dp_plain.specs.Commands.{with_change}
 
 -- ---- maps
 

@@ -8,8 +8,8 @@ use Rattle.dp_blend.specs.Canvas.{pixel_at}
 use Rattle.dp_layers.specs.Rows.{Row, layers_of, content_of, with_content, map_content, map_contents}
 use Rattle.dp_layers.specs.Tree.{IsTree}
 use Rattle.dp_plain.specs.Board.{Board}
-use Rattle.dp_plain.specs.Drawing.{with_change}
-use Rattle.dp_plain.specs.Viewing.{pixel_in}
+use Rattle.dp_plain.specs.Commands.{with_change}
+use Rattle.dp_plain.specs.View.{pixel_in}
 use Rattle.dp_plain.proofs.Rows.{HaveIds, layers_of-map, content_of-mapped, tree_of_contents}
 use Rattle.dp_plain.proofs.Rows.{filled-mapped, changed_none, changed_some}
 

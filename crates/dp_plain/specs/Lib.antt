@@ -1,10 +1,10 @@
 pub mod Board
-pub mod Drawing
-pub mod Holding
+pub mod Commands
+pub mod Contents
 pub mod Weights
-pub mod Resizing
-pub mod Moving
-pub mod Viewing
+pub mod Resizes
+pub mod Moves
+pub mod View
 pub mod Picture
 pub mod Replay
 pub mod Kinds

@@ -66,7 +66,7 @@ picture_text format pixel_text board =
 abbrev pub rgb : Channels → List ℕ
 rgb p = to8 p.r ∷ to8 p.g ∷ to8 p.b ∷ []
 
--- the line of a pixel: red, green and blue in decimal, parted by a space
+-- the line of a pixel: red, green and blue in decimal, separated by a space
 abbrev pub rgb_line : Channels → List ℕ
 rgb_line p =
     decimal (to8 p.r) ++ codes " " ++ decimal (to8 p.g) ++ codes " " ++ decimal (to8 p.b)

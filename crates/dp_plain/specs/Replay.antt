@@ -11,7 +11,7 @@ use Rattle.dp_board.specs.declared.act.Act.TheVariants as act
 use Rattle.dp_board.specs.declared.act.UserAct.{UserAct}
 use Rattle.dp_board.specs.Replay as strokes
 use Rattle.dp_plain.specs.Board.{Board, empty_board}
-use Rattle.dp_plain.specs.Drawing.{draw}
+use Rattle.dp_plain.specs.Commands.{draw}
 
 -- the user whose group an undo or a redo moves: the target, or the sender where it is 0
 abbrev pub moved_user : ℕ → ℕ → ℕ
@@ -56,7 +56,7 @@ is_mark_message m = false
 abbrev pub is_mark : Entry → Bool
 is_mark entry = is_mark_message entry.msg
 
--- what a history shows on a board of any kind: the replay of its entries behind the last mark, of all
+-- what a history shows on a board of any kind: the replay of its entries after the last mark, of all
 -- where there is none
 abbrev pub shown_on : {B : Type 0} → (B → Draw → B) → B → List Entry → B
 shown_on draw blank entries = replay_on draw blank (after_last is_mark entries)

@@ -1,7 +1,7 @@
 //! How the sides of a canvas change.
 
 ghost use Rattle.std.specs.Prelude.{◌≡◌, ◌≤◌, pos, ◌+ℤ◌, Some, None, IfSome, if◌then◌else◌};
-ghost use Rattle.dp_plain.specs.Drawing.{is_side, side};
+ghost use Rattle.dp_plain.specs.Commands.{is_side, side};
 
 /// How a canvas is resized: its sides, the new sides, all at most 4096 pixels, and where its left upper
 /// corner goes.

@@ -4,10 +4,10 @@ ghost use Rattle.std.specs.Prelude.{◌≡◌, ◌+◌, ◌*◌, ◌≤◌, fals
 ghost use Rattle.dp_layers.specs.Layers.{row_limit};
 ghost use Rattle.dp_layers.specs.Changes.{IsCreate};
 ghost use Rattle.dp_plain.specs.Board.{empty_board, IsBoard};
-ghost use Rattle.dp_plain.specs.Drawing.{draw, resized, arranged, painted, painted_layer, IsArranging};
+ghost use Rattle.dp_plain.specs.Commands.{draw, resized, arranged, painted, painted_layer, IsArranging};
 ghost use Rattle.dp_plain.specs.Weights.{board_weight};
 
-use crate::content::Content;
+use crate::layer_pixels::LayerPixels;
 use crate::geometry::{Resize, new_side};
 use crate::plain::PlainPixels;
 use crate::trees::{arrange_rows, new_content, paint_content, resized_tree, shared_tree};
@@ -24,7 +24,7 @@ use std::sync::ledger::Ledger;
 /// A board whose paint layers hold contents of one kind. It is seen as a `Board` of the definitions,
 /// with the pixels of each content.
 #[derive(Drop)]
-pub struct LayeredBoard<C: Content> {
+pub struct LayeredBoard<C: LayerPixels> {
     width: u32,
     height: u32,
     background: u32,
@@ -32,10 +32,10 @@ pub struct LayeredBoard<C: Content> {
     alloc: Global,
 }
 
-impl<C: Content> Model for LayeredBoard<C> {
+impl<C: LayerPixels> Model for LayeredBoard<C> {
     ghost use Rattle.dp_layers.specs.Rows.{map_contents};
     ghost use Rattle.dp_plain.specs.Board.{Board};
-    ghost use Rattle.dp_plain.specs.Holding.{IsHeld};
+    ghost use Rattle.dp_plain.specs.Contents.{IsHeld};
 
     ghost Value = { Board };
 
@@ -49,7 +49,7 @@ impl<C: Content> Model for LayeredBoard<C> {
     ghost invariant = { λ b. IsHeld C.fits b.width b.height b.tree };
 }
 
-impl<C: Content> LayeredBoard<C> {
+impl<C: LayerPixels> LayeredBoard<C> {
     /// The board before anything is drawn: 0 by 0, without rows.
     pub fn new(alloc: Global) -> Self
         ensures { result ≡ empty_board }
@@ -181,7 +181,7 @@ impl<C: Content> LayeredBoard<C> {
     }
 }
 
-impl<C: Content> Board for LayeredBoard<C> {
+impl<C: LayerPixels> Board for LayeredBoard<C> {
     type Op = Draw;
 
     ghost is_board = { IsBoard };
@@ -235,7 +235,7 @@ impl<C: Content> Board for LayeredBoard<C> {
     }
 }
 
-impl<C: Content> BoardView for LayeredBoard<C> {
+impl<C: LayerPixels> BoardView for LayeredBoard<C> {
     ghost board = { λ board. board };
 
     fn width(&self) -> u32 {

@@ -1,10 +1,10 @@
 //! The board of a session, and the replay of a history on it.
 //!
-//! What a layer holds is a `Content`; a `LayeredBoard` draws every command on contents of one kind. The
+//! What a layer holds is a `LayerPixels`; a `LayeredBoard` draws every command on contents of one kind. The
 //! boards over plain lists of pixels (`PlainBoard`) are the slow ones with which others are compared.
 #![tactic(auto)]
 
-mod content;
+mod layer_pixels;
 mod geometry;
 mod layered;
 mod plain;
@@ -13,7 +13,7 @@ mod resize;
 mod trees;
 mod view;
 
-pub use content::Content;
+pub use layer_pixels::LayerPixels;
 pub use geometry::Resize;
 pub use layered::LayeredBoard;
 pub use plain::{PlainBoard, PlainPixels};

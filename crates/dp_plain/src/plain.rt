@@ -2,7 +2,7 @@
 
 ghost use Rattle.std.specs.Prelude.{◌≡◌, ◌*◌, length};
 
-use crate::content::Content;
+use crate::layer_pixels::LayerPixels;
 use crate::geometry::Resize;
 use crate::layered::LayeredBoard;
 use crate::resize::moved_pixels;
@@ -32,7 +32,7 @@ impl Model for PlainPixels {
     ghost view = { λ p. p.pixels.items };
 }
 
-impl Content for PlainPixels {
+impl LayerPixels for PlainPixels {
     ghost pixels = { λ width height pixels. pixels };
 
     ghost fits = { λ width height pixels. length pixels ≡ width * height };
@@ -41,7 +41,7 @@ impl Content for PlainPixels {
 
     ghost resizing = { 0 };
 
-    fn stand_in(alloc: Global) -> Self {
+    fn placeholder(alloc: Global) -> Self {
         PlainPixels {
             pixels: Vec::new(alloc),
         }

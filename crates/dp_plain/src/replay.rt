@@ -21,10 +21,6 @@ const UNDO_DEPTH: u32 = 30;
 
 /// What an entry does to strokes, with a copy of its command.
 /// The rule: docs/protocol.md, "Strokes, undo and redo".
-///
-/// # Errors
-///
-/// Where memory runs out.
 pub fn act_of(entry: &Entry) -> Result<Act<Draw>, AllocError>
     ensures { IfOk result (λ act. act ≡ act_of entry.now) }
 {
@@ -46,19 +42,14 @@ pub fn act_of(entry: &Entry) -> Result<Act<Draw>, AllocError>
 }
 
 /// Whether the message is a command.
-/// The rule: docs/protocol.md, "Strokes, undo and redo".
 pub fn is_command(msg: &Msg) -> bool
     ensures { result ≡ is_command msg.now }
 {
     matches!(msg, Msg::Draw(_))
 }
 
-/// The board that the history shows: its commands behind the last mark of a reset but for the undone
-/// ones, drawn in its order on a plain board. The rule: docs/protocol.md, "Strokes, undo and redo".
-///
-/// # Errors
-///
-/// Where memory runs out.
+/// The board that the history shows: its commands after the last mark of a reset but for the undone
+/// ones, drawn in its order on a plain board.
 pub fn plain_replay<D: Ledger, T: Ledger>(
     alloc: Global,
     entries: &[Entry],
@@ -71,10 +62,6 @@ pub fn plain_replay<D: Ledger, T: Ledger>(
 }
 
 /// The same on any board, from the board `blank`. It draws each of these commands once.
-///
-/// # Errors
-///
-/// Where memory runs out.
 pub fn show_on<B: Board<Op = Draw>, D: Ledger, T: Ledger>(
     alloc: Global,
     blank: B,
@@ -89,7 +76,7 @@ pub fn show_on<B: Board<Op = Draw>, D: Ledger, T: Ledger>(
     replay_on(alloc, blank, &entries[epoch_start(entries)..], draws, tiles)
 }
 
-/// The place of the first entry behind the last mark of a reset, 0 where there is none.
+/// The place of the first entry after the last mark of a reset, 0 where there is none.
 fn epoch_start(entries: &[Entry]) -> usize
     ensures within { result ≤ length entries.now }
     ensures behind { drop result entries.now ≡ after_last is_mark entries.now }
@@ -109,11 +96,7 @@ fn is_mark(entry: &Entry) -> bool
 }
 
 /// The commands of the entries but for the undone ones, drawn in their order on the board. It draws each
-/// of them once. The rule: docs/protocol.md, "Strokes, undo and redo".
-///
-/// # Errors
-///
-/// Where memory runs out.
+/// of them once.
 pub fn replay_on<B: Board<Op = Draw>, D: Ledger, T: Ledger>(
     alloc: Global,
     mut board: B,

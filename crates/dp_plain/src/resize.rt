@@ -1,9 +1,9 @@
 //! The layers of a canvas that gets new sides.
 
 ghost use Rattle.std.specs.Prelude.{◌≡◌, ◌*◌, ◌≤◌, ℤ, ◌++◌, length, IfOk, OnOk};
-ghost use Rattle.dp_pixels.specs.Drawing.{pixel_of};
-ghost use Rattle.dp_plain.specs.Moving.{pixel_in, row_moved};
-ghost use Rattle.dp_plain.specs.Resizing.{pixels_resized};
+ghost use Rattle.dp_pixels.specs.Commands.{pixel_of};
+ghost use Rattle.dp_plain.specs.Moves.{pixel_in, row_moved};
+ghost use Rattle.dp_plain.specs.Resizes.{pixels_resized};
 
 use crate::geometry::Resize;
 use dp_blend::Pixel;

@@ -9,12 +9,12 @@ ghost use Rattle.dp_layers.specs.Changes.{IsCreate, makes_paint_row, rows_after}
 ghost use Rattle.dp_layers.specs.Layers.{row_limit};
 ghost use Rattle.dp_layers.specs.Rows.{map_contents, contents_of};
 ghost use Rattle.dp_layers.specs.Tree.{IsTree};
-ghost use Rattle.dp_pixels.specs.Drawing.{pixels_after};
-ghost use Rattle.dp_plain.specs.Drawing.{painted_layer, with_change, IsArranging};
-ghost use Rattle.dp_plain.specs.Resizing.{pixels_resized};
-ghost use Rattle.dp_plain.specs.Holding.{ContentsFit, IsHeld};
+ghost use Rattle.dp_pixels.specs.Commands.{pixels_after};
+ghost use Rattle.dp_plain.specs.Commands.{painted_layer, with_change, IsArranging};
+ghost use Rattle.dp_plain.specs.Resizes.{pixels_resized};
+ghost use Rattle.dp_plain.specs.Contents.{ContentsFit, IsHeld};
 
-use crate::content::Content;
+use crate::layer_pixels::LayerPixels;
 use crate::geometry::Resize;
 use crate::plain::PlainPixels;
 use dp_layers::{Tree, contents_in_order, contents_ride_along, one_tree, trees_stay_trees};
@@ -24,7 +24,7 @@ use std::alloc::{AllocError, Global};
 use std::sync::ledger::Ledger;
 
 /// What a new row holds: a clear content, if it is a paint row.
-pub(crate) fn new_content<C: Content, T: Ledger>(
+pub(crate) fn new_content<C: LayerPixels, T: Ledger>(
     alloc: Global,
     op: &Draw,
     width: u32,
@@ -63,7 +63,7 @@ pub(crate) fn arrange_rows<X: Drop>(tree: &mut Tree<X>, op: &Draw) -> Result<(),
 }
 
 /// Draws a command on the content of the paint layer of the id, if there is one.
-pub(crate) fn paint_content<C: Content, T: Ledger>(
+pub(crate) fn paint_content<C: LayerPixels, T: Ledger>(
     tree: &mut Tree<C>,
     alloc: Global,
     width: u32,
@@ -86,14 +86,14 @@ pub(crate) fn paint_content<C: Content, T: Ledger>(
     if tree.content(id).is_none() {
         return Ok(());
     }
-    let mut content = tree.put_content(id, C::stand_in(alloc));
+    let mut content = tree.put_content(id, C::placeholder(alloc));
     let painted = content.paint(alloc, width, height, op, tiles);
     let _stand_in = tree.put_content(id, content);
     painted
 }
 
 /// The tree on a canvas of the new sides.
-pub(crate) fn resized_tree<C: Content, T: Ledger>(
+pub(crate) fn resized_tree<C: LayerPixels, T: Ledger>(
     alloc: Global,
     tree: &Tree<C>,
     change: Resize,
@@ -118,7 +118,7 @@ pub(crate) fn resized_tree<C: Content, T: Ledger>(
 }
 
 /// What the paint rows hold, in order, on a canvas of the new sides.
-fn resized_contents<C: Content, T: Ledger>(
+fn resized_contents<C: LayerPixels, T: Ledger>(
     alloc: Global,
     tree: &Tree<C>,
     change: Resize,
@@ -145,7 +145,7 @@ fn resized_contents<C: Content, T: Ledger>(
 }
 
 /// A tree of equal contents. It makes no tile.
-pub(crate) fn shared_tree<C: Content, T: Ledger>(
+pub(crate) fn shared_tree<C: LayerPixels, T: Ledger>(
     alloc: Global,
     tree: &Tree<C>,
     tiles: &mut Steps<T>,
@@ -162,7 +162,7 @@ pub(crate) fn shared_tree<C: Content, T: Ledger>(
 }
 
 /// Contents equal to those of the paint rows, in order.
-fn shared_contents<C: Content, T: Ledger>(
+fn shared_contents<C: LayerPixels, T: Ledger>(
     alloc: Global,
     tree: &Tree<C>,
     tiles: &mut Steps<T>,

@@ -5,7 +5,7 @@ ghost use Rattle.dp_layers.specs.Layers.{is_paint_row};
 ghost use Rattle.dp_layers.specs.Rows.{layers_of};
 ghost use Rattle.dp_plain.specs.Board.{Board, IsBoard};
 ghost use Rattle.dp_plain.specs.Picture.{pixels_of};
-ghost use Rattle.dp_plain.specs.Viewing.{pixel_in, pixels_in_row};
+ghost use Rattle.dp_plain.specs.View.{pixel_in, pixels_in_row};
 
 use dp_blend::Pixel;
 use dp_layers::LayerRow;

@@ -5,13 +5,13 @@ use Rattle.dp_messages.specs.declared.message.Msg.{Msg}
 use Rattle.dp_messages.specs.Messages.{Spells}
 use Rattle.dp_schedule.specs.declared.action.Action.{Action}
 use Rattle.dp_schedule.specs.declared.action.Action.TheVariants.{Join, Act, Show}
-use Rattle.dp_schedule.specs.declared.action.Deed.{Deed}
-use Rattle.dp_schedule.specs.declared.action.Deed.TheVariants.{Say, Up, Take, Leave, Cut}
-use Rattle.dp_schedule.specs.declared.action.Shown.{Shown}
-use Rattle.dp_schedule.specs.declared.action.Shown.TheVariants.{View, Confirmed}
-use Rattle.dp_schedule.specs.Asking.{Asks, NamesClient, EndsIn, TellsMessage, join_word, deed_word, shown_word}
+use Rattle.dp_schedule.specs.declared.action.Instruction.{Instruction}
+use Rattle.dp_schedule.specs.declared.action.Instruction.TheVariants.{Say, Up, Take, Leave, Cut}
+use Rattle.dp_schedule.specs.declared.action.CanvasKind.{CanvasKind}
+use Rattle.dp_schedule.specs.declared.action.CanvasKind.TheVariants.{View, Confirmed}
+use Rattle.dp_schedule.specs.LineGrammar.{Parses, NamesClient, EndsIn, HexSpells, join_word, instruction_word, canvas_word}
 
--- the sort of a first word, by its fourth byte: 0 that of a join, 1 of a deed, 2 of a canvas
+-- the sort of a first word, by its fourth byte: 0 that of a join, 1 of an instruction, 2 of a canvas
 sort_by : ℕ → ℕ
 sort_by byte =
     if byte == 110 || byte == 98 then 0 else (if byte == 119 || byte == 102 then 2 else 1)
@@ -24,7 +24,7 @@ unfolding sort_by
 sort_of_join true = refl
 sort_of_join false = refl
 
-sort_of_deed : (deed : Deed) → sort_of (deed_word deed) ≡ 1
+sort_of_deed : (instruction : Instruction) → sort_of (instruction_word instruction) ≡ 1
 unfolding sort_by
 sort_of_deed (Say m) = refl
 sort_of_deed Up = refl
@@ -32,33 +32,33 @@ sort_of_deed Take = refl
 sort_of_deed Leave = refl
 sort_of_deed Cut = refl
 
-sort_of_shown : (shown : Shown) → sort_of (shown_word shown) ≡ 2
+sort_of_shown : (kind : CanvasKind) → sort_of (canvas_word kind) ≡ 2
 unfolding sort_by
 sort_of_shown View = refl
 sort_of_shown Confirmed = refl
 
 -- words of two sorts are not one
-join_or_deed : (registered : Bool) (deed : Deed) → join_word registered ≡ deed_word deed → ⊥
-join_or_deed registered deed same =
-    omega (arith, ap sort_of same, sort_of_join registered, sort_of_deed deed)
+join_or_deed : (registered : Bool) (instruction : Instruction) → join_word registered ≡ instruction_word instruction → ⊥
+join_or_deed registered instruction same =
+    omega (arith, ap sort_of same, sort_of_join registered, sort_of_deed instruction)
 
-join_or_shown : (registered : Bool) (shown : Shown) → join_word registered ≡ shown_word shown → ⊥
-join_or_shown registered shown same =
-    omega (arith, ap sort_of same, sort_of_join registered, sort_of_shown shown)
+join_or_shown : (registered : Bool) (kind : CanvasKind) → join_word registered ≡ canvas_word kind → ⊥
+join_or_shown registered kind same =
+    omega (arith, ap sort_of same, sort_of_join registered, sort_of_shown kind)
 
-deed_or_shown : (deed : Deed) (shown : Shown) → deed_word deed ≡ shown_word shown → ⊥
-deed_or_shown deed shown same =
-    omega (arith, ap sort_of same, sort_of_deed deed, sort_of_shown shown)
+deed_or_shown : (instruction : Instruction) (kind : CanvasKind) → instruction_word instruction ≡ canvas_word kind → ⊥
+deed_or_shown instruction kind same =
+    omega (arith, ap sort_of same, sort_of_deed instruction, sort_of_shown kind)
 
--- who is registered, which canvas is shown and which deed without a message is done, by the first
+-- who is registered, which canvas is shown and which instruction without a message is done, by the first
 -- byte of the word
 registered_by : ℕ → Bool
 registered_by byte = byte == 109
 
-shown_by : ℕ → Shown
+shown_by : ℕ → CanvasKind
 shown_by byte = if byte == 118 then View else Confirmed
 
-deed_by : ℕ → Deed
+deed_by : ℕ → Instruction
 deed_by byte =
     if byte == 117 then Up else (if byte == 116 then Take else (if byte == 108 then Leave else Cut))
 
@@ -67,12 +67,12 @@ unfolding registered_by
 registered_back true = refl
 registered_back false = refl
 
-shown_back : (shown : Shown) → shown_by (get_or (shown_word shown) 0 0) ≡ shown
+shown_back : (kind : CanvasKind) → shown_by (get_or (canvas_word kind) 0 0) ≡ kind
 unfolding shown_by
 shown_back View = refl
 shown_back Confirmed = refl
 
-deed_back : (deed : Deed) → EndsIn deed [] → deed_by (get_or (deed_word deed) 0 0) ≡ deed
+deed_back : (instruction : Instruction) → EndsIn instruction [] → deed_by (get_or (instruction_word instruction) 0 0) ≡ instruction
 unfolding deed_by
 deed_back (Say m) (word, ends, tells) = absurd (cc (ends))
 deed_back Up ends = refl
@@ -85,7 +85,7 @@ one_registered r s same =
     sym (registered_back r)
     ∙ ap (λ (w : List ℕ). registered_by (get_or w 0 0)) same ∙ registered_back s
 
-one_shown : (s t : Shown) → shown_word s ≡ shown_word t → s ≡ t
+one_shown : (s t : CanvasKind) → canvas_word s ≡ canvas_word t → s ≡ t
 one_shown s t same =
     sym (shown_back s) ∙ ap (λ (w : List ℕ). shown_by (get_or w 0 0)) same ∙ shown_back t
 
@@ -98,7 +98,7 @@ OneMessage =
     (kind : ℕ) (payload : List ℕ) (m n : Msg) → Spells kind payload m → Spells kind payload n → m ≡ n
 
 -- a word tells one message
-one_told : OneMessage → (word : List ℕ) (m n : Msg) → TellsMessage word m → TellsMessage word n → m ≡ n
+one_told : OneMessage → (word : List ℕ) (m n : Msg) → HexSpells word m → HexSpells word n → m ≡ n
 one_told law word m n first second =
     let digits = first.digits in
     let others = second.digits in
@@ -110,27 +110,27 @@ one_told law word m n first second =
     (subst (λ (k : ℕ). Spells k first.may.payload n) kinds
     (subst (λ (p : List ℕ). Spells second.may.kind p n) payloads second.may.spelled))
 
--- a deed with a word behind the client's number says the message that the word tells
-tells_of : (deed : Deed) (word : List ℕ) (behind : List (List ℕ)) → EndsIn deed (word ∷ behind)
-    → (m : Msg) × (deed ≡ Say m) × TellsMessage word m
+-- an instruction with a word after the client's number says the message that the word tells
+tells_of : (instruction : Instruction) (word : List ℕ) (behind : List (List ℕ)) → EndsIn instruction (word ∷ behind)
+    → (m : Msg) × (instruction ≡ Say m) × HexSpells word m
 tells_of (Say m) word behind (other, ends, tells) =
     let same : other ≡ word = cc in
-    (m, refl, subst (λ (w : List ℕ). TellsMessage w m) same tells)
+    (m, refl, subst (λ (w : List ℕ). HexSpells w m) same tells)
 tells_of Up word behind ends = absurd (cc (ends))
 tells_of Take word behind ends = absurd (cc (ends))
 tells_of Leave word behind ends = absurd (cc (ends))
 tells_of Cut word behind ends = absurd (cc (ends))
 
--- one word and one tail are of one deed
-one_deed : OneMessage → (d e : Deed) (tail : List (List ℕ)) → deed_word d ≡ deed_word e
+-- one word and one tail are of one instruction
+one_deed : OneMessage → (d e : Instruction) (tail : List (List ℕ)) → instruction_word d ≡ instruction_word e
     → EndsIn d tail → EndsIn e tail → d ≡ e
 one_deed law d e [] same first second =
     sym (deed_back d first)
     ∙ ap (λ (w : List ℕ). deed_by (get_or w 0 0)) same ∙ deed_back e second
 one_deed law d e (word ∷ behind) same first second =
     let (m, is, tells) = tells_of d word behind first in
-    let (n, other, told) = tells_of e word behind second in
-    is ∙ ap Say (one_told law word m n tells told) ∙ sym other
+    let (n, other, line) = tells_of e word behind second in
+    is ∙ ap Say (one_told law word m n tells line) ∙ sym other
 
 -- one word is one client's number
 one_client : OneNumber → (line first other : List ℕ) (m n : ℕ) (tail rest : List (List ℕ))
@@ -143,44 +143,44 @@ one_client law line first other m n tail rest names others =
 
 -- a line asks for one thing
 pub one_asked : OneNumber → OneMessage → (line : List ℕ) (action other : Action)
-    → Asks line action → Asks line other → action ≡ other
+    → Parses line action → Parses line other → action ≡ other
 one_asked numbers messages line (Join name r) (Join title s) first second =
     let words : join_word r ≡ join_word s = cc in
     let registered = one_registered r s words in
     let names : name ≡ title = cc in
     cc
-one_asked numbers messages line (Join name r) (Act client deed) first (tail, names, ends) =
+one_asked numbers messages line (Join name r) (Act client instruction) first (tail, names, ends) =
     let parts = names.parts in
-    absurd (join_or_deed r deed cc)
-one_asked numbers messages line (Join name r) (Show client shown) first names =
+    absurd (join_or_deed r instruction cc)
+one_asked numbers messages line (Join name r) (Show client kind) first names =
     let parts = names.parts in
-    absurd (join_or_shown r shown cc)
-one_asked numbers messages line (Act client deed) (Join name r) (tail, names, ends) second =
+    absurd (join_or_shown r kind cc)
+one_asked numbers messages line (Act client instruction) (Join name r) (tail, names, ends) second =
     let parts = names.parts in
-    absurd (join_or_deed r deed cc)
+    absurd (join_or_deed r instruction cc)
 one_asked numbers messages line (Act m d) (Act n e) (tail, names, ends) (rest, others, ending) =
     let parts = names.parts in
     let pieces = others.parts in
-    let words : deed_word d ≡ deed_word e = cc in
+    let words : instruction_word d ≡ instruction_word e = cc in
     let tails : rest ≡ tail = cc in
-    let clients = one_client numbers line (deed_word d) (deed_word e) m n tail rest names others in
-    let deeds = one_deed messages d e tail words ends (subst (EndsIn e) tails ending) in
+    let clients = one_client numbers line (instruction_word d) (instruction_word e) m n tail rest names others in
+    let instructions = one_deed messages d e tail words ends (subst (EndsIn e) tails ending) in
     cc
-one_asked numbers messages line (Act client deed) (Show n shown) (tail, names, ends) others =
+one_asked numbers messages line (Act client instruction) (Show n kind) (tail, names, ends) others =
     let parts = names.parts in
     let pieces = others.parts in
-    absurd (deed_or_shown deed shown cc)
-one_asked numbers messages line (Show client shown) (Join name r) names second =
+    absurd (deed_or_shown instruction kind cc)
+one_asked numbers messages line (Show client kind) (Join name r) names second =
     let parts = names.parts in
-    absurd (join_or_shown r shown cc)
-one_asked numbers messages line (Show n shown) (Act client deed) others (tail, names, ends) =
+    absurd (join_or_shown r kind cc)
+one_asked numbers messages line (Show n kind) (Act client instruction) others (tail, names, ends) =
     let parts = names.parts in
     let pieces = others.parts in
-    absurd (deed_or_shown deed shown cc)
+    absurd (deed_or_shown instruction kind cc)
 one_asked numbers messages line (Show m s) (Show n t) names others =
     let parts = names.parts in
     let pieces = others.parts in
-    let words : shown_word s ≡ shown_word t = cc in
-    let clients = one_client numbers line (shown_word s) (shown_word t) m n [] [] names others in
+    let words : canvas_word s ≡ canvas_word t = cc in
+    let clients = one_client numbers line (canvas_word s) (canvas_word t) m n [] [] names others in
     let canvases = one_shown s t words in
     cc

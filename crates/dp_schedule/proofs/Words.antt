@@ -6,9 +6,9 @@ use Rattle.dp_lines.specs.Lines.{words}
 use Rattle.dp_messages.specs.declared.message.Msg.{Msg}
 use Rattle.dp_schedule.specs.declared.action.Action.{Action}
 use Rattle.dp_schedule.specs.declared.action.Action.TheVariants.{Join, Act, Show}
-use Rattle.dp_schedule.specs.declared.action.Deed.TheVariants.{Say, Up, Take, Leave, Cut}
-use Rattle.dp_schedule.specs.Asking.{Asks, TellsMessage}
-use Rattle.dp_schedule.specs.Reading.{WordsAsk}
+use Rattle.dp_schedule.specs.declared.action.Instruction.TheVariants.{Say, Up, Take, Leave, Cut}
+use Rattle.dp_schedule.specs.LineGrammar.{Parses, HexSpells}
+use Rattle.dp_schedule.specs.WordGrammar.{WordsParse}
 
 -- a list with two items and no third
 pub two_words : (all : List (List ℕ)) (first second : List ℕ)
@@ -38,40 +38,40 @@ no_word (Some word) item same none = absurd (cc (none))
 
 -- what the words ask for, the line does
 line_asks : (line : List ℕ) (all : List (List ℕ)) → words line ≡ all
-    → (action : Action) → WordsAsk all action → Asks line action
+    → (action : Action) → WordsParse all action → Parses line action
 line_asks line all same (Join name registered) asks = same ∙ asks
-line_asks line all same (Act client deed) (tail, names, ends) = (
+line_asks line all same (Act client instruction) (tail, names, ends) = (
   tail,
   record { word = names.word; parts = same ∙ names.parts; number = names.number },
   ends,
 )
-line_asks line all same (Show client shown) names =
+line_asks line all same (Show client kind) names =
     record { word = names.word; parts = same ∙ names.parts; number = names.number }
 
 -- what the line asks for, its words do
 words_ask : (line : List ℕ) (all : List (List ℕ)) → words line ≡ all
-    → (action : Action) → Asks line action → WordsAsk all action
+    → (action : Action) → Parses line action → WordsParse all action
 words_ask line all same (Join name registered) asks = sym same ∙ asks
-words_ask line all same (Act client deed) (tail, names, ends) = (
+words_ask line all same (Act client instruction) (tail, names, ends) = (
   tail,
   record { word = names.word; parts = sym same ∙ names.parts; number = names.number },
   ends,
 )
-words_ask line all same (Show client shown) names =
+words_ask line all same (Show client kind) names =
     record { word = names.word; parts = sym same ∙ names.parts; number = names.number }
 
 -- the answer to the words is the answer to the line
 pub found_asked : {E : Type 0} (line : List ℕ) (all : List (List ℕ)) → words line ≡ all
     → (r : Result (Option Action) E)
-    → IfOk r (λ found. IfSome found (WordsAsk all)) → IfOk r (λ found. IfSome found (Asks line))
+    → IfOk r (λ found. IfSome found (WordsParse all)) → IfOk r (λ found. IfSome found (Parses line))
 found_asked line all same (Err e) asks = tt
 found_asked line all same (Ok None) asks = tt
 found_asked line all same (Ok (Some action)) asks = line_asks line all same action asks
 
 pub none_asked : {E : Type 0} (line : List ℕ) (all : List (List ℕ)) → words line ≡ all
     → (r : Result (Option Action) E)
-    → IfOk r (λ found. IfNone found ((action : Action) → ¬ WordsAsk all action))
-    → IfOk r (λ found. IfNone found ((action : Action) → ¬ Asks line action))
+    → IfOk r (λ found. IfNone found ((action : Action) → ¬ WordsParse all action))
+    → IfOk r (λ found. IfNone found ((action : Action) → ¬ Parses line action))
 none_asked line all same (Err e) none = tt
 none_asked line all same (Ok (Some action)) none = tt
 none_asked line all same (Ok None) none =
@@ -79,14 +79,14 @@ none_asked line all same (Ok None) none =
 
 -- three words ask for a message that the third tells
 pub third_tells : (first second third : List ℕ) (action : Action)
-    → WordsAsk (first ∷ second ∷ third ∷ []) action → (m : Msg) × TellsMessage third m
+    → WordsParse (first ∷ second ∷ third ∷ []) action → (m : Msg) × HexSpells third m
 third_tells first second third (Join name registered) asks = absurd (cc (asks))
 third_tells first second third (Act client (Say m)) (tail, names, (word, ends, tells)) =
     let parts = names.parts in
     let same : word ≡ third = cc in
-    (m, subst (λ (w : List ℕ). TellsMessage w m) same tells)
+    (m, subst (λ (w : List ℕ). HexSpells w m) same tells)
 third_tells first second third (Act client Up) (tail, names, ends) = let parts = names.parts in absurd (cc (parts, ends))
 third_tells first second third (Act client Take) (tail, names, ends) = let parts = names.parts in absurd (cc (parts, ends))
 third_tells first second third (Act client Leave) (tail, names, ends) = let parts = names.parts in absurd (cc (parts, ends))
 third_tells first second third (Act client Cut) (tail, names, ends) = let parts = names.parts in absurd (cc (parts, ends))
-third_tells first second third (Show client shown) names = let parts = names.parts in absurd (cc (parts))
+third_tells first second third (Show client kind) names = let parts = names.parts in absurd (cc (parts))

@@ -5,7 +5,7 @@ use dp_messages::Msg;
 
 /// What a client does.
 #[derive(Debug, Drop)]
-pub enum Deed {
+pub enum Instruction {
     /// It says a message, which joins its unanswered sends and its uplink.
     Say(Msg),
     /// The server takes the next message of its uplink.
@@ -20,7 +20,7 @@ pub enum Deed {
 
 /// A canvas of a client.
 #[derive(Clone, Copy, Debug, PartialEq, Eq)]
-pub enum Shown {
+pub enum CanvasKind {
     /// The entries that it has taken, and its unanswered sends.
     View,
     /// The entries that it has taken.
@@ -33,7 +33,7 @@ pub enum Action {
     /// A user asks to join.
     Join { name: Octets, registered: bool },
     /// A client does something.
-    Act { client: u32, deed: Deed },
+    Act { client: u32, instruction: Instruction },
     /// A canvas of a client is printed.
-    Show { client: u32, shown: Shown },
+    Show { client: u32, kind: CanvasKind },
 }

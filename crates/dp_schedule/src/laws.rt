@@ -4,14 +4,14 @@ ghost use Rattle.std.specs.Prelude.{◌≡◌, ◌≤◌, ℕ, List};
 ghost use Rattle.dp_messages.specs.Messages.{kind_of};
 ghost use Rattle.dp_messages.specs.declared.message.Msg.{Msg};
 ghost use Rattle.dp_schedule.specs.declared.action.Action.{Action};
-ghost use Rattle.dp_schedule.specs.Asking.{Asks, MaySay};
+ghost use Rattle.dp_schedule.specs.LineGrammar.{Parses, MaySay};
 
 use dp_lines::one_number;
 use dp_messages::one_message;
 
 /// A line asks for at most one thing, and what it says is no control message.
 pub fn one_action()
-    ensures one { (line : List ℕ) (action other : Action) → Asks line action → Asks line other → action ≡ other }
+    ensures one { (line : List ℕ) (action other : Action) → Parses line action → Parses line other → action ≡ other }
     ensures high { (bytes : List ℕ) (m : Msg) → MaySay bytes m → 32 ≤ kind_of m }
 {
     one_number();

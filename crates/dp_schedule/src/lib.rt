@@ -5,13 +5,13 @@
 
 mod action;
 mod laws;
-mod reading;
-mod told;
+mod parser;
+mod report_line;
 
-pub use action::{Action, Deed, Shown};
+pub use action::{Action, Instruction, CanvasKind};
 pub use laws::one_action;
-pub use reading::read_action;
-pub use told::Told;
+pub use parser::read_action;
+pub use report_line::ReportLine;
 
 #[cfg(test)]
 mod tests;

@@ -19,22 +19,22 @@ static ASKING: [(&[u8], &str); 14] = [
         b"join ",
         "Join { name: Octets { bytes: [] }, registered: false }",
     ),
-    (b"say 1 80", "Act { client: 1, deed: Say(Point) }"),
+    (b"say 1 80", "Act { client: 1, instruction: Say(Point) }"),
     (
         b"say 20 ff0301",
-        "Act { client: 20, deed: Say(Undo { target: 3, redo: true }) }",
+        "Act { client: 20, instruction: Say(Undo { target: 3, redo: true }) }",
     ),
     (
         b"say 20 Ff0300",
-        "Act { client: 20, deed: Say(Undo { target: 3, redo: false }) }",
+        "Act { client: 20, instruction: Say(Undo { target: 3, redo: false }) }",
     ),
-    (b"up 1", "Act { client: 1, deed: Up }"),
-    (b"take 10", "Act { client: 10, deed: Take }"),
-    (b"leave 2", "Act { client: 2, deed: Leave }"),
-    (b"cut 0", "Act { client: 0, deed: Cut }"),
-    (b"cut 4294967295", "Act { client: 4294967295, deed: Cut }"),
-    (b"view 3", "Show { client: 3, shown: View }"),
-    (b"conf 3", "Show { client: 3, shown: Confirmed }"),
+    (b"up 1", "Act { client: 1, instruction: Up }"),
+    (b"take 10", "Act { client: 10, instruction: Take }"),
+    (b"leave 2", "Act { client: 2, instruction: Leave }"),
+    (b"cut 0", "Act { client: 0, instruction: Cut }"),
+    (b"cut 4294967295", "Act { client: 4294967295, instruction: Cut }"),
+    (b"view 3", "Show { client: 3, kind: View }"),
+    (b"conf 3", "Show { client: 3, kind: Confirmed }"),
     (
         b"join 3",
         "Join { name: Octets { bytes: [51] }, registered: false }",
@@ -46,8 +46,8 @@ fn lines_ask_for_actions(rt: HostRuntime) -> Result<(), Fail> {
     let alloc = rt.alloc();
     for (line, wanted) in &ASKING {
         let action = read_action(alloc, line)?.ok_or("an action")?;
-        let shown = format!(in alloc; "{action:?}")?;
-        assert_eq!(rt; shown.as_str(), *wanted);
+        let kind = format!(in alloc; "{action:?}")?;
+        assert_eq!(rt; kind.as_str(), *wanted);
     }
     one_action();
     Ok(())
@@ -110,9 +110,9 @@ fn a_payload_has_at_most_65535_bytes(rt: HostRuntime) -> Result<(), Fail> {
 }
 
 /// What is told, and its text.
-static TOLD: [(Told, &str); 16] = [
+static TOLD: [(ReportLine, &str); 16] = [
     (
-        Told::Joined {
+        ReportLine::Joined {
             client: 12,
             user: 3,
             epoch: 4,
@@ -120,37 +120,37 @@ static TOLD: [(Told, &str); 16] = [
         },
         "joined 12 user 3 at 4:56\n",
     ),
-    (Told::Full, "full\n"),
-    (Told::NameRefused, "name refused\n"),
-    (Told::Ended, "ended\n"),
-    (Told::Said(10), "said 10\n"),
-    (Told::Empty, "empty\n"),
-    (Told::Placed { epoch: 0, at: 1 }, "placed 0:1\n"),
-    (Told::Filtered { epoch: 1, at: 0 }, "filtered 1:0\n"),
-    (Told::Ignored, "ignored\n"),
-    (Told::Noted, "noted\n"),
-    (Told::Left { epoch: 7, at: 89 }, "left 7:89\n"),
-    (Told::Leaving, "leaving\n"),
+    (ReportLine::Full, "full\n"),
+    (ReportLine::NameRefused, "name refused\n"),
+    (ReportLine::Ended, "ended\n"),
+    (ReportLine::Said(10), "said 10\n"),
+    (ReportLine::Empty, "empty\n"),
+    (ReportLine::Placed { epoch: 0, at: 1 }, "placed 0:1\n"),
+    (ReportLine::Filtered { epoch: 1, at: 0 }, "filtered 1:0\n"),
+    (ReportLine::Ignored, "ignored\n"),
+    (ReportLine::Noted, "noted\n"),
+    (ReportLine::Left { epoch: 7, at: 89 }, "left 7:89\n"),
+    (ReportLine::Leaving, "leaving\n"),
     (
-        Told::Cut {
+        ReportLine::Cut {
             epoch: 4_294_967_295,
             at: 2,
         },
         "cut 4294967295:2\n",
     ),
-    (Told::Took { epoch: 2, at: 3 }, "took 2:3\n"),
-    (Told::Nothing, "nothing\n"),
-    (Told::Gone, "gone\n"),
+    (ReportLine::Took { epoch: 2, at: 3 }, "took 2:3\n"),
+    (ReportLine::Nothing, "nothing\n"),
+    (ReportLine::Gone, "gone\n"),
 ];
 
 #[test]
 fn what_is_told_has_its_text(rt: HostRuntime) -> Result<(), Fail> {
-    for (told, wanted) in &TOLD {
-        let text = told.text(rt.alloc())?;
+    for (line, wanted) in &TOLD {
+        let text = line.text(rt.alloc())?;
         assert_eq!(rt; text.as_slice(), wanted.as_bytes());
     }
-    assert_eq!(rt; Told::Said(1), Told::Said(1));
-    assert_ne!(rt; Told::Empty, Told::Nothing);
-    assert_ne!(rt; Shown::View, Shown::Confirmed);
+    assert_eq!(rt; ReportLine::Said(1), ReportLine::Said(1));
+    assert_ne!(rt; ReportLine::Empty, ReportLine::Nothing);
+    assert_ne!(rt; CanvasKind::View, CanvasKind::Confirmed);
     Ok(())
 }

@@ -20,46 +20,46 @@ use Rattle.dp_session.specs.declared.event.ShutAt.{ShutAt}
 use Rattle.dp_session.specs.declared.plan.Decision.{Decision}
 use Rattle.dp_session.specs.declared.plan.Decision.TheVariants as decision
 use Rattle.dp_session.specs.State.{State, Acted, first_state, acted, stays, opened_as, free_id, is_name, join_entries}
-use Rattle.dp_session.specs.State.{closed_by, left, owners_behind, next_owner, own_entry, entry_of, open_connection, with_connection}
+use Rattle.dp_session.specs.State.{closed_by, left, owners_behind, next_owner, server_entry, entry_of, open_connection, with_connection}
 use Rattle.dp_session.specs.State.{is_present, present_users, user_ids}
 use Rattle.dp_session.specs.State.{says_by, after_shut}
-use Rattle.dp_session.specs.Past.{Past, Happening, Came, WasShut, shut_at, woven, happened, state_after, state_of}
+use Rattle.dp_session.specs.Past.{Past, LogItem, Journalled, RefusedClose, shut_at, interleaved, after_item, state_after, state_of}
 use Rattle.dp_session.specs.Past.{Serves, Step, refused, kept, shut_with, sure_step}
 use Rattle.dp_session.specs.Rows.{has_room}
 use Rattle.std.specs.List.{list_any, find}
 use Rattle.std.proofs.lemmas.List.Elements.{All-weaker, All-push}
 use Rattle.dp_session.specs.Plans.{decided}
 use Rattle.dp_session.specs.Laws.{Continues, Outcome, IsRun, IsFault, AreFaults, ShutBefore, shut_by}
-use Rattle.dp_session.proofs.Weaving.{state-came, state-shut}
+use Rattle.dp_session.proofs.Interleaving.{state-came, state-shut}
 use Rattle.dp_session.proofs.PlanLemmas.{acted_by, says-decided}
 
 -- ---- answers
 
-came_in : List Happening → ℕ
+came_in : List LogItem → ℕ
 came_in [] = 0
-came_in (Came e ∷ more) = suc (came_in more)
-came_in (WasShut conn ∷ more) = came_in more
+came_in (Journalled e ∷ more) = suc (came_in more)
+came_in (RefusedClose conn ∷ more) = came_in more
 
-came_in-append : (hs gs : List Happening) → came_in (hs ++ gs) ≡ came_in hs + came_in gs
+came_in-append : (hs gs : List LogItem) → came_in (hs ++ gs) ≡ came_in hs + came_in gs
 unfolding came_in
 came_in-append [] gs = omega arith
-came_in-append (Came e ∷ hs) gs = omega (arith, came_in-append hs gs)
-came_in-append (WasShut conn ∷ hs) gs = came_in-append hs gs
+came_in-append (Journalled e ∷ hs) gs = omega (arith, came_in-append hs gs)
+came_in-append (RefusedClose conn ∷ hs) gs = came_in-append hs gs
 
-came_in-shut : (shut : List ShutAt) → came_in (map (λ s. WasShut s.conn) shut) ≡ 0
+came_in-shut : (shut : List ShutAt) → came_in (map (λ s. RefusedClose s.conn) shut) ≡ 0
 unfolding came_in
 came_in-shut [] = refl
 came_in-shut (s ∷ shut) = came_in-shut shut
 
-came_in-woven : (n : ℕ) (journal : List Event) (shut : List ShutAt) → came_in (woven n journal shut) ≡ length journal
+came_in-interleaved : (n : ℕ) (journal : List Event) (shut : List ShutAt) → came_in (interleaved n journal shut) ≡ length journal
 unfolding came_in
-came_in-woven n [] shut = came_in-shut (filter (λ s. s.n == n) shut)
-came_in-woven n (e ∷ journal) shut =
+came_in-interleaved n [] shut = came_in-shut (filter (λ s. s.n == n) shut)
+came_in-interleaved n (e ∷ journal) shut =
     omega (
       arith,
-      came_in-append (shut_at n shut) (Came e ∷ woven (n + 1) journal shut),
+      came_in-append (shut_at n shut) (Journalled e ∷ interleaved (n + 1) journal shut),
       came_in-shut (filter (λ s. s.n == n) shut),
-      came_in-woven (n + 1) journal shut,
+      came_in-interleaved (n + 1) journal shut,
     )
 
 shut-answers : (s : State) (conn : ℕ) (o : Option Connection)
@@ -67,20 +67,20 @@ shut-answers : (s : State) (conn : ℕ) (o : Option Connection)
 shut-answers s conn None = refl
 shut-answers s conn (Some c) = refl
 
-answers-run : (s : State) (hs : List Happening) → length (fold happened s hs).answers ≡ length s.answers + came_in hs
+answers-run : (s : State) (hs : List LogItem) → length (fold after_item s hs).answers ≡ length s.answers + came_in hs
 unfolding came_in
 answers-run s [] = omega arith
-answers-run s (Came e ∷ more) =
-    answers-run (happened s (Came e)) more
+answers-run s (Journalled e ∷ more) =
+    answers-run (after_item s (Journalled e)) more
     ∙ omega (arith, length-append s.answers ((acted s e).reply ∷ []))
-answers-run s (WasShut conn ∷ more) =
+answers-run s (RefusedClose conn ∷ more) =
     answers-run (after_shut s conn) more
     ∙ ap (λ rs. length rs + came_in more) (shut-answers s conn (open_connection s conn))
 
 -- one answer for each event
 pub answered-once : (past : Past) → length (state_of past).answers ≡ length past.journal
 answered-once past =
-    omega (arith, answers-run first_state (woven 0 past.journal past.shut), came_in-woven 0 past.journal past.shut)
+    omega (arith, answers-run first_state (interleaved 0 past.journal past.shut), came_in-interleaved 0 past.journal past.shut)
 
 -- ---- growing
 
@@ -115,7 +115,7 @@ opened-grows s registered name (Some user) = (
   join_entries s user registered name,
   refl,
   joins-few (list_any (is_present s) user_ids) (entry_of user (msg.Meta (Join registered name)))
-      (own_entry (Owners (user ∷ []))),
+      (server_entry (Owners (user ∷ []))),
 )
 
 owner-few : (b : Bool) (o : Option ℕ) → length (if b then next_owner o else []) ≤ 1
@@ -146,7 +146,7 @@ decided-grows s conn c m decision.Acknowledge = same-grows s
 decided-grows s conn c m decision.Place = (_, refl, omega arith)
 decided-grows s conn c m decision.Filter = (_, refl, omega arith)
 
--- an event adds entries behind the live history
+-- an event adds entries after the live history
 acted-grows : (s : State) (e : Event) → Grows s.live (acted s e).state.live
 acted-grows s (event.Open name registered) =
     if-grows s (is_name name) (opened_as s registered name (free_id s)) (stays s reply.NameRefused)
@@ -158,7 +158,7 @@ acted-grows s (event.Say conn m) =
 acted-grows s (event.Close conn) =
     option-grows s (closed_by s conn) (open_connection s conn) (stays s reply.Ignored) (closed-grows s conn) (same-grows s)
 
--- a history goes on behind one more event
+-- a history goes on after one more event
 pub history-grows : (journal : List Event) (shut : List ShutAt) (e : Event) → All (λ s. s.n ≤ length journal) shut
     → Continues (state_after journal shut).live (state_after (journal ++ e ∷ []) shut).live
 unfolding Grows
@@ -171,19 +171,19 @@ shut-live : (s : State) (conn : ℕ) (o : Option Connection)
 shut-live s conn None = refl
 shut-live s conn (Some c) = refl
 
-live-run : (s : State) (hs : List Happening) → length (fold happened s hs).live ≤ length s.live + 2 * came_in hs
+live-run : (s : State) (hs : List LogItem) → length (fold after_item s hs).live ≤ length s.live + 2 * came_in hs
 unfolding came_in Grows
 live-run s [] = omega arith
-live-run s (Came e ∷ more) =
+live-run s (Journalled e ∷ more) =
     let g = acted-grows s e in
-    omega (arith, live-run (happened s (Came e)) more, ap length g.1, length-append s.live g.0, g.2)
-live-run s (WasShut conn ∷ more) =
+    omega (arith, live-run (after_item s (Journalled e)) more, ap length g.1, length-append s.live g.0, g.2)
+live-run s (RefusedClose conn ∷ more) =
     omega (arith, live-run (after_shut s conn) more, ap length (shut-live s conn (open_connection s conn)))
 
 -- at most two entries for each event
 pub short-history : (past : Past) → length (state_of past).live ≤ 2 * length past.journal + 1
 short-history past =
-    omega (arith, live-run first_state (woven 0 past.journal past.shut), came_in-woven 0 past.journal past.shut)
+    omega (arith, live-run first_state (interleaved 0 past.journal past.shut), came_in-interleaved 0 past.journal past.shut)
 
 -- ---- one more event
 
@@ -218,18 +218,18 @@ before-step past e before =
 -- ---- faults
 
 stays-broken : (past : Past) (e : Event) (answer : Result Reply AllocError) (new : Past) (first : ℕ)
-    → past.broke ≡ Some first → Step past e answer new → IsFault first answer × (new.broke ≡ Some first)
-stays-broken past e (Ok answer) new first broke step =
-    let h : Serves (Some first) past e answer new = subst (λ b. Serves b past e answer new) broke step in
-    (h.reply, ap (λ p. p.broke) h.after ∙ broke)
-stays-broken past (event.Open name registered) (Err want) new first broke step = (tt, ap (λ p. p.broke) step ∙ broke)
-stays-broken past (event.Say conn m) (Err want) new first broke step = (tt, ap (λ p. p.broke) step ∙ broke)
-stays-broken past (event.Close conn) (Err want) new first broke step = (tt, ap (λ p. p.broke) step ∙ broke)
+    → past.first_fault ≡ Some first → Step past e answer new → IsFault first answer × (new.first_fault ≡ Some first)
+stays-broken past e (Ok answer) new first first_fault step =
+    let h : Serves (Some first) past e answer new = subst (λ b. Serves b past e answer new) first_fault step in
+    (h.reply, ap (λ p. p.first_fault) h.after ∙ first_fault)
+stays-broken past (event.Open name registered) (Err want) new first first_fault step = (tt, ap (λ p. p.first_fault) step ∙ first_fault)
+stays-broken past (event.Say conn m) (Err want) new first first_fault step = (tt, ap (λ p. p.first_fault) step ∙ first_fault)
+stays-broken past (event.Close conn) (Err want) new first first_fault step = (tt, ap (λ p. p.first_fault) step ∙ first_fault)
 
 -- each outcome is that fault
-pub broken-for_good : (past : Past) (first : ℕ) (log : List Outcome) → past.broke ≡ Some first → IsRun past log
+pub broken-for_good : (past : Past) (first : ℕ) (log : List Outcome) → past.first_fault ≡ Some first → IsRun past log
     → AreFaults first log
-broken-for_good past first [] broke run = tt
-broken-for_good past first (outcome ∷ log) broke run =
-    let h = stays-broken past outcome.event outcome.answer outcome.left first broke run.0 in
+broken-for_good past first [] first_fault run = tt
+broken-for_good past first (outcome ∷ log) first_fault run =
+    let h = stays-broken past outcome.event outcome.answer outcome.left first first_fault run.0 in
     (h.0, broken-for_good outcome.left first log h.1 run.1)

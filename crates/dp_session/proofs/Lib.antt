@@ -1,6 +1,6 @@
 pub mod Ranges
 pub mod Holders
-pub mod Weaving
+pub mod Interleaving
 pub mod TableLemmas
 pub mod PlanLemmas
 pub mod QuietLemmas

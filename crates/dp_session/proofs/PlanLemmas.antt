@@ -18,7 +18,7 @@ use Rattle.dp_messages.specs.declared.message.Entry.{Entry}
 use Rattle.dp_messages.specs.Messages.{kind_of}
 use Rattle.dp_acl.specs.Rights.{is_operator}
 use Rattle.dp_acl.specs.Permitted.{permitted}
-use Rattle.dp_acl.specs.Standing.{Kept}
+use Rattle.dp_acl.specs.Table.{Kept}
 use Rattle.dp_acl.specs.Laws.{OperatorsStay}
 use Rattle.dp_session.specs.declared.connection.Place.{Place}
 use Rattle.dp_session.specs.declared.connection.Ending.TheVariants as ending
@@ -27,13 +27,13 @@ use Rattle.dp_session.specs.declared.event.Event.{Event}
 use Rattle.dp_session.specs.declared.event.Event.TheVariants as event
 use Rattle.dp_session.specs.declared.event.Reply.{Reply}
 use Rattle.dp_session.specs.declared.event.Reply.TheVariants as reply
-use Rattle.dp_session.specs.declared.item.Item.{Item}
+use Rattle.dp_session.specs.declared.history_item.HistoryItem.{HistoryItem}
 use Rattle.dp_session.specs.declared.plan.Change.TheVariants.{Stays, Adds, Becomes}
-use Rattle.dp_session.specs.declared.plan.Placing.TheVariants.{Said, Own}
+use Rattle.dp_session.specs.declared.plan.Placing.TheVariants.{Said, Server}
 use Rattle.dp_session.specs.declared.plan.Decision.{Decision}
 use Rattle.dp_session.specs.declared.plan.Decision.TheVariants as decision
 use Rattle.dp_session.specs.declared.plan.Plan.{Plan}
-use Rattle.dp_session.specs.State.{State, Stream, Acted, acted, stays, here, epoch_of, entry_of, own_entry, is_name}
+use Rattle.dp_session.specs.State.{State, Stream, Acted, acted, stays, here, epoch_of, entry_of, server_entry, is_name}
 use Rattle.dp_session.specs.State.{is_open, is_present, free_id, user_ids, opened_as, new_connection}
 use Rattle.dp_session.specs.State.{connection_in, where_open, open_in, with_connection, left}
 use Rattle.dp_session.specs.State.{closed_by, owners_behind, next_owner, present_users, stream_without}
@@ -49,7 +49,7 @@ use Rattle.dp_session.proofs.TableLemmas.{present-marked, IsLeftOut, tables-left
 
 -- an event that changes nothing
 pub plan-still : (s : State) (e : Event) (r : Reply) → acted s e ≡ stays s r
-    → IsPlan s e (record { reply = r; change = Stays; placing = Own e None None })
+    → IsPlan s e (record { reply = r; change = Stays; placing = Server e None None })
 plan-still s e r is = record {
   event = refl;
   acted = is ∙ ap (λ live. record { state = record s { live = live }; reply = r }) (sym (append-nil s.live));
@@ -93,7 +93,7 @@ may-become cs conn c d h same =
     let f = open-found cs conn c h in
     (f.0, subst (λ o. MatchOption o ⊥ (λ old. (is_open old ≡ true) × (old.user ≡ d.user))) (sym f.1) (f.2, same))
 
-module _ (s : State) (journal : List Event) (cs : List Connection) (live : List Item) (rights : Kept)
+module _ (s : State) (journal : List Event) (cs : List Connection) (live : List HistoryItem) (rights : Kept)
     (present : List Bool) (are : AreOf s journal cs live rights present) where
   -- ---- opening
 
@@ -107,7 +107,7 @@ module _ (s : State) (journal : List Event) (cs : List Connection) (live : List 
   -- a name that is none
   pub plan-refused : (name : List ℕ) (registered : Bool) → is_name name ≡ false
       → IsPlan s (event.Open name registered)
-      (record { reply = reply.NameRefused; change = Stays; placing = Own (event.Open name registered) None None })
+      (record { reply = reply.NameRefused; change = Stays; placing = Server (event.Open name registered) None None })
   plan-refused name registered no_name =
       plan-still s (event.Open name registered) reply.NameRefused
       (ap (λ b. if b then opened_as s registered name (free_id s) else stays s reply.NameRefused) no_name)
@@ -123,7 +123,7 @@ module _ (s : State) (journal : List Event) (cs : List Connection) (live : List 
   pub plan-full : (name : List ℕ) (registered : Bool) → is_name name ≡ true
       → None ≡ find (λ user. not (mark present user)) user_ids
       → IsPlan s (event.Open name registered)
-      (record { reply = reply.Full; change = Stays; placing = Own (event.Open name registered) None None })
+      (record { reply = reply.Full; change = Stays; placing = Server (event.Open name registered) None None })
   plan-full name registered named found =
       plan-still s (event.Open name registered) reply.Full (opens name registered None named found)
 
@@ -131,11 +131,11 @@ module _ (s : State) (journal : List Event) (cs : List Connection) (live : List 
   join_plan name text registered user n place second = record {
     reply = reply.Opened (n + 1) user place.epoch place.index;
     change = Adds (record { user = user; acknowledged = true; joined = place; ending = ending.Running });
-    placing = Own (event.Open name registered) (Some (record { user = user; msg = msg.Meta (Join registered text) })) second;
+    placing = Server (event.Open name registered) (Some (record { user = user; msg = msg.Meta (Join registered text) })) second;
   }
 
   if_next : (b : Bool) (user : ℕ)
-      → (if b then [] else own_entry (Owners (user ∷ [])) ∷ []) ≡ next_owner (if b then None else Some user)
+      → (if b then [] else server_entry (Owners (user ∷ [])) ∷ []) ≡ next_owner (if b then None else Some user)
   if_next true user = refl
   if_next false user = refl
 
@@ -147,8 +147,8 @@ module _ (s : State) (journal : List Event) (cs : List Connection) (live : List 
   unfolding join_plan
   plan-joins name registered user second named found next =
       let free = find_user-passes (λ id. not (is_present s id)) user (free-marked ∙ sym found) in
-      let behind : (if list_any (is_present s) user_ids then [] else own_entry (Owners (user ∷ [])) ∷ []) ≡ option_to_list second =
-      ap (λ b. if b then [] else own_entry (Owners (user ∷ [])) ∷ [])
+      let behind : (if list_any (is_present s) user_ids then [] else server_entry (Owners (user ∷ [])) ∷ []) ≡ option_to_list second =
+      ap (λ b. if b then [] else server_entry (Owners (user ∷ [])) ∷ [])
       (any_user-same (is_present s) (mark present) marked)
       ∙ if_next (list_any (mark present) user_ids) user ∙ sym next in
       record {
@@ -171,7 +171,7 @@ module _ (s : State) (journal : List Event) (cs : List Connection) (live : List 
       → IsPlan s (event.Open name registered) (record {
         reply = reply.Opened (n + 1) user place.epoch place.index;
         change = Adds (record { user = user; acknowledged = true; joined = place; ending = ending.Running });
-        placing = Own (event.Open name registered) (Some (record { user = user; msg = msg.Meta (Join registered text) })) second;
+        placing = Server (event.Open name registered) (Some (record { user = user; msg = msg.Meta (Join registered text) })) second;
       })
   unfolding join_plan
   plan-join name text registered user n place second named texts found count place_is next =
@@ -185,7 +185,7 @@ module _ (s : State) (journal : List Event) (cs : List Connection) (live : List 
   -- a Close of a connection that isn't open
   pub plan-closed_none : (conn : ℕ) → None ≡ open_in cs conn
       → IsPlan s (event.Close conn)
-      (record { reply = reply.Ignored; change = Stays; placing = Own (event.Close conn) None None })
+      (record { reply = reply.Ignored; change = Stays; placing = Server (event.Close conn) None None })
   plan-closed_none conn none =
       plan-still s (event.Close conn) reply.Ignored
       (ap (λ o. option_map_or (closed_by s conn) o (stays s reply.Ignored)) (ap (λ c. open_in c conn) (sym are.table) ∙ sym none))
@@ -205,14 +205,14 @@ module _ (s : State) (journal : List Event) (cs : List Connection) (live : List 
     abbrev ended_one : Connection
     ended_one = record c { ending = ending.Left (here s) }
 
-    -- who is present behind the Leave
+    -- who is present after the Leave
     left-marked : (user : ℕ) → user < 256 → is_present (left s conn c) user ≡ mark (set present c.user false) user
     left-marked user small =
         any-marked (is_holder user) (set s.connections (conn - 1) ended_one) (mark (set present c.user false) user)
         (marks-changed (Becomes conn ended_one) present s.connections are.ids are.marks
         (may-become s.connections conn c ended_one found_here refl) user small)
 
-    -- who is operator behind the Leave
+    -- who is operator after the Leave
     left-operator : (user : ℕ) → is_operator (left s conn c).live user ≡ is_operator s.live user
     left-operator user = stay s.live (entry_of c.user (msg.Meta Leave)) user refl refl
 
@@ -240,7 +240,7 @@ module _ (s : State) (journal : List Event) (cs : List Connection) (live : List 
     close_plan place second = record {
       reply = reply.Placed place.epoch place.index;
       change = Becomes conn (record c { ending = ending.Left place });
-      placing = Own (event.Close conn) (Some (record { user = c.user; msg = msg.Meta Leave })) second;
+      placing = Server (event.Close conn) (Some (record { user = c.user; msg = msg.Meta Leave })) second;
     }
 
     plan-leaves : (second : Option Entry)
@@ -269,7 +269,7 @@ module _ (s : State) (journal : List Event) (cs : List Connection) (live : List 
         → IsPlan s (event.Close conn) (record {
           reply = reply.Placed place.epoch place.index;
           change = Becomes conn (record c { ending = ending.Left place });
-          placing = Own (event.Close conn) (Some (record { user = c.user; msg = msg.Meta Leave })) second;
+          placing = Server (event.Close conn) (Some (record { user = c.user; msg = msg.Meta Leave })) second;
         })
     unfolding close_plan
     plan-leave place second place_is next =
@@ -280,7 +280,7 @@ module _ (s : State) (journal : List Event) (cs : List Connection) (live : List 
   -- a Say of a connection that isn't open
   pub plan-said_none : (conn : ℕ) (m : Msg) → None ≡ open_in cs conn
       → IsPlan s (event.Say conn m)
-      (record { reply = reply.Ignored; change = Stays; placing = Own (event.Say conn m) None None })
+      (record { reply = reply.Ignored; change = Stays; placing = Server (event.Say conn m) None None })
   plan-said_none conn m none =
       plan-still s (event.Say conn m) reply.Ignored
       (ap (λ o. option_map_or (says_by s conn m) o (stays s reply.Ignored)) (ap (λ c. open_in c conn) (sym are.table) ∙ sym none))
@@ -347,14 +347,14 @@ module _ (s : State) (conn : ℕ) (c : Connection) where
 
     -- a message that means nothing
     pub plan-ignored : decision.Ignore ≡ decided s c m → IsPlan s (event.Say conn m)
-        (record { reply = reply.Ignored; change = Stays; placing = Own (event.Say conn m) None None })
+        (record { reply = reply.Ignored; change = Stays; placing = Server (event.Say conn m) None None })
     plan-ignored is = plan-still s (event.Say conn m) reply.Ignored (say-acted decision.Ignore is)
 
     -- an epoch is taken up
     pub plan-acknowledged : decision.Acknowledge ≡ decided s c m → IsPlan s (event.Say conn m) (record {
       reply = reply.Noted;
       change = Becomes conn (record c { acknowledged = true });
-      placing = Own (event.Say conn m) None None;
+      placing = Server (event.Say conn m) None None;
     })
     plan-acknowledged is = record {
       event = refl;
@@ -389,7 +389,7 @@ module _ (s : State) (conn : ℕ) (c : Connection) where
     filtered_plan place kind = record {
       reply = reply.Filtered place.epoch place.index;
       change = Stays;
-      placing = Own (event.Say conn m) (Some (record { user = c.user; msg = msg.Meta (Filtered kind) })) None;
+      placing = Server (event.Say conn m) (Some (record { user = c.user; msg = msg.Meta (Filtered kind) })) None;
     }
 
     -- another entry is placed
@@ -397,7 +397,7 @@ module _ (s : State) (conn : ℕ) (c : Connection) where
         → decision.Filter ≡ decided s c m → IsPlan s (event.Say conn m) (record {
           reply = reply.Filtered place.epoch place.index;
           change = Stays;
-          placing = Own (event.Say conn m) (Some (record { user = c.user; msg = msg.Meta (Filtered kind) })) None;
+          placing = Server (event.Say conn m) (Some (record { user = c.user; msg = msg.Meta (Filtered kind) })) None;
         })
     unfolding filtered_plan
     plan-filtered place kind place_is kind_is is =

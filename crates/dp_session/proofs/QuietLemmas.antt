@@ -123,7 +123,7 @@ quiet-flagged s flags conn same =
     (ne_eqb conn 0 some)))
     (cases_eq conn 0)
 
--- the quiet connections after an event that was refused for want of memory
+-- the quiet connections after an event that was refused because memory ran out
 pub past-quieted : (past : Past) (e : Event) (flags : List Bool) → past.quiet ≡ quiet_of flags
     → length flags ≡ length (state_of past).connections
     → quieted past e ≡ record past { quiet = quiet_of (flagged_by e flags) }

@@ -9,16 +9,16 @@ use Rattle.std.proofs.lemmas.List.{take-map, drop-map}
 use Rattle.dp_messages.specs.declared.message.Entry.{Entry}
 use Rattle.dp_session.specs.declared.connection.Connection.{Connection}
 use Rattle.dp_session.specs.declared.event.Event.{Event}
-use Rattle.dp_session.specs.declared.item.Item.{Item}
+use Rattle.dp_session.specs.declared.history_item.HistoryItem.{HistoryItem}
 use Rattle.dp_session.specs.declared.connection.Ending.TheVariants as ending
 use Rattle.dp_session.specs.declared.event.Answer.TheVariants.{Gone}
 use Rattle.dp_session.specs.State.{State, is_open, open_in, where_open, connection_in, connection_of}
 use Rattle.dp_session.specs.Tables.{entry_in, mark, quiet_of}
-use Rattle.dp_session.specs.Pulling.{pulled_from, pulled_by, pulled_where}
+use Rattle.dp_session.specs.Pull.{pulled_from, pulled_by, pulled_where}
 use Rattle.dp_session.proofs.QuietLemmas.{quiet-listed}
 
 -- a page of the entries is that of the history
-pub page-is : (journal : List Event) (live : List Item) (history : List Entry) (end at most : ℕ)
+pub page-is : (journal : List Event) (live : List HistoryItem) (history : List Entry) (end at most : ℕ)
     → map (entry_in journal) live ≡ history
     → map (entry_in journal) (take most (drop at (take end live))) ≡ take most (drop at (take end history))
 page-is journal live history end at most is =
@@ -31,7 +31,7 @@ open-some : (c : Connection) (b : Bool) → is_some (if b then Some c else None)
 open-some c true = refl
 open-some c false = refl
 
--- whether the connection behind so many others is open
+-- whether the connection after so many others is open
 pub open-at : (cs : List Connection) (i : ℕ) (c : Connection) → slice_get cs i ≡ Some c
     → is_some (open_in cs (i + 1)) ≡ is_open c
 open-at cs i c found =

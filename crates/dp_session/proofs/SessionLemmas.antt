@@ -6,7 +6,7 @@ use Rattle.dp_io.specs.Faults.{Rose}
 use Rattle.dp_keeper.specs.declared.row.Row.{Row}
 use Rattle.dp_keeper.specs.declared.keeper.KeepError.{KeepError}
 use Rattle.dp_keeper.specs.declared.keeper.KeepError.TheVariants.{Failed, Memory}
-use Rattle.dp_keeper.specs.Keeping.{with_row, Puts, Counts}
+use Rattle.dp_keeper.specs.Store.{with_row, Puts, Counts}
 use Rattle.dp_session.specs.declared.event.Event.{Event}
 use Rattle.dp_session.specs.declared.event.Reply.{Reply}
 use Rattle.dp_session.specs.declared.event.Reply.TheVariants.{Ended, StoreFault}
@@ -15,95 +15,95 @@ use Rattle.dp_session.specs.declared.plan.Ready.{Ready}
 use Rattle.dp_session.specs.declared.tables.Tables.{Tables}
 use Rattle.dp_session.specs.State.{acted}
 use Rattle.dp_session.specs.Rows.{row_of, has_room}
-use Rattle.dp_session.specs.Past.{Past, state_after, shut_with, kept, refused, quieted, Accepts, Breaks, Refuses, Serves}
+use Rattle.dp_session.specs.Past.{Past, state_after, shut_with, kept, refused, quieted, Accepts, FailsFirst, Refuses, Serves}
 use Rattle.dp_session.specs.Tables.{quiet_of, flagged_by, AreTables, IsSame}
 use Rattle.dp_session.specs.Plans.{IsPlan}
 use Rattle.dp_session.specs.Puts.{past_of, IsReady, IsOut, IsUndone, IsPut}
 use Rattle.dp_session.proofs.QuietLemmas.{past-quieted}
 
 -- pasts are the same by their parts
-past-eq : (j k : List Event) (s t : List ShutAt) (q r : List ℕ) (broke : Option ℕ) (told : Option (List Row)) (count : ℕ)
+past-eq : (j k : List Event) (s t : List ShutAt) (q r : List ℕ) (first_fault : Option ℕ) (known : Option (List Row)) (count : ℕ)
     → j ≡ k → s ≡ t → q ≡ r
-    → ◌≡◌ {A = Past} (record { journal = j; shut = s; quiet = q; broke = broke; told = told; count = count })
-    (record { journal = k; shut = t; quiet = r; broke = broke; told = told; count = count })
-past-eq j k s t q r broke told count ej es eq =
-    ap (λ x. record { journal = x; shut = s; quiet = q; broke = broke; told = told; count = count }) ej
-    ∙ ap (λ x. record { journal = k; shut = x; quiet = q; broke = broke; told = told; count = count }) es
-    ∙ ap (λ x. record { journal = k; shut = t; quiet = x; broke = broke; told = told; count = count }) eq
+    → ◌≡◌ {A = Past} (record { journal = j; shut = s; quiet = q; first_fault = first_fault; known = known; count = count })
+    (record { journal = k; shut = t; quiet = r; first_fault = first_fault; known = known; count = count })
+past-eq j k s t q r first_fault known count ej es eq =
+    ap (λ x. record { journal = x; shut = s; quiet = q; first_fault = first_fault; known = known; count = count }) ej
+    ∙ ap (λ x. record { journal = k; shut = x; quiet = q; first_fault = first_fault; known = known; count = count }) es
+    ∙ ap (λ x. record { journal = k; shut = t; quiet = x; first_fault = first_fault; known = known; count = count }) eq
 
--- the past after an event that was refused for want of memory
-pub quieted-is : (old new : Tables) (e : Event) (broke : Option ℕ) (told : Option (List Row)) (count : ℕ) → AreTables old
+-- the past after an event that was refused because memory ran out
+pub quieted-is : (old new : Tables) (e : Event) (first_fault : Option ℕ) (known : Option (List Row)) (count : ℕ) → AreTables old
     → new.journal.items ≡ old.journal.items → new.shut.items ≡ old.shut.items
     → new.quiet.items ≡ flagged_by e old.quiet.items
-    → past_of new broke told count ≡ quieted (past_of old broke told count) e
-quieted-is old new e broke told count are ej es eq =
+    → past_of new first_fault known count ≡ quieted (past_of old first_fault known count) e
+quieted-is old new e first_fault known count are ej es eq =
     past-eq new.journal.items old.journal.items new.shut.items old.shut.items (quiet_of new.quiet.items)
-    (quiet_of (flagged_by e old.quiet.items)) broke told count ej es (ap quiet_of eq)
-    ∙ sym (past-quieted (past_of old broke told count) e old.quiet.items refl (are.flags ∙ ap length are.of.table))
+    (quiet_of (flagged_by e old.quiet.items)) first_fault known count ej es (ap quiet_of eq)
+    ∙ sym (past-quieted (past_of old first_fault known count) e old.quiet.items refl (are.flags ∙ ap length are.of.table))
 
 -- nothing was done
-pub undone-is : (old new : Tables) (broke : Option ℕ) (told : Option (List Row)) (count : ℕ) → IsUndone old new
-    → past_of new broke told count ≡ past_of old broke told count
-undone-is old new broke told count undone =
+pub undone-is : (old new : Tables) (first_fault : Option ℕ) (known : Option (List Row)) (count : ℕ) → IsUndone old new
+    → past_of new first_fault known count ≡ past_of old first_fault known count
+undone-is old new first_fault known count undone =
     past-eq new.journal.items old.journal.items new.shut.items old.shut.items (quiet_of new.quiet.items)
-    (quiet_of old.quiet.items) broke told count undone.journal undone.shut undone.quiet
+    (quiet_of old.quiet.items) first_fault known count undone.journal undone.shut undone.quiet
 
 -- the past after an event that was left out
-pub out-is : (old new : Tables) (e : Event) (broke : Option ℕ) (told : Option (List Row)) (count : ℕ) → IsOut old e new
-    → past_of new broke told count ≡ refused (past_of old broke told count) e
-out-is old new e broke told count out =
-    past-eq new.journal.items old.journal.items new.shut.items (refused (past_of old broke told count) e).shut
-    (quiet_of new.quiet.items) (quiet_of old.quiet.items) broke told count out.journal out.shut out.quiet
+pub out-is : (old new : Tables) (e : Event) (first_fault : Option ℕ) (known : Option (List Row)) (count : ℕ) → IsOut old e new
+    → past_of new first_fault known count ≡ refused (past_of old first_fault known count) e
+out-is old new e first_fault known count out =
+    past-eq new.journal.items old.journal.items new.shut.items (refused (past_of old first_fault known count) e).shut
+    (quiet_of new.quiet.items) (quiet_of old.quiet.items) first_fault known count out.journal out.shut out.quiet
 
 -- an event that was kept
-pub serves-kept : (old new : Tables) (e : Event) (reply : Reply) (told later : Option (List Row)) (count now : ℕ) (row : Row)
-    → has_room old.journal.items e ≡ true → IsPut old e (Ok reply) new → later ≡ with_row row told
+pub serves-kept : (old new : Tables) (e : Event) (reply : Reply) (known later : Option (List Row)) (count now : ℕ) (row : Row)
+    → has_room old.journal.items e ≡ true → IsPut old e (Ok reply) new → later ≡ with_row row known
     → row ≡ record { n = length old.journal.items; bytes = row_of e } → now ≡ count
-    → Serves None (past_of old None told count) e reply (past_of new None later now)
-serves-kept old new e reply told later count now row room put rows row_is counts =
-    let P = past_of old None told count in
-    subst (λ b. MatchBool b (Accepts P e reply (past_of new None later now) ⊎ Breaks P e reply (past_of new None later now)) (Refuses P e Ended reply (past_of new None later now)))
+    → Serves None (past_of old None known count) e reply (past_of new None later now)
+serves-kept old new e reply known later count now row room put rows row_is counts =
+    let P = past_of old None known count in
+    subst (λ b. MatchBool b (Accepts P e reply (past_of new None later now) ⊎ FailsFirst P e reply (past_of new None later now)) (Refuses P e Ended reply (past_of new None later now)))
     (sym room)
     (inl (record {
       reply = put.1;
       after = past-eq new.journal.items (kept P e).journal new.shut.items old.shut.items (quiet_of new.quiet.items)
           (quiet_of old.quiet.items) None later now put.0.journal put.0.shut put.0.quiet
-          ∙ ap (λ t. record (kept P e) { told = t; count = now }) (rows ∙ ap (λ r. with_row r told) row_is)
+          ∙ ap (λ t. record (kept P e) { known = t; count = now }) (rows ∙ ap (λ r. with_row r known) row_is)
           ∙ ap (λ n. record (kept P e) { count = n }) counts;
     }))
 
 -- the first fault
-pub serves-failed : (old new : Tables) (e : Event) (told later : Option (List Row)) (count now : ℕ) (row : Row)
-    → has_room old.journal.items e ≡ true → IsOut old e new → (later ≡ told) ⊎ (later ≡ with_row row told)
+pub serves-failed : (old new : Tables) (e : Event) (known later : Option (List Row)) (count now : ℕ) (row : Row)
+    → has_room old.journal.items e ≡ true → IsOut old e new → (later ≡ known) ⊎ (later ≡ with_row row known)
     → row ≡ record { n = length old.journal.items; bytes = row_of e } → Rose count now
-    → Serves None (past_of old None told count) e (StoreFault now) (past_of new (Some now) later now)
-serves-failed old new e told later count now row room out rows row_is rose =
-    let P = past_of old None told count in
+    → Serves None (past_of old None known count) e (StoreFault now) (past_of new (Some now) later now)
+serves-failed old new e known later count now row room out rows row_is rose =
+    let P = past_of old None known count in
     let N = past_of new (Some now) later now in
-    subst (λ b. MatchBool b (Accepts P e (StoreFault now) N ⊎ Breaks P e (StoreFault now) N) (Refuses P e Ended (StoreFault now) N))
+    subst (λ b. MatchBool b (Accepts P e (StoreFault now) N ⊎ FailsFirst P e (StoreFault now) N) (Refuses P e Ended (StoreFault now) N))
     (sym room)
     (inr (record {
       count = now;
-      told = later;
+      known = later;
       rose = rose;
-      rows = subst (λ r. (later ≡ told) ⊎ (later ≡ with_row r told)) row_is rows;
+      rows = subst (λ r. (later ≡ known) ⊎ (later ≡ with_row r known)) row_is rows;
       reply = refl;
       after = past-eq new.journal.items old.journal.items new.shut.items (refused P e).shut
           (quiet_of new.quiet.items) (quiet_of old.quiet.items) (Some now) later now out.journal out.shut out.quiet;
     }))
 
 -- the session has ended
-pub serves-ended : (past new : Past) (e : Event) (given : Reply) → has_room past.journal e ≡ false → past.broke ≡ None
-    → Refuses past e Ended given new → Serves past.broke past e given new
-serves-ended past new e given room broke refuses =
-    subst (λ b. Serves b past e given new) (sym broke)
-    (subst (λ b. MatchBool b (Accepts past e given new ⊎ Breaks past e given new) (Refuses past e Ended given new)) (sym room) refuses)
+pub serves-ended : (past new : Past) (e : Event) (given : Reply) → has_room past.journal e ≡ false → past.first_fault ≡ None
+    → Refuses past e Ended given new → Serves past.first_fault past e given new
+serves-ended past new e given room first_fault refuses =
+    subst (λ b. Serves b past e given new) (sym first_fault)
+    (subst (λ b. MatchBool b (Accepts past e given new ⊎ FailsFirst past e given new) (Refuses past e Ended given new)) (sym room) refuses)
 
 -- a fault stays
-pub serves-broken : (past new : Past) (e : Event) (given : Reply) (first : ℕ) → past.broke ≡ Some first
-    → Refuses past e (StoreFault first) given new → Serves past.broke past e given new
-serves-broken past new e given first broke refuses =
-    subst (λ b. Serves b past e given new) (sym broke) refuses
+pub serves-broken : (past new : Past) (e : Event) (given : Reply) (first : ℕ) → past.first_fault ≡ Some first
+    → Refuses past e (StoreFault first) given new → Serves past.first_fault past e given new
+serves-broken past new e given first first_fault refuses =
+    subst (λ b. Serves b past e given new) (sym first_fault) refuses
 
 -- ---- tables in between, of which only the memory differs
 
@@ -180,50 +180,50 @@ none-of None A B not h = h
 none-of (Some x) A B not h = absurd (not x refl)
 
 -- an event that was kept
-pub past-kept : (P : Past) (old new : Tables) (e : Event) (reply : Reply) (broke : Option ℕ) (told later : Option (List Row))
-    (count now : ℕ) (row : Row) → past_of old broke told count ≡ P → ((x : ℕ) → broke ≡ Some x → ⊥)
+pub past-kept : (P : Past) (old new : Tables) (e : Event) (reply : Reply) (first_fault : Option ℕ) (known later : Option (List Row))
+    (count now : ℕ) (row : Row) → past_of old first_fault known count ≡ P → ((x : ℕ) → first_fault ≡ Some x → ⊥)
     → has_room old.journal.items e ≡ true → row ≡ record { n = length old.journal.items; bytes = row_of e }
-    → IsPut old e (Ok reply) new → later ≡ with_row row told → now ≡ count
-    → Serves P.broke P e reply (past_of new broke later now)
-past-kept P old new e reply broke told later count now row past not room row_is put rows counts =
-    subst (λ p. Serves p.broke p e reply (past_of new broke later now)) past
-    (subst (λ b. Serves b (past_of old b told count) e reply (past_of new b later now)) (sym (is-none broke not))
-    (serves-kept old new e reply told later count now row room put rows row_is counts))
+    → IsPut old e (Ok reply) new → later ≡ with_row row known → now ≡ count
+    → Serves P.first_fault P e reply (past_of new first_fault later now)
+past-kept P old new e reply first_fault known later count now row past not room row_is put rows counts =
+    subst (λ p. Serves p.first_fault p e reply (past_of new first_fault later now)) past
+    (subst (λ b. Serves b (past_of old b known count) e reply (past_of new b later now)) (sym (is-none first_fault not))
+    (serves-kept old new e reply known later count now row room put rows row_is counts))
 
 -- the first fault
-pub past-failed : (P : Past) (old new : Tables) (e : Event) (broke : Option ℕ) (told later : Option (List Row))
-    (count now first : ℕ) (row : Row) → past_of old broke told count ≡ P → ((x : ℕ) → broke ≡ Some x → ⊥)
+pub past-failed : (P : Past) (old new : Tables) (e : Event) (first_fault : Option ℕ) (known later : Option (List Row))
+    (count now first : ℕ) (row : Row) → past_of old first_fault known count ≡ P → ((x : ℕ) → first_fault ≡ Some x → ⊥)
     → has_room old.journal.items e ≡ true → row ≡ record { n = length old.journal.items; bytes = row_of e }
-    → IsOut old e new → (later ≡ told) ⊎ (later ≡ with_row row told) → Rose count now → first ≡ now
-    → Serves P.broke P e (StoreFault first) (past_of new (Some first) later now)
-past-failed P old new e broke told later count now first row past not room row_is out rows rose is =
-    subst (λ p. Serves p.broke p e (StoreFault first) (past_of new (Some first) later now)) past
-    (subst (λ n. Serves broke (past_of old broke told count) e (StoreFault n) (past_of new (Some n) later now)) (sym is)
-    (subst (λ b. Serves b (past_of old b told count) e (StoreFault now) (past_of new (Some now) later now)) (sym (is-none broke not))
-    (serves-failed old new e told later count now row room out rows row_is rose)))
+    → IsOut old e new → (later ≡ known) ⊎ (later ≡ with_row row known) → Rose count now → first ≡ now
+    → Serves P.first_fault P e (StoreFault first) (past_of new (Some first) later now)
+past-failed P old new e first_fault known later count now first row past not room row_is out rows rose is =
+    subst (λ p. Serves p.first_fault p e (StoreFault first) (past_of new (Some first) later now)) past
+    (subst (λ n. Serves first_fault (past_of old first_fault known count) e (StoreFault n) (past_of new (Some n) later now)) (sym is)
+    (subst (λ b. Serves b (past_of old b known count) e (StoreFault now) (past_of new (Some now) later now)) (sym (is-none first_fault not))
+    (serves-failed old new e known later count now row room out rows row_is rose)))
 
 -- memory ran out in the store
-pub past-undone : (P : Past) (old new : Tables) (broke : Option ℕ) (told later : Option (List Row)) (count now : ℕ)
-    → past_of old broke told count ≡ P → IsUndone old new → later ≡ told → now ≡ count
-    → past_of new broke later now ≡ P
-past-undone P old new broke told later count now past undone rows counts =
-    ap (λ t. past_of new broke t now) rows ∙ ap (past_of new broke told) counts
-    ∙ undone-is old new broke told count undone ∙ past
+pub past-undone : (P : Past) (old new : Tables) (first_fault : Option ℕ) (known later : Option (List Row)) (count now : ℕ)
+    → past_of old first_fault known count ≡ P → IsUndone old new → later ≡ known → now ≡ count
+    → past_of new first_fault later now ≡ P
+past-undone P old new first_fault known later count now past undone rows counts =
+    ap (λ t. past_of new first_fault t now) rows ∙ ap (past_of new first_fault known) counts
+    ∙ undone-is old new first_fault known count undone ∙ past
 
 -- the session has ended
-pub past-ended : (P new : Past) (old : Tables) (e : Event) (r : Result Reply AllocError) (broke : Option ℕ)
-    (told : Option (List Row)) (count : ℕ) → past_of old broke told count ≡ P → ((x : ℕ) → broke ≡ Some x → ⊥)
+pub past-ended : (P new : Past) (old : Tables) (e : Event) (r : Result Reply AllocError) (first_fault : Option ℕ)
+    (known : Option (List Row)) (count : ℕ) → past_of old first_fault known count ≡ P → ((x : ℕ) → first_fault ≡ Some x → ⊥)
     → has_room old.journal.items e ≡ false → IfOk r (λ given. Refuses P e Ended given new)
-    → IfOk r (λ given. Serves P.broke P e given new)
-past-ended P new old e (Err want) broke told count past not room h = h
-past-ended P new old e (Ok given) broke told count past not room h =
+    → IfOk r (λ given. Serves P.first_fault P e given new)
+past-ended P new old e (Err want) first_fault known count past not room h = h
+past-ended P new old e (Ok given) first_fault known count past not room h =
     serves-ended P new e given (ap (λ p. has_room p.journal e) (sym past) ∙ room)
-    (ap (λ p. p.broke) (sym past) ∙ is-none broke not) h
+    (ap (λ p. p.first_fault) (sym past) ∙ is-none first_fault not) h
 
 -- a fault stays
-pub past-broken : (P new : Past) (old : Tables) (e : Event) (r : Result Reply AllocError) (broke : Option ℕ)
-    (told : Option (List Row)) (count first : ℕ) → past_of old broke told count ≡ P → broke ≡ Some first
-    → IfOk r (λ given. Refuses P e (StoreFault first) given new) → IfOk r (λ given. Serves P.broke P e given new)
-past-broken P new old e (Err want) broke told count first past is h = h
-past-broken P new old e (Ok given) broke told count first past is h =
-    serves-broken P new e given first (ap (λ p. p.broke) (sym past) ∙ is) h
+pub past-broken : (P new : Past) (old : Tables) (e : Event) (r : Result Reply AllocError) (first_fault : Option ℕ)
+    (known : Option (List Row)) (count first : ℕ) → past_of old first_fault known count ≡ P → first_fault ≡ Some first
+    → IfOk r (λ given. Refuses P e (StoreFault first) given new) → IfOk r (λ given. Serves P.first_fault P e given new)
+past-broken P new old e (Err want) first_fault known count first past is h = h
+past-broken P new old e (Ok given) first_fault known count first past is h =
+    serves-broken P new e given first (ap (λ p. p.first_fault) (sym past) ∙ is) h

@@ -12,18 +12,18 @@ use Rattle.std.proofs.lemmas.List.Sums.{sum_by_push}
 use Rattle.std.proofs.lemmas.Bool.{cases_lt, ltb-true, leb-true}
 use Rattle.dp_msg_meta.specs.declared.message.Meta.TheVariants.{ResetMark}
 use Rattle.dp_messages.specs.declared.message.Entry.{Entry}
-use Rattle.dp_acl.specs.Standing.{Kept, StandsFor}
+use Rattle.dp_acl.specs.Table.{Kept, StandsFor}
 use Rattle.dp_session.specs.declared.connection.Connection.{Connection}
 use Rattle.dp_session.specs.declared.event.Event.{Event}
 use Rattle.dp_session.specs.declared.event.Event.TheVariants as event
-use Rattle.dp_session.specs.declared.item.Item.{Item}
-use Rattle.dp_session.specs.declared.item.Item.TheVariants as item
+use Rattle.dp_session.specs.declared.history_item.HistoryItem.{HistoryItem}
+use Rattle.dp_session.specs.declared.history_item.HistoryItem.TheVariants as item
 use Rattle.dp_session.specs.declared.plan.Change.{Change}
 use Rattle.dp_session.specs.declared.plan.Change.TheVariants.{Stays, Adds, Becomes}
 use Rattle.dp_session.specs.declared.plan.Placing.{Placing}
-use Rattle.dp_session.specs.declared.plan.Placing.TheVariants.{Said, Own}
+use Rattle.dp_session.specs.declared.plan.Placing.TheVariants.{Said, Server}
 use Rattle.dp_session.specs.declared.plan.Plan.{Plan}
-use Rattle.dp_session.specs.State.{State, first_state, is_open, is_present, own_entry, after_shut, after_event, acted}
+use Rattle.dp_session.specs.State.{State, first_state, is_open, is_present, server_entry, after_shut, after_event, acted}
 use Rattle.dp_session.specs.declared.event.ShutAt.{ShutAt}
 use Rattle.dp_session.specs.declared.tables.Tables.{Tables}
 use Rattle.dp_session.specs.Rows.{row_of, row_bytes, event_limit, byte_limit, has_room}
@@ -31,7 +31,7 @@ use Rattle.dp_session.specs.Past.{state_after}
 use Rattle.dp_session.specs.Tables.{state_in, AreTables, IsSame}
 use Rattle.dp_session.specs.Tables.{message_of, IsSay, entry_in, IsIn, mark, is_holder, MarksHolders, AreOf}
 use Rattle.dp_session.specs.Plans.{event_of, entries_of, items_of, changed, marks_after, quiet_after, IsChange, IsPlan}
-use Rattle.dp_session.proofs.Weaving.{state-came, state-shut}
+use Rattle.dp_session.proofs.Interleaving.{state-came, state-shut}
 use Rattle.dp_session.proofs.Holders.{any-marked, marks-changed}
 
 -- ---- entries
@@ -43,21 +43,21 @@ stays_there [] more k say = absurd say
 stays_there (e ∷ journal) more zero say = refl
 stays_there (e ∷ journal) more (suc k) say = stays_there journal more k say
 
--- the event behind a journal
+-- the event after a journal
 last_there : (journal : List Event) (e : Event) → slice_get (journal ++ e ∷ []) (length journal) ≡ Some e
 last_there [] e = refl
 last_there (x ∷ journal) e = last_there journal e
 
--- an entry stays the same behind more events
-entry-later : (journal more : List Event) (i : Item) → IsIn journal i
+-- an entry stays the same after more events
+entry-later : (journal more : List Event) (i : HistoryItem) → IsIn journal i
     → (entry_in (journal ++ more) i ≡ entry_in journal i) × IsIn (journal ++ more) i
 entry-later journal more (item.Said k user) say =
     let e = stays_there journal more k say in
     (ap (λ o. record { user = user; msg = message_of o }) e, subst IsSay (sym e) say)
-entry-later journal more (item.Own entry) say = (refl, tt)
+entry-later journal more (item.Server entry) say = (refl, tt)
 
--- entries stay the same behind more events
-entries-later : (journal more : List Event) (live : List Item) → All (IsIn journal) live
+-- entries stay the same after more events
+entries-later : (journal more : List Event) (live : List HistoryItem) → All (IsIn journal) live
     → map (entry_in (journal ++ more)) live ≡ map (entry_in journal) live
 entries-later journal more [] said = refl
 entries-later journal more (i ∷ live) said =
@@ -68,11 +68,11 @@ entries-later journal more (i ∷ live) said =
 
 -- entries of the server's own are themselves
 own_entries : (journal : List Event) (entries : List Entry)
-    → (map (entry_in journal) (map item.Own entries) ≡ entries) × All (IsIn journal) (map item.Own entries)
+    → (map (entry_in journal) (map item.Server entries) ≡ entries) × All (IsIn journal) (map item.Server entries)
 own_entries journal [] = (refl, All-nil (IsIn journal))
 own_entries journal (e ∷ entries) =
     let h = own_entries journal entries in
-    (ap (λ xs. e ∷ xs) h.0, All-cons (IsIn journal) (item.Own e) (map item.Own entries) tt h.1)
+    (ap (λ xs. e ∷ xs) h.0, All-cons (IsIn journal) (item.Server e) (map item.Server entries) tt h.1)
 
 -- what an event places is kept so
 items-placed : (journal : List Event) (placing : Placing)
@@ -84,7 +84,7 @@ items-placed journal (Said conn entry) =
       ap (λ o. record { user = entry.user; msg = message_of o } ∷ []) e,
       All-cons (IsIn J) (item.Said (length journal) entry.user) [] (subst IsSay (sym e) tt) (All-nil (IsIn J)),
     )
-items-placed journal (Own e first second) =
+items-placed journal (Server e first second) =
     own_entries (journal ++ e ∷ []) (option_to_list first ++ option_to_list second)
 
 length-option : {X : Type 0} (o : Option X) → length (option_to_list o) ≤ 1
@@ -94,8 +94,8 @@ length-option (Some x) = omega arith
 -- an event places at most two entries
 items-two : (n : ℕ) (placing : Placing) → length (items_of n placing) ≤ 2
 items-two n (Said conn entry) = omega arith
-items-two n (Own e first second) =
-    rw (length-map (option_to_list first ++ option_to_list second) item.Own, length-append (option_to_list first) (option_to_list second))
+items-two n (Server e first second) =
+    rw (length-map (option_to_list first ++ option_to_list second) item.Server, length-append (option_to_list first) (option_to_list second))
     (omega (arith, length-option first, length-option second))
 
 -- an event adds at most one connection
@@ -107,7 +107,7 @@ changed-more (Becomes conn c) cs = (simp length-set (omega arith), simp length-s
 
 -- ---- states
 
-module _ (s : State) (journal : List Event) (cs : List Connection) (live : List Item) (rights : Kept)
+module _ (s : State) (journal : List Event) (cs : List Connection) (live : List HistoryItem) (rights : Kept)
     (present : List Bool) (are : AreOf s journal cs live rights present) where
   -- who is present is marked
   pub present-marked : (user : ℕ) → user < 256 → is_present s user ≡ mark present user
@@ -200,7 +200,7 @@ module _ (s : State) (journal : List Event) (cs : List Connection) (live : List 
       }
 
 -- tables that are the same are those of the same state
-AreOf-eq : (s t : State) (j k : List Event) (c d : List Connection) (l m : List Item) (r : Kept) (p q : List Bool)
+AreOf-eq : (s t : State) (j k : List Event) (c d : List Connection) (l m : List HistoryItem) (r : Kept) (p q : List Bool)
     → t ≡ s → k ≡ j → d ≡ c → m ≡ l → q ≡ p → AreOf s j c l r p → AreOf t k d m r q
 AreOf-eq s t j k c d l m r p q es ej ec el ep are =
     subst (λ x. AreOf x k d m r q) (sym es)
@@ -219,13 +219,13 @@ no-marks n user =
 
 AreOf-first : (rights : Kept) (present : List Bool) → StandsFor rights first_state.live → length present ≡ 256
     → ((user : ℕ) → mark present user ≡ false)
-    → AreOf first_state [] [] (item.Own (own_entry (ResetMark 0 0)) ∷ []) rights present
+    → AreOf first_state [] [] (item.Server (server_entry (ResetMark 0 0)) ∷ []) rights present
 AreOf-first rights present stands ids none = record {
   ended = refl;
   stream = refl;
   table = refl;
   entries = refl;
-  said = All-cons (IsIn []) (item.Own (own_entry (ResetMark 0 0))) [] tt (All-nil (IsIn []));
+  said = All-cons (IsIn []) (item.Server (server_entry (ResetMark 0 0))) [] tt (All-nil (IsIn []));
   stands = stands;
   ids = ids;
   marks = λ user small. sym (ap (λ b. cond {A = ℕ} b 1 0) (none user));
@@ -235,11 +235,11 @@ AreOf-first rights present stands ids none = record {
 
 -- the tables of a session to which nothing has come
 pub tables-first : (t : Tables) → t.journal.items ≡ [] → t.shut.items ≡ [] → t.connections.items ≡ []
-    → t.quiet.items ≡ [] → t.live.items ≡ item.Own (own_entry (ResetMark 0 0)) ∷ [] → t.row_bytes ≡ 0
+    → t.quiet.items ≡ [] → t.live.items ≡ item.Server (server_entry (ResetMark 0 0)) ∷ [] → t.row_bytes ≡ 0
     → StandsFor t.rights first_state.live → t.present ≡ replicate 256 false → AreTables t
 tables-first t ej es ec eq el eb stands ep = record {
   of = AreOf-eq first_state (state_in t) [] t.journal.items [] t.connections.items
-      (item.Own (own_entry (ResetMark 0 0)) ∷ []) t.live.items t.rights t.present t.present
+      (item.Server (server_entry (ResetMark 0 0)) ∷ []) t.live.items t.rights t.present t.present
       (ap (λ j. state_after j t.shut.items) ej ∙ ap (state_after []) es) ej ec el refl
       (AreOf-first t.rights t.present stands (ap length ep ∙ length-replicate 256 false)
       (λ user. ap (λ p. mark p user) ep ∙ no-marks 256 user));

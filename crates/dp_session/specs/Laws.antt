@@ -10,7 +10,7 @@ use Rattle.dp_session.specs.declared.event.Event.TheVariants as event
 use Rattle.dp_session.specs.State.{State, after_shut}
 use Rattle.dp_session.specs.Past.{Past, Step}
 
--- a history is another with more entries behind it
+-- a history is another with more entries after it
 abbrev pub Continues : List Entry → List Entry → Type 0
 Continues before after = (more : List Entry) × (after ≡ before ++ more)
 
@@ -40,7 +40,7 @@ AreFaults first (outcome ∷ log) = IsFault first outcome.answer × AreFaults fi
 abbrev pub ShutBefore : Past → Type 0
 ShutBefore past = All (λ s. s.n ≤ length past.journal) past.shut
 
--- the state behind an event that the limits refused: a Close closes its connection
+-- the state after an event that the limits refused: a Close closes its connection
 abbrev pub shut_by : State → Event → State
 shut_by s (event.Open name registered) = s
 shut_by s (event.Say conn m) = s

@@ -1,7 +1,7 @@
 pub mod Rows
 pub mod State
 pub mod Past
-pub mod Pulling
+pub mod Pull
 pub mod Tables
 pub mod Plans
 pub mod Laws

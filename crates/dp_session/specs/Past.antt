@@ -6,7 +6,7 @@ use Rattle.std.specs.List.{filter, fold, list_any, range_with_len}
 use Rattle.std.specs.declared.alloc.AllocError.{AllocError}
 use Rattle.dp_io.specs.Faults.{Rose}
 use Rattle.dp_keeper.specs.declared.row.Row.{Row}
-use Rattle.dp_keeper.specs.Keeping.{with_row}
+use Rattle.dp_keeper.specs.Store.{with_row}
 use Rattle.dp_session.specs.declared.event.Event.{Event}
 use Rattle.dp_session.specs.declared.event.Event.TheVariants as event
 use Rattle.dp_session.specs.declared.event.Reply.{Reply}
@@ -22,39 +22,39 @@ pub record Past : Type 0 where
   pub journal : List Event
   -- the closings that were refused, each with how many events were kept before it
   pub shut : List ShutAt
-  -- the connections whose Close was refused for want of memory, by rising number
+  -- the connections whose Close was refused because memory ran out, by rising number
   pub quiet : List ℕ
   -- how often the keeper had failed when a put of this session failed first
-  pub broke : Option ℕ
+  pub first_fault : Option ℕ
   -- the keeper's rows, where it tells them
-  pub told : Option (List Row)
+  pub known : Option (List Row)
   -- how often the keeper has failed
   pub count : ℕ
 
 -- ---- where it leads
 
 -- an event that was kept, or a connection that was closed by a Close that was refused
-pub data Happening : Type 0 where
-  Came : Event → Happening
-  WasShut : ℕ → Happening
+pub data LogItem : Type 0 where
+  Journalled : Event → LogItem
+  RefusedClose : ℕ → LogItem
 
 -- the connections that were closed so while n events were kept
-abbrev pub shut_at : ℕ → List ShutAt → List Happening
-shut_at n shut = map (λ s. WasShut s.conn) (filter (λ s. s.n == n) shut)
+abbrev pub shut_at : ℕ → List ShutAt → List LogItem
+shut_at n shut = map (λ s. RefusedClose s.conn) (filter (λ s. s.n == n) shut)
 
 -- all in one list, from the moment on when n events were kept
-abbrev pub woven : ℕ → List Event → List ShutAt → List Happening
-woven n [] shut = shut_at n shut
-woven n (e ∷ journal) shut = shut_at n shut ++ (Came e ∷ woven (n + 1) journal shut)
+abbrev pub interleaved : ℕ → List Event → List ShutAt → List LogItem
+interleaved n [] shut = shut_at n shut
+interleaved n (e ∷ journal) shut = shut_at n shut ++ (Journalled e ∷ interleaved (n + 1) journal shut)
 
 -- the state after a happening
-abbrev pub happened : State → Happening → State
-happened s (Came e) = after_event s e
-happened s (WasShut conn) = after_shut s conn
+abbrev pub after_item : State → LogItem → State
+after_item s (Journalled e) = after_event s e
+after_item s (RefusedClose conn) = after_shut s conn
 
 -- the state to which events and closings that were refused lead
 abbrev pub state_after : List Event → List ShutAt → State
-state_after journal shut = fold happened first_state (woven 0 journal shut)
+state_after journal shut = fold after_item first_state (interleaved 0 journal shut)
 
 -- the state to which a session's past leads
 abbrev pub state_of : Past → State
@@ -74,7 +74,7 @@ row_behind past e = record { n = length past.journal; bytes = row_of e }
 abbrev pub kept : Past → Event → Past
 kept past e = record past {
   journal = past.journal ++ e ∷ [];
-  told = with_row (row_behind past e) past.told;
+  known = with_row (row_behind past e) past.known;
 }
 
 -- the closings with one more, if the event that was refused is a Close
@@ -95,7 +95,7 @@ quiet_with s conn quiet =
     (range_with_len 1 (length s.connections))
     else quiet
 
--- the past after an event that was refused for want of memory
+-- the past after an event that was refused because memory ran out
 abbrev pub quieted : Past → Event → Past
 quieted past (event.Open name registered) = past
 quieted past (event.Say conn m) = past
@@ -103,13 +103,13 @@ quieted past (event.Close conn) =
     record past { quiet = quiet_with (state_of past) conn past.quiet }
 
 -- the first failed put: the keeper counted it, with the row or without it
-pub record Breaks (old : Past) (e : Event) (answer : Reply) (new : Past) : Type 0 where
+pub record FailsFirst (old : Past) (e : Event) (answer : Reply) (new : Past) : Type 0 where
   pub count : ℕ
-  pub told : Option (List Row)
+  pub known : Option (List Row)
   pub rose : Rose old.count count
-  pub rows : (told ≡ old.told) ⊎ (told ≡ with_row (row_behind old e) old.told)
+  pub rows : (known ≡ old.known) ⊎ (known ≡ with_row (row_behind old e) old.known)
   pub reply : answer ≡ StoreFault count
-  pub after : new ≡ record (refused old e) { broke = Some count; told = told; count = count }
+  pub after : new ≡ record (refused old e) { first_fault = Some count; known = known; count = count }
 
 -- the event was kept, and answered by its own answer
 pub record Accepts (old : Past) (e : Event) (answer : Reply) (new : Past) : Type 0 where
@@ -127,12 +127,12 @@ abbrev pub Serves : Option ℕ → Past → Event → Reply → Past → Type 0
 Serves (Some first) old e answer new = Refuses old e (StoreFault first) answer new
 Serves None old e answer new =
     MatchBool (has_room old.journal e)
-    (Accepts old e answer new ⊎ Breaks old e answer new)
+    (Accepts old e answer new ⊎ FailsFirst old e answer new)
     (Refuses old e Ended answer new)
 
--- one step of a session; want of memory keeps nothing, and makes the connection of a Close quiet
+-- one step of a session; out of memory keeps nothing, and makes the connection of a Close quiet
 abbrev pub Step : Past → Event → Result Reply AllocError → Past → Type 0
-Step old e (Ok answer) new = Serves old.broke old e answer new
+Step old e (Ok answer) new = Serves old.first_fault old e answer new
 Step old e (Err want) new = new ≡ quieted old e
 
 -- the step over a keeper that never fails and tells its rows

@@ -11,12 +11,12 @@ use Rattle.dp_acl.specs.Permitted.{permitted}
 use Rattle.dp_session.specs.declared.connection.Connection.{Connection}
 use Rattle.dp_session.specs.declared.event.Event.{Event}
 use Rattle.dp_session.specs.declared.event.Event.TheVariants as event
-use Rattle.dp_session.specs.declared.item.Item.{Item}
-use Rattle.dp_session.specs.declared.item.Item.TheVariants as item
+use Rattle.dp_session.specs.declared.history_item.HistoryItem.{HistoryItem}
+use Rattle.dp_session.specs.declared.history_item.HistoryItem.TheVariants as item
 use Rattle.dp_session.specs.declared.plan.Change.{Change}
 use Rattle.dp_session.specs.declared.plan.Change.TheVariants.{Stays, Adds, Becomes}
 use Rattle.dp_session.specs.declared.plan.Placing.{Placing}
-use Rattle.dp_session.specs.declared.plan.Placing.TheVariants.{Said, Own}
+use Rattle.dp_session.specs.declared.plan.Placing.TheVariants.{Said, Server}
 use Rattle.dp_session.specs.declared.plan.Plan.{Plan}
 use Rattle.dp_session.specs.declared.plan.Decision.{Decision}
 use Rattle.dp_session.specs.declared.plan.Decision.TheVariants.{Ignore, Acknowledge, Place, Filter}
@@ -26,17 +26,17 @@ use Rattle.dp_session.specs.Tables.{mark, is_holder}
 -- the event
 abbrev pub event_of : Placing → Event
 event_of (Said conn entry) = event.Say conn entry.msg
-event_of (Own e first second) = e
+event_of (Server e first second) = e
 
 -- the entries that it places
 abbrev pub entries_of : Placing → List Entry
 entries_of (Said conn entry) = entry ∷ []
-entries_of (Own e first second) = option_to_list first ++ option_to_list second
+entries_of (Server e first second) = option_to_list first ++ option_to_list second
 
 -- the entries as they are kept, where the event is the journal's n-th
-abbrev pub items_of : ℕ → Placing → List Item
+abbrev pub items_of : ℕ → Placing → List HistoryItem
 items_of n (Said conn entry) = item.Said n entry.user ∷ []
-items_of n (Own e first second) = map item.Own (option_to_list first ++ option_to_list second)
+items_of n (Server e first second) = map item.Server (option_to_list first ++ option_to_list second)
 
 -- the connections after the change
 abbrev pub changed : Change → List Connection → List Connection

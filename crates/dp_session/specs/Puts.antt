@@ -15,16 +15,16 @@ use Rattle.dp_session.specs.Plans.{IsPlan}
 
 -- the past of these tables, beside what else a session keeps
 abbrev pub past_of : Tables → Option ℕ → Option (List Row) → ℕ → Past
-past_of t broke told count = record {
+past_of t first_fault known count = record {
   journal = t.journal.items;
   shut = t.shut.items;
   quiet = quiet_of t.quiet.items;
-  broke = broke;
-  told = told;
+  first_fault = first_fault;
+  known = known;
   count = count;
 }
 
--- the event is ready to be kept behind these
+-- the event is ready to be kept after these
 pub record IsReady (t : Tables) (e : Event) (ready : Ready) : Type 0 where
   pub plan : IsPlan (state_in t) e ready.plan
   pub row : ready.row ≡ record { n = length t.journal.items; bytes = row_of e }

@@ -26,7 +26,7 @@ event_limit = 2 ^ 24
 abbrev pub byte_limit : ℕ
 byte_limit = 2 ^ 30
 
--- there is room for the event behind the journal
+-- there is room for the event after the journal
 abbrev pub has_room : List Event → Event → Bool
 has_room journal event =
     nat_lt (length journal) event_limit

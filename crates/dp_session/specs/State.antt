@@ -39,8 +39,8 @@ pub record State : Type 0 where
   pub answers : List Reply
 
 -- an entry of the server's own
-abbrev pub own_entry : Meta → Entry
-own_entry m = record { user = 0; msg = msg.Meta m }
+abbrev pub server_entry : Meta → Entry
+server_entry m = record { user = 0; msg = msg.Meta m }
 
 -- a user's entry
 abbrev pub entry_of : ℕ → Msg → Entry
@@ -50,7 +50,7 @@ entry_of user m = record { user = user; msg = m }
 abbrev pub first_state : State
 first_state = record {
   ended = [];
-  live = own_entry (ResetMark 0 0) ∷ [];
+  live = server_entry (ResetMark 0 0) ∷ [];
   connections = [];
   stream = None;
   answers = [];
@@ -64,7 +64,7 @@ epoch_of s = length s.ended
 abbrev pub here : State → Place
 here s = record { epoch = epoch_of s; index = length s.live }
 
--- the state with these entries behind the live history
+-- the state with these entries after the live history
 abbrev pub placed : State → List Entry → State
 placed s entries = record s { live = s.live ++ entries }
 
@@ -135,11 +135,11 @@ free_id s = find (λ user. not (is_present s user)) user_ids
 abbrev pub is_name : List ℕ → Bool
 is_name name = nat_le 1 (length name) && nat_le (length name) 32 && is_utf8 name
 
--- the entries that a user who joins makes: the Join, and behind it the first user is operator
+-- the entries that a user who joins makes: the Join, and after it the first user is operator
 abbrev pub join_entries : State → ℕ → Bool → List ℕ → List Entry
 join_entries s user registered name =
     let join = entry_of user (msg.Meta (Join registered name)) in
-    join ∷ (if list_any (is_present s) user_ids then [] else own_entry (Owners (user ∷ [])) ∷ [])
+    join ∷ (if list_any (is_present s) user_ids then [] else server_entry (Owners (user ∷ [])) ∷ [])
 
 -- a new connection of the user, who joins here
 abbrev pub new_connection : State → ℕ → Connection
@@ -193,9 +193,9 @@ left s conn connection =
 -- the user becomes the only operator, if there is one
 abbrev pub next_owner : Option ℕ → List Entry
 next_owner None = []
-next_owner (Some user) = own_entry (Owners (user ∷ [])) ∷ []
+next_owner (Some user) = server_entry (Owners (user ∷ [])) ∷ []
 
--- The entries behind the Leave of a user who was operator or not: where no operator is present any
+-- The entries after the Leave of a user who was operator or not: where no operator is present any
 -- more, but somebody is, the lowest present id is the next one.
 abbrev pub owners_behind : Bool → State → List Entry
 owners_behind was_operator s =

@@ -6,13 +6,13 @@ use Rattle.std.specs.List.{filter, range_with_len}
 use Rattle.dp_messages.specs.declared.message.Msg.{Msg}
 use Rattle.dp_messages.specs.declared.message.Msg.TheVariants as msg
 use Rattle.dp_messages.specs.declared.message.Entry.{Entry}
-use Rattle.dp_acl.specs.Standing.{Kept, StandsFor}
+use Rattle.dp_acl.specs.Table.{Kept, StandsFor}
 use Rattle.dp_session.specs.declared.connection.Connection.{Connection}
 use Rattle.dp_session.specs.declared.event.Event.{Event}
 use Rattle.dp_session.specs.declared.event.Event.TheVariants.{Say}
 use Rattle.dp_session.specs.declared.event.Event.TheVariants as event
-use Rattle.dp_session.specs.declared.item.Item.{Item}
-use Rattle.dp_session.specs.declared.item.Item.TheVariants.{Said, Own}
+use Rattle.dp_session.specs.declared.history_item.HistoryItem.{HistoryItem}
+use Rattle.dp_session.specs.declared.history_item.HistoryItem.TheVariants.{Said, Server}
 use Rattle.dp_session.specs.declared.tables.Tables.{Tables}
 use Rattle.dp_session.specs.Rows.{row_bytes, event_limit, byte_limit}
 use Rattle.dp_session.specs.State.{State, entry_of, is_open}
@@ -31,14 +31,14 @@ IsSay (Some (Say conn m)) = Unit {0}
 IsSay other = ⊥
 
 -- the entry that is kept so beside the journal
-abbrev pub entry_in : List Event → Item → Entry
+abbrev pub entry_in : List Event → HistoryItem → Entry
 entry_in journal (Said event user) = entry_of user (message_of (slice_get journal event))
-entry_in journal (Own entry) = entry
+entry_in journal (Server entry) = entry
 
 -- what was said stands in the journal
-abbrev pub IsIn : List Event → Item → Type 0
+abbrev pub IsIn : List Event → HistoryItem → Type 0
 IsIn journal (Said event user) = IsSay (slice_get journal event)
-IsIn journal (Own entry) = Unit {0}
+IsIn journal (Server entry) = Unit {0}
 
 -- ---- users
 
@@ -59,7 +59,7 @@ MarksHolders present connections =
 -- ---- the whole
 
 -- The tables are those of the state, to which so many events led.
-pub record AreOf (s : State) (journal : List Event) (connections : List Connection) (live : List Item)
+pub record AreOf (s : State) (journal : List Event) (connections : List Connection) (live : List HistoryItem)
     (rights : Kept) (present : List Bool) : Type 0 where
   pub ended : s.ended ≡ []
   pub stream : s.stream ≡ None
@@ -117,7 +117,7 @@ quiet_of flags = filter (λ conn. mark flags (conn - 1)) (range_with_len 1 (leng
 abbrev pub flagged : List Bool → ℕ → List Bool
 flagged flags conn = if conn == 0 then flags else slice_set flags (conn - 1) true
 
--- the flags after an event that was refused for want of memory
+-- the flags after an event that was refused because memory ran out
 abbrev pub flagged_by : Event → List Bool → List Bool
 flagged_by (event.Open name registered) flags = flags
 flagged_by (event.Say conn m) flags = flags

@@ -1,7 +1,7 @@
 //! Laws of sessions, each the contract of a function that does nothing.
 
 ghost use Rattle.std.specs.Prelude.{◌≡◌, ◌≤◌, ◌+◌, ◌*◌, ◌∷◌, ◌++◌, [], ℕ, List, Some, All, length};
-ghost use Rattle.dp_session.specs.declared.event.Event.{Event as Came};
+ghost use Rattle.dp_session.specs.declared.event.Event.{Event as Journalled};
 ghost use Rattle.dp_session.specs.declared.event.ShutAt.{ShutAt};
 ghost use Rattle.dp_session.specs.Past.{Past, state_after, state_of, kept, refused, sure_step};
 ghost use Rattle.dp_session.specs.State.{after_event};
@@ -15,29 +15,29 @@ pub fn one_answer_each()
     ensures { (past : Past) → length (state_of past).answers ≡ length past.journal }
 {}
 
-/// A history only grows: what stands in it stands there behind one more event.
+/// A history only grows: what stands in it stands there after one more event.
 pub fn histories_grow()
-    ensures { (journal : List Came) (shut : List ShutAt) (e : Came)
+    ensures { (journal : List Journalled) (shut : List ShutAt) (e : Journalled)
         → All (λ s. s.n ≤ length journal) shut
         → Continues (state_after journal shut).live (state_after (journal ++ e ∷ []) shut).live }
 {}
 
-/// Once a put has failed, every outcome is that fault, or want of memory.
+/// Once a put has failed, every outcome is that fault, or out of memory.
 pub fn faults_for_good()
     ensures { (past : Past) (first : ℕ) (log : List Outcome)
-        → past.broke ≡ Some first → IsRun past log → AreFaults first log }
+        → past.first_fault ≡ Some first → IsRun past log → AreFaults first log }
 {}
 
 /// Where one more event leads: one that is kept, and one that the limits refuse.
 pub fn steps_lead_on()
-    ensures kept { (past : Past) (e : Came) → ShutBefore past
+    ensures kept { (past : Past) (e : Journalled) → ShutBefore past
         → state_of (kept past e) ≡ after_event (state_of past) e }
-    ensures refused { (past : Past) (e : Came)
+    ensures refused { (past : Past) (e : Journalled)
         → state_of (refused past e) ≡ shut_by (state_of past) e }
-    ensures before { (past : Past) (e : Came) → ShutBefore past → ShutBefore (sure_step past e) }
+    ensures before { (past : Past) (e : Journalled) → ShutBefore past → ShutBefore (sure_step past e) }
 {}
 
-/// A history has at most two entries for each event, behind its mark.
+/// A history has at most two entries for each event, after its mark.
 pub fn histories_are_short()
     ensures { (past : Past) → length (state_of past).live ≤ 2 * length past.journal + 1 }
 {}

@@ -5,13 +5,13 @@
 
 mod connection;
 mod event;
-mod item;
-mod keeping;
+mod history_item;
+mod commit;
 mod laws;
 mod plan;
-mod planning;
+mod planner;
 mod presence;
-mod pulling;
+mod pages;
 mod row;
 mod session;
 mod sure;

@@ -38,7 +38,7 @@ pub(crate) enum Placing {
         entry: Entry,
     },
     /// An event that places up to two entries of other messages.
-    Own {
+    Server {
         event: Event,
         first: Option<Entry>,
         second: Option<Entry>,

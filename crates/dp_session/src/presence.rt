@@ -4,7 +4,7 @@ ghost use Rattle.std.specs.Prelude.{◌≡◌, ◌&&◌, not, Bool, List, ℕ, s
 ghost use Rattle.std.specs.List.{find, list_any};
 ghost use Rattle.dp_messages.specs.declared.message.Entry.{Entry};
 ghost use Rattle.dp_acl.specs.Rights.{is_operator};
-ghost use Rattle.dp_acl.specs.Standing.{StandsFor};
+ghost use Rattle.dp_acl.specs.Table.{StandsFor};
 ghost use Rattle.dp_session.specs.State.{user_ids};
 ghost use Rattle.dp_session.specs.Tables.{mark};
 ghost use Rattle.dp_session.specs.Plans.{first_operator, next_operator};

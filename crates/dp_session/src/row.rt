@@ -10,7 +10,7 @@ use dp_msg_draw::{kind_of_draw, write_draw};
 use dp_msg_meta::{write_control, write_meta};
 use std::alloc::{AllocError, Global};
 
-/// The bytes of the row of the event. The only error is want of memory.
+/// The bytes of the row of the event.
 pub(crate) fn make_row(alloc: Global, event: &Event) -> Result<Vec<u8>, AllocError>
     ensures { IfOk result (λ bytes. bytes.items ≡ row_of event.now) }
 {

@@ -1,17 +1,17 @@
 //! A session over any store of rows.
 
 ghost use Rattle.std.specs.Prelude.{◌≡◌, [], None, IfOk, OnErr};
-ghost use Rattle.dp_keeper.specs.Keeping.{Puts, Counts};
+ghost use Rattle.dp_keeper.specs.Store.{Puts, Counts};
 ghost use Rattle.dp_session.specs.Past.{Refuses, Serves, Step, state_of};
 ghost use Rattle.dp_session.specs.Tables.{AreTables};
 ghost use Rattle.dp_session.specs.Puts.{IsReady, IsPut};
-ghost use Rattle.dp_session.specs.Pulling.{answered};
+ghost use Rattle.dp_session.specs.Pull.{answered};
 ghost use Rattle.dp_session.specs.State.{next_open};
 
 use crate::event::{Answer, Event, Journal, Query, Reply, Shut};
 use crate::plan::Ready;
 use crate::tables::{Tables, next_open};
-use dp_hall::Machine;
+use dp_machine::Machine;
 use dp_keeper::{KeepError, Keeper};
 use std::alloc::{AllocError, Global};
 use std::marker::Model;
@@ -24,7 +24,7 @@ use std::marker::Model;
 pub struct Session<K: Keeper> {
     pub(crate) keeper: K,
     tables: Tables,
-    broke: Option<u64>,
+    first_fault: Option<u64>,
 }
 
 impl<K: Keeper> Model for Session<K> {
@@ -34,7 +34,7 @@ impl<K: Keeper> Model for Session<K> {
 
     ghost Value = { Past };
 
-    ghost view = { λ s. past_of s.tables s.broke (K.held s.keeper) (K.faults s.keeper) };
+    ghost view = { λ s. past_of s.tables s.first_fault (K.held s.keeper) (K.faults s.keeper) };
 
     ghost invariant = { λ s. AreTables s.tables };
 }
@@ -64,19 +64,13 @@ fn put<K: Keeper>(
 
 impl<K: Keeper + Drop> Session<K> {
     /// A session to which nothing has come, over a store without rows.
-    ///
-    /// # Errors
-    ///
-    /// Where memory runs out.
-    ///
-    /// The rule: docs/protocol.md, "The session".
     pub fn new(alloc: Global, keeper: K) -> Result<Session<K>, AllocError>
         ensures { IfOk result (λ session. session ≡ record {
           journal = [];
           shut = [];
           quiet = [];
-          broke = None;
-          told = K.held keeper;
+          first_fault = None;
+          known = K.held keeper;
           count = K.faults keeper;
         }) }
     {
@@ -84,15 +78,13 @@ impl<K: Keeper + Drop> Session<K> {
         Ok(Session {
             keeper,
             tables,
-            broke: None,
+            first_fault: None,
         })
     }
 }
 
 impl<K: Keeper> Session<K> {
     /// The least number above this one of a connection that is open. It takes no memory.
-    ///
-    /// The rule: docs/protocol.md, "The session".
     pub fn conns(&self, after: u32) -> Option<u32>
         ensures { result ≡ next_open (state_of self.now).connections after }
     {
@@ -101,7 +93,7 @@ impl<K: Keeper> Session<K> {
 
     /// The store, the events that were kept, and the closings that were refused.
     pub fn into_parts(self) -> (K, Journal, Shut)
-        ensures told { K.held result.0 ≡ self.told }
+        ensures known { K.held result.0 ≡ self.known }
         ensures count { K.faults result.0 ≡ self.count }
         ensures journal { result.1 ≡ self.journal }
         ensures shut { result.2 ≡ self.shut }
@@ -109,7 +101,7 @@ impl<K: Keeper> Session<K> {
         let Session {
             keeper,
             tables,
-            broke: _,
+            first_fault: _,
         } = self;
         let (journal, shut) = tables.into_parts();
         (keeper, Journal::from_vec(journal), Shut::from_vec(shut))
@@ -129,10 +121,10 @@ impl<K: Keeper> Session<K> {
     /// Serves an event, if there is memory.
     fn serve(&mut self, event: &Event) -> Result<Reply, AllocError>
         ensures served { IfOk result (λ answer.
-            Serves self.old.broke self.old event.now answer self.new) }
+            Serves self.old.first_fault self.old event.now answer self.new) }
         ensures err { OnErr result (self.new ≡ self.old) }
     {
-        if let Some(count) = self.broke {
+        if let Some(count) = self.first_fault {
             return self.refuse(event, Reply::StoreFault { count });
         }
         let Some(ready) = self.tables.prepare(event)? else {
@@ -143,7 +135,7 @@ impl<K: Keeper> Session<K> {
             Err(KeepError::Memory) => Err(AllocError),
             Err(KeepError::Failed) => {
                 let count = self.keeper.count();
-                self.broke = Some(count);
+                self.first_fault = Some(count);
                 Ok(Reply::StoreFault { count })
             }
         }

@@ -5,7 +5,7 @@ ghost use Rattle.dp_session.specs.Past.{sure_answer, sure_step};
 
 use crate::event::{Event, Reply};
 use crate::session::Session;
-use dp_hall::Machine;
+use dp_machine::Machine;
 use dp_keeper::{Keeper, SureKeeper};
 use std::alloc::AllocError;
 
@@ -28,7 +28,7 @@ impl Session<SureKeeper> {
     ///
     /// The rule: docs/protocol.md, "The session".
     pub fn step_surely(&mut self, event: &Event) -> Result<Reply, AllocError>
-        requires { self.old.broke ≡ None }
+        requires { self.old.first_fault ≡ None }
         ensures reply { IfOk result (λ reply. reply ≡ sure_answer self.old event.now) }
         ensures ok { OnOk result (self.new ≡ sure_step self.old event.now) }
     {

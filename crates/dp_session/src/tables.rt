@@ -20,14 +20,14 @@ ghost use Rattle.std.specs.Prelude.{
   OnOk,
   List,
 };
-ghost use Rattle.dp_acl.specs.Standing.{StandsFor};
+ghost use Rattle.dp_acl.specs.Table.{StandsFor};
 ghost use Rattle.dp_session.specs.Rows.{event_limit, byte_limit};
 ghost use Rattle.dp_session.specs.State.{connection_in, open_in, next_open, here};
 ghost use Rattle.dp_session.specs.Tables.{state_in, AreTables, HasRoom, IsSame};
 
 use crate::connection::{Connection, Ending, Place};
 use crate::event::{Event, ShutAt};
-use crate::item::Item;
+use crate::history_item::HistoryItem;
 use dp_acl::Rights;
 use dp_messages::{Entry, Msg};
 use dp_msg_meta::Meta;
@@ -50,7 +50,7 @@ pub(crate) struct Tables {
     pub(crate) shut: Vec<ShutAt>,
     pub(crate) connections: Vec<Connection>,
     pub(crate) quiet: Vec<bool>,
-    pub(crate) live: Vec<Item>,
+    pub(crate) live: Vec<HistoryItem>,
     pub(crate) rights: Rights,
     pub(crate) present: [bool; 256],
 }
@@ -98,7 +98,7 @@ fn no_marks() -> [bool; 256]
 }
 
 impl Tables {
-    /// The tables of a session to which nothing has come. The only error is want of memory.
+    /// The tables of a session to which nothing has come.
     pub(crate) fn new(alloc: Global) -> Result<Tables, AllocError>
         ensures tables { IfOk result AreTables }
         ensures journal { IfOk result (λ tables. tables.journal.items ≡ []) }
@@ -115,7 +115,7 @@ impl Tables {
         let mut rights = Rights::new(alloc);
         rights.note(&mark)?;
         let mut live = Vec::new(alloc);
-        live.push(Item::Own(mark))?;
+        live.push(HistoryItem::Server(mark))?;
         Ok(Tables {
             journal: Vec::new(alloc),
             row_bytes: 0,
@@ -170,7 +170,7 @@ impl Tables {
         self.journal.len() < EVENT_LIMIT && row_length as u64 <= BYTE_LIMIT - self.row_bytes
     }
 
-    /// Makes the memory ready that any one event needs. The only error is want of memory, and all stays
+    /// Makes the memory ready that any one event needs. The only error is out of memory, and all stays
     /// then, too, but for memory that may be ready.
     pub(crate) fn reserve(&mut self) -> Result<(), AllocError>
         ensures same { IsSame self.old self.new }

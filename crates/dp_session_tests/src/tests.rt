@@ -3,7 +3,7 @@
 ghost use Rattle.std.specs.Prelude.{None};
 
 use dp_frame::Octets;
-use dp_hall::Machine;
+use dp_machine::Machine;
 use dp_keeper::{KeepError, Keeper, MemKeeper, Row, Rows, SureKeeper};
 use dp_messages::Msg;
 use dp_msg_meta::{Control, Ids, Meta};
@@ -19,7 +19,7 @@ fn open(alloc: Global, name: &[u8]) -> Result<Event, AllocError> {
     Ok(Event::Open { name, registered })
 }
 
-/// The event of a word. A number behind the word is that of the connection.
+/// The event of a word. A number after the word is that of the connection.
 fn event(alloc: Global, word: &str) -> Result<Event, AllocError> {
     match word {
         "OPEN" => open(alloc, b"a"),
@@ -173,7 +173,7 @@ fn run_to_fault(
     Ok(())
 }
 
-/// A store that fails at the put of this number, with the row kept or lost: the closings behind are `closings`.
+/// A store that fails at the put of this number, with the row kept or lost: the closings after are `closings`.
 fn fails_at(
     rt: &impl Abort,
     alloc: Global,
@@ -241,7 +241,7 @@ fn say_bytes(
 }
 
 /// The row of the Open has 3 bytes, each Say has 6 beside its payload, and a Close has 5: of 2^30 bytes
-/// 49159 are left behind 16382 of the greatest payloads.
+/// 49159 are left after 16382 of the greatest payloads.
 #[test]
 fn ends_where_no_room_is_left(rt: HostRuntime) -> Result<(), Fail> {
     let mut session = Session::new(rt.alloc(), Forgetful {})?;

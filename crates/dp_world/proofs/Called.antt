@@ -6,14 +6,14 @@ use Rattle.dp_lines.specs.Ends.{AreSteps, IsDoable, seen}
 use Rattle.dp_lines.specs.Held.{Held, IsLeft, NextIsLong, ended_from, lines_from}
 use Rattle.dp_lines.specs.Lines.{ended, open_rest, is_overlong}
 use Rattle.dp_schedule.specs.declared.action.Action.{Action}
-use Rattle.dp_schedule.specs.Asking.{Asks}
+use Rattle.dp_schedule.specs.LineGrammar.{Parses}
 use Rattle.dp_world.specs.Schedule.{IsStep}
 
 -- a line asks for one action
 abbrev pub OneAction : Type 0
-OneAction = (line : List ℕ) (action other : Action) → Asks line action → Asks line other → action ≡ other
+OneAction = (line : List ℕ) (action other : Action) → Parses line action → Parses line other → action ≡ other
 
--- steps with a doable line behind them are steps
+-- steps with a doable line after them are steps
 abbrev pub FurtherStep : Type 0
 FurtherStep = (done : List Line) (line : Line) → AreSteps IsStep done → IsDoable IsStep done line
     → AreSteps IsStep (done ++ line ∷ [])
@@ -31,7 +31,7 @@ LeftGiven = (all : List ℕ) (done front : List Line) (old new : Held) → IsLef
     → new.count + length (ended new.bytes) ≡ old.count + length (ended old.bytes)
     → open_rest new.bytes ≡ open_rest old.bytes → new.fed ≡ old.fed → IsLeft all (done ++ front) new
 
--- what was given is a front of what is seen
+-- what was given is a prefix of what is seen
 abbrev pub SeenGiven : Type 0
 SeenGiven = (limit : ℕ) (all more : List ℕ) (done : List Line) (held : Held) → IsLeft all done held → length all ≤ limit
     → (behind : List Line) × (seen limit (all ++ more) ≡ done ++ behind)

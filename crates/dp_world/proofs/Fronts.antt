@@ -1,19 +1,19 @@
--- Lines that are steps are a front of those that the input comes to.
+-- Lines that are steps are a prefix of those that the input comes to.
 use Rattle.std.proofs.Common.{◌≡◌, ℕ, ◌⊎◌, inl, inr, List, [], ◌∷◌, ◌++◌, refl, sym, ap, ◌∙◌, subst}
 use Rattle.std.specs.Prelude.{Option}
 use Rattle.dp_io.specs.Streams.{GrowsByPrefix}
 use Rattle.dp_lines.specs.declared.line.Line.{Line}
 use Rattle.dp_lines.specs.Ends.{LinesEnd, AllDone, BadLine, TooLong, LinesComeTo, AreSteps, seen}
 use Rattle.dp_schedule.specs.declared.action.Action.{Action}
-use Rattle.dp_peers.specs.Report.{printed, along, report}
-use Rattle.dp_peers.specs.World.{world_after}
+use Rattle.dp_sim.specs.Report.{printed, along, report}
+use Rattle.dp_sim.specs.World.{world_after}
 use Rattle.dp_world.specs.Schedule.{AskFor, IsStep, world_limit, WorldComesTo}
-use Rattle.dp_world.specs.Going.{HasBegunOf}
+use Rattle.dp_world.specs.Progress.{HasBegunOf}
 use Rattle.dp_world.proofs.Prefixes.{grows_within}
 use Rattle.dp_world.proofs.Called.{OneAction}
 use Rattle.dp_world.proofs.Reports.{asked_front, report-append}
 
--- the first list goes on behind the second
+-- the first list goes on after the second
 record Beyond (xs us vs : List Line) : Type 0 where
   first : Line
   more : List Line
@@ -21,7 +21,7 @@ record Beyond (xs us vs : List Line) : Type 0 where
   longer : xs ≡ us ++ first ∷ more
   next : vs ≡ first ∷ behind
 
--- of two fronts of a list one is a front of the other
+-- of two prefixes of a list one is a prefix of the other
 two_fronts : (xs ys us vs : List Line) → xs ++ ys ≡ us ++ vs
     → ((more : List Line) × (us ≡ xs ++ more)) ⊎ Beyond xs us vs
 two_fronts [] ys us vs same = inl (us, refl)

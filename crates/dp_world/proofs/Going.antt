@@ -10,18 +10,18 @@ use Rattle.dp_lines.specs.Held.{IsInLimit}
 use Rattle.dp_schedule.specs.declared.action.Action.{Action}
 use Rattle.dp_lines.specs.declared.run_end.RunEnd.{RunEnd}
 use Rattle.dp_lines.specs.declared.run_end.RunEnd.TheVariants.{BadLine, Memory}
-use Rattle.dp_schedule.specs.Asking.{Asks}
-use Rattle.dp_peers.specs.Report.{printed, report}
-use Rattle.dp_peers.specs.World.{World, after, world_after}
+use Rattle.dp_schedule.specs.LineGrammar.{Parses}
+use Rattle.dp_sim.specs.Report.{printed, report}
+use Rattle.dp_sim.specs.World.{World, after, world_after}
 use Rattle.dp_world.specs.Schedule.{IsPossible, IsStep}
-use Rattle.dp_world.specs.Going.{IsRefused, HasDone, HasTold, HasBegun, StopsBehind}
+use Rattle.dp_world.specs.Progress.{IsRefused, HasDone, HasPrinted, HasBegun, StopsBehind}
 use Rattle.dp_world.proofs.Prefixes.{grows_after, grows_kept}
 use Rattle.dp_world.proofs.Called.{OneAction, FurtherStep}
 use Rattle.dp_world.proofs.Reports.{asked_more, asked_same, report_more, world_more}
 
 -- a line that asks for what may be done is doable
 doable : (done : List Line) (line : Line) (action : Action) (world : World) (start old : Option (List ℕ))
-    → HasDone done world start old → IsInLimit line → Asks line.bytes action → IsPossible world action
+    → HasDone done world start old → IsInLimit line → Parses line.bytes action → IsPossible world action
     → IsDoable IsStep done line
 doable done line action world start old has fits asks possible = record {
   fits = fits;
@@ -36,7 +36,7 @@ doable done line action world start old has fits asks possible = record {
 
 -- the line is done
 pub done_further : FurtherStep → (done : List Line) (line : Line) (action : Action) (world later : World) (start old now : Option (List ℕ))
-    → IsInLimit line → Asks line.bytes action → IsPossible world action → later ≡ after world action
+    → IsInLimit line → Parses line.bytes action → IsPossible world action → later ≡ after world action
     → Appends old now (printed world action) → HasDone done world start old → HasDone (done ++ line ∷ []) later start now
 done_further further done line action world later start old now fits asks possible leads written has = record {
   actions = has.actions ++ action ∷ [];
@@ -51,7 +51,7 @@ done_further further done line action world later start old now fits asks possib
 
 -- a part of its text was written
 pub begun_further : FurtherStep → (done : List Line) (line : Line) (action : Action) (world : World) (start old now : Option (List ℕ))
-    → IsInLimit line → Asks line.bytes action → IsPossible world action → GrowsByPrefix old now (printed world action)
+    → IsInLimit line → Parses line.bytes action → IsPossible world action → GrowsByPrefix old now (printed world action)
     → HasDone done world start old → HasBegun (done ++ line ∷ []) start now
 begun_further further done line action world start old now fits asks possible part has = record {
   actions = has.actions ++ action ∷ [];
@@ -73,13 +73,13 @@ begun_kept done world start old now kept has = record {
   text = grows_kept start old now (report has.actions) has.text kept;
 }
 
-pub told_of : (done : List Line) (world : World) (start now : Option (List ℕ)) → HasDone done world start now → HasTold done start now
+pub told_of : (done : List Line) (world : World) (start now : Option (List ℕ)) → HasDone done world start now → HasPrinted done start now
 told_of done world start now has =
     record { actions = has.actions; asked = has.asked; steps = has.steps; text = has.text }
 
 -- a line that asks for nothing that may be done is no step
 not_doable : OneAction → (done : List Line) (line : Line) (world : World) (start old : Option (List ℕ))
-    → ((action : Action) → Asks line.bytes action → ¬ IsPossible world action)
+    → ((action : Action) → Parses line.bytes action → ¬ IsPossible world action)
     → HasDone done world start old → ¬ IsDoable IsStep done line
 not_doable one done line world start old refused has = λ doable.
     let step = doable.step in

@@ -10,10 +10,10 @@ use Rattle.dp_lines.specs.declared.run_end.RunEnd.TheVariants.{Done, BadLine, Re
 use Rattle.dp_lines.specs.Ends.{AreSteps, seen}
 use Rattle.dp_lines.specs.Held.{Held, IsLeft, NextIsLong, ended_from}
 use Rattle.dp_lines.specs.Lines.{ended, numbered}
-use Rattle.dp_peers.specs.World.{World, first_world}
+use Rattle.dp_sim.specs.World.{World, first_world}
 use Rattle.dp_world.specs.Schedule.{AskFor, IsStep, world_limit}
-use Rattle.dp_world.specs.Running.{WorldLeaves, Blames}
-use Rattle.dp_world.specs.Going.{HasTold, HasRead, IsReading, IsEnding, StopsIn, CountsTo}
+use Rattle.dp_world.specs.RunEnds.{WorldLeaves, Blames}
+use Rattle.dp_world.specs.Progress.{HasPrinted, HasRead, IsReading, IsEnding, StopsIn, CountsTo}
 use Rattle.dp_world.proofs.Called.{OneAction, SeenCut, SeenWhole}
 use Rattle.dp_world.proofs.Fronts.{begun_due}
 
@@ -75,8 +75,8 @@ taken_length input left held world start now read = sym read.reading.left.fed
 -- of an input that tells its bytes
 told_of_stop : OneAction → (bytes : List ℕ) (left start now : Option (List ℕ)) (end : RunEnd)
     → StopsIn (seen world_limit bytes) start now end → WorldLeaves (Some bytes) left start now end
-told_of_stop one bytes left start now (BadLine n) (done, stops, told) =
-    (done, told.actions, (stops, told.asked), told.text)
+told_of_stop one bytes left start now (BadLine n) (done, stops, line) =
+    (done, line.actions, (stops, line.asked), line.text)
 told_of_stop one bytes left start now WriteFault begun = begun_due one bytes start now begun
 told_of_stop one bytes left start now Memory begun = begun_due one bytes start now begun
 told_of_stop one bytes left start now _ stops = absurd stops
@@ -89,7 +89,7 @@ untold_of_stop lines left start now WriteFault stops = tt
 untold_of_stop lines left start now Memory stops = tt
 untold_of_stop lines left start now _ stops = absurd stops
 
--- the run stops at a line that is seen of these bytes, with whatever behind them
+-- the run stops at a line that is seen of these bytes, with whatever after them
 stop_leaves : OneAction → (input left rest : Option (List ℕ)) (front behind : List ℕ) (start now : Option (List ℕ)) (end : RunEnd)
     → Consumes input rest (front ++ behind) → ((more : List ℕ) → StopsIn (seen world_limit (front ++ more)) start now end)
     → WorldLeaves input left start now end
@@ -206,16 +206,16 @@ nothing_more input left rest taken none is first second =
 -- all lines were done
 pub done_leaves : SeenWhole → (input left rest : Option (List ℕ)) (none : List ℕ) (held : Held) (world : World) (start old now : Option (List ℕ))
     → none ≡ [] → Consumes left rest none → IsAtEnd rest → held.fed ≤ world_limit
-    → ((start : Option (List ℕ)) (lines : List Line) → IsEnding lines held world start old → HasTold lines start now)
+    → ((start : Option (List ℕ)) (lines : List Line) → IsEnding lines held world start old → HasPrinted lines start now)
     → HasRead input left held world start old → WorldLeaves input rest start now Done
 done_leaves law None left rest none held world start old now is consumes end few does read = (end, tt)
 done_leaves law (Some bytes) left rest none held world start old now is consumes end few does read =
     let all = all_taken bytes rest read.taken (nothing_more (Some bytes) left rest read.taken none is read.consumed consumes) end in
     let short : length read.taken ≤ world_limit = omega (arith, taken_length (Some bytes) left held world start old read) in
-    let told = does start (seen world_limit read.taken) (ending_of law read.taken held world start old short read.reading) in
+    let line = does start (seen world_limit read.taken) (ending_of law read.taken held world start old short read.reading) in
     let same : seen world_limit read.taken ≡ seen world_limit bytes = ap (seen world_limit) (sym all) in
     let within : length bytes ≤ world_limit = omega (arith, ap length all) in
-    (end, (seen world_limit read.taken, told.actions, ((within, same, told.steps), told.asked), told.text))
+    (end, (seen world_limit read.taken, line.actions, ((within, same, line.steps), line.asked), line.text))
 
 -- a line of the rest stops the run
 pub rest_stops : OneAction → SeenWhole → (input left rest : Option (List ℕ)) (none : List ℕ) (held : Held) (world : World) (start old now : Option (List ℕ)) (end : RunEnd)

@@ -1,9 +1,9 @@
 pub mod Called
 pub mod Reports
 pub mod Prefixes
-pub mod Shown
+pub mod CanvasKind
 pub mod Lines
 pub mod Fronts
-pub mod Going
+pub mod Progress
 pub mod Reading
 pub mod Leaving

@@ -8,9 +8,9 @@ use Rattle.dp_lines.specs.declared.run_end.RunEnd.TheVariants.{BadLine, WriteFau
 use Rattle.dp_lines.specs.Ends.{AreSteps, seen}
 use Rattle.dp_lines.specs.Held.{Held, IsLeft, NextIsLong, ended_from, lines_from}
 use Rattle.dp_lines.specs.Lines.{ended, open_rest}
-use Rattle.dp_peers.specs.World.{World}
+use Rattle.dp_sim.specs.World.{World}
 use Rattle.dp_world.specs.Schedule.{IsStep, world_limit}
-use Rattle.dp_world.specs.Going.{HasDone, HasTold, StopsBehind, StopsIn, IsReading, IsEnding}
+use Rattle.dp_world.specs.Progress.{HasDone, HasPrinted, StopsBehind, StopsIn, IsReading, IsEnding}
 use Rattle.dp_world.proofs.Going.{begun_kept, told_of}
 use Rattle.dp_world.proofs.Called.{LeftFed, LeftGiven, SeenGiven, SeenLong}
 use Rattle.std.proofs.KnownBytes.{Keeps-refl}
@@ -20,10 +20,10 @@ use Rattle.std.proofs.KnownBytes.{Keeps-refl}
 -- a line of these stops the run
 stops_in : (lines done behind : List Line) (line : Line) (start now : Option (List ℕ)) (end : RunEnd)
     → lines ≡ done ++ line ∷ behind → AreSteps IsStep done → StopsBehind done line start now end → StopsIn lines start now end
-stops_in lines done behind line start now (BadLine n) whole steps (number, bad, told) = (
+stops_in lines done behind line start now (BadLine n) whole steps (number, bad, line) = (
   done,
   record { line = line; behind = behind; next = whole; number = number; steps = steps; bad = bad },
-  told,
+  line,
 )
 stops_in lines done behind line start now WriteFault whole steps begun = record {
   done = done ++ line ∷ [];
@@ -169,8 +169,8 @@ ending_full lines held world start now ending = record {
 
 -- no line is left
 pub ending_told : (lines : List Line) (held : Held) (world : World) (start now : Option (List ℕ))
-    → lines_from held ≡ [] → IsEnding lines held world start now → HasTold lines start now
+    → lines_from held ≡ [] → IsEnding lines held world start now → HasPrinted lines start now
 ending_told lines held world start now none ending =
     let all : ending.done ≡ lines =
     sym (ending.whole ∙ ap (λ (ls : List Line). ending.done ++ ls) none ∙ append-nil ending.done) in
-    subst (λ (ls : List Line). HasTold ls start now) all (told_of ending.done world start now ending.has)
+    subst (λ (ls : List Line). HasPrinted ls start now) all (told_of ending.done world start now ending.has)

@@ -5,9 +5,9 @@ use Rattle.std.proofs.lemmas.List.{append-nil}
 use Rattle.std.proofs.lemmas.List.Sums.{fold_push}
 use Rattle.dp_lines.specs.declared.line.Line.{Line}
 use Rattle.dp_schedule.specs.declared.action.Action.{Action}
-use Rattle.dp_schedule.specs.Asking.{Asks}
-use Rattle.dp_peers.specs.Report.{printed, along, report}
-use Rattle.dp_peers.specs.World.{World, first_world, after, world_after}
+use Rattle.dp_schedule.specs.LineGrammar.{Parses}
+use Rattle.dp_sim.specs.Report.{printed, along, report}
+use Rattle.dp_sim.specs.World.{World, first_world, after, world_after}
 use Rattle.dp_world.specs.Schedule.{AskFor}
 use Rattle.dp_world.proofs.Called.{OneAction}
 
@@ -15,7 +15,7 @@ use Rattle.dp_world.proofs.Called.{OneAction}
 
 -- one line more asks for one action more
 pub asked_more : (done : List Line) (actions : List Action) (line : Line) (action : Action)
-    → AskFor done actions → Asks line.bytes action → AskFor (done ++ line ∷ []) (actions ++ action ∷ [])
+    → AskFor done actions → Parses line.bytes action → AskFor (done ++ line ∷ []) (actions ++ action ∷ [])
 asked_more [] [] line action asked asks = (asks, tt)
 asked_more [] (first ∷ actions) line action asked asks = absurd asked
 asked_more (first ∷ done) [] line action asked asks = absurd asked

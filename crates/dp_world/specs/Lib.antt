@@ -1,3 +1,3 @@
 pub mod Schedule
-pub mod Running
-pub mod Going
+pub mod RunEnds
+pub mod Progress

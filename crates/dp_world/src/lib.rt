@@ -3,8 +3,8 @@
 //! The rule: docs/protocol.md, "The world".
 #![tactic(auto)]
 
-mod doing;
-mod feeding;
+mod line_run;
+mod piece_run;
 mod laws;
 mod run;
 mod steps;

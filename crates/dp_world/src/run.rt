@@ -1,9 +1,9 @@
 //! Running a schedule.
 
 ghost use Rattle.std.specs.Prelude.{◌≤◌};
-ghost use Rattle.dp_world.specs.Running.{Blames, WorldLeaves};
+ghost use Rattle.dp_world.specs.RunEnds.{Blames, WorldLeaves};
 
-use crate::doing::Run;
+use crate::line_run::Run;
 use crate::steps::ScheduleSteps;
 use dp_io::{Failed, Sink, Source};
 use dp_lines::{RunEnd, further_step, lines_seen, still_left};

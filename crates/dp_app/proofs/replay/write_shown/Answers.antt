@@ -1,7 +1,7 @@
 use Rattle.std.proofs.Common.{◌≡◌, ap, ◌∙◌, subst, refl, inl}
 use Rattle.std.specs.Io.KnownBytes.{Appends}
 use Rattle.dp_plain.specs.Board.{Board}
-use Rattle.dp_plain.specs.Drawing.{draw}
+use Rattle.dp_plain.specs.Commands.{draw}
 use Rattle.dp_plain.specs.Picture.{p6}
 use Rattle.dp_plain.specs.Replay.{shown, shown_on}
 use Rattle.dp_app.proofs.replay.write_shown.Goals as goal

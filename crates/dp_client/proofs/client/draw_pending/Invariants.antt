@@ -1,6 +1,6 @@
 use Rattle.std.proofs.Common.{◌≡◌, take}
 use Rattle.std.specs.List.{filter_map}
-use Rattle.dp_plain.specs.Drawing.{draw_all}
+use Rattle.dp_plain.specs.Commands.{draw_all}
 use Rattle.dp_client.specs.Client.{command_of}
 use Rattle.dp_client.proofs.client.draw_pending.Given as goal
 

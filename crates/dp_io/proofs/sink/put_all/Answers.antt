@@ -1,4 +1,4 @@
--- Each write appends the bytes behind those that were written before.
+-- Each write appends the bytes after those that were written before.
 use Rattle.std.proofs.Common.{◌∙◌, arith}
 use Rattle.std.proofs.lemmas.Grind.{common_steps}
 use Rattle.dp_io.proofs.WriteRuns.{appends_more}

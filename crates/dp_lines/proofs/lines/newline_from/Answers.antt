@@ -5,7 +5,7 @@ use Rattle.dp_lines.specs.Lines.{newline}
 use Rattle.dp_lines.proofs.Scanning.{found_end, found_none}
 use Rattle.dp_lines.proofs.lines.newline_from.Goals as goal
 
--- what is found behind the bytes that were scanned before is the first of all
+-- what is found after the bytes that were scanned before is the first of all
 pub returns-in-Some-clause-end : goal.returns-in-Some-clause-end
 returns-in-Some-clause-end c =
     let rest = take_rest c.args.bytes.now c.args.from in

@@ -1,7 +1,7 @@
 use Rattle.std.proofs.Common.{refl, subst}
-use Rattle.dp_pixels.specs.declared.window.Window.{Window}
-use Rattle.dp_pixels.specs.Drawing.{pixel_drawn}
-use Rattle.dp_pixels.specs.Windows.{IsPainted}
+use Rattle.dp_pixels.specs.declared.region.Region.{Region}
+use Rattle.dp_pixels.specs.Commands.{pixel_drawn}
+use Rattle.dp_pixels.specs.Regions.{IsPainted}
 use Rattle.dp_pixels.proofs.Whole.{whole_window, whole_painted}
 use Rattle.dp_pixels.proofs.canvas.draw_whole.Goals as goal
 
@@ -9,5 +9,5 @@ pub returns : goal.returns
 returns c =
     let width = c.args.width in
     let height = c.args.height in
-    let painted = subst (λ (w : Window). IsPainted w width (pixel_drawn w.canvas_width w.canvas_height c.args.op.now) c.args.pixels.now c.draw_window.new.pixels) c.whole.ensures c.draw_window.ensures in
-    whole_painted c.canvas_law.ensures width height (whole_window width height) (pixel_drawn width height c.args.op.now) c.args.pixels.now c.draw_window.new.pixels refl c.requires painted
+    let painted = subst (λ (w : Region). IsPainted w width (pixel_drawn w.canvas_width w.canvas_height c.args.op.now) c.args.pixels.now c.draw_region.new.pixels) c.whole.ensures c.draw_region.ensures in
+    whole_painted c.canvas_law.ensures width height (whole_window width height) (pixel_drawn width height c.args.op.now) c.args.pixels.now c.draw_region.new.pixels refl c.requires painted

@@ -2,7 +2,7 @@ use Rattle.std.proofs.Common.{◌≡◌, ap, ◌∙◌, sym, rules, SFits, w32, 
 use Rattle.std.specs.Prelude.{ℤ}
 use Rattle.std.proofs.lemmas.Int.{to_z-of_z}
 use Rattle.dp_msg_draw.specs.declared.draw.Draw.{Draw}
-use Rattle.dp_pixels.specs.Drawing.{pixels_after, pixels_moved}
+use Rattle.dp_pixels.specs.Commands.{pixels_after, pixels_moved}
 use Rattle.dp_pixels.proofs.Layers.{OnOk-map, after_other, after_move}
 use Rattle.dp_pixels.proofs.layer.draw_pixels.Goals as goal
 

@@ -1,7 +1,7 @@
 use Rattle.std.proofs.Common.{arith, rules, ◌∙◌, ◌++◌, ap, w32}
 use Rattle.std.specs.Prelude.{ℤ, FitsSigned}
 use Rattle.std.proofs.lemmas.Int.{ints, to_z-of_z}
-use Rattle.dp_plain.specs.Moving.{row_moved}
+use Rattle.dp_plain.specs.Moves.{row_moved}
 use Rattle.dp_plain.proofs.Moves.{difference, pixels_moved_more}
 use Rattle.dp_plain.proofs.resize.moved_pixels.Goals as goal
 

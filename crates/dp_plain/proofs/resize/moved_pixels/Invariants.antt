@@ -1,5 +1,5 @@
 use Rattle.std.proofs.Common.{◌≡◌}
-use Rattle.dp_plain.specs.Drawing.{pixels_moved}
+use Rattle.dp_plain.specs.Commands.{pixels_moved}
 use Rattle.dp_plain.proofs.resize.moved_pixels.Given as goal
 
 -- the rows above y are made

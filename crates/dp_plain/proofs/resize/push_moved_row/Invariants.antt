@@ -1,5 +1,5 @@
 use Rattle.std.proofs.Common.{◌≡◌, ◌++◌}
-use Rattle.dp_plain.specs.Moving.{row_moved}
+use Rattle.dp_plain.specs.Moves.{row_moved}
 use Rattle.dp_plain.proofs.resize.push_moved_row.Given as goal
 
 -- the pixels before x are added

@@ -3,7 +3,7 @@ use Rattle.std.specs.Prelude.{All}
 use Rattle.std.proofs.lemmas.List.Elements.{All-push}
 use Rattle.dp_layers.specs.declared.row.LayerRow.{LayerRow}
 use Rattle.dp_layers.specs.Rows.{content_of}
-use Rattle.dp_plain.specs.Resizing.{pixels_resized}
+use Rattle.dp_plain.specs.Resizes.{pixels_resized}
 use Rattle.dp_plain.proofs.Holds.{fit_found}
 use Rattle.dp_plain.proofs.Remaking.{none_next, changed_next}
 use Rattle.dp_plain.proofs.trees.resized_contents.Goals as goal
@@ -11,7 +11,7 @@ use Rattle.dp_plain.proofs.trees.resized_contents.Goals.{in-Some+in_ok-resize+in
 
 pub resize-requires : goal.resize-requires
 resize-requires g c = record {
-  fits = fit_found (g.C.Content.fits c.args.change.width c.args.change.height) c.args.tree.now
+  fits = fit_found (g.C.LayerPixels.fits c.args.change.width c.args.change.height) c.args.tree.now
       c.row-item.result.id c.in-Some.content.now c.requires
       (sym c.in-Some.ensures.value);
 }
@@ -19,8 +19,8 @@ resize-requires g c = record {
 pub loop-row-preserved : goal.loop-row-preserved
 loop-row-preserved g c =
     let change = c.args.change in
-    let old = g.C.Content.pixels change.width change.height in
-    let new = g.C.Content.pixels change.new_width change.new_height in
+    let old = g.C.LayerPixels.pixels change.width change.height in
+    let new = g.C.LayerPixels.pixels change.new_width change.new_height in
     let rows = c.rows-row-items.result.now in
     let held = λ (row : LayerRow). content_of c.args.tree.now row.id in
     let i = c.loop-row.row-index in
@@ -32,8 +32,8 @@ loop-row-preserved g c =
           let added : c.match-content.contents.items ≡ made ++ y ∷ [] = rw w.contents-is
           w.in_ok-push.ensures.items in
           record {
-            fit = subst (All (g.C.Content.fits change.new_width change.new_height)) (sym added)
-                (All-push (g.C.Content.fits change.new_width change.new_height) made y
+            fit = subst (All (g.C.LayerPixels.fits change.new_width change.new_height)) (sym added)
+                (All-push (g.C.LayerPixels.fits change.new_width change.new_height) made y
                 c.loop-row.invariant.fit w.in_ok-resize.ensures.fits);
             pixels = changed_next held rows i c.row-item.result in_list c.row-item.is old new
                 (pixels_resized change) w.in-Some.content.now y made

@@ -1,5 +1,5 @@
 use Rattle.dp_session.proofs.LawLemmas.{refused-leads, before-step}
-use Rattle.dp_session.proofs.Weaving.{state-came}
+use Rattle.dp_session.proofs.Interleaving.{state-came}
 use Rattle.dp_session.proofs.laws.steps_lead_on.Goals as goal
 
 pub returns-clause-kept : goal.returns-clause-kept

@@ -1,7 +1,7 @@
 use Rattle.std.proofs.Common.{◌≡◌, ℕ, ◌<◌, ◌≤◌, ◌&&◌, false, List}
 use Rattle.dp_messages.specs.declared.message.Entry.{Entry}
 use Rattle.dp_acl.specs.Rights.{is_operator}
-use Rattle.dp_acl.specs.Standing.{StandsFor}
+use Rattle.dp_acl.specs.Table.{StandsFor}
 use Rattle.dp_session.specs.Tables.{mark}
 use Rattle.dp_session.proofs.presence.lowest_operator.Given as goal
 

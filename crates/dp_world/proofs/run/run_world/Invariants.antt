@@ -1,7 +1,7 @@
 use Rattle.std.proofs.Common.{◌≡◌, ◌+◌, ◌^◌, []}
 use Rattle.dp_lines.specs.Held.{ended_from}
-use Rattle.dp_peers.specs.Keeping.{IsWorld}
-use Rattle.dp_world.specs.Going.{HasRead}
+use Rattle.dp_sim.specs.Invariant.{IsWorld}
+use Rattle.dp_world.specs.Progress.{HasRead}
 use Rattle.dp_world.proofs.run.run_world.Given as goal
 
 -- the lines that are whole in what was taken are done, and neither the input nor the output failed

@@ -1,6 +1,6 @@
 use Rattle.std.proofs.Common.{take}
-use Rattle.dp_acl.specs.Looking.{lists}
-use Rattle.dp_acl.specs.Standing.{Mark}
+use Rattle.dp_acl.specs.LookBack.{lists}
+use Rattle.dp_acl.specs.Table.{Mark}
 use Rattle.dp_acl.proofs.id_set.IdSet.of.Given as goal
 
 -- the set has the ids so far

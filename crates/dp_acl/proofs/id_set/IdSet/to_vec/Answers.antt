@@ -1,5 +1,5 @@
 use Rattle.std.proofs.Common.{◌∙◌, sym}
-use Rattle.dp_acl.specs.Standing.{mark_of}
+use Rattle.dp_acl.specs.Table.{mark_of}
 use Rattle.dp_acl.proofs.ListLemmas.{filter-numbers_none, filter-numbers_yes, filter-numbers_no}
 use Rattle.dp_acl.proofs.id_set.IdSet.to_vec.Goals as goal
 use Rattle.dp_acl.proofs.id_set.IdSet.to_vec.Goals.{then-contains+in_ok-push, else-contains}

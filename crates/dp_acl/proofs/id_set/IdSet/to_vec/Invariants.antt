@@ -1,7 +1,7 @@
 use Rattle.std.proofs.Common.{◌≡◌}
 use Rattle.std.specs.List.{filter}
-use Rattle.dp_acl.specs.Looking.{numbers_below}
-use Rattle.dp_acl.specs.Standing.{mark_of}
+use Rattle.dp_acl.specs.LookBack.{numbers_below}
+use Rattle.dp_acl.specs.Table.{mark_of}
 use Rattle.dp_acl.proofs.id_set.IdSet.to_vec.Given as goal
 
 -- the ids so far

@@ -3,7 +3,7 @@ use Rattle.std.specs.List.{filter}
 use Rattle.dp_msg_meta.specs.Fields.{RiseFrom}
 use Rattle.dp_msg_meta.specs.declared.message.Meta.TheVariants.{Owners, Trusted, UserAcl, FeatureTiers}
 use Rattle.dp_acl.specs.contracts.rights.Rights.{the_view}
-use Rattle.dp_acl.specs.Standing.{Kept, StandsFor, mark_of}
+use Rattle.dp_acl.specs.Table.{Kept, StandsFor, mark_of}
 use Rattle.dp_acl.specs.RuleTable.{acl_of}
 use Rattle.dp_acl.proofs.CarryLemmas.{length-filter_le, locks-short, carried-kept, five-pushed, same-start}
 use Rattle.dp_acl.proofs.rights.Rights.carry.Goals as goal

@@ -1,5 +1,5 @@
 use Rattle.std.proofs.Common.{◌∙◌, ap, sym, arith}
-use Rattle.dp_acl.specs.Standing.{Kept, kept_rule}
+use Rattle.dp_acl.specs.Table.{Kept, kept_rule}
 use Rattle.dp_acl.specs.Inside.{kept_of}
 use Rattle.dp_acl.proofs.PaintLemmas.{may-by_kept}
 use Rattle.dp_acl.proofs.rights.Rights.may_paint.Goals as goal

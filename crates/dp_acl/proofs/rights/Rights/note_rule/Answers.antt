@@ -1,8 +1,8 @@
 use Rattle.std.proofs.Common.{◌≤◌, ap, sym, subst, arith, length, All, ◌<◌}
 use Rattle.dp_msg_meta.specs.declared.message.Meta.TheVariants.{LayerAcl}
 use Rattle.dp_acl.specs.contracts.rights.Rights.{the_view}
-use Rattle.dp_acl.specs.Looking.{lists}
-use Rattle.dp_acl.specs.Standing.{Kept, Mark}
+use Rattle.dp_acl.specs.LookBack.{lists}
+use Rattle.dp_acl.specs.Table.{Kept, Mark}
 use Rattle.dp_acl.specs.Step.{meta_entry, IsKeptAfter}
 use Rattle.dp_acl.proofs.IdLemmas.{marked-in_order, length-in_order}
 use Rattle.dp_acl.proofs.StepLemmas.{kept-rule}

@@ -2,7 +2,7 @@ use Rattle.std.proofs.Common.{◌&&◌, nat_le, ◌∙◌, ap, sym}
 use Rattle.dp_msg_meta.specs.declared.message.Tiers.{Tiers}
 use Rattle.dp_acl.specs.Rights.{tier_of, may_paint}
 use Rattle.dp_acl.specs.Permitted.{permits_draw}
-use Rattle.dp_acl.specs.Standing.{Kept}
+use Rattle.dp_acl.specs.Table.{Kept}
 use Rattle.dp_acl.proofs.rights.Rights.permits_draw.Goals as goal
 
 pub returns-in-PutImage : goal.returns-in-PutImage

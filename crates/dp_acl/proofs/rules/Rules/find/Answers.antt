@@ -1,6 +1,6 @@
 use Rattle.std.proofs.Common.{◌∙◌, ap, subst}
 use Rattle.dp_acl.specs.RuleTable.{RuleTable}
-use Rattle.dp_acl.specs.Standing.{kept_rule}
+use Rattle.dp_acl.specs.Table.{kept_rule}
 use Rattle.dp_acl.specs.Inside.{IsPlaceOf, IsGapFor}
 use Rattle.dp_acl.proofs.RuleLemmas.{found-at, absent-in}
 use Rattle.dp_acl.proofs.rules.Rules.find.Goals as goal

@@ -1,6 +1,6 @@
 use Rattle.std.proofs.Common.{◌==◌, ◌∙◌, refl, ap, sym, subst, Some, map, if◌then◌else◌}
 use Rattle.dp_acl.specs.RuleTable.{RuleTable}
-use Rattle.dp_acl.specs.Standing.{kept_rule}
+use Rattle.dp_acl.specs.Table.{kept_rule}
 use Rattle.dp_acl.specs.Inside.{kept_of, AreRules, IsPlaceOf, IsGapFor}
 use Rattle.dp_acl.proofs.RuleLemmas.{put-at, put-in, are-insert}
 use Rattle.dp_acl.proofs.rules.Rules.put.Goals as goal

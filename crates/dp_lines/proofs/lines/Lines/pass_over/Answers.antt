@@ -1,6 +1,6 @@
 use Rattle.std.proofs.Common.{◌≡◌, ℕ, true, List, ap, sym, ◌∙◌, subst, take}
 use Rattle.dp_lines.specs.Held.{Held}
-use Rattle.dp_lines.specs.Taking.{Keeps, IsEnd}
+use Rattle.dp_lines.specs.Taken.{Keeps, IsEnd}
 use Rattle.dp_lines.specs.Lines.{is_skipped}
 use Rattle.dp_lines.proofs.Numbering.{keeps_further, keeps_behind_skipped}
 use Rattle.dp_lines.proofs.lines.Lines.pass_over.Goals as goal

@@ -1,5 +1,5 @@
 use Rattle.std.proofs.Common.{length}
-use Rattle.dp_lines.specs.Taking.{Keeps}
+use Rattle.dp_lines.specs.Taken.{Keeps}
 use Rattle.dp_lines.proofs.lines.Lines.pass_over.Given as goal
 
 abbrev pub invariant-passed : goal.invariant-passed

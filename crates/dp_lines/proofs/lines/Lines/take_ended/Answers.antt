@@ -1,7 +1,7 @@
 use Rattle.std.proofs.Common.{length, ◌+◌, sym}
 use Rattle.dp_lines.specs.Lines.{ended, open_rest}
 use Rattle.dp_lines.specs.Held.{ended_from}
-use Rattle.dp_lines.specs.Taking.{first_line, behind_first}
+use Rattle.dp_lines.specs.Taken.{first_line, behind_first}
 use Rattle.dp_lines.proofs.Giving.{given_line, same_after, long_next, first_of_lines}
 use Rattle.dp_lines.proofs.Numbering.{lines_behind_kept, first_counted, rest_behind}
 use Rattle.dp_lines.proofs.lines.Lines.take_ended.Goals as goal

@@ -2,7 +2,7 @@ use Rattle.std.proofs.Common.{◌≡◌, ℕ, ◌+◌, ◌<◌, List, [], ◌∷
 use Rattle.std.proofs.lemmas.List.{nil_from_length}
 use Rattle.dp_lines.specs.Lines.{lines, numbered, is_skipped}
 use Rattle.dp_lines.specs.Held.{Held, lines_from}
-use Rattle.dp_lines.specs.Taking.{first_line, behind_first}
+use Rattle.dp_lines.specs.Taken.{first_line, behind_first}
 use Rattle.dp_lines.proofs.Giving.{given_line, same_after, long_next, none_next, no_lines, none_behind, rest_counted, skipped_rest, kept_rest}
 use Rattle.dp_lines.proofs.lines.Lines.take_rest.Goals as goal
 use Rattle.dp_lines.proofs.lines.Lines.take_rest.Goals.{Then-len-eq0, After-drop_line, After-take_line}

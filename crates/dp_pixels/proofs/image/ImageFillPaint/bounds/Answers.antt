@@ -6,7 +6,7 @@ use Rattle.dp_blend.specs.Color.{of_argb}
 use Rattle.dp_blend.specs.Blending.{blend}
 use Rattle.dp_pixels.specs.declared.rect.Rect.{Rect}
 use Rattle.dp_pixels.specs.Rectangles.{is_in, rect_at}
-use Rattle.dp_pixels.specs.Drawing.{image_index}
+use Rattle.dp_pixels.specs.Commands.{image_index}
 use Rattle.dp_pixels.proofs.image.ImageFillPaint.bounds.Goals as goal
 
 pub returns-clause-stays : goal.returns-clause-stays

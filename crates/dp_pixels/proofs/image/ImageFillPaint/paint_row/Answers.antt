@@ -6,7 +6,7 @@ use Rattle.std.proofs.lemmas.List.{length-take, length-drop}
 use Rattle.dp_blend.specs.Color.{Channels, of_argb}
 use Rattle.dp_blend.specs.Blending.{blend}
 use Rattle.dp_pixels.specs.Rectangles.{is_in, rect_at}
-use Rattle.dp_pixels.specs.Drawing.{image_index}
+use Rattle.dp_pixels.specs.Commands.{image_index}
 use Rattle.dp_pixels.proofs.Rectangles.{row_in}
 use Rattle.dp_pixels.proofs.Images.{image_index-right, row_colors}
 use Rattle.dp_pixels.proofs.image.ImageFillPaint.paint_row.Goals as goal

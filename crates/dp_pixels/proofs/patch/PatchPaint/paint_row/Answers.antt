@@ -6,7 +6,7 @@ use Rattle.dp_blend.specs.Color.{Channels, clear, fade}
 use Rattle.dp_blend.specs.Blending.{blend}
 use Rattle.dp_blend.specs.declared.modes.Mode.TheVariants.{Normal}
 use Rattle.dp_pixels.specs.Rectangles.{is_in, rect_at}
-use Rattle.dp_pixels.specs.Drawing.{image_index}
+use Rattle.dp_pixels.specs.Commands.{image_index}
 use Rattle.dp_pixels.proofs.Rectangles.{row_in}
 use Rattle.dp_pixels.proofs.Images.{image_index-right}
 use Rattle.dp_pixels.proofs.Merges.{fade_one}

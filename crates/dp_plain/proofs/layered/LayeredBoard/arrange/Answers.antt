@@ -6,7 +6,7 @@ use Rattle.dp_plain.proofs.layered.LayeredBoard.arrange.Goals as goal
 pub invariant_of-self-2 : goal.invariant_of-self-2
 invariant_of-self-2 g c =
     let inside = c.self.inside in
-    held_after g.C.Content.fits inside.width inside.height inside.tree c.arrange_rows.new.tree
+    held_after g.C.LayerPixels.fits inside.width inside.height inside.tree c.arrange_rows.new.tree
     c.self.invariant
     c.trees_stay_trees.ensures.after c.args.op.now None (sym c.in_ok-arrange_rows.ensures.kind)
     (λ x is. absurd (none-some x is)) c.in_ok-arrange_rows.ensures.ok

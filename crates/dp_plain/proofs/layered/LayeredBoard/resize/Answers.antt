@@ -3,7 +3,7 @@ use Rattle.std.specs.Prelude.{FitsSigned}
 use Rattle.std.proofs.lemmas.Int.{to_z-of_z}
 use Rattle.dp_layers.specs.Rows.{map_contents}
 use Rattle.dp_plain.specs.Board.{Board}
-use Rattle.dp_plain.specs.Drawing.{resized}
+use Rattle.dp_plain.specs.Commands.{resized}
 use Rattle.dp_plain.proofs.Resizes.{resized_to, resized_not}
 use Rattle.dp_plain.proofs.layered.LayeredBoard.resize.Goals as goal
 use Rattle.dp_plain.proofs.layered.LayeredBoard.resize.Goals.{in_default-via-in-Some+in_default}
@@ -22,7 +22,7 @@ returns-in_default-clause-ok g c =
       width = inside.width;
       height = inside.height;
       background = inside.background;
-      rows = map_contents (g.C.Content.pixels inside.width inside.height) inside.tree;
+      rows = map_contents (g.C.LayerPixels.pixels inside.width inside.height) inside.tree;
     } in
     subst (λ (b : Board). b ≡ resized b c.args.top c.args.right c.args.bottom c.args.left) c.self.view_is
     (resized_not view c.args.top c.args.right c.args.bottom c.args.left
@@ -56,9 +56,9 @@ returns-clause-ok g c =
       width = inside.width;
       height = inside.height;
       background = inside.background;
-      rows = map_contents (g.C.Content.pixels inside.width inside.height) inside.tree;
+      rows = map_contents (g.C.LayerPixels.pixels inside.width inside.height) inside.tree;
     } in
-    let rows = map_contents (g.C.Content.pixels c.in-Some-Some.new_width c.in-Some-Some.new_height)
+    let rows = map_contents (g.C.LayerPixels.pixels c.in-Some-Some.new_width c.in-Some-Some.new_height)
     c.in_ok-self-inside.field-0 in
     let is = simp to_z-of_z at c.in_ok-self-inside.ensures.pixels in
     let new : Board = record {

@@ -4,7 +4,7 @@ use Rattle.dp_layers.specs.Layers.{is_paint_row}
 use Rattle.dp_layers.specs.Rows.{layers_of}
 use Rattle.dp_plain.specs.Board.{Board}
 use Rattle.dp_plain.specs.Picture.{pixels_of}
-use Rattle.dp_plain.specs.Viewing.{pixels_in_row}
+use Rattle.dp_plain.specs.View.{pixels_in_row}
 use Rattle.dp_plain.proofs.Holds.{fit_found}
 use Rattle.dp_plain.proofs.Views.{layers_seen, pixels_seen}
 use Rattle.dp_plain.proofs.layered.LayeredBoardBoardView.copy_row.Goals as goal
@@ -12,7 +12,7 @@ use Rattle.dp_plain.proofs.layered.LayeredBoardBoardView.copy_row.Goals as goal
 pub copy_row-requires-clause-fits : goal.copy_row-requires-clause-fits
 copy_row-requires-clause-fits g c =
     let inside = c.self.inside in
-    fit_found (g.C.Content.fits inside.width inside.height) inside.tree c.args.id c.in-Some.content.now
+    fit_found (g.C.LayerPixels.fits inside.width inside.height) inside.tree c.args.id c.in-Some.content.now
     c.self.invariant.each (sym c.in-Some.ensures.value)
 
 pub returns-in-Some : goal.returns-in-Some
@@ -23,7 +23,7 @@ returns-in-Some g c =
     (pixels_of board c.args.id) c.args.y) c.self.view_is
     (c.copy_row.ensures ∙ ap (λ pixels. pixels_in_row inside.width pixels c.args.y)
     (sym
-    (pixels_seen (g.C.Content.pixels inside.width inside.height) inside.tree c.args.id
+    (pixels_seen (g.C.LayerPixels.pixels inside.width inside.height) inside.tree c.args.id
     c.in-Some.content.now (sym c.in-Some.ensures.value))))
 
 pub returns-in_default : goal.returns-in_default
@@ -31,7 +31,7 @@ returns-in_default g c =
     let inside = c.self.inside in
     let paint : is_paint_row (layers_of inside.tree) c.args.id ≡ true =
     ap (λ layers. is_paint_row layers c.args.id)
-    (sym (layers_seen (g.C.Content.pixels inside.width inside.height) inside.tree))
+    (sym (layers_seen (g.C.LayerPixels.pixels inside.width inside.height) inside.tree))
     ∙ subst (λ (board : Board). is_paint_row (layers_of board.rows) c.args.id ≡ true)
     (sym c.self.view_is) c.requires.paint in
     absurd (false≢true (c.in_default.ensures.paint ∙ paint))

@@ -1,7 +1,7 @@
 use Rattle.std.proofs.Common.{[], ◌++◌, ◌∷◌, refl, ap, ◌∙◌}
 use Rattle.dp_msg_meta.specs.declared.message.Meta.TheVariants.{ResetMark}
-use Rattle.dp_session.specs.declared.item.Item.TheVariants as item
-use Rattle.dp_session.specs.State.{own_entry}
+use Rattle.dp_session.specs.declared.history_item.HistoryItem.TheVariants as item
+use Rattle.dp_session.specs.State.{server_entry}
 use Rattle.dp_session.proofs.TableLemmas.{tables-first}
 use Rattle.dp_session.proofs.tables.Tables.new.Goals as goal
 
@@ -9,5 +9,5 @@ pub returns-clause-tables : goal.returns-clause-tables
 returns-clause-tables c =
     tables-first _ c.new.ensures.items c.new-2.ensures.items c.new-3.ensures.items c.new-4.ensures.items
     (c.in_ok-push.ensures.items
-    ∙ ap (λ items. items ++ item.Own (own_entry (ResetMark 0 0)) ∷ []) c.new-live.ensures.items) refl
+    ∙ ap (λ items. items ++ item.Server (server_entry (ResetMark 0 0)) ∷ []) c.new-live.ensures.items) refl
     (c.in_ok-note.ensures.stands [] c.new-rights.ensures) c.no_marks.ensures

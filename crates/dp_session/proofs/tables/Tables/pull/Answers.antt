@@ -2,7 +2,7 @@ use Rattle.std.proofs.Common.{◌≡◌, ◌-◌, length, take, sym, ap, subst, 
 use Rattle.std.proofs.lemmas.List.{take_all}
 use Rattle.dp_session.specs.State.{connection_in}
 use Rattle.dp_session.specs.Tables.{state_in, mark}
-use Rattle.dp_session.specs.Pulling.{pulled_from}
+use Rattle.dp_session.specs.Pull.{pulled_from}
 use Rattle.dp_session.proofs.TableLemmas.{live-length}
 use Rattle.dp_session.proofs.ReadLemmas.{pulled-open}
 use Rattle.dp_session.proofs.tables.Tables.pull.Goals as goal

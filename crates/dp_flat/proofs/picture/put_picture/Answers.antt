@@ -1,0 +1,60 @@
+-- Each row's text stands after those above, and the last piece ends the text.
+use Rattle.std.proofs.Common.{◌≡◌, ◌++◌, take, subst, ap, ◌∙◌, arith}
+use Rattle.std.specs.List.{flat_map}
+use Rattle.dp_blend.specs.Canvas.{canvas_of}
+use Rattle.dp_plain.specs.Picture.{head, seen}
+use Rattle.dp_flat.specs.Composed.{seen_row}
+use Rattle.dp_flat.specs.Texts.{GrowsBefore, name_of, pixel_text_of}
+use Rattle.dp_flat.proofs.Prefixes.{before_on, before_failed, last_written, last_cut}
+use Rattle.dp_flat.proofs.Rows.{text_more, text_failed, text_all}
+use Rattle.dp_flat.proofs.picture.put_picture.Goals as goal
+
+pub returns-in_err-put_row-clause-prefix : goal.returns-in_err-put_row-clause-prefix
+returns-in_err-put_row-clause-prefix g c =
+    let board = g.V.BoardView.board c.args.board.now in
+    let held = g.S.Sink.held in
+    let text = pixel_text_of c.args.format in
+    let front = head (name_of c.args.format) board.width board.height in
+    let shown = take c.width-width.result c.draw_row.new.memory in
+    let row : shown ≡ seen_row board c.loop-y.y =
+    ap (λ n. take n c.draw_row.new.memory) c.width-width.ensures.value ∙ c.draw_row.ensures in
+    text_failed (held c.args.out.now) (held c.put_row.new.out) text board c.loop-y.y front shown row
+    (omega (arith, c.height-height.ensures.value))
+    (before_failed (held c.args.out.now) (held c.loop-y.out) (held c.put_row.new.out) c.loop-y.piece.items
+    (front ++ flat_map text (canvas_of board.width c.loop-y.y (seen board))) (flat_map text shown)
+    c.loop-y.invariant.before c.in_err-put_row.ensures.prefix)
+
+pub loop-y-preserved : goal.loop-y-preserved
+loop-y-preserved g c =
+    let board = g.V.BoardView.board c.args.board.now in
+    let held = g.S.Sink.held in
+    let text = pixel_text_of c.args.format in
+    let front = head (name_of c.args.format) board.width board.height in
+    let shown = take c.width-width.result c.draw_row.new.memory in
+    let row : shown ≡ seen_row board c.loop-y.y =
+    ap (λ n. take n c.draw_row.new.memory) c.width-width.ensures.value ∙ c.draw_row.ensures in
+    record {
+      before = subst (GrowsBefore (held c.args.out.now) (held c.put_row.new.out)
+          c.put_row.new.piece.items) (text_more text board c.loop-y.y front shown row)
+          (before_on (held c.args.out.now) (held c.loop-y.out) (held c.put_row.new.out) c.loop-y.piece.items
+          (front ++ flat_map text (canvas_of board.width c.loop-y.y (seen board))) (flat_map text shown)
+          c.put_row.new.piece.items
+          c.loop-y.invariant.before c.in_ok-put_row.ensures.before);
+      kept = c.in_ok-put_row.ensures.cause.kept ∙ c.loop-y.invariant.kept;
+    }
+
+pub returns-clause-written : goal.returns-clause-written
+returns-clause-written g c =
+    let board = g.V.BoardView.board c.args.board.now in
+    let all : c.loop-y.y ≡ board.height = omega (arith, c.height-height.ensures.value) in
+    last_written _ _ _ _ _ _ c.put_all.result (text_all _ _ (pixel_text_of c.args.format) board c.loop-y.y
+    (head (name_of c.args.format) board.width board.height) _ all c.loop-y.invariant.before)
+    c.as_slice.ensures.value c.put_all.ensures.written
+
+pub returns-clause-prefix : goal.returns-clause-prefix
+returns-clause-prefix g c =
+    let board = g.V.BoardView.board c.args.board.now in
+    let all : c.loop-y.y ≡ board.height = omega (arith, c.height-height.ensures.value) in
+    last_cut _ _ _ _ _ _ (text_all _ _ (pixel_text_of c.args.format) board c.loop-y.y
+    (head (name_of c.args.format) board.width board.height) _ all c.loop-y.invariant.before)
+    c.as_slice.ensures.value c.put_all.ensures.prefix

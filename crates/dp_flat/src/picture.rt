@@ -1,0 +1,178 @@
+//! The picture of a board as the bytes of a P6 file and of a P3 file.
+
+ghost use Rattle.std.specs.Prelude.{◌≡◌, ◌+◌, ◌*◌, ◌≤◌, ◌++◌, length, IsErrOf, OnOk, OnErr};
+ghost use Rattle.std.specs.List.{flat_map};
+ghost use Rattle.std.specs.Io.KnownBytes.{Appends, Keeps};
+ghost use Rattle.arrayvec.specs.ArrayVec.{array_vec_len};
+ghost use Rattle.dp_io.specs.Faults.{HasCause, any_fault};
+ghost use Rattle.dp_io.specs.Streams.{GrowsByPrefix};
+ghost use Rattle.dp_plain.specs.Picture.{p3, p6, picture_text};
+ghost use Rattle.dp_flat.specs.Ends.{is_sink_fault};
+ghost use Rattle.dp_flat.specs.Texts.{GrowsBefore, name_of, pixel_text_of};
+
+use crate::compose::{ROWS, draw_row};
+use crate::text::{
+    Format, PIECE_BYTES, Piece, STRETCH, STRETCH_BYTES, head_of, push_all, push_pixels,
+};
+use dp_blend::Pixel;
+use dp_io::{Failed, Sink, put_all};
+use dp_plain::BoardView;
+use std::alloc::{AllocError, Global};
+
+/// Why a picture was not written.
+#[derive(Clone, Copy, Debug, PartialEq, Eq)]
+pub enum PictureEnd {
+    /// The sink failed.
+    Failed,
+    /// Memory ran out.
+    Memory,
+}
+
+impl From<Failed> for PictureEnd {
+    ghost use Rattle.dp_flat.specs.declared.picture.PictureEnd.{PictureEnd};
+
+    ghost from_gives = { λ _ e. e ≡ PictureEnd.Failed };
+
+    fn from(_failed: Failed) -> PictureEnd {
+        PictureEnd::Failed
+    }
+}
+
+impl From<AllocError> for PictureEnd {
+    ghost use Rattle.dp_flat.specs.declared.picture.PictureEnd.{PictureEnd};
+
+    ghost from_gives = { λ _ e. e ≡ PictureEnd.Memory };
+
+    fn from(_full: AllocError) -> PictureEnd {
+        PictureEnd::Memory
+    }
+}
+
+/// Writes the picture of the board as a P6 file, a piece of at most 12288 bytes at a time.
+///
+/// The rule: docs/protocol.md, "The picture".
+///
+/// # Errors
+///
+/// `Memory` where memory for 17 rows of pixels is refused: nothing was written. `Failed` where the sink
+/// failed: a prefix of the file was written.
+pub fn write_p6<V: BoardView, S: Sink>(
+    alloc: Global,
+    board: &V,
+    out: &mut S,
+) -> Result<(), PictureEnd>
+    ensures written { OnOk result
+        (Appends (S.held out.old) (S.held out.new) (p6 (V.board board.now))) }
+    ensures prefix { GrowsByPrefix (S.held out.old) (S.held out.new) (p6 (V.board board.now)) }
+    ensures memory { IsErrOf result PictureEnd.Memory → Keeps (S.held out.old) (S.held out.new) }
+    ensures memory_uncounted { IsErrOf result PictureEnd.Memory
+        → S.faults out.new ≡ S.faults out.old }
+    ensures cause { HasCause is_sink_fault (S.faults out.old) (S.faults out.new) result }
+{
+    write_picture(alloc, Format::P6, board, out)
+}
+
+/// Writes the picture of the board as a P3 file, a piece of at most 12288 bytes at a time.
+///
+/// # Errors
+///
+/// `Memory` where memory for 17 rows of pixels is refused: nothing was written. `Failed` where the sink
+/// failed: a prefix of the file was written.
+pub fn write_p3<V: BoardView, S: Sink>(
+    alloc: Global,
+    board: &V,
+    out: &mut S,
+) -> Result<(), PictureEnd>
+    ensures written { OnOk result
+        (Appends (S.held out.old) (S.held out.new) (p3 (V.board board.now))) }
+    ensures prefix { GrowsByPrefix (S.held out.old) (S.held out.new) (p3 (V.board board.now)) }
+    ensures memory { IsErrOf result PictureEnd.Memory → Keeps (S.held out.old) (S.held out.new) }
+    ensures memory_uncounted { IsErrOf result PictureEnd.Memory
+        → S.faults out.new ≡ S.faults out.old }
+    ensures cause { HasCause is_sink_fault (S.faults out.old) (S.faults out.new) result }
+{
+    write_picture(alloc, Format::P3, board, out)
+}
+
+/// Writes the picture of the board in the format.
+fn write_picture<V: BoardView, S: Sink>(
+    alloc: Global,
+    format: Format,
+    board: &V,
+    out: &mut S,
+) -> Result<(), PictureEnd>
+    ensures written { OnOk result (Appends (S.held out.old) (S.held out.new)
+        (picture_text (name_of format) (pixel_text_of format) (V.board board.now))) }
+    ensures prefix { GrowsByPrefix (S.held out.old) (S.held out.new)
+        (picture_text (name_of format) (pixel_text_of format) (V.board board.now)) }
+    ensures memory { IsErrOf result PictureEnd.Memory → Keeps (S.held out.old) (S.held out.new) }
+    ensures memory_uncounted { IsErrOf result PictureEnd.Memory
+        → S.faults out.new ≡ S.faults out.old }
+    ensures cause { HasCause is_sink_fault (S.faults out.old) (S.faults out.new) result }
+{
+    let width = board.width() as usize;
+    let mut memory = vec![in alloc; Pixel::CLEAR; ROWS * width]?;
+    put_picture(format, board, &mut memory, out)?;
+    Ok(())
+}
+
+/// Writes the picture of the board in the format, a row at a time in this memory.
+fn put_picture<V: BoardView, S: Sink>(
+    format: Format,
+    board: &V,
+    memory: &mut [Pixel],
+    out: &mut S,
+) -> Result<(), Failed>
+    requires { length memory.old ≡ ROWS * (V.board board.now).width }
+    ensures written { OnOk result (Appends (S.held out.old) (S.held out.new)
+        (picture_text (name_of format) (pixel_text_of format) (V.board board.now))) }
+    ensures prefix { GrowsByPrefix (S.held out.old) (S.held out.new)
+        (picture_text (name_of format) (pixel_text_of format) (V.board board.now)) }
+    ensures cause { HasCause any_fault (S.faults out.old) (S.faults out.new) result }
+{
+    let (width, height) = (board.width(), board.height());
+    let mut piece = Piece::new();
+    push_all(head_of(format, width, height).as_bytes(), &mut piece);
+    for y in 0..height {
+        draw_row(board, y, memory);
+        put_row(format, &memory[..width as usize], &mut piece, out)?;
+    }
+    put_all(out, piece.as_slice())
+}
+
+/// Adds the texts of the row's pixels to the piece, and writes the piece where it is full.
+fn put_row<S: Sink>(
+    format: Format,
+    row: &[Pixel],
+    piece: &mut Piece,
+    out: &mut S,
+) -> Result<(), Failed>
+    ensures before { OnOk result (GrowsBefore (S.held out.old) (S.held out.new) piece.new.items
+        (piece.old.items ++ flat_map (pixel_text_of format) row.now)) }
+    ensures prefix { OnErr result (GrowsByPrefix (S.held out.old) (S.held out.new)
+        (piece.old.items ++ flat_map (pixel_text_of format) row.now)) }
+    ensures cause { HasCause any_fault (S.faults out.old) (S.faults out.new) result }
+{
+    for pixels in row.chunks(STRETCH) {
+        make_room(piece, out)?;
+        push_pixels(format, pixels, piece);
+    }
+    Ok(())
+}
+
+/// Writes the piece, where it has no room for a stretch of pixels.
+fn make_room<S: Sink>(piece: &mut Piece, out: &mut S) -> Result<(), Failed>
+    ensures room { OnOk result (array_vec_len piece.new + STRETCH_BYTES ≤ PIECE_BYTES) }
+    ensures before { OnOk result (GrowsBefore (S.held out.old) (S.held out.new) piece.new.items
+        piece.old.items) }
+    ensures prefix { OnErr result (GrowsByPrefix (S.held out.old) (S.held out.new)
+        piece.old.items) }
+    ensures cause { HasCause any_fault (S.faults out.old) (S.faults out.new) result }
+{
+    if piece.remaining_capacity() >= STRETCH_BYTES {
+        return Ok(());
+    }
+    put_all(out, piece.as_slice())?;
+    piece.clear();
+    Ok(())
+}

@@ -1,5 +1,0 @@
-use Rattle.dp_peers.proofs.LawForbidden.{forbidden-nothing}
-use Rattle.dp_peers.proofs.laws.forbidden_changes_nothing.Goals as goal
-
-pub returns : goal.returns
-returns c = forbidden-nothing c.forbidden_changes_no_right.ensures

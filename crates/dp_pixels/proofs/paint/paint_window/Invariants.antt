@@ -1,9 +1,0 @@
-use Rattle.std.proofs.Common.{◌+◌, pos}
-use Rattle.dp_pixels.specs.Windows.{IsPainted, on_canvas}
-use Rattle.dp_pixels.proofs.Windows.{above}
-use Rattle.dp_pixels.proofs.paint.paint_window.Given as goal
-
--- the rows above row j are painted
-abbrev pub invariant-loop-j : goal.invariant-loop-j
-invariant-loop-j g l =
-    IsPainted l.window l.stride (above (pos (l.window.y + l.j)) (on_canvas l.window (g.P.Paint.change l.paint))) l.initial.pixels l.pixels

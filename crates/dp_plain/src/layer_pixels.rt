@@ -1,0 +1,117 @@
+//! What a paint layer holds.
+
+ghost use Rattle.std.specs.Prelude.{◌≡◌, ℕ, ◌+◌, ◌*◌, ◌<◌, ◌≤◌, List, length, is_some, IsTrue};
+ghost use Rattle.std.specs.Prelude.{IfOk, OnOk, OnErr};
+ghost use Rattle.dp_blend.specs.Color.{Channels, clear};
+ghost use Rattle.dp_blend.specs.Canvas.{canvas_of, pixel_at};
+ghost use Rattle.dp_msg_draw.specs.declared.draw.Draw.{Draw as Message};
+ghost use Rattle.dp_pixels.specs.Commands.{pixels_after};
+ghost use Rattle.dp_plain.specs.Commands.{painted_layer};
+ghost use Rattle.dp_plain.specs.Resizes.{pixels_resized};
+ghost use Rattle.dp_plain.specs.View.{pixels_in_row};
+
+use crate::geometry::Resize;
+use dp_blend::Pixel;
+use dp_msg_draw::Draw;
+use dp_steps::Steps;
+use std::alloc::{AllocError, Global};
+use std::sync::ledger::Ledger;
+
+/// The pixels of a layer, in whatever form, on a canvas of sides that its holder knows. The tiles that
+/// are made are counted.
+pub trait LayerPixels: Sized + Drop {
+    /// The pixels on a canvas of this width and height, row by row from the top.
+    ghost pixels: { ℕ → ℕ → Self → List Channels };
+
+    /// It belongs to a canvas of this width and height.
+    ghost fits: { ℕ → ℕ → Self → Type 0 };
+
+    /// A draw of the command makes at most so many tiles.
+    ghost weight: { Message → ℕ };
+
+    /// A resize makes at most so many tiles.
+    ghost resizing: { ℕ };
+
+    /// A content of no canvas, which takes no memory: it stands in for one that is taken out.
+    fn placeholder(alloc: Global) -> Self;
+
+    /// The clear content of a canvas. It makes no tile.
+    fn clear<T: Ledger>(
+        alloc: Global,
+        width: u32,
+        height: u32,
+        tiles: &mut Steps<T>,
+    ) -> Result<Self, AllocError>
+        requires wide { width ≤ 4096 }
+        requires high { height ≤ 4096 }
+        ensures fits { IfOk result (fits width height) }
+        ensures pixels { IfOk result (λ content.
+            pixels width height content ≡ canvas_of width height (λ x y. clear)) }
+        ensures no_tile { tiles.new ≡ tiles.old };
+
+    /// Draws a command on pixels.
+    ///
+    /// # Errors
+    ///
+    /// Where memory runs out. The content is then as it was, and tiles that were made are counted.
+    fn paint<T: Ledger>(
+        &mut self,
+        alloc: Global,
+        width: u32,
+        height: u32,
+        op: &Draw,
+        tiles: &mut Steps<T>,
+    ) -> Result<(), AllocError>
+        requires wide { width ≤ 4096 }
+        requires high { height ≤ 4096 }
+        requires paints { IsTrue (is_some (painted_layer op.now)) }
+        requires fits { fits width height self.old }
+        ensures fits { OnOk result (fits width height self.new) }
+        ensures pixels { OnOk result (pixels width height self.new
+            ≡ pixels_after width height op.now (pixels width height self.old)) }
+        ensures err { OnErr result (self.new ≡ self.old) }
+        ensures tiles_rise { tiles.old ≤ tiles.new }
+        ensures few_tiles { tiles.new ≤ tiles.old + weight op.now };
+
+    /// The content on a canvas of the new sides.
+    ///
+    /// # Errors
+    ///
+    /// Where memory runs out. Tiles that were made are counted.
+    fn resize<T: Ledger>(
+        &self,
+        alloc: Global,
+        change: Resize,
+        tiles: &mut Steps<T>,
+    ) -> Result<Self, AllocError>
+        requires fits { fits change.width change.height self.now }
+        ensures fits { IfOk result (fits change.new_width change.new_height) }
+        ensures pixels { IfOk result (λ content.
+            pixels change.new_width change.new_height content
+            ≡ pixels_resized change (pixels change.width change.height self.now)) }
+        ensures tiles_rise { tiles.old ≤ tiles.new }
+        ensures few_tiles { tiles.new ≤ tiles.old + resizing };
+
+    /// An equal content. It makes no tile.
+    fn share<T: Ledger>(&self, tiles: &mut Steps<T>) -> Result<Self, AllocError>
+        ensures same { IfOk result (λ other. other ≡ self.now) }
+        ensures no_tile { tiles.new ≡ tiles.old };
+
+    /// Copies the row y of the pixels.
+    fn copy_row(&self, width: u32, height: u32, y: u32, row: &mut [Pixel])
+        requires fits { fits width height self.now }
+        requires inside { y < height }
+        requires long { length row.old ≡ width }
+        ensures { row.new ≡ pixels_in_row width (pixels width height self.now) y };
+
+    /// The pixel at a place.
+    fn pixel(&self, width: u32, height: u32, x: u32, y: u32) -> Pixel
+        requires fits { fits width height self.now }
+        requires inside { (x < width) × (y < height) }
+        ensures { result ≡ pixel_at width (pixels width height self.now) x y };
+
+    /// A law: a content has a pixel for each place of a canvas that it fits.
+    fn laws()
+        ensures covers { (width height : ℕ) (content : Self) → fits width height content
+            → length (pixels width height content) ≡ width * height };
+}

@@ -1,5 +1,0 @@
-use Rattle.dp_schedule_laws.proofs.Steps.{goes-by}
-use Rattle.dp_schedule_laws.proofs.laws.clients_go_by_their_steps.Goals as goal
-
-pub returns : goal.returns
-returns c = goes-by

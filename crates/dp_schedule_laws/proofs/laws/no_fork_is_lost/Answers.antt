@@ -1,8 +1,0 @@
-use Rattle.dp_schedule_laws.proofs.Forks.{staying, fork-kept}
-use Rattle.dp_schedule_laws.proofs.laws.no_fork_is_lost.Goals as goal
-
-pub returns : goal.returns
-returns c =
-    let worlds = c.worlds_stay_worlds.ensures in
-    let steps = c.steps_lead_on.ensures in
-    fork-kept (staying steps.kept steps.before c.one_equality.ensures worlds.first worlds.stays)

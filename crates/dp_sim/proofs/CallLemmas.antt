@@ -1,0 +1,89 @@
+-- What the calls of a client and of a world rest on.
+use Rattle.std.proofs.Common.{◌≡◌, ℕ, suc, zero, ◌==◌, Bool, true, false, not, if◌then◌else◌}
+use Rattle.std.proofs.Common.{List, [], ◌∷◌, length, Option, None, Some, is_some, Result, Ok, Err, OnOk}
+use Rattle.std.proofs.Common.{refl, sym, ap, subst, ◌∙◌}
+use Rattle.std.specs.List.{list_any, slice_get}
+use Rattle.dp_messages.specs.declared.message.Entry.{Entry}
+use Rattle.dp_session.specs.declared.connection.Connection.{Connection}
+use Rattle.dp_session.specs.declared.connection.Ending.{Ending}
+use Rattle.dp_session.specs.declared.connection.Ending.TheVariants as ending
+use Rattle.dp_session.specs.declared.event.Answer.{Answer}
+use Rattle.dp_session.specs.declared.event.Answer.TheVariants.{Entries, Gone}
+use Rattle.dp_session.specs.declared.event.Query.TheVariants.{Pull}
+use Rattle.dp_session.specs.State.{State, epoch_of, is_ended, where_open, connection_of}
+use Rattle.dp_session.specs.Past.{Past, state_of}
+use Rattle.dp_session.specs.Pull.{page, pulled_from, pulled_by, pulled_where, answered}
+use Rattle.dp_sim.specs.Exchanges.{Participant, next_entry}
+use Rattle.dp_sim.specs.Calls.{exchange, CanTake}
+use Rattle.dp_sim.specs.World.{World}
+use Rattle.dp_sim.specs.Invariant.{IsWorld}
+
+-- ---- what is pulled
+
+-- the first entry of an answer
+abbrev first_of : Answer → Option Entry
+first_of (Entries epoch at list) = slice_get list 0
+first_of Gone = None
+
+-- the first entry of a page
+page-first : (n : ℕ) (xs : List Entry) → slice_get (page n 1 xs) 0 ≡ slice_get xs n
+page-first zero [] = refl
+page-first zero (x ∷ xs) = refl
+page-first (suc n) [] = refl
+page-first (suc n) (x ∷ xs) = page-first n xs
+
+-- by whether the cursor is of the live epoch
+first-pulled : (live : List Entry) (epoch other at : ℕ) (b : Bool)
+    → first_of (if b then Entries epoch at (page at 1 live) else Entries other 0 (page 0 1 live))
+    ≡ slice_get live (if b then at else 0)
+first-pulled live epoch other at true = page-first at live
+first-pulled live epoch other at false = page-first 0 live
+
+-- a connection that has not ended is pulled from, where none is quiet
+by-ending : (s : State) (quiet : List ℕ) (conn epoch at most : ℕ) (c : Connection) (e : Ending) → quiet ≡ []
+    → is_some (if not (is_ended e) then Some c else None) ≡ true
+    → pulled_by s quiet conn epoch at most e ≡ pulled_from s epoch at most s.live
+by-ending s quiet conn epoch at most c ending.Running none running =
+    ap (λ q. if list_any (λ other. other == conn) q then Gone else pulled_from s epoch at most s.live) none
+by-ending s quiet conn epoch at most c (ending.Left place) none running = cc
+by-ending s quiet conn epoch at most c ending.Shut none running = cc
+
+-- so is an open one
+by-connection : (s : State) (quiet : List ℕ) (conn epoch at most : ℕ) (o : Option Connection) → quiet ≡ []
+    → is_some (where_open o) ≡ true
+    → pulled_where s quiet conn epoch at most o ≡ pulled_from s epoch at most s.live
+by-connection s quiet conn epoch at most None none running = cc
+by-connection s quiet conn epoch at most (Some c) none running =
+    by-ending s quiet conn epoch at most c c.ending none running
+
+-- what a client pulls is that of its cursor
+pub pull-is : (past : Past) (participant : Participant) (conn epoch at : ℕ) (answer : Answer) → CanTake past participant
+    → conn ≡ participant.conn → epoch ≡ participant.state.epoch → at ≡ length participant.state.taken
+    → answer ≡ answered past (Pull conn epoch at 1)
+    → answer ≡ pulled_from (state_of past) participant.state.epoch (length participant.state.taken) 1 (state_of past).live
+pull-is past participant conn epoch at answer can same_conn same_epoch same_at is =
+    let s = state_of past in
+    is
+    ∙ ap (λ n. pulled_where s past.quiet n epoch at 1 (connection_of s n)) same_conn
+    ∙ by-connection s past.quiet participant.conn epoch at 1 (connection_of s participant.conn) can.quiet can.running
+    ∙ ap (λ n. pulled_from s n at 1 s.live) same_epoch
+    ∙ ap (λ n. pulled_from s participant.state.epoch n 1 s.live) same_at
+
+-- its first entry comes next
+pub next-is : (past : Past) (participant : Participant) (epoch at : ℕ) (list : List Entry)
+    → Entries epoch at list
+    ≡ pulled_from (state_of past) participant.state.epoch (length participant.state.taken) 1 (state_of past).live
+    → slice_get list 0 ≡ next_entry (exchange past participant)
+next-is past participant epoch at list is =
+    let s = state_of past in
+    ap first_of is
+    ∙ first-pulled s.live participant.state.epoch (epoch_of s) (length participant.state.taken)
+    (participant.state.epoch == epoch_of s)
+
+-- ---- worlds
+
+-- the world is one after a call that succeeds
+pub on-ok-world : {T E : Type 0} (r : Result T E) (new due : World) → IsWorld due → OnOk r (new ≡ due)
+    → OnOk r (IsWorld new)
+on-ok-world (Ok x) new due is same = subst IsWorld (sym same) is
+on-ok-world (Err e) new due is same = same

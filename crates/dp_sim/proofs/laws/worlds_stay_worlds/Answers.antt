@@ -1,0 +1,10 @@
+use Rattle.dp_sim.proofs.LawWorlds.{action-world}
+use Rattle.dp_sim.proofs.laws.worlds_stay_worlds.Goals as goal
+
+pub returns-clause-stays : goal.returns-clause-stays
+returns-clause-stays c =
+    action-world (record {
+      on_kept = c.steps_lead_on.ensures.kept;
+      on_refused = c.steps_lead_on.ensures.refused;
+      before = c.steps_lead_on.ensures.before;
+    })

@@ -1,0 +1,62 @@
+-- What is true of every world.
+use Rattle.std.specs.Prelude.{◌≡◌, ℕ, ◌≤◌, Bool, true, false, is_some, MatchBool, IfSome}
+use Rattle.std.specs.Prelude.{None, Some, List, [], ◌∷◌, length, take}
+use Rattle.std.specs.List.{AllByRecursion}
+use Rattle.dp_messages.specs.Messages.{kind_of}
+use Rattle.dp_messages.specs.declared.message.Entry.{Entry}
+use Rattle.dp_client.specs.Client.{marked}
+use Rattle.dp_session.specs.Rows.{event_limit}
+use Rattle.dp_session.specs.State.{State, open_connection}
+use Rattle.dp_session.specs.Past.{state_of}
+use Rattle.dp_session.specs.Laws.{ShutBefore}
+use Rattle.dp_schedule.specs.declared.action.Instruction.{Instruction}
+use Rattle.dp_schedule.specs.declared.action.Instruction.TheVariants.{Say, Up, Take, Leave, Cut}
+use Rattle.dp_sim.specs.declared.participant.LinkState.{LinkState}
+use Rattle.dp_sim.specs.declared.participant.LinkState.TheVariants.{Connected, Leaving, Closed}
+use Rattle.dp_sim.specs.Exchanges.{Participant}
+use Rattle.dp_sim.specs.World.{World, participant_of}
+
+-- what is said is no control message
+abbrev pub IsSayable : Instruction → Type 0
+IsSayable (Say m) = 32 ≤ kind_of m
+IsSayable Up = Unit {0}
+IsSayable Take = Unit {0}
+IsSayable Leave = Unit {0}
+IsSayable Cut = Unit {0}
+
+-- the client is closed
+abbrev pub is_closed : LinkState → Bool
+is_closed Connected = false
+is_closed Leaving = false
+is_closed Closed = true
+
+-- no entry is a mark of an epoch
+abbrev pub HasNoMark : List Entry → Type 0
+HasNoMark entries = AllByRecursion (λ entry. marked entry.msg ≡ None) entries
+
+-- a history begins with the mark of its epoch, and has no other
+abbrev pub IsHistory : ℕ → List Entry → Type 0
+IsHistory epoch [] = ⊥
+IsHistory epoch (first ∷ behind) = (marked first.msg ≡ Some epoch) × HasNoMark behind
+
+-- the client of a number: its connection has the same number and is open unless the client is closed, and
+-- it has taken a prefix of the live history
+pub record IsParticipant (s : State) (number : ℕ) (participant : Participant) : Type 0 where
+  pub conn : participant.conn ≡ number
+  pub running : MatchBool (is_closed participant.link) (Unit {0}) (is_some (open_connection s number) ≡ true)
+  pub joined : participant.state.joined_epoch ≡ 0
+  pub epoch : participant.state.epoch ≡ 0
+  pub few : length participant.state.taken ≤ length s.live
+  pub front : participant.state.taken ≡ take (length participant.state.taken) s.live
+
+-- the world is one that a schedule leads to, as far as its calls need it: no store failed and no
+-- connection is quiet, there is one epoch, and each connection is a client's
+pub record IsWorld (w : World) : Type 0 where
+  pub first_fault : w.past.first_fault ≡ None
+  pub quiet : w.past.quiet ≡ []
+  pub before : ShutBefore w.past
+  pub events : length w.past.journal ≤ event_limit
+  pub ended : (state_of w.past).ended ≡ []
+  pub history : IsHistory 0 (state_of w.past).live
+  pub connections : length (state_of w.past).connections ≡ length w.participants
+  pub participants : (number : ℕ) → IfSome (participant_of w number) (IsParticipant (state_of w.past) number)

@@ -1,0 +1,37 @@
+//! Laws of worlds, each the contract of a function that does nothing but call others.
+
+ghost use Rattle.std.specs.Prelude.{List};
+ghost use Rattle.dp_schedule.specs.declared.action.Action.{Action};
+ghost use Rattle.dp_sim.specs.World.{World, first_world, after, world_after};
+ghost use Rattle.dp_sim.specs.Invariant.{IsWorld};
+ghost use Rattle.dp_sim.specs.Headline.{Headline, ForbiddenChangesNothing};
+ghost use Rattle.dp_session.specs.State.{State};
+
+use dp_acl::forbidden_changes_no_right;
+use dp_session::steps_lead_on;
+
+/// What is true of every world: of the first one, and of the one after any action.
+pub fn worlds_stay_worlds()
+    ensures first { IsWorld first_world }
+    ensures stays { (world : World) (action : Action) → IsWorld world → IsWorld (after world action) }
+{
+    steps_lead_on();
+}
+
+/// In every state of a session a message that is answered Filtered changes no canvas and no right, whatever
+/// entries come after it.
+pub fn forbidden_changes_nothing()
+    ensures { (state : State) → ForbiddenChangesNothing state }
+{
+    forbidden_changes_no_right();
+}
+
+/// After every schedule each client has taken a prefix of the history of its epoch; its confirmed canvas is
+/// that prefix replayed, and its view the same with its unanswered sends drawn after it. A message that is
+/// not permitted changes no canvas and no right.
+pub fn headline()
+    ensures { (actions : List Action) → Headline (world_after actions) }
+{
+    worlds_stay_worlds();
+    forbidden_changes_nothing();
+}

@@ -1,0 +1,267 @@
+//! A client with its connection.
+
+ghost use Rattle.std.specs.Prelude.{◌≡◌, ◌≤◌, ◌<◌, ◌+◌, ◌-◌, ◌^◌, ◌++◌, ◌∷◌, [], None, length, slice_get, IfOk, OnOk};
+ghost use Rattle.dp_msg_meta.specs.declared.message.Control.TheVariants.{Disconnect};
+ghost use Rattle.dp_messages.specs.declared.message.Msg.TheVariants as msg;
+ghost use Rattle.dp_messages.specs.Messages.{kind_of};
+ghost use Rattle.dp_messages.specs.Heard.{is_disconnect};
+ghost use Rattle.dp_client.specs.Client.{said, taken_of};
+ghost use Rattle.dp_session.specs.declared.event.Event.TheVariants as event;
+ghost use Rattle.dp_session.specs.Past.{sure_answer, sure_step};
+ghost use Rattle.dp_schedule.specs.declared.report_line.ReportLine.TheVariants as report;
+ghost use Rattle.dp_sim.specs.declared.participant.LinkState.TheVariants as link;
+ghost use Rattle.dp_sim.specs.Exchanges.{
+  is_gone,
+  cut_line,
+  took_line,
+  disconnected,
+  uplink_sent,
+  up_line,
+  next_entry,
+  took_next,
+  next_taken_line,
+  exchanged,
+  exchange_line,
+};
+ghost use Rattle.dp_sim.specs.World.{new_participant};
+ghost use Rattle.dp_sim.specs.Invariant.{IsSayable};
+ghost use Rattle.dp_sim.specs.Calls.{exchange, took_entry, CanTake, CanAct};
+
+use crate::reply_line::{cut_line, left_line, said_line};
+use dp_client::Client;
+use dp_machine::Machine;
+use dp_keeper::SureKeeper;
+use dp_messages::{Entry, Msg};
+use dp_msg_meta::Control;
+use dp_schedule::{Instruction, ReportLine};
+use dp_session::{Answer, Entries, Event, Query, Reply, Session};
+use std::alloc::{AllocError, Global};
+use std::collections::VecDeque;
+use std::marker::Model;
+
+/// Whether a client still sends.
+#[derive(Clone, Copy, Debug, PartialEq, Eq)]
+pub enum LinkState {
+    /// It does.
+    Connected,
+    /// Its Disconnect is on the uplink.
+    Leaving,
+    /// Its connection is closed.
+    Closed,
+}
+
+/// A client: its connection, what it has taken and said, the messages on their way to the session, and its
+/// link.
+#[derive(Drop)]
+pub struct Participant {
+    conn: u32,
+    client: Client,
+    uplink: VecDeque<Msg>,
+    link: LinkState,
+}
+
+impl Model for Participant {
+    ghost use Rattle.dp_sim.specs.Exchanges.{Participant as Seen};
+
+    ghost Value = { Seen };
+
+    ghost view = { λ p. record {
+      conn = p.conn;
+      state = p.client;
+      uplink = p.uplink.items;
+      link = p.link;
+    } };
+}
+
+/// Whether the message ends what a connection says.
+fn is_disconnect(msg: &Msg) -> bool
+    ensures { result ≡ is_disconnect msg.now }
+{
+    matches!(msg, Msg::Control(Control::Disconnect { .. }))
+}
+
+/// The session takes an event.
+pub(crate) fn serve(session: &mut Session<SureKeeper>, event: Event) -> Result<Reply, AllocError>
+    requires { session.old.first_fault ≡ None }
+    ensures reply { IfOk result (λ reply. reply ≡ sure_answer session.old event) }
+    ensures ok { OnOk result (session.new ≡ sure_step session.old event) }
+    ensures first_fault { OnOk result (session.new.first_fault ≡ None) }
+{
+    session.step_surely(&event)
+}
+
+impl Participant {
+    /// A client that has joined.
+    pub(crate) fn new(alloc: Global, conn: u32, user: u8, epoch: u32, at: u32) -> Participant
+        ensures { result ≡ new_participant conn user epoch at }
+    {
+        Participant {
+            conn,
+            client: Client::new(alloc, user, epoch, at),
+            uplink: VecDeque::new(alloc),
+            link: LinkState::Connected,
+        }
+    }
+
+    /// What it has taken and said.
+    pub(crate) fn client(&self) -> &Client
+        ensures { result.now ≡ self.now.state }
+    {
+        &self.client
+    }
+
+    /// Whether the client does such an instruction no more.
+    fn is_gone(&self, instruction: &Instruction) -> bool
+        ensures { result ≡ is_gone self.now.link instruction.now }
+    {
+        match self.link {
+            LinkState::Connected => false,
+            LinkState::Leaving => matches!(instruction, Instruction::Say(_) | Instruction::Leave),
+            LinkState::Closed => true,
+        }
+    }
+
+    /// The client says a message.
+    fn say(&mut self, msg: &Msg) -> Result<ReportLine, AllocError>
+        requires { 32 ≤ kind_of msg.now }
+        ensures line { IfOk result (λ line. line ≡ report.Said (length self.old.state.fork + 1)) }
+        ensures ok { OnOk result (self.new ≡ record self.old {
+          state = said self.old.state msg.now;
+          uplink = self.old.uplink ++ msg.now ∷ [];
+        }) }
+    {
+        self.client.say(msg)?;
+        self.uplink.push_back(msg.copy()?)?;
+        Ok(ReportLine::Said(self.client.pending_len()))
+    }
+
+    /// The connection is closed, and so is the client.
+    fn disconnect(&mut self, session: &mut Session<SureKeeper>) -> Result<Reply, AllocError>
+        requires { session.old.first_fault ≡ None }
+        ensures reply { IfOk result (λ reply. reply ≡ sure_answer session.old (event.Close self.old.conn)) }
+        ensures ok { OnOk result (exchange session.new self.new ≡ disconnected (exchange session.old self.old)) }
+    {
+        let reply = serve(session, Event::Close { conn: self.conn })?;
+        self.uplink.clear();
+        self.link = LinkState::Closed;
+        Ok(reply)
+    }
+
+    /// The session takes the next message of the uplink, if there is one, and after a Disconnect the
+    /// Close.
+    fn up(&mut self, session: &mut Session<SureKeeper>) -> Result<ReportLine, AllocError>
+        requires { session.old.first_fault ≡ None }
+        ensures line { IfOk result (λ line. line ≡ up_line (exchange session.old self.old) self.old.uplink) }
+        ensures ok { OnOk result (exchange session.new self.new
+            ≡ uplink_sent (exchange session.old self.old) self.old.uplink) }
+    {
+        let Some(msg) = self.uplink.pop_front() else {
+            return Ok(ReportLine::Empty);
+        };
+        let ends = is_disconnect(&msg);
+        let conn = self.conn;
+        let reply = serve(session, Event::Say { conn, msg })?;
+        if ends {
+            Ok(left_line(self.disconnect(session)?))
+        } else {
+            Ok(said_line(reply))
+        }
+    }
+
+    /// Entries of which the first is the one that comes next, if there is one. The only error is want of
+    /// memory.
+    fn pull(&self, session: &Session<SureKeeper>) -> Result<Entries, AllocError>
+        requires { CanTake session.now self.now }
+        ensures { IfOk result (λ entries. slice_get entries 0 ≡ next_entry (exchange session.now self.now)) }
+    {
+        let query = Query::Pull {
+            conn: self.conn,
+            epoch: self.client.epoch(),
+            at: self.client.taken().len() as u32,
+            max: 1,
+        };
+        match session.ask(&query)? {
+            Answer::Entries { list, .. } => Ok(list),
+            Answer::Gone => unreachable!(),
+        }
+    }
+
+    /// The client takes the entry that comes next, if there is one.
+    fn take(&mut self, session: &Session<SureKeeper>) -> Result<ReportLine, AllocError>
+        requires { CanTake session.now self.old }
+        ensures line { IfOk result (λ line. line
+            ≡ next_taken_line (exchange session.now self.old) (next_entry (exchange session.now self.old))) }
+        ensures ok { OnOk result (exchange session.now self.new
+            ≡ took_next (exchange session.now self.old) (next_entry (exchange session.now self.old))) }
+    {
+        let entries = self.pull(session)?;
+        match entries.as_slice().first() {
+            Some(entry) => self.take_entry(entry),
+            None => Ok(ReportLine::Nothing),
+        }
+    }
+
+    /// The client takes the entry, and an Ack that is due joins the uplink.
+    fn take_entry(&mut self, entry: &Entry) -> Result<ReportLine, AllocError>
+        requires { length self.old.state.taken < 2 ^ 32 - 1 }
+        ensures line { IfOk result (λ line. line ≡ took_line (taken_of self.old.state entry.now)) }
+        ensures ok { OnOk result (self.new ≡ took_entry self.old entry.now) }
+    {
+        let taken = self.client.take(entry)?;
+        if let Some(epoch) = taken.ack {
+            self.uplink.push_back(Msg::Control(Control::Ack { epoch }))?;
+        }
+        Ok(ReportLine::Took {
+            epoch: taken.epoch,
+            at: taken.at,
+        })
+    }
+
+    /// A Disconnect joins the uplink, and the client is leaving.
+    fn leave(&mut self) -> Result<ReportLine, AllocError>
+        ensures line { IfOk result (λ line. line ≡ report.Leaving) }
+        ensures ok { OnOk result (self.new ≡ record self.old {
+          uplink = self.old.uplink ++ msg.Control (Disconnect 0) ∷ [];
+          link = link.Leaving;
+        }) }
+    {
+        let disconnect = Control::Disconnect { reason: 0 };
+        self.uplink.push_back(Msg::Control(disconnect))?;
+        self.link = LinkState::Leaving;
+        Ok(ReportLine::Leaving)
+    }
+
+    /// The uplink is lost, and the connection closed.
+    fn cut(&mut self, session: &mut Session<SureKeeper>) -> Result<ReportLine, AllocError>
+        requires { session.old.first_fault ≡ None }
+        ensures line { IfOk result (λ line. line
+            ≡ cut_line (sure_answer session.old (event.Close self.old.conn))) }
+        ensures ok { OnOk result (exchange session.new self.new ≡ disconnected (exchange session.old self.old)) }
+    {
+        Ok(cut_line(self.disconnect(session)?))
+    }
+
+    /// The client does an instruction. The only error is out of memory, and nothing is promised of the client and
+    /// the session then.
+    pub(crate) fn act(
+        &mut self,
+        session: &mut Session<SureKeeper>,
+        instruction: &Instruction,
+    ) -> Result<ReportLine, AllocError>
+        requires able { CanAct session.old self.old }
+        requires sayable { IsSayable instruction.now }
+        ensures line { IfOk result (λ line. line ≡ exchange_line (exchange session.old self.old) instruction.now) }
+        ensures ok { OnOk result (exchange session.new self.new ≡ exchanged (exchange session.old self.old) instruction.now) }
+    {
+        if self.is_gone(instruction) {
+            return Ok(ReportLine::Gone);
+        }
+        match instruction {
+            Instruction::Say(msg) => self.say(msg),
+            Instruction::Up => self.up(session),
+            Instruction::Take => self.take(session),
+            Instruction::Leave => self.leave(),
+            Instruction::Cut => self.cut(session),
+        }
+    }
+}

@@ -1,0 +1,40 @@
+//! What is told of a session's answers.
+
+ghost use Rattle.std.specs.Prelude.{◌≡◌};
+ghost use Rattle.dp_sim.specs.Exchanges.{said_line, left_line, cut_line};
+
+use dp_schedule::ReportLine;
+use dp_session::Reply;
+
+/// What is told of the answer to a message.
+pub(crate) fn said_line(reply: Reply) -> ReportLine
+    ensures { result ≡ said_line reply }
+{
+    match reply {
+        Reply::Placed { epoch, at } => ReportLine::Placed { epoch, at },
+        Reply::Filtered { epoch, at } => ReportLine::Filtered { epoch, at },
+        Reply::Noted => ReportLine::Noted,
+        Reply::Ignored => ReportLine::Ignored,
+        _ => ReportLine::Ended,
+    }
+}
+
+/// What is told of the answer to a Close after a Disconnect.
+pub(crate) fn left_line(reply: Reply) -> ReportLine
+    ensures { result ≡ left_line reply }
+{
+    match reply {
+        Reply::Placed { epoch, at } => ReportLine::Left { epoch, at },
+        _ => ReportLine::Ended,
+    }
+}
+
+/// What is told of the answer to a Close where the uplink is lost.
+pub(crate) fn cut_line(reply: Reply) -> ReportLine
+    ensures { result ≡ cut_line reply }
+{
+    match reply {
+        Reply::Placed { epoch, at } => ReportLine::Cut { epoch, at },
+        _ => ReportLine::Ended,
+    }
+}

@@ -1,0 +1,167 @@
+//! The world, with one call a line.
+
+ghost use Rattle.std.specs.Prelude.{◌≡◌, is_some, IsSome, IfSome, IfOk, OnOk};
+ghost use Rattle.dp_schedule.specs.declared.action.Action.TheVariants.{Join, Act};
+ghost use Rattle.dp_session.specs.declared.event.Event.TheVariants.{Open};
+ghost use Rattle.dp_session.specs.Past.{sure_answer};
+ghost use Rattle.dp_client.specs.Client.{confirmed, view};
+ghost use Rattle.dp_sim.specs.World.{first_world, after, participant_of, join_line, acted_line, length_of};
+ghost use Rattle.dp_sim.specs.Invariant.{IsWorld, IsSayable};
+
+use crate::laws::worlds_stay_worlds;
+use crate::participant::{Participant, serve};
+use dp_frame::Octets;
+use dp_keeper::{Rows, SureKeeper};
+use dp_plain::PlainBoard;
+use dp_schedule::{Instruction, ReportLine};
+use dp_session::{Event, Reply, Session, histories_are_short};
+use dp_steps::Steps;
+use std::alloc::{AllocError, Global};
+use std::marker::Model;
+use std::sync::ledger::Ledger;
+
+/// The session of a schedule, and its clients in the order of their joins, numbered from 1.
+///
+/// The rule: docs/protocol.md, "The world".
+#[derive(Drop)]
+pub struct World {
+    session: Session<SureKeeper>,
+    participants: Vec<Participant>,
+    alloc: Global,
+}
+
+impl Model for World {
+    ghost use Rattle.dp_sim.specs.World.{World as Seen};
+
+    ghost Value = { Seen };
+
+    ghost view = { λ w. record { past = w.session; participants = w.participants.items } };
+}
+
+impl World {
+    /// The world before the first line.
+    pub fn new(alloc: Global) -> Result<World, AllocError>
+        ensures first { IfOk result (λ world. world ≡ first_world) }
+        ensures world { IfOk result IsWorld }
+    {
+        worlds_stay_worlds();
+        let keeper = SureKeeper::new(Rows::new(alloc));
+        Ok(World {
+            session: Session::new(alloc, keeper)?,
+            participants: Vec::new(alloc),
+            alloc,
+        })
+    }
+
+    /// Whether there is a client of this number.
+    pub fn has(&self, client: u32) -> bool
+        ensures { result ≡ is_some (participant_of self.now client) }
+    {
+        client != 0 && (client as usize) <= self.participants.len()
+    }
+
+    /// A user asks to join.
+    fn admit(&mut self, name: Octets, registered: bool) -> Result<ReportLine, AllocError>
+        requires { IsWorld self.old }
+        ensures line { IfOk result (λ line. line
+            ≡ join_line (length_of self.old) (sure_answer self.old.past (Open name registered))) }
+        ensures ok { OnOk result (self.new ≡ after self.old (Join name registered)) }
+    {
+        let reply = serve(&mut self.session, Event::Open { name, registered })?;
+        Ok(match reply {
+            Reply::Opened {
+                conn,
+                user,
+                epoch,
+                at,
+            } => {
+                let participant = Participant::new(self.alloc, conn, user, epoch, at);
+                self.participants.push(participant)?;
+                ReportLine::Joined {
+                    client: conn,
+                    user,
+                    epoch,
+                    at,
+                }
+            }
+            Reply::Full => ReportLine::Full,
+            Reply::NameRefused => ReportLine::NameRefused,
+            _ => ReportLine::Ended,
+        })
+    }
+
+    /// A client does an instruction.
+    fn play(&mut self, client: u32, instruction: &Instruction) -> Result<ReportLine, AllocError>
+        requires world { IsWorld self.old }
+        requires client { IsSome (participant_of self.old client) }
+        requires sayable { IsSayable instruction.now }
+        ensures line { IfOk result (λ line. IfSome (participant_of self.old client) (λ participant.
+            line ≡ acted_line self.old.past participant instruction.now)) }
+        ensures ok { OnOk result (self.new ≡ after self.old (Act client instruction.now)) }
+    {
+        histories_are_short();
+        self.participants[client as usize - 1].act(&mut self.session, instruction)
+    }
+
+    /// A user asks to join.
+    ///
+    /// # Errors
+    ///
+    /// Where memory runs out. Nothing is promised of the world then.
+    pub fn join(&mut self, name: Octets, registered: bool) -> Result<ReportLine, AllocError>
+        requires { IsWorld self.old }
+        ensures line { IfOk result (λ line. line
+            ≡ join_line (length_of self.old) (sure_answer self.old.past (Open name registered))) }
+        ensures ok { OnOk result (self.new ≡ after self.old (Join name registered)) }
+        ensures world { OnOk result (IsWorld self.new) }
+    {
+        worlds_stay_worlds();
+        self.admit(name, registered)
+    }
+
+    /// The client of this number does an instruction.
+    ///
+    /// # Errors
+    ///
+    /// Where memory runs out. Nothing is promised of the world then.
+    pub fn act(&mut self, client: u32, instruction: &Instruction) -> Result<ReportLine, AllocError>
+        requires world { IsWorld self.old }
+        requires client { IsSome (participant_of self.old client) }
+        requires sayable { IsSayable instruction.now }
+        ensures line { IfOk result (λ line. IfSome (participant_of self.old client) (λ participant.
+            line ≡ acted_line self.old.past participant instruction.now)) }
+        ensures ok { OnOk result (self.new ≡ after self.old (Act client instruction.now)) }
+        ensures world { OnOk result (IsWorld self.new) }
+    {
+        worlds_stay_worlds();
+        self.play(client, instruction)
+    }
+
+    /// The view of the client of this number.
+    pub fn view<D: Ledger, T: Ledger>(
+        &self,
+        client: u32,
+        draws: &mut Steps<D>,
+        tiles: &mut Steps<T>,
+    ) -> Result<PlainBoard, AllocError>
+        requires { IsSome (participant_of self.now client) }
+        ensures { IfOk result (λ board. IfSome (participant_of self.now client) (λ participant. board ≡ view participant.state)) }
+    {
+        let participant = &self.participants[client as usize - 1];
+        participant.client().view(draws, tiles)
+    }
+
+    /// The confirmed canvas of the client of this number.
+    pub fn confirmed<D: Ledger, T: Ledger>(
+        &self,
+        client: u32,
+        draws: &mut Steps<D>,
+        tiles: &mut Steps<T>,
+    ) -> Result<PlainBoard, AllocError>
+        requires { IsSome (participant_of self.now client) }
+        ensures { IfOk result (λ board. IfSome (participant_of self.now client) (λ participant. board ≡ confirmed participant.state)) }
+    {
+        let participant = &self.participants[client as usize - 1];
+        participant.client().confirmed(draws, tiles)
+    }
+}

@@ -1,0 +1,83 @@
+-- How many of its sends a client has seen answered.
+use Rattle.std.specs.Prelude.{◌≢◌, ℕ, ◌+◌, if◌then◌else◌, is_some, List, [], ◌∷◌, ◌++◌}
+use Rattle.std.specs.List.{All}
+use Rattle.std.specs.Option.{option_map_or}
+use Rattle.dp_messages.specs.declared.message.Msg.{Msg}
+use Rattle.dp_messages.specs.Heard.{is_disconnect}
+use Rattle.dp_client.specs.Client.{State, Step, Said, Took, after_step, is_own_answer, taken_of}
+use Rattle.dp_session.specs.declared.event.Event.TheVariants as event
+use Rattle.dp_session.specs.declared.event.Reply.{Reply}
+use Rattle.dp_session.specs.declared.event.Reply.TheVariants.{Ended}
+use Rattle.dp_session.specs.Past.{sure_answer}
+use Rattle.dp_schedule.specs.declared.action.Instruction.{Instruction}
+use Rattle.dp_schedule.specs.declared.action.Instruction.TheVariants.{Say, Up, Take, Leave, Cut}
+use Rattle.dp_schedule.specs.declared.action.Action.{Action}
+use Rattle.dp_schedule.specs.declared.action.Action.TheVariants.{Join, Act, Show}
+use Rattle.dp_sim.specs.Exchanges.{Exchange, is_gone, heard}
+use Rattle.dp_sim.specs.World.{World, first_world, participant_of}
+use Rattle.dp_sim.specs.Report.{along}
+use Rattle.dp_sim.specs.Invariant.{IsSayable}
+use Rattle.dp_sim_laws.specs.OwnSteps.{turn_of, welcome_of}
+
+-- what was said since the Welcome, or since the last mark that was acknowledged, and how many own answers
+-- were taken since then
+pub record Tally : Type 0 where
+  pub sends : List Msg
+  pub answers : ℕ
+
+abbrev pub no_sends : Tally
+no_sends = record { sends = []; answers = 0 }
+
+-- the tally after a step of a client
+abbrev pub tally_step : State → Tally → Step → Tally
+tally_step c t (Said m) = record t { sends = t.sends ++ m ∷ [] }
+tally_step c t (Took entry) =
+    if is_some (taken_of c entry).ack then no_sends
+    else if is_own_answer c entry then record t { answers = t.answers + 1 } else t
+
+-- the tally after steps
+abbrev pub tally_from : State → Tally → List Step → Tally
+tally_from c t [] = t
+tally_from c t (step ∷ steps) = tally_from (after_step c step) (tally_step c t step) steps
+
+-- the tally of a client's own steps
+abbrev pub tally_of : State → List Step → Tally
+tally_of c steps = tally_from (welcome_of c) no_sends steps
+
+-- ---- schedules in which the session never ends
+
+-- the replies to the events of the next message of an uplink
+abbrev pub up_replies : Exchange → List Msg → List Reply
+up_replies t [] = []
+up_replies t (m ∷ rest) =
+    sure_answer t.past (event.Say t.participant.conn m)
+    ∷ (if is_disconnect m then sure_answer (heard t m rest).past (event.Close t.participant.conn) ∷ [] else [])
+
+-- the replies to the events of an instruction that the client still does
+abbrev pub deed_replies : Exchange → Instruction → List Reply
+deed_replies t (Say m) = []
+deed_replies t Up = up_replies t t.participant.uplink
+deed_replies t Take = []
+deed_replies t Leave = []
+deed_replies t Cut = sure_answer t.past (event.Close t.participant.conn) ∷ []
+
+abbrev pub turn_replies : Exchange → Instruction → List Reply
+turn_replies t instruction = if is_gone t.participant.link instruction then [] else deed_replies t instruction
+
+-- the replies to the events of an action
+abbrev pub replies : World → Action → List Reply
+replies w (Join name registered) = sure_answer w.past (event.Open name registered) ∷ []
+replies w (Act client instruction) =
+    option_map_or (λ participant. turn_replies (turn_of w participant) instruction) (participant_of w client) []
+replies w (Show client kind) = []
+
+-- a message that the action says is no control message
+abbrev pub SaysNoControl : Action → Type 0
+SaysNoControl (Join name registered) = Unit {0}
+SaysNoControl (Act client instruction) = IsSayable instruction
+SaysNoControl (Show client kind) = Unit {0}
+
+-- a schedule that says no control message, and in which no event was answered Ended
+pub record IsUnended (actions : List Action) : Type 0 where
+  pub said : All SaysNoControl actions
+  pub replies : All (λ reply. reply ≢ Ended) (along replies first_world actions)

@@ -1,0 +1,47 @@
+//! Laws of schedules, each the contract of a function that does nothing but call others.
+
+ghost use Rattle.std.specs.Prelude.{◌≡◌, ◌≢◌, ◌≤◌, ℕ, List, length, drop, IfSome};
+ghost use Rattle.dp_client.specs.Client.{own_of};
+ghost use Rattle.dp_client.specs.declared.own.Own.TheVariants.{Lost};
+ghost use Rattle.dp_schedule.specs.declared.action.Action.{Action};
+ghost use Rattle.dp_sim.specs.World.{world_after, participant_of};
+ghost use Rattle.dp_sim_laws.specs.OwnSteps.{own_steps, GoesBy, next_of};
+ghost use Rattle.dp_sim_laws.specs.Tally.{IsUnended, tally_of};
+
+use dp_messages::one_equality;
+use dp_sim::worlds_stay_worlds;
+use dp_session::steps_lead_on;
+
+/// After every schedule each client is where its own steps since its Welcome lead.
+pub fn clients_go_by_their_steps()
+    ensures { (actions : List Action) (number : ℕ)
+        → IfSome (participant_of (world_after actions) number) (λ participant. GoesBy participant.state (own_steps number actions)) }
+{}
+
+/// After a schedule of such messages as lines say, in which no event was answered Ended, a client's fork is its
+/// sends without the first n, n the number of own answers that it has taken.
+pub fn forks_are_plain()
+    ensures few { (actions : List Action) (number : ℕ) → IsUnended actions
+        → IfSome (participant_of (world_after actions) number) (λ participant.
+        let tally = tally_of participant.state (own_steps number actions) in
+        tally.answers ≤ length tally.sends) }
+    ensures fork { (actions : List Action) (number : ℕ) → IsUnended actions
+        → IfSome (participant_of (world_after actions) number) (λ participant.
+        let tally = tally_of participant.state (own_steps number actions) in
+        participant.state.fork ≡ drop tally.answers tally.sends) }
+{
+    worlds_stay_worlds();
+    steps_lead_on();
+    one_equality();
+}
+
+/// After such a schedule no client's next entry tells that its fork is lost.
+pub fn no_fork_is_lost()
+    ensures { (actions : List Action) (number : ℕ) → IsUnended actions
+        → IfSome (participant_of (world_after actions) number) (λ participant.
+        IfSome (next_of (world_after actions) participant) (λ entry. own_of participant.state entry ≢ Lost)) }
+{
+    worlds_stay_worlds();
+    steps_lead_on();
+    one_equality();
+}
