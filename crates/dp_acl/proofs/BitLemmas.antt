@@ -5,7 +5,8 @@ use Rattle.std.proofs.Common.{refl, sym, ap, subst, ◌∙◌, inl, inr, arith, 
 use Rattle.std.specs.Int.{bit_at}
 use Rattle.std.proofs.lemmas.Bool.{cases_eq, cond-true, cond-false, eq-eqb, ne_eqb}
 use Rattle.std.proofs.lemmas.List.{get_or-set_same, get_or-set_other}
-use Rattle.std.proofs.lemmas.Nat.Bits.{shr_and_one, bit_at-zero, bit_at-lt, bit_at_and, bit_at_set_same}
+use Rattle.std.proofs.lemmas.Nat.Bits.{shr_and_one, bit_at-zero, bit_at-lt, bit_at_and}
+use Rattle.std.proofs.lemmas.Nat.Bits.{bit_at_set_same}
 use Rattle.std.proofs.lemmas.Nat.Bits.{bit_at_set_other}
 use Rattle.std.proofs.lemmas.Nat.Bits.{bit_at_clear_same, bit_at_clear_other}
 use Rattle.dp_acl.specs.Table.{mark_of}
@@ -13,7 +14,8 @@ use Rattle.dp_acl.specs.Marks.{bit_of, marks_of}
 use Rattle.dp_acl.proofs.ListLemmas.{get_or-map-numbers}
 
 -- a mark is a bit
-pub mark-bit : (words : List ℕ) (user : ℕ) → user < 256 → mark_of (marks_of words) user ≡ bit_of words user
+pub mark-bit : (words : List ℕ) (user : ℕ) → user < 256 → mark_of (marks_of words) user
+    ≡ bit_of words user
 unfolding marks_of
 mark-bit words user low = get_or-map-numbers (bit_of words) 256 user false low
 
@@ -54,14 +56,16 @@ module _ (words : List ℕ) (id word : ℕ) (present : Bool)
     (here : bit_at word (id % 64) ≡ (if present then 1 else 0))
     (others : (k : ℕ) → k < 64 → k ≢ id % 64 → bit_at word k ≡ bit_at (get_or words (id / 64) 0) k)
   where
-    bit-set_same : bit_of (set words (id / 64) word) id ≡ (if id == id then present else bit_of words id)
+    bit-set_same : bit_of (set words (id / 64) word) id ≡
+        (if id == id then present else bit_of words id)
     bit-set_same =
         ap (λ w. bit_at w (id % 64) == 1) (get_or-set_same words (id / 64) word 0 within)
         ∙ ap (λ b. b == 1) here
         ∙ flag present
         ∙ sym (cond-true (id == id) present (bit_of words id) (eq-eqb id id refl))
 
-    bit-set_other : (user : ℕ) → id ≢ user → bit_of (set words (id / 64) word) user ≡ bit_of words user
+    bit-set_other : (user : ℕ) → id ≢ user → bit_of (set words (id / 64) word) user
+        ≡ bit_of words user
     bit-set_other user differs = elim (cases_eq (user / 64) (id / 64)) [
       | inl same ↦
           let apart : user % 64 ≢ id % 64 = λ e. differs (omega arith) in
@@ -105,7 +109,8 @@ marks-put_in words marks id place present four small here is view user low =
     (1 * 2 ^ (id % 64) % 18446744073709551616)))) user) here
     ∙ marks-set words id word true (omega arith)
     (bit_at_set_same w64 (get_or words (id / 64) 0) (id % 64) (omega arith))
-    (λ k short differs. bit_at_set_other w64 (get_or words (id / 64) 0) (id % 64) (omega arith) k differs)
+    (λ k short differs. bit_at_set_other w64 (get_or words (id / 64) 0) (id % 64) (omega arith) k
+    differs)
     marks view user low
     ∙ ap (λ b. if id == user then b else mark_of marks user) (sym is)
 
@@ -137,7 +142,8 @@ min_bits (suc (suc x)) y p q = absurd (omega arith)
 min_bits x (suc (suc y)) p q = absurd (omega arith)
 
 -- words that are those of two sets, bit by bit
-pub marks-both : (a b words : List ℕ) (marks others : List Bool) → marks_of a ≡ marks → marks_of b ≡ others
+pub marks-both : (a b words : List ℕ) (marks others : List Bool) → marks_of a ≡ marks
+    → marks_of b ≡ others
     → ((k : ℕ) → k < 4 → get_or words k 0 ≡ bit_and (get_or a k 0) (get_or b k 0))
     → (user : ℕ) → user < 256
     → mark_of (marks_of words) user ≡ (mark_of marks user && mark_of others user)
@@ -150,4 +156,5 @@ marks-both a b words marks others view view' each user low =
     ∙ ap (λ t. t == 1) (bit_at_and x y k)
     ∙ min_bits (bit_at x k) (bit_at y k) (bit_at-lt x k) (bit_at-lt y k)
     ∙ ap (λ t. t && bit_of b user) (sym (mark-bit a user low) ∙ ap (λ ms. mark_of ms user) view)
-    ∙ ap (λ t. mark_of marks user && t) (sym (mark-bit b user low) ∙ ap (λ ms. mark_of ms user) view')
+    ∙ ap (λ t. mark_of marks user && t) (sym (mark-bit b user low)
+    ∙ ap (λ ms. mark_of ms user) view')

@@ -1,5 +1,6 @@
 -- What is carried, by what is kept.
-use Rattle.std.proofs.Common.{◌≡◌, ℕ, zero, suc, ◌+◌, ◌<◌, ◌≤◌, ◌==◌, Bool, true, false, if◌then◌else◌}
+use Rattle.std.proofs.Common.{◌≡◌, ℕ, zero, suc, ◌+◌, ◌<◌, ◌≤◌, ◌==◌, Bool, true, false}
+use Rattle.std.proofs.Common.{if◌then◌else◌}
 use Rattle.std.proofs.Common.{List, [], ◌∷◌, ◌++◌, length, map, All, Option, Some, None}
 use Rattle.std.proofs.Common.{refl, sym, ap, subst, ◌∙◌, inl, inr, arith, zero-add}
 use Rattle.std.specs.List.{filter, filter_map, cons_option, range_with_len}
@@ -13,7 +14,8 @@ use Rattle.dp_msg_meta.specs.declared.message.Meta.TheVariants.{Owners, Trusted,
 use Rattle.dp_msg_meta.specs.declared.message.Meta.TheVariants.{FeatureTiers}
 use Rattle.dp_messages.specs.declared.message.Entry.{Entry}
 use Rattle.dp_acl.specs.LookBack.{numbers_below, LayerRule}
-use Rattle.dp_acl.specs.Rights.{is_operator, is_trusted, are_all_locked, is_lock_listed, tiers_of, rule_of}
+use Rattle.dp_acl.specs.Rights.{is_operator, is_trusted, are_all_locked, is_lock_listed, tiers_of}
+use Rattle.dp_acl.specs.Rights.{rule_of}
 use Rattle.dp_acl.specs.Carried.{acl_with, carried_rule, carried_rules, carried}
 use Rattle.dp_acl.specs.Table.{Kept, KeptRule, Mark, mark_of, kept_rule, rule_in_order, StandsFor}
 use Rattle.dp_acl.specs.RuleTable.{acl_of, RulesRise}
@@ -36,7 +38,8 @@ filter_map-none (x ∷ xs) = filter_map-none xs
 
 filter_map-numbers : {Y : Type 0} (f g : ℕ → Option Y) (n : ℕ) → ((k : ℕ) → k < n → f k ≡ g k)
     → filter_map f (numbers_below n) ≡ filter_map g (numbers_below n)
-filter_map-numbers f g n same = filter_map-same f g (numbers_below n) (All-numbers (λ k. f k ≡ g k) n same)
+filter_map-numbers f g n same = filter_map-same f g (numbers_below n)
+    (All-numbers (λ k. f k ≡ g k) n same)
 
 -- what passes a test is no more than all
 pub length-filter_le : {X : Type 0} (p : X → Bool) (xs : List X) → length (filter p xs) ≤ length xs
@@ -128,7 +131,8 @@ in_order-twice : (layer : ℕ) (o : Option LayerRule)
 in_order-twice layer None = refl
 in_order-twice layer (Some rule) = refl
 
-carried_rules-kept : (kept : Kept) (history : List Entry) → StandsFor kept history → RulesRise 0 kept.rules
+carried_rules-kept : (kept : Kept) (history : List Entry) → StandsFor kept history
+    → RulesRise 0 kept.rules
     → carried_rules history ≡ map acl_of kept.rules
 carried_rules-kept kept history stands rise =
     filter_map-numbers (carried_rule history) (acl_by kept.rules) 65536
@@ -138,11 +142,13 @@ carried_rules-kept kept history stands rise =
 
 -- ---- all that is carried
 
-present-same : (marks : List Bool) (test : ℕ → Bool) (present : List ℕ) → Mark marks test → RiseFrom 1 present
+present-same : (marks : List Bool) (test : ℕ → Bool) (present : List ℕ) → Mark marks test
+    → RiseFrom 1 present
     → filter test present ≡ filter (mark_of marks) present
 present-same marks test present same rise =
     filter-same test (mark_of marks) present
-    (All-weaker (λ id. id < 256) (λ id. test id ≡ mark_of marks id) (λ id low. sym (same id low)) present
+    (All-weaker (λ id. id < 256) (λ id. test id ≡ mark_of marks id) (λ id low. sym (same id low))
+    present
     (ids-rise 1 present rise))
 
 -- the list of messages, by what is kept
@@ -150,36 +156,46 @@ pub carried-kept : (kept : Kept) (history : List Entry) (present : List ℕ) →
     → RiseFrom 1 present → RulesRise 0 kept.rules
     → Owners (filter (mark_of kept.operators) present)
     ∷ Trusted (filter (mark_of kept.trusted) present)
-    ∷ UserAcl ((if kept.all_locked then 0 ∷ [] else []) ++ filter (mark_of kept.lock_listed) present)
+    ∷ UserAcl ((if kept.all_locked then 0 ∷ [] else []) ++ filter (mark_of kept.lock_listed)
+    present)
     ∷ FeatureTiers kept.tiers
     ∷ map acl_of kept.rules
     ≡ carried history present
 carried-kept kept history present stands rise rules =
     ap (λ ids. Owners ids ∷ Trusted (filter (mark_of kept.trusted) present)
-    ∷ UserAcl ((if kept.all_locked then 0 ∷ [] else []) ++ filter (mark_of kept.lock_listed) present)
+    ∷ UserAcl ((if kept.all_locked then 0 ∷ [] else []) ++ filter (mark_of kept.lock_listed)
+    present)
     ∷ FeatureTiers kept.tiers ∷ map acl_of kept.rules)
     (sym (present-same kept.operators (is_operator history) present stands.operators rise))
     ∙ ap (λ ids. Owners (filter (is_operator history) present) ∷ Trusted ids
-    ∷ UserAcl ((if kept.all_locked then 0 ∷ [] else []) ++ filter (mark_of kept.lock_listed) present)
+    ∷ UserAcl ((if kept.all_locked then 0 ∷ [] else []) ++ filter (mark_of kept.lock_listed)
+    present)
     ∷ FeatureTiers kept.tiers ∷ map acl_of kept.rules)
     (sym (present-same kept.trusted (is_trusted history) present stands.trusted rise))
-    ∙ ap (λ ids. Owners (filter (is_operator history) present) ∷ Trusted (filter (is_trusted history) present)
+    ∙ ap (λ ids. Owners (filter (is_operator history) present)
+    ∷ Trusted (filter (is_trusted history) present)
     ∷ UserAcl ((if kept.all_locked then 0 ∷ [] else []) ++ ids)
     ∷ FeatureTiers kept.tiers ∷ map acl_of kept.rules)
     (sym (present-same kept.lock_listed (is_lock_listed history) present stands.lock_listed rise))
-    ∙ ap (λ b. Owners (filter (is_operator history) present) ∷ Trusted (filter (is_trusted history) present)
+    ∙ ap (λ b. Owners (filter (is_operator history) present)
+    ∷ Trusted (filter (is_trusted history) present)
     ∷ UserAcl ((if b then 0 ∷ [] else []) ++ filter (is_lock_listed history) present)
     ∷ FeatureTiers kept.tiers ∷ map acl_of kept.rules) stands.all_locked
-    ∙ ap (λ t. Owners (filter (is_operator history) present) ∷ Trusted (filter (is_trusted history) present)
-    ∷ UserAcl ((if are_all_locked history then 0 ∷ [] else []) ++ filter (is_lock_listed history) present)
+    ∙ ap (λ t. Owners (filter (is_operator history) present)
+    ∷ Trusted (filter (is_trusted history) present)
+    ∷ UserAcl ((if are_all_locked history then 0 ∷ [] else [])
+    ++ filter (is_lock_listed history) present)
     ∷ FeatureTiers t ∷ map acl_of kept.rules) stands.tiers
-    ∙ ap (λ ms. Owners (filter (is_operator history) present) ∷ Trusted (filter (is_trusted history) present)
-    ∷ UserAcl ((if are_all_locked history then 0 ∷ [] else []) ++ filter (is_lock_listed history) present)
+    ∙ ap (λ ms. Owners (filter (is_operator history) present)
+    ∷ Trusted (filter (is_trusted history) present)
+    ∷ UserAcl ((if are_all_locked history then 0 ∷ [] else [])
+    ++ filter (is_lock_listed history) present)
     ∷ FeatureTiers (tiers_of history) ∷ ms) (sym (carried_rules-kept kept history stands rules))
 
 -- a list that grows from nothing by four messages and the rest
 pub five-pushed : (m0 m1 m2 m3 m4 m5 : List Meta) (a b c d : Meta) (rest : List Meta) → m0 ≡ []
-    → m1 ≡ m0 ++ a ∷ [] → m2 ≡ m1 ++ b ∷ [] → m3 ≡ m2 ++ c ∷ [] → m4 ≡ m3 ++ d ∷ [] → m5 ≡ m4 ++ rest
+    → m1 ≡ m0 ++ a ∷ [] → m2 ≡ m1 ++ b ∷ [] → m3 ≡ m2 ++ c ∷ [] → m4 ≡ m3 ++ d ∷ []
+    → m5 ≡ m4 ++ rest
     → m5 ≡ a ∷ b ∷ c ∷ d ∷ rest
 five-pushed m0 m1 m2 m3 m4 m5 a b c d rest none first second third fourth last =
     let one : m1 ≡ a ∷ [] = first ∙ ap (λ ms. ms ++ a ∷ []) none in
@@ -196,7 +212,8 @@ same-start a a' b b' c c' rest first second third =
     ∙ ap (λ ids. Owners a' ∷ Trusted ids ∷ UserAcl c ∷ rest) second
     ∙ ap (λ ids. Owners a' ∷ Trusted b' ∷ UserAcl ids ∷ rest) third
 
-length-lock : (b : Bool) (ids : List ℕ) → length ((if b then 0 ∷ [] else []) ++ ids) ≤ length ids + 1
+length-lock : (b : Bool) (ids : List ℕ) → length ((if b then 0 ∷ [] else []) ++ ids) ≤ length ids
+    + 1
 length-lock true ids = omega arith
 length-lock false ids = omega arith
 

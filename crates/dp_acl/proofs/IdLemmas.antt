@@ -4,7 +4,8 @@ use Rattle.std.proofs.Common.{Bool, true, false, cond, IsTrue, List, [], ◌∷�
 use Rattle.std.proofs.Common.{refl, sym, ap, ◌∙◌, inl, inr, arith}
 use Rattle.std.specs.List.{filter, list_all, range_with_len}
 use Rattle.std.specs.Int.{bit_at}
-use Rattle.std.proofs.lemmas.Bool.{cases_eq, eqb-true, eqb-false, eq-eqb, ne_eqb, cond-true, cond-false}
+use Rattle.std.proofs.lemmas.Bool.{cases_eq, eqb-true, eqb-false, eq-eqb, ne_eqb, cond-true}
+use Rattle.std.proofs.lemmas.Bool.{cond-false}
 use Rattle.std.proofs.lemmas.Bool.{false≢true}
 use Rattle.std.proofs.lemmas.List.Sums.{AllPass-from_list_all, list_all-from_AllPass}
 use Rattle.std.proofs.lemmas.List.Elements.{All-get_or, All-from_get_or}
@@ -27,7 +28,8 @@ marked-in_order marks ids same = filter-numbers (mark_of marks) (lists ids) 256 
 marked-zero : (words : List ℕ) → length words ≡ 4 → list_all (λ w. w == 0) words ≡ true
     → marked (marks_of words) ≡ []
 marked-zero words four zeros =
-    filter-numbers (mark_of (marks_of words)) (λ _. false) 256 none ∙ filter-none (numbers_below 256)
+    filter-numbers (mark_of (marks_of words)) (λ _. false) 256 none
+    ∙ filter-none (numbers_below 256)
   where
     none : (user : ℕ) → user < 256 → mark_of (marks_of words) user ≡ false
     none user low =
@@ -39,7 +41,8 @@ marked-zero words four zeros =
         ∙ ap (λ b. b == 1) (bit_at-zero (user % 64))
 
 -- where nobody is marked, no word has a bit
-zero-marked : (words : List ℕ) → length words ≡ 4 → All (λ w. w < 2 ^ 64) words → marked (marks_of words) ≡ []
+zero-marked : (words : List ℕ) → length words ≡ 4 → All (λ w. w < 2 ^ 64) words
+    → marked (marks_of words) ≡ []
     → list_all (λ w. w == 0) words ≡ true
 zero-marked words four fit none =
     list_all-from_AllPass (λ w. w == 0) words
@@ -52,7 +55,8 @@ zero-marked words four fit none =
         let place : user / 64 ≡ k = omega arith in
         let rest : user % 64 ≡ i = omega arith in
         let unmarked : bit_of words user ≡ false =
-        sym (mark-bit words user low) ∙ filter-numbers_nil (mark_of (marks_of words)) 256 user none low in
+        sym (mark-bit words user low) ∙ filter-numbers_nil (mark_of (marks_of words)) 256 user none
+        low in
         let bit : (bit_at (get_or words k 0) i == 1) ≡ false =
         ap (λ p. bit_at (get_or words p 0) i == 1) (sym place)
         ∙ ap (λ j. bit_at (get_or words (user / 64) 0) j == 1) (sym rest)
@@ -100,8 +104,10 @@ open-in_order (id ∷ ids) user low bytes =
 -- ---- how many there are
 
 -- the items that pass one of two tests are at most those that pass each
-or_step : {X : Type 0} (x : X) (a b : Bool) (ors ps qs : List X) → length ors ≤ length ps + length qs
-    → length (cond (a || b) (x ∷ ors) ors) ≤ length (cond a (x ∷ ps) ps) + length (cond b (x ∷ qs) qs)
+or_step : {X : Type 0} (x : X) (a b : Bool) (ors ps qs : List X)
+    → length ors ≤ length ps + length qs
+    → length (cond (a || b) (x ∷ ors) ors) ≤ length (cond a (x ∷ ps) ps)
+    + length (cond b (x ∷ qs) qs)
 or_step x true true ors ps qs few = omega arith
 or_step x true false ors ps qs few = omega arith
 or_step x false true ors ps qs few = omega arith
@@ -111,7 +117,8 @@ length-filter_or : {X : Type 0} (p q : X → Bool) (xs : List X)
     → length (filter (λ x. p x || q x) xs) ≤ length (filter p xs) + length (filter q xs)
 length-filter_or p q [] = omega arith
 length-filter_or p q (x ∷ xs) =
-    or_step x (p x) (q x) (filter (λ y. p y || q y) xs) (filter p xs) (filter q xs) (length-filter_or p q xs)
+    or_step x (p x) (q x) (filter (λ y. p y || q y) xs) (filter p xs) (filter q xs)
+    (length-filter_or p q xs)
 
 -- a number is at most once in a range
 none_above : (id low n : ℕ) → id < low → filter (λ k. id == k) (range_with_len low n) ≡ []
@@ -128,13 +135,18 @@ one_step id low rest few none = elim (cases_eq id low) [
     ap length (cond-true (id == low) (low ∷ rest) rest (eq-eqb id low same)),
     ap length (none same),
   )
-  | inr differ ↦ omega (arith, ap length (cond-false (id == low) (low ∷ rest) rest (ne_eqb id low differ)))
+  | inr differ ↦ omega (
+    arith,
+    ap length (cond-false (id == low) (low ∷ rest) rest
+        (ne_eqb id low differ)),
+  )
 ]
 
 length-filter_one : (id low n : ℕ) → length (filter (λ k. id == k) (range_with_len low n)) ≤ 1
 length-filter_one id low zero = omega arith
 length-filter_one id low (suc n) =
-    one_step id low (filter (λ k. id == k) (range_with_len (low + 1) n)) (length-filter_one id (low + 1) n)
+    one_step id low (filter (λ k. id == k) (range_with_len (low + 1) n))
+    (length-filter_one id (low + 1) n)
     (λ same. none_above id (low + 1) n (omega arith))
 
 length-one : (id n : ℕ) → length (filter (λ k. id == k) (numbers_below n)) ≤ 1

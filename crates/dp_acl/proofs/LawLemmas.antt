@@ -1,7 +1,9 @@
 -- The laws of rights.
-use Rattle.std.proofs.Common.{◌≡◌, ℕ, zero, suc, ◌+◌, ◌<◌, ◌==◌, ◌&&◌, ◌||◌, not, nat_le, Bool, true, false}
+use Rattle.std.proofs.Common.{◌≡◌, ℕ, zero, suc, ◌+◌, ◌<◌, ◌==◌, ◌&&◌, ◌||◌, not, nat_le, Bool}
+use Rattle.std.proofs.Common.{true, false}
 use Rattle.std.proofs.Common.{if◌then◌else◌, List, [], ◌∷◌, ◌++◌, Option, Some, None, unwrap_or}
-use Rattle.std.proofs.Common.{refl, sym, ap, subst, ◌∙◌, inl, inr, arith, append_assoc, append-nil, zero-add}
+use Rattle.std.proofs.Common.{refl, sym, ap, subst, ◌∙◌, inl, inr, arith, append_assoc, append-nil}
+use Rattle.std.proofs.Common.{zero-add}
 use Rattle.std.specs.List.{filter, range_with_len}
 use Rattle.std.specs.Option.{option_map_or, option_or}
 use Rattle.std.proofs.lemmas.Bool.{cases_eq, cond-true, cond-false, eq-eqb, ne_eqb}
@@ -17,13 +19,16 @@ use Rattle.dp_messages.specs.declared.message.Msg.{Msg}
 use Rattle.dp_messages.specs.declared.message.Msg.TheVariants as msg
 use Rattle.dp_messages.specs.declared.message.Entry.{Entry}
 use Rattle.dp_acl.specs.LookBack as said
-use Rattle.dp_acl.specs.LookBack.{numbers_below, lists, is_join_of, has_joined, owners, LayerRule, layer_rule}
+use Rattle.dp_acl.specs.LookBack.{numbers_below, lists, is_join_of, has_joined, owners, LayerRule}
+use Rattle.dp_acl.specs.LookBack.{layer_rule}
 use Rattle.dp_acl.specs.Rights.{is_listed, is_operator, is_trusted, is_registered, are_all_locked}
 use Rattle.dp_acl.specs.Rights.{is_lock_listed}
-use Rattle.dp_acl.specs.Rights.{is_locked, tier_of, tiers_of, has_feature, rule_of, is_open_to, lets_paint}
+use Rattle.dp_acl.specs.Rights.{is_locked, tier_of, tiers_of, has_feature, rule_of, is_open_to}
+use Rattle.dp_acl.specs.Rights.{lets_paint}
 use Rattle.dp_acl.specs.Rights.{may_paint, may_edit_layer, creator_of}
 use Rattle.dp_acl.specs.Permitted.{permits_control, permits_meta, permits_draw, permitted}
-use Rattle.dp_acl.specs.Laws.{filtered, ForbiddenChangesNoRight, OperatorsStay, SpelledIdsAreInOrder}
+use Rattle.dp_acl.specs.Laws.{filtered, ForbiddenChangesNoRight, OperatorsStay}
+use Rattle.dp_acl.specs.Laws.{SpelledIdsAreInOrder}
 use Rattle.dp_acl.proofs.ListLemmas.{filter-same, filter-none, All-range}
 use Rattle.dp_acl.proofs.PushLemmas.{joined-push, listed_behind, listed-push, registered-push}
 use Rattle.dp_acl.proofs.PushLemmas.{all_locked-push}
@@ -45,7 +50,8 @@ order-range zero low (id ∷ ids) all rise = absurd (omega (arith, rise.0, rise.
 order-range (suc n) low (id ∷ ids) all rise = elim (cases_eq id low) [
   | inl same ↦
       let rest : RiseFrom (low + 1) ids = subst (λ l. RiseFrom (l + 1) ids) same rise.2 in
-      cond-true (lists (id ∷ ids) low) (low ∷ filter (lists (id ∷ ids)) (range_with_len (low + 1) n))
+      cond-true (lists (id ∷ ids) low) (low ∷ filter (lists (id ∷ ids))
+      (range_with_len (low + 1) n))
       (filter (lists (id ∷ ids)) (range_with_len (low + 1) n))
       (ap (λ b. b || lists ids low) (eq-eqb id low same))
       ∙ ap (λ k. k ∷ filter (lists (id ∷ ids)) (range_with_len (low + 1) n)) (sym same)
@@ -56,13 +62,15 @@ order-range (suc n) low (id ∷ ids) all rise = elim (cases_eq id low) [
       ∙ order-range n (low + 1) ids (omega arith) rest)
   | inr differ ↦
       let above : RiseFrom (low + 1) (id ∷ ids) = (omega (arith, rise.0), rise.1, rise.2) in
-      cond-false (lists (id ∷ ids) low) (low ∷ filter (lists (id ∷ ids)) (range_with_len (low + 1) n))
+      cond-false (lists (id ∷ ids) low) (low ∷ filter (lists (id ∷ ids))
+      (range_with_len (low + 1) n))
       (filter (lists (id ∷ ids)) (range_with_len (low + 1) n))
       (lists-below (low + 1) low (id ∷ ids) above (omega arith))
       ∙ order-range n (low + 1) (id ∷ ids) (omega arith) above
 ]
 
-order-numbers : (n : ℕ) (ids : List ℕ) → n ≡ 256 → RiseFrom 0 ids → filter (lists ids) (numbers_below n) ≡ ids
+order-numbers : (n : ℕ) (ids : List ℕ) → n ≡ 256 → RiseFrom 0 ids
+    → filter (lists ids) (numbers_below n) ≡ ids
 unfolding numbers_below
 order-numbers n ids all rise = order-range n 0 ids (zero-add n ∙ all) rise
 
@@ -94,7 +102,8 @@ module _ (one other : List Entry) (e : Entry) (same : LooksSame one other) where
       listed-push ids user one e
       ∙ ap (λ b. listed_behind (is_join_of user e) b (ids e.msg) (is_listed ids one user) user)
       (same.joined user)
-      ∙ ap (λ b. listed_behind (is_join_of user e) (has_joined other user) (ids e.msg) b user) (were user)
+      ∙ ap (λ b. listed_behind (is_join_of user e) (has_joined other user) (ids e.msg) b user)
+      (were user)
       ∙ sym (listed-push ids user other e)
 
   -- with one more entry each
@@ -109,17 +118,20 @@ module _ (one other : List Entry) (e : Entry) (same : LooksSame one other) where
         (same.registered user)
         ∙ sym (registered-push other e user);
     all_locked = all_locked-push one e
-        ∙ ap (λ b. option_map_or (λ listed. lists listed 0) (said.locked_users e.msg) b) same.all_locked
+        ∙ ap (λ b. option_map_or (λ listed. lists listed 0) (said.locked_users e.msg) b)
+        same.all_locked
         ∙ sym (all_locked-push other e);
     lock_listed = listed-same said.locked_users same.lock_listed;
     tiers = tiers-push one e
         ∙ ap (λ t. unwrap_or (said.feature_tiers e.msg) t) same.tiers ∙ sym (tiers-push other e);
     rules = λ layer. rule-push one e layer
-        ∙ ap (λ o. option_or (layer_rule layer e.msg) o) (same.rules layer) ∙ sym (rule-push other e layer);
+        ∙ ap (λ o. option_or (layer_rule layer e.msg) o) (same.rules layer)
+        ∙ sym (rule-push other e layer);
   }
 
 -- with the same entries after
-same-append : (after one other : List Entry) → LooksSame one other → LooksSame (one ++ after) (other ++ after)
+same-append : (after one other : List Entry) → LooksSame one other
+    → LooksSame (one ++ after) (other ++ after)
 same-append [] one other same =
     subst (λ es. LooksSame es (other ++ [])) (sym (append-nil one))
     (subst (LooksSame one) (sym (append-nil other)) same)
@@ -147,7 +159,8 @@ same-filtered before sender kind = record {
 module _ (one other : List Entry) (same : LooksSame one other) (user : ℕ) where
   tier-same : tier_of one user ≡ tier_of other user
   tier-same =
-      ap (λ b. if b then 0 else if is_trusted one user then 1 else if is_registered one user then 2 else 3)
+      ap (λ b. if b then 0 else if is_trusted one user then 1 else if is_registered one user then 2
+      else 3)
       (same.operators user)
       ∙ ap (λ b. if is_operator other user then 0 else if b then 1
       else if is_registered one user then 2 else 3)
@@ -160,9 +173,11 @@ module _ (one other : List Entry) (same : LooksSame one other) (user : ℕ) wher
   locked-same =
       ap (λ b. not b && (are_all_locked one || is_lock_listed one user)) (same.operators user)
       ∙ ap (λ b. not (is_operator other user) && (b || is_lock_listed one user)) same.all_locked
-      ∙ ap (λ b. not (is_operator other user) && (are_all_locked other || b)) (same.lock_listed user)
+      ∙ ap (λ b. not (is_operator other user) && (are_all_locked other || b))
+      (same.lock_listed user)
 
-  feature-same : (feature : Tiers → ℕ) → has_feature one user feature ≡ has_feature other user feature
+  feature-same : (feature : Tiers → ℕ) → has_feature one user feature
+      ≡ has_feature other user feature
   feature-same feature =
       ap (λ t. nat_le t (feature (tiers_of one))) tier-same
       ∙ ap (λ t. nat_le (tier_of other user) (feature t)) same.tiers
@@ -176,7 +191,8 @@ module _ (one other : List Entry) (same : LooksSame one other) (user : ℕ) wher
 
   lets-same : (rule : LayerRule) → lets_paint one user rule ≡ lets_paint other user rule
   lets-same rule =
-      ap (λ b. not rule.locked && (b || (nat_le (tier_of one user) rule.tier && is_open_to rule.ids user)))
+      ap (λ b. not rule.locked && (b || (nat_le (tier_of one user) rule.tier
+      && is_open_to rule.ids user)))
       (same.operators user)
       ∙ ap (λ t. not rule.locked &&
       (is_operator other user || (nat_le t rule.tier && is_open_to rule.ids user)))
@@ -190,7 +206,8 @@ module _ (one other : List Entry) (same : LooksSame one other) (user : ℕ) wher
   paint-same : (layer : ℕ) → may_paint one user layer ≡ may_paint other user layer
   paint-same layer =
       ap (λ b. not b && option_map_or (lets_paint one user) (rule_of one layer) true) locked-same
-      ∙ ap (λ o. not (is_locked other user) && option_map_or (lets_paint one user) o true) (same.rules layer)
+      ∙ ap (λ o. not (is_locked other user) && option_map_or (lets_paint one user) o true)
+      (same.rules layer)
       ∙ ap (λ b. not (is_locked other user) && b) (lets-same_of (rule_of other layer))
 
   paint_by-same : (layer : ℕ) (feature : Tiers → ℕ)
@@ -203,7 +220,8 @@ module _ (one other : List Entry) (same : LooksSame one other) (user : ℕ) wher
   edit-same : (layer : ℕ) → may_edit_layer one user layer ≡ may_edit_layer other user layer
   edit-same layer =
       ap (λ b. not b && (has_feature one user (λ tiers. tiers.edit_layers)
-      || (has_feature one user (λ tiers. tiers.own_layers) && creator_of layer == user))) locked-same
+      || (has_feature one user (λ tiers. tiers.own_layers) && creator_of layer == user)))
+      locked-same
       ∙ ap (λ b. not (is_locked other user) && (b
       || (has_feature one user (λ tiers. tiers.own_layers) && creator_of layer == user)))
       (feature-same (λ tiers. tiers.edit_layers))
@@ -271,12 +289,14 @@ pub forbidden_changes_nothing : ForbiddenChangesNoRight
 forbidden_changes_nothing before after sender kind user m =
     ap (λ es. permitted es user m) (sym (append_assoc before (filtered sender kind ∷ []) after))
     ∙ permitted-same (before ++ filtered sender kind ∷ [] ++ after) (before ++ after)
-    (same-append after (before ++ filtered sender kind ∷ []) before (same-filtered before sender kind)) user m
+    (same-append after (before ++ filtered sender kind ∷ []) before
+    (same-filtered before sender kind)) user m
 
 -- ---- operators
 
 pub operators-stay : OperatorsStay
 operators-stay history e user none other =
     listed-push owners user history e
-    ∙ ap (λ b. listed_behind b (has_joined history user) (owners e.msg) (is_operator history user) user) other
+    ∙ ap (λ b. listed_behind b (has_joined history user) (owners e.msg) (is_operator history user)
+    user) other
     ∙ ap (λ o. listed_behind false (has_joined history user) o (is_operator history user) user) none

@@ -1,5 +1,6 @@
 -- Facts on lists that std lacks.
-use Rattle.std.proofs.Common.{◌≡◌, ℕ, zero, suc, ◌+◌, ◌<◌, ◌≤◌, ◌==◌, Bool, true, false, ◌&&◌, ◌||◌, cond}
+use Rattle.std.proofs.Common.{◌≡◌, ℕ, zero, suc, ◌+◌, ◌<◌, ◌≤◌, ◌==◌, Bool, true, false, ◌&&◌, ◌||◌}
+use Rattle.std.proofs.Common.{cond}
 use Rattle.std.proofs.Common.{List, [], ◌∷◌, ◌++◌, get_or, map, All}
 use Rattle.std.proofs.Common.{refl, sym, ap, subst, ◌∙◌, inl, inr, arith, append-nil, zero-add}
 use Rattle.std.specs.List.{filter, range_with_len}
@@ -108,7 +109,8 @@ filter-numbers_yes p n xs ys so_far passes more =
     ∙ ap (λ zs. filter p (numbers_below n) ++ zs) (sym (cond-true (p n) (n ∷ []) [] passes))
     ∙ sym (filter-numbers_more p n)
 
-pub filter-numbers_no : (p : ℕ → Bool) (n : ℕ) (xs : List ℕ) → xs ≡ filter p (numbers_below n) → p n ≡ false
+pub filter-numbers_no : (p : ℕ → Bool) (n : ℕ) (xs : List ℕ) → xs ≡ filter p (numbers_below n)
+    → p n ≡ false
     → xs ≡ filter p (numbers_below (n + 1))
 filter-numbers_no p n xs so_far fails =
     so_far ∙ sym (append-nil (filter p (numbers_below n)))

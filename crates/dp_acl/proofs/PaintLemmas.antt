@@ -13,11 +13,13 @@ lets-in_order : (history : List Entry) (user : ℕ) (rule : LayerRule) → user 
     → All (λ id. id < 256) rule.ids
     → lets_paint history user (rule_in_order rule) ≡ lets_paint history user rule
 lets-in_order history user rule low bytes =
-    ap (λ b. not rule.locked && (is_operator history user || (nat_le (tier_of history user) rule.tier && b)))
+    ap (λ b. not rule.locked && (is_operator history user
+    || (nat_le (tier_of history user) rule.tier && b)))
     (open-in_order rule.ids user low bytes)
 
 lets-kept : (history : List Entry) (user : ℕ) (kept : LayerRule) (o : Option LayerRule)
-    → Some kept ≡ option_map rule_in_order o → user < 256 → IfSome o (λ rule. All (λ id. id < 256) rule.ids)
+    → Some kept ≡ option_map rule_in_order o → user < 256
+    → IfSome o (λ rule. All (λ id. id < 256) rule.ids)
     → lets_paint history user kept ≡ option_map_or (lets_paint history user) o true
 lets-kept history user kept None is low bytes = absurd (none-some kept (sym is))
 lets-kept history user kept (Some rule) is low bytes =
@@ -25,10 +27,12 @@ lets-kept history user kept (Some rule) is low bytes =
     ∙ lets-in_order history user rule low bytes
 
 -- who isn't locked may paint where the rule that is kept lets the user
-pub may-by_kept : (history : List Entry) (user layer : ℕ) (kept : LayerRule) → is_locked history user ≡ false
+pub may-by_kept : (history : List Entry) (user layer : ℕ) (kept : LayerRule)
+    → is_locked history user ≡ false
     → Some kept ≡ option_map rule_in_order (rule_of history layer) → user < 256
     → IfSome (rule_of history layer) (λ rule. All (λ id. id < 256) rule.ids)
     → lets_paint history user kept ≡ may_paint history user layer
 may-by_kept history user layer kept free is low bytes =
     lets-kept history user kept (rule_of history layer) is low bytes
-    ∙ ap (λ b. not b && option_map_or (lets_paint history user) (rule_of history layer) true) (sym free)
+    ∙ ap (λ b. not b && option_map_or (lets_paint history user) (rule_of history layer) true)
+    (sym free)

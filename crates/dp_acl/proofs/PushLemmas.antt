@@ -1,12 +1,14 @@
 -- What looking back finds after one more entry.
 use Rattle.std.proofs.Common.{◌≡◌, ℕ, ◌+◌, ◌-◌, ◌≤◌, ◌==◌, ◌&&◌, ◌||◌, not, Bool, true, false, cond}
 use Rattle.std.proofs.Common.{if◌then◌else◌, List, [], ◌∷◌, ◌++◌, length, drop, reverse, slice_get}
-use Rattle.std.proofs.Common.{Option, Some, None, is_some, unwrap_or, refl, sym, ap, ◌∙◌, arith, append-nil}
+use Rattle.std.proofs.Common.{Option, Some, None, is_some, unwrap_or, refl, sym, ap, ◌∙◌, arith}
+use Rattle.std.proofs.Common.{append-nil}
 use Rattle.std.specs.List.{filter, filter_map, cons_option, after_last, prefix_len, suffix_len}
 use Rattle.std.specs.Option.{option_map_or, option_or}
 use Rattle.std.proofs.lemmas.Bool.{cond-true, cond-false, not_from_true, not_from_false, and_parts}
 use Rattle.std.proofs.lemmas.Bool.{false≢true}
-use Rattle.std.proofs.lemmas.List.{length_push, reverse-append, length-reverse, drop_all, drop-append-le}
+use Rattle.std.proofs.lemmas.List.{length_push, reverse-append, length-reverse, drop_all}
+use Rattle.std.proofs.lemmas.List.{drop-append-le}
 use Rattle.std.proofs.lemmas.List.Sums.{prefix_len-le-length}
 use Rattle.std.proofs.lemmas.List.Elements.{filter-append, filter_map-append}
 use Rattle.std.proofs.lemmas.List.Folds.{list_any-append}
@@ -14,7 +16,8 @@ use Rattle.dp_messages.specs.declared.message.Msg.{Msg}
 use Rattle.dp_messages.specs.declared.message.Entry.{Entry}
 use Rattle.dp_acl.specs.LookBack.{lists, last_said, joined, locked_users, feature_tiers, layer_rule}
 use Rattle.dp_acl.specs.LookBack.{is_join_of, has_joined, since_join}
-use Rattle.dp_acl.specs.Rights.{is_listed, is_registered, are_all_locked, tiers_of, first_tiers, rule_of}
+use Rattle.dp_acl.specs.Rights.{is_listed, is_registered, are_all_locked, tiers_of, first_tiers}
+use Rattle.dp_acl.specs.Rights.{rule_of}
 
 -- ---- lists
 
@@ -79,7 +82,8 @@ map_or-or : {X Y : Type 0} (f : X → Y) (o p : Option X) (d : Y)
 map_or-or f None p d = refl
 map_or-or f (Some x) p d = refl
 
-unwrap-or : {X : Type 0} (o p : Option X) (d : X) → unwrap_or (option_or o p) d ≡ unwrap_or o (unwrap_or p d)
+unwrap-or : {X : Type 0} (o p : Option X) (d : X) → unwrap_or (option_or o p) d
+    ≡ unwrap_or o (unwrap_or p d)
 unwrap-or None p d = refl
 unwrap-or (Some x) p d = refl
 
@@ -87,8 +91,10 @@ pub all_locked-push : (history : List Entry) (e : Entry)
     → are_all_locked (history ++ e ∷ [])
     ≡ option_map_or (λ listed. lists listed 0) (locked_users e.msg) (are_all_locked history)
 all_locked-push history e =
-    ap (λ o. option_map_or (λ listed. lists listed 0) o false) (last_said-push locked_users history e)
-    ∙ map_or-or (λ listed. lists listed 0) (locked_users e.msg) (last_said locked_users history) false
+    ap (λ o. option_map_or (λ listed. lists listed 0) o false)
+    (last_said-push locked_users history e)
+    ∙ map_or-or (λ listed. lists listed 0) (locked_users e.msg) (last_said locked_users history)
+    false
 
 pub tiers-push : (history : List Entry) (e : Entry)
     → tiers_of (history ++ e ∷ []) ≡ unwrap_or (feature_tiers e.msg) (tiers_of history)
@@ -111,22 +117,26 @@ or_swap false false = refl
 pub joined-push : (history : List Entry) (e : Entry) (user : ℕ)
     → has_joined (history ++ e ∷ []) user ≡ (is_join_of user e || has_joined history user)
 joined-push history e user =
-    list_any-append (is_join_of user) history (e ∷ []) ∙ or_swap (has_joined history user) (is_join_of user e)
+    list_any-append (is_join_of user) history (e ∷ []) ∙ or_swap (has_joined history user)
+    (is_join_of user e)
 
 since-push : (history : List Entry) (e : Entry) (user : ℕ)
     → since_join (history ++ e ∷ []) user
     ≡ (if is_join_of user e || has_joined history user
     then (if is_join_of user e then [] else after_last (is_join_of user) history ++ e ∷ []) else [])
 since-push history e user =
-    ap (λ b. if b then after_last (is_join_of user) (history ++ e ∷ []) else []) (joined-push history e user)
+    ap (λ b. if b then after_last (is_join_of user) (history ++ e ∷ []) else [])
+    (joined-push history e user)
     ∙ ap (λ es. if is_join_of user e || has_joined history user then es else [])
     (after_last-push (is_join_of user) history e)
 
--- whether a user is listed after an entry: whether it is the user's Join, whether the user had joined,
+-- whether a user is listed after an entry: whether it is the user's Join, whether the user had
+-- joined,
 -- what it lists, and whether the user was listed
 abbrev pub listed_behind : Bool → Bool → Option (List ℕ) → Bool → ℕ → Bool
 listed_behind joins had_joined ids was_listed user =
-    if joins then false else option_map_or (λ listed. had_joined && lists listed user) ids was_listed
+    if joins then false else option_map_or (λ listed. had_joined && lists listed user) ids
+    was_listed
 
 map_or-false : (o : Option (List ℕ)) (user : ℕ)
     → option_map_or (λ listed. false && lists listed user) o false ≡ false
@@ -169,20 +179,25 @@ registered-push history e user = by_case (is_join_of user e) refl
         → is_registered (history ++ e ∷ []) user
         ≡ (if is_join_of user e then unwrap_or (joined e.msg) false else is_registered history user)
     by_case true is =
-        ap (λ es. unwrap_or (last_said joined es) false) (filter-append (is_join_of user) history (e ∷ []))
+        ap (λ es. unwrap_or (last_said joined es) false)
+        (filter-append (is_join_of user) history (e ∷ []))
         ∙ ap (λ b. unwrap_or (last_said joined (mine ++ (if b then e ∷ [] else []))) false) is
         ∙ ap (λ o. unwrap_or o false) (last_said-push joined mine e)
         ∙ of_join (joined e.msg) (last_said joined mine) (join_says user e is)
-        ∙ sym (cond-true (is_join_of user e) (unwrap_or (joined e.msg) false) (is_registered history user) is)
+        ∙ sym (cond-true (is_join_of user e) (unwrap_or (joined e.msg) false)
+        (is_registered history user) is)
       where
-        of_join : (o p : Option Bool) → is_some o ≡ true → unwrap_or (option_or o p) false ≡ unwrap_or o false
+        of_join : (o p : Option Bool) → is_some o ≡ true
+            → unwrap_or (option_or o p) false ≡ unwrap_or o false
         of_join None p some = absurd (false≢true some)
         of_join (Some r) p some = refl
 
-        join_says : (user : ℕ) (e : Entry) → is_join_of user e ≡ true → is_some (joined e.msg) ≡ true
+        join_says : (user : ℕ) (e : Entry) → is_join_of user e ≡ true
+            → is_some (joined e.msg) ≡ true
         join_says user e is = (and_parts (is_some (joined e.msg)) (e.user == user) is).0
     by_case false is =
-        ap (λ es. unwrap_or (last_said joined es) false) (filter-append (is_join_of user) history (e ∷ []))
+        ap (λ es. unwrap_or (last_said joined es) false)
+        (filter-append (is_join_of user) history (e ∷ []))
         ∙ ap (λ b. unwrap_or (last_said joined (mine ++ (if b then e ∷ [] else []))) false) is
         ∙ ap (λ es. unwrap_or (last_said joined es) false) (append-nil mine)
         ∙ sym (cond-false (is_join_of user e) (unwrap_or (joined e.msg) false)

@@ -1,7 +1,9 @@
 -- The rules of the layers: searching, changing and going through them.
-use Rattle.std.proofs.Common.{◌≡◌, ◌≢◌, ℕ, zero, suc, ◌+◌, ◌-◌, ◌<◌, ◌≤◌, ◌==◌, Bool, true, false, cond}
+use Rattle.std.proofs.Common.{◌≡◌, ◌≢◌, ℕ, zero, suc, ◌+◌, ◌-◌, ◌<◌, ◌≤◌, ◌==◌, Bool, true, false}
+use Rattle.std.proofs.Common.{cond}
 use Rattle.std.proofs.Common.{if◌then◌else◌}
-use Rattle.std.proofs.Common.{List, [], ◌∷◌, ◌++◌, length, get_or, take, drop, set, map, All, Option, Some, None}
+use Rattle.std.proofs.Common.{List, [], ◌∷◌, ◌++◌, length, get_or, take, drop, set, map, All}
+use Rattle.std.proofs.Common.{Option, Some, None}
 use Rattle.std.proofs.Common.{Result, Ok, Err, IfOk, IfErr, refl, sym, ap, subst, ◌∙◌, arith}
 use Rattle.std.specs.Option.{option_map}
 use Rattle.std.specs.List.{insert}
@@ -145,7 +147,8 @@ module _ (r : Rule) where
 
 -- ---- at a place, and in a gap
 
-module _ (rules : List Rule) (layer place : ℕ) (are : AreRules rules) (at : IsPlaceOf rules layer place)
+module _ (rules : List Rule) (layer place : ℕ) (are : AreRules rules)
+    (at : IsPlaceOf rules layer place)
   where
     none_before_place : NoneBefore rules layer place
     none_before_place j d lt same = omega (arith, are.rise j place d lt at.within, at.same d)
@@ -163,7 +166,8 @@ module _ (rules : List Rule) (layer place : ℕ) (are : AreRules rules) (at : Is
         kept-set r rules place at.within (λ d. at.same d ∙ sym is)
         (λ j d lt same. none_before_place j d lt (same ∙ is)) q
 
-module _ (rules : List Rule) (layer place : ℕ) (are : AreRules rules) (gap : IsGapFor rules layer place)
+module _ (rules : List Rule) (layer place : ℕ) (are : AreRules rules)
+    (gap : IsGapFor rules layer place)
   where
     none_before_gap : NoneBefore rules layer place
     none_before_gap j d lt same = omega (arith, gap.below j d lt)
@@ -187,13 +191,15 @@ module _ (rules : List Rule) (layer place : ℕ) (are : AreRules rules) (gap : I
         let long = length-insert rules place r gap.within in
         let key : List Rule → ℕ → ℕ = λ xs k. (get_or xs k d).layer in
         let below : (k : ℕ) → k < place → key new k ≡ key rules k =
-        λ k low. ap (λ (x : Rule). x.layer) (get_or-insert_below rules place r d k low gap.within) in
+        λ k low. ap (λ (x : Rule). x.layer) (get_or-insert_below rules place r d k low gap.within)
+        in
         let here : (k : ℕ) → k ≡ place → key new k ≡ layer =
         λ k same. ap (key new) same
         ∙ ap (λ (x : Rule). x.layer) (get_or-insert_at rules place r d gap.within) ∙ is in
         let above : (k : ℕ) → place < k → key new k ≡ key rules (k - 1) =
         λ k high. subst (λ q. key new q ≡ key rules (k - 1)) {x = k - 1 + 1} (omega arith)
-        (ap (λ (x : Rule). x.layer) (get_or-insert_above rules place r d (k - 1) (omega arith) gap.within)) in
+        (ap (λ (x : Rule). x.layer) (get_or-insert_above rules place r d (k - 1) (omega arith)
+        gap.within)) in
         grind (
           arith,
           below i,
@@ -217,7 +223,8 @@ module _ (rules : List Rule) (layer place : ℕ) (are : AreRules rules) (gap : I
           (All-take (λ x. x.layer < 65536) place rules are.layers)
           (All-cons (λ x. x.layer < 65536) r (drop place rules) (omega (arith, is, gap.small))
           (All-drop (λ x. x.layer < 65536) place rules are.layers));
-      short = All-append (λ x. length (marked x.ids) ≤ 255) (take place rules) (r ∷ drop place rules)
+      short = All-append (λ x. length (marked x.ids) ≤ 255) (take place rules)
+          (r ∷ drop place rules)
           (All-take (λ x. length (marked x.ids) ≤ 255) place rules are.short)
           (All-cons (λ x. length (marked x.ids) ≤ 255) r (drop place rules) few
           (All-drop (λ x. length (marked x.ids) ≤ 255) place rules are.short));
@@ -232,7 +239,8 @@ rise-from low [] rise layers first = tt
 rise-from low (r ∷ rules) rise layers first = (
   first r (omega arith),
   layers 0 r (omega arith),
-  rise-from (suc r.layer) rules (λ i j d lt short. rise (suc i) (suc j) d (omega arith) (omega arith))
+  rise-from (suc r.layer) rules (λ i j d lt short. rise (suc i) (suc j) d (omega arith)
+      (omega arith))
       (All-tail (λ x. x.layer < 65536) r rules layers)
       (λ d some. rise 0 1 d (omega arith) (omega arith)),
 )
@@ -242,7 +250,8 @@ pub rise-kept : (rules : List Rule) → AreRules rules → RulesRise 0 (map kept
 rise-kept rules are = rise-from 0 rules are.rise are.layers (λ d some. omega arith)
 
 -- the messages of the rules
-pub acls-kept : (rules : List Rule) → map (λ r. acl_of (kept_of r)) rules ≡ map acl_of (map kept_of rules)
+pub acls-kept : (rules : List Rule) → map (λ r. acl_of (kept_of r)) rules
+    ≡ map acl_of (map kept_of rules)
 acls-kept [] = refl
 acls-kept (r ∷ rules) = ap (λ ms. acl_of (kept_of r) ∷ ms) (acls-kept rules)
 

@@ -24,7 +24,8 @@ map-or : {X Y : Type 0} (f : X → Y) (o p : Option X)
 map-or f None p = refl
 map-or f (Some x) p = refl
 
-some-or : {X : Type 0} (P : X → Type 0) (o p : Option X) → IfSome o P → IfSome p P → IfSome (option_or o p) P
+some-or : {X : Type 0} (P : X → Type 0) (o p : Option X) → IfSome o P → IfSome p P
+    → IfSome (option_or o p) P
 some-or P None p left right = right
 some-or P (Some x) p left right = left
 
@@ -47,27 +48,32 @@ module _ (before after : Kept) (history : List Entry) (e : Entry)
     joined = λ user low. step.joined user low
         ∙ ap (λ b. is_join_of user e || b) (stands.joined user low)
         ∙ sym (joined-push history e user);
-    operators = listed-step said.owners before.operators after.operators step.operators stands.operators;
+    operators = listed-step said.owners before.operators after.operators step.operators
+        stands.operators;
     trusted = listed-step said.trusted before.trusted after.trusted step.trusted stands.trusted;
     registered = λ user low. step.registered user low
         ∙ ap (λ b. if is_join_of user e then unwrap_or (said.joined e.msg) false else b)
         (stands.registered user low)
         ∙ sym (registered-push history e user);
     all_locked = step.all_locked
-        ∙ ap (λ b. option_map_or (λ listed. lists listed 0) (said.locked_users e.msg) b) stands.all_locked
+        ∙ ap (λ b. option_map_or (λ listed. lists listed 0) (said.locked_users e.msg) b)
+        stands.all_locked
         ∙ sym (all_locked-push history e);
-    lock_listed = listed-step said.locked_users before.lock_listed after.lock_listed step.lock_listed
+    lock_listed = listed-step said.locked_users before.lock_listed after.lock_listed
+        step.lock_listed
         stands.lock_listed;
     tiers = step.tiers
         ∙ ap (λ t. unwrap_or (said.feature_tiers e.msg) t) stands.tiers
         ∙ sym (tiers-push history e);
     rules = λ layer small. step.rules layer small
-        ∙ ap (λ o. option_or (option_map rule_in_order (layer_rule layer e.msg)) o) (stands.rules layer small)
+        ∙ ap (λ o. option_or (option_map rule_in_order (layer_rule layer e.msg)) o)
+        (stands.rules layer small)
         ∙ sym (map-or rule_in_order (layer_rule layer e.msg) (rule_of history layer))
         ∙ ap (option_map rule_in_order) (sym (rule-push history e layer));
     ids = λ layer small. subst (λ o. IfSome o (λ rule. All (λ id. id < 256) rule.ids))
         (sym (rule-push history e layer))
-        (some-or (λ rule. All (λ id. id < 256) rule.ids) (layer_rule layer e.msg) (rule_of history layer)
+        (some-or (λ rule. All (λ id. id < 256) rule.ids) (layer_rule layer e.msg)
+        (rule_of history layer)
         (step.ids layer small) (stands.ids layer small));
   }
 
@@ -109,7 +115,8 @@ ids-cases true rule bytes = bytes
 ids-cases false rule bytes = tt
 
 -- a rule with the ids that are marked is what a LayerAcl says
-pub kept-rule : (before : Kept) (rules : List KeptRule) (room user layer : ℕ) (locked : Bool) (tier : ℕ)
+pub kept-rule : (before : Kept) (rules : List KeptRule) (room user layer : ℕ) (locked : Bool)
+    (tier : ℕ)
     (ids : List ℕ) (marks : List Bool) → Mark marks (lists ids) → All (λ id. id < 256) ids
     → ((other : ℕ) → kept_rule rules other
     ≡ (if layer == other then Some (record { locked = locked; tier = tier; ids = marked marks })
@@ -129,5 +136,6 @@ kept-rule before rules room user layer locked tier ids marks same bytes put = re
       else kept_rule before.rules other) (marked-in_order marks ids same)
       ∙ put-cases (layer == other) (record { locked = locked; tier = tier; ids = ids })
       (kept_rule before.rules other);
-  ids = λ other small. ids-cases (layer == other) (record { locked = locked; tier = tier; ids = ids }) bytes;
+  ids = λ other small. ids-cases (layer == other) (record
+      { locked = locked; tier = tier; ids = ids }) bytes;
 }

@@ -1,4 +1,5 @@
--- Looking back in the history of an epoch: what was said last, and what was said since a user joined.
+-- Looking back in the history of an epoch: what was said last, and what was said since a user
+-- joined.
 use Rattle.std.specs.Prelude.{ℕ, ◌-◌, Bool, ◌&&◌, ◌==◌, Option, None, Some, if◌then◌else◌}
 use Rattle.std.specs.Prelude.{List, [], length, slice_get, is_some}
 use Rattle.std.specs.List.{filter_map, list_any, after_last, range_with_len}

@@ -79,7 +79,8 @@ abbrev pub is_open_to : List ℕ → ℕ → Bool
 is_open_to [] user = true
 is_open_to (id ∷ ids) user = lists (id ∷ ids) user
 
--- The rule lets the user paint: it doesn't lock the layer, and the user is an operator, or has a tier
+-- The rule lets the user paint: it doesn't lock the layer, and the user is an operator, or has a
+-- tier
 -- number at most the rule's and is among its ids, where it has some.
 abbrev pub lets_paint : List Entry → ℕ → LayerRule → Bool
 lets_paint history user rule =
@@ -97,7 +98,8 @@ may_paint history user layer =
 abbrev pub creator_of : ℕ → ℕ
 creator_of layer = layer / 256
 
--- the user may change the layer's place in the list: edits layers, or has own layers and this is one
+-- the user may change the layer's place in the list: edits layers, or has own layers and this is
+-- one
 abbrev pub may_edit_layer : List Entry → ℕ → ℕ → Bool
 may_edit_layer history user layer =
     not (is_locked history user)

@@ -13,7 +13,8 @@ use Rattle.dp_acl.specs.Table.{Kept, Mark, mark_of, kept_rule, rule_in_order}
 abbrev pub meta_entry : ℕ → Meta → Entry
 meta_entry user m = record { user = user; msg = msg.Meta m }
 
--- Whether a user is listed: not after a Join; after a new list, where it lists the user and the user
+-- Whether a user is listed: not after a Join; after a new list, where it lists the user and the
+-- user
 -- has joined; and else as before.
 abbrev pub listed_after : Kept → Entry → Option (List ℕ) → List Bool → ℕ → Bool
 listed_after before e ids marks user =
@@ -36,6 +37,7 @@ pub record IsKeptAfter (before : Kept) (e : Entry) (after : Kept) : Type 0 where
   pub tiers : after.tiers ≡ unwrap_or (said.feature_tiers e.msg) before.tiers
   pub rules : (layer : ℕ) → layer < 65536
       → kept_rule after.rules layer
-      ≡ option_or (option_map rule_in_order (said.layer_rule layer e.msg)) (kept_rule before.rules layer)
+      ≡ option_or (option_map rule_in_order (said.layer_rule layer e.msg))
+      (kept_rule before.rules layer)
   pub ids : (layer : ℕ) → layer < 65536
       → IfSome (said.layer_rule layer e.msg) (λ rule. All (λ id. id < 256) rule.ids)

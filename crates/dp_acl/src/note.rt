@@ -14,7 +14,8 @@ use dp_msg_meta::{Ids, Meta, Tiers};
 use std::alloc::AllocError;
 
 impl Rights {
-    /// Notes an entry, with memory that is ready (`reserve`). It costs the entry and not the history.
+    /// Notes an entry, with memory that is ready (`reserve`). It costs the entry and not the
+    /// history.
     ///
     /// The rule: docs/protocol.md, "Rights".
     pub fn note_reserved(&mut self, entry: &Entry)

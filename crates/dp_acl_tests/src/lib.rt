@@ -1,4 +1,5 @@
-//! The tests of rights, in a crate of their own: so dp_acl is proved once, and not once more with them.
+//! The tests of rights, in a crate of their own: so dp_acl is proved once, and not once more with
+//! them.
 #![tactic(auto)]
 
 #[cfg(test)]

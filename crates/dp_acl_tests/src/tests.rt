@@ -1,5 +1,6 @@
 //! Histories, with what they permit and what is carried of them, worked out from the rule by hand.
-//! Payloads are hexadecimal. User 1 is the operator, 2 is trusted, 3 is registered, and 4 is a guest.
+//! Payloads are hexadecimal. User 1 is the operator, 2 is trusted, 3 is registered, and 4 is a
+//! guest.
 
 use dp_acl::Rights;
 use dp_frame::{Frame, Octets};

@@ -1,5 +1,6 @@
 -- Histories, a frame at a time.
-use Rattle.std.proofs.Common.{◌≡◌, ◌⊎◌, inl, inr, ℕ, ◌+◌, List, [], ◌∷◌, ◌++◌, length, refl, sym, ap, ◌∙◌, subst, append_assoc, length-append}
+use Rattle.std.proofs.Common.{◌≡◌, ◌⊎◌, inl, inr, ℕ, ◌+◌, List, [], ◌∷◌, ◌++◌, length, refl, sym}
+use Rattle.std.proofs.Common.{ap, ◌∙◌, subst, append_assoc, length-append}
 use Rattle.std.specs.Prelude.{Result, Ok, Err}
 use Rattle.std.specs.List.{AllByRecursion, flat_map}
 use Rattle.std.proofs.lemmas.Grind.{flat_map-append}
@@ -14,32 +15,41 @@ use Rattle.dp_lines.specs.declared.run_end.RunEnd.TheVariants.{Memory, BadMessag
 use Rattle.dp_app.specs.Input.{StandFor, Tells, StandsInReplay}
 use Rattle.dp_app.specs.FrameReader.{Follows, IsStop, StopsAt, IsRefusedAt, IsStopFor}
 
-each_more : (frames : List FrameParts) (f : FrameParts) → AllByRecursion IsFrame frames → IsFrame f → AllByRecursion IsFrame (frames ++ f ∷ [])
+each_more : (frames : List FrameParts) (f : FrameParts) → AllByRecursion IsFrame frames → IsFrame f
+    → AllByRecursion IsFrame (frames ++ f ∷ [])
 each_more [] f each fits = (fits, tt)
 each_more (g ∷ frames) f each fits = (each.0, each_more frames f each.1 fits)
 
 -- one more frame stands for one more entry, wherever it is
-stand_more : (before : ℕ) (frames : List FrameParts) (entries : List Entry) (f : FrameParts) (e : Entry) →
-    StandFor StandsInReplay before frames entries → ((k : ℕ) → StandsInReplay k f e) → StandFor StandsInReplay before (frames ++ f ∷ []) (entries ++ e ∷ [])
+stand_more : (before : ℕ) (frames : List FrameParts) (entries : List Entry) (f : FrameParts)
+    (e : Entry) →
+    StandFor StandsInReplay before frames entries → ((k : ℕ) → StandsInReplay k f e)
+    → StandFor StandsInReplay before (frames ++ f ∷ []) (entries ++ e ∷ [])
 stand_more before [] [] f e stand c = (c before, tt)
 stand_more before [] (d ∷ entries) f e stand c = absurd stand
 stand_more before (g ∷ frames) [] f e stand c = absurd stand
-stand_more before (g ∷ frames) (d ∷ entries) f e stand c = (stand.0, stand_more (before + 1) frames entries f e stand.1 c)
+stand_more before (g ∷ frames) (d ∷ entries) f e stand c =
+    (stand.0, stand_more (before + 1) frames entries f e stand.1 c)
 
 -- the bytes of frames and one more
-spelled_more : (frames : List FrameParts) (f : FrameParts) → flat_map spelling (frames ++ f ∷ []) ≡ flat_map spelling frames ++ spelling f
-spelled_more frames f = flat_map-append spelling frames (f ∷ []) ∙ ap (λ (xs : List ℕ). flat_map spelling frames ++ xs) (append_nil (spelling f))
+spelled_more : (frames : List FrameParts) (f : FrameParts)
+    → flat_map spelling (frames ++ f ∷ []) ≡ flat_map spelling frames ++ spelling f
+spelled_more frames f = flat_map-append spelling frames (f ∷ [])
+    ∙ ap (λ (xs : List ℕ). flat_map spelling frames ++ xs) (append_nil (spelling f))
   where
     append_nil : (xs : List ℕ) → xs ++ [] ≡ xs
     append_nil [] = refl
     append_nil (x ∷ xs) = ap (λ (ys : List ℕ). x ∷ ys) (append_nil xs)
 
 -- a frame is taken off, and its entry is kept
-pub follows_more : (read : List ℕ) (entries : List Entry) (e : Entry) (f : FrameParts) (old new : Stream) →
-    IsFrame f → ((k : ℕ) → StandsInReplay k f e) → old.held ≡ spelling f ++ new.held → new.at ≡ old.at + length (spelling f) →
+pub follows_more : (read : List ℕ) (entries : List Entry) (e : Entry) (f : FrameParts)
+    (old new : Stream) →
+    IsFrame f → ((k : ℕ) → StandsInReplay k f e) → old.held ≡ spelling f ++ new.held
+    → new.at ≡ old.at + length (spelling f) →
     Follows read entries old → Follows read (entries ++ e ∷ []) new
 follows_more read entries e f old new fits c held at h =
-    let more : flat_map spelling (h.frames ++ f ∷ []) ≡ flat_map spelling h.frames ++ spelling f = spelled_more h.frames f in
+    let more : flat_map spelling (h.frames ++ f ∷ []) ≡ flat_map spelling h.frames
+    ++ spelling f = spelled_more h.frames f in
     record {
       frames = h.frames ++ f ∷ [];
       each = each_more h.frames f h.each fits;
@@ -54,8 +64,10 @@ follows_more read entries e f old new fits c held at h =
     }
 
 -- a frame that carries nothing is at hand
-pub stops_at_frame : (read : List ℕ) (entries : List Entry) (f : FrameParts) (old : Stream) (rest : List ℕ) (end : RunEnd) →
-    IsFrame f → old.held ≡ spelling f ++ rest → IsRefusedAt f old.at end → Follows read entries old → StopsAt read entries end
+pub stops_at_frame : (read : List ℕ) (entries : List Entry) (f : FrameParts) (old : Stream)
+    (rest : List ℕ) (end : RunEnd) →
+    IsFrame f → old.held ≡ spelling f ++ rest → IsRefusedAt f old.at end → Follows read entries old
+    → StopsAt read entries end
 stops_at_frame read entries f old rest Memory fits held refused h = tt
 stops_at_frame read entries f old rest (BadMessage n) fits held refused h =
     record {
@@ -78,22 +90,31 @@ refused_stops f n _ refused = absurd refused
 
 -- the splitter is given more bytes
 pub follows_fed : (read bytes : List ℕ) (entries : List Entry) (old new : Stream) →
-    new.held ≡ old.held ++ bytes → new.at ≡ old.at → Follows read entries old → Follows (read ++ bytes) entries new
+    new.held ≡ old.held ++ bytes → new.at ≡ old.at → Follows read entries old
+    → Follows (read ++ bytes) entries new
 follows_fed read bytes entries old new held at h =
     record {
       frames = h.frames;
       each = h.each;
       stand = h.stand;
       whole =
-          ap (λ (xs : List ℕ). xs ++ bytes) h.whole ∙ append_assoc (flat_map spelling h.frames) old.held bytes
+          ap (λ (xs : List ℕ). xs ++ bytes) h.whole ∙ append_assoc (flat_map spelling h.frames)
+          old.held bytes
           ∙ ap (λ (xs : List ℕ). flat_map spelling h.frames ++ xs) (sym held);
       at = at ∙ h.at;
     }
 
 -- where the splitter holds no whole frame, the bytes tell the entries
-pub follows_tells : (read : List ℕ) (entries : List Entry) (stream : Stream) → HoldsNoFrame stream.held → Follows read entries stream → Tells StandsInReplay read entries stream.held
+pub follows_tells : (read : List ℕ) (entries : List Entry) (stream : Stream)
+    → HoldsNoFrame stream.held → Follows read entries stream
+    → Tells StandsInReplay read entries stream.held
 follows_tells read entries stream none h =
-    record { frames = h.frames; stand = h.stand; splits = record { whole = h.whole; each = h.each; partial = none } }
+    record {
+      frames = h.frames;
+      stand = h.stand;
+      splits = record
+          { whole = h.whole; each = h.each; partial = none };
+    }
 
 -- decoding gives an entry, unless memory runs out
 abbrev pub Gives : Result Entry DecodeError → Entry → Type 0
@@ -101,9 +122,13 @@ Gives result entry = (result ≡ Ok entry) ⊎ (result ≡ Err refusal.Memory)
 
 -- a frame that is refused, but because memory ran out, is a bad message
 pub refused_at : (f : FrameParts) (error : DecodeError) (n : ℕ) (end : RunEnd) →
-    ((entry : Entry) → Carries f entry → Gives (Err error) entry) → IsStopFor error n end → IsRefusedAt f n end
+    ((entry : Entry) → Carries f entry → Gives (Err error) entry) → IsStopFor error n end
+    → IsRefusedAt f n end
 refused_at f (refusal.Unknown k) n end gives stop =
-    subst (λ (e : RunEnd). IsRefusedAt f n e) (sym stop) (refl, λ before entry c. elim (gives entry c) as (λ _. ⊥) [ inl e ↦ cc | inr e ↦ cc ])
+    subst (λ (e : RunEnd). IsRefusedAt f n e) (sym stop)
+    (refl, λ before entry c. elim (gives entry c) as (λ _. ⊥) [ inl e ↦ cc | inr e ↦ cc ])
 refused_at f (refusal.Malformed k) n end gives stop =
-    subst (λ (e : RunEnd). IsRefusedAt f n e) (sym stop) (refl, λ before entry c. elim (gives entry c) as (λ _. ⊥) [ inl e ↦ cc | inr e ↦ cc ])
-refused_at f refusal.Memory n end gives stop = subst (λ (e : RunEnd). IsRefusedAt f n e) (sym stop) tt
+    subst (λ (e : RunEnd). IsRefusedAt f n e) (sym stop)
+    (refl, λ before entry c. elim (gives entry c) as (λ _. ⊥) [ inl e ↦ cc | inr e ↦ cc ])
+refused_at f refusal.Memory n end gives stop = subst (λ (e : RunEnd). IsRefusedAt f n e) (sym stop)
+    tt

@@ -7,7 +7,8 @@ use Rattle.dp_messages.specs.declared.message.Entry.{Entry}
 use Rattle.dp_plain.specs.Replay.{shown}
 use Rattle.dp_plain.specs.Picture.{p6}
 use Rattle.dp_lines.specs.declared.run_end.RunEnd.{RunEnd}
-use Rattle.dp_lines.specs.declared.run_end.RunEnd.TheVariants.{Done, ReadFault, Memory, Long, Truncated, BadMessage}
+use Rattle.dp_lines.specs.declared.run_end.RunEnd.TheVariants.{Done, ReadFault, Memory, Long}
+use Rattle.dp_lines.specs.declared.run_end.RunEnd.TheVariants.{Truncated, BadMessage}
 use Rattle.dp_app.specs.Read.{EndsReading, BlamesReading, ReadsToEnd}
 use Rattle.dp_world.specs.RunEnds.{Blames}
 use Rattle.dp_app.specs.Answer.{Leaves, ShowsPart}
@@ -16,7 +17,8 @@ use Rattle.dp_app.proofs.Completeness.{keeps_same}
 
 -- the picture is written whole
 whole_left : (told left old new : Option (List ℕ)) (entries : List Entry) (end : RunEnd) →
-    IfSome told (λ input. EndsReading input left entries end) → ReadsToEnd end → IsAtEnd left → Appends old new (p6 (shown entries)) →
+    IfSome told (λ input. EndsReading input left entries end) → ReadsToEnd end → IsAtEnd left
+    → Appends old new (p6 (shown entries)) →
     Leaves told left old new end
 whole_left None left old new entries Done h r at a = (at, tt)
 whole_left (Some input) left old new entries Done h r at a = (at, (entries, h, a))
@@ -26,48 +28,62 @@ whole_left told left old new entries _ h r at a = absurd r
 
 -- a part of the picture is written
 part_left : (told left old new : Option (List ℕ)) (entries : List Entry) (end : RunEnd) →
-    IfSome told (λ input. EndsReading input left entries end) → ReadsToEnd end → GrowsByPrefix old new (p6 (shown entries)) → ShowsPart told old new
+    IfSome told (λ input. EndsReading input left entries end) → ReadsToEnd end
+    → GrowsByPrefix old new (p6 (shown entries)) → ShowsPart told old new
 part_left None left old new entries end h r p = tt
 part_left (Some input) left old new entries Done h r p = (entries, Done, h, p)
 part_left (Some input) left old new entries (Truncated n) h r p = (entries, Truncated n, h, p)
 part_left (Some input) left old new entries _ h r p = absurd r
 
-pub shown_leaves : (told left old new : Option (List ℕ)) (before now : ℕ) (entries : List Entry) (end result : RunEnd) →
+pub shown_leaves : (told left old new : Option (List ℕ)) (before now : ℕ) (entries : List Entry)
+    (end result : RunEnd) →
     IfSome told (λ input. EndsReading input left entries end) → ReadsToEnd end → IsAtEnd left →
     WritesShown old new before now entries end result → Leaves told left old new result
 shown_leaves told left old new before now entries end result h r at (inl (e, appends, kept)) =
-    subst (λ (x : RunEnd). Leaves told left old new x) (sym e) (whole_left told left old new entries end h r at appends)
+    subst (λ (x : RunEnd). Leaves told left old new x) (sym e)
+    (whole_left told left old new entries end h r at appends)
 shown_leaves told left old new before now entries end result h r at (inr (inl (e, part, rose))) =
-    subst (λ (x : RunEnd). Leaves told left old new x) (sym e) (at, part_left told left old new entries end h r part)
+    subst (λ (x : RunEnd). Leaves told left old new x) (sym e)
+    (at, part_left told left old new entries end h r part)
 shown_leaves told left old new before now entries end result h r at (inr (inr (e, keeps, kept))) =
     subst (λ (x : RunEnd). Leaves told left old new x) (sym e) keeps
 
 -- reading to the end raised no count
-kept_to_end : (before now : ℕ) (end : RunEnd) → BlamesReading before now end → ReadsToEnd end → now ≡ before
+kept_to_end : (before now : ℕ) (end : RunEnd) → BlamesReading before now end → ReadsToEnd end
+    → now ≡ before
 kept_to_end before now Done b r = b
 kept_to_end before now (Truncated n) b r = b
 kept_to_end before now _ b r = absurd r
 
 -- an end that all is written at blames nothing
-end_blames : (input input_now output output_now : ℕ) (end : RunEnd) → ReadsToEnd end → input_now ≡ input → output_now ≡ output →
+end_blames : (input input_now output output_now : ℕ) (end : RunEnd) → ReadsToEnd end
+    → input_now ≡ input → output_now ≡ output →
     Blames input input_now output output_now end
 end_blames input input_now output output_now Done r i o = (i, o)
 end_blames input input_now output output_now (Truncated n) r i o = (i, o)
 end_blames input input_now output output_now _ r i o = absurd r
 
-pub shown_blames : (old new : Option (List ℕ)) (input input_now output output_now : ℕ) (entries : List Entry) (end result : RunEnd) →
-    BlamesReading input input_now end → ReadsToEnd end → WritesShown old new output output_now entries end result →
+pub shown_blames : (old new : Option (List ℕ)) (input input_now output output_now : ℕ)
+    (entries : List Entry) (end result : RunEnd) →
+    BlamesReading input input_now end → ReadsToEnd end → WritesShown old new output output_now
+    entries end result →
     Blames input input_now output output_now result
-shown_blames old new input input_now output output_now entries end result b r (inl (e, appends, kept)) =
+shown_blames old new input input_now output output_now entries end result b r
+    (inl (e, appends, kept)) =
     subst (λ (x : RunEnd). Blames input input_now output output_now x) (sym e)
     (end_blames input input_now output output_now end r (kept_to_end input input_now end b r) kept)
-shown_blames old new input input_now output output_now entries end result b r (inr (inl (e, part, rose))) =
-    subst (λ (x : RunEnd). Blames input input_now output output_now x) (sym e) (kept_to_end input input_now end b r, rose)
-shown_blames old new input input_now output output_now entries end result b r (inr (inr (e, keeps, kept))) =
-    subst (λ (x : RunEnd). Blames input input_now output output_now x) (sym e) (kept_to_end input input_now end b r, kept)
+shown_blames old new input input_now output output_now entries end result b r
+    (inr (inl (e, part, rose))) =
+    subst (λ (x : RunEnd). Blames input input_now output output_now x) (sym e)
+    (kept_to_end input input_now end b r, rose)
+shown_blames old new input input_now output output_now entries end result b r
+    (inr (inr (e, keeps, kept))) =
+    subst (λ (x : RunEnd). Blames input input_now output output_now x) (sym e)
+    (kept_to_end input input_now end b r, kept)
 
 -- reading that ended before the input's end blames no output
-pub read_blames : (input input_now output : ℕ) (end : RunEnd) → BlamesReading input input_now end → Blames input input_now output output end
+pub read_blames : (input input_now output : ℕ) (end : RunEnd) → BlamesReading input input_now end
+    → Blames input input_now output output end
 read_blames input input_now output ReadFault b = (b, refl)
 read_blames input input_now output Done b = (b, refl)
 read_blames input input_now output Memory b = (b, refl)
@@ -77,15 +93,19 @@ read_blames input input_now output (BadMessage n) b = (b, refl)
 read_blames input input_now output _ b = absurd b
 
 -- nothing is written
-pub nothing_leaves : (told left old : Option (List ℕ)) (input input_now : ℕ) (entries : List Entry) (end : RunEnd) →
-    IfSome told (λ input. EndsReading input left entries end) → BlamesReading input input_now end → (ReadsToEnd end → ⊥) →
+pub nothing_leaves : (told left old : Option (List ℕ)) (input input_now : ℕ) (entries : List Entry)
+    (end : RunEnd) →
+    IfSome told (λ input. EndsReading input left entries end) → BlamesReading input input_now end
+    → (ReadsToEnd end → ⊥) →
     Leaves told left old old end
 nothing_leaves told left old input input_now entries Done h b r = absurd (r tt)
 nothing_leaves told left old input input_now entries ReadFault h b r = (keeps_same old, h)
 nothing_leaves told left old input input_now entries Memory h b r = keeps_same old
 nothing_leaves None left old input input_now entries Long h b r = (keeps_same old, tt)
-nothing_leaves (Some bytes) left old input input_now entries Long h b r = (keeps_same old, ((entries, h.0), h.1))
+nothing_leaves (Some bytes) left old input input_now entries Long h b r =
+    (keeps_same old, ((entries, h.0), h.1))
 nothing_leaves told left old input input_now entries (Truncated n) h b r = absurd (r tt)
 nothing_leaves None left old input input_now entries (BadMessage n) h b r = (keeps_same old, tt)
-nothing_leaves (Some bytes) left old input input_now entries (BadMessage n) h b r = (keeps_same old, ((entries, h.0), h.1))
+nothing_leaves (Some bytes) left old input input_now entries (BadMessage n) h b r =
+    (keeps_same old, ((entries, h.0), h.1))
 nothing_leaves told left old input input_now entries _ h b r = absurd b

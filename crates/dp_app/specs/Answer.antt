@@ -1,5 +1,6 @@
 -- What the program answers: its status, what it writes, and the line that it says.
-use Rattle.std.specs.Prelude.{◌≡◌, ℕ, ◌⊎◌, List, [], ◌∷◌, ◌++◌, codes, decimal, map, string_bytes, Option, IfSome}
+use Rattle.std.specs.Prelude.{◌≡◌, ℕ, ◌⊎◌, List, [], ◌∷◌, ◌++◌, codes, decimal, map, string_bytes}
+use Rattle.std.specs.Prelude.{Option, IfSome}
 use Rattle.std.specs.declared.string.String.{String}
 use Rattle.std.specs.Io.KnownBytes.{Appends, Keeps, IsAtEnd}
 use Rattle.dp_io.specs.Faults.{Rose}
@@ -8,8 +9,10 @@ use Rattle.dp_messages.specs.declared.message.Entry.{Entry}
 use Rattle.dp_plain.specs.Replay.{shown}
 use Rattle.dp_plain.specs.Picture.{p6}
 use Rattle.dp_lines.specs.declared.run_end.RunEnd.{RunEnd}
-use Rattle.dp_lines.specs.declared.run_end.RunEnd.TheVariants.{Done, BadLine, ReadFault, WriteFault, LinkFault}
-use Rattle.dp_lines.specs.declared.run_end.RunEnd.TheVariants.{Memory, Long, Truncated, BadMessage, Closed, BadHeader}
+use Rattle.dp_lines.specs.declared.run_end.RunEnd.TheVariants.{Done, BadLine, ReadFault, WriteFault}
+use Rattle.dp_lines.specs.declared.run_end.RunEnd.TheVariants.{LinkFault}
+use Rattle.dp_lines.specs.declared.run_end.RunEnd.TheVariants.{Memory, Long, Truncated, BadMessage}
+use Rattle.dp_lines.specs.declared.run_end.RunEnd.TheVariants.{Closed, BadHeader}
 use Rattle.dp_lines.specs.declared.line.Line.{Line}
 use Rattle.dp_lines.specs.Ends.{LinesEnd}
 use Rattle.dp_lines.specs.Ends as ends
@@ -75,7 +78,8 @@ line_of BadHeader = codes "bad header\n"
 abbrev pub usage_line : List ℕ
 usage_line = codes "usage: drawpile replay, world, play, join, serve or drill\n"
 
--- what the output of `replay` is due: the picture of the whole frames where the input is read to its
+-- what the output of `replay` is due: the picture of the whole frames where the input is read to
+-- its
 -- end, else nothing
 abbrev pub replay_text : List Entry → RunEnd → List ℕ
 replay_text entries Done = p6 (shown entries)
@@ -111,7 +115,8 @@ world_answer actions end = record {
 abbrev pub usage_answer : Answer
 usage_answer = record { status = 1; text = []; line = usage_line }
 
--- The answer that the words and the input's bytes are due: for a command that of what the input comes
+-- The answer that the words and the input's bytes are due: for a command that of what the input
+-- comes
 -- to, and the line about the words where they are none.
 abbrev pub IsDue : {A : Type 0} → List (String A) → List ℕ → Answer → Type 0
 IsDue words input answer =
@@ -121,13 +126,16 @@ IsDue words input answer =
     × WorldComesTo input done actions end × (answer ≡ world_answer actions end))
     ⊎ (¬ IsCommand words × (answer ≡ usage_answer))
 
--- the answer is given: the exit status is its own, the output grew by its text, and diag by its line
-pub record IsGiven (answer : Answer) (code : ℕ) (output printed diag said : Option (List ℕ)) : Type 0 where
+-- the answer is given: the exit status is its own, the output grew by its text, and diag by its
+-- line
+pub record IsGiven (answer : Answer) (code : ℕ) (output printed diag said : Option (List ℕ)) : Type
+    0 where
   pub status : code ≡ answer.status
   pub text : Appends output printed answer.text
   pub line : Appends diag said answer.line
 
--- the output grew by the picture of what an input that tells its bytes shows, which comes to this end
+-- the output grew by the picture of what an input that tells its bytes shows, which comes to this
+-- end
 abbrev pub ShowsWhole : Option (List ℕ) → Option (List ℕ) → Option (List ℕ) → RunEnd → Type 0
 ShowsWhole input old new end =
     IfSome input (λ bytes. (entries : List Entry) × ReplayComesTo bytes entries end
@@ -139,20 +147,24 @@ ShowsPart input old new =
     IfSome input (λ bytes. (entries : List Entry) × (end : RunEnd) × ReplayComesTo bytes entries end
     × GrowsByPrefix old new (replay_text entries end))
 
--- An input that tells its bytes comes to this end, and what was taken of it stops there: it holds no
+-- An input that tells its bytes comes to this end, and what was taken of it stops there: it holds
+-- no
 -- cause to end but for its last bytes, at most a piece of 4096.
 abbrev pub StopsAtCause : Option (List ℕ) → Option (List ℕ) → RunEnd → Type 0
 StopsAtCause input left end =
     IfSome input (λ bytes. ((entries : List Entry) × ReplayComesTo bytes entries end)
     × ReplayTookWithin 4096 bytes left)
 
--- What a run of `replay` that ends so leaves of an input and on the output: the picture of the whole
+-- What a run of `replay` that ends so leaves of an input and on the output: the picture of the
+-- whole
 -- frames, a prefix of it, or nothing. Where the input failed, what was taken of it holds no cause.
-abbrev pub Leaves : Option (List ℕ) → Option (List ℕ) → Option (List ℕ) → Option (List ℕ) → RunEnd → Type 0
+abbrev pub Leaves : Option (List ℕ) → Option (List ℕ) → Option (List ℕ) → Option (List ℕ) → RunEnd
+    → Type 0
 Leaves input left old new Done = IsAtEnd left × ShowsWhole input old new Done
 Leaves input left old new (Truncated n) = IsAtEnd left × ShowsWhole input old new (Truncated n)
 Leaves input left old new WriteFault = IsAtEnd left × ShowsPart input old new
-Leaves input left old new ReadFault = Keeps old new × IfSome input (λ bytes. ReplayTookWithin 0 bytes left)
+Leaves input left old new ReadFault = Keeps old new × IfSome input
+    (λ bytes. ReplayTookWithin 0 bytes left)
 Leaves input left old new Memory = Keeps old new
 Leaves input left old new Long = Keeps old new × StopsAtCause input left Long
 Leaves input left old new (BadMessage n) = Keeps old new × StopsAtCause input left (BadMessage n)

@@ -13,6 +13,7 @@ NamesCommand words Replay = IsReplay words
 NamesCommand words World = IsWorld words
 
 -- what a run of the command leaves that ends so
-abbrev pub CommandLeaves : Command → Option (List ℕ) → Option (List ℕ) → Option (List ℕ) → Option (List ℕ) → RunEnd → Type 0
+abbrev pub CommandLeaves : Command → Option (List ℕ) → Option (List ℕ) → Option (List ℕ)
+    → Option (List ℕ) → RunEnd → Type 0
 CommandLeaves Replay input left old new end = Leaves input left old new end
 CommandLeaves World input left old new end = WorldLeaves input left old new end

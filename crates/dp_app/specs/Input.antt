@@ -1,6 +1,8 @@
--- What an input of frames comes to: the entries that stand in it, and how it ends. What may stand in an
+-- What an input of frames comes to: the entries that stand in it, and how it ends. What may stand
+-- in an
 -- input is a relation of the number of frames before, a frame and its entry.
-use Rattle.std.specs.Prelude.{◌≡◌, ◌≢◌, ℕ, ◌+◌, ◌^◌, ◌<◌, ◌≤◌, List, [], ◌∷◌, ◌++◌, length, take, drop}
+use Rattle.std.specs.Prelude.{◌≡◌, ◌≢◌, ℕ, ◌+◌, ◌^◌, ◌<◌, ◌≤◌, List, [], ◌∷◌, ◌++◌, length, take}
+use Rattle.std.specs.Prelude.{drop}
 use Rattle.std.specs.Prelude.{Option, Some, ⊤}
 use Rattle.std.specs.List.{AllByRecursion, flat_map}
 use Rattle.dp_frame.specs.Frames.{FrameParts, IsFrame, spelling, Splits}
@@ -18,13 +20,16 @@ StandFor MayStand before (frame ∷ frames) (entry ∷ entries) =
     MayStand before frame entry × StandFor MayStand (before + 1) frames entries
 
 -- the bytes are whole frames that stand for the entries, and then a rest that holds no whole frame
-pub record Tells (MayStand : ℕ → FrameParts → Entry → Type 0) (bytes : List ℕ) (entries : List Entry) (rest : List ℕ) : Type 0 where
+pub record Tells (MayStand : ℕ → FrameParts → Entry → Type 0) (bytes : List ℕ)
+    (entries : List Entry) (rest : List ℕ) : Type 0 where
   pub frames : List FrameParts
   pub stand : StandFor MayStand 0 frames entries
   pub splits : Splits bytes frames rest
 
--- after whole frames that stand for the entries comes, n bytes on, a whole one that may not stand there
-pub record TellsUpTo (MayStand : ℕ → FrameParts → Entry → Type 0) (bytes : List ℕ) (entries : List Entry) (n : ℕ) : Type 0 where
+-- after whole frames that stand for the entries comes, n bytes on, a whole one that may not stand
+-- there
+pub record TellsUpTo (MayStand : ℕ → FrameParts → Entry → Type 0) (bytes : List ℕ)
+    (entries : List Entry) (n : ℕ) : Type 0 where
   pub frames : List FrameParts
   pub bad : FrameParts
   pub more : List ℕ
@@ -36,10 +41,12 @@ pub record TellsUpTo (MayStand : ℕ → FrameParts → Entry → Type 0) (bytes
   pub place : n ≡ length (flat_map spelling frames)
 
 -- What an input comes to of which so many bytes count, and whose first frame begins at the byte
--- `first`. The earliest cause wins: the first frame that may not stand there, where it is whole within
+-- `first`. The earliest cause wins: the first frame that may not stand there, where it is whole
+-- within
 -- the limit; then the limit; then an end inside a frame. The other ends don't come from the input's
 -- bytes.
-abbrev pub ComesTo : (ℕ → FrameParts → Entry → Type 0) → ℕ → ℕ → List ℕ → List Entry → RunEnd → Type 0
+abbrev pub ComesTo : (ℕ → FrameParts → Entry → Type 0) → ℕ → ℕ → List ℕ → List Entry → RunEnd
+    → Type 0
 ComesTo MayStand first limit input entries Done =
     Tells MayStand (drop first input) entries [] × (length input ≤ limit)
 ComesTo MayStand first limit input entries (Truncated n) =
@@ -55,7 +62,8 @@ ComesTo MayStand first limit input entries _ = ⊥
 
 -- These bytes hold no cause to end: they are no more than count, and after the first ones they are
 -- whole frames that stand for entries and a rest that holds no whole frame.
-pub record HoldsNoCause (MayStand : ℕ → FrameParts → Entry → Type 0) (first limit : ℕ) (bytes : List ℕ) : Type 0 where
+pub record HoldsNoCause (MayStand : ℕ → FrameParts → Entry → Type 0) (first limit : ℕ)
+    (bytes : List ℕ) : Type 0 where
   pub entries : List Entry
   pub rest : List ℕ
   pub tells : Tells MayStand (drop first bytes) entries rest
@@ -63,7 +71,8 @@ pub record HoldsNoCause (MayStand : ℕ → FrameParts → Entry → Type 0) (fi
 
 -- What was taken of an input of which these bytes are left is a part that meets P, and after it at
 -- most so many bytes.
-pub record TookWithin (P : List ℕ → Type 0) (most : ℕ) (input : List ℕ) (left : Option (List ℕ)) : Type 0 where
+pub record TookWithin (P : List ℕ → Type 0) (most : ℕ) (input : List ℕ) (left : Option (List ℕ)) :
+    Type 0 where
   pub taken : List ℕ
   pub behind : List ℕ
   pub untaken : List ℕ
@@ -84,7 +93,8 @@ replay_limit = 2 ^ 30
 abbrev pub ReplayComesTo : List ℕ → List Entry → RunEnd → Type 0
 ReplayComesTo input entries end = ComesTo StandsInReplay 0 replay_limit input entries end
 
--- What `replay` took of an input of which these bytes are left holds no cause to end, but for the last
+-- What `replay` took of an input of which these bytes are left holds no cause to end, but for the
+-- last
 -- bytes of it, at most so many.
 abbrev pub ReplayTookWithin : ℕ → List ℕ → Option (List ℕ) → Type 0
 ReplayTookWithin most input left =

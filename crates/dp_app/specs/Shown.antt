@@ -11,7 +11,8 @@ use Rattle.dp_lines.specs.declared.run_end.RunEnd.TheVariants.{Memory, WriteFaul
 
 -- the picture was written and the run ends as given; or the output failed after a prefix of it; or
 -- memory ran out before it
-abbrev pub WritesShown : Option (List ℕ) → Option (List ℕ) → ℕ → ℕ → List Entry → RunEnd → RunEnd → Type 0
+abbrev pub WritesShown : Option (List ℕ) → Option (List ℕ) → ℕ → ℕ → List Entry → RunEnd → RunEnd
+    → Type 0
 WritesShown old new before now entries given end =
     ((end ≡ given) × Appends old new (p6 (shown entries)) × (now ≡ before))
     ⊎ ((end ≡ WriteFault) × GrowsByPrefix old new (p6 (shown entries)) × Rose before now)

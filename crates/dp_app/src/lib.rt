@@ -1,12 +1,12 @@
 //! The program: its words, its status, what it reads and what it writes.
 #![tactic(auto)]
 
+mod diagnostics;
+mod entries;
 mod frame_reader;
 mod laws;
 mod program;
-mod entries;
 mod replay;
-mod diagnostics;
 mod status;
 mod words;
 

@@ -9,9 +9,9 @@ ghost use Rattle.dp_app.specs.Answer.{Answer, IsCommand, IsReplay, IsWorld, IsDu
 ghost use Rattle.dp_app.specs.Answer.{HasHeadline, Leaves, Says, SaysUsage};
 ghost use Rattle.dp_app.specs.Commands.{CommandLeaves};
 
+use crate::diagnostics::{say, say_usage};
 use crate::laws::one_reading;
 use crate::replay::run_replay;
-use crate::diagnostics::{say, say_usage};
 use crate::words::{Command, command_of};
 use dp_io::{Failed, Sink, Source};
 use dp_lines::RunEnd;
@@ -48,7 +48,8 @@ pub fn drawpile<I: Source, O: Sink, E: Sink>(
     ensures uncounted { ¬ IsCommand words.now
         → (I.faults input.new ≡ I.faults input.old) × (O.faults output.new ≡ O.faults output.old) }
 
-    // `replay` ends in one of the ways of a run: what the input comes to decides what is written, the
+    // `replay` ends in one of the ways of a run: what the input comes to decides what is written,
+    // the
     // fault that ends it is the one that was counted, and the status and the line on diag tell it.
     ensures replay { IsReplay words.now → (end : run_end)
         × Leaves (I.left input.old) (I.left input.new) (O.held output.old) (O.held output.new) end
@@ -65,8 +66,10 @@ pub fn drawpile<I: Source, O: Sink, E: Sink>(
         × Says (E.held diag.old) (E.held diag.new) (E.faults diag.old) (E.faults diag.new)
         result.status end }
 
-    // And whatever the input comes to: after the lines that are done each client has taken a prefix of the
-    // history of its epoch, its confirmed canvas is that front replayed, its view the same with its unanswered
+    // And whatever the input comes to: after the lines that are done each client has taken a prefix
+    // of the
+    // history of its epoch, its confirmed canvas is that front replayed, its view the same with its
+    // unanswered
     // sends drawn, and a message that is not permitted changes nothing.
     ensures headline { IsWorld words.now → IfSome (I.left input.old) HasHeadline }
 

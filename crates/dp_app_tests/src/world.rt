@@ -51,9 +51,12 @@ up 1|placed 0:4
 say 1 LAYER|said 2
 up 1|placed 0:5";
 
-/// A line of a row is a line of the input, and after a bar what it prints: words, or a picture in brackets, whose
-/// pixels are red, blue and white, each with how often it stands there, and its rows separated by a slash. `takes C N M` stands
-/// for the lines that take the entries from N to M, and `points K N` for K undo points of the second client, placed from N on.
+/// A line of a row is a line of the input, and after a bar what it prints: words, or a picture in
+/// brackets, whose
+/// pixels are red, blue and white, each with how often it stands there, and its rows separated by a
+/// slash. `takes C N M` stands
+/// for the lines that take the entries from N to M, and `points K N` for K undo points of the
+/// second client, placed from N on.
 static ROWS: [(&str, &[&str]); 24] = [
     ("", &[START]),
     ("", &[START2]),
@@ -395,7 +398,8 @@ fn all_ids_are_held(rt: HostRuntime) -> Result<(), Fail> {
     check(&rt, rt.alloc(), &case, "", 4096)
 }
 
-/// A read that fails: the report is that of the lines that were whole before. In pieces of 20 bytes the first
+/// A read that fails: the report is that of the lines that were whole before. In pieces of 20 bytes
+/// the first
 /// ends in the second line.
 #[test]
 fn a_read_that_fails(rt: HostRuntime) -> Result<(), Fail> {

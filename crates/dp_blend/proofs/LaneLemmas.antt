@@ -1,5 +1,6 @@
 -- What the operations on lanes compute, lane by lane.
-use Rattle.std.proofs.Common.{◌≡◌, ℕ, ◌+◌, ◌-◌, ◌*◌, ◌/◌, ◌%◌, ◌<◌, ◌≤◌, List, [], ◌∷◌, map, Fits, w16, arith, refl, cond, ◌==◌, inl, inr, ltb, min}
+use Rattle.std.proofs.Common.{◌≡◌, ℕ, ◌+◌, ◌-◌, ◌*◌, ◌/◌, ◌%◌, ◌<◌, ◌≤◌, List, [], ◌∷◌, map, Fits}
+use Rattle.std.proofs.Common.{w16, arith, refl, cond, ◌==◌, inl, inr, ltb, min}
 use Rattle.std.specs.Simd.Lanes.{zip2, Each1, sel_l}
 use Rattle.std.proofs.Math.Nat.{mul-le-mul_right, mul-add}
 use Rattle.std.proofs.lemmas.Bool.Decides.{eqb_tells, nat_tests}
@@ -13,7 +14,8 @@ product_fits a b h k =
 
 -- the upper halves of the products, with the lanes widened and narrowed
 pub halves_is : (v f : List ℕ) → Each1 (Fits w16) v → Each1 (Fits w16) f
-    → map (λ x. x) (map (λ x. x / 65536) (zip2 (λ a b. a * b % 4294967296) (map (λ x. x) v) (map (λ x. x) f)))
+    → map (λ x. x) (map (λ x. x / 65536) (zip2 (λ a b. a * b % 4294967296) (map (λ x. x) v)
+    (map (λ x. x) f)))
     ≡ zip2 (λ a b. a * b / 65536) v f
 halves_is [] f h k = refl
 halves_is (v ∷ vs) [] h k = refl
@@ -23,7 +25,8 @@ halves_is (v ∷ vs) (f ∷ fs) h k =
     cc
 
 -- the upper half of a number of 32 bits has 16
-pub halves_fit : (v f : List ℕ) → Each1 (Fits w16) (map (λ x. x / 65536) (zip2 (λ a b. a * b % 4294967296) v f))
+pub halves_fit : (v f : List ℕ) → Each1 (Fits w16) (map (λ x. x / 65536)
+    (zip2 (λ a b. a * b % 4294967296) v f))
 halves_fit [] f = tt
 halves_fit (v ∷ vs) [] = tt
 halves_fit (v ∷ vs) (f ∷ fs) = (record { fits = omega arith }, halves_fit vs fs)
@@ -41,7 +44,8 @@ product_is v f h =
 
 -- the same in each lane
 pub products_is : (v f : List ℕ) → Each1 (λ x. x ≤ 32768) f
-    → sel_l (map (λ x. x == 32768) f) v (zip2 (λ a b. a * b / 65536) v (zip2 (λ a b. (a + b) % 65536) f f)) ≡ zip2 mul v f
+    → sel_l (map (λ x. x == 32768) f) v (zip2 (λ a b. a * b / 65536) v
+    (zip2 (λ a b. (a + b) % 65536) f f)) ≡ zip2 mul v f
 products_is [] [] h = refl
 products_is [] (f ∷ fs) h = refl
 products_is (v ∷ vs) [] h = refl
@@ -61,7 +65,8 @@ smaller_is (v ∷ vs) (w ∷ ws) =
 
 -- a sum of as much as there is room for
 pub capped_is : (v w : List ℕ) → Each1 (Fits w16) v
-    → zip2 (λ a b. (a + b) % 65536) v (zip2 min w (map (λ x. 65535 - x) v)) ≡ zip2 (λ a b. min (a + b) 65535) v w
+    → zip2 (λ a b. (a + b) % 65536) v (zip2 min w (map (λ x. 65535 - x) v))
+    ≡ zip2 (λ a b. min (a + b) 65535) v w
 capped_is [] w h = refl
 capped_is (v ∷ vs) [] h = refl
 capped_is (v ∷ vs) (w ∷ ws) h =

@@ -3,15 +3,18 @@ use Rattle.std.proofs.Common.{ℕ, ◌-◌, ◌≤◌, arith}
 use Rattle.dp_blend.specs.Color.{Channels, IsPixel, fade}
 use Rattle.dp_blend.specs.Blending.{blend, over, channel_blended, alpha_blended}
 use Rattle.dp_blend.specs.declared.modes.Mode.{Mode}
-use Rattle.dp_blend.specs.declared.modes.Mode.TheVariants.{Erase, Normal, Multiply, Add, Recolor, Replace}
-use Rattle.dp_blend.proofs.Products.{mul_mono, mul_le, mul_le_right, multiply_within, recolor_within}
+use Rattle.dp_blend.specs.declared.modes.Mode.TheVariants.{Erase, Normal, Multiply, Add, Recolor}
+use Rattle.dp_blend.specs.declared.modes.Mode.TheVariants.{Replace}
+use Rattle.dp_blend.proofs.Products.{mul_mono, mul_le, mul_le_right, multiply_within}
+use Rattle.dp_blend.proofs.Products.{recolor_within}
 
 -- the alpha of a source over a destination is at most one
 pub over_within : (sa da : ℕ) → sa ≤ 32768 → da ≤ 32768 → over sa da ≤ 32768
 over_within sa da p q = omega (arith, mul_le_right da (32768 - sa) q)
 
 -- after blending, alpha is at most one
-pub alpha_within : (mode : Mode) (sa da : ℕ) → sa ≤ 32768 → da ≤ 32768 → alpha_blended mode sa da ≤ 32768
+pub alpha_within : (mode : Mode) (sa da : ℕ) → sa ≤ 32768 → da ≤ 32768
+    → alpha_blended mode sa da ≤ 32768
 alpha_within Erase sa da p q = omega (arith, mul_le_right da (32768 - sa) q)
 alpha_within Normal sa da p q = over_within sa da p q
 alpha_within Multiply sa da p q = over_within sa da p q
@@ -29,7 +32,8 @@ channel_within Add sc sa dc da p q r s = omega arith
 channel_within Recolor sc sa dc da p q r s = recolor_within sc sa dc da p q r
 channel_within Replace sc sa dc da p q r s = p
 
-pub blend-IsPixel : (mode : Mode) (s d : Channels) → IsPixel s → IsPixel d → IsPixel (blend mode s d)
+pub blend-IsPixel : (mode : Mode) (s d : Channels) → IsPixel s → IsPixel d
+    → IsPixel (blend mode s d)
 blend-IsPixel mode s d h k = record {
   r = channel_within mode s.r s.a d.r d.a h.r h.a k.r k.a;
   g = channel_within mode s.g s.a d.g d.a h.g h.a k.g k.a;

@@ -1,20 +1,24 @@
 -- Rows whose places are changed one after the other.
-use Rattle.std.proofs.Common.{◌≡◌, ℕ, ◌+◌, ◌<◌, ◌≤◌, ◌≢◌, List, [], ◌∷◌, length, get_or, set, take, suc, zero, refl, sym, ap, ◌∙◌, arith, add-one, get_or-set_other}
+use Rattle.std.proofs.Common.{◌≡◌, ℕ, ◌+◌, ◌<◌, ◌≤◌, ◌≢◌, List, [], ◌∷◌, length, get_or, set, take}
+use Rattle.std.proofs.Common.{suc, zero, refl, sym, ap, ◌∙◌, arith, add-one, get_or-set_other}
 use Rattle.std.proofs.lemmas.List.{take_all}
 use Rattle.dp_blend.specs.Color.{Channels, fade}
 use Rattle.dp_blend.specs.Blending.{blend, masked, row_blended, row_filled, row_merged}
 use Rattle.dp_blend.specs.declared.modes.Mode.{Mode}
 
 -- the row after f of each x and of the pixel at its place; past their end the row stays
-abbrev pub changed : {X : Type 0} → (X → Channels → Channels) → List X → List Channels → List Channels
+abbrev pub changed : {X : Type 0} → (X → Channels → Channels) → List X → List Channels
+    → List Channels
 changed f [] row = row
 changed f (x ∷ xs) [] = []
 changed f (x ∷ xs) (d ∷ row) = f x d ∷ changed f xs row
 
 -- with one more x, one more place of the row is changed
-changed-take-suc : {X : Type 0} (f : X → Channels → Channels) (xs : List X) (row : List Channels) (k : ℕ) (x : X) (d : Channels)
+changed-take-suc : {X : Type 0} (f : X → Channels → Channels) (xs : List X) (row : List Channels)
+    (k : ℕ) (x : X) (d : Channels)
     → k < length xs → k < length row
-    → changed f (take (suc k) xs) row ≡ set (changed f (take k xs) row) k (f (get_or xs k x) (get_or (changed f (take k xs) row) k d))
+    → changed f (take (suc k) xs) row ≡ set (changed f (take k xs) row) k
+    (f (get_or xs k x) (get_or (changed f (take k xs) row) k d))
 changed-take-suc f [] row k x d h i = absurd (omega arith)
 changed-take-suc f (y ∷ ys) [] k x d h i = absurd (omega arith)
 changed-take-suc f (y ∷ ys) (e ∷ es) zero x d h i = refl
@@ -22,15 +26,18 @@ changed-take-suc f (y ∷ ys) (e ∷ es) (suc k) x d h i =
     ap (λ rest. f y e ∷ rest) (changed-take-suc f ys es k x d (omega arith) (omega arith))
 
 -- the same of a row that is changed up to k, where e is written
-pub changed-more : {X : Type 0} (f : X → Channels → Channels) (xs : List X) (row now : List Channels) (k : ℕ) (x : X) (d e : Channels)
-    → k < length xs → k < length row → now ≡ changed f (take k xs) row → e ≡ f (get_or xs k x) (get_or now k d)
+pub changed-more : {X : Type 0} (f : X → Channels → Channels) (xs : List X)
+    (row now : List Channels) (k : ℕ) (x : X) (d e : Channels)
+    → k < length xs → k < length row → now ≡ changed f (take k xs) row
+    → e ≡ f (get_or xs k x) (get_or now k d)
     → set now k e ≡ changed f (take (k + 1) xs) row
 changed-more f xs row now k x d e h i before written =
     let step = changed-take-suc f xs row k x d h i in
     rw (written, add-one) (sym (rw (← before) at step))
 
 -- and of two places, which were read before the first was written
-pub changed-two : {X : Type 0} (f : X → Channels → Channels) (xs : List X) (row now : List Channels) (k n : ℕ) (x y : X) (d b e c : Channels)
+pub changed-two : {X : Type 0} (f : X → Channels → Channels) (xs : List X) (row now : List Channels)
+    (k n : ℕ) (x y : X) (d b e c : Channels)
     → k + 1 < length xs → k + 1 < length row → n ≡ k + 2 → now ≡ changed f (take k xs) row
     → e ≡ f (get_or xs k x) (get_or now k d) → c ≡ f (get_or xs (k + 1) y) (get_or now (k + 1) b)
     → set (set now k e) (k + 1) c ≡ changed f (take n xs) row
@@ -38,16 +45,19 @@ changed-two f xs row now k n x y d b e c h i two before first second =
     let one = changed-more f xs row now k x d e (omega arith) (omega arith) before first in
     let other : k + 1 ≢ k = omega arith in
     let kept : get_or (set now k e) (k + 1) b ≡ get_or now (k + 1) b = rw get_or-set_other refl in
-    let both = changed-more f xs row (set now k e) (k + 1) y b c h i one (second ∙ ap (f (get_or xs (k + 1) y)) (sym kept)) in
+    let both = changed-more f xs row (set now k e) (k + 1) y b c h i one
+    (second ∙ ap (f (get_or xs (k + 1) y)) (sym kept)) in
     both ∙ ap (λ m. changed f (take m xs) row) (omega arith)
 
 -- with all of xs, the whole row is changed
-pub changed-all : {X : Type 0} (f : X → Channels → Channels) (xs : List X) (row now : List Channels) (k : ℕ)
+pub changed-all : {X : Type 0} (f : X → Channels → Channels) (xs : List X) (row now : List Channels)
+    (k : ℕ)
     → length xs ≤ k → now ≡ changed f (take k xs) row → now ≡ changed f xs row
 changed-all f xs row now k h before = before ∙ ap (λ ys. changed f ys row) (take_all k xs h)
 
 -- and so it is once the last place is written
-pub changed-last : {X : Type 0} (f : X → Channels → Channels) (xs : List X) (row now : List Channels) (k n : ℕ) (x : X) (d e : Channels)
+pub changed-last : {X : Type 0} (f : X → Channels → Channels) (xs : List X)
+    (row now : List Channels) (k n : ℕ) (x : X) (d e : Channels)
     → length xs ≡ n + 1 → length row ≡ n + 1 → k ≡ n → now ≡ changed f (take k xs) row
     → e ≡ f (get_or xs n x) (get_or now n d) → set now n e ≡ changed f xs row
 changed-last f xs row now k n x d e h i same before written =
@@ -56,21 +66,26 @@ changed-last f xs row now k n x d e h i same before written =
     (changed-more f xs row now n x d e (omega arith) (omega arith) till written)
 
 -- at each place stands what f gives there
-pub get_or-changed : {X : Type 0} (f : X → Channels → Channels) (xs : List X) (row : List Channels) (k : ℕ) (x : X) (d : Channels)
-    → k < length xs → k < length row → get_or (changed f xs row) k d ≡ f (get_or xs k x) (get_or row k d)
+pub get_or-changed : {X : Type 0} (f : X → Channels → Channels) (xs : List X) (row : List Channels)
+    (k : ℕ) (x : X) (d : Channels)
+    → k < length xs → k < length row → get_or (changed f xs row) k d
+    ≡ f (get_or xs k x) (get_or row k d)
 get_or-changed f [] row k x d h i = absurd (omega arith)
 get_or-changed f (y ∷ ys) [] k x d h i = absurd (omega arith)
 get_or-changed f (y ∷ ys) (e ∷ es) zero x d h i = refl
-get_or-changed f (y ∷ ys) (e ∷ es) (suc k) x d h i = get_or-changed f ys es k x d (omega arith) (omega arith)
+get_or-changed f (y ∷ ys) (e ∷ es) (suc k) x d h i = get_or-changed f ys es k x d (omega arith)
+    (omega arith)
 
 -- the rows that the calls leave
 pub row_blended-is : (mode : Mode) (src : Channels) (mask : List ℕ) (row : List Channels)
     → row_blended mode src mask row ≡ changed (masked mode src) mask row
 row_blended-is mode src [] row = refl
 row_blended-is mode src (m ∷ ms) [] = refl
-row_blended-is mode src (m ∷ ms) (d ∷ row) = ap (λ rest. masked mode src m d ∷ rest) (row_blended-is mode src ms row)
+row_blended-is mode src (m ∷ ms) (d ∷ row) = ap (λ rest. masked mode src m d ∷ rest)
+    (row_blended-is mode src ms row)
 
-pub row_blended-places : (mode : Mode) (src : Channels) (mask : List ℕ) (row now : List Channels) → now ≡ row_blended mode src mask row
+pub row_blended-places : (mode : Mode) (src : Channels) (mask : List ℕ) (row now : List Channels)
+    → now ≡ row_blended mode src mask row
     → length mask ≡ length row → (k : ℕ) (d : Channels) → k < length row
     → get_or now k d ≡ masked mode src (get_or mask k 0) (get_or row k d)
 row_blended-places mode src mask row now is same k d h =
@@ -85,10 +100,13 @@ pub row_merged-is : (mode : Mode) (by : ℕ) (sources row : List Channels)
     → row_merged mode by sources row ≡ changed (λ s d. blend mode (fade s by) d) sources row
 row_merged-is mode by [] row = refl
 row_merged-is mode by (s ∷ sources) [] = refl
-row_merged-is mode by (s ∷ sources) (d ∷ row) = ap (λ rest. blend mode (fade s by) d ∷ rest) (row_merged-is mode by sources row)
+row_merged-is mode by (s ∷ sources) (d ∷ row) = ap (λ rest. blend mode (fade s by) d ∷ rest)
+    (row_merged-is mode by sources row)
 
-pub row_merged-places : (mode : Mode) (by : ℕ) (sources row now : List Channels) → now ≡ row_merged mode by sources row
+pub row_merged-places : (mode : Mode) (by : ℕ) (sources row now : List Channels)
+    → now ≡ row_merged mode by sources row
     → length sources ≡ length row → (k : ℕ) (s d : Channels) → k < length row
     → get_or now k d ≡ blend mode (fade (get_or sources k s) by) (get_or row k d)
 row_merged-places mode by sources row now is same k s d h =
-    rw (is, row_merged-is) (get_or-changed (λ s d. blend mode (fade s by) d) sources row k s d (omega arith) h)
+    rw (is, row_merged-is) (get_or-changed (λ s d. blend mode (fade s by) d) sources row k s d
+    (omega arith) h)

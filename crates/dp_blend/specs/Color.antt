@@ -1,4 +1,5 @@
--- Numbers and premultiplied colours. A channel or an alpha is a number from 0 to 32768, which stands
+-- Numbers and premultiplied colours. A channel or an alpha is a number from 0 to 32768, which
+-- stands
 -- for one.
 use Rattle.std.specs.Prelude.{ℕ, ◌+◌, ◌*◌, ◌/◌, ◌%◌, ◌≤◌}
 

@@ -49,7 +49,8 @@ impl Pixel {
         a: ONE,
     };
 
-    /// The pixel with these channels and this alpha. `None` exactly where a channel is above alpha, or
+    /// The pixel with these channels and this alpha. `None` exactly where a channel is above alpha,
+    /// or
     /// alpha above 32768.
     pub fn new(r: u16, g: u16, b: u16, a: u16) -> Option<Pixel>
         ensures valid { IsSome result ↔ IsPixel (record { r = r; g = g; b = b; a = a }) }

@@ -14,7 +14,8 @@ use crate::kernels::{
 };
 use crate::modes::Mode;
 
-/// Blends the source with each pixel of the row, faded by the mask at its place: 32768 blends all of
+/// Blends the source with each pixel of the row, faded by the mask at its place: 32768 blends all
+/// of
 /// it, and where the mask is 0 the pixel stays.
 pub fn row_blend(mode: Mode, src: Pixel, mask: &[u16], row: &mut [Pixel])
     requires same_length { length mask.now ≡ length row.old }

@@ -128,7 +128,8 @@ fn layers(rt: HostRuntime) -> Result<(), Fail> {
             rows: &[],
             pixels: &[(0x0101, 0, 0, None)],
         },
-        // A second layer of the same id, and one below a layer, have no effect; a layer below a group has.
+        // A second layer of the same id, and one below a layer, have no effect; a layer below a
+        // group has.
         Case {
             commands: &[
                 TWO_BY_ONE,
@@ -150,7 +151,8 @@ fn layers(rt: HostRuntime) -> Result<(), Fail> {
                 (0x0200, 0, 0, None),
             ],
         },
-        // A layer goes to the prefix of the list; the other goes into a group, and is resized with it.
+        // A layer goes to the prefix of the list; the other goes into a group, and is resized with
+        // it.
         Case {
             commands: &[
                 TWO_BY_ONE,

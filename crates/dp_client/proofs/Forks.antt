@@ -1,5 +1,6 @@
 -- The commands of a fork, drawn one by one.
-use Rattle.std.proofs.Common.{◌≡◌, ℕ, suc, ◌<◌, List, [], ◌∷◌, ◌++◌, length, take, refl, sym, ap, ◌∙◌, subst}
+use Rattle.std.proofs.Common.{◌≡◌, ℕ, suc, ◌<◌, List, [], ◌∷◌, ◌++◌, length, take, refl, sym, ap}
+use Rattle.std.proofs.Common.{◌∙◌, subst}
 use Rattle.std.specs.Prelude.{Option, None, Some, option_to_list, slice_index_or}
 use Rattle.std.specs.List.{filter_map}
 use Rattle.std.proofs.Math.Seq.{take-suc}
@@ -29,7 +30,9 @@ drawn_more start old new fork k m within there drawn before =
     ≡ filter_map command_of (take k fork) ++ option_to_list (command_of m) =
     ap (filter_map command_of) split
     ∙ filter_map-append command_of (take k fork) (m ∷ [])
-    ∙ ap (λ xs. filter_map command_of (take k fork) ++ xs) (one_given command_of m (command_of m) refl) in
+    ∙ ap (λ xs. filter_map command_of (take k fork) ++ xs)
+    (one_given command_of m (command_of m) refl) in
     drawn ∙ ap (λ (b : Board). draw_all b (option_to_list (command_of m))) before
-    ∙ sym (fold-append draw start (filter_map command_of (take k fork)) (option_to_list (command_of m)))
+    ∙ sym (fold-append draw start (filter_map command_of (take k fork))
+    (option_to_list (command_of m)))
     ∙ ap (draw_all start) (sym given)

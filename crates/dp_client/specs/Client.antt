@@ -15,7 +15,8 @@ use Rattle.dp_client.specs.declared.own.Own.{Own}
 use Rattle.dp_client.specs.declared.own.Own.TheVariants.{Stranger, Echo, Dropped, Lost}
 use Rattle.dp_client.specs.declared.client.Taken.{Taken}
 
--- The user's id, and the epoch and the index of the user's Join, as the Welcome told them; the epoch
+-- The user's id, and the epoch and the index of the user's Join, as the Welcome told them; the
+-- epoch
 -- that the client is in; the entries that it has taken of that; and its fork: what it has said that
 -- isn't answered, in order.
 pub record State : Type 0 where
@@ -39,7 +40,8 @@ welcomed user epoch at = record {
 
 -- ---- what an entry is to the fork
 
--- the message may answer a send: no Join, no Leave, and no Filtered in place of a message that has no
+-- the message may answer a send: no Join, no Leave, and no Filtered in place of a message that has
+-- no
 -- entry
 abbrev pub may_answer : Msg → Bool
 may_answer (msg.Meta (Join registered name)) = false
@@ -57,7 +59,8 @@ abbrev pub carried_in : List Entry → ℕ
 carried_in [] = 0
 carried_in (entry ∷ entries) = carried_by entry.msg
 
--- own answers stand after this index: that of the user's Join in the Welcome's epoch, else that of the
+-- own answers stand after this index: that of the user's Join in the Welcome's epoch, else that of
+-- the
 -- last carried entry
 abbrev pub last_before : State → ℕ
 last_before s = if s.epoch == s.joined_epoch then s.joined_at else carried_in s.taken

@@ -1,4 +1,5 @@
-//! A client of a session: what it has taken, what it has said that isn't answered, and what it shows.
+//! A client of a session: what it has taken, what it has said that isn't answered, and what it
+//! shows.
 //!
 //! The rule: docs/protocol.md, "The client".
 #![tactic(auto)]

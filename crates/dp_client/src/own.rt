@@ -9,7 +9,8 @@ pub enum Own {
     Echo,
     /// It stands in place of the first send, which wasn't permitted.
     Dropped,
-    /// It is an answer of the client's own that isn't the first send's: what the client waited for is
+    /// It is an answer of the client's own that isn't the first send's: what the client waited for
+    /// is
     /// lost.
     Lost,
 }

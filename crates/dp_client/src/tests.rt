@@ -81,7 +81,8 @@ fn step(rt: &impl Abort, alloc: Global, client: &mut Client, word: &str) -> Resu
     Ok(())
 }
 
-/// Does the steps of a row, which are followed by how many sends aren't answered and by the letters of
+/// Does the steps of a row, which are followed by how many sends aren't answered and by the letters
+/// of
 /// the confirmed canvas and of the view.
 fn check_row<D: Ledger, T: Ledger>(
     rt: &impl Abort,

@@ -1,5 +1,6 @@
 -- A pixel while the rows of a parent are laid on it, one after the other.
-use Rattle.std.proofs.Common.{◌≡◌, ◌≢◌, ℕ, ◌+◌, ◌-◌, ◌<◌, ◌≤◌, suc, zero, true, false, cond, List, []}
+use Rattle.std.proofs.Common.{◌≡◌, ◌≢◌, ℕ, ◌+◌, ◌-◌, ◌<◌, ◌≤◌, suc, zero, true, false, cond, List}
+use Rattle.std.proofs.Common.{[]}
 use Rattle.std.proofs.Common.{◌∷◌, ◌++◌, length, get_or, take, refl, sym, ap, ◌∙◌, arith}
 use Rattle.std.proofs.lemmas.Bool.Decides.{nat_tests}
 use Rattle.std.proofs.Math.Seq.{take-append_seam}
@@ -49,7 +50,8 @@ pub composed_more_yes : (board : Board) (depth parent : ℕ) (rows : List LayerR
     → composed_by board depth parent (take (i + 1) rows) x y start
     ≡ laid_on board depth x y (composed_by board depth parent (take i rows) x y start) row
 composed_more_yes board depth parent rows x y start i row inside is seen =
-    let step : filter (is_seen_in parent) (take (i + 1) rows) ≡ filter (is_seen_in parent) (take i rows)
+    let step : filter (is_seen_in parent) (take (i + 1) rows)
+    ≡ filter (is_seen_in parent) (take i rows)
     ++ cond (is_seen_in parent row) (row ∷ []) [] =
     rw is (filter_more (is_seen_in parent) rows i row inside) in
     ap (fold (laid_on board depth x y) start)
@@ -63,7 +65,8 @@ pub composed_more_no : (board : Board) (depth parent : ℕ) (rows : List LayerRo
     → composed_by board depth parent (take (i + 1) rows) x y start
     ≡ composed_by board depth parent (take i rows) x y start
 composed_more_no board depth parent rows x y start i row inside is unseen =
-    let step : filter (is_seen_in parent) (take (i + 1) rows) ≡ filter (is_seen_in parent) (take i rows)
+    let step : filter (is_seen_in parent) (take (i + 1) rows)
+    ≡ filter (is_seen_in parent) (take i rows)
     ++ cond (is_seen_in parent row) (row ∷ []) [] =
     rw is (filter_more (is_seen_in parent) rows i row inside) in
     ap (fold (laid_on board depth x y) start)
@@ -78,7 +81,8 @@ compose_none board depth parent x y start none =
     ∙ compose-zero board parent x y start)
 
 -- once all rows are laid, the levels are composed
-pub composed_all : (board : Board) (depth parent : ℕ) (rows : List LayerRow) (x y : ℕ) (start : Channels)
+pub composed_all : (board : Board) (depth parent : ℕ) (rows : List LayerRow) (x y : ℕ)
+    (start : Channels)
     (i : ℕ)
     → 0 < depth → rows ≡ layers_of board.rows → length rows ≤ i
     → composed_by board (depth - 1) parent (take i rows) x y start
@@ -97,11 +101,13 @@ seen_yes parent row inside shows = grind (arith, nat_tests)
 pub hidden_no : (parent : ℕ) (row : LayerRow) → row.hidden ≡ true → is_seen_in parent row ≡ false
 hidden_no parent row hides = rw hides (grind (arith, nat_tests))
 
-pub elsewhere_no : (parent : ℕ) (row : LayerRow) → row.parent ≢ parent → is_seen_in parent row ≡ false
+pub elsewhere_no : (parent : ℕ) (row : LayerRow) → row.parent ≢ parent
+    → is_seen_in parent row ≡ false
 elsewhere_no parent row outside = grind (arith, nat_tests)
 
 -- the pixel after one more row, which is seen
-pub laid_more : (board : Board) (depth parent : ℕ) (rows : List LayerRow) (x y : ℕ) (start : Channels)
+pub laid_more : (board : Board) (depth parent : ℕ) (rows : List LayerRow) (x y : ℕ)
+    (start : Channels)
     (i : ℕ) (row : LayerRow) (under source now : Channels)
     → i < length rows → row ≡ get_or rows i row → row.parent ≡ parent → row.hidden ≡ false
     → under ≡ composed_by board depth parent (take i rows) x y start
@@ -114,7 +120,8 @@ laid_more board depth parent rows x y start i row under source now inside is sta
     (seen_yes parent row stands shows))
 
 -- the pixel after one more row, which isn't seen
-pub passed_more : (board : Board) (depth parent : ℕ) (rows : List LayerRow) (x y : ℕ) (start : Channels)
+pub passed_more : (board : Board) (depth parent : ℕ) (rows : List LayerRow) (x y : ℕ)
+    (start : Channels)
     (i : ℕ) (row : LayerRow) (under : Channels)
     → i < length rows → row ≡ get_or rows i row → is_seen_in parent row ≡ false
     → under ≡ composed_by board depth parent (take i rows) x y start
@@ -131,19 +138,23 @@ shown_paint board depth row y source paints is long = λ x in_row.
     let pixel = λ (x : ℕ). pixel_at board.width (pixels_of board row.id) x y in
     ap (λ l. get_or l x clear) is
     ∙ get_or-map-range_with_len pixel 0 board.width x x clear (omega arith) (omega arith)
-    ∙ ap (λ b. cond b (compose depth (row_pixel board x y) (layers_of board.rows) row.id clear) (row_pixel board x y row)) (sym paints)
+    ∙ ap (λ b. cond b (compose depth (row_pixel board x y) (layers_of board.rows) row.id clear)
+    (row_pixel board x y row)) (sym paints)
 
 -- what is seen at a place: the root's rows on the background, and that on white
-pub seen_at : (board : Board) (x y : ℕ) (shown whole root : Channels) → shown ≡ blend Normal whole white
+pub seen_at : (board : Board) (x y : ℕ) (shown whole root : Channels)
+    → shown ≡ blend Normal whole white
     → whole ≡ compose nesting_limit (row_pixel board x y) (layers_of board.rows) 0 root
     → root ≡ of_argb board.background
     → shown ≡ seen board x y
 seen_at board x y shown whole root on_white composed on_background =
     on_white ∙ ap (λ (p : Channels). blend Normal p white)
-    (composed ∙ ap (compose nesting_limit (row_pixel board x y) (layers_of board.rows) 0) on_background)
+    (composed ∙ ap (compose nesting_limit (row_pixel board x y) (layers_of board.rows) 0)
+    on_background)
 
 -- the first of some rows is a row of the picture, where it has at each place what is seen there
-pub is_seen_row : (board : Board) (y : ℕ) (row others last : List Channels) → length row ≡ board.width
+pub is_seen_row : (board : Board) (y : ℕ) (row others last : List Channels)
+    → length row ≡ board.width
     → ((x : ℕ) → x < board.width → get_or row x clear ≡ seen board x y)
     → take board.width (row ++ others ++ last) ≡ seen_row board y
 is_seen_row board y row others last long same =

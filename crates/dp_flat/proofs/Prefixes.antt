@@ -1,5 +1,6 @@
 -- What a sink holds after several pieces of a text, the last of them perhaps in part.
-use Rattle.std.proofs.Common.{◌≡◌, ℕ, ◌+◌, List, [], ◌++◌, length, take, Ok, Err, OnOk, subst, refl, sym}
+use Rattle.std.proofs.Common.{◌≡◌, ℕ, ◌+◌, List, [], ◌++◌, length, take, Ok, Err, OnOk, subst, refl}
+use Rattle.std.proofs.Common.{sym}
 use Rattle.std.proofs.Common.{ap, ◌∙◌, arith, length-append}
 use Rattle.std.proofs.lemmas.List.{append_assoc, append-nil, take-append-le}
 use Rattle.std.proofs.Math.Seq.{take-append-add, take-length}
@@ -14,13 +15,22 @@ use Rattle.dp_flat.specs.Texts.{GrowsBefore}
 
 -- all of the bytes were appended
 pub grows_whole : (a b : Option (List ℕ)) (xs : List ℕ) → Appends a b xs → GrowsByPrefix a b xs
-grows_whole a b xs whole = (length xs, omega arith, subst (Appends a b) (sym (take-length xs)) whole)
+grows_whole a b xs whole = (
+  length xs,
+  omega arith,
+  subst (Appends a b) (sym (take-length xs))
+      whole,
+)
 
 -- a prefix of the first bytes is a prefix of all
 pub grows_within : (a b : Option (List ℕ)) (xs ys : List ℕ) → GrowsByPrefix a b xs
     → GrowsByPrefix a b (xs ++ ys)
-grows_within a b xs ys (n, within, some) =
-    (n, omega (arith, length-append xs ys), subst (Appends a b) (sym (take-append-le n xs ys within)) some)
+grows_within a b xs ys (n, within, some) = (
+  n,
+  omega (arith, length-append xs ys),
+  subst (Appends a b)
+      (sym (take-append-le n xs ys within)) some,
+)
 
 -- the first bytes were appended, and then a prefix of the others
 pub grows_after : (a b c : Option (List ℕ)) (xs ys : List ℕ) → Appends a b xs → GrowsByPrefix b c ys
@@ -28,7 +38,8 @@ pub grows_after : (a b c : Option (List ℕ)) (xs ys : List ℕ) → Appends a b
 grows_after a b c xs ys first (n, within, some) = (
   length xs + n,
   omega (arith, length-append xs ys),
-  subst (Appends a c) (sym (take-append-add xs ys n)) (Appends-trans a b c xs (take n ys) first some),
+  subst (Appends a c) (sym (take-append-add xs ys n)) (Appends-trans a b c xs (take n ys) first
+      some),
 )
 
 -- nothing was appended
@@ -42,7 +53,8 @@ pub before_none : (a : Option (List ℕ)) (piece : List ℕ) → GrowsBefore a a
 before_none a piece = record { bytes = []; appended = Appends-nil a; whole = refl }
 
 -- more of the text was put into the piece
-pub before_more : (a b : Option (List ℕ)) (piece text more now : List ℕ) → GrowsBefore a b piece text
+pub before_more : (a b : Option (List ℕ)) (piece text more now : List ℕ)
+    → GrowsBefore a b piece text
     → now ≡ piece ++ more
     → GrowsBefore a b now (text ++ more)
 before_more a b piece text more now before put = record {
@@ -53,7 +65,8 @@ before_more a b piece text more now before put = record {
 }
 
 -- the piece and more of the text were written in turn, but for another piece
-pub before_on : (a b c : Option (List ℕ)) (piece text more now : List ℕ) → GrowsBefore a b piece text
+pub before_on : (a b c : Option (List ℕ)) (piece text more now : List ℕ)
+    → GrowsBefore a b piece text
     → GrowsBefore b c now (piece ++ more)
     → GrowsBefore a c now (text ++ more)
 before_on a b c piece text more now before after = record {
@@ -64,11 +77,13 @@ before_on a b c piece text more now before after = record {
 }
 
 -- the piece and more of the text were written in part
-pub before_failed : (a b c : Option (List ℕ)) (piece text more : List ℕ) → GrowsBefore a b piece text
+pub before_failed : (a b c : Option (List ℕ)) (piece text more : List ℕ)
+    → GrowsBefore a b piece text
     → GrowsByPrefix b c (piece ++ more)
     → GrowsByPrefix a c (text ++ more)
 before_failed a b c piece text more before some =
-    subst (GrowsByPrefix a c) (sym (append_assoc before.bytes piece more) ∙ ap (λ l. l ++ more) before.whole)
+    subst (GrowsByPrefix a c) (sym (append_assoc before.bytes piece more)
+    ∙ ap (λ l. l ++ more) before.whole)
     (grows_after a b c before.bytes (piece ++ more) before.appended some)
 
 -- the piece was written
@@ -82,7 +97,8 @@ pub before_cut : (a b c : Option (List ℕ)) (piece text : List ℕ) → GrowsBe
     → GrowsByPrefix b c piece
     → GrowsByPrefix a c text
 before_cut a b c piece text before some =
-    subst (GrowsByPrefix a c) before.whole (grows_after a b c before.bytes piece before.appended some)
+    subst (GrowsByPrefix a c) before.whole (grows_after a b c before.bytes piece before.appended
+    some)
 
 -- ---- a text of which some is still to come
 
@@ -93,7 +109,8 @@ pub record GrowsToward (old new : Option (List ℕ)) (piece rest text : List ℕ
   pub left : done ++ rest ≡ text
 
 -- all is still to come
-pub toward_none : (a : Option (List ℕ)) (piece rest : List ℕ) → GrowsToward a a piece rest (piece ++ rest)
+pub toward_none : (a : Option (List ℕ)) (piece rest : List ℕ)
+    → GrowsToward a a piece rest (piece ++ rest)
 toward_none a piece rest = record { done = piece; before = before_none a piece; left = refl }
 
 -- the piece was written, and more of the text was put into the next one
@@ -105,11 +122,13 @@ toward_more a b c piece room now more rest others text before made put split = r
   done = before.done ++ more;
   before = before_on a b c piece before.done more now before.before
       (before_more b c room piece more now made put);
-  left = append_assoc before.done more others ∙ ap (λ l. before.done ++ l) (sym split) ∙ before.left;
+  left = append_assoc before.done more others ∙ ap (λ l. before.done ++ l) (sym split)
+      ∙ before.left;
 }
 
 -- the piece was written in part
-pub toward_failed : (a b c : Option (List ℕ)) (piece rest text : List ℕ) → GrowsToward a b piece rest text
+pub toward_failed : (a b c : Option (List ℕ)) (piece rest text : List ℕ)
+    → GrowsToward a b piece rest text
     → GrowsByPrefix b c piece
     → GrowsByPrefix a c text
 toward_failed a b c piece rest text before some =

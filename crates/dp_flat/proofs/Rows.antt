@@ -1,5 +1,6 @@
 -- The text of a picture by its rows.
-use Rattle.std.proofs.Common.{◌≡◌, ℕ, ◌+◌, ◌-◌, ◌<◌, List, ◌∷◌, ◌++◌, map, suc, zero, sym, ap, ◌∙◌, subst}
+use Rattle.std.proofs.Common.{◌≡◌, ℕ, ◌+◌, ◌-◌, ◌<◌, List, ◌∷◌, ◌++◌, map, suc, zero, sym, ap, ◌∙◌}
+use Rattle.std.proofs.Common.{subst}
 use Rattle.std.proofs.Common.{arith}
 use Rattle.std.proofs.lemmas.List.{append_assoc, append-nil}
 use Rattle.std.proofs.lemmas.Grind.{flat_map-append}
@@ -14,7 +15,8 @@ use Rattle.dp_flat.specs.Composed.{seen_row}
 use Rattle.dp_flat.specs.Texts.{GrowsBefore}
 use Rattle.dp_flat.proofs.Prefixes.{grows_within}
 
-range_split : (a m n : ℕ) → range_with_len a (m + n) ≡ range_with_len a m ++ range_with_len (a + m) n
+range_split : (a m n : ℕ) → range_with_len a (m + n) ≡ range_with_len a m
+    ++ range_with_len (a + m) n
 range_split a zero n =
     let none : zero + n ≡ n = omega arith in
     let here : a + zero ≡ a = omega arith in
@@ -43,7 +45,8 @@ rows_more board y =
     ∙ ap (λ l. canvas_of board.width y (seen board) ++ l) (append-nil (row (0 + y)) ∙ ap row here)
 
 -- the text so far and that of one more row
-pub text_more : (text : Channels → List ℕ) (board : Board) (y : ℕ) (front : List ℕ) (row : List Channels)
+pub text_more : (text : Channels → List ℕ) (board : Board) (y : ℕ) (front : List ℕ)
+    (row : List Channels)
     → row ≡ seen_row board y
     → front ++ flat_map text (canvas_of board.width y (seen board)) ++ flat_map text row
     ≡ front ++ flat_map text (canvas_of board.width (y + 1) (seen board))
@@ -58,17 +61,21 @@ text_more text board y front row is =
 pub text_failed : (a b : Option (List ℕ)) (text : Channels → List ℕ) (board : Board) (y : ℕ)
     (front : List ℕ) (row : List Channels)
     → row ≡ seen_row board y → y < board.height
-    → GrowsByPrefix a b (front ++ flat_map text (canvas_of board.width y (seen board)) ++ flat_map text row)
+    → GrowsByPrefix a b (front ++ flat_map text (canvas_of board.width y (seen board))
+    ++ flat_map text row)
     → GrowsByPrefix a b (front ++ flat_map text (canvas_of board.width board.height (seen board)))
 text_failed a b text board y front row is inside some =
     let rest = board.height - (y + 1) in
     let all : y + 1 + rest ≡ board.height = omega arith in
     let pixels_of = λ (y : ℕ). map (λ x. seen board x y) (below board.width) in
     let others = flat_map pixels_of (range_with_len (0 + (y + 1)) rest) in
-    let whole : front ++ flat_map text (canvas_of board.width (y + 1) (seen board)) ++ flat_map text others
+    let whole : front ++ flat_map text (canvas_of board.width (y + 1) (seen board))
+    ++ flat_map text others
     ≡ front ++ flat_map text (canvas_of board.width board.height (seen board)) =
-    append_assoc front (flat_map text (canvas_of board.width (y + 1) (seen board))) (flat_map text others)
-    ∙ ap (λ l. front ++ l) (sym (flat_map-append text (canvas_of board.width (y + 1) (seen board)) others)
+    append_assoc front (flat_map text (canvas_of board.width (y + 1) (seen board)))
+    (flat_map text others)
+    ∙ ap (λ l. front ++ l) (sym (flat_map-append text (canvas_of board.width (y + 1) (seen board))
+    others)
     ∙ ap (flat_map text) (sym (canvas_split board.width (y + 1) rest (seen board))
     ∙ ap (λ n. canvas_of board.width n (seen board)) all)) in
     subst (GrowsByPrefix a b) whole

@@ -16,7 +16,8 @@ use dp_plain::BoardView;
 /// How deep groups are nested at most.
 pub(crate) const LEVELS: usize = 16;
 
-/// How many rows of pixels the drawing of the picture's rows takes: one for the root's rows, and one
+/// How many rows of pixels the drawing of the picture's rows takes: one for the root's rows, and
+/// one
 /// for each level of groups.
 pub(crate) const ROWS: usize = LEVELS + 1;
 

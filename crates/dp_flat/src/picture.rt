@@ -54,7 +54,8 @@ impl From<AllocError> for PictureEnd {
 ///
 /// # Errors
 ///
-/// `Memory` where memory for 17 rows of pixels is refused: nothing was written. `Failed` where the sink
+/// `Memory` where memory for 17 rows of pixels is refused: nothing was written. `Failed` where the
+/// sink
 /// failed: a prefix of the file was written.
 pub fn write_p6<V: BoardView, S: Sink>(
     alloc: Global,
@@ -76,7 +77,8 @@ pub fn write_p6<V: BoardView, S: Sink>(
 ///
 /// # Errors
 ///
-/// `Memory` where memory for 17 rows of pixels is refused: nothing was written. `Failed` where the sink
+/// `Memory` where memory for 17 rows of pixels is refused: nothing was written. `Failed` where the
+/// sink
 /// failed: a prefix of the file was written.
 pub fn write_p3<V: BoardView, S: Sink>(
     alloc: Global,

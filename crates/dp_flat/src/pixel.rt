@@ -23,7 +23,8 @@ pub fn flatten<V: BoardView>(board: &V, x: u32, y: u32) -> Pixel
     blend(Mode::Normal, whole, Pixel::WHITE)
 }
 
-/// The pixel after the rows of the parent that aren't hidden, laid at the place on `start`, going down
+/// The pixel after the rows of the parent that aren't hidden, laid at the place on `start`, going
+/// down
 /// into groups so deep.
 #[cycle(composing)]
 fn compose_pixel<V: BoardView>(

@@ -1,4 +1,5 @@
-//! One stream of three frames, in pieces of any length, and frames of the least and greatest length.
+//! One stream of three frames, in pieces of any length, and frames of the least and greatest
+//! length.
 
 use super::*;
 use std::process::Abort;

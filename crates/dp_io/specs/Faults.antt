@@ -1,5 +1,6 @@
 -- Faults of the outside, as sources, sinks, links and stores count them.
-use Rattle.std.specs.Prelude.{◌≡◌, ℕ, ◌+◌, ◌-◌, ◌^◌, ◌<◌, ◌≤◌, min, Bool, true, List, Contains, OnOk, IfErr}
+use Rattle.std.specs.Prelude.{◌≡◌, ℕ, ◌+◌, ◌-◌, ◌^◌, ◌<◌, ◌≤◌, min, Bool, true, List, Contains}
+use Rattle.std.specs.Prelude.{OnOk, IfErr}
 use Rattle.std.specs.Bool.{OnTrue}
 use Rattle.std.specs.declared.result.Result.{Result}
 
@@ -15,9 +16,11 @@ Rose before now = one_more before ≤ now
 abbrev pub any_fault : {E : Type 0} → E → Bool
 any_fault e = true
 
--- The count of faults never falls. An error that is a fault comes only where it rose, and a call that
+-- The count of faults never falls. An error that is a fault comes only where it rose, and a call
+-- that
 -- is answered Ok leaves it.
-pub record HasCause {T E : Type 0} (is_fault : E → Bool) (before now : ℕ) (result : Result T E) : Type 0 where
+pub record HasCause {T E : Type 0} (is_fault : E → Bool) (before now : ℕ) (result : Result T E) :
+    Type 0 where
   pub later : before ≤ now
   pub failed : IfErr result (λ e. OnTrue (is_fault e) (Rose before now))
   pub kept : OnOk result (now ≡ before)

@@ -37,8 +37,10 @@ impl Model for MemSink {
 }
 
 impl MemSink {
-    /// An empty sink for at most `room` bytes, whose memory it takes here, and at most `piece` bytes
-    /// a call. It fails at the calls whose numbers, counted from 1, are in `fails`. The only error is
+    /// An empty sink for at most `room` bytes, whose memory it takes here, and at most `piece`
+    /// bytes
+    /// a call. It fails at the calls whose numbers, counted from 1, are in `fails`. The only error
+    /// is
     /// out of memory.
     pub fn new(
         alloc: Global,

@@ -25,7 +25,8 @@ pub trait Source {
     ///
     /// # Errors
     ///
-    /// `Failed` comes only where the count of faults rose in this call, and takes no byte. `Ok` leaves
+    /// `Failed` comes only where the count of faults rose in this call, and takes no byte. `Ok`
+    /// leaves
     /// the count.
     fn read(&mut self, buf: &mut [u8]) -> Result<usize, Failed>
         ensures bound { ReadsAtMost result buf.new }

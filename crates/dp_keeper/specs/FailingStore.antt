@@ -2,7 +2,8 @@
 use Rattle.std.specs.Prelude.{ℕ, Bool, List}
 use Rattle.dp_keeper.specs.declared.row.Row.{Row}
 
--- The rows; which calls fail, by their numbers from 1, and beside those of put whether the row is kept;
+-- The rows; which calls fail, by their numbers from 1, and beside those of put whether the row is
+-- kept;
 -- how many calls were made; and how many of them failed.
 pub record Failing : Type 0 where
   pub rows : List Row

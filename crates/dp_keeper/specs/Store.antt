@@ -10,9 +10,11 @@ use Rattle.dp_keeper.specs.declared.keeper.KeepError.TheVariants.{Failed, Memory
 abbrev pub with_row : Row → Option (List Row) → Option (List Row)
 with_row row known = option_map (λ rows. rows ++ row ∷ []) known
 
--- what a put does: it adds the row; it failed, with the row or without it; or memory ran out, and it did
+-- what a put does: it adds the row; it failed, with the row or without it; or memory ran out, and
+-- it did
 -- nothing
-abbrev pub Puts : {T : Type 0} → Option (List Row) → Row → Result T KeepError → Option (List Row) → Type 0
+abbrev pub Puts : {T : Type 0} → Option (List Row) → Row → Result T KeepError → Option (List Row)
+    → Type 0
 Puts old row (Ok done) new = new ≡ with_row row old
 Puts old row (Err Failed) new = (new ≡ old) ⊎ (new ≡ with_row row old)
 Puts old row (Err Memory) new = new ≡ old

@@ -15,7 +15,8 @@ pub enum KeepError {
     Memory,
 }
 
-/// A store of rows. It counts its faults; what it holds is told where a file's content can be known.
+/// A store of rows. It counts its faults; what it holds is told where a file's content can be
+/// known.
 pub trait Keeper {
     /// The rows, where they are told.
     ghost held: { Self → Option (List Kept) };
@@ -27,7 +28,8 @@ pub trait Keeper {
     ///
     /// # Errors
     ///
-    /// `Failed` where the store failed: the row may have been added. `Memory` where memory ran out: it
+    /// `Failed` where the store failed: the row may have been added. `Memory` where memory ran out:
+    /// it
     /// was not.
     fn put(&mut self, row: &Row) -> Result<(), KeepError>
         ensures rows { Puts (held self.old) row.now result (held self.new) }

@@ -35,7 +35,8 @@ impl Model for MemKeeper {
 }
 
 impl MemKeeper {
-    /// A store of these rows. A call of `put` that fails keeps its row where the flag beside its number
+    /// A store of these rows. A call of `put` that fails keeps its row where the flag beside its
+    /// number
     /// is true.
     pub fn new(rows: Rows, fails: Vec<(u64, bool)>, read_fails: Vec<u64>) -> MemKeeper
         ensures { result ≡ record {

@@ -1,5 +1,7 @@
 -- What it changes of the lines to come that one of them is given.
-use Rattle.std.proofs.Common.{◌≡◌, ◌≢◌, ℕ, ◌+◌, ◌<◌, ◌==◌, inl, inr, true, false, List, [], ◌∷◌, ◌++◌, length, take, drop, Option, Some, None, Result, Ok, Err, refl, sym, ap, ◌∙◌, subst, arith, append_assoc}
+use Rattle.std.proofs.Common.{◌≡◌, ◌≢◌, ℕ, ◌+◌, ◌<◌, ◌==◌, inl, inr, true, false, List, [], ◌∷◌}
+use Rattle.std.proofs.Common.{◌++◌, length, take, drop, Option, Some, None, Result, Ok, Err, refl}
+use Rattle.std.proofs.Common.{sym, ap, ◌∙◌, subst, arith, append_assoc}
 use Rattle.std.specs.Prelude.{◌↔◌, IsTrue, IfNone, IfOk, OnOk, OnErr}
 use Rattle.std.proofs.lemmas.Bool.{cases_lt, cases_Bool, and_parts, or_from, ne_eqb, not-true}
 use Rattle.std.proofs.lemmas.List.{take_all, drop_all, nil_from_length}
@@ -7,16 +9,20 @@ use Rattle.std.proofs.lemmas.List.Elements.{All-nil}
 use Rattle.dp_lines.specs.declared.line.Line.{Line}
 use Rattle.dp_lines.specs.declared.lines.LineError.{LineError}
 use Rattle.dp_lines.specs.declared.lines.LineError.TheVariants.{Long}
-use Rattle.dp_lines.specs.Lines.{newline, Lacks, ended, open_rest, if_any, lines, is_comment, is_skipped, is_overlong, numbered}
+use Rattle.dp_lines.specs.Lines.{newline, Lacks, ended, open_rest, if_any, lines, is_comment}
+use Rattle.dp_lines.specs.Lines.{is_skipped, is_overlong, numbered}
 use Rattle.dp_lines.specs.Held.{Held, ended_from, lines_from, given, NextIsLong}
 use Rattle.dp_lines.specs.Taken.{first_line, behind_first, Keeps, IsEnd}
-use Rattle.dp_lines.proofs.Numbering.{numbered-append, numbered_skipped, numbered_kept, lines_behind_kept}
+use Rattle.dp_lines.proofs.Numbering.{numbered-append, numbered_skipped, numbered_kept}
+use Rattle.dp_lines.proofs.Numbering.{lines_behind_kept}
 use Rattle.dp_lines.proofs.Pieces.{ended_none, rest_none}
 
 -- the lines to come are those with their newline, and then the rest
 pub lines_from_parts : (held : Held)
-    → lines_from held ≡ ended_from held ++ numbered (held.count + length (ended held.bytes)) (if_any (open_rest held.bytes))
-lines_from_parts held = numbered-append held.count (ended held.bytes) (if_any (open_rest held.bytes))
+    → lines_from held ≡ ended_from held ++ numbered (held.count + length (ended held.bytes))
+    (if_any (open_rest held.bytes))
+lines_from_parts held = numbered-append held.count (ended held.bytes)
+    (if_any (open_rest held.bytes))
 
 -- two joined lists are empty only where the first is
 front_none : (front behind : List Line) → front ++ behind ≡ [] → front ≡ []
@@ -29,11 +35,13 @@ pub further_lines : (front : List Line) (old new : Held) → ended_from old ≡ 
     → open_rest new.bytes ≡ open_rest old.bytes → lines_from old ≡ front ++ lines_from new
 further_lines front old new taken count rest =
     lines_from_parts old
-    ∙ ap (λ (ls : List Line). ls ++ numbered (old.count + length (ended old.bytes)) (if_any (open_rest old.bytes))) taken
+    ∙ ap (λ (ls : List Line). ls ++ numbered (old.count + length (ended old.bytes))
+    (if_any (open_rest old.bytes))) taken
     ∙ append_assoc front (ended_from new) _
     ∙ ap (λ (ls : List Line). front ++ ls)
     (ap (λ (n : ℕ). ended_from new ++ numbered n (if_any (open_rest old.bytes))) (sym count)
-    ∙ ap (λ (b : List ℕ). ended_from new ++ numbered (new.count + length (ended new.bytes)) (if_any b)) (sym rest)
+    ∙ ap (λ (b : List ℕ). ended_from new ++ numbered (new.count + length (ended new.bytes))
+    (if_any b)) (sym rest)
     ∙ sym (lines_from_parts new))
 
 -- where no line is to come, none with its newline is
@@ -44,17 +52,20 @@ pub lines_kept : (old new : Held) → Keeps old new → lines_from old ≡ lines
 lines_kept old new keeps = further_lines [] old new (sym keeps.lines) keeps.count keeps.rest
 
 -- a line is given exactly where it is taken off in front
-pub given_line : (from : Held → List Line) (held new behind : Held) (line : Line) (r : Result (Option Line) LineError)
+pub given_line : (from : Held → List Line) (held new behind : Held) (line : Line)
+    (r : Result (Option Line) LineError)
     → from held ≡ line ∷ from behind → IfOk r (λ next. next ≡ Some line) → OnOk r (new ≡ behind)
     → OnErr r (new ≡ held) → from held ≡ given r ++ from new
 given_line from held new behind line (Ok (Some other)) first is taken left =
     let same : other ≡ line = cc in
-    first ∙ ap (λ (l : Line). l ∷ from behind) (sym same) ∙ ap (λ (h : Held). other ∷ from h) (sym taken)
+    first ∙ ap (λ (l : Line). l ∷ from behind) (sym same)
+    ∙ ap (λ (h : Held). other ∷ from h) (sym taken)
 given_line from held new behind line (Ok None) first is taken left = absurd (cc)
 given_line from held new behind line (Err error) first is taken left = ap from (sym left)
 
 -- what is the same after the line is the same after the call
-pub same_after : {A : Type 0} (of : Held → A) (held new behind : Held) (r : Result (Option Line) LineError)
+pub same_after : {A : Type 0} (of : Held → A) (held new behind : Held)
+    (r : Result (Option Line) LineError)
     → of behind ≡ of held → OnOk r (new ≡ behind) → OnErr r (new ≡ held) → of new ≡ of held
 same_after of held new behind (Ok next) same taken left = ap of taken ∙ same
 same_after of held new behind (Err error) same taken left = ap of left
@@ -77,7 +88,8 @@ next_is : (a b : Line) (more others : List Line) → a ∷ more ≡ b ∷ others
 next_is a b more others same = cc
 
 -- the call says that the next line is too long exactly where it is
-pub long_next : (held : Held) (line : Line) (behind : List Line) (r : Result (Option Line) LineError)
+pub long_next : (held : Held) (line : Line) (behind : List Line)
+    (r : Result (Option Line) LineError)
     → lines_from held ≡ line ∷ behind
     → ((n : ℕ) → (r ≡ Err (Long n)) ↔ (IsTrue (is_overlong line.bytes) × (n ≡ line.number)))
     → (n : ℕ) → (r ≡ Err (Long n)) ↔ NextIsLong held n
@@ -92,7 +104,8 @@ long_next held line behind r first says n = (
       },
   λ next.
       let same = next_is line next.line behind next.behind (sym first ∙ next.next) in
-      (says n).1 (subst (λ (l : Line). IsTrue (is_overlong l.bytes) × (n ≡ l.number)) (sym same) (next.long, sym next.number)),
+      (says n).1 (subst (λ (l : Line). IsTrue (is_overlong l.bytes) × (n ≡ l.number)) (sym same)
+      (next.long, sym next.number)),
 )
 
 -- where no line is to come, none is too long
@@ -125,7 +138,8 @@ pub first_of_lines : (held : Held) (len : ℕ) → IsEnd held.bytes len
 first_of_lines held len end kept = (
   _,
   lines_from_parts held
-      ∙ ap (λ (ls : List Line). ls ++ numbered (held.count + length (ended held.bytes)) (if_any (open_rest held.bytes)))
+      ∙ ap (λ (ls : List Line). ls ++ numbered (held.count + length (ended held.bytes))
+      (if_any (open_rest held.bytes)))
       (lines_behind_kept held len end kept),
 )
 
@@ -150,7 +164,8 @@ line_of_rest bytes lacks some = lines_of_rest bytes lacks ∙ if_any_some bytes 
 -- no bytes are left after all of them
 pub none_behind : (held : Held) → lines_from (behind_first held (length held.bytes)) ≡ []
 none_behind held =
-    ap (λ (b : List ℕ). numbered (held.count + 1) (lines b)) (drop_all (length held.bytes) held.bytes (omega arith))
+    ap (λ (b : List ℕ). numbered (held.count + 1) (lines b))
+    (drop_all (length held.bytes) held.bytes (omega arith))
     ∙ ap (numbered (held.count + 1)) no_lines
 
 -- bytes without a newline have no ended line to come
@@ -159,7 +174,8 @@ none_ended held lacks = ap (numbered held.count) (ended_none held.bytes lacks)
 
 -- the rest counts as one line
 pub rest_counted : (held : Held) → Lacks newline held.bytes → 0 < length held.bytes
-    → held.count + 1 + length (lines (drop (length held.bytes) held.bytes)) ≡ held.count + length (lines held.bytes)
+    → held.count + 1 + length (lines (drop (length held.bytes) held.bytes))
+    ≡ held.count + length (lines held.bytes)
 rest_counted held lacks some =
     let none = ap lines (drop_all (length held.bytes) held.bytes (omega arith)) ∙ no_lines in
     omega (arith, ap length none, ap length (line_of_rest held.bytes lacks some))
@@ -177,7 +193,8 @@ pub kept_rest : (held : Held) → Lacks newline held.bytes → 0 < length held.b
 kept_rest held lacks some kept =
     ap (numbered held.count) (line_of_rest held.bytes lacks some)
     ∙ numbered_kept held.count held.bytes [] kept
-    ∙ ap (λ (b : List ℕ). let l : Line = record { number = held.count + 1; bytes = b } in l ∷ []) (sym (take_all (length held.bytes) held.bytes (omega arith)))
+    ∙ ap (λ (b : List ℕ). let l : Line = record { number = held.count + 1; bytes = b } in l ∷ [])
+    (sym (take_all (length held.bytes) held.bytes (omega arith)))
 
 -- a rest that is too long has bytes, and isn't passed over
 pub long_is_kept : (line : List ℕ) → is_overlong line ≡ true
@@ -185,7 +202,8 @@ pub long_is_kept : (line : List ℕ) → is_overlong line ≡ true
 long_is_kept [] long = absurd (cc (long))
 long_is_kept (byte ∷ more) long = (
   omega arith,
-  or_from (length (byte ∷ more) == 0) (is_comment (byte ∷ more)) (ne_eqb (length (byte ∷ more)) 0 (λ none. omega arith))
+  or_from (length (byte ∷ more) == 0) (is_comment (byte ∷ more))
+      (ne_eqb (length (byte ∷ more)) 0 (λ none. omega arith))
       (not-true (is_comment (byte ∷ more)) (and_parts _ _ long).0),
 )
 
@@ -212,16 +230,25 @@ next_in_rest held lacks line behind next = elim (cases_lt 0 (length held.bytes))
     | inl skipped ↦ absurd (cc (next, skipped_rest held lacks some skipped))
     | inr kept ↦
         next_is line _ behind []
-        (sym next ∙ ap (numbered held.count) (line_of_rest held.bytes lacks some) ∙ numbered_kept held.count held.bytes [] kept)
+        (sym next ∙ ap (numbered held.count) (line_of_rest held.bytes lacks some)
+        ∙ numbered_kept held.count held.bytes [] kept)
   ]
   | inr none ↦
       let empty = nil_from_length held.bytes (omega arith) in
-      absurd (cc (next, ap (λ (b : List ℕ). numbered held.count (lines b)) empty, ap (numbered held.count) no_lines))
+      absurd (cc (
+        next,
+        ap (λ (b : List ℕ). numbered held.count (lines b)) empty,
+        ap
+            (numbered held.count) no_lines,
+      ))
 ]
 
 -- it is too long and has the next number exactly where the call says so
 pub long_in_rest : (held : Held) → Lacks newline held.bytes → (n : ℕ) → NextIsLong held n
     → (IsTrue (is_overlong held.bytes)) × (n ≡ held.count + 1)
 long_in_rest held lacks n next =
-    let is = next_in_rest held lacks next.line next.behind next.next in
-    (subst (λ (l : Line). IsTrue (is_overlong l.bytes)) is next.long, sym next.number ∙ ap (λ (l : Line). l.number) is)
+    let is = next_in_rest held lacks next.line next.behind next.next in (
+      subst (λ (l : Line). IsTrue (is_overlong l.bytes)) is next.long,
+      sym next.number
+          ∙ ap (λ (l : Line). l.number) is,
+    )

@@ -1,5 +1,6 @@
 -- What is left of a text, piece by piece.
-use Rattle.std.proofs.Common.{◌≡◌, ℕ, ◌+◌, List, ◌++◌, length, sym, ap, ◌∙◌, arith, append_assoc, length-append}
+use Rattle.std.proofs.Common.{◌≡◌, ℕ, ◌+◌, List, ◌++◌, length, sym, ap, ◌∙◌, arith, append_assoc}
+use Rattle.std.proofs.Common.{length-append}
 use Rattle.dp_lines.specs.declared.line.Line.{Line}
 use Rattle.dp_lines.specs.Lines.{ended, open_rest, if_any, lines, numbered}
 use Rattle.dp_lines.specs.Held.{Held, ended_from, lines_from, IsLeft}
@@ -10,12 +11,15 @@ use Rattle.dp_lines.proofs.Pieces.{ended-append, rest-append}
 -- the lines of what was fed, with more lines after them
 pub lines_behind : (all : List ℕ) (done : List Line) (held : Held) (behind : List (List ℕ))
     → IsLeft all done held
-    → numbered 0 (ended all ++ behind) ≡ done ++ (ended_from held ++ numbered (held.count + length (ended held.bytes)) behind)
+    → numbered 0 (ended all ++ behind) ≡ done ++ (ended_from held
+    ++ numbered (held.count + length (ended held.bytes)) behind)
 lines_behind all done held behind left =
-    let count : 0 + length (ended all) ≡ held.count + length (ended held.bytes) = omega (arith, left.count) in
+    let count : 0 + length (ended all) ≡ held.count + length (ended held.bytes) = omega
+    (arith, left.count) in
     numbered-append 0 (ended all) behind
     ∙ ap (λ (n : ℕ). numbered 0 (ended all) ++ numbered n behind) count
-    ∙ ap (λ (ls : List Line). ls ++ numbered (held.count + length (ended held.bytes)) behind) left.whole
+    ∙ ap (λ (ls : List Line). ls ++ numbered (held.count + length (ended held.bytes)) behind)
+    left.whole
     ∙ append_assoc done (ended_from held) _
 
 -- more is fed
@@ -35,9 +39,20 @@ left_behind_feed all more done old new left bytes count fed =
           ∙ ap (λ (ls : List (List ℕ)). numbered old.count ls) (sym grown)
           ∙ ap (λ (n : ℕ). numbered n (ended new.bytes)) (sym count));
       rest =
-          rest-append all more ∙ ap open_rest rest ∙ sym (rest-append old.bytes more) ∙ ap open_rest (sym bytes);
+          rest-append all more ∙ ap open_rest rest ∙ sym (rest-append old.bytes more)
+          ∙ ap open_rest (sym bytes);
       count =
-          omega (arith, ap length alls, length-append (ended all) (ended (open_rest old.bytes ++ more)), ap length grown, length-append (ended old.bytes) (ended (open_rest old.bytes ++ more)), left.count, count);
+          omega (
+            arith,
+            ap length alls,
+            length-append (ended all)
+                (ended (open_rest old.bytes ++ more)),
+            ap length grown,
+            length-append
+                (ended old.bytes) (ended (open_rest old.bytes ++ more)),
+            left.count,
+            count,
+          );
       fed = omega (arith, fed, left.fed, length-append all more);
     }
 
@@ -60,5 +75,6 @@ pub left_at_end : (all : List ℕ) (done : List Line) (held : Held) → IsLeft a
     → numbered 0 (lines all) ≡ done ++ lines_from held
 left_at_end all done held left =
     lines_behind all done held (if_any (open_rest all)) left
-    ∙ ap (λ (b : List ℕ). done ++ (ended_from held ++ numbered (held.count + length (ended held.bytes)) (if_any b))) left.rest
+    ∙ ap (λ (b : List ℕ). done ++ (ended_from held ++ numbered
+    (held.count + length (ended held.bytes)) (if_any b))) left.rest
     ∙ ap (λ (ls : List Line). done ++ ls) (sym (lines_from_parts held))

@@ -1,5 +1,6 @@
 -- The numbers of lines, and what is held.
-use Rattle.std.proofs.Common.{◌≡◌, ℕ, suc, ◌+◌, inl, inr, true, false, List, [], ◌∷◌, ◌++◌, length, take, drop, refl, sym, ap, ◌∙◌, arith}
+use Rattle.std.proofs.Common.{◌≡◌, ℕ, suc, ◌+◌, inl, inr, true, false, List, [], ◌∷◌, ◌++◌, length}
+use Rattle.std.proofs.Common.{take, drop, refl, sym, ap, ◌∙◌, arith}
 use Rattle.std.proofs.lemmas.Bool.{cases_Bool, cond-true, cond-false}
 use Rattle.std.proofs.lemmas.List.{take-append-drop, drop_more}
 use Rattle.dp_lines.specs.declared.line.Line.{Line}
@@ -24,15 +25,18 @@ pub numbered-append : (n : ℕ) (front behind : List (List ℕ))
 numbered-append n [] behind = ap (λ (k : ℕ). numbered k behind) (omega arith)
 numbered-append n (line ∷ front) behind =
     let on : n + 1 + length front ≡ n + suc (length front) = omega arith in
-    let rest = numbered-append (n + 1) front behind ∙ ap (λ (k : ℕ). numbered (n + 1) front ++ numbered k behind) on in
+    let rest = numbered-append (n + 1) front behind ∙ ap
+    (λ (k : ℕ). numbered (n + 1) front ++ numbered k behind) on in
     elim (cases_Bool (is_skipped line)) [
       | inl skipped ↦
           numbered_skipped n line (front ++ behind) skipped ∙ rest
-          ∙ ap (λ (ls : List Line). ls ++ numbered (n + suc (length front)) behind) (sym (numbered_skipped n line front skipped))
+          ∙ ap (λ (ls : List Line). ls ++ numbered (n + suc (length front)) behind)
+          (sym (numbered_skipped n line front skipped))
       | inr kept ↦
           numbered_kept n line (front ++ behind) kept
           ∙ ap (λ (ls : List Line). record { number = n + 1; bytes = line } ∷ ls) rest
-          ∙ ap (λ (ls : List Line). ls ++ numbered (n + suc (length front)) behind) (sym (numbered_kept n line front kept))
+          ∙ ap (λ (ls : List Line). ls ++ numbered (n + suc (length front)) behind)
+          (sym (numbered_kept n line front kept))
     ]
 
 -- the bytes around the first newline
@@ -47,12 +51,14 @@ around_end bytes len end =
 pub ended_first : (bytes : List ℕ) (len : ℕ) → IsEnd bytes len
     → ended bytes ≡ take len bytes ∷ ended (drop (len + 1) bytes)
 ended_first bytes len end =
-    ap ended (around_end bytes len end) ∙ ended_at (take len bytes) (drop (len + 1) bytes) end.before
+    ap ended (around_end bytes len end) ∙ ended_at (take len bytes) (drop (len + 1) bytes)
+    end.before
 
 pub rest_behind : (bytes : List ℕ) (len : ℕ) → IsEnd bytes len
     → open_rest bytes ≡ open_rest (drop (len + 1) bytes)
 rest_behind bytes len end =
-    ap open_rest (around_end bytes len end) ∙ rest_at (take len bytes) (drop (len + 1) bytes) end.before
+    ap open_rest (around_end bytes len end) ∙ rest_at (take len bytes) (drop (len + 1) bytes)
+    end.before
 
 -- nothing was taken
 pub keeps_itself : (held : Held) → Keeps held held
@@ -69,7 +75,8 @@ keeps_further old held new first second = record {
 
 -- taking the first line, with its newline, counts it
 pub first_counted : (held : Held) (len : ℕ) → IsEnd held.bytes len
-    → held.count + 1 + length (ended (drop (len + 1) held.bytes)) ≡ held.count + length (ended held.bytes)
+    → held.count + 1 + length (ended (drop (len + 1) held.bytes))
+    ≡ held.count + length (ended held.bytes)
 first_counted held len end = omega (arith, ap length (ended_first held.bytes len end))
 
 -- so does taking one that is passed over, which changes nothing of the lines to come
@@ -78,7 +85,8 @@ pub keeps_behind_skipped : (held : Held) (len : ℕ) → IsEnd held.bytes len
 keeps_behind_skipped held len end skipped = record {
   lines =
       sym (ap (numbered held.count) (ended_first held.bytes len end)
-      ∙ numbered_skipped held.count (take len held.bytes) (ended (drop (len + 1) held.bytes)) skipped);
+      ∙ numbered_skipped held.count (take len held.bytes) (ended (drop (len + 1) held.bytes))
+      skipped);
   count = first_counted held len end;
   rest = sym (rest_behind held.bytes len end);
   fed = refl;

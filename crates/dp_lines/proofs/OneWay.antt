@@ -1,10 +1,12 @@
 -- Bytes have their parts, and their lines, in one way.
-use Rattle.std.proofs.Common.{◌≡◌, ◌≢◌, ℕ, List, [], ◌∷◌, ◌++◌, length, refl, sym, ap, ◌∙◌, subst, arith, append_assoc}
+use Rattle.std.proofs.Common.{◌≡◌, ◌≢◌, ℕ, List, [], ◌∷◌, ◌++◌, length, refl, sym, ap, ◌∙◌, subst}
+use Rattle.std.proofs.Common.{arith, append_assoc}
 use Rattle.std.specs.List.{All, flat_map, join_with_byte}
 use Rattle.std.proofs.lemmas.List.Elements.{All-nil, All-cons, All-head, All-tail, All-same}
 use Rattle.std.proofs.lemmas.List.Splits.{join_with_byte-slice_split}
 use Rattle.dp_lines.specs.Lines.{newline, pieces, Lacks, ended, open_rest}
-use Rattle.dp_lines.proofs.Pieces.{Parts, parts_of, last, next, pieces_lacking, pieces_at, some_piece, ended_none, rest_none, ended_at, rest_at}
+use Rattle.dp_lines.proofs.Pieces.{Parts, parts_of, last, next, pieces_lacking, pieces_at}
+use Rattle.dp_lines.proofs.Pieces.{some_piece, ended_none, rest_none, ended_at, rest_at}
 
 pub join-pieces : (separator : ℕ) (bytes : List ℕ)
     → join_with_byte separator (pieces separator bytes) ≡ bytes
@@ -17,12 +19,14 @@ pieces_some separator bytes none = omega (arith, some_piece separator bytes, ap 
 lacking_parts : (separator : ℕ) (bytes : List ℕ) → Parts separator bytes
     → All (Lacks separator) (pieces separator bytes)
 lacking_parts separator _ (last bytes lacks) =
-    All-same (Lacks separator) (pieces separator bytes) (bytes ∷ []) (pieces_lacking separator bytes lacks)
+    All-same (Lacks separator) (pieces separator bytes) (bytes ∷ [])
+    (pieces_lacking separator bytes lacks)
     (All-cons (Lacks separator) bytes [] lacks (All-nil (Lacks separator)))
 lacking_parts separator _ (next bytes part behind whole lacks parts) =
     All-same (Lacks separator) (pieces separator bytes) (part ∷ pieces separator behind)
     (ap (pieces separator) whole ∙ pieces_at separator part behind lacks)
-    (All-cons (Lacks separator) part (pieces separator behind) lacks (lacking_parts separator behind parts))
+    (All-cons (Lacks separator) part (pieces separator behind) lacks
+    (lacking_parts separator behind parts))
 
 pub pieces_lack : (separator : ℕ) (bytes : List ℕ) → All (Lacks separator) (pieces separator bytes)
 pieces_lack separator bytes = lacking_parts separator bytes (parts_of separator bytes)
@@ -31,11 +35,14 @@ pieces_lack separator bytes = lacking_parts separator bytes (parts_of separator 
 pub pieces-join : (separator : ℕ) (parts : List (List ℕ)) → parts ≢ [] → All (Lacks separator) parts
     → pieces separator (join_with_byte separator parts) ≡ parts
 pieces-join separator [] some lack = absurd (some refl)
-pieces-join separator (part ∷ []) some lack = pieces_lacking separator part (All-head (Lacks separator) part [] lack)
+pieces-join separator (part ∷ []) some lack = pieces_lacking separator part
+    (All-head (Lacks separator) part [] lack)
 pieces-join separator (part ∷ other ∷ more) some lack =
-    pieces_at separator part (join_with_byte separator (other ∷ more)) (All-head (Lacks separator) part (other ∷ more) lack)
+    pieces_at separator part (join_with_byte separator (other ∷ more))
+    (All-head (Lacks separator) part (other ∷ more) lack)
     ∙ ap (λ (ps : List (List ℕ)). part ∷ ps)
-    (pieces-join separator (other ∷ more) (λ none. cc (none)) (All-tail (Lacks separator) part (other ∷ more) lack))
+    (pieces-join separator (other ∷ more) (λ none. cc (none))
+    (All-tail (Lacks separator) part (other ∷ more) lack))
 
 -- a line with its newline
 abbrev with_end : List ℕ → List ℕ
@@ -50,7 +57,8 @@ whole_parts : (bytes : List ℕ) → Parts newline bytes
     → bytes ≡ flat_map (λ line. line ++ newline ∷ []) (ended bytes) ++ open_rest bytes
 whole_parts _ (last bytes lacks) =
     sym (rest_none bytes lacks)
-    ∙ ap (λ (ls : List (List ℕ)). flat_map (λ line. line ++ newline ∷ []) ls ++ open_rest bytes) (sym (ended_none bytes lacks))
+    ∙ ap (λ (ls : List (List ℕ)). flat_map (λ line. line ++ newline ∷ []) ls ++ open_rest bytes)
+    (sym (ended_none bytes lacks))
 whole_parts _ (next bytes line behind whole lacks parts) =
     let flat = flat_map (λ line. line ++ newline ∷ []) in
     let ends = ap ended whole ∙ ended_at line behind lacks in
@@ -71,7 +79,8 @@ lacking_lines : (bytes : List ℕ) → Parts newline bytes → All (Lacks newlin
 lacking_lines _ (last bytes lacks) =
     All-same (Lacks newline) (ended bytes) [] (ended_none bytes lacks) (All-nil (Lacks newline))
 lacking_lines _ (next bytes line behind whole lacks parts) =
-    All-same (Lacks newline) (ended bytes) (line ∷ ended behind) (ap ended whole ∙ ended_at line behind lacks)
+    All-same (Lacks newline) (ended bytes) (line ∷ ended behind)
+    (ap ended whole ∙ ended_at line behind lacks)
     (All-cons (Lacks newline) line (ended behind) lacks (lacking_lines behind parts))
 
 pub ended_lack : (bytes : List ℕ) → All (Lacks newline) (ended bytes)
@@ -81,7 +90,8 @@ ended_lack bytes = lacking_lines bytes (parts_of newline bytes)
 lacking_rest : (bytes : List ℕ) → Parts newline bytes → Lacks newline (open_rest bytes)
 lacking_rest _ (last bytes lacks) = subst (Lacks newline) (sym (rest_none bytes lacks)) lacks
 lacking_rest _ (next bytes line behind whole lacks parts) =
-    subst (Lacks newline) (sym (ap open_rest whole ∙ rest_at line behind lacks)) (lacking_rest behind parts)
+    subst (Lacks newline) (sym (ap open_rest whole ∙ rest_at line behind lacks))
+    (lacking_rest behind parts)
 
 pub rest_lacks : (bytes : List ℕ) → Lacks newline (open_rest bytes)
 rest_lacks bytes = lacking_rest bytes (parts_of newline bytes)
@@ -89,13 +99,16 @@ rest_lacks bytes = lacking_rest bytes (parts_of newline bytes)
 -- lines with newlines and a rest are the lines and the rest of their bytes
 pub lines_only : (lines : List (List ℕ)) (rest : List ℕ) → All (Lacks newline) lines
     → Lacks newline rest
-    → (ended (flat_map (λ line. line ++ newline ∷ []) lines ++ rest) ≡ lines) × (open_rest (flat_map (λ line. line ++ newline ∷ []) lines ++ rest) ≡ rest)
+    → (ended (flat_map (λ line. line ++ newline ∷ []) lines ++ rest) ≡ lines)
+    × (open_rest (flat_map (λ line. line ++ newline ∷ []) lines ++ rest) ≡ rest)
 lines_only [] rest lack lacks = (ended_none rest lacks, rest_none rest lacks)
 lines_only (line ∷ lines) rest lack lacks =
     let flat = flat_map (λ line. line ++ newline ∷ []) in
     let head = All-head (Lacks newline) line lines lack in
     let behind = lines_only lines rest (All-tail (Lacks newline) line lines lack) lacks in
-    let bytes = append_assoc (line ++ newline ∷ []) (flat lines) rest ∙ one_line line (flat lines ++ rest) in (
-      ap ended bytes ∙ ended_at line (flat lines ++ rest) head ∙ ap (λ (ls : List (List ℕ)). line ∷ ls) behind.0,
+    let bytes = append_assoc (line ++ newline ∷ []) (flat lines) rest
+    ∙ one_line line (flat lines ++ rest) in (
+      ap ended bytes ∙ ended_at line (flat lines ++ rest) head
+          ∙ ap (λ (ls : List (List ℕ)). line ∷ ls) behind.0,
       ap open_rest bytes ∙ rest_at line (flat lines ++ rest) head ∙ behind.1,
     )

@@ -1,5 +1,6 @@
 -- The pieces of a list of bytes, and the lines among them.
-use Rattle.std.proofs.Common.{◌≡◌, ◌≢◌, ℕ, suc, ◌-◌, ◌<◌, ◌==◌, inl, inr, false, List, [], ◌∷◌, ◌++◌, length, take, get_or, refl, sym, ap, ◌∙◌, arith, append_assoc}
+use Rattle.std.proofs.Common.{◌≡◌, ◌≢◌, ℕ, suc, ◌-◌, ◌<◌, ◌==◌, inl, inr, false, List, [], ◌∷◌}
+use Rattle.std.proofs.Common.{◌++◌, length, take, get_or, refl, sym, ap, ◌∙◌, arith, append_assoc}
 use Rattle.std.specs.List.{All}
 use Rattle.std.proofs.lemmas.Bool.{ne_eqb, eq-eqb, cases_eq}
 use Rattle.std.proofs.lemmas.List.Elements.{All-nil, All-cons}
@@ -21,7 +22,8 @@ pieces_lacking separator bytes lacks =
 pub pieces_at : (separator : ℕ) (part more : List ℕ) → Lacks separator part
     → pieces separator (part ++ separator ∷ more) ≡ part ∷ pieces separator more
 pieces_at separator part more lacks =
-    slice_split_at (λ byte. byte == separator) part separator more (tests_fail separator part lacks) (eq-eqb separator separator refl)
+    slice_split_at (λ byte. byte == separator) part separator more (tests_fail separator part lacks)
+    (eq-eqb separator separator refl)
 
 -- there is a part
 pub some_piece : (separator : ℕ) (bytes : List ℕ) → 0 < length (pieces separator bytes)
@@ -30,7 +32,8 @@ some_piece separator bytes = omega (arith, length-slice_split (λ byte. byte == 
 -- the bytes are parts, each but the last with the separator after it
 pub data Parts (separator : ℕ) : List ℕ → Type 0 where
   last : (bytes : List ℕ) → Lacks separator bytes → Parts separator bytes
-  next : (bytes part behind : List ℕ) → bytes ≡ part ++ separator ∷ behind → Lacks separator part → Parts separator behind → Parts separator bytes
+  next : (bytes part behind : List ℕ) → bytes ≡ part ++ separator ∷ behind → Lacks separator part
+      → Parts separator behind → Parts separator bytes
 
 -- one byte more in front that is no separator
 longer : (separator byte : ℕ) (bytes : List ℕ) → byte ≢ separator → Parts separator bytes
@@ -38,13 +41,15 @@ longer : (separator byte : ℕ) (bytes : List ℕ) → byte ≢ separator → Pa
 longer separator byte _ other (last bytes lacks) =
     last (byte ∷ bytes) (All-cons (λ b. b ≢ separator) byte bytes other lacks)
 longer separator byte _ other (next bytes part behind whole lacks rest) =
-    next (byte ∷ bytes) (byte ∷ part) behind (ap (λ (b : List ℕ). byte ∷ b) whole) (All-cons (λ b. b ≢ separator) byte part other lacks) rest
+    next (byte ∷ bytes) (byte ∷ part) behind (ap (λ (b : List ℕ). byte ∷ b) whole)
+    (All-cons (λ b. b ≢ separator) byte part other lacks) rest
 
 -- all bytes are such parts
 pub parts_of : (separator : ℕ) (bytes : List ℕ) → Parts separator bytes
 parts_of separator [] = last [] (All-nil (λ byte. byte ≢ separator))
 parts_of separator (byte ∷ bytes) = elim (cases_eq byte separator) [
-  | inl same ↦ next (byte ∷ bytes) [] bytes (ap (λ (b : ℕ). b ∷ bytes) same) (All-nil (λ b. b ≢ separator)) (parts_of separator bytes)
+  | inl same ↦ next (byte ∷ bytes) [] bytes (ap (λ (b : ℕ). b ∷ bytes) same)
+      (All-nil (λ b. b ≢ separator)) (parts_of separator bytes)
   | inr other ↦ longer separator byte bytes other (parts_of separator bytes)
 ]
 
@@ -82,7 +87,8 @@ pub ended_at : (line more : List ℕ) → Lacks newline line
     → ended (line ++ newline ∷ more) ≡ line ∷ ended more
 unfolding ended
 ended_at line more lacks =
-    ap all_but_last (pieces_at newline line more lacks) ∙ front_more line (pieces newline more) (some_piece newline more)
+    ap all_but_last (pieces_at newline line more lacks) ∙ front_more line (pieces newline more)
+    (some_piece newline more)
 
 -- and what stands after it has the rest
 pub rest_at : (line more : List ℕ) → Lacks newline line
@@ -97,7 +103,8 @@ ended_further : (bytes more : List ℕ) → Parts newline bytes
     → ended (bytes ++ more) ≡ ended bytes ++ ended (open_rest bytes ++ more)
 ended_further _ more (last bytes lacks) =
     ap (λ (b : List ℕ). ended (b ++ more)) (sym (rest_none bytes lacks))
-    ∙ ap (λ (ls : List (List ℕ)). ls ++ ended (open_rest bytes ++ more)) (sym (ended_none bytes lacks))
+    ∙ ap (λ (ls : List (List ℕ)). ls ++ ended (open_rest bytes ++ more))
+    (sym (ended_none bytes lacks))
 ended_further _ more (next bytes line behind whole lacks parts) =
     let longer = ap (λ (b : List ℕ). b ++ more) whole ∙ append_assoc line (newline ∷ behind) more in
     let ends = ap ended whole ∙ ended_at line behind lacks in

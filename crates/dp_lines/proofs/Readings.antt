@@ -1,7 +1,9 @@
 -- What an input of lines comes to.
-use Rattle.std.proofs.Common.{◌≡◌, ℕ, ◌⊎◌, inl, inr, List, [], ◌∷◌, ◌++◌, refl, sym, ap, ◌∙◌, subst, arith}
+use Rattle.std.proofs.Common.{◌≡◌, ℕ, ◌⊎◌, inl, inr, List, [], ◌∷◌, ◌++◌, refl, sym, ap, ◌∙◌, subst}
+use Rattle.std.proofs.Common.{arith}
 use Rattle.dp_lines.specs.declared.line.Line.{Line}
-use Rattle.dp_lines.specs.Ends.{LinesEnd, AllDone, BadLine, TooLong, AreSteps, IsDoable, StopsAt, LinesComeTo, seen}
+use Rattle.dp_lines.specs.Ends.{LinesEnd, AllDone, BadLine, TooLong, AreSteps, IsDoable, StopsAt}
+use Rattle.dp_lines.specs.Ends.{LinesComeTo, seen}
 
 -- a list with something in it is not joined to nothing
 no_front : (before behind : List Line) (line : Line) → [] ≡ before ++ line ∷ behind → ⊥
@@ -25,7 +27,11 @@ last_or_before (first ∷ done) (other ∷ before) last line behind same =
     let head : first ≡ other = cc (same) in
     let tail : done ++ last ∷ [] ≡ before ++ line ∷ behind = cc (same) in
     elim (last_or_before done before last line behind tail) [
-      | inl (dones, lasts) ↦ inl (ap (λ (l : Line). l ∷ done) head ∙ ap (λ (ls : List Line). other ∷ ls) dones, lasts)
+      | inl (dones, lasts) ↦ inl (
+        ap (λ (l : Line). l ∷ done) head
+            ∙ ap (λ (ls : List Line). other ∷ ls) dones,
+        lasts,
+      )
       | inr (others, dones) ↦
           inr (others, ap (λ (l : Line). l ∷ done) head ∙ ap (λ (ls : List Line). other ∷ ls) dones)
     ]
@@ -36,14 +42,17 @@ pub one_more_step : (IsStep : List Line → Line → Type 0) (done : List Line) 
 one_more_step IsStep done last steps doable before line behind same =
     elim (last_or_before done before last line behind same) [
       | inl (dones, lasts) ↦
-          subst (λ (l : Line). IsDoable IsStep before l) lasts (subst (λ (ls : List Line). IsDoable IsStep ls last) dones doable)
+          subst (λ (l : Line). IsDoable IsStep before l) lasts
+          (subst (λ (ls : List Line). IsDoable IsStep ls last) dones doable)
       | inr (others, dones) ↦ steps before line others dones
     ]
 
 -- two places in one list: they are one, or one of them comes first
 one_place : (all before others : List Line) (line other : Line) (behind more : List Line)
     → all ≡ before ++ line ∷ behind → all ≡ others ++ other ∷ more
-    → ((before ≡ others) × (line ≡ other)) ⊎ (((rest : List Line) × (others ≡ before ++ line ∷ rest)) ⊎ ((rest : List Line) × (before ≡ others ++ other ∷ rest)))
+    → ((before ≡ others) × (line ≡ other)) ⊎ (((rest : List Line)
+    × (others ≡ before ++ line ∷ rest)) ⊎ ((rest : List Line)
+    × (before ≡ others ++ other ∷ rest)))
 one_place all [] [] line other behind more first second =
     inl (refl, cc (sym first ∙ second))
 one_place all [] (o ∷ others) line other behind more first second =
@@ -56,11 +65,23 @@ one_place all (b ∷ before) (o ∷ others) line other behind more first second 
     let head : b ≡ o = cc (sym first ∙ second) in
     let tail : before ++ line ∷ behind ≡ others ++ other ∷ more = cc (sym first ∙ second) in
     elim (one_place (before ++ line ∷ behind) before others line other behind more refl tail) [
-      | inl (fronts, lines) ↦ inl (ap (λ (l : Line). l ∷ before) head ∙ ap (λ (ls : List Line). o ∷ ls) fronts, lines)
+      | inl (fronts, lines) ↦ inl (
+        ap (λ (l : Line). l ∷ before) head
+            ∙ ap (λ (ls : List Line). o ∷ ls) fronts,
+        lines,
+      )
       | inr (inl (rest, fronts)) ↦
-          inr (inl (rest, ap (λ (ls : List Line). o ∷ ls) fronts ∙ ap (λ (l : Line). l ∷ (before ++ line ∷ rest)) (sym head)))
+          inr (inl (
+            rest,
+            ap (λ (ls : List Line). o ∷ ls) fronts
+                ∙ ap (λ (l : Line). l ∷ (before ++ line ∷ rest)) (sym head),
+          ))
       | inr (inr (rest, fronts)) ↦
-          inr (inr (rest, ap (λ (ls : List Line). b ∷ ls) fronts ∙ ap (λ (l : Line). l ∷ (others ++ other ∷ rest)) head))
+          inr (inr (
+            rest,
+            ap (λ (ls : List Line). b ∷ ls) fronts
+                ∙ ap (λ (l : Line). l ∷ (others ++ other ∷ rest)) head,
+          ))
     ]
 
 -- lines that are all steps don't stop
@@ -72,28 +93,42 @@ no_stop IsStep all done n steps stop = stop.bad (steps done stop.line stop.behin
 one_stop : (IsStep : List Line → Line → Type 0) (all done others : List Line) (m n : ℕ)
     → StopsAt IsStep all done m → StopsAt IsStep all others n → (done ≡ others) × (m ≡ n)
 one_stop IsStep all done others m n first second =
-    elim (one_place all done others first.line second.line first.behind second.behind first.next second.next) [
-      | inl (fronts, lines) ↦ (fronts, sym first.number ∙ ap (λ (l : Line). l.number) lines ∙ second.number)
+    elim (one_place all done others first.line second.line first.behind second.behind first.next
+    second.next) [
+      | inl (fronts, lines) ↦ (
+        fronts,
+        sym first.number ∙ ap (λ (l : Line). l.number) lines
+            ∙ second.number,
+      )
       | inr (inl (rest, fronts)) ↦ absurd (first.bad (second.steps done first.line rest fronts))
       | inr (inr (rest, fronts)) ↦ absurd (second.bad (first.steps others second.line rest fronts))
     ]
 
 -- an input comes to one end, with one list of lines
-pub one_reading : (IsStep : List Line → Line → Type 0) (limit : ℕ) (bytes : List ℕ) (done others : List Line) (end last : LinesEnd)
+pub one_reading : (IsStep : List Line → Line → Type 0) (limit : ℕ) (bytes : List ℕ)
+    (done others : List Line) (end last : LinesEnd)
     → LinesComeTo IsStep limit bytes done end → LinesComeTo IsStep limit bytes others last
     → (done ≡ others) × (end ≡ last)
-one_reading IsStep limit bytes done others AllDone AllDone first second = (first.1 ∙ sym second.1, refl)
-one_reading IsStep limit bytes done others AllDone TooLong first second = absurd (omega (arith, first.0, second.0))
-one_reading IsStep limit bytes done others TooLong AllDone first second = absurd (omega (arith, first.0, second.0))
-one_reading IsStep limit bytes done others TooLong TooLong first second = (first.1 ∙ sym second.1, refl)
+one_reading IsStep limit bytes done others AllDone AllDone first second =
+    (first.1 ∙ sym second.1, refl)
+one_reading IsStep limit bytes done others AllDone TooLong first second = absurd
+    (omega (arith, first.0, second.0))
+one_reading IsStep limit bytes done others TooLong AllDone first second = absurd
+    (omega (arith, first.0, second.0))
+one_reading IsStep limit bytes done others TooLong TooLong first second =
+    (first.1 ∙ sym second.1, refl)
 one_reading IsStep limit bytes done others AllDone (BadLine n) first second =
-    absurd (no_stop IsStep (seen limit bytes) others n (subst (AreSteps IsStep) first.1 first.2) second)
+    absurd (no_stop IsStep (seen limit bytes) others n (subst (AreSteps IsStep) first.1 first.2)
+    second)
 one_reading IsStep limit bytes done others TooLong (BadLine n) first second =
-    absurd (no_stop IsStep (seen limit bytes) others n (subst (AreSteps IsStep) first.1 first.2) second)
+    absurd (no_stop IsStep (seen limit bytes) others n (subst (AreSteps IsStep) first.1 first.2)
+    second)
 one_reading IsStep limit bytes done others (BadLine n) AllDone first second =
-    absurd (no_stop IsStep (seen limit bytes) done n (subst (AreSteps IsStep) second.1 second.2) first)
+    absurd (no_stop IsStep (seen limit bytes) done n (subst (AreSteps IsStep) second.1 second.2)
+    first)
 one_reading IsStep limit bytes done others (BadLine n) TooLong first second =
-    absurd (no_stop IsStep (seen limit bytes) done n (subst (AreSteps IsStep) second.1 second.2) first)
+    absurd (no_stop IsStep (seen limit bytes) done n (subst (AreSteps IsStep) second.1 second.2)
+    first)
 one_reading IsStep limit bytes done others (BadLine m) (BadLine n) first second =
     let one = one_stop IsStep (seen limit bytes) done others m n first second in
     (one.0, ap BadLine one.1)

@@ -1,7 +1,11 @@
 -- Where the first newline of a list of bytes stands.
-use Rattle.std.proofs.Common.{◌≡◌, ◌≢◌, ℕ, ◌+◌, ◌-◌, ◌<◌, ◌≤◌, ◌==◌, inl, inr, Bool, true, not, nat_lt, Some, None, List, [], ◌∷◌, length, take, drop, get_or, sym, ap, ◌∙◌, subst, arith, length-drop, length-take, get_or-take, get_or-drop}
+use Rattle.std.proofs.Common.{◌≡◌, ◌≢◌, ℕ, ◌+◌, ◌-◌, ◌<◌, ◌≤◌, ◌==◌, inl, inr, Bool, true, not}
+use Rattle.std.proofs.Common.{nat_lt, Some, None, List, [], ◌∷◌, length, take, drop, get_or, sym}
+use Rattle.std.proofs.Common.{ap, ◌∙◌, subst, arith, length-drop, length-take, get_or-take}
+use Rattle.std.proofs.Common.{get_or-drop}
 use Rattle.std.specs.List.{All, position, position_or_len, prefix_len}
-use Rattle.std.proofs.lemmas.Bool.{eqb-true, eqb-false, cases_lt, cases_Bool, cond-true, cond-false, lt-ltb, not-true}
+use Rattle.std.proofs.lemmas.Bool.{eqb-true, eqb-false, cases_lt, cases_Bool, cond-true, cond-false}
+use Rattle.std.proofs.lemmas.Bool.{lt-ltb, not-true}
 use Rattle.std.proofs.lemmas.List.Elements.{All-nil, All-cons}
 use Rattle.std.proofs.lemmas.List.Quantifiers.{position-Some}
 use Rattle.dp_lines.specs.Lines.{newline, Lacks}
@@ -11,7 +15,11 @@ use Rattle.dp_lines.specs.Taken.{IsScanned, IsEnd}
 scanned_at : (bytes : List ℕ) (from : ℕ) → IsScanned bytes from → (k d : ℕ) → k < from
     → get_or bytes k d ≢ newline
 scanned_at bytes from scanned k d below =
-    let within : k < length (take from bytes) = omega (arith, length-take from bytes, scanned.within) in
+    let within : k < length (take from bytes) = omega (
+      arith,
+      length-take from bytes,
+      scanned.within,
+    ) in
     subst (λ (b : ℕ). b ≢ newline) (get_or-take from bytes k d below) (scanned.none k d within)
 
 -- a byte at k, seen as one after the scanned front
@@ -27,7 +35,8 @@ none_up_to : (bytes : List ℕ) (from len : ℕ) → IsScanned bytes from → le
     → get_or bytes k d ≢ newline
 none_up_to bytes from len scanned within behind k d below = elim (cases_lt k from) [
   | inl front ↦ scanned_at bytes from scanned k d front
-  | inr above ↦ subst (λ (b : ℕ). b ≢ newline) (behind_at bytes from k d above) (behind (k - from) d (omega arith))
+  | inr above ↦ subst (λ (b : ℕ). b ≢ newline) (behind_at bytes from k d above)
+      (behind (k - from) d (omega arith))
 ]
 
 -- the first newline after the scanned front is the first of all
@@ -65,7 +74,8 @@ none_found : (test : ℕ → Bool) (xs : List ℕ) → position test xs ≡ None
     → length xs ≤ position_or_len test xs
 none_found test xs none = elim (cases_lt (position_or_len test xs) (length xs)) [
   | inl below ↦
-      let found = cond-true (nat_lt (position_or_len test xs) (length xs)) (Some (position_or_len test xs)) None (lt-ltb _ _ below) in
+      let found = cond-true (nat_lt (position_or_len test xs) (length xs))
+      (Some (position_or_len test xs)) None (lt-ltb _ _ below) in
       absurd (cc (none, found))
   | inr above ↦ above
 ]
@@ -74,6 +84,7 @@ none_found test xs none = elim (cases_lt (position_or_len test xs) (length xs)) 
 pub found_none : (bytes : List ℕ) (from : ℕ) → IsScanned bytes from
     → position (λ byte. byte == newline) (drop from bytes) ≡ None → Lacks newline bytes
 found_none bytes from scanned none =
-    let pass = all_pass (λ byte. not (byte == newline)) (drop from bytes) (none_found (λ byte. byte == newline) (drop from bytes) none) in
+    let pass = all_pass (λ byte. not (byte == newline)) (drop from bytes)
+    (none_found (λ byte. byte == newline) (drop from bytes) none) in
     none_up_to bytes from (length bytes) scanned (omega arith)
     (λ k d near. eqb-false _ _ (not-true _ (pass k d (omega (arith, length-drop from bytes)))))

@@ -1,19 +1,24 @@
 -- The lines that are seen of an input, and those that are given of a prefix of it.
-use Rattle.std.proofs.Common.{◌≡◌, ◌≢◌, ℕ, ◌+◌, ◌-◌, ◌<◌, ◌≤◌, ◌⊎◌, inl, inr, true, not, cond, nat_lt, nat_le, List, [], ◌∷◌, ◌++◌, length, take, refl, sym, ap, ◌∙◌, subst, arith, append_assoc, length-append}
+use Rattle.std.proofs.Common.{◌≡◌, ◌≢◌, ℕ, ◌+◌, ◌-◌, ◌<◌, ◌≤◌, ◌⊎◌, inl, inr, true, not, cond}
+use Rattle.std.proofs.Common.{nat_lt, nat_le, List, [], ◌∷◌, ◌++◌, length, take, refl, sym, ap, ◌∙◌}
+use Rattle.std.proofs.Common.{subst, arith, append_assoc, length-append}
 use Rattle.std.specs.Prelude.{IsTrue}
 use Rattle.std.proofs.Math.Seq.{take-append-add}
-use Rattle.std.proofs.lemmas.Bool.{cases_lt, cases_Bool, cond-true, cond-false, lt-leb, le-leb, and_parts, and_from, ltb-true, lt-ltb}
+use Rattle.std.proofs.lemmas.Bool.{cases_lt, cases_Bool, cond-true, cond-false, lt-leb, le-leb}
+use Rattle.std.proofs.lemmas.Bool.{and_parts, and_from, ltb-true, lt-ltb}
 use Rattle.std.proofs.lemmas.List.{append-nil, take_at}
 use Rattle.std.proofs.lemmas.List.Elements.{All-append}
 use Rattle.dp_lines.specs.declared.line.Line.{Line}
 use Rattle.dp_lines.specs.Ends.{seen, front_lines}
 use Rattle.dp_lines.specs.Held.{Held, ended_from, lines_from, IsLeft, NextIsLong}
-use Rattle.dp_lines.specs.Lines.{newline, Lacks, line_limit, ended, open_rest, if_any, lines, is_comment, is_skipped, is_overlong, numbered}
+use Rattle.dp_lines.specs.Lines.{newline, Lacks, line_limit, ended, open_rest, if_any, lines}
+use Rattle.dp_lines.specs.Lines.{is_comment, is_skipped, is_overlong, numbered}
 use Rattle.dp_lines.proofs.Giving.{lines_from_parts, long_is_kept}
 use Rattle.dp_lines.proofs.Left.{lines_behind, left_at_end}
 use Rattle.dp_lines.proofs.Numbering.{numbered_skipped, numbered_kept}
 use Rattle.dp_lines.proofs.OneWay.{rest_lacks}
-use Rattle.dp_lines.proofs.Pieces.{Parts, parts_of, last, next, ended_none, rest_none, ended_at, ended-append, rest-append}
+use Rattle.dp_lines.proofs.Pieces.{Parts, parts_of, last, next, ended_none, rest_none, ended_at}
+use Rattle.dp_lines.proofs.Pieces.{ended-append, rest-append}
 
 -- a rest as a line, where it is too long
 abbrev pub if_long : List ℕ → List (List ℕ)
@@ -26,32 +31,38 @@ if_any_is : (rest : List ℕ) → is_overlong rest ≡ true → if_any rest ≡ 
 if_any_is [] long = absurd (cc (long))
 if_any_is (byte ∷ more) long = refl
 
--- The lines that are seen of an input of which `all` is a front: the ended ones of a longer front, and what the
+-- The lines that are seen of an input of which `all` is a front: the ended ones of a longer front,
+-- and what the
 -- rest adds, which is itself where it is too long.
 pub record Sees (limit : ℕ) (all more : List ℕ) : Type 0 where
   further : List ℕ
   tail : List ℕ → List (List ℕ)
-  whole : seen limit (all ++ more) ≡ numbered 0 (ended (all ++ further) ++ tail (open_rest (all ++ further)))
+  whole : seen limit (all ++ more) ≡ numbered 0 (ended (all ++ further)
+      ++ tail (open_rest (all ++ further)))
   long : (rest : List ℕ) → is_overlong rest ≡ true → tail rest ≡ rest ∷ []
 
 -- an input that is longer than counts is cut
 cut_at : (limit : ℕ) (bytes : List ℕ) → limit < length bytes
     → seen limit bytes ≡ numbered 0 (front_lines (take limit bytes))
-cut_at limit bytes over = ap (numbered 0) (cond-false (nat_le (length bytes) limit) _ _ (lt-leb _ _ over))
+cut_at limit bytes over = ap (numbered 0) (cond-false (nat_le (length bytes) limit) _ _
+    (lt-leb _ _ over))
 
 -- one that isn't is whole
 whole_at : (limit : ℕ) (bytes : List ℕ) → length bytes ≤ limit
     → seen limit bytes ≡ numbered 0 (lines bytes)
-whole_at limit bytes within = ap (numbered 0) (cond-true (nat_le (length bytes) limit) _ _ (le-leb _ _ within))
+whole_at limit bytes within = ap (numbered 0) (cond-true (nat_le (length bytes) limit) _ _
+    (le-leb _ _ within))
 
 sees : (limit : ℕ) (all more : List ℕ) → length all ≤ limit → Sees limit all more
 sees limit all more counts = elim (cases_lt limit (length (all ++ more))) [
   | inl over ↦
       let to : length all + (limit - length all) ≡ limit = omega arith in
-      let front = ap (λ (n : ℕ). take n (all ++ more)) (sym to) ∙ take-append-add all more (limit - length all) in record {
+      let front = ap (λ (n : ℕ). take n (all ++ more)) (sym to)
+      ∙ take-append-add all more (limit - length all) in record {
         further = take (limit - length all) more;
         tail = if_long;
-        whole = cut_at limit (all ++ more) over ∙ ap (λ (b : List ℕ). numbered 0 (front_lines b)) front;
+        whole = cut_at limit (all ++ more) over ∙ ap (λ (b : List ℕ). numbered 0 (front_lines b))
+            front;
         long = if_long_is;
       }
   | inr within ↦ record {
@@ -63,13 +74,18 @@ sees limit all more counts = elim (cases_lt limit (length (all ++ more))) [
 ]
 
 -- the lines that were given are the first that are seen, and then those that are left
-seen_behind : (limit : ℕ) (all more : List ℕ) (done : List Line) (held : Held) (s : Sees limit all more)
+seen_behind : (limit : ℕ) (all more : List ℕ) (done : List Line) (held : Held)
+    (s : Sees limit all more)
     → IsLeft all done held
-    → seen limit (all ++ more) ≡ done ++ (ended_from held ++ numbered (held.count + length (ended held.bytes)) (ended (open_rest all ++ s.further) ++ s.tail (open_rest (open_rest all ++ s.further))))
+    → seen limit (all ++ more) ≡ done ++ (ended_from held
+    ++ numbered (held.count + length (ended held.bytes))
+    (ended (open_rest all ++ s.further) ++ s.tail (open_rest (open_rest all ++ s.further))))
 seen_behind limit all more done held s left =
     s.whole
-    ∙ ap (λ (b : List ℕ). numbered 0 (ended (all ++ s.further) ++ s.tail b)) (rest-append all s.further)
-    ∙ ap (λ (ls : List (List ℕ)). numbered 0 (ls ++ s.tail (open_rest (open_rest all ++ s.further)))) (ended-append all s.further)
+    ∙ ap (λ (b : List ℕ). numbered 0 (ended (all ++ s.further) ++ s.tail b))
+    (rest-append all s.further)
+    ∙ ap (λ (ls : List (List ℕ)). numbered 0 (ls ++ s.tail
+    (open_rest (open_rest all ++ s.further)))) (ended-append all s.further)
     ∙ ap (numbered 0) (append_assoc (ended all) (ended (open_rest all ++ s.further)) _)
     ∙ lines_behind all done held _ left
 
@@ -84,10 +100,12 @@ given_seen limit all more done held left counts =
 long_on : (bytes more : List ℕ) → is_overlong bytes ≡ true → is_overlong (bytes ++ more) ≡ true
 long_on [] more long = absurd (cc (long))
 long_on (byte ∷ bytes) more long =
-    let parts = and_parts (not (is_comment (byte ∷ bytes))) (nat_lt line_limit (length (byte ∷ bytes))) long in
+    let parts = and_parts (not (is_comment (byte ∷ bytes)))
+    (nat_lt line_limit (length (byte ∷ bytes))) long in
     let longer : line_limit < length (byte ∷ (bytes ++ more)) =
     omega (arith, ltb-true line_limit (length (byte ∷ bytes)) parts.1, length-append bytes more) in
-    and_from (not (is_comment (byte ∷ (bytes ++ more)))) (nat_lt line_limit (length (byte ∷ (bytes ++ more)))) parts.0 (lt-ltb _ _ longer)
+    and_from (not (is_comment (byte ∷ (bytes ++ more))))
+    (nat_lt line_limit (length (byte ∷ (bytes ++ more)))) parts.0 (lt-ltb _ _ longer)
 
 -- a rest that is too long begins a line that is
 record Begins (lines : List (List ℕ)) : Type 0 where
@@ -105,13 +123,15 @@ begins_long rest _ tail lacks long adds (last more none) =
       first = rest ++ more;
       others = [];
       split =
-          ap (λ (ls : List (List ℕ)). ls ++ tail (open_rest (rest ++ more))) (ended_none (rest ++ more) all)
+          ap (λ (ls : List (List ℕ)). ls ++ tail (open_rest (rest ++ more)))
+          (ended_none (rest ++ more) all)
           ∙ ap tail (rest_none (rest ++ more) all) ∙ adds (rest ++ more) longer;
       long = longer;
     }
 begins_long rest _ tail lacks long adds (next more part behind whole none parts) =
     let all = All-append (λ byte. byte ≢ newline) rest part lacks none in
-    let bytes = ap (λ (b : List ℕ). rest ++ b) whole ∙ sym (append_assoc rest part (newline ∷ behind)) in record {
+    let bytes = ap (λ (b : List ℕ). rest ++ b) whole ∙ sym
+    (append_assoc rest part (newline ∷ behind)) in record {
       first = rest ++ part;
       others = ended behind ++ tail (open_rest (rest ++ more));
       split =
@@ -153,11 +173,14 @@ long_seen limit all more done held n left counts found =
     let count = held.count + length (ended held.bytes) in
     let to_come = sym (lines_from_parts held) ∙ found.next in
     let whole = seen_behind limit all more done held s left in
-    elim (first_where (ended_from held) (numbered count (if_any (open_rest held.bytes))) found.line found.behind to_come) [
+    elim (first_where (ended_from held) (numbered count (if_any (open_rest held.bytes))) found.line
+    found.behind to_come) [
       | inl (others, first) ↦ record {
         line = found.line;
         behind = _;
-        split = whole ∙ ap (λ (ls : List Line). done ++ (ls ++ numbered count (ended (open_rest all ++ s.further) ++ s.tail (open_rest (open_rest all ++ s.further))))) first;
+        split = whole ∙ ap (λ (ls : List Line). done ++ (ls
+            ++ numbered count (ended (open_rest all ++ s.further)
+            ++ s.tail (open_rest (open_rest all ++ s.further))))) first;
         long = found.long;
         number = found.number;
       }
@@ -165,15 +188,19 @@ long_seen limit all more done held n left counts found =
           let is = line_is_rest count (open_rest held.bytes) found.line found.behind first in
           let bytes = ap (λ (l : Line). l.bytes) is ∙ sym left.rest in
           let long = subst (λ (b : List ℕ). is_overlong b ≡ true) bytes found.long in
-          let begins = begins_long (open_rest all) s.further s.tail (rest_lacks all) long s.long (parts_of newline s.further) in record {
+          let begins = begins_long (open_rest all) s.further s.tail (rest_lacks all) long s.long
+          (parts_of newline s.further) in record {
             line = record { number = count + 1; bytes = begins.first };
             behind = numbered (count + 1) begins.others;
             split =
                 whole
-                ∙ ap (λ (ls : List Line). done ++ (ls ++ numbered count (ended (open_rest all ++ s.further) ++ s.tail (open_rest (open_rest all ++ s.further))))) none
+                ∙ ap (λ (ls : List Line). done ++ (ls ++ numbered count
+                (ended (open_rest all ++ s.further) ++ s.tail
+                (open_rest (open_rest all ++ s.further))))) none
                 ∙ ap (λ (ls : List Line). done ++ ls)
                 (ap (numbered count) begins.split
-                ∙ numbered_kept count begins.first begins.others (long_is_kept begins.first begins.long).1);
+                ∙ numbered_kept count begins.first begins.others
+                (long_is_kept begins.first begins.long).1);
             long = begins.long;
             number = sym (ap (λ (l : Line). l.number) is) ∙ found.number;
           }
@@ -203,16 +230,19 @@ cut_seen limit all (byte ∷ more) done held left counts some none short =
                 lines_from_parts held
                 ∙ ap (λ (ls : List Line). ls ++ numbered count (if_any (open_rest held.bytes))) none
                 ∙ ap (numbered count) (if_any_is (open_rest held.bytes) held_long)
-                ∙ numbered_kept count (open_rest held.bytes) [] (long_is_kept (open_rest held.bytes) held_long).1;
+                ∙ numbered_kept count (open_rest held.bytes) []
+                (long_is_kept (open_rest held.bytes) held_long).1;
             long = held_long;
             number = refl;
           })
       | inr fits ↦
           whole
-          ∙ ap (λ (ls : List (List ℕ)). done ++ numbered count ls) (cond-false (is_overlong (open_rest all)) (open_rest all ∷ []) [] fits)
+          ∙ ap (λ (ls : List (List ℕ)). done ++ numbered count ls)
+          (cond-false (is_overlong (open_rest all)) (open_rest all ∷ []) [] fits)
           ∙ append-nil done
     ]
 
 pub whole_seen : (limit : ℕ) (all : List ℕ) (done : List Line) (held : Held) → IsLeft all done held
     → length all ≤ limit → seen limit all ≡ done ++ lines_from held
-whole_seen limit all done held left counts = whole_at limit all counts ∙ left_at_end all done held left
+whole_seen limit all done held left counts = whole_at limit all counts
+    ∙ left_at_end all done held left

@@ -1,5 +1,6 @@
 -- What an input of lines comes to, where each line is to be a step after those before it.
-use Rattle.std.specs.Prelude.{◌≡◌, ℕ, ◌<◌, ◌≤◌, if◌then◌else◌, nat_le, List, [], ◌∷◌, ◌++◌, length, take}
+use Rattle.std.specs.Prelude.{◌≡◌, ℕ, ◌<◌, ◌≤◌, if◌then◌else◌, nat_le, List, [], ◌∷◌, ◌++◌, length}
+use Rattle.std.specs.Prelude.{take}
 use Rattle.dp_lines.specs.declared.line.Line.{Line}
 use Rattle.dp_lines.specs.Held.{IsInLimit}
 use Rattle.dp_lines.specs.Lines.{ended, open_rest, lines, numbered, is_overlong}
@@ -24,9 +25,10 @@ seen limit bytes =
     numbered 0 (if nat_le (length bytes) limit then lines bytes else front_lines (take limit bytes))
 
 -- the line isn't too long, and is a step after the lines before it
-pub record IsDoable (IsStep : List Line → Line → Type 0) (done : List Line) (line : Line) : Type 0 where
-  pub fits : IsInLimit line
-  pub step : IsStep done line
+pub record IsDoable (IsStep : List Line → Line → Type 0) (done : List Line) (line : Line) : Type 0
+  where
+    pub fits : IsInLimit line
+    pub step : IsStep done line
 
 -- each line is doable after those before it
 abbrev pub AreSteps : (List Line → Line → Type 0) → List Line → Type 0
@@ -35,13 +37,14 @@ AreSteps IsStep all =
     → all ≡ before ++ line ∷ behind → IsDoable IsStep before line
 
 -- after the lines `done`, which are steps, the line of this number is none
-pub record StopsAt (IsStep : List Line → Line → Type 0) (all done : List Line) (n : ℕ) : Type 0 where
-  pub line : Line
-  pub behind : List Line
-  pub next : all ≡ done ++ line ∷ behind
-  pub number : line.number ≡ n
-  pub steps : AreSteps IsStep done
-  pub bad : ¬ IsDoable IsStep done line
+pub record StopsAt (IsStep : List Line → Line → Type 0) (all done : List Line) (n : ℕ) : Type 0
+  where
+    pub line : Line
+    pub behind : List Line
+    pub next : all ≡ done ++ line ∷ behind
+    pub number : line.number ≡ n
+    pub steps : AreSteps IsStep done
+    pub bad : ¬ IsDoable IsStep done line
 
 -- what an input comes to: how it ends, and the lines that are done before
 abbrev pub LinesComeTo : (List Line → Line → Type 0) → ℕ → List ℕ → List Line → LinesEnd → Type 0

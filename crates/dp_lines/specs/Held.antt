@@ -1,5 +1,6 @@
 -- What is held of a text that comes in pieces.
-use Rattle.std.specs.Prelude.{◌≡◌, ℕ, ◌+◌, List, [], ◌∷◌, ◌++◌, length, Option, Some, None, Result, Ok, Err, IsTrue}
+use Rattle.std.specs.Prelude.{◌≡◌, ℕ, ◌+◌, List, [], ◌∷◌, ◌++◌, length, Option, Some, None, Result}
+use Rattle.std.specs.Prelude.{Ok, Err, IsTrue}
 use Rattle.dp_lines.specs.declared.line.Line.{Line}
 use Rattle.dp_lines.specs.declared.lines.LineError.{LineError}
 use Rattle.dp_lines.specs.Lines.{ended, open_rest, lines, numbered, is_overlong}

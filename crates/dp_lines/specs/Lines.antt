@@ -1,5 +1,6 @@
 -- The lines of a list of bytes, and the words of a line.
-use Rattle.std.specs.Prelude.{◌≢◌, ℕ, ◌+◌, ◌-◌, ◌==◌, Bool, false, if◌then◌else◌, ◌&&◌, ◌||◌, not, nat_lt, List, [], ◌∷◌, ◌++◌, length, take, slice_index_or}
+use Rattle.std.specs.Prelude.{◌≢◌, ℕ, ◌+◌, ◌-◌, ◌==◌, Bool, false, if◌then◌else◌, ◌&&◌, ◌||◌, not}
+use Rattle.std.specs.Prelude.{nat_lt, List, [], ◌∷◌, ◌++◌, length, take, slice_index_or}
 use Rattle.std.specs.List.{All, slice_split}
 use Rattle.dp_lines.specs.declared.line.Line.{Line}
 

@@ -71,7 +71,8 @@ pub fn still_left()
         → IsLeft all done held → numbered 0 (lines all) ≡ done ++ lines_from held }
 {}
 
-/// What was given of a prefix of an input that counts is the prefix of the lines that are seen of it.
+/// What was given of a prefix of an input that counts is the prefix of the lines that are seen of
+/// it.
 pub fn lines_seen()
     ensures given { (limit : ℕ) (all more : List ℕ) (done : List Line) (held : Held)
         → IsLeft all done held → length all ≤ limit

@@ -21,7 +21,8 @@ pub trait Machine {
     /// What a query is answered.
     type Answer: Drop;
 
-    /// From a machine the event may have this outcome, a reply or out of memory, and leave the other
+    /// From a machine the event may have this outcome, a reply or out of memory, and leave the
+    /// other
     /// machine.
     ghost may_step: { Self → Self.Event → Result Self.Reply AllocError → Self → Type 0 };
 

@@ -1,32 +1,46 @@
 -- The kinds of messages, by variant: each variant has kinds of its own.
-use Rattle.std.proofs.Common.{◌≡◌, ◌≢◌, ◌⊎◌, ℕ, ◌<◌, ◌≤◌, List, [], ◌∷◌, ◌++◌, inl, inr, refl, sym, subst, arith, lit≤}
+use Rattle.std.proofs.Common.{◌≡◌, ◌≢◌, ◌⊎◌, ℕ, ◌<◌, ◌≤◌, List, [], ◌∷◌, ◌++◌, inl, inr, refl, sym}
+use Rattle.std.proofs.Common.{subst, arith, lit≤}
 use Rattle.std.specs.Prelude.{⊤}
 use Rattle.dp_msg_draw.specs.declared.draw.Draw.{Draw}
-use Rattle.dp_msg_draw.specs.declared.draw.Draw.TheVariants.{CanvasResize, LayerCreate, LayerAttr, LayerTitle, LayerMove, LayerDelete, PutImage, FillRect, PutTile, Background, DabsRound, DabsSquare, MoveRect}
+use Rattle.dp_msg_draw.specs.declared.draw.Draw.TheVariants.{CanvasResize, LayerCreate, LayerAttr}
+use Rattle.dp_msg_draw.specs.declared.draw.Draw.TheVariants.{LayerTitle, LayerMove, LayerDelete}
+use Rattle.dp_msg_draw.specs.declared.draw.Draw.TheVariants.{PutImage, FillRect, PutTile}
+use Rattle.dp_msg_draw.specs.declared.draw.Draw.TheVariants.{Background, DabsRound, DabsSquare}
+use Rattle.dp_msg_draw.specs.declared.draw.Draw.TheVariants.{MoveRect}
 use Rattle.dp_msg_draw.specs.Limits.{IsDrawKind}
 use Rattle.dp_msg_draw.specs.Payloads.{draw_kind, SpellsDraw}
 use Rattle.dp_msg_meta.specs.declared.message.Control.{Control}
-use Rattle.dp_msg_meta.specs.declared.message.Control.TheVariants.{Hello, Disconnect, Ping, Ack, Welcome, ResetBegin, ResetEnd}
+use Rattle.dp_msg_meta.specs.declared.message.Control.TheVariants.{Hello, Disconnect, Ping, Ack}
+use Rattle.dp_msg_meta.specs.declared.message.Control.TheVariants.{Welcome, ResetBegin, ResetEnd}
 use Rattle.dp_msg_meta.specs.declared.message.Meta.{Meta}
-use Rattle.dp_msg_meta.specs.declared.message.Meta.TheVariants.{Join, Leave, Owners, Chat, Trusted, ResetMark, Laser, MovePointer, UserAcl, LayerAcl, FeatureTiers, Filtered}
-use Rattle.dp_msg_meta.specs.Payloads.{control_kind, IsControlKind, SpellsControl, meta_kind, IsMetaKind, SpellsMeta}
+use Rattle.dp_msg_meta.specs.declared.message.Meta.TheVariants.{Join, Leave, Owners, Chat, Trusted}
+use Rattle.dp_msg_meta.specs.declared.message.Meta.TheVariants.{ResetMark, Laser, MovePointer}
+use Rattle.dp_msg_meta.specs.declared.message.Meta.TheVariants.{UserAcl, LayerAcl, FeatureTiers}
+use Rattle.dp_msg_meta.specs.declared.message.Meta.TheVariants.{Filtered}
+use Rattle.dp_msg_meta.specs.Payloads.{control_kind, IsControlKind, SpellsControl, meta_kind}
+use Rattle.dp_msg_meta.specs.Payloads.{IsMetaKind, SpellsMeta}
 use Rattle.dp_messages.specs.declared.message.Msg.{Msg}
 use Rattle.dp_messages.specs.declared.message.Msg.TheVariants as msg
 use Rattle.dp_messages.specs.Messages.{IsListedKind, Spells}
 
 -- what the layers below say of kinds
 pub record KindLaws : Type 0 where
-  pub control : (m : Control) (kind : ℕ) (payload : List ℕ) → SpellsControl kind payload m → IsControlKind kind
+  pub control : (m : Control) (kind : ℕ) (payload : List ℕ) → SpellsControl kind payload m
+      → IsControlKind kind
   pub meta : (m : Meta) (kind : ℕ) (payload : List ℕ) → SpellsMeta kind payload m → IsMetaKind kind
   pub draw : (m : Draw) (kind : ℕ) (payload : List ℕ) → SpellsDraw kind payload m → IsDrawKind kind
 
-pub to_control : (kind : ℕ) (payload : List ℕ) (m : Control) → Spells kind payload (msg.Control m) → SpellsControl kind payload m
+pub to_control : (kind : ℕ) (payload : List ℕ) (m : Control) → Spells kind payload (msg.Control m)
+    → SpellsControl kind payload m
 to_control kind payload m s = record { kind = s.kind; payload = s.payload; spelled = s.spelled }
 
-pub to_meta : (kind : ℕ) (payload : List ℕ) (m : Meta) → Spells kind payload (msg.Meta m) → SpellsMeta kind payload m
+pub to_meta : (kind : ℕ) (payload : List ℕ) (m : Meta) → Spells kind payload (msg.Meta m)
+    → SpellsMeta kind payload m
 to_meta kind payload m s = record { kind = s.kind; payload = s.payload; spelled = s.spelled }
 
-pub to_draw : (kind : ℕ) (payload : List ℕ) (m : Draw) → Spells kind payload (msg.Draw m) → SpellsDraw kind payload m
+pub to_draw : (kind : ℕ) (payload : List ℕ) (m : Draw) → Spells kind payload (msg.Draw m)
+    → SpellsDraw kind payload m
 to_draw kind payload m s = record { kind = s.kind; payload = s.payload; spelled = s.spelled }
 
 -- a variant's kinds lie apart from the others
@@ -62,13 +76,17 @@ draw_bounds (DabsRound layer x y r g b mode dabs) = (lit≤ tt, lit≤ tt)
 draw_bounds (DabsSquare layer x y r g b mode dabs) = (lit≤ tt, lit≤ tt)
 draw_bounds (MoveRect layer sx sy w h tx ty) = (lit≤ tt, lit≤ tt)
 
-pub in_range : KindLaws → (kind : ℕ) (payload : List ℕ) (m : Msg) → Spells kind payload m → InRange m kind
-in_range laws kind payload (msg.Control m) s = control_range kind (laws.control m kind payload (to_control kind payload m s))
-in_range laws kind payload (msg.Meta m) s = meta_range kind (laws.meta m kind payload (to_meta kind payload m s))
+pub in_range : KindLaws → (kind : ℕ) (payload : List ℕ) (m : Msg) → Spells kind payload m
+    → InRange m kind
+in_range laws kind payload (msg.Control m) s = control_range kind
+    (laws.control m kind payload (to_control kind payload m s))
+in_range laws kind payload (msg.Meta m) s = meta_range kind
+    (laws.meta m kind payload (to_meta kind payload m s))
 in_range laws kind payload (msg.Part command) s = s.kind
 in_range laws kind payload msg.Point s = s.kind
 in_range laws kind payload (msg.Undo target redo) s = s.kind
-in_range laws kind payload (msg.Draw command) s = let b = draw_bounds command in (omega (arith, s.kind, b.0), omega (arith, s.kind, b.1))
+in_range laws kind payload (msg.Draw command) s = let b = draw_bounds command in
+    (omega (arith, s.kind, b.0), omega (arith, s.kind, b.1))
 in_range laws kind payload (msg.Opaque k body) s = tt
 
 -- the message is of a variant of listed kinds
@@ -76,16 +94,22 @@ abbrev pub IsOfListed : Msg → Type 0
 IsOfListed (msg.Opaque kind body) = ⊥
 IsOfListed _ = ⊤
 
-pub listed : KindLaws → (kind : ℕ) (payload : List ℕ) (m : Msg) → IsOfListed m → Spells kind payload m → IsListedKind kind
-listed laws kind payload (msg.Control m) is s = inl (laws.control m kind payload (to_control kind payload m s))
-listed laws kind payload (msg.Meta m) is s = inr (inr (inl (laws.meta m kind payload (to_meta kind payload m s))))
+pub listed : KindLaws → (kind : ℕ) (payload : List ℕ) (m : Msg) → IsOfListed m
+    → Spells kind payload m → IsListedKind kind
+listed laws kind payload (msg.Control m) is s = inl (laws.control m kind payload
+    (to_control kind payload m s))
+listed laws kind payload (msg.Meta m) is s = inr (inr (inl
+    (laws.meta m kind payload (to_meta kind payload m s))))
 listed laws kind payload (msg.Part command) is s = inr (inl s.kind)
 listed laws kind payload msg.Point is s = inr (inr (inr (inl s.kind)))
 listed laws kind payload (msg.Undo target redo) is s = inr (inr (inr (inr (inr s.kind))))
-listed laws kind payload (msg.Draw command) is s = inr (inr (inr (inr (inl (laws.draw command kind payload (to_draw kind payload command s))))))
+listed laws kind payload (msg.Draw command) is s = inr (inr
+    (inr (inr (inl (laws.draw command kind payload (to_draw kind payload command s))))))
 listed laws kind payload (msg.Opaque k body) is s = absurd is
 
 -- a kind that isn't listed is that of no message of a listed variant
-pub not_listed : KindLaws → (kind : ℕ) (payload : List ℕ) (k : ℕ) (body : List ℕ) (m : Msg) → IsOfListed m →
+pub not_listed : KindLaws → (kind : ℕ) (payload : List ℕ) (k : ℕ) (body : List ℕ) (m : Msg)
+    → IsOfListed m →
     Spells kind payload (msg.Opaque k body) → Spells kind payload m → ⊥
-not_listed laws kind payload k body m is s t = s.spelled.0.1 (subst IsListedKind s.kind (listed laws kind payload m is t))
+not_listed laws kind payload k body m is s t = s.spelled.0.1
+    (subst IsListedKind s.kind (listed laws kind payload m is t))

@@ -5,7 +5,8 @@ use Rattle.dp_messages.specs.declared.message.Msg.TheVariants as msg
 use Rattle.dp_msg_draw.specs.Fields.{one_byte, flag_byte}
 use Rattle.dp_msg_draw.specs.Limits.{IsDrawKind}
 use Rattle.dp_msg_draw.specs.Payloads.{draw_kind, draw_payload, DrawHasSpelling}
-use Rattle.dp_msg_meta.specs.Payloads.{control_kind, control_payload, ControlHasSpelling, IsControlKind}
+use Rattle.dp_msg_meta.specs.Payloads.{control_kind, control_payload, ControlHasSpelling}
+use Rattle.dp_msg_meta.specs.Payloads.{IsControlKind}
 use Rattle.dp_msg_meta.specs.Payloads.{meta_kind, meta_payload, MetaHasSpelling, IsMetaKind}
 
 -- the number of a message's kind, the type byte of its frame
@@ -42,7 +43,8 @@ IsOpaqueKind kind = (64 ≤ kind) × ¬ IsListedKind kind
 abbrev pub IsUnknownKind : ℕ → Type 0
 IsUnknownKind kind = (kind < 64) × ¬ IsListedKind kind
 
--- Which messages have a spelling: their parts have one, numbers lie within their widths, the payload
+-- Which messages have a spelling: their parts have one, numbers lie within their widths, the
+-- payload
 -- has at most 65,535 bytes, and a message of any payload is of a kind that isn't listed.
 abbrev pub HasSpelling : Msg → Type 0
 HasSpelling (msg.Control m) = ControlHasSpelling m

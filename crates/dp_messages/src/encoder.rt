@@ -25,7 +25,8 @@ fn frame_of_nothing(alloc: Global, user: u8) -> Frame
 
 /// The frame of the entry: the sender as its context id, and the message's one spelling.
 ///
-/// A message that has no spelling comes out as an empty frame of kind 8, which carries nothing. So what
+/// A message that has no spelling comes out as an empty frame of kind 8, which carries nothing. So
+/// what
 /// was written is read once again.
 /// The rule: docs/protocol.md, "Messages".
 pub fn encode(alloc: Global, entry: &Entry) -> Result<Frame, AllocError>

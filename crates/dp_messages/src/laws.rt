@@ -14,7 +14,8 @@ use dp_frame::one_splitting;
 use dp_msg_draw::{one_draw, same_draw_is_equality};
 use dp_msg_meta::{control_equality, meta_equality, one_control, one_meta};
 
-/// A payload of a kind spells at most one message, and a message has one kind and one payload, of at
+/// A payload of a kind spells at most one message, and a message has one kind and one payload, of
+/// at
 /// most 65,535 bytes.
 pub fn one_message()
     ensures message { (kind : ℕ) (payload : List ℕ) (m n : Message)
@@ -29,7 +30,8 @@ pub fn one_message()
     one_draw();
 }
 
-/// A frame carries at most one entry. It is refused in at most one way, and only where it carries none:
+/// A frame carries at most one entry. It is refused in at most one way, and only where it carries
+/// none:
 /// so what `decode` answers is one answer.
 pub fn one_answer()
     ensures entry { (frame : FrameParts) (e f : Entry) → Carries frame e → Carries frame f → e ≡ f }

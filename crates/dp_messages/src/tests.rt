@@ -23,7 +23,8 @@ fn frame_of(rt: &impl Abort, alloc: Global, kind: u8, payload: &[u8]) -> Result<
     Ok(Frame::new(kind, 7, Octets::from_vec(body)))
 }
 
-/// What reading the payload answers. What is read is written back with this type and these bytes, and so is
+/// What reading the payload answers. What is read is written back with this type and these bytes,
+/// and so is
 /// its copy, which is the same.
 fn answer_to(rt: &impl Abort, alloc: Global, kind: u8, payload: &[u8]) -> Result<Answer, Fail> {
     let frame = frame_of(rt, alloc, kind, payload)?;

@@ -10,7 +10,11 @@ use Rattle.dp_msg_draw.specs.declared.lists.TilePixel.{TilePixel}
 use Rattle.dp_msg_draw.specs.declared.draw.TileContent.{TileContent}
 use Rattle.dp_msg_draw.specs.declared.draw.TileContent.TheVariants.{Solid, Pixels}
 use Rattle.dp_msg_draw.specs.declared.draw.Draw.{Draw}
-use Rattle.dp_msg_draw.specs.declared.draw.Draw.TheVariants.{CanvasResize, LayerCreate, LayerAttr, LayerTitle, LayerMove, LayerDelete, PutImage, FillRect, PutTile, Background, DabsRound, DabsSquare, MoveRect}
+use Rattle.dp_msg_draw.specs.declared.draw.Draw.TheVariants.{CanvasResize, LayerCreate, LayerAttr}
+use Rattle.dp_msg_draw.specs.declared.draw.Draw.TheVariants.{LayerTitle, LayerMove, LayerDelete}
+use Rattle.dp_msg_draw.specs.declared.draw.Draw.TheVariants.{PutImage, FillRect, PutTile}
+use Rattle.dp_msg_draw.specs.declared.draw.Draw.TheVariants.{Background, DabsRound, DabsSquare}
+use Rattle.dp_msg_draw.specs.declared.draw.Draw.TheVariants.{MoveRect}
 use Rattle.dp_msg_draw.specs.contracts.lists.DabPartialEq.TheImpl as dab
 use Rattle.dp_msg_draw.specs.contracts.lists.TilePixelPartialEq.TheImpl as pixel
 use Rattle.dp_msg_draw.specs.contracts.draw.TileContentPartialEq.TheImpl as content
@@ -34,16 +38,19 @@ contents_told (Pixels ps) (Pixels qs) = grind (arith, pixels_told ps qs)
 contents_told a b = (λ e. absurd (false≢true e), λ e. absurd (cc))
 
 pub draws_told : (a b : Draw) → Decides (draw.ghosts.eq a b) (a ≡ b)
-draws_told (CanvasResize top right bottom left) (CanvasResize top' right' bottom' left') = grind (arith, Decides-int_eq)
+draws_told (CanvasResize top right bottom left) (CanvasResize top' right' bottom' left') = grind
+    (arith, Decides-int_eq)
 draws_told (LayerCreate id parent group title) (LayerCreate id' parent' group' title') =
     grind (arith, bytes_eq-Decides title title')
 draws_told (LayerAttr id opacity mode hidden) (LayerAttr id' opacity' mode' hidden') = grind arith
-draws_told (LayerTitle id title) (LayerTitle id' title') = grind (arith, bytes_eq-Decides title title')
+draws_told (LayerTitle id title) (LayerTitle id' title') = grind
+    (arith, bytes_eq-Decides title title')
 draws_told (LayerMove id parent above) (LayerMove id' parent' above') = grind arith
 draws_told (LayerDelete id) (LayerDelete id') = grind arith
 draws_told (PutImage layer mode x y w h colors) (PutImage layer' mode' x' y' w' h' colors') =
     grind (arith, bytes_eq-Decides colors colors')
-draws_told (FillRect layer mode x y w h color) (FillRect layer' mode' x' y' w' h' color') = grind arith
+draws_told (FillRect layer mode x y w h color) (FillRect layer' mode' x' y' w' h' color') = grind
+    arith
 draws_told (PutTile layer col row repeat content) (PutTile layer' col' row' repeat' content') =
     grind (arith, contents_told content content')
 draws_told (Background color) (Background color') = grind arith
@@ -51,5 +58,6 @@ draws_told (DabsRound layer x y r g b mode dabs) (DabsRound layer' x' y' r' g' b
     grind (arith, Decides-int_eq, dabs_told dabs dabs')
 draws_told (DabsSquare layer x y r g b mode dabs) (DabsSquare layer' x' y' r' g' b' mode' dabs') =
     grind (arith, Decides-int_eq, dabs_told dabs dabs')
-draws_told (MoveRect layer sx sy w h tx ty) (MoveRect layer' sx' sy' w' h' tx' ty') = grind (arith, Decides-int_eq)
+draws_told (MoveRect layer sx sy w h tx ty) (MoveRect layer' sx' sy' w' h' tx' ty') = grind
+    (arith, Decides-int_eq)
 draws_told a b = (λ e. absurd (false≢true e), λ e. absurd (cc))

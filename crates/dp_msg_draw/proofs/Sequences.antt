@@ -1,5 +1,6 @@
 -- Parts one after the other, to the end of the bytes.
-use Rattle.std.proofs.Common.{◌≡◌, ℕ, ◌+◌, ◌*◌, ◌<◌, ◌≤◌, ◌==◌, true, List, [], ◌∷◌, ◌++◌, length, refl, sym, ap, ◌∙◌, append_assoc, arith, All}
+use Rattle.std.proofs.Common.{◌≡◌, ℕ, ◌+◌, ◌*◌, ◌<◌, ◌≤◌, ◌==◌, true, List, [], ◌∷◌, ◌++◌, length}
+use Rattle.std.proofs.Common.{refl, sym, ap, ◌∙◌, append_assoc, arith, All}
 use Rattle.std.specs.List.{flat_map}
 use Rattle.std.proofs.lemmas.Bool.{eqb-true}
 use Rattle.std.proofs.lemmas.List.{append-nil, length-append}
@@ -13,29 +14,50 @@ use Rattle.dp_msg_draw.specs.Parts.{IsPart}
 use Rattle.dp_msg_draw.specs.Reading.{Begins, Spells}
 use Rattle.dp_msg_draw.proofs.Takes.{IsWhole}
 
--- the bytes are these parts, and then the rest; and where the bytes are parts to their end, so is the rest
-pub record Taken {X : Type 0} (spelling : X → List ℕ) (valid : X → Type 0) (bytes : List ℕ) (xs : List X) (rest : List ℕ) : Type 0 where
+-- the bytes are these parts, and then the rest; and where the bytes are parts to their end, so is
+-- the rest
+pub record Taken {X : Type 0} (spelling : X → List ℕ) (valid : X → Type 0) (bytes : List ℕ)
+    (xs : List X) (rest : List ℕ) : Type 0 where
   pub bytes_are : bytes ≡ flat_map spelling xs ++ rest
   pub are_valid : All valid xs
-  pub rest_is : (ys : List X) → Spells (flat_map spelling) (All valid) bytes ys → (zs : List X) × Spells (flat_map spelling) (All valid) rest zs × (length ys ≡ length xs + length zs)
+  pub rest_is : (ys : List X) → Spells (flat_map spelling) (All valid) bytes ys
+      → (zs : List X) × Spells (flat_map spelling) (All valid) rest zs
+      × (length ys ≡ length xs + length zs)
 
-pub taken_none : {X : Type 0} (spelling : X → List ℕ) (valid : X → Type 0) (bytes : List ℕ) → Taken spelling valid bytes [] bytes
-taken_none spelling valid bytes = record { bytes_are = refl; are_valid = All-nil valid; rest_is = λ ys s. (ys, s, omega arith) }
+pub taken_none : {X : Type 0} (spelling : X → List ℕ) (valid : X → Type 0) (bytes : List ℕ)
+    → Taken spelling valid bytes [] bytes
+taken_none spelling valid bytes = record {
+  bytes_are = refl;
+  are_valid = All-nil valid;
+  rest_is =
+      λ ys s. (ys, s, omega arith);
+}
 
 -- parts at the end, of which the first is taken
-rest_after : {X : Type 0} {spelling : X → List ℕ} {valid : X → Type 0} → IsPart spelling valid → {bytes after : List ℕ} {x : X} → Begins spelling valid bytes x after → length after < length bytes
-    → (zs : List X) → Spells (flat_map spelling) (All valid) bytes zs → (ys : List X) × Spells (flat_map spelling) (All valid) after ys × (length zs ≡ 1 + length ys)
+rest_after : {X : Type 0} {spelling : X → List ℕ} {valid : X → Type 0} → IsPart spelling valid
+    → {bytes after : List ℕ} {x : X} → Begins spelling valid bytes x after
+    → length after < length bytes
+    → (zs : List X) → Spells (flat_map spelling) (All valid) bytes zs
+    → (ys : List X) × Spells (flat_map spelling) (All valid) after ys
+    × (length zs ≡ 1 + length ys)
 rest_after part b short [] s = absurd (omega (arith, ap length s.bytes_are))
 rest_after {spelling = spelling} {valid = valid} part {after = after} {x = x} b short (z ∷ zs) s =
-    let same = part.one x z after (flat_map spelling zs) b.is_valid (All-head valid z zs s.is_valid) (sym b.bytes_are ∙ s.bytes_are) in
+    let same = part.one x z after (flat_map spelling zs) b.is_valid (All-head valid z zs s.is_valid)
+    (sym b.bytes_are ∙ s.bytes_are) in
     (zs, record { bytes_are = same.1; is_valid = All-tail valid z zs s.is_valid }, omega arith)
 
-pub taken_more : {X : Type 0} {spelling : X → List ℕ} {valid : X → Type 0} → IsPart spelling valid → {bytes rest after : List ℕ} {xs : List X} {x : X} → Taken spelling valid bytes xs rest → Begins spelling valid rest x after → length after < length rest
+pub taken_more : {X : Type 0} {spelling : X → List ℕ} {valid : X → Type 0} → IsPart spelling valid
+    → {bytes rest after : List ℕ} {xs : List X} {x : X} → Taken spelling valid bytes xs rest
+    → Begins spelling valid rest x after → length after < length rest
     → Taken spelling valid bytes (xs ++ x ∷ []) after
 taken_more {spelling = spelling} {valid = valid} part {after = after} {xs = xs} {x = x} t b short =
-    let more : flat_map spelling (xs ++ x ∷ []) ≡ flat_map spelling xs ++ spelling x = flat_map-append spelling xs (x ∷ []) ∙ ap (λ (l : List ℕ). flat_map spelling xs ++ l) (append-nil (spelling x)) in
+    let more : flat_map spelling (xs ++ x ∷ []) ≡ flat_map spelling xs
+    ++ spelling x = flat_map-append spelling xs (x ∷ [])
+    ∙ ap (λ (l : List ℕ). flat_map spelling xs ++ l) (append-nil (spelling x)) in
     record {
-      bytes_are = t.bytes_are ∙ ap (λ (l : List ℕ). flat_map spelling xs ++ l) b.bytes_are ∙ sym (append_assoc (flat_map spelling xs) (spelling x) after) ∙ ap (λ (l : List ℕ). l ++ after) (sym more);
+      bytes_are = t.bytes_are ∙ ap (λ (l : List ℕ). flat_map spelling xs ++ l) b.bytes_are
+          ∙ sym (append_assoc (flat_map spelling xs) (spelling x) after)
+          ∙ ap (λ (l : List ℕ). l ++ after) (sym more);
       are_valid = All-push valid xs x t.are_valid b.is_valid;
       rest_is = λ ys s.
           let zs = t.rest_is ys s in
@@ -44,23 +66,44 @@ taken_more {spelling = spelling} {valid = valid} part {after = after} {xs = xs} 
     }
 
 -- where no part begins the bytes, they are parts to their end only if they are none
-pub ended : {X : Type 0} {spelling : X → List ℕ} {valid : X → Type 0} {bytes : List ℕ} → ((x : X) (rest : List ℕ) → Begins spelling valid bytes x rest → ⊥)
+pub ended : {X : Type 0} {spelling : X → List ℕ} {valid : X → Type 0} {bytes : List ℕ}
+    → ((x : X) (rest : List ℕ) → Begins spelling valid bytes x rest → ⊥)
     → (zs : List X) → Spells (flat_map spelling) (All valid) bytes zs → (bytes ≡ []) × (zs ≡ [])
 ended none [] s = (s.bytes_are, refl)
-ended {spelling = spelling} {valid = valid} none (z ∷ zs) s = absurd (none z (flat_map spelling zs) (record { bytes_are = s.bytes_are; is_valid = All-head valid z zs s.is_valid }))
+ended {spelling = spelling} {valid = valid} none (z ∷ zs) s = absurd
+    (none z (flat_map spelling zs) (record {
+      bytes_are = s.bytes_are;
+      is_valid = All-head valid z zs
+          s.is_valid;
+    }))
 
 pub none_left : (rest : List ℕ) → (length rest == 0) ≡ true → rest ≡ []
 none_left [] t = refl
 none_left (b ∷ rest) t = absurd (omega (arith, eqb-true (length (b ∷ rest)) 0 t))
 
-pub taken_all : {X : Type 0} {spelling : X → List ℕ} {valid : X → Type 0} {bytes rest : List ℕ} {xs : List X} → Taken spelling valid bytes xs rest → rest ≡ [] → Spells (flat_map spelling) (All valid) bytes xs
-taken_all {spelling = spelling} {xs = xs} t e = record { bytes_are = t.bytes_are ∙ ap (λ (l : List ℕ). flat_map spelling xs ++ l) e ∙ append-nil (flat_map spelling xs); is_valid = t.are_valid }
+pub taken_all : {X : Type 0} {spelling : X → List ℕ} {valid : X → Type 0} {bytes rest : List ℕ}
+    {xs : List X} → Taken spelling valid bytes xs rest → rest ≡ []
+    → Spells (flat_map spelling) (All valid) bytes xs
+taken_all {spelling = spelling} {xs = xs} t e = record {
+  bytes_are = t.bytes_are
+      ∙ ap (λ (l : List ℕ). flat_map spelling xs ++ l) e ∙ append-nil (flat_map spelling xs);
+  is_valid
+      = t.are_valid;
+}
 
 -- ---- lists of parts of one length
 
-pub length_of_items : {X : Type 0} (spelling : X → List ℕ) (n : ℕ) → ((x : X) → length (spelling x) ≡ n) → (xs : List X) → length (flat_map spelling xs) ≡ n * length xs
+pub length_of_items : {X : Type 0} (spelling : X → List ℕ) (n : ℕ)
+    → ((x : X) → length (spelling x) ≡ n) → (xs : List X)
+    → length (flat_map spelling xs) ≡ n * length xs
 length_of_items spelling n each [] = omega arith
-length_of_items spelling n each (x ∷ xs) = omega (arith, length-append (spelling x) (flat_map spelling xs), each x, length_of_items spelling n each xs)
+length_of_items spelling n each (x ∷ xs) = omega (
+  arith,
+  length-append (spelling x)
+      (flat_map spelling xs),
+  each x,
+  length_of_items spelling n each xs,
+)
 
 pub length_of_colors : (colors : List ℕ) → length (flat_map four_bytes colors) ≡ 4 * length colors
 length_of_colors = length_of_items four_bytes 4 (λ x. refl)
@@ -68,18 +111,27 @@ length_of_colors = length_of_items four_bytes 4 (λ x. refl)
 pub length_of_dabs : (dabs : List Dab) → length (flat_map dab_bytes dabs) ≡ 4 * length dabs
 length_of_dabs = length_of_items dab_bytes 4 (λ x. refl)
 
-pub length_of_pixels : (pixels : List TilePixel) → length (flat_map pixel_bytes pixels) ≡ 8 * length pixels
+pub length_of_pixels : (pixels : List TilePixel) → length (flat_map pixel_bytes pixels)
+    ≡ 8 * length pixels
 length_of_pixels = length_of_items pixel_bytes 8 (λ x. refl)
 
-one_items : {X : Type 0} (spelling : X → List ℕ) (valid : X → Type 0) → IsPart spelling valid → ((x : X) → 1 ≤ length (spelling x))
-    → (xs ys : List X) → All valid xs → All valid ys → flat_map spelling xs ≡ flat_map spelling ys → xs ≡ ys
+one_items : {X : Type 0} (spelling : X → List ℕ) (valid : X → Type 0) → IsPart spelling valid
+    → ((x : X) → 1 ≤ length (spelling x))
+    → (xs ys : List X) → All valid xs → All valid ys → flat_map spelling xs ≡ flat_map spelling ys
+    → xs ≡ ys
 one_items spelling valid part long [] [] v w e = refl
-one_items spelling valid part long [] (y ∷ ys) v w e = absurd (omega (arith, ap length e, length-append (spelling y) (flat_map spelling ys), long y))
-one_items spelling valid part long (x ∷ xs) [] v w e = absurd (omega (arith, ap length e, length-append (spelling x) (flat_map spelling xs), long x))
+one_items spelling valid part long [] (y ∷ ys) v w e = absurd
+    (omega (arith, ap length e, length-append (spelling y) (flat_map spelling ys), long y))
+one_items spelling valid part long (x ∷ xs) [] v w e = absurd
+    (omega (arith, ap length e, length-append (spelling x) (flat_map spelling xs), long x))
 one_items {X = X} spelling valid part long (x ∷ xs) (y ∷ ys) v w e =
-    let first = part.one x y (flat_map spelling xs) (flat_map spelling ys) (All-head valid x xs v) (All-head valid y ys w) e in
-    let others = one_items spelling valid part long xs ys (All-tail valid x xs v) (All-tail valid y ys w) first.1 in
+    let first = part.one x y (flat_map spelling xs) (flat_map spelling ys) (All-head valid x xs v)
+    (All-head valid y ys w) e in
+    let others = one_items spelling valid part long xs ys (All-tail valid x xs v)
+    (All-tail valid y ys w) first.1 in
     ap (λ (z : X). z ∷ xs) first.0 ∙ ap (λ (zs : List X). y ∷ zs) others
 
-pub items : {X : Type 0} {spelling : X → List ℕ} {valid : X → Type 0} → IsPart spelling valid → ((x : X) → 1 ≤ length (spelling x)) → IsWhole (flat_map spelling) (All valid)
-items {spelling = spelling} {valid = valid} part long = record { one = one_items spelling valid part long }
+pub items : {X : Type 0} {spelling : X → List ℕ} {valid : X → Type 0} → IsPart spelling valid
+    → ((x : X) → 1 ≤ length (spelling x)) → IsWhole (flat_map spelling) (All valid)
+items {spelling = spelling} {valid = valid} part long = record
+    { one = one_items spelling valid part long }

@@ -1,5 +1,6 @@
 -- What follows where a part is taken from the prefix of bytes, and what a whole is.
-use Rattle.std.proofs.Common.{◌≡◌, ℕ, ◌≤◌, List, [], ◌++◌, length, refl, sym, ap, ◌∙◌, append_assoc, arith, Err}
+use Rattle.std.proofs.Common.{◌≡◌, ℕ, ◌≤◌, List, [], ◌++◌, length, refl, sym, ap, ◌∙◌, append_assoc}
+use Rattle.std.proofs.Common.{arith, Err}
 use Rattle.std.proofs.lemmas.List.{append-nil}
 use Rattle.dp_msg_draw.specs.declared.error.PayloadError.{PayloadError}
 use Rattle.dp_msg_draw.specs.declared.error.PayloadError.TheVariants.{Malformed, Memory}
@@ -7,11 +8,17 @@ use Rattle.dp_msg_draw.specs.Parts.{IsPart}
 use Rattle.dp_msg_draw.specs.Reading.{Answers, Begins, Spells}
 
 -- bytes that are a part begin with it, and nothing follows
-pub begins_all : {X : Type 0} {spelling : X → List ℕ} {valid : X → Type 0} {bytes : List ℕ} {x : X} → Spells spelling valid bytes x → Begins spelling valid bytes x []
-begins_all {spelling = spelling} {x = x} s = record { bytes_are = s.bytes_are ∙ sym (append-nil (spelling x)); is_valid = s.is_valid }
+pub begins_all : {X : Type 0} {spelling : X → List ℕ} {valid : X → Type 0} {bytes : List ℕ} {x : X}
+    → Spells spelling valid bytes x → Begins spelling valid bytes x []
+begins_all {spelling = spelling} {x = x} s = record {
+  bytes_are = s.bytes_are
+      ∙ sym (append-nil (spelling x));
+  is_valid = s.is_valid;
+}
 
 -- where bytes follow a part, the whole is no part
-pub more_follows : {X : Type 0} {spelling : X → List ℕ} {valid : X → Type 0} → IsPart spelling valid → {bytes rest : List ℕ} {x : X} → Begins spelling valid bytes x rest → 1 ≤ length rest
+pub more_follows : {X : Type 0} {spelling : X → List ℕ} {valid : X → Type 0} → IsPart spelling valid
+    → {bytes rest : List ℕ} {x : X} → Begins spelling valid bytes x rest → 1 ≤ length rest
     → (y : X) → Spells spelling valid bytes y → ⊥
 more_follows part {rest = rest} {x = x} b long y s =
     let all = begins_all s in
@@ -22,35 +29,55 @@ more_follows part {rest = rest} {x = x} b long y s =
 pub record IsWhole {X : Type 0} (spelling : X → List ℕ) (valid : X → Type 0) : Type 0 where
   pub one : (x y : X) → valid x → valid y → spelling x ≡ spelling y → x ≡ y
 
-pub whole : {X : Type 0} {spelling : X → List ℕ} {valid : X → Type 0} → IsPart spelling valid → IsWhole spelling valid
-whole part = record { one = λ x y v w e. (part.one x y [] [] v w (ap (λ (b : List ℕ). b ++ []) e)).0 }
+pub whole : {X : Type 0} {spelling : X → List ℕ} {valid : X → Type 0} → IsPart spelling valid
+    → IsWhole spelling valid
+whole part = record {
+  one = λ x y v w e. (part.one x y [] [] v w (ap (λ (b : List ℕ). b ++ []) e)).0;
+}
 
-pub whole_if : {X : Type 0} {spelling : X → List ℕ} {valid valid' : X → Type 0} → IsWhole spelling valid → ((x : X) → valid' x → valid x) → IsWhole spelling valid'
+pub whole_if : {X : Type 0} {spelling : X → List ℕ} {valid valid' : X → Type 0}
+    → IsWhole spelling valid → ((x : X) → valid' x → valid x) → IsWhole spelling valid'
 whole_if parts weaker = record { one = λ x y v w e. parts.one x y (weaker x v) (weaker y w) e }
 
-one_both : {X Y : Type 0} (spell : X → List ℕ) (valid : X → Type 0) (spell' : Y → List ℕ) (valid' : Y → Type 0)
+one_both : {X Y : Type 0} (spell : X → List ℕ) (valid : X → Type 0) (spell' : Y → List ℕ)
+    (valid' : Y → Type 0)
     → IsPart spell valid → IsWhole spell' valid'
-    → (p q : X × Y) → valid p.0 × valid' p.1 → valid q.0 × valid' q.1 → spell p.0 ++ spell' p.1 ≡ spell q.0 ++ spell' q.1 → p ≡ q
+    → (p q : X × Y) → valid p.0 × valid' p.1 → valid q.0 × valid' q.1
+    → spell p.0 ++ spell' p.1 ≡ spell q.0 ++ spell' q.1 → p ≡ q
 one_both {X = X} {Y = Y} spell valid spell' valid' f g p q v w e =
     let front = f.one p.0 q.0 (spell' p.1) (spell' q.1) v.0 w.0 e in
     let back = g.one p.1 q.1 v.1 w.1 front.1 in
     ap (λ (x : X). (x, p.1)) front.0 ∙ ap (λ (y : Y). (q.0, y)) back
 
-pub both : {X Y : Type 0} {spell : X → List ℕ} {valid : X → Type 0} {spell' : Y → List ℕ} {valid' : Y → Type 0}
-    → IsPart spell valid → IsWhole spell' valid' → IsWhole {X = X × Y} (λ p. spell p.0 ++ spell' p.1) (λ p. valid p.0 × valid' p.1)
-both {spell = spell} {valid = valid} {spell' = spell'} {valid' = valid'} f g = record { one = one_both spell valid spell' valid' f g }
+pub both : {X Y : Type 0} {spell : X → List ℕ} {valid : X → Type 0} {spell' : Y → List ℕ}
+    {valid' : Y → Type 0}
+    → IsPart spell valid → IsWhole spell' valid' → IsWhole {X = X × Y}
+    (λ p. spell p.0 ++ spell' p.1) (λ p. valid p.0 × valid' p.1)
+both {spell = spell} {valid = valid} {spell' = spell'} {valid' = valid'} f g = record
+    { one = one_both spell valid spell' valid' f g }
 
 -- an error says the same of values that come and go together
-pub same_error : {X Y : Type 0} (P : X → Type 0) (Q : Y → Type 0) → ((y : Y) → Q y → (x : X) × P x) → ((x : X) → P x → (y : Y) × Q y) → (e : PayloadError) → Answers P (Err e) → Answers Q (Err e)
+pub same_error : {X Y : Type 0} (P : X → Type 0) (Q : Y → Type 0) → ((y : Y) → Q y → (x : X) × P x)
+    → ((x : X) → P x → (y : Y) × Q y) → (e : PayloadError) → Answers P (Err e) → Answers Q (Err e)
 same_error P Q back on Malformed none = λ y q. let p = back y q in none p.0 p.1
 same_error P Q back on Memory there = on there.0 there.1
 
 -- where the rest after a part isn't read, the whole isn't
-pub both_fail : {X Y : Type 0} {spell : X → List ℕ} {valid : X → Type 0} (spell' : Y → List ℕ) (valid' : Y → Type 0) → IsPart spell valid
-    → {bytes rest : List ℕ} {x : X} → Begins spell valid bytes x rest → (e : PayloadError) → Answers (Spells spell' valid' rest) (Err e)
-    → Answers (Spells {X = X × Y} (λ p. spell p.0 ++ spell' p.1) (λ p. valid p.0 × valid' p.1) bytes) (Err e)
+pub both_fail : {X Y : Type 0} {spell : X → List ℕ} {valid : X → Type 0} (spell' : Y → List ℕ)
+    (valid' : Y → Type 0) → IsPart spell valid
+    → {bytes rest : List ℕ} {x : X} → Begins spell valid bytes x rest → (e : PayloadError)
+    → Answers (Spells spell' valid' rest) (Err e)
+    → Answers (Spells {X = X × Y} (λ p. spell p.0 ++ spell' p.1) (λ p. valid p.0 × valid' p.1)
+    bytes) (Err e)
 both_fail spell' valid' part {rest = rest} {x = x} b Malformed none = λ p s.
-    let same = part.one x p.0 rest (spell' p.1) b.is_valid s.is_valid.0 (sym b.bytes_are ∙ s.bytes_are) in
+    let same = part.one x p.0 rest (spell' p.1) b.is_valid s.is_valid.0
+    (sym b.bytes_are ∙ s.bytes_are) in
     none p.1 (record { bytes_are = same.1; is_valid = s.is_valid.1 })
-both_fail {spell = spell} spell' valid' part {x = x} b Memory there =
-    ((x, there.0), record { bytes_are = b.bytes_are ∙ ap (λ (r : List ℕ). spell x ++ r) there.1.bytes_are; is_valid = (b.is_valid, there.1.is_valid) })
+both_fail {spell = spell} spell' valid' part {x = x} b Memory there = (
+  (x, there.0),
+  record {
+    bytes_are = b.bytes_are ∙ ap (λ (r : List ℕ). spell x ++ r)
+        there.1.bytes_are;
+    is_valid = (b.is_valid, there.1.is_valid);
+  },
+)

@@ -17,7 +17,8 @@ IsDrawKind kind =
     ((129 ≤ kind) × (kind ≤ 134)) ⊎ ((136 ≤ kind) × (kind ≤ 137)) ⊎ ((146 ≤ kind) × (kind ≤ 147))
     ⊎ ((149 ≤ kind) × (kind ≤ 150)) ⊎ (kind ≡ 152)
 
--- the kinds of the messages that hold a title, colours, pixels or dabs, the only ones that take memory
+-- the kinds of the messages that hold a title, colours, pixels or dabs, the only ones that take
+-- memory
 abbrev pub TakesMemory : ℕ → Type 0
 TakesMemory kind =
     (kind ≡ 130) ⊎ (kind ≡ 132) ⊎ (kind ≡ 136) ⊎ (kind ≡ 146) ⊎ (kind ≡ 149) ⊎ (kind ≡ 150)

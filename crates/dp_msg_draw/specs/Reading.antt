@@ -4,12 +4,14 @@ use Rattle.dp_msg_draw.specs.declared.error.PayloadError.{PayloadError}
 use Rattle.dp_msg_draw.specs.declared.error.PayloadError.TheVariants.{Malformed, Memory}
 
 -- the bytes begin with the spelling of a valid value, and then come the rest
-pub record Begins {X : Type 0} (spelling : X → List ℕ) (valid : X → Type 0) (bytes : List ℕ) (x : X) (rest : List ℕ) : Type 0 where
+pub record Begins {X : Type 0} (spelling : X → List ℕ) (valid : X → Type 0) (bytes : List ℕ) (x : X)
+    (rest : List ℕ) : Type 0 where
   pub bytes_are : bytes ≡ spelling x ++ rest
   pub is_valid : valid x
 
 -- the bytes are the spelling of a valid value
-pub record Spells {X : Type 0} (spelling : X → List ℕ) (valid : X → Type 0) (bytes : List ℕ) (x : X) : Type 0 where
+pub record Spells {X : Type 0} (spelling : X → List ℕ) (valid : X → Type 0) (bytes : List ℕ) (x : X)
+    : Type 0 where
   pub bytes_are : bytes ≡ spelling x
   pub is_valid : valid x
 

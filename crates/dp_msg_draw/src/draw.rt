@@ -147,7 +147,8 @@ macro_rules! copied {
 }
 
 impl Draw {
-    /// An equal message. The only error is out of memory, which titles, colours, pixels and dabs take.
+    /// An equal message. The only error is out of memory, which titles, colours, pixels and dabs
+    /// take.
     pub fn copy(&self) -> Result<Draw, AllocError>
         ensures same { IfOk result (λ m. m ≡ self.now) }
         ensures memory { OnErr result (TakesMemory (draw_kind self.now)) }

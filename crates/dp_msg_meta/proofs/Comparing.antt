@@ -8,9 +8,13 @@ use Rattle.std.proofs.lemmas.Bool.{false≢true, eqb-true}
 use Rattle.std.proofs.lemmas.Bool.Decides.{Decides-eqb, Decides-int_eq}
 use Rattle.std.proofs.lemmas.Slice.Eq.{bytes_eq-Decides}
 use Rattle.dp_msg_meta.specs.declared.message.Control.{Control}
-use Rattle.dp_msg_meta.specs.declared.message.Control.TheVariants.{Hello, Disconnect, Ping, Ack, Welcome, ResetBegin, ResetEnd}
+use Rattle.dp_msg_meta.specs.declared.message.Control.TheVariants.{Hello, Disconnect, Ping, Ack}
+use Rattle.dp_msg_meta.specs.declared.message.Control.TheVariants.{Welcome, ResetBegin, ResetEnd}
 use Rattle.dp_msg_meta.specs.declared.message.Meta.{Meta}
-use Rattle.dp_msg_meta.specs.declared.message.Meta.TheVariants.{Join, Leave, Owners, Chat, Trusted, ResetMark, Laser, MovePointer, UserAcl, LayerAcl, FeatureTiers, Filtered}
+use Rattle.dp_msg_meta.specs.declared.message.Meta.TheVariants.{Join, Leave, Owners, Chat, Trusted}
+use Rattle.dp_msg_meta.specs.declared.message.Meta.TheVariants.{ResetMark, Laser, MovePointer}
+use Rattle.dp_msg_meta.specs.declared.message.Meta.TheVariants.{UserAcl, LayerAcl, FeatureTiers}
+use Rattle.dp_msg_meta.specs.declared.message.Meta.TheVariants.{Filtered}
 use Rattle.dp_msg_meta.specs.contracts.message.ControlPartialEq.TheImpl as control
 use Rattle.dp_msg_meta.specs.contracts.message.MetaPartialEq.TheImpl as meta
 use Rattle.dp_msg_meta.specs.Payloads.{tier_bytes}
@@ -58,7 +62,11 @@ control_again (Hello name) = bytes_again name
 control_again (Disconnect reason) = number_again reason
 control_again (Ping pong) = flag_again pong
 control_again (Ack epoch) = number_again epoch
-control_again (Welcome version user epoch at) = rw (number_again version, number_again user, number_again epoch) (number_again at)
+control_again (Welcome version user epoch at) = rw (
+  number_again version,
+  number_again user,
+  number_again epoch,
+) (number_again at)
 control_again ResetBegin = refl
 control_again ResetEnd = refl
 
@@ -73,7 +81,11 @@ control_is ResetEnd ResetEnd e = refl
 control_is m n e = absurd (false≢true e)
 
 pub same_control_told : (m n : Control) → Decides (same_control m n) (m ≡ n)
-same_control_told m n = (control_is m n, λ e. subst (λ (k : Control). same_control m k ≡ true) e (control_again m))
+same_control_told m n = (
+  control_is m n,
+  λ e. subst (λ (k : Control). same_control m k ≡ true) e
+      (control_again m),
+)
 
 meta_again : (m : Meta) → same_meta m m ≡ true
 meta_again (Join registered name) = rw (flag_again registered) (bytes_again name)
@@ -85,12 +97,17 @@ meta_again (ResetMark epoch carried) = rw (number_again epoch) (number_again car
 meta_again (Laser x y) = rw (signed_again x) (signed_again y)
 meta_again (MovePointer x y) = rw (signed_again x) (signed_again y)
 meta_again (UserAcl ids) = bytes_again ids
-meta_again (LayerAcl layer locked tier ids) = rw (number_again layer, flag_again locked, number_again tier) (bytes_again ids)
+meta_again (LayerAcl layer locked tier ids) = rw (
+  number_again layer,
+  flag_again locked,
+  number_again tier,
+) (bytes_again ids)
 meta_again (FeatureTiers t) = bytes_again (tier_bytes t)
 meta_again (Filtered filtered) = number_again filtered
 
 meta_is : (m n : Meta) → same_meta m n ≡ true → m ≡ n
-meta_is (Join registered name) (Join registered' name') e = grind (arith, bytes_eq-Decides name name')
+meta_is (Join registered name) (Join registered' name') e = grind
+    (arith, bytes_eq-Decides name name')
 meta_is Leave Leave e = refl
 meta_is (Owners ids) (Owners ids') e = ap Owners ((bytes_eq-Decides ids ids').0 e)
 meta_is (Chat text) (Chat text') e = ap Chat ((bytes_eq-Decides text text').0 e)
@@ -99,8 +116,13 @@ meta_is (ResetMark epoch carried) (ResetMark epoch' carried') e = grind arith
 meta_is (Laser x y) (Laser x' y') e = grind (arith, Decides-int_eq)
 meta_is (MovePointer x y) (MovePointer x' y') e = grind (arith, Decides-int_eq)
 meta_is (UserAcl ids) (UserAcl ids') e = ap UserAcl ((bytes_eq-Decides ids ids').0 e)
-meta_is (LayerAcl layer locked tier ids) (LayerAcl layer' locked' tier' ids') e = grind (arith, bytes_eq-Decides ids ids')
-meta_is (FeatureTiers t) (FeatureTiers u) e = grind (arith, bytes_eq-Decides (tier_bytes t) (tier_bytes u))
+meta_is (LayerAcl layer locked tier ids) (LayerAcl layer' locked' tier' ids') e = grind
+    (arith, bytes_eq-Decides ids ids')
+meta_is (FeatureTiers t) (FeatureTiers u) e = grind (
+  arith,
+  bytes_eq-Decides (tier_bytes t)
+      (tier_bytes u),
+)
 meta_is (Filtered filtered) (Filtered filtered') e = ap Filtered (eqb-true filtered filtered' e)
 meta_is m n e = absurd (false≢true e)
 

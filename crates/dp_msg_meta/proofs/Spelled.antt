@@ -1,12 +1,14 @@
 -- Each of these parts is that of a message, which is spelled.
-use Rattle.std.proofs.Common.{◌≡◌, ℕ, ◌-◌, ◌<◌, ◌≤◌, ◌^◌, Bool, List, length, take, drop, slice_index_or, Fits, w8, refl, arith}
+use Rattle.std.proofs.Common.{◌≡◌, ℕ, ◌-◌, ◌<◌, ◌≤◌, ◌^◌, Bool, List, length, take, drop}
+use Rattle.std.proofs.Common.{slice_index_or, Fits, w8, refl, arith}
 use Rattle.byteorder.specs.Endian.{big_number}
 use Rattle.std.proofs.lemmas.Grind.{common_steps}
 use Rattle.std.specs.Str.{IsUtf8}
 use Rattle.dp_msg_meta.specs.declared.message.Control.{Control}
 use Rattle.dp_msg_meta.specs.declared.message.Control.TheVariants.{Hello}
 use Rattle.dp_msg_meta.specs.declared.message.Meta.{Meta}
-use Rattle.dp_msg_meta.specs.declared.message.Meta.TheVariants.{Join, Owners, Chat, Trusted, UserAcl, LayerAcl}
+use Rattle.dp_msg_meta.specs.declared.message.Meta.TheVariants.{Join, Owners, Chat, Trusted}
+use Rattle.dp_msg_meta.specs.declared.message.Meta.TheVariants.{UserAcl, LayerAcl}
 use Rattle.dp_msg_meta.specs.Fields.{one_byte, flag_byte, RiseFrom, IsName, IsText}
 use Rattle.dp_msg_meta.specs.Payloads.{SpellsControl, SpellsMeta}
 
@@ -17,8 +19,14 @@ pub join_spelled : (bytes : List ℕ) (registered : Bool) → 1 ≤ length bytes
     → one_byte (slice_index_or bytes 0 0) ≡ flag_byte registered
     → (name : List ℕ) → name ≡ take (length bytes - 1) (drop 1 bytes) → IsUtf8 name × IsName name
     → (m : Meta) × SpellsMeta 32 bytes m
-join_spelled bytes registered long flag name rest h =
-    (Join registered name, record { kind = refl; payload = grind (arith, common_steps); spelled = h })
+join_spelled bytes registered long flag name rest h = (
+  Join registered name,
+  record {
+    kind = refl;
+    payload = grind (arith, common_steps);
+    spelled = h;
+  },
+)
 
 pub owners_spelled : (ids : List ℕ) → RiseFrom 1 ids → (m : Meta) × SpellsMeta 34 ids m
 owners_spelled ids h = (Owners ids, record { kind = refl; payload = refl; spelled = h })

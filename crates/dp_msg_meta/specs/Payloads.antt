@@ -105,7 +105,8 @@ AreTiers t =
     × (t.edit_layers ≤ 3) × (t.own_layers ≤ 3) × (t.laser ≤ 3) × (t.undo ≤ 3)
 
 -- Which meta messages have a spelling: each number lies within its width, and ids rise, names,
--- texts and tiers are such. (So no payload has more than 65,535 bytes: ids that rise are at most 255.)
+-- texts and tiers are such. (So no payload has more than 65,535 bytes: ids that rise are at most
+-- 255.)
 abbrev pub MetaHasSpelling : Meta → Type 0
 MetaHasSpelling (Join registered name) = IsUtf8 name × IsName name
 MetaHasSpelling Leave = Unit {0}

@@ -1,5 +1,6 @@
 -- Tests of places in rectangles, and the facts that they decide.
-use Rattle.std.proofs.Common.{◌≡◌, ℕ, ◌+◌, ◌<◌, ◌≤◌, Bool, true, false, ◌&&◌, arith, refl, ◌⊎◌, inl, inr}
+use Rattle.std.proofs.Common.{◌≡◌, ℕ, ◌+◌, ◌<◌, ◌≤◌, Bool, true, false, ◌&&◌, arith, refl, ◌⊎◌, inl}
+use Rattle.std.proofs.Common.{inr}
 use Rattle.std.specs.Prelude.{ℤ, pos, ◌+ℤ◌, ◌-ℤ◌, ◌≤ℤ◌, ◌<ℤ◌, int_lt, int_le}
 use Rattle.std.proofs.lemmas.Int.{ints, int_max_is, int_min_is}
 use Rattle.std.proofs.lemmas.Bool.{cases_Bool, false_from_ne_true}
@@ -78,7 +79,8 @@ clipped_by a b x y h k =
     }
 
 -- the places of a row in a rectangle are in it
-pub row_in : (bounds : Rect) (place : Place) (len k : ℕ) → IsRowIn bounds place len → k < len → is_in bounds (place.x +ℤ pos k) place.y ≡ true
+pub row_in : (bounds : Rect) (place : Place) (len k : ℕ) → IsRowIn bounds place len → k < len
+    → is_in bounds (place.x +ℤ pos k) place.y ≡ true
 row_in bounds place len k row within =
     let left = row.left in
     let right = row.right in
@@ -90,7 +92,8 @@ row_in bounds place len k row within =
     })
 
 -- so is the place where it begins
-pub row_start : (bounds : Rect) (place : Place) (len : ℕ) → IsRowIn bounds place len → IsIn bounds place.x place.y
+pub row_start : (bounds : Rect) (place : Place) (len : ℕ) → IsRowIn bounds place len
+    → IsIn bounds place.x place.y
 row_start bounds place len row =
     let some = row.some in
     let right = row.right in

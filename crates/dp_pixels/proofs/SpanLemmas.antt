@@ -13,7 +13,8 @@ same_test false true to from = from refl
 same_test false false to from = refl
 
 -- the test of a column
-pub in_span : (span : Span) (k : ℕ) → ((leb span.start k && ltb k span.end) ≡ true) ↔ IsInSpan span k
+pub in_span : (span : Span) (k : ℕ) → ((leb span.start k && ltb k span.end) ≡ true) ↔ IsInSpan span
+    k
 in_span span k = (
   λ test.
       let both = and_parts (leb span.start k) (ltb k span.end) test in

@@ -1,5 +1,7 @@
 -- The dabs of a message, one after the other.
-use Rattle.std.proofs.Common.{◌≡◌, ℕ, ◌+◌, ◌*◌, ◌^◌, ◌<◌, ◌≤◌, List, [], ◌∷◌, ◌++◌, length, get_or, take, map, fold, cond, Bool, true, false, refl, arith, ap, ◌∙◌, sym, subst}
+use Rattle.std.proofs.Common.{◌≡◌, ℕ, ◌+◌, ◌*◌, ◌^◌, ◌<◌, ◌≤◌, List, [], ◌∷◌, ◌++◌, length, get_or}
+use Rattle.std.proofs.Common.{take, map, fold, cond, Bool, true, false, refl, arith, ap, ◌∙◌, sym}
+use Rattle.std.proofs.Common.{subst}
 use Rattle.std.specs.Prelude.{ℤ, pos, ◌+ℤ◌, ◌-ℤ◌, ◌≤ℤ◌, ◌<ℤ◌, unsigned_abs}
 use Rattle.std.specs.List.{enumerate_from}
 use Rattle.std.proofs.lemmas.Int.{ints}
@@ -43,19 +45,24 @@ behind last dab = put (last.x +ℤ dab.dx) (last.y +ℤ dab.dy) dab
 -- the dab at an index stands at the sums of the differences up to it
 get_or-placed_dabs : (left top : ℤ) (dabs : List Dab) (k : ℕ) (d : PlacedDab) → k < length dabs
     → get_or (placed_dabs left top dabs) k d
-    ≡ put (left +ℤ sum_of (λ (e : Dab). e.dx) dabs (k + 1)) (top +ℤ sum_of (λ (e : Dab). e.dy) dabs (k + 1)) (get_or dabs k no_dab)
+    ≡ put (left +ℤ sum_of (λ (e : Dab). e.dx) dabs (k + 1))
+    (top +ℤ sum_of (λ (e : Dab). e.dy) dabs (k + 1)) (get_or dabs k no_dab)
 get_or-placed_dabs left top dabs k d within =
     let place = λ (entry : ℕ × Dab).
-    put (left +ℤ sum_of (λ (e : Dab). e.dx) dabs (entry.0 + 1)) (top +ℤ sum_of (λ (e : Dab). e.dy) dabs (entry.0 + 1)) entry.1 in
+    put (left +ℤ sum_of (λ (e : Dab). e.dx) dabs (entry.0 + 1))
+    (top +ℤ sum_of (λ (e : Dab). e.dy) dabs (entry.0 + 1)) entry.1 in
     let short : k < length (enumerate_from 0 dabs) = omega (arith, length-enumerate_from 0 dabs) in
     let here : 0 + k ≡ k = omega arith in
     get_or-map place (enumerate_from 0 dabs) k (0, no_dab) d short
-    ∙ ap place (get_or-enumerate_from 0 dabs k (0, no_dab) within ∙ ap (λ (n : ℕ). (n, get_or dabs k no_dab)) here)
+    ∙ ap place (get_or-enumerate_from 0 dabs k (0, no_dab) within
+    ∙ ap (λ (n : ℕ). (n, get_or dabs k no_dab)) here)
 
 -- the sum of one number more
-sum_of-more : (f : Dab → ℤ) (dabs : List Dab) (k : ℕ) → k < length dabs → sum_of f dabs (k + 1) ≡ sum_of f dabs k +ℤ f (get_or dabs k no_dab)
+sum_of-more : (f : Dab → ℤ) (dabs : List Dab) (k : ℕ) → k < length dabs
+    → sum_of f dabs (k + 1) ≡ sum_of f dabs k +ℤ f (get_or dabs k no_dab)
 sum_of-more f dabs k within =
-    ap int_sum (map_more f dabs k no_dab within) ∙ fold_push ◌+ℤ◌ (pos 0) (map f (take k dabs)) (f (get_or dabs k no_dab))
+    ap int_sum (map_more f dabs k no_dab within) ∙ fold_push ◌+ℤ◌ (pos 0) (map f (take k dabs))
+    (f (get_or dabs k no_dab))
 
 -- the place of the last of the first k dabs, or that of the message
 pub record IsLast (left top : ℤ) (dabs : List Dab) (k : ℕ) (last : Place) : Type 0 where
@@ -71,16 +78,20 @@ last_none at dabs near = record {
 }
 
 -- the dab after the last one is the last of one dab more
-pub last_more : (left top : ℤ) (dabs : List Dab) (k : ℕ) (last : Place) (placed : PlacedDab) → k < length dabs
-    → placed ≡ behind last (get_or dabs k no_dab) → unsigned_abs placed.at.x ≤ unsigned_abs last.x + 128 → unsigned_abs placed.at.y ≤ unsigned_abs last.y + 128
+pub last_more : (left top : ℤ) (dabs : List Dab) (k : ℕ) (last : Place) (placed : PlacedDab)
+    → k < length dabs
+    → placed ≡ behind last (get_or dabs k no_dab) → unsigned_abs placed.at.x ≤ unsigned_abs last.x
+    + 128 → unsigned_abs placed.at.y ≤ unsigned_abs last.y + 128
     → IsLast left top dabs k last → IsLast left top dabs (k + 1) placed.at
 last_more left top dabs k last placed within is near_x near_y before =
     let is_x = before.x in
     let is_y = before.y in
     let last_x = before.near.x in
     let last_y = before.near.y in
-    let to_x : placed.at.x ≡ last.x +ℤ (get_or dabs k no_dab).dx = ap (λ (p : PlacedDab). p.at.x) is in
-    let to_y : placed.at.y ≡ last.y +ℤ (get_or dabs k no_dab).dy = ap (λ (p : PlacedDab). p.at.y) is in
+    let to_x : placed.at.x ≡ last.x +ℤ (get_or dabs k no_dab).dx = ap (λ (p : PlacedDab). p.at.x) is
+    in
+    let to_y : placed.at.y ≡ last.y +ℤ (get_or dabs k no_dab).dy = ap (λ (p : PlacedDab). p.at.y) is
+    in
     record {
       x = omega (arith, ints, sum_of-more (λ (e : Dab). e.dx) dabs k within);
       y = omega (arith, ints, sum_of-more (λ (e : Dab). e.dy) dabs k within);
@@ -88,35 +99,45 @@ last_more left top dabs k last placed within is near_x near_y before =
     }
 
 -- and the next in the list
-pub placed_is : (left top : ℤ) (dabs : List Dab) (k : ℕ) (last : Place) (placed d : PlacedDab) → k < length dabs
-    → placed ≡ behind last (get_or dabs k no_dab) → IsLast left top dabs k last → get_or (placed_dabs left top dabs) k d ≡ placed
+pub placed_is : (left top : ℤ) (dabs : List Dab) (k : ℕ) (last : Place) (placed d : PlacedDab)
+    → k < length dabs
+    → placed ≡ behind last (get_or dabs k no_dab) → IsLast left top dabs k last
+    → get_or (placed_dabs left top dabs) k d ≡ placed
 placed_is left top dabs k last placed d within is before =
     let is_x = before.x in
     let is_y = before.y in
     let dab = get_or dabs k no_dab in
-    let to_x : left +ℤ sum_of (λ (e : Dab). e.dx) dabs (k + 1) ≡ last.x +ℤ dab.dx = omega (arith, ints, sum_of-more (λ (e : Dab). e.dx) dabs k within) in
-    let to_y : top +ℤ sum_of (λ (e : Dab). e.dy) dabs (k + 1) ≡ last.y +ℤ dab.dy = omega (arith, ints, sum_of-more (λ (e : Dab). e.dy) dabs k within) in
+    let to_x : left +ℤ sum_of (λ (e : Dab). e.dx) dabs (k + 1)
+    ≡ last.x +ℤ dab.dx = omega (arith, ints, sum_of-more (λ (e : Dab). e.dx) dabs k within) in
+    let to_y : top +ℤ sum_of (λ (e : Dab). e.dy) dabs (k + 1)
+    ≡ last.y +ℤ dab.dy = omega (arith, ints, sum_of-more (λ (e : Dab). e.dy) dabs k within) in
     get_or-placed_dabs left top dabs k d within
     ∙ (ap (λ (z : ℤ). put z (top +ℤ sum_of (λ (e : Dab). e.dy) dabs (k + 1)) dab) to_x
     ∙ (ap (λ (z : ℤ). put (last.x +ℤ dab.dx) z dab) to_y ∙ sym is))
 
 -- a region with one dab more
-pub dabs_more : (region : Region) (stride : ℕ) (shape : Shape) (mode : Mode) (color : Channels) (dabs : List PlacedDab) (k : ℕ) (dab : PlacedDab) (old now new : List Channels)
+pub dabs_more : (region : Region) (stride : ℕ) (shape : Shape) (mode : Mode) (color : Channels)
+    (dabs : List PlacedDab) (k : ℕ) (dab : PlacedDab) (old now new : List Channels)
     → k < length dabs → get_or dabs k dab ≡ dab
-    → IsPainted region stride (on_canvas region (dabs_blended shape mode color (take k dabs))) old now
+    → IsPainted region stride (on_canvas region (dabs_blended shape mode color (take k dabs))) old
+    now
     → IsPainted region stride (on_canvas region (dab_blended shape mode color dab)) now new
-    → IsPainted region stride (on_canvas region (dabs_blended shape mode color (take (k + 1) dabs))) old new
+    → IsPainted region stride (on_canvas region (dabs_blended shape mode color (take (k + 1) dabs)))
+    old new
 dabs_more region stride shape mode color dabs k dab old now new within is before here =
-    painted_same region stride _ (on_canvas region (dabs_blended shape mode color (take (k + 1) dabs))) old new (λ i j p in_x in_y.
+    painted_same region stride _ (on_canvas region (dabs_blended shape mode color
+    (take (k + 1) dabs))) old new (λ i j p in_x in_y.
     let x = pos (region.x + i) in
     let y = pos (region.y + j) in
     let step = λ (under : Channels) (d : PlacedDab). dab_blended shape mode color d x y under in
     let more : step (fold step p (take k dabs)) dab ≡ fold step p (take (k + 1) dabs) =
     ap (step (fold step p (take k dabs))) (sym is) ∙ sym (fold_more step p dabs k dab within) in
-    on_both (is_in (canvas_rect region.canvas_width region.canvas_height) x y) (λ q. step q dab) (fold step p (take k dabs)) p _ more)
+    on_both (is_in (canvas_rect region.canvas_width region.canvas_height) x y) (λ q. step q dab)
+    (fold step p (take k dabs)) p _ more)
     (painted_then region stride _ _ old now new before here)
   where
-    on_both : (t : Bool) (f : Channels → Channels) (a p b : Channels) → f a ≡ b → cond t (f (cond t a p)) (cond t a p) ≡ cond t b p
+    on_both : (t : Bool) (f : Channels → Channels) (a p b : Channels) → f a ≡ b
+        → cond t (f (cond t a p)) (cond t a p) ≡ cond t b p
     on_both true f a p b is = is
     on_both false f a p b is = refl
 
@@ -126,8 +147,10 @@ pub record IsNext (left top : ℤ) (dabs : List Dab) (k : ℕ) (placed : PlacedD
   pub within : k < length (placed_dabs left top dabs)
   pub is : get_or (placed_dabs left top dabs) k placed ≡ placed
 
-pub next_is : (left top : ℤ) (dabs : List Dab) (k : ℕ) (last : Place) (placed : PlacedDab) → k < length dabs
-    → placed ≡ behind last (get_or dabs k no_dab) → unsigned_abs placed.at.x ≤ unsigned_abs last.x + 128 → unsigned_abs placed.at.y ≤ unsigned_abs last.y + 128
+pub next_is : (left top : ℤ) (dabs : List Dab) (k : ℕ) (last : Place) (placed : PlacedDab)
+    → k < length dabs
+    → placed ≡ behind last (get_or dabs k no_dab) → unsigned_abs placed.at.x ≤ unsigned_abs last.x
+    + 128 → unsigned_abs placed.at.y ≤ unsigned_abs last.y + 128
     → IsLast left top dabs k last → IsNext left top dabs k placed
 next_is left top dabs k last placed within is near_x near_y before = record {
   last = last_more left top dabs k last placed within is near_x near_y before;
@@ -136,11 +159,16 @@ next_is left top dabs k last placed within is near_x near_y before = record {
 }
 
 -- a region on which the same dabs are drawn, by other names
-pub stroke_as : (region : Region) (stride mode : ℕ) (color as_color : Channels) (shape as_shape : Shape) (dabs as_dabs : List PlacedDab) (old new : List Channels)
+pub stroke_as : (region : Region) (stride mode : ℕ) (color as_color : Channels)
+    (shape as_shape : Shape) (dabs as_dabs : List PlacedDab) (old new : List Channels)
     → color ≡ as_color → shape ≡ as_shape → dabs ≡ as_dabs
     → IsPainted region stride (on_canvas region (stroked mode color shape dabs)) old new
     → IsPainted region stride (on_canvas region (stroked mode as_color as_shape as_dabs)) old new
-stroke_as region stride mode color as_color shape as_shape dabs as_dabs old new colors shapes lists painted =
-    subst (λ (p : Channels). IsPainted region stride (on_canvas region (stroked mode p as_shape as_dabs)) old new) colors
-    (subst (λ (s : Shape). IsPainted region stride (on_canvas region (stroked mode color s as_dabs)) old new) shapes
-    (subst (λ (l : List PlacedDab). IsPainted region stride (on_canvas region (stroked mode color shape l)) old new) lists painted))
+stroke_as region stride mode color as_color shape as_shape dabs as_dabs old new colors shapes lists
+    painted =
+    subst (λ (p : Channels). IsPainted region stride (on_canvas region
+    (stroked mode p as_shape as_dabs)) old new) colors
+    (subst (λ (s : Shape). IsPainted region stride (on_canvas region (stroked mode color s as_dabs))
+    old new) shapes
+    (subst (λ (l : List PlacedDab). IsPainted region stride
+    (on_canvas region (stroked mode color shape l)) old new) lists painted))

@@ -12,7 +12,11 @@ pub record IsCountBelow (limit : ℤ) (from len n : ℕ) : Type 0 where
 
 -- the columns and rows of a region that are in a rectangle and on the canvas
 pub record IsClip (region : Region) (bounds : Rect) (part : Clip) : Type 0 where
-  pub left : IsCountBelow (clipped bounds (canvas_rect region.canvas_width region.canvas_height)).x0 region.x region.width part.left
-  pub right : IsCountBelow (clipped bounds (canvas_rect region.canvas_width region.canvas_height)).x1 region.x region.width part.right
-  pub top : IsCountBelow (clipped bounds (canvas_rect region.canvas_width region.canvas_height)).y0 region.y region.height part.top
-  pub bottom : IsCountBelow (clipped bounds (canvas_rect region.canvas_width region.canvas_height)).y1 region.y region.height part.bottom
+  pub left : IsCountBelow (clipped bounds (canvas_rect region.canvas_width region.canvas_height)).x0
+      region.x region.width part.left
+  pub right : IsCountBelow (clipped bounds (canvas_rect region.canvas_width
+      region.canvas_height)).x1 region.x region.width part.right
+  pub top : IsCountBelow (clipped bounds (canvas_rect region.canvas_width region.canvas_height)).y0
+      region.y region.height part.top
+  pub bottom : IsCountBelow (clipped bounds (canvas_rect region.canvas_width
+      region.canvas_height)).y1 region.y region.height part.bottom

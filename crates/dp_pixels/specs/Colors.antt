@@ -2,7 +2,8 @@
 use Rattle.std.specs.Prelude.{ℕ, ◌<◌, ◌^◌, ⊤, List}
 use Rattle.std.specs.List.{All}
 use Rattle.dp_msg_draw.specs.declared.draw.Draw.{Draw}
-use Rattle.dp_msg_draw.specs.declared.draw.Draw.TheVariants.{FillRect, PutImage, DabsRound, DabsSquare}
+use Rattle.dp_msg_draw.specs.declared.draw.Draw.TheVariants.{FillRect, PutImage, DabsRound}
+use Rattle.dp_msg_draw.specs.declared.draw.Draw.TheVariants.{DabsSquare}
 use Rattle.dp_msg_draw.specs.declared.lists.Dab.{Dab}
 
 -- red, green and blue are bytes, and so is the opacity of each dab

@@ -10,7 +10,8 @@ use Rattle.dp_blend.specs.Blending.{blend, mode_numbered}
 use Rattle.dp_blend.specs.declared.modes.Mode.{Mode}
 use Rattle.dp_blend.specs.declared.modes.Mode.TheVariants.{Normal}
 use Rattle.dp_msg_draw.specs.declared.draw.Draw.{Draw}
-use Rattle.dp_msg_draw.specs.declared.draw.Draw.TheVariants.{FillRect, PutImage, PutTile, DabsRound, DabsSquare, MoveRect}
+use Rattle.dp_msg_draw.specs.declared.draw.Draw.TheVariants.{FillRect, PutImage, PutTile, DabsRound}
+use Rattle.dp_msg_draw.specs.declared.draw.Draw.TheVariants.{DabsSquare, MoveRect}
 use Rattle.dp_pixels.specs.declared.dabs.PlacedDab.{PlacedDab}
 use Rattle.dp_pixels.specs.declared.dabs.Shape.{Shape}
 use Rattle.dp_pixels.specs.declared.dabs.Shape.TheVariants.{Round, Square}

@@ -13,7 +13,8 @@ use Rattle.dp_pixels.specs.Rectangles.{is_in, rect_at}
 abbrev pub int_sum : List ℤ → ℤ
 int_sum numbers = fold ◌+ℤ◌ (pos 0) numbers
 
--- the dabs of a message at a place: dab k, counted from 0, stands at that place plus the sums of the
+-- the dabs of a message at a place: dab k, counted from 0, stands at that place plus the sums of
+-- the
 -- differences of the dabs up to it, its own included
 abbrev pub placed_dabs : ℤ → ℤ → List Dab → List PlacedDab
 placed_dabs x y dabs =
@@ -34,7 +35,8 @@ placed_dabs x y dabs =
 -- its place
 abbrev pub dab_rect : PlacedDab → Rect
 dab_rect dab =
-    let half = dab.size / 2 in rect_at (dab.at.x -ℤ pos half) (dab.at.y -ℤ pos half) dab.size dab.size
+    let half = dab.size / 2 in rect_at (dab.at.x -ℤ pos half) (dab.at.y -ℤ pos half) dab.size
+    dab.size
 
 -- the square of a whole number
 abbrev pub squared : ℤ → ℕ
@@ -44,7 +46,8 @@ squared z = unsigned_abs z * unsigned_abs z
 abbrev pub from_middle : ℕ → ℤ → ℤ
 from_middle size i = i +ℤ i +ℤ pos 1 -ℤ pos size
 
--- the cell (i, j) of a dab of this size is in the disc: (2i + 1 - size)^2 + (2j + 1 - size)^2 <= size^2
+-- the cell (i, j) of a dab of this size is in the disc: (2i + 1 - size)^2 + (2j + 1 - size)^2 <=
+-- size^2
 abbrev pub is_in_disc : ℕ → ℤ → ℤ → Bool
 is_in_disc size i j =
     nat_le (squared (from_middle size i) + squared (from_middle size j)) (size * size)

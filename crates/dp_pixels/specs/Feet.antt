@@ -1,9 +1,12 @@
 -- The foot of a command: where it may change a layer, and where it reads it.
 use Rattle.std.specs.Prelude.{ℕ, ◌+◌, ◌-◌, ◌*◌, ◌/◌, ◌==◌, ℤ, pos, unsigned_abs}
-use Rattle.std.specs.Prelude.{Bool, true, ◌&&◌, ◌||◌, int_lt, if◌then◌else◌, List, [], ◌∷◌, map, fold, Option, Some, None}
+use Rattle.std.specs.Prelude.{Bool, true, ◌&&◌, ◌||◌, int_lt, if◌then◌else◌, List, [], ◌∷◌, map}
+use Rattle.std.specs.Prelude.{fold, Option, Some, None}
 use Rattle.std.specs.List.{sum_by, count_by, range_with_len}
 use Rattle.dp_msg_draw.specs.declared.draw.Draw.{Draw}
-use Rattle.dp_msg_draw.specs.declared.draw.Draw.TheVariants.{CanvasResize, FillRect, PutImage, PutTile, DabsRound, DabsSquare, MoveRect}
+use Rattle.dp_msg_draw.specs.declared.draw.Draw.TheVariants.{CanvasResize, FillRect, PutImage}
+use Rattle.dp_msg_draw.specs.declared.draw.Draw.TheVariants.{PutTile, DabsRound, DabsSquare}
+use Rattle.dp_msg_draw.specs.declared.draw.Draw.TheVariants.{MoveRect}
 use Rattle.dp_pixels.specs.declared.rect.Rect.{Rect}
 use Rattle.dp_pixels.specs.Rectangles.{is_in, rect_at, clipped, share_place, joined, canvas_rect}
 use Rattle.dp_pixels.specs.declared.dabs.PlacedDab.{PlacedDab}
@@ -30,8 +33,10 @@ dabs_foot layer dabs = Area layer (clipped (around dabs) greatest_canvas)
 
 -- the foot of a command
 abbrev pub foot : Draw → Footprint
-foot (FillRect layer mode x y w h color) = Area layer (clipped (rect_at (pos x) (pos y) w h) greatest_canvas)
-foot (PutImage layer mode x y w h colors) = Area layer (clipped (rect_at (pos x) (pos y) w h) greatest_canvas)
+foot (FillRect layer mode x y w h color) = Area layer (clipped (rect_at (pos x) (pos y) w h)
+    greatest_canvas)
+foot (PutImage layer mode x y w h colors) = Area layer (clipped (rect_at (pos x) (pos y) w h)
+    greatest_canvas)
 foot (DabsRound layer x y r g b mode dabs) = dabs_foot layer (placed_dabs x y dabs)
 foot (DabsSquare layer x y r g b mode dabs) = dabs_foot layer (placed_dabs x y dabs)
 foot (PutTile layer col row repeat content) =
@@ -54,7 +59,8 @@ is_in_foot All x y = true
 -- a layer has a rectangle that shares a place with the foot
 abbrev pub meets_area : Footprint → ℕ → Rect → Bool
 meets_area (Area layer rect) other area = layer == other && share_place rect area
-meets_area (Two layer from to) other area = layer == other && (share_place from area || share_place to area)
+meets_area (Two layer from to) other area = layer == other
+    && (share_place from area || share_place to area)
 meets_area All other area = true
 
 -- two feet meet where one is everything, or where they are of one layer and a rectangle of the one

@@ -14,7 +14,8 @@ on_canvas region change x y old =
 
 -- A list whose rows are stride long was painted: at each place of the region the pixel is what the
 -- change makes of the old one, and at all other indices it stays.
-pub record IsPainted (region : Region) (stride : ℕ) (change : ℤ → ℤ → Channels → Channels) (old new : List Channels) : Type 0 where
+pub record IsPainted (region : Region) (stride : ℕ) (change : ℤ → ℤ → Channels → Channels)
+    (old new : List Channels) : Type 0 where
   pub len : length new ≡ length old
   pub inside : (i j : ℕ) (d : Channels) → i < region.width → j < region.height
       → slice_index_or new (j * stride + i) d

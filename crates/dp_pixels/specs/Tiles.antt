@@ -1,5 +1,6 @@
 -- The tiles of a canvas, of 64 by 64 pixels, and what PutTile makes of its pixels.
-use Rattle.std.specs.Prelude.{ℕ, ◌+◌, ◌*◌, ◌/◌, ◌%◌, nat_lt, nat_le, ◌==◌, ℤ, pos, unsigned_abs, Bool, ◌&&◌, if◌then◌else◌}
+use Rattle.std.specs.Prelude.{ℕ, ◌+◌, ◌*◌, ◌/◌, ◌%◌, nat_lt, nat_le, ◌==◌, ℤ, pos, unsigned_abs}
+use Rattle.std.specs.Prelude.{Bool, ◌&&◌, if◌then◌else◌}
 use Rattle.std.specs.Prelude.{Option, Some, slice_get}
 use Rattle.std.specs.Option.{option_map_or}
 use Rattle.dp_blend.specs.Color.{Channels}
@@ -12,7 +13,8 @@ use Rattle.dp_pixels.specs.declared.rect.Rect.{Rect}
 abbrev pub tiles_along : ℕ → ℕ
 tiles_along side = (side + 63) / 64
 
--- the number of the tile at a column and a row of a canvas of this width: tiles are numbered from 0,
+-- the number of the tile at a column and a row of a canvas of this width: tiles are numbered from
+-- 0,
 -- row by row
 abbrev pub tile_number : ℕ → ℕ → ℕ → ℕ
 tile_number width col row = row * tiles_along width + col
@@ -57,5 +59,11 @@ abbrev pub tiles_rect : ℕ → ℕ → ℕ → ℕ → Rect
 tiles_rect width col row repeat =
     let last = (tile_number width col row + repeat) / tiles_along width in
     if last == row
-    then record { x0 = pos (col * 64); y0 = pos (row * 64); x1 = pos ((col + repeat + 1) * 64); y1 = pos ((last + 1) * 64) }
+    then record {
+      x0 = pos (col * 64);
+      y0 = pos (row * 64);
+      x1 = pos ((col + repeat + 1) * 64);
+      y1 =
+          pos ((last + 1) * 64);
+    }
     else record { x0 = pos 0; y0 = pos (row * 64); x1 = pos width; y1 = pos ((last + 1) * 64) }

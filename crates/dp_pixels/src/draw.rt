@@ -7,15 +7,15 @@ ghost use Rattle.dp_pixels.specs.Tiles.{tile_changed};
 ghost use Rattle.dp_pixels.specs.Commands.{dab_blended, filled, imaged, pixel_drawn, stroked};
 ghost use Rattle.dp_pixels.specs.Regions.{IsPainted, on_canvas};
 
-use crate::dabs::{PlacedDab, Shape, DabRun};
+use crate::dabs::{DabRun, PlacedDab, Shape};
 use crate::disc::Disc;
 use crate::fill::Fill;
 use crate::image::{Image, ImageFill};
 use crate::paint::paint_region;
-use crate::place::{opaque, rect_of, dab_run_of};
+use crate::place::{dab_run_of, opaque, rect_of};
 use crate::rect::Rect;
-use crate::tiles::{TileRun, tiles_along};
 use crate::region::Region;
+use crate::tiles::{TileRun, tiles_along};
 use dp_blend::{Mode, Pixel, fade, from8, of_argb};
 use dp_msg_draw::{Draw, TileContent};
 
@@ -144,8 +144,10 @@ fn tile_window(
     }
 }
 
-/// Draws a command other than MoveRect on a region, in a list of pixels whose rows are `stride` long.
-/// The pixels of the region that are on the canvas change, and all others stay; a command that is no
+/// Draws a command other than MoveRect on a region, in a list of pixels whose rows are `stride`
+/// long.
+/// The pixels of the region that are on the canvas change, and all others stay; a command that is
+/// no
 /// pixel command, and MoveRect, changes none. It takes no memory.
 ///
 /// The rule: docs/protocol.md, "Pixel commands".

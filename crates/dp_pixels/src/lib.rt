@@ -16,9 +16,9 @@ mod paint;
 mod patch;
 mod place;
 mod rect;
+mod region;
 mod span;
 mod tiles;
-mod region;
 
 pub use draw::draw_region;
 pub use laws::{

@@ -6,7 +6,7 @@ ghost use Rattle.dp_pixels.specs.Rectangles.{rect_at};
 ghost use Rattle.dp_pixels.specs.Dabs.{placed_dabs};
 ghost use Rattle.dp_pixels.specs.Commands.{covers, filled, imaged, is_stamp, pixel_after, stroked};
 
-use crate::dabs::{Shape, DabRun};
+use crate::dabs::{DabRun, Shape};
 use crate::image::Image;
 use crate::rect::{Place, Rect};
 use dp_blend::{Mode, Pixel, blend, of_argb};
@@ -60,7 +60,9 @@ pub fn covers(op: &Draw, x: i64, y: i64) -> bool
         Draw::FillRect { x, y, w, h, .. } => rect_of(*x, *y, *w, *h).contains(place),
         Draw::PutImage { x, y, w, h, .. } => rect_of(*x, *y, *w, *h).contains(place),
         Draw::DabsRound { x, y, dabs, .. } => dab_run_of(Shape::Round, *x, *y, dabs).covers(place),
-        Draw::DabsSquare { x, y, dabs, .. } => dab_run_of(Shape::Square, *x, *y, dabs).covers(place),
+        Draw::DabsSquare { x, y, dabs, .. } => dab_run_of(Shape::Square, *x, *y, dabs).covers(
+            place,
+        ),
         _ => false,
     }
 }

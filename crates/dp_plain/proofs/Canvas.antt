@@ -1,4 +1,5 @@
--- A canvas by its places: its length, the pixel at a place, and what lists of its length are equal to it.
+-- A canvas by its places: its length, the pixel at a place, and what lists of its length are equal
+-- to it.
 use Rattle.std.proofs.Common.{◌≡◌, ℕ, ◌+◌, ◌*◌, ◌/◌, ◌%◌, ◌-◌, ◌<◌, ◌≤◌, List, [], ◌∷◌, ◌++◌}
 use Rattle.std.proofs.Common.{length, get_or, take, drop, map, suc, zero, sym, ◌∙◌, ap, arith}
 use Rattle.std.proofs.Common.{length-append, add-one}
@@ -35,14 +36,16 @@ get_or-pieces piece w a (suc n) zero x d same in_y in_x =
     rw (at_start, first) front
 get_or-pieces piece w a (suc n) (suc y) x d same in_y in_x =
     let rest = get_or-pieces piece w (a + 1) n y x d same (omega arith) in_x in
-    let past = get_or-append-add (piece a) (flat_map piece (range_with_len (a + 1) n)) (y * w + x) d in
+    let past = get_or-append-add (piece a) (flat_map piece (range_with_len (a + 1) n)) (y * w + x) d
+    in
     let place : suc y * w + x ≡ length (piece a) + (y * w + x) = omega (arith, same a) in
     let later : a + suc y ≡ a + 1 + y = omega arith in
     rw (place, later) (past ∙ rest)
 
 -- one more piece comes last
 pieces_more : {X : Type 0} (piece : ℕ → List X) (a n : ℕ)
-    → flat_map piece (range_with_len a (suc n)) ≡ flat_map piece (range_with_len a n) ++ piece (a + n)
+    → flat_map piece (range_with_len a (suc n)) ≡ flat_map piece (range_with_len a n)
+    ++ piece (a + n)
 pieces_more piece a zero =
     let first : a + zero ≡ a = omega arith in
     rw first (append-nil (piece a))
@@ -80,7 +83,8 @@ same_at zero h ps qs i in_list same = absurd (omega arith)
 same_at (suc v) h ps qs i in_list same =
     let place : i / suc v * suc v + i % suc v ≡ i = div-add-mod' i (suc v) in
     let in_x : i % suc v < suc v = mod_below i (suc v) (omega arith) in
-    let in_y : i / suc v < h = div_below i (suc v) h (omega arith) (rw (mul_comm h (suc v)) in_list) in
+    let in_y : i / suc v < h = div_below i (suc v) h (omega arith) (rw (mul_comm h (suc v)) in_list)
+    in
     rw place at (same (i % suc v) (i / suc v) in_x in_y)
 
 -- two lists of a canvas's length that have the same pixel at each place are equal
@@ -98,7 +102,8 @@ is_canvas_of w h f ps ps_len same =
     (λ x y in_x in_y. same x y in_x in_y ∙ sym (pixel_at-canvas_of w h f x y in_x in_y))
 
 -- canvases whose pixels are the same at each place are equal
-pub canvas_of-same : (w h : ℕ) (f g : ℕ → ℕ → Channels) → ((x y : ℕ) → x < w → y < h → f x y ≡ g x y)
+pub canvas_of-same : (w h : ℕ) (f g : ℕ → ℕ → Channels) →
+    ((x y : ℕ) → x < w → y < h → f x y ≡ g x y)
     → canvas_of w h f ≡ canvas_of w h g
 canvas_of-same w h f g same =
     is_canvas_of w h g (canvas_of w h f) (length-canvas_of w h f)
@@ -124,9 +129,11 @@ row_of_pixels w y pixels in_list =
     let rest : length (drop (y * w) pixels) ≡ length pixels - y * w = length-drop (y * w) pixels in
     let len : length (take w (drop (y * w) pixels)) ≡ w = omega
     (arith, length-take w (drop (y * w) pixels)) in
-    rw count (ext_get_or clear (take w (drop (y * w) pixels)) (map (λ x. pixel_at w pixels x y) (below w))
+    rw count (ext_get_or clear (take w (drop (y * w) pixels))
+    (map (λ x. pixel_at w pixels x y) (below w))
     (len ∙ sym (length-map-range_with_len (λ x. pixel_at w pixels x y) 0 w))
     (λ i in_row.
     let below_w : i < w = omega arith in
     get_or-take w (drop (y * w) pixels) i clear below_w ∙ get_or-drop (y * w) pixels i clear
-    ∙ sym (get_or-map-range_with_len (λ x. pixel_at w pixels x y) 0 w i i clear below_w (omega arith))))
+    ∙ sym (get_or-map-range_with_len (λ x. pixel_at w pixels x y) 0 w i i clear below_w
+    (omega arith))))

@@ -43,8 +43,10 @@ module _ {C : Type 0} (P : C → Type 0) where
       → content_of rows id ≡ Some x → P x
   fit_found [] id x each found = absurd (none-some x found)
   fit_found (row ∷ rows) id x each found =
-      ⊎_elim (λ (here : (row.layer.id == id) ≡ true). All-head RowFits row rows each x (rw here at found))
-      (λ (missed : (row.layer.id == id) ≡ false). fit_found rows id x (All-tail RowFits row rows each)
+      ⊎_elim (λ (here : (row.layer.id == id) ≡ true). All-head RowFits row rows each x
+      (rw here at found))
+      (λ (missed : (row.layer.id == id) ≡ false). fit_found rows id x
+      (All-tail RowFits row rows each)
       (rw missed at found))
       (cases_Bool (row.layer.id == id))
 
@@ -78,7 +80,8 @@ module _ {C : Type 0} (P : C → Type 0) where
   fit_changed rows id change each = All-map RowFits
       (λ row. with_layer row (change_row id change row.layer)) rows each
 
-  fit_behind : (p : Row C → Bool) (taken rows : List (Row C)) → ContentsFit P taken → ContentsFit P rows
+  fit_behind : (p : Row C → Bool) (taken rows : List (Row C)) → ContentsFit P taken
+      → ContentsFit P rows
       → ContentsFit P (behind p taken rows)
   fit_behind p taken [] left right = right
   fit_behind p taken (row ∷ rows) left right =
@@ -94,18 +97,23 @@ module _ {C : Type 0} (P : C → Type 0) where
       let left = All-filter (has id) RowFits rows each in
       let right = All-filter (λ row. not (has id row)) RowFits rows each in
       cond_both (above == 0) (filter (has id) rows ++ filter (λ row. not (has id row)) rows)
-      (behind (has above) (filter (has id) rows) (filter (λ row. not (has id row)) rows)) (All RowFits)
-      (λ _. All-append RowFits (filter (has id) rows) (filter (λ row. not (has id row)) rows) left right)
-      (λ _. fit_behind (has above) (filter (has id) rows) (filter (λ row. not (has id row)) rows) left
+      (behind (has above) (filter (has id) rows) (filter (λ row. not (has id row)) rows))
+      (All RowFits)
+      (λ _. All-append RowFits (filter (has id) rows) (filter (λ row. not (has id row)) rows) left
+      right)
+      (λ _. fit_behind (has above) (filter (has id) rows) (filter (λ row. not (has id row)) rows)
+      left
       right)
 
   fit_effect : (rows : List (Row C)) (op : Draw) (x : Option C) → ContentsFit P rows → ForSome x P
       → ContentsFit P (effect_on rows op x)
   fit_effect rows (draws.LayerCreate id parent group title) x each fits =
-      All-push RowFits rows (record { layer = new_row id parent group title; content = x }) each fits
+      All-push RowFits rows (record { layer = new_row id parent group title; content = x }) each
+      fits
   fit_effect rows (draws.LayerAttr id opacity mode hidden) x each fits = fit_changed rows id
       (set_attr opacity mode hidden) each
-  fit_effect rows (draws.LayerTitle id title) x each fits = fit_changed rows id (set_title title) each
+  fit_effect rows (draws.LayerTitle id title) x each fits = fit_changed rows id (set_title title)
+      each
   fit_effect rows (draws.LayerMove id parent above) x each fits =
       fit_placed (λ i row. has_id i row.layer) (rows_changed rows id (set_parent parent)) id above
       (fit_changed rows id (set_parent parent) each)
@@ -113,7 +121,8 @@ module _ {C : Type 0} (P : C → Type 0) where
       (λ row. not (is_in (layers_of rows) row.layer.id id)) RowFits rows each
   fit_effect rows _ x each fits = each
 
-  pub fit_after : (rows : List (Row C)) (op : Draw) (x : Option C) → ContentsFit P rows → ForSome x P
+  pub fit_after : (rows : List (Row C)) (op : Draw) (x : Option C) → ContentsFit P rows
+      → ForSome x P
       → ContentsFit P (rows_after rows op x)
   fit_after rows op x each fits =
       cond_both (has_effect (layers_of rows) op) (effect_on rows op x) rows (ContentsFit P)
@@ -212,7 +221,8 @@ module _ (board : Board) (whole : IsBoard board) where
     both = ((λ none. absurd (omega (arith, wide.0))), (λ none. absurd (omega (arith, high.0))));
     tree = tree_of_contents change board.rows whole.tree;
     each = All-map (Covers width height) (map_content change) board.rows
-        (λ k d in_list. changed_covers change (width * height) as_many (get_or board.rows k d).content);
+        (λ k d in_list. changed_covers change (width * height) as_many
+        (get_or board.rows k d).content);
   }
 
   resized_whole : (top right bottom left : ℤ) → IsBoard (resized board top right bottom left)
@@ -257,7 +267,8 @@ module _ (board : Board) (whole : IsBoard board) where
           width = whole.width;
           height = whole.height;
           both = whole.both;
-          tree = law board.rows op (new_content board op) whole.tree (kind (makes_paint_row op) pixels);
+          tree = law board.rows op (new_content board op) whole.tree
+              (kind (makes_paint_row op) pixels);
           each = fit_after (λ ps. length ps ≡ board.width * board.height) board.rows op
               (new_content board op) whole.each
               (fits (makes_paint_row op) pixels (length-canvas_of board.width board.height _));

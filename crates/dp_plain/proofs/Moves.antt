@@ -58,7 +58,8 @@ none_above_side (negsuc n) high = refl
 
 map-same : {A B : Type 0} (f g : A → B) (xs : List A) → ((x : A) → f x ≡ g x) → map f xs ≡ map g xs
 map-same f g [] same = refl
-map-same f g (x ∷ xs) same = ap (λ y. y ∷ map f xs) (same x) ∙ ap (λ ys. g x ∷ ys) (map-same f g xs same)
+map-same f g (x ∷ xs) same = ap (λ y. y ∷ map f xs) (same x)
+    ∙ ap (λ ys. g x ∷ ys) (map-same f g xs same)
 
 -- the difference of a place and an offset, as the code computes it
 abbrev pub difference : ℕ → ℤ → ℤ
@@ -81,7 +82,8 @@ pub pixels_moved_more : (width height : ℕ) (pixels now row : List Channels) (n
     (left top y : ℤ)
     → now ≡ pixels_moved width height pixels new_width k left top → y ≡ pos k -ℤ top
     → ((x : ℤ) → pixel_in row x ≡ pixel_of width height pixels x y)
-    → now ++ row_moved new_width row left ≡ pixels_moved width height pixels new_width (k + 1) left top
+    → now ++ row_moved new_width row left ≡ pixels_moved width height pixels new_width (k + 1) left
+    top
 pixels_moved_more width height pixels now row new_width k left top y is place same =
     let moved : row_moved new_width row left ≡ map
     (λ x. pixel_of width height pixels (pos x -ℤ left) (pos k -ℤ top)) (below new_width) =
@@ -90,7 +92,8 @@ pixels_moved_more width height pixels now row new_width k left top y is place sa
     ap (λ ps. ps ++ row_moved new_width row left) is
     ∙ (ap (λ ps. pixels_moved width height pixels new_width k left top ++ ps) moved
     ∙ sym
-    (canvas_of-more new_width k (λ x y. pixel_of width height pixels (pos x -ℤ left) (pos y -ℤ top))))
+    (canvas_of-more new_width k (λ x y. pixel_of width height pixels (pos x -ℤ left)
+    (pos y -ℤ top))))
 
 -- ---- clear canvases
 

@@ -16,10 +16,12 @@ module _ {C L : Type 0} (held : L → Option C) (rows : List L) (i : ℕ) (row :
   next o is =
       ap (filter_map held) (take_more rows i row in_list)
       ∙ filter_map-append held (take i rows) (get_or rows i row ∷ [])
-      ∙ ap (λ (p : Option C). filter_map held (take i rows) ++ cons_option p []) (ap held (sym at) ∙ is)
+      ∙ ap (λ (p : Option C). filter_map held (take i rows) ++ cons_option p [])
+      (ap held (sym at) ∙ is)
 
   -- a row that holds nothing
-  pub none_next : held row ≡ None → filter_map held (take (i + 1) rows) ≡ filter_map held (take i rows)
+  pub none_next : held row ≡ None → filter_map held (take (i + 1) rows)
+      ≡ filter_map held (take i rows)
   none_next none = next None none ∙ append-nil (filter_map held (take i rows))
 
   -- a row that holds x
@@ -28,21 +30,25 @@ module _ {C L : Type 0} (held : L → Option C) (rows : List L) (i : ℕ) (row :
   some_next x found = next (Some x) found
 
   -- with another content in place of x
-  pub changed_next : (old new : C → List Channels) (change : List Channels → List Channels) (x y : C)
+  pub changed_next : (old new : C → List Channels) (change : List Channels → List Channels)
+      (x y : C)
       (made now : List C)
       → held row ≡ Some x → map new made ≡ map change (map old (filter_map held (take i rows)))
       → now ≡ made ++ y ∷ []
-      → new y ≡ change (old x) → map new now ≡ map change (map old (filter_map held (take (i + 1) rows)))
+      → new y ≡ change (old x) → map new now ≡ map change
+      (map old (filter_map held (take (i + 1) rows)))
   changed_next old new change x y made now found so_far added is =
       ap (map new) added ∙ map-append new made (y ∷ [])
       ∙ ap (λ ps. ps ++ new y ∷ []) so_far
-      ∙ ap (λ (p : List Channels). map change (map old (filter_map held (take i rows))) ++ p ∷ []) is
+      ∙ ap (λ (p : List Channels). map change (map old (filter_map held (take i rows))) ++ p ∷ [])
+      is
       ∙ sym (ap (λ xs. map change (map old xs)) (some_next x found)
       ∙ ap (map change) (map-append old (filter_map held (take i rows)) (x ∷ []))
       ∙ map-append change (map old (filter_map held (take i rows))) (old x ∷ []))
 
 -- the tree of the same rows with the changed contents
-pub changed_tree : {C : Type 0} (old new : C → List Channels) (change : List Channels → List Channels)
+pub changed_tree : {C : Type 0} (old new : C → List Channels)
+    (change : List Channels → List Channels)
     (rows now : List (Row C))
     → ((a b : List (Row (List Channels))) → IsTree a → IsTree b → layers_of a ≡ layers_of b
     → contents_of a ≡ contents_of b → a ≡ b)

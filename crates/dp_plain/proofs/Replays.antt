@@ -15,7 +15,8 @@ kinds_are_acts : (entries : List Entry)
     → map kind_of_entry entries ≡ map_commands (λ (command : Draw). tt) (map user_act_of entries)
 unfolding kind_of_entry
 kinds_are_acts [] = refl
-kinds_are_acts (entry ∷ entries) = ap (λ (acts : List (UserAct (Unit {0}))). kind_of_entry entry ∷ acts)
+kinds_are_acts (entry ∷ entries) = ap (λ (acts : List (UserAct (Unit {0}))). kind_of_entry entry
+    ∷ acts)
     (kinds_are_acts entries)
 
 -- the flags of the kinds of entries are those of their acts
@@ -24,7 +25,8 @@ pub flags_of_acts : CommandsDoNotCount Draw (Unit {0})
     kinds ≡ map kind_of_entry entries → flags ≡ drawn_flags depth kinds
     → flags ≡ drawn_flags depth (map user_act_of entries)
 flags_of_acts law depth entries kinds flags k f =
-    f ∙ ap (λ (acts : List (UserAct (Unit {0}))). drawn_flags depth acts) (k ∙ kinds_are_acts entries)
+    f ∙ ap (λ (acts : List (UserAct (Unit {0}))). drawn_flags depth acts)
+    (k ∙ kinds_are_acts entries)
     ∙ law (λ _. tt) depth (map user_act_of entries)
 
 -- there is a flag for each entry

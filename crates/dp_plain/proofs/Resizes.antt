@@ -36,9 +36,11 @@ pub resized_to : (board : Board) (top right bottom left : ℤ) (width height : �
     (rows : List (Row (List Channels)))
     → Some width ≡ side_if (pos board.width +ℤ left +ℤ right)
     → Some height ≡ side_if (pos board.height +ℤ top +ℤ bottom)
-    → rows ≡ map_contents (λ pixels. pixels_moved board.width board.height pixels width height left top)
+    → rows ≡ map_contents (λ pixels. pixels_moved board.width board.height pixels width height left
+    top)
     board.rows
-    → record { width = width; height = height; background = board.background; rows = rows } ≡ resized
+    → record { width = width; height = height; background = board.background; rows = rows }
+    ≡ resized
     board top right bottom left
 resized_to board top right bottom left width height rows is_width is_height is =
     let w = cond_some (is_side (pos board.width +ℤ left +ℤ right))
@@ -59,7 +61,9 @@ resized_not board top right bottom left none =
     let width : ℤ = pos board.width +ℤ left +ℤ right in
     let height : ℤ = pos board.height +ℤ top +ℤ bottom in
     let test : (is_side width && is_side height) ≡ false =
-    ⊎_elim (λ (h : None ≡ side_if width). and_left (is_side width) (is_side height) (not_side width h))
-    (λ (h : None ≡ side_if height). and_right (is_side width) (is_side height) (not_side height h)) none
+    ⊎_elim (λ (h : None ≡ side_if width). and_left (is_side width) (is_side height)
+    (not_side width h))
+    (λ (h : None ≡ side_if height). and_right (is_side width) (is_side height) (not_side height h))
+    none
     in
     sym (cond-false (is_side width && is_side height) _ board test)

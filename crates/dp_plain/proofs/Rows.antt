@@ -1,5 +1,6 @@
 -- Rows with what they hold: what is found at an id, and what maps of rows leave.
-use Rattle.std.proofs.Common.{◌≡◌, ◌==◌, ℕ, ◌<◌, Bool, true, false, not, cond, List, [], ◌∷◌, map, length}
+use Rattle.std.proofs.Common.{◌≡◌, ◌==◌, ℕ, ◌<◌, Bool, true, false, not, cond, List, [], ◌∷◌, map}
+use Rattle.std.proofs.Common.{length}
 use Rattle.std.proofs.Common.{get_or, Option, None, Some, refl, ap, sym, ◌∙◌, subst, ⊎_elim, eq-eqb}
 use Rattle.std.specs.Prelude.{is_some, option_map, All}
 use Rattle.std.specs.List.{IsDistinct, cons_option}
@@ -22,7 +23,8 @@ pub map-map : {A B C : Type 0} (f : A → B) (g : B → C) (xs : List A)
 map-map f g [] = refl
 map-map f g (x ∷ xs) = ap (λ ys. g (f x) ∷ ys) (map-map f g xs)
 
-pub map-each : {A B : Type 0} (f g : A → B) (xs : List A) → All (λ x. f x ≡ g x) xs → map f xs ≡ map g xs
+pub map-each : {A B : Type 0} (f g : A → B) (xs : List A) → All (λ x. f x ≡ g x) xs
+    → map f xs ≡ map g xs
 map-each f g [] each = refl
 map-each {A} f g (x ∷ xs) each =
     let P : A → Type 0 = λ y. f y ≡ g y in
@@ -145,7 +147,8 @@ pub filled-mapped : {X Y : Type 0} (f : X → Y) (rows : List (Row X)) (id : ℕ
     → map_contents f (with_content rows id x) ≡ with_content (map_contents f rows) id (f x)
 filled-mapped {X} {Y} f rows id x =
     map-map (fill_row id x) (map_content f) rows
-    ∙ map-each (λ row. map_content f (fill_row id x row)) (λ row. fill_row id (f x) (map_content f row))
+    ∙ map-each (λ row. map_content f (fill_row id x row))
+    (λ row. fill_row id (f x) (map_content f row))
     rows (λ k d in_list. one (get_or rows k d))
     ∙ sym (map-map (map_content f) (fill_row id (f x)) rows)
   where
@@ -179,9 +182,11 @@ filled_same {X} rows id x distinct found =
     map-itself (fill_row id x) rows
     (λ k d in_list. one (get_or rows k d) (held_at rows id (Some x) distinct found k d in_list))
   where
-    one : (row : Row X) → ((row.layer.id == id) ≡ true → row.content ≡ Some x) → fill_row id x row ≡ row
+    one : (row : Row X) → ((row.layer.id == id) ≡ true → row.content ≡ Some x)
+        → fill_row id x row ≡ row
     one row held =
-        cond_both (row.layer.id == id) (record row { content = Some x }) row (λ (q : Row X). q ≡ row)
+        cond_both (row.layer.id == id) (record row { content = Some x }) row
+        (λ (q : Row X). q ≡ row)
         (λ here. ap (λ (o : Option X). record row { content = o }) (sym (held here))) (λ _. refl)
 
 -- ---- a change of the pixels in the row of an id
@@ -213,7 +218,8 @@ module _ (id : ℕ) (change : List Channels → List Channels) where
       one : (row : Row (List Channels)) → ((row.layer.id == id) ≡ true → row.content ≡ None)
           → with_change id change row ≡ row
       one row held =
-          cond_both (row.layer.id == id) (record row { content = option_map change row.content }) row
+          cond_both (row.layer.id == id) (record row { content = option_map change row.content })
+          row
           (λ (q : Row (List Channels)). q ≡ row)
           (λ here. ap (λ o. record row { content = option_map change o }) (held here)
           ∙ ap (λ (o : Option (List Channels)). record row { content = o }) (sym (held here)))

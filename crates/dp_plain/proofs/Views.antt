@@ -5,7 +5,8 @@ use Rattle.std.specs.Prelude.{unwrap_or, option_map, nat_lt, ◌&&◌}
 use Rattle.std.proofs.lemmas.Bool.{lt-ltb}
 use Rattle.dp_blend.specs.Color.{Channels}
 use Rattle.dp_blend.specs.Canvas.{pixel_at}
-use Rattle.dp_layers.specs.Rows.{Row, layers_of, content_of, with_content, map_content, map_contents}
+use Rattle.dp_layers.specs.Rows.{Row, layers_of, content_of, with_content, map_content}
+use Rattle.dp_layers.specs.Rows.{map_contents}
 use Rattle.dp_layers.specs.Tree.{IsTree}
 use Rattle.dp_plain.specs.Board.{Board}
 use Rattle.dp_plain.specs.Commands.{with_change}
@@ -37,13 +38,15 @@ pixel_none board id x y none = rw none (either (nat_lt x board.width && nat_lt y
 
 pub pixel_some : (board : Board) (id x y : ℕ) (pixels : List Channels)
     → content_of board.rows id ≡ Some pixels
-    → x < board.width → y < board.height → Some (pixel_at board.width pixels x y) ≡ pixel_in board id x y
+    → x < board.width → y < board.height → Some (pixel_at board.width pixels x y)
+    ≡ pixel_in board id x y
 pixel_some board id x y pixels found in_x in_y = rw
     (lt-ltb x board.width in_x, lt-ltb y board.height in_y, found) refl
 
 -- ---- a command on the pixels of the layer of an id
 
-module _ {C : Type 0} (pixels : C → List Channels) (rows : List (Row C)) (tree : IsTree rows) (id : ℕ)
+module _ {C : Type 0} (pixels : C → List Channels) (rows : List (Row C)) (tree : IsTree rows)
+    (id : ℕ)
     (change : List Channels → List Channels) where
   ids : HaveIds (map_contents pixels rows)
   ids = (tree_of_contents pixels rows tree).layers.distinct
@@ -51,9 +54,11 @@ module _ {C : Type 0} (pixels : C → List Channels) (rows : List (Row C)) (tree
   pub painted_none : content_of rows id ≡ None
       → map_contents pixels rows ≡ map (with_change id change) (map_contents pixels rows)
   painted_none none = sym
-      (changed_none id change (map_contents pixels rows) ids (content_seen pixels rows id None none))
+      (changed_none id change (map_contents pixels rows) ids
+      (content_seen pixels rows id None none))
 
-  pub painted_some : (old new : C) → content_of rows id ≡ Some old → pixels new ≡ change (pixels old)
+  pub painted_some : (old new : C) → content_of rows id ≡ Some old
+      → pixels new ≡ change (pixels old)
       → map_contents pixels (with_content rows id new) ≡ map (with_change id change)
       (map_contents pixels rows)
   painted_some old new found is =

@@ -8,7 +8,8 @@ use Rattle.dp_layers.specs.Tree.{IsTree}
 abbrev pub ContentsFit : {C : Type 0} → (C → Type 0) → List (Row C) → Type 0
 ContentsFit fits rows = All (λ row. ForSome row.content fits) rows
 
--- Both sides are 0, or both are from 1 to 4096 pixels; the rows are a tree, and each content fits the
+-- Both sides are 0, or both are from 1 to 4096 pixels; the rows are a tree, and each content fits
+-- the
 -- sides.
 pub record IsHeld {C : Type 0} (fits : ℕ → ℕ → C → Type 0) (width height : ℕ) (rows : List (Row C))
     : Type 0 where

@@ -9,7 +9,8 @@ use Rattle.dp_plain.specs.Board.{Board}
 abbrev pub pixels_in_row : ℕ → List Channels → ℕ → List Channels
 pixels_in_row width pixels y = map (λ x. pixel_at width pixels x y) (below width)
 
--- the pixel of the paint layer of the id at a place of the canvas; None where no paint layer has the id
+-- the pixel of the paint layer of the id at a place of the canvas; None where no paint layer has
+-- the id
 -- or the place is outside
 abbrev pub pixel_in : Board → ℕ → ℕ → ℕ → Option Channels
 pixel_in board id x y =

@@ -17,7 +17,8 @@ use dp_steps::Steps;
 use std::alloc::{AllocError, Global};
 use std::sync::ledger::Ledger;
 
-/// The pixels of a layer, in whatever form, on a canvas of sides that its holder knows. The tiles that
+/// The pixels of a layer, in whatever form, on a canvas of sides that its holder knows. The tiles
+/// that
 /// are made are counted.
 pub trait LayerPixels: Sized + Drop {
     /// The pixels on a canvas of this width and height, row by row from the top.

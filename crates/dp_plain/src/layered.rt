@@ -7,8 +7,8 @@ ghost use Rattle.dp_plain.specs.Board.{empty_board, IsBoard};
 ghost use Rattle.dp_plain.specs.Commands.{draw, resized, arranged, painted, painted_layer, IsArranging};
 ghost use Rattle.dp_plain.specs.Weights.{board_weight};
 
-use crate::layer_pixels::LayerPixels;
 use crate::geometry::{Resize, new_side};
+use crate::layer_pixels::LayerPixels;
 use crate::plain::PlainPixels;
 use crate::trees::{arrange_rows, new_content, paint_content, resized_tree, shared_tree};
 use crate::view::BoardView;
@@ -21,7 +21,8 @@ use std::alloc::{AllocError, Global};
 use std::marker::Model;
 use std::sync::ledger::Ledger;
 
-/// A board whose paint layers hold contents of one kind. It is seen as a `Board` of the definitions,
+/// A board whose paint layers hold contents of one kind. It is seen as a `Board` of the
+/// definitions,
 /// with the pixels of each content.
 #[derive(Drop)]
 pub struct LayeredBoard<C: LayerPixels> {

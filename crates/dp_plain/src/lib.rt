@@ -1,11 +1,13 @@
 //! The board of a session, and the replay of a history on it.
 //!
-//! What a layer holds is a `LayerPixels`; a `LayeredBoard` draws every command on contents of one kind. The
-//! boards over plain lists of pixels (`PlainBoard`) are the slow ones with which others are compared.
+//! What a layer holds is a `LayerPixels`; a `LayeredBoard` draws every command on contents of one
+//! kind. The
+//! boards over plain lists of pixels (`PlainBoard`) are the slow ones with which others are
+//! compared.
 #![tactic(auto)]
 
-mod layer_pixels;
 mod geometry;
+mod layer_pixels;
 mod layered;
 mod plain;
 mod replay;
@@ -13,8 +15,8 @@ mod resize;
 mod trees;
 mod view;
 
-pub use layer_pixels::LayerPixels;
 pub use geometry::Resize;
+pub use layer_pixels::LayerPixels;
 pub use layered::LayeredBoard;
 pub use plain::{PlainBoard, PlainPixels};
 pub use replay::{act_of, is_command, plain_replay, replay_on, show_on};

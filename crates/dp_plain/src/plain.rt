@@ -2,8 +2,8 @@
 
 ghost use Rattle.std.specs.Prelude.{◌≡◌, ◌*◌, length};
 
-use crate::layer_pixels::LayerPixels;
 use crate::geometry::Resize;
+use crate::layer_pixels::LayerPixels;
 use crate::layered::LayeredBoard;
 use crate::resize::moved_pixels;
 use dp_blend::Pixel;
@@ -17,7 +17,8 @@ use std::sync::ledger::Ledger;
 /// The slow board, with which others are compared: its layers hold plain lists of pixels.
 pub type PlainBoard = LayeredBoard<PlainPixels>;
 
-/// The pixels of a layer as a plain list, row by row from the top, each from the left. It makes no tile.
+/// The pixels of a layer as a plain list, row by row from the top, each from the left. It makes no
+/// tile.
 #[derive(Drop)]
 pub struct PlainPixels {
     pixels: Vec<Pixel>,

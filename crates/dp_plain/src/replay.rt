@@ -95,7 +95,8 @@ fn is_mark(entry: &Entry) -> bool
     matches!(&entry.msg, Msg::Meta(Meta::ResetMark { .. }))
 }
 
-/// The commands of the entries but for the undone ones, drawn in their order on the board. It draws each
+/// The commands of the entries but for the undone ones, drawn in their order on the board. It draws
+/// each
 /// of them once.
 pub fn replay_on<B: Board<Op = Draw>, D: Ledger, T: Ledger>(
     alloc: Global,

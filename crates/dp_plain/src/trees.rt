@@ -1,4 +1,5 @@
-//! Trees of contents: changed by a command, or made anew on a canvas of other sides or as a second one.
+//! Trees of contents: changed by a command, or made anew on a canvas of other sides or as a second
+//! one.
 
 ghost use Rattle.std.specs.Prelude.{◌≡◌, ◌+◌, ◌*◌, ◌≤◌, None, Some, if◌then◌else◌, false, IsTrue, is_some};
 ghost use Rattle.std.specs.Prelude.{map, option_map, All, IfOk, OnOk, OnErr};
@@ -14,8 +15,8 @@ ghost use Rattle.dp_plain.specs.Commands.{painted_layer, with_change, IsArrangin
 ghost use Rattle.dp_plain.specs.Resizes.{pixels_resized};
 ghost use Rattle.dp_plain.specs.Contents.{ContentsFit, IsHeld};
 
-use crate::layer_pixels::LayerPixels;
 use crate::geometry::Resize;
+use crate::layer_pixels::LayerPixels;
 use crate::plain::PlainPixels;
 use dp_layers::{Tree, contents_in_order, contents_ride_along, one_tree, trees_stay_trees};
 use dp_msg_draw::Draw;

@@ -1,4 +1,5 @@
-//! The tests of the plain board, in a crate of their own: so dp_plain is proved once, and not once more with them.
+//! The tests of the plain board, in a crate of their own: so dp_plain is proved once, and not once
+//! more with them.
 #![tactic(auto)]
 
 #[cfg(test)]

@@ -1,5 +1,6 @@
 -- A line asks for one thing.
-use Rattle.std.proofs.Common.{◌≡◌, ℕ, Bool, true, false, List, [], ◌∷◌, get_or, if◌then◌else◌, ◌==◌, ◌||◌, refl, sym, ap, ◌∙◌, subst, arith}
+use Rattle.std.proofs.Common.{◌≡◌, ℕ, Bool, true, false, List, [], ◌∷◌, get_or, if◌then◌else◌, ◌==◌}
+use Rattle.std.proofs.Common.{◌||◌, refl, sym, ap, ◌∙◌, subst, arith}
 use Rattle.dp_lines.specs.Numbers.{IsNumber}
 use Rattle.dp_messages.specs.declared.message.Msg.{Msg}
 use Rattle.dp_messages.specs.Messages.{Spells}
@@ -9,9 +10,11 @@ use Rattle.dp_schedule.specs.declared.action.Instruction.{Instruction}
 use Rattle.dp_schedule.specs.declared.action.Instruction.TheVariants.{Say, Up, Take, Leave, Cut}
 use Rattle.dp_schedule.specs.declared.action.CanvasKind.{CanvasKind}
 use Rattle.dp_schedule.specs.declared.action.CanvasKind.TheVariants.{View, Confirmed}
-use Rattle.dp_schedule.specs.LineGrammar.{Parses, NamesClient, EndsIn, HexSpells, join_word, instruction_word, canvas_word}
+use Rattle.dp_schedule.specs.LineGrammar.{Parses, NamesClient, EndsIn, HexSpells, join_word}
+use Rattle.dp_schedule.specs.LineGrammar.{instruction_word, canvas_word}
 
--- the sort of a first word, by its fourth byte: 0 that of a join, 1 of an instruction, 2 of a canvas
+-- the sort of a first word, by its fourth byte: 0 that of a join, 1 of an instruction, 2 of a
+-- canvas
 sort_by : ℕ → ℕ
 sort_by byte =
     if byte == 110 || byte == 98 then 0 else (if byte == 119 || byte == 102 then 2 else 1)
@@ -38,19 +41,23 @@ sort_of_shown View = refl
 sort_of_shown Confirmed = refl
 
 -- words of two sorts are not one
-join_or_deed : (registered : Bool) (instruction : Instruction) → join_word registered ≡ instruction_word instruction → ⊥
+join_or_deed : (registered : Bool) (instruction : Instruction)
+    → join_word registered ≡ instruction_word instruction → ⊥
 join_or_deed registered instruction same =
     omega (arith, ap sort_of same, sort_of_join registered, sort_of_deed instruction)
 
-join_or_shown : (registered : Bool) (kind : CanvasKind) → join_word registered ≡ canvas_word kind → ⊥
+join_or_shown : (registered : Bool) (kind : CanvasKind) → join_word registered ≡ canvas_word kind
+    → ⊥
 join_or_shown registered kind same =
     omega (arith, ap sort_of same, sort_of_join registered, sort_of_shown kind)
 
-deed_or_shown : (instruction : Instruction) (kind : CanvasKind) → instruction_word instruction ≡ canvas_word kind → ⊥
+deed_or_shown : (instruction : Instruction) (kind : CanvasKind)
+    → instruction_word instruction ≡ canvas_word kind → ⊥
 deed_or_shown instruction kind same =
     omega (arith, ap sort_of same, sort_of_deed instruction, sort_of_shown kind)
 
--- who is registered, which canvas is shown and which instruction without a message is done, by the first
+-- who is registered, which canvas is shown and which instruction without a message is done, by the
+-- first
 -- byte of the word
 registered_by : ℕ → Bool
 registered_by byte = byte == 109
@@ -62,7 +69,8 @@ deed_by : ℕ → Instruction
 deed_by byte =
     if byte == 117 then Up else (if byte == 116 then Take else (if byte == 108 then Leave else Cut))
 
-registered_back : (registered : Bool) → registered_by (get_or (join_word registered) 0 0) ≡ registered
+registered_back : (registered : Bool) → registered_by (get_or (join_word registered) 0 0)
+    ≡ registered
 unfolding registered_by
 registered_back true = refl
 registered_back false = refl
@@ -72,7 +80,8 @@ unfolding shown_by
 shown_back View = refl
 shown_back Confirmed = refl
 
-deed_back : (instruction : Instruction) → EndsIn instruction [] → deed_by (get_or (instruction_word instruction) 0 0) ≡ instruction
+deed_back : (instruction : Instruction) → EndsIn instruction []
+    → deed_by (get_or (instruction_word instruction) 0 0) ≡ instruction
 unfolding deed_by
 deed_back (Say m) (word, ends, tells) = absurd (cc (ends))
 deed_back Up ends = refl
@@ -95,7 +104,8 @@ OneNumber = (word : List ℕ) (m n : ℕ) → IsNumber word m → IsNumber word 
 
 abbrev pub OneMessage : Type 0
 OneMessage =
-    (kind : ℕ) (payload : List ℕ) (m n : Msg) → Spells kind payload m → Spells kind payload n → m ≡ n
+    (kind : ℕ) (payload : List ℕ) (m n : Msg) → Spells kind payload m → Spells kind payload n
+    → m ≡ n
 
 -- a word tells one message
 one_told : OneMessage → (word : List ℕ) (m n : Msg) → HexSpells word m → HexSpells word n → m ≡ n
@@ -111,7 +121,8 @@ one_told law word m n first second =
     (subst (λ (p : List ℕ). Spells second.may.kind p n) payloads second.may.spelled))
 
 -- an instruction with a word after the client's number says the message that the word tells
-tells_of : (instruction : Instruction) (word : List ℕ) (behind : List (List ℕ)) → EndsIn instruction (word ∷ behind)
+tells_of : (instruction : Instruction) (word : List ℕ) (behind : List (List ℕ))
+    → EndsIn instruction (word ∷ behind)
     → (m : Msg) × (instruction ≡ Say m) × HexSpells word m
 tells_of (Say m) word behind (other, ends, tells) =
     let same : other ≡ word = cc in
@@ -122,7 +133,8 @@ tells_of Leave word behind ends = absurd (cc (ends))
 tells_of Cut word behind ends = absurd (cc (ends))
 
 -- one word and one tail are of one instruction
-one_deed : OneMessage → (d e : Instruction) (tail : List (List ℕ)) → instruction_word d ≡ instruction_word e
+one_deed : OneMessage → (d e : Instruction) (tail : List (List ℕ))
+    → instruction_word d ≡ instruction_word e
     → EndsIn d tail → EndsIn e tail → d ≡ e
 one_deed law d e [] same first second =
     sym (deed_back d first)
@@ -163,7 +175,8 @@ one_asked numbers messages line (Act m d) (Act n e) (tail, names, ends) (rest, o
     let pieces = others.parts in
     let words : instruction_word d ≡ instruction_word e = cc in
     let tails : rest ≡ tail = cc in
-    let clients = one_client numbers line (instruction_word d) (instruction_word e) m n tail rest names others in
+    let clients = one_client numbers line (instruction_word d) (instruction_word e) m n tail rest
+    names others in
     let instructions = one_deed messages d e tail words ends (subst (EndsIn e) tails ending) in
     cc
 one_asked numbers messages line (Act client instruction) (Show n kind) (tail, names, ends) others =

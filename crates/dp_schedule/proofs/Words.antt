@@ -1,5 +1,6 @@
 -- What the words of a line ask for is what the line asks for.
-use Rattle.std.proofs.Common.{◌≡◌, ℕ, List, [], ◌∷◌, Option, Some, None, Result, Ok, Err, slice_get, false, Bor, sym, ◌∙◌, subst}
+use Rattle.std.proofs.Common.{◌≡◌, ℕ, List, [], ◌∷◌, Option, Some, None, Result, Ok, Err, slice_get}
+use Rattle.std.proofs.Common.{false, Bor, sym, ◌∙◌, subst}
 use Rattle.std.specs.Option.{option_copied, is_some}
 use Rattle.std.specs.Prelude.{IfOk, IfSome, IfNone}
 use Rattle.dp_lines.specs.Lines.{words}
@@ -85,8 +86,13 @@ third_tells first second third (Act client (Say m)) (tail, names, (word, ends, t
     let parts = names.parts in
     let same : word ≡ third = cc in
     (m, subst (λ (w : List ℕ). HexSpells w m) same tells)
-third_tells first second third (Act client Up) (tail, names, ends) = let parts = names.parts in absurd (cc (parts, ends))
-third_tells first second third (Act client Take) (tail, names, ends) = let parts = names.parts in absurd (cc (parts, ends))
-third_tells first second third (Act client Leave) (tail, names, ends) = let parts = names.parts in absurd (cc (parts, ends))
-third_tells first second third (Act client Cut) (tail, names, ends) = let parts = names.parts in absurd (cc (parts, ends))
-third_tells first second third (Show client kind) names = let parts = names.parts in absurd (cc (parts))
+third_tells first second third (Act client Up) (tail, names, ends) = let parts = names.parts in
+    absurd (cc (parts, ends))
+third_tells first second third (Act client Take) (tail, names, ends) = let parts = names.parts in
+    absurd (cc (parts, ends))
+third_tells first second third (Act client Leave) (tail, names, ends) = let parts = names.parts in
+    absurd (cc (parts, ends))
+third_tells first second third (Act client Cut) (tail, names, ends) = let parts = names.parts in
+    absurd (cc (parts, ends))
+third_tells first second third (Show client kind) names = let parts = names.parts in absurd
+    (cc (parts))

@@ -62,5 +62,6 @@ pub record NamesClient (line first : List ℕ) (client : ℕ) (tail : List (List
 abbrev pub Parses : List ℕ → Action → Type 0
 Parses line (Join name registered) = words line ≡ join_word registered ∷ name ∷ []
 Parses line (Act client instruction) =
-    (tail : List (List ℕ)) × NamesClient line (instruction_word instruction) client tail × EndsIn instruction tail
+    (tail : List (List ℕ)) × NamesClient line (instruction_word instruction) client tail
+    × EndsIn instruction tail
 Parses line (Show client kind) = NamesClient line (canvas_word kind) client []

@@ -1,8 +1,12 @@
 -- The lines that are printed.
 use Rattle.std.specs.Prelude.{ℕ, List, ◌++◌, codes, decimal}
 use Rattle.dp_schedule.specs.declared.report_line.ReportLine.{ReportLine}
-use Rattle.dp_schedule.specs.declared.report_line.ReportLine.TheVariants.{Joined, Full, NameRefused, Ended, Said, Empty, Placed}
-use Rattle.dp_schedule.specs.declared.report_line.ReportLine.TheVariants.{Filtered, Ignored, Noted, Left, Leaving, Cut, Took, Nothing, Gone}
+use Rattle.dp_schedule.specs.declared.report_line.ReportLine.TheVariants.{Joined, Full, NameRefused}
+use Rattle.dp_schedule.specs.declared.report_line.ReportLine.TheVariants.{Ended, Said, Empty}
+use Rattle.dp_schedule.specs.declared.report_line.ReportLine.TheVariants.{Placed}
+use Rattle.dp_schedule.specs.declared.report_line.ReportLine.TheVariants.{Filtered, Ignored, Noted}
+use Rattle.dp_schedule.specs.declared.report_line.ReportLine.TheVariants.{Left, Leaving, Cut, Took}
+use Rattle.dp_schedule.specs.declared.report_line.ReportLine.TheVariants.{Nothing, Gone}
 
 -- a place in a history: its epoch and its index
 abbrev pub place : ℕ → ℕ → List ℕ
@@ -15,7 +19,8 @@ placed_line word epoch at = word ++ codes " " ++ place epoch at ++ codes "\n"
 -- the line of what is told
 abbrev pub text_of : ReportLine → List ℕ
 text_of (Joined client user epoch at) =
-    codes "joined " ++ decimal client ++ codes " user " ++ decimal user ++ placed_line (codes " at") epoch at
+    codes "joined " ++ decimal client ++ codes " user " ++ decimal user
+    ++ placed_line (codes " at") epoch at
 text_of Full = codes "full\n"
 text_of NameRefused = codes "name refused\n"
 text_of Ended = codes "ended\n"

@@ -31,9 +31,18 @@ pub enum CanvasKind {
 #[derive(Debug, Drop)]
 pub enum Action {
     /// A user asks to join.
-    Join { name: Octets, registered: bool },
+    Join {
+        name: Octets,
+        registered: bool,
+    },
     /// A client does something.
-    Act { client: u32, instruction: Instruction },
+    Act {
+        client: u32,
+        instruction: Instruction,
+    },
     /// A canvas of a client is printed.
-    Show { client: u32, kind: CanvasKind },
+    Show {
+        client: u32,
+        kind: CanvasKind,
+    },
 }

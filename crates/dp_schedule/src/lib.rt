@@ -8,7 +8,7 @@ mod laws;
 mod parser;
 mod report_line;
 
-pub use action::{Action, Instruction, CanvasKind};
+pub use action::{Action, CanvasKind, Instruction};
 pub use laws::one_action;
 pub use parser::read_action;
 pub use report_line::ReportLine;

@@ -12,7 +12,7 @@ ghost use Rattle.dp_schedule.specs.LineGrammar.{Parses, EndsIn, MaySay, HexSpell
 ghost use Rattle.dp_schedule.specs.LineGrammar.{instruction_word, join_word, canvas_word};
 ghost use Rattle.dp_schedule.specs.WordGrammar.{WordsParse};
 
-use crate::action::{Action, Instruction, CanvasKind};
+use crate::action::{Action, CanvasKind, Instruction};
 use dp_frame::{Frame, Octets};
 use dp_lines::{hex_of, number};
 use dp_messages::{DecodeError, Msg, decode, one_message};
@@ -73,7 +73,10 @@ fn read_two(alloc: Global, first: &[u8], second: &[u8]) -> Result<Option<Action>
     if let Some(kind) = canvas_kind_of(first) {
         return Ok(Some(Action::Show { client, kind }));
     }
-    Ok(instruction_of(first).map(|instruction| Action::Act { client, instruction }))
+    Ok(instruction_of(first).map(|instruction| Action::Act {
+        client,
+        instruction,
+    }))
 }
 
 /// What three words ask for.
@@ -98,7 +101,10 @@ fn read_three(
         return Ok(None);
     };
     let instruction = Instruction::Say(msg);
-    Ok(Some(Action::Act { client, instruction }))
+    Ok(Some(Action::Act {
+        client,
+        instruction,
+    }))
 }
 
 /// Whether the user who asks to join by this word is registered.

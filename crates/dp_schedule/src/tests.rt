@@ -32,7 +32,10 @@ static ASKING: [(&[u8], &str); 14] = [
     (b"take 10", "Act { client: 10, instruction: Take }"),
     (b"leave 2", "Act { client: 2, instruction: Leave }"),
     (b"cut 0", "Act { client: 0, instruction: Cut }"),
-    (b"cut 4294967295", "Act { client: 4294967295, instruction: Cut }"),
+    (
+        b"cut 4294967295",
+        "Act { client: 4294967295, instruction: Cut }",
+    ),
     (b"view 3", "Show { client: 3, kind: View }"),
     (b"conf 3", "Show { client: 3, kind: Confirmed }"),
     (

@@ -1,6 +1,8 @@
 -- Who holds an id.
-use Rattle.std.proofs.Common.{◌≡◌, ℕ, ◌+◌, ◌-◌, ◌<◌, ◌≤◌, ◌==◌, Bool, true, false, ◌&&◌, ◌||◌, cond, ltb}
-use Rattle.std.proofs.Common.{List, [], ◌∷◌, ◌++◌, length, get_or, set, count_by, Option, None, Some}
+use Rattle.std.proofs.Common.{◌≡◌, ℕ, ◌+◌, ◌-◌, ◌<◌, ◌≤◌, ◌==◌, Bool, true, false, ◌&&◌, ◌||◌, cond}
+use Rattle.std.proofs.Common.{ltb}
+use Rattle.std.proofs.Common.{List, [], ◌∷◌, ◌++◌, length, get_or, set, count_by, Option, None}
+use Rattle.std.proofs.Common.{Some}
 use Rattle.std.proofs.Common.{refl, sym, ap, subst, ◌∙◌, ⊎_elim, arith, zero-add}
 use Rattle.std.specs.List.{list_any, slice_get}
 use Rattle.std.specs.Option.{MatchOption}
@@ -38,12 +40,14 @@ none-count p xs none =
     let h = ltb-false 0 (count_by p xs) (sym (any-count p xs) ∙ none) in omega arith
 
 -- the mark after another is set
-mark-set_same : (present : List Bool) (user : ℕ) (b : Bool) → user < length present → mark (set present user b) user ≡ b
+mark-set_same : (present : List Bool) (user : ℕ) (b : Bool) → user < length present
+    → mark (set present user b) user ≡ b
 mark-set_same present user b within = get_or-set_same present user b false within
 
 mark-set_other : (present : List Bool) (user other : ℕ) (b : Bool) → (user ≡ other → ⊥)
     → mark (set present user b) other ≡ mark present other
-mark-set_other present user other b apart = get_or-set_other present user other b false (λ e. apart (sym e))
+mark-set_other present user other b apart = get_or-set_other present user other b false
+    (λ e. apart (sym e))
 
 holder_open : (c : Connection) (user : ℕ) → is_open c ≡ true → is_holder user c ≡ (c.user == user)
 holder_open c user up = ap (λ b. b && c.user == user) up
@@ -54,7 +58,8 @@ holder_shut c user shut = ap (λ b. b && c.user == user) shut
 abbrev one_if : Bool → ℕ
 one_if b = cond b 1 0
 
-holder_yes : (c : Connection) (user : ℕ) → is_open c ≡ true → c.user ≡ user → one_if (is_holder user c) ≡ 1
+holder_yes : (c : Connection) (user : ℕ) → is_open c ≡ true → c.user ≡ user
+    → one_if (is_holder user c) ≡ 1
 holder_yes c user up same = ap one_if (holder_open c user up ∙ eq-eqb c.user user same)
 
 neither : (b : Bool) → one_if (b && false) ≡ 0
@@ -76,7 +81,8 @@ marks-adds present cs c ids marks h user small =
     subst (λ u. count_by (is_holder u) cs ≡ 0) same (none-count (is_holder c.user) cs h.1) in
     let one : one_if (is_holder user c) ≡ 1 = holder_yes c user h.0 same in
     let now : mark (set present c.user true) user ≡ true =
-    subst (λ u. mark (set present c.user true) u ≡ true) same (mark-set_same present c.user true (omega (arith, same))) in
+    subst (λ u. mark (set present c.user true) u ≡ true) same
+    (mark-set_same present c.user true (omega (arith, same))) in
     let set_now : one_if (mark (set present c.user true) user) ≡ 1 = ap one_if now in
     omega (arith, more, none, one, set_now))
     (λ (apart : c.user ≡ user → ⊥).
@@ -87,19 +93,22 @@ marks-adds present cs c ids marks h user small =
     (cases_eq c.user user)
 
 -- an open connection stays its user's, and may end
-marks-becomes : (present : List Bool) (cs : List Connection) (i : ℕ) (old c : Connection) (up : Bool)
+marks-becomes : (present : List Bool) (cs : List Connection) (i : ℕ) (old c : Connection)
+    (up : Bool)
     → length present ≡ 256 → MarksHolders present cs → slice_get cs i ≡ Some old → is_open c ≡ up
     → (is_open old ≡ true) × (old.user ≡ c.user)
     → MarksHolders (cond up present (set present c.user false)) (set cs i c)
 marks-becomes present cs i old c true ids marks found up h user small =
-    let more = sum_by-set (λ x. one_if (is_holder user x)) cs i c old (slice_get_within cs i old found) in
+    let more = sum_by-set (λ x. one_if (is_holder user x)) cs i c old
+    (slice_get_within cs i old found) in
     let at : one_if (is_holder user (get_or cs i old)) ≡ one_if (is_holder user old) =
     ap (λ x. one_if (is_holder user x)) (get_or_from_slice_get cs i old old found) in
     let same : one_if (is_holder user old) ≡ one_if (is_holder user c) =
     ap one_if (holder_open old user h.0 ∙ ap (λ u. u == user) h.1 ∙ sym (holder_open c user up)) in
     omega (arith, more, at, same, marks user small)
 marks-becomes present cs i old c false ids marks found shut h user small =
-    let more = sum_by-set (λ x. one_if (is_holder user x)) cs i c old (slice_get_within cs i old found) in
+    let more = sum_by-set (λ x. one_if (is_holder user x)) cs i c old
+    (slice_get_within cs i old found) in
     let at : one_if (is_holder user (get_or cs i old)) ≡ one_if (is_holder user old) =
     ap (λ x. one_if (is_holder user x)) (get_or_from_slice_get cs i old old found) in
     let gone : one_if (is_holder user c) ≡ 0 = ap one_if (holder_shut c user shut) in
@@ -107,7 +116,8 @@ marks-becomes present cs i old c false ids marks found shut h user small =
     let one : one_if (is_holder user old) ≡ 1 = holder_yes old user h.0 (h.1 ∙ same) in
     let now : one_if (mark (set present c.user false) user) ≡ 0 =
     ap one_if
-    (subst (λ u. mark (set present c.user false) u ≡ false) same (mark-set_same present c.user false (omega (arith, same)))) in
+    (subst (λ u. mark (set present c.user false) u ≡ false) same
+    (mark-set_same present c.user false (omega (arith, same)))) in
     let most : one_if (mark present user) ≤ 1 = one_most (mark present user) in
     omega (arith, more, at, gone, one, now, most, marks user small))
     (λ (apart : c.user ≡ user → ⊥).
@@ -120,7 +130,8 @@ marks-becomes present cs i old c false ids marks found shut h user small =
       one_most true = omega arith
       one_most false = omega arith
 
-becomes-found : (present : List Bool) (cs : List Connection) (i : ℕ) (c : Connection) (found : Option Connection)
+becomes-found : (present : List Bool) (cs : List Connection) (i : ℕ) (c : Connection)
+    (found : Option Connection)
     → length present ≡ 256 → MarksHolders present cs → slice_get cs i ≡ found
     → MatchOption found ⊥ (λ old. (is_open old ≡ true) × (old.user ≡ c.user))
     → MarksHolders (cond (is_open c) present (set present c.user false)) (set cs i c)
@@ -129,8 +140,10 @@ becomes-found present cs i c (Some old) ids marks found h =
     marks-becomes present cs i old c (is_open c) ids marks found refl h
 
 -- the marks are right after a change
-pub marks-changed : (change : Change) (present : List Bool) (cs : List Connection) → length present ≡ 256
-    → MarksHolders present cs → IsChange cs change → MarksHolders (marks_after change present) (changed change cs)
+pub marks-changed : (change : Change) (present : List Bool) (cs : List Connection)
+    → length present ≡ 256
+    → MarksHolders present cs → IsChange cs change → MarksHolders (marks_after change present)
+    (changed change cs)
 marks-changed Stays present cs ids marks may = marks
 marks-changed (Adds c) present cs ids marks may = marks-adds present cs c ids marks may
 marks-changed (Becomes conn c) present cs ids marks may =

@@ -1,7 +1,9 @@
 -- The laws of sessions.
-use Rattle.std.proofs.Common.{◌≡◌, ℕ, suc, ◌+◌, ◌*◌, ◌≤◌, ◌==◌, ◌&&◌, not, Bool, true, false, if◌then◌else◌, List, [], ◌∷◌, ◌++◌, length}
+use Rattle.std.proofs.Common.{◌≡◌, ℕ, suc, ◌+◌, ◌*◌, ◌≤◌, ◌==◌, ◌&&◌, not, Bool, true, false}
+use Rattle.std.proofs.Common.{if◌then◌else◌, List, [], ◌∷◌, ◌++◌, length}
 use Rattle.std.proofs.Common.{map, fold, All, Option, None, Some, Result, Ok, Err}
-use Rattle.std.proofs.Common.{refl, sym, ap, subst, ◌∙◌, arith, append-nil, append_assoc, length-append}
+use Rattle.std.proofs.Common.{refl, sym, ap, subst, ◌∙◌, arith, append-nil, append_assoc}
+use Rattle.std.proofs.Common.{length-append}
 use Rattle.std.specs.List.{filter}
 use Rattle.std.specs.Option.{option_map_or}
 use Rattle.std.specs.declared.alloc.AllocError.{AllocError}
@@ -19,17 +21,21 @@ use Rattle.dp_session.specs.declared.event.Reply.TheVariants as reply
 use Rattle.dp_session.specs.declared.event.ShutAt.{ShutAt}
 use Rattle.dp_session.specs.declared.plan.Decision.{Decision}
 use Rattle.dp_session.specs.declared.plan.Decision.TheVariants as decision
-use Rattle.dp_session.specs.State.{State, Acted, first_state, acted, stays, opened_as, free_id, is_name, join_entries}
-use Rattle.dp_session.specs.State.{closed_by, left, owners_behind, next_owner, server_entry, entry_of, open_connection, with_connection}
+use Rattle.dp_session.specs.State.{State, Acted, first_state, acted, stays, opened_as, free_id}
+use Rattle.dp_session.specs.State.{is_name, join_entries}
+use Rattle.dp_session.specs.State.{closed_by, left, owners_behind, next_owner, server_entry}
+use Rattle.dp_session.specs.State.{entry_of, open_connection, with_connection}
 use Rattle.dp_session.specs.State.{is_present, present_users, user_ids}
 use Rattle.dp_session.specs.State.{says_by, after_shut}
-use Rattle.dp_session.specs.Past.{Past, LogItem, Journalled, RefusedClose, shut_at, interleaved, after_item, state_after, state_of}
+use Rattle.dp_session.specs.Past.{Past, LogItem, Journalled, RefusedClose, shut_at, interleaved}
+use Rattle.dp_session.specs.Past.{after_item, state_after, state_of}
 use Rattle.dp_session.specs.Past.{Serves, Step, refused, kept, shut_with, sure_step}
 use Rattle.dp_session.specs.Rows.{has_room}
 use Rattle.std.specs.List.{list_any, find}
 use Rattle.std.proofs.lemmas.List.Elements.{All-weaker, All-push}
 use Rattle.dp_session.specs.Plans.{decided}
-use Rattle.dp_session.specs.Laws.{Continues, Outcome, IsRun, IsFault, AreFaults, ShutBefore, shut_by}
+use Rattle.dp_session.specs.Laws.{Continues, Outcome, IsRun, IsFault, AreFaults, ShutBefore}
+use Rattle.dp_session.specs.Laws.{shut_by}
 use Rattle.dp_session.proofs.Interleaving.{state-came, state-shut}
 use Rattle.dp_session.proofs.PlanLemmas.{acted_by, says-decided}
 
@@ -51,7 +57,8 @@ unfolding came_in
 came_in-shut [] = refl
 came_in-shut (s ∷ shut) = came_in-shut shut
 
-came_in-interleaved : (n : ℕ) (journal : List Event) (shut : List ShutAt) → came_in (interleaved n journal shut) ≡ length journal
+came_in-interleaved : (n : ℕ) (journal : List Event) (shut : List ShutAt)
+    → came_in (interleaved n journal shut) ≡ length journal
 unfolding came_in
 came_in-interleaved n [] shut = came_in-shut (filter (λ s. s.n == n) shut)
 came_in-interleaved n (e ∷ journal) shut =
@@ -63,11 +70,13 @@ came_in-interleaved n (e ∷ journal) shut =
     )
 
 shut-answers : (s : State) (conn : ℕ) (o : Option Connection)
-    → (option_map_or (λ c. with_connection s conn (record c { ending = ending.Shut })) o s).answers ≡ s.answers
+    → (option_map_or (λ c. with_connection s conn (record c { ending = ending.Shut })) o s).answers
+    ≡ s.answers
 shut-answers s conn None = refl
 shut-answers s conn (Some c) = refl
 
-answers-run : (s : State) (hs : List LogItem) → length (fold after_item s hs).answers ≡ length s.answers + came_in hs
+answers-run : (s : State) (hs : List LogItem) → length (fold after_item s hs).answers
+    ≡ length s.answers + came_in hs
 unfolding came_in
 answers-run s [] = omega arith
 answers-run s (Journalled e ∷ more) =
@@ -80,7 +89,11 @@ answers-run s (RefusedClose conn ∷ more) =
 -- one answer for each event
 pub answered-once : (past : Past) → length (state_of past).answers ≡ length past.journal
 answered-once past =
-    omega (arith, answers-run first_state (interleaved 0 past.journal past.shut), came_in-interleaved 0 past.journal past.shut)
+    omega (
+      arith,
+      answers-run first_state (interleaved 0 past.journal past.shut),
+      came_in-interleaved 0 past.journal past.shut,
+    )
 
 -- ---- growing
 
@@ -88,7 +101,8 @@ answered-once past =
 Grows : List Entry → List Entry → Type 0
 Grows before after = (more : List Entry) × (after ≡ before ++ more) × (length more ≤ 2)
 
-if-grows : (s : State) (b : Bool) (x y : Acted) → Grows s.live x.state.live → Grows s.live y.state.live
+if-grows : (s : State) (b : Bool) (x y : Acted) → Grows s.live x.state.live
+    → Grows s.live y.state.live
     → Grows s.live (if b then x else y).state.live
 if-grows s true x y hx hy = hx
 if-grows s false x y hx hy = hy
@@ -123,7 +137,8 @@ owner-few true None = omega arith
 owner-few true (Some user) = omega arith
 owner-few false o = omega arith
 
-closed-grows : (s : State) (conn : ℕ) (c : Connection) → Grows s.live (closed_by s conn c).state.live
+closed-grows : (s : State) (conn : ℕ) (c : Connection) → Grows s.live
+    (closed_by s conn c).state.live
 unfolding Grows
 closed-grows s conn c =
     let gone = left s conn c in
@@ -133,7 +148,8 @@ closed-grows s conn c =
       append_assoc s.live (leave ∷ []) owners,
       omega (
         arith,
-        owner-few (is_operator s.live c.user && not (list_any (is_operator gone.live) (present_users gone)))
+        owner-few (is_operator s.live c.user && not (list_any (is_operator gone.live)
+            (present_users gone)))
             (find (is_present gone) user_ids),
       ),
     )
@@ -156,45 +172,70 @@ acted-grows s (event.Say conn m) =
     (λ c. subst (λ a. Grows s.live a.state.live) (sym (says-decided s conn c m))
     (decided-grows s conn c m (decided s c m))) (same-grows s)
 acted-grows s (event.Close conn) =
-    option-grows s (closed_by s conn) (open_connection s conn) (stays s reply.Ignored) (closed-grows s conn) (same-grows s)
+    option-grows s (closed_by s conn) (open_connection s conn) (stays s reply.Ignored)
+    (closed-grows s conn) (same-grows s)
 
 -- a history goes on after one more event
-pub history-grows : (journal : List Event) (shut : List ShutAt) (e : Event) → All (λ s. s.n ≤ length journal) shut
+pub history-grows : (journal : List Event) (shut : List ShutAt) (e : Event)
+    → All (λ s. s.n ≤ length journal) shut
     → Continues (state_after journal shut).live (state_after (journal ++ e ∷ []) shut).live
 unfolding Grows
 history-grows journal shut e before =
-    subst (λ s. Continues (state_after journal shut).live s.live) (sym (state-came journal shut e before))
+    subst (λ s. Continues (state_after journal shut).live s.live)
+    (sym (state-came journal shut e before))
     (let g = acted-grows (state_after journal shut) e in (g.0, g.1))
 
 shut-live : (s : State) (conn : ℕ) (o : Option Connection)
-    → (option_map_or (λ c. with_connection s conn (record c { ending = ending.Shut })) o s).live ≡ s.live
+    → (option_map_or (λ c. with_connection s conn (record c { ending = ending.Shut })) o s).live
+    ≡ s.live
 shut-live s conn None = refl
 shut-live s conn (Some c) = refl
 
-live-run : (s : State) (hs : List LogItem) → length (fold after_item s hs).live ≤ length s.live + 2 * came_in hs
+live-run : (s : State) (hs : List LogItem) → length (fold after_item s hs).live ≤ length s.live
+    + 2 * came_in hs
 unfolding came_in Grows
 live-run s [] = omega arith
 live-run s (Journalled e ∷ more) =
     let g = acted-grows s e in
-    omega (arith, live-run (after_item s (Journalled e)) more, ap length g.1, length-append s.live g.0, g.2)
+    omega (
+      arith,
+      live-run (after_item s (Journalled e)) more,
+      ap length g.1,
+      length-append s.live
+          g.0,
+      g.2,
+    )
 live-run s (RefusedClose conn ∷ more) =
-    omega (arith, live-run (after_shut s conn) more, ap length (shut-live s conn (open_connection s conn)))
+    omega (
+      arith,
+      live-run (after_shut s conn) more,
+      ap length
+          (shut-live s conn (open_connection s conn)),
+    )
 
 -- at most two entries for each event
 pub short-history : (past : Past) → length (state_of past).live ≤ 2 * length past.journal + 1
 short-history past =
-    omega (arith, live-run first_state (interleaved 0 past.journal past.shut), came_in-interleaved 0 past.journal past.shut)
+    omega (
+      arith,
+      live-run first_state (interleaved 0 past.journal past.shut),
+      came_in-interleaved 0
+          past.journal past.shut,
+    )
 
 -- ---- one more event
 
-pub refused-leads : (past : Past) (e : Event) → state_of (refused past e) ≡ shut_by (state_of past) e
+pub refused-leads : (past : Past) (e : Event) → state_of (refused past e)
+    ≡ shut_by (state_of past) e
 refused-leads past (event.Open name registered) = refl
 refused-leads past (event.Say conn m) = refl
 refused-leads past (event.Close conn) = state-shut past.journal past.shut conn
 
-weaker : {m : ℕ} (n : ℕ) (shut : List ShutAt) → All (λ s. s.n ≤ m) shut → m ≤ n → All (λ s. s.n ≤ n) shut
+weaker : {m : ℕ} (n : ℕ) (shut : List ShutAt) → All (λ s. s.n ≤ m) shut → m ≤ n
+    → All (λ s. s.n ≤ n) shut
 weaker {m} n shut before le =
-    All-weaker (λ (s : ShutAt). s.n ≤ m) (λ (s : ShutAt). s.n ≤ n) (λ s h. omega (arith, h, le)) shut before
+    All-weaker (λ (s : ShutAt). s.n ≤ m) (λ (s : ShutAt). s.n ≤ n) (λ s h. omega (arith, h, le))
+    shut before
 
 stays-before : (past : Past) (e : Event) (n : ℕ) → ShutBefore past → length past.journal ≤ n
     → All (λ s. s.n ≤ n) (shut_with (length past.journal) past.shut e)
@@ -203,7 +244,8 @@ stays-before past (event.Open name registered) n before le =
 stays-before past (event.Say conn m) n before le =
     weaker n past.shut before le
 stays-before past (event.Close conn) n before le =
-    All-push (λ (s : ShutAt). s.n ≤ n) past.shut (record { conn = conn; n = length past.journal }) (weaker n past.shut before le) le
+    All-push (λ (s : ShutAt). s.n ≤ n) past.shut (record { conn = conn; n = length past.journal })
+    (weaker n past.shut before le) le
 
 pub before-step : (past : Past) (e : Event) → ShutBefore past → ShutBefore (sure_step past e)
 before-step past e before =
@@ -211,23 +253,30 @@ before-step past e before =
   where
     by_room : (b : Bool) → ShutBefore (if b then kept past e else refused past e)
     by_room true =
-        All-weaker (λ (s : ShutAt). s.n ≤ length past.journal) (λ (s : ShutAt). s.n ≤ length (past.journal ++ e ∷ []))
+        All-weaker (λ (s : ShutAt). s.n ≤ length past.journal)
+        (λ (s : ShutAt). s.n ≤ length (past.journal ++ e ∷ []))
         (λ s h. omega (arith, h, length-append past.journal (e ∷ []))) past.shut before
     by_room false = stays-before past e (length past.journal) before (omega arith)
 
 -- ---- faults
 
 stays-broken : (past : Past) (e : Event) (answer : Result Reply AllocError) (new : Past) (first : ℕ)
-    → past.first_fault ≡ Some first → Step past e answer new → IsFault first answer × (new.first_fault ≡ Some first)
+    → past.first_fault ≡ Some first → Step past e answer new
+    → IsFault first answer × (new.first_fault ≡ Some first)
 stays-broken past e (Ok answer) new first first_fault step =
-    let h : Serves (Some first) past e answer new = subst (λ b. Serves b past e answer new) first_fault step in
+    let h : Serves (Some first) past e answer new = subst (λ b. Serves b past e answer new)
+    first_fault step in
     (h.reply, ap (λ p. p.first_fault) h.after ∙ first_fault)
-stays-broken past (event.Open name registered) (Err want) new first first_fault step = (tt, ap (λ p. p.first_fault) step ∙ first_fault)
-stays-broken past (event.Say conn m) (Err want) new first first_fault step = (tt, ap (λ p. p.first_fault) step ∙ first_fault)
-stays-broken past (event.Close conn) (Err want) new first first_fault step = (tt, ap (λ p. p.first_fault) step ∙ first_fault)
+stays-broken past (event.Open name registered) (Err want) new first first_fault step =
+    (tt, ap (λ p. p.first_fault) step ∙ first_fault)
+stays-broken past (event.Say conn m) (Err want) new first first_fault step =
+    (tt, ap (λ p. p.first_fault) step ∙ first_fault)
+stays-broken past (event.Close conn) (Err want) new first first_fault step =
+    (tt, ap (λ p. p.first_fault) step ∙ first_fault)
 
 -- each outcome is that fault
-pub broken-for_good : (past : Past) (first : ℕ) (log : List Outcome) → past.first_fault ≡ Some first → IsRun past log
+pub broken-for_good : (past : Past) (first : ℕ) (log : List Outcome) → past.first_fault ≡ Some first
+    → IsRun past log
     → AreFaults first log
 broken-for_good past first [] first_fault run = tt
 broken-for_good past first (outcome ∷ log) first_fault run =

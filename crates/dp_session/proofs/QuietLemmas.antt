@@ -1,5 +1,6 @@
 -- The quiet connections as flags, and as their numbers.
-use Rattle.std.proofs.Common.{◌≡◌, ℕ, zero, suc, ◌+◌, ◌-◌, ◌<◌, ◌≤◌, ◌==◌, Bool, true, false, ◌&&◌, ◌||◌, cond, if◌then◌else◌}
+use Rattle.std.proofs.Common.{◌≡◌, ℕ, zero, suc, ◌+◌, ◌-◌, ◌<◌, ◌≤◌, ◌==◌, Bool, true, false, ◌&&◌}
+use Rattle.std.proofs.Common.{◌||◌, cond, if◌then◌else◌}
 use Rattle.std.proofs.Common.{List, [], ◌∷◌, ◌++◌, length, get_or, set, None, Some, is_some}
 use Rattle.std.proofs.Common.{refl, sym, ap, ◌∙◌, ⊎_elim, arith, append-nil, length-append}
 use Rattle.std.specs.List.{list_any, filter, slice_get, range_with_len}
@@ -20,7 +21,8 @@ use Rattle.dp_session.specs.State.{State}
 use Rattle.dp_session.specs.Past.{Past, quiet_with, quieted, state_of}
 use Rattle.dp_session.specs.Tables.{mark, quiet_of, flagged, flagged_by}
 use Rattle.dp_session.specs.Plans.{quiet_after}
-use Rattle.dp_session.proofs.Ranges.{find-first, find-none, filter-range_same, list_any-find, list_any-filter, both}
+use Rattle.dp_session.proofs.Ranges.{find-first, find-none, filter-range_same, list_any-find}
+use Rattle.dp_session.proofs.Ranges.{list_any-filter, both}
 
 -- a number of a range is among those that pass a test exactly where it passes
 any-range : (p : ℕ → Bool) (low n conn : ℕ) → low ≤ conn → conn < low + n
@@ -52,7 +54,8 @@ range-more low zero = ap (λ k. k ∷ []) (omega arith)
 range-more low (suc n) =
     let e : suc n + 1 ≡ suc (n + 1) = omega arith in
     ap (range_with_len low) e
-    ∙ ap (λ xs. low ∷ xs) (range-more (low + 1) n ∙ ap (λ k. range_with_len (low + 1) n ++ k ∷ []) (omega arith))
+    ∙ ap (λ xs. low ∷ xs) (range-more (low + 1) n ∙ ap (λ k. range_with_len (low + 1) n ++ k ∷ [])
+    (omega arith))
 
 -- a connection that is added isn't quiet
 quiet-adds : (flags : List Bool) → quiet_of (flags ++ false ∷ []) ≡ quiet_of flags
@@ -63,7 +66,8 @@ quiet-adds flags =
     ap (λ n. filter p (range_with_len 1 n)) (length-append flags (false ∷ []))
     ∙ ap (filter p) (range-more 1 (length flags))
     ∙ filter-append p (range_with_len 1 (length flags)) ((1 + length flags) ∷ [])
-    ∙ ap (λ b. filter p (range_with_len 1 (length flags)) ++ cond b ((1 + length flags) ∷ []) []) last
+    ∙ ap (λ b. filter p (range_with_len 1 (length flags)) ++ cond b ((1 + length flags) ∷ []) [])
+    last
     ∙ append-nil (filter p (range_with_len 1 (length flags)))
     ∙ filter-range_same p (λ number. mark flags (number - 1)) 1 (length flags)
     (λ k from to. before flags (k - 1) (omega arith)) where
@@ -74,7 +78,8 @@ quiet-adds flags =
       at_end xs k e = ap (λ i. mark (xs ++ false ∷ []) i) e ∙ get_or-append_seam xs false [] false
 
 -- the quiet connections stay
-pub quiet-changed : (change : Change) (flags : List Bool) → quiet_of (quiet_after change flags) ≡ quiet_of flags
+pub quiet-changed : (change : Change) (flags : List Bool)
+    → quiet_of (quiet_after change flags) ≡ quiet_of flags
 quiet-changed Stays flags = refl
 quiet-changed (Adds c) flags = quiet-adds flags
 quiet-changed (Becomes conn c) flags = refl
@@ -85,13 +90,16 @@ with_it s flags conn =
     (range_with_len 1 (length s.connections))
 
 -- the numbers that are flagged then
-flagged-is : (s : State) (flags : List Bool) (conn : ℕ) → length flags ≡ length s.connections → 0 < conn
+flagged-is : (s : State) (flags : List Bool) (conn : ℕ) → length flags ≡ length s.connections
+    → 0 < conn
     → conn ≤ length s.connections → quiet_of (set flags (conn - 1) true) ≡ with_it s flags conn
 flagged-is s flags conn same above below =
     let now = set flags (conn - 1) true in
-    ap (λ n. filter (λ number. mark now (number - 1)) (range_with_len 1 n)) (length-set flags (conn - 1) true ∙ same)
+    ap (λ n. filter (λ number. mark now (number - 1)) (range_with_len 1 n))
+    (length-set flags (conn - 1) true ∙ same)
     ∙ filter-range_same (λ number. mark now (number - 1))
-    (λ number. number == conn || list_any (λ other. other == number) (quiet_of flags)) 1 (length s.connections)
+    (λ number. number == conn || list_any (λ other. other == number) (quiet_of flags)) 1
+    (length s.connections)
     (λ k from to.
     ⊎_elim (λ (this : k ≡ conn).
     get_or-set_at flags (conn - 1) (k - 1) true false (omega arith) (omega (arith, same))
@@ -108,18 +116,21 @@ pub quiet-flagged : (s : State) (flags : List Bool) (conn : ℕ) → length flag
 quiet-flagged s flags conn same =
     ⊎_elim (λ (none : conn ≡ 0).
     ap (λ b. quiet_of (if b then flags else set flags (conn - 1) true)) (eq-eqb conn 0 none)
-    ∙ sym (ap (λ b. if is_some (if b then None else slice_get s.connections (conn - 1)) then with_it s flags conn else quiet_of flags)
+    ∙ sym (ap (λ b. if is_some (if b then None else slice_get s.connections (conn - 1))
+    then with_it s flags conn else quiet_of flags)
     (eq-eqb conn 0 none)))
     (λ (some : conn ≡ 0 → ⊥).
     ap (λ b. quiet_of (if b then flags else set flags (conn - 1) true)) (ne_eqb conn 0 some)
-    ∙ ⊎_elim (λ (there : (x : Connection) × (conn - 1 < length s.connections) × (slice_get s.connections (conn - 1) ≡ Some x) × (get_or s.connections (conn - 1) x ≡ x)).
+    ∙ ⊎_elim (λ (there : (x : Connection) × (conn - 1 < length s.connections)
+    × (slice_get s.connections (conn - 1) ≡ Some x) × (get_or s.connections (conn - 1) x ≡ x)).
     flagged-is s flags conn same (omega arith) (omega (arith, there.1))
     ∙ sym (ap (λ o. if is_some o then with_it s flags conn else quiet_of flags) there.2))
     (λ (past : (length s.connections ≤ conn - 1) × (slice_get s.connections (conn - 1) ≡ None)).
     ap quiet_of (set_past flags (conn - 1) true (omega (arith, past.0, same)))
     ∙ sym (ap (λ o. if is_some o then with_it s flags conn else quiet_of flags) past.1))
     (slice_get_cases s.connections (conn - 1)).1
-    ∙ sym (ap (λ b. if is_some (if b then None else slice_get s.connections (conn - 1)) then with_it s flags conn else quiet_of flags)
+    ∙ sym (ap (λ b. if is_some (if b then None else slice_get s.connections (conn - 1))
+    then with_it s flags conn else quiet_of flags)
     (ne_eqb conn 0 some)))
     (cases_eq conn 0)
 
@@ -127,7 +138,8 @@ quiet-flagged s flags conn same =
 pub past-quieted : (past : Past) (e : Event) (flags : List Bool) → past.quiet ≡ quiet_of flags
     → length flags ≡ length (state_of past).connections
     → quieted past e ≡ record past { quiet = quiet_of (flagged_by e flags) }
-past-quieted past (event.Open name registered) flags is same = ap (λ q. record past { quiet = q }) is
+past-quieted past (event.Open name registered) flags is same = ap (λ q. record past { quiet = q })
+    is
 past-quieted past (event.Say conn m) flags is same = ap (λ q. record past { quiet = q }) is
 past-quieted past (event.Close conn) flags is same =
     ap (λ q. record past { quiet = quiet_with (state_of past) conn q }) is

@@ -12,15 +12,18 @@ use Rattle.dp_session.specs.declared.event.Event.{Event}
 use Rattle.dp_session.specs.declared.history_item.HistoryItem.{HistoryItem}
 use Rattle.dp_session.specs.declared.connection.Ending.TheVariants as ending
 use Rattle.dp_session.specs.declared.event.Answer.TheVariants.{Gone}
-use Rattle.dp_session.specs.State.{State, is_open, open_in, where_open, connection_in, connection_of}
+use Rattle.dp_session.specs.State.{State, is_open, open_in, where_open, connection_in}
+use Rattle.dp_session.specs.State.{connection_of}
 use Rattle.dp_session.specs.Tables.{entry_in, mark, quiet_of}
 use Rattle.dp_session.specs.Pull.{pulled_from, pulled_by, pulled_where}
 use Rattle.dp_session.proofs.QuietLemmas.{quiet-listed}
 
 -- a page of the entries is that of the history
-pub page-is : (journal : List Event) (live : List HistoryItem) (history : List Entry) (end at most : ℕ)
+pub page-is : (journal : List Event) (live : List HistoryItem) (history : List Entry)
+    (end at most : ℕ)
     → map (entry_in journal) live ≡ history
-    → map (entry_in journal) (take most (drop at (take end live))) ≡ take most (drop at (take end history))
+    → map (entry_in journal) (take most (drop at (take end live)))
+    ≡ take most (drop at (take end history))
 page-is journal live history end at most is =
     let f = entry_in journal in
     sym (take-map f most (drop at (take end live)))
@@ -35,7 +38,8 @@ open-some c false = refl
 pub open-at : (cs : List Connection) (i : ℕ) (c : Connection) → slice_get cs i ≡ Some c
     → is_some (open_in cs (i + 1)) ≡ is_open c
 open-at cs i c found =
-    ap (λ b. is_some (where_open (if b then None else slice_get cs (i + 1 - 1)))) (ne_eqb (i + 1) 0 (λ e. omega arith))
+    ap (λ b. is_some (where_open (if b then None else slice_get cs (i + 1 - 1))))
+    (ne_eqb (i + 1) 0 (λ e. omega arith))
     ∙ ap (λ k. is_some (where_open (slice_get cs k))) (omega arith)
     ∙ ap (λ o. is_some (where_open o)) found
     ∙ open-some c (is_open c)
@@ -50,15 +54,19 @@ pub given-out : (cs : List Connection) (conn : ℕ) (c : Connection) → connect
     → (0 < conn) × (conn ≤ length cs)
 given-out cs conn c h =
     ⊎_elim (λ (none : conn ≡ 0).
-    let e : None ≡ Some c = sym (ap (λ b. if b then None else slice_get cs (conn - 1)) (eq-eqb conn 0 none)) ∙ h in cc)
+    let e : None ≡ Some c = sym (ap (λ b. if b then None else slice_get cs (conn - 1))
+    (eq-eqb conn 0 none)) ∙ h in cc)
     (λ (other : conn ≡ 0 → ⊥).
-    let e : slice_get cs (conn - 1) ≡ Some c = sym (ap (λ b. if b then None else slice_get cs (conn - 1)) (ne_eqb conn 0 other)) ∙ h in
+    let e : slice_get cs (conn - 1) ≡ Some c = sym (ap (λ b. if b then None
+    else slice_get cs (conn - 1)) (ne_eqb conn 0 other)) ∙ h in
     (omega arith, omega (arith, slice_get_within cs (conn - 1) c e)))
     (cases_eq conn 0)
 
 -- what an open connection gets, by whether it is quiet
-pub pulled-open : (s : State) (flags : List Bool) (conn epoch at most : ℕ) (c : Connection) (quiet : Bool)
-    → Some c ≡ connection_in s.connections conn → c.ending ≡ ending.Running → length flags ≡ length s.connections
+pub pulled-open : (s : State) (flags : List Bool) (conn epoch at most : ℕ) (c : Connection)
+    (quiet : Bool)
+    → Some c ≡ connection_in s.connections conn → c.ending ≡ ending.Running
+    → length flags ≡ length s.connections
     → quiet ≡ mark flags (conn - 1)
     → pulled_where s (quiet_of flags) conn epoch at most (connection_of s conn)
     ≡ (if quiet then Gone else pulled_from s epoch at most s.live)

@@ -13,9 +13,11 @@ use Rattle.dp_session.specs.declared.event.Reply.{Reply}
 use Rattle.dp_session.specs.declared.event.Reply.TheVariants.{Ended, StoreFault}
 use Rattle.dp_session.specs.declared.event.ShutAt.{ShutAt}
 use Rattle.dp_session.specs.Rows.{row_of, has_room}
-use Rattle.dp_session.specs.State.{State, first_state, acted, after_event, after_shut, connection_of}
+use Rattle.dp_session.specs.State.{State, first_state, acted, after_event, after_shut}
+use Rattle.dp_session.specs.State.{connection_of}
 
--- What contracts see of a session. A closing that a store fault or the limits refused is in `shut`, with
+-- What contracts see of a session. A closing that a store fault or the limits refused is in `shut`,
+-- with
 -- the number of events before it.
 pub record Past : Type 0 where
   -- the events that were kept
@@ -45,7 +47,8 @@ shut_at n shut = map (λ s. RefusedClose s.conn) (filter (λ s. s.n == n) shut)
 -- all in one list, from the moment on when n events were kept
 abbrev pub interleaved : ℕ → List Event → List ShutAt → List LogItem
 interleaved n [] shut = shut_at n shut
-interleaved n (e ∷ journal) shut = shut_at n shut ++ (Journalled e ∷ interleaved (n + 1) journal shut)
+interleaved n (e ∷ journal) shut = shut_at n shut ++ (Journalled e
+    ∷ interleaved (n + 1) journal shut)
 
 -- the state after a happening
 abbrev pub after_item : State → LogItem → State
@@ -109,7 +112,11 @@ pub record FailsFirst (old : Past) (e : Event) (answer : Reply) (new : Past) : T
   pub rose : Rose old.count count
   pub rows : (known ≡ old.known) ⊎ (known ≡ with_row (row_behind old e) old.known)
   pub reply : answer ≡ StoreFault count
-  pub after : new ≡ record (refused old e) { first_fault = Some count; known = known; count = count }
+  pub after : new ≡ record (refused old e) {
+    first_fault = Some count;
+    known = known;
+    count = count;
+  }
 
 -- the event was kept, and answered by its own answer
 pub record Accepts (old : Past) (e : Event) (answer : Reply) (new : Past) : Type 0 where
@@ -121,8 +128,10 @@ pub record Refuses (old : Past) (e : Event) (refusal answer : Reply) (new : Past
   pub reply : answer ≡ refusal
   pub after : new ≡ refused old e
 
--- What may be answered, by whether a put has failed before: then that fault, for ever; else that the
--- session has ended, exactly where there is no room; else the event's own answer, or the first fault.
+-- What may be answered, by whether a put has failed before: then that fault, for ever; else that
+-- the
+-- session has ended, exactly where there is no room; else the event's own answer, or the first
+-- fault.
 abbrev pub Serves : Option ℕ → Past → Event → Reply → Past → Type 0
 Serves (Some first) old e answer new = Refuses old e (StoreFault first) answer new
 Serves None old e answer new =

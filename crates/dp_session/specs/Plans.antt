@@ -3,7 +3,8 @@ use Rattle.std.specs.Prelude.{◌≡◌, ℕ, ◌-◌, ◌<◌, Bool, true, fals
 use Rattle.std.specs.Prelude.{Option, None, Some, option_to_list, MatchOption}
 use Rattle.std.specs.Prelude.{List, [], ◌∷◌, ◌++◌, map, slice_get, slice_set}
 use Rattle.std.specs.List.{find, list_any}
-use Rattle.dp_msg_meta.specs.declared.message.Control.TheVariants.{Ping, Disconnect, Ack, ResetBegin, ResetEnd}
+use Rattle.dp_msg_meta.specs.declared.message.Control.TheVariants.{Ping, Disconnect, Ack}
+use Rattle.dp_msg_meta.specs.declared.message.Control.TheVariants.{ResetBegin, ResetEnd}
 use Rattle.dp_messages.specs.declared.message.Msg.{Msg}
 use Rattle.dp_messages.specs.declared.message.Msg.TheVariants as msg
 use Rattle.dp_messages.specs.declared.message.Entry.{Entry}
@@ -57,7 +58,8 @@ quiet_after Stays quiet = quiet
 quiet_after (Adds connection) quiet = quiet ++ false ∷ []
 quiet_after (Becomes conn connection) quiet = quiet
 
--- A connection that is added is open, and its user is not present; one that becomes another was open, and
+-- A connection that is added is open, and its user is not present; one that becomes another was
+-- open, and
 -- stays its user's.
 abbrev pub IsChange : List Connection → Change → Type 0
 IsChange connections Stays = Unit {0}
@@ -89,7 +91,8 @@ first_operator present user = if list_any (mark present) user_ids then None else
 -- them, if the other was operator and none of them is.
 abbrev pub next_operator : (ℕ → Bool) → List Bool → ℕ → Option ℕ
 next_operator is_operator present user =
-    if is_operator user && not (list_any (λ other. mark present other && is_operator other) user_ids)
+    if is_operator user && not (list_any (λ other. mark present other && is_operator other)
+    user_ids)
     then find (mark present) user_ids
     else None
 

@@ -6,9 +6,11 @@ use Rattle.std.specs.List.{filter, find, list_any, range_with_len}
 use Rattle.std.specs.Option.{option_map_or}
 use Rattle.std.specs.Str.{is_utf8}
 use Rattle.dp_msg_draw.specs.declared.draw.Draw.{Draw}
-use Rattle.dp_msg_meta.specs.declared.message.Control.TheVariants.{Ping, Disconnect, Ack, ResetBegin, ResetEnd}
+use Rattle.dp_msg_meta.specs.declared.message.Control.TheVariants.{Ping, Disconnect, Ack}
+use Rattle.dp_msg_meta.specs.declared.message.Control.TheVariants.{ResetBegin, ResetEnd}
 use Rattle.dp_msg_meta.specs.declared.message.Meta.{Meta}
-use Rattle.dp_msg_meta.specs.declared.message.Meta.TheVariants.{Join, Leave, Owners, ResetMark, Filtered}
+use Rattle.dp_msg_meta.specs.declared.message.Meta.TheVariants.{Join, Leave, Owners, ResetMark}
+use Rattle.dp_msg_meta.specs.declared.message.Meta.TheVariants.{Filtered}
 use Rattle.dp_messages.specs.declared.message.Msg.{Msg}
 use Rattle.dp_messages.specs.declared.message.Msg.TheVariants as msg
 use Rattle.dp_messages.specs.declared.message.Entry.{Entry}
@@ -29,7 +31,8 @@ pub record Stream : Type 0 where
   pub owner : ℕ
   pub commands : List Draw
 
--- The histories of the epochs before, the live history, the connections in the order of their Opened
+-- The histories of the epochs before, the live history, the connections in the order of their
+-- Opened
 -- (the first has number 1), the reset that is being sent, and the answer to each event so far.
 pub record State : Type 0 where
   pub ended : List (List Entry)
@@ -236,7 +239,8 @@ filtered s user m = record {
 abbrev pub judged : State → ℕ → Msg → Acted
 judged s user m = if permitted s.live user m then said s user m else filtered s user m
 
--- an Ack of the epoch counts where the epoch is the live one and the connection hasn't acknowledged it
+-- an Ack of the epoch counts where the epoch is the live one and the connection hasn't acknowledged
+-- it
 abbrev pub acknowledged_by : State → ℕ → Connection → ℕ → Acted
 acknowledged_by s conn connection epoch =
     if epoch == epoch_of s && not connection.acknowledged
@@ -285,5 +289,6 @@ after_event s e = let a = acted s e in record a.state { answers = s.answers ++ a
 -- the state after a connection was closed without a Leave
 abbrev pub after_shut : State → ℕ → State
 after_shut s conn =
-    option_map_or (λ connection. with_connection s conn (record connection { ending = ending.Shut }))
+    option_map_or (λ connection. with_connection s conn (record connection
+    { ending = ending.Shut }))
     (open_connection s conn) s

@@ -1,5 +1,6 @@
 -- What a session keeps, and when it is the state to which its past leads.
-use Rattle.std.specs.Prelude.{◌≡◌, ℕ, ◌+◌, ◌-◌, ◌*◌, ◌<◌, ◌≤◌, ◌&&◌, ◌==◌, Bool, true, false, if◌then◌else◌}
+use Rattle.std.specs.Prelude.{◌≡◌, ℕ, ◌+◌, ◌-◌, ◌*◌, ◌<◌, ◌≤◌, ◌&&◌, ◌==◌, Bool, true, false}
+use Rattle.std.specs.Prelude.{if◌then◌else◌}
 use Rattle.std.specs.Prelude.{Option, None, Some, List, [], length, map, slice_get, slice_set}
 use Rattle.std.specs.Prelude.{slice_index_or, count_by, All, vec_len, vec_capacity}
 use Rattle.std.specs.List.{filter, range_with_len}
@@ -59,7 +60,8 @@ MarksHolders present connections =
 -- ---- the whole
 
 -- The tables are those of the state, to which so many events led.
-pub record AreOf (s : State) (journal : List Event) (connections : List Connection) (live : List HistoryItem)
+pub record AreOf (s : State) (journal : List Event) (connections : List Connection)
+    (live : List HistoryItem)
     (rights : Kept) (present : List Bool) : Type 0 where
   pub ended : s.ended ≡ []
   pub stream : s.stream ≡ None

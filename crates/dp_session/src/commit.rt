@@ -57,7 +57,12 @@ fn place_server(live: &mut Vec<HistoryItem>, rights: &mut Rights, entry: Option<
 }
 
 /// Journals an event, and places its entries.
-fn place(journal: &mut Vec<Event>, live: &mut Vec<HistoryItem>, rights: &mut Rights, placing: Placing)
+fn place(
+    journal: &mut Vec<Event>,
+    live: &mut Vec<HistoryItem>,
+    rights: &mut Rights,
+    placing: Placing,
+)
     requires few { length journal.old.items < 2 ^ 32 }
     requires journal { vec_len journal.old < vec_capacity journal.old }
     requires live { vec_len live.old + 2 ≤ vec_capacity live.old }

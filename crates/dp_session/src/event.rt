@@ -57,7 +57,8 @@ pub enum Reply {
 /// What a session is asked.
 #[derive(Clone, Copy, Debug, PartialEq, Eq)]
 pub enum Query {
-    /// The entries that a connection is to get from a place of an epoch on, at most so many; 0 counts as 1.
+    /// The entries that a connection is to get from a place of an epoch on, at most so many; 0
+    /// counts as 1.
     Pull {
         conn: u32,
         epoch: u32,
@@ -75,7 +76,8 @@ pub enum Answer {
     Gone,
 }
 
-/// A Close that was refused by a store fault or the limits, and how many events were kept before it.
+/// A Close that was refused by a store fault or the limits, and how many events were kept before
+/// it.
 #[derive(Clone, Copy, Debug, PartialEq, Eq)]
 pub struct ShutAt {
     pub conn: u32,

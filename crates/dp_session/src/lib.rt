@@ -3,15 +3,15 @@
 //! The rule: docs/protocol.md, "The session".
 #![tactic(auto)]
 
+mod commit;
 mod connection;
 mod event;
 mod history_item;
-mod commit;
 mod laws;
+mod pages;
 mod plan;
 mod planner;
 mod presence;
-mod pages;
 mod row;
 mod session;
 mod sure;

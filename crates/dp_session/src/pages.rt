@@ -83,7 +83,8 @@ fn is_quiet(quiet: &[bool], conn: u32) -> bool
 }
 
 impl Tables {
-    /// Copies of entries of the live history before a place, from another place on, at most that many.
+    /// Copies of entries of the live history before a place, from another place on, at most that
+    /// many.
     fn page(&self, end: usize, at: u32, most: u32) -> Result<Entries, AllocError>
         requires { AreTables self.now }
         ensures { IfOk result (λ copies. copies
@@ -126,7 +127,8 @@ impl Tables {
         self.pull_from(place.index as usize + 1, epoch, at, most)
     }
 
-    /// What a connection is to get, from a cursor on, so many entries at most. The only error is want of
+    /// What a connection is to get, from a cursor on, so many entries at most. The only error is
+    /// want of
     /// memory.
     pub(crate) fn pull(
         &self,

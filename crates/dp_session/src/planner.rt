@@ -274,7 +274,8 @@ impl Tables {
         Ok(self.plan_decided(conn, &connection, copy))
     }
 
-    /// The event as it is ready to be kept; `None` where there is no room for it. The only error is want of
+    /// The event as it is ready to be kept; `None` where there is no room for it. The only error is
+    /// want of
     /// memory.
     pub(crate) fn prepare(&self, event: &Event) -> Result<Option<Ready>, AllocError>
         requires { AreTables self.now }

@@ -11,12 +11,13 @@ ghost use Rattle.dp_session.specs.State.{next_open};
 use crate::event::{Answer, Event, Journal, Query, Reply, Shut};
 use crate::plan::Ready;
 use crate::tables::{Tables, next_open};
-use dp_machine::Machine;
 use dp_keeper::{KeepError, Keeper};
+use dp_machine::Machine;
 use std::alloc::{AllocError, Global};
 use std::marker::Model;
 
-/// A session: users with their connections, one history, and the journal of the events that made it, each
+/// A session: users with their connections, one history, and the journal of the events that made
+/// it, each
 /// of which is a row of the store. Contracts see it as its past.
 ///
 /// The rule: docs/protocol.md, "The session".
@@ -39,7 +40,8 @@ impl<K: Keeper> Model for Session<K> {
     ghost invariant = { λ s. AreTables s.tables };
 }
 
-/// Keeps an event that is ready, if its row is put. If the store fails, the event is left out, and if memory
+/// Keeps an event that is ready, if its row is put. If the store fails, the event is left out, and
+/// if memory
 /// runs out, nothing is done.
 fn put<K: Keeper>(
     keeper: &mut K,

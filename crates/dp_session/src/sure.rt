@@ -5,8 +5,8 @@ ghost use Rattle.dp_session.specs.Past.{sure_answer, sure_step};
 
 use crate::event::{Event, Reply};
 use crate::session::Session;
-use dp_machine::Machine;
 use dp_keeper::{Keeper, SureKeeper};
+use dp_machine::Machine;
 use std::alloc::AllocError;
 
 impl<K: Keeper> Session<K> {

@@ -170,7 +170,8 @@ impl Tables {
         self.journal.len() < EVENT_LIMIT && row_length as u64 <= BYTE_LIMIT - self.row_bytes
     }
 
-    /// Makes the memory ready that any one event needs. The only error is out of memory, and all stays
+    /// Makes the memory ready that any one event needs. The only error is out of memory, and all
+    /// stays
     /// then, too, but for memory that may be ready.
     pub(crate) fn reserve(&mut self) -> Result<(), AllocError>
         ensures same { IsSame self.old self.new }

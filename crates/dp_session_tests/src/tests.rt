@@ -3,8 +3,8 @@
 ghost use Rattle.std.specs.Prelude.{None};
 
 use dp_frame::Octets;
-use dp_machine::Machine;
 use dp_keeper::{KeepError, Keeper, MemKeeper, Row, Rows, SureKeeper};
+use dp_machine::Machine;
 use dp_messages::Msg;
 use dp_msg_meta::{Control, Ids, Meta};
 use dp_session::{Answer, Event, Query, Reply, Session, ShutAt};
@@ -154,7 +154,8 @@ static EVENTS: [&str; 10] = [
     "CLOSE 2",
 ];
 
-/// The answers to these events over a store that fails at the put of this number: whether each is a fault.
+/// The answers to these events over a store that fails at the put of this number: whether each is a
+/// fault.
 fn run_to_fault(
     rt: &impl Abort,
     alloc: Global,
@@ -173,7 +174,8 @@ fn run_to_fault(
     Ok(())
 }
 
-/// A store that fails at the put of this number, with the row kept or lost: the closings after are `closings`.
+/// A store that fails at the put of this number, with the row kept or lost: the closings after are
+/// `closings`.
 fn fails_at(
     rt: &impl Abort,
     alloc: Global,
@@ -240,7 +242,8 @@ fn say_bytes(
     session.step(&Event::Say { conn: 1, msg })
 }
 
-/// The row of the Open has 3 bytes, each Say has 6 beside its payload, and a Close has 5: of 2^30 bytes
+/// The row of the Open has 3 bytes, each Say has 6 beside its payload, and a Close has 5: of 2^30
+/// bytes
 /// 49159 are left after 16382 of the greatest payloads.
 #[test]
 fn ends_where_no_room_is_left(rt: HostRuntime) -> Result<(), Fail> {

@@ -1,6 +1,7 @@
 -- What the calls of a client and of a world rest on.
 use Rattle.std.proofs.Common.{◌≡◌, ℕ, suc, zero, ◌==◌, Bool, true, false, not, if◌then◌else◌}
-use Rattle.std.proofs.Common.{List, [], ◌∷◌, length, Option, None, Some, is_some, Result, Ok, Err, OnOk}
+use Rattle.std.proofs.Common.{List, [], ◌∷◌, length, Option, None, Some, is_some, Result, Ok, Err}
+use Rattle.std.proofs.Common.{OnOk}
 use Rattle.std.proofs.Common.{refl, sym, ap, subst, ◌∙◌}
 use Rattle.std.specs.List.{list_any, slice_get}
 use Rattle.dp_messages.specs.declared.message.Entry.{Entry}
@@ -40,16 +41,19 @@ first-pulled live epoch other at true = page-first at live
 first-pulled live epoch other at false = page-first 0 live
 
 -- a connection that has not ended is pulled from, where none is quiet
-by-ending : (s : State) (quiet : List ℕ) (conn epoch at most : ℕ) (c : Connection) (e : Ending) → quiet ≡ []
+by-ending : (s : State) (quiet : List ℕ) (conn epoch at most : ℕ) (c : Connection) (e : Ending)
+    → quiet ≡ []
     → is_some (if not (is_ended e) then Some c else None) ≡ true
     → pulled_by s quiet conn epoch at most e ≡ pulled_from s epoch at most s.live
 by-ending s quiet conn epoch at most c ending.Running none running =
-    ap (λ q. if list_any (λ other. other == conn) q then Gone else pulled_from s epoch at most s.live) none
+    ap (λ q. if list_any (λ other. other == conn) q then Gone
+    else pulled_from s epoch at most s.live) none
 by-ending s quiet conn epoch at most c (ending.Left place) none running = cc
 by-ending s quiet conn epoch at most c ending.Shut none running = cc
 
 -- so is an open one
-by-connection : (s : State) (quiet : List ℕ) (conn epoch at most : ℕ) (o : Option Connection) → quiet ≡ []
+by-connection : (s : State) (quiet : List ℕ) (conn epoch at most : ℕ) (o : Option Connection)
+    → quiet ≡ []
     → is_some (where_open o) ≡ true
     → pulled_where s quiet conn epoch at most o ≡ pulled_from s epoch at most s.live
 by-connection s quiet conn epoch at most None none running = cc
@@ -57,22 +61,27 @@ by-connection s quiet conn epoch at most (Some c) none running =
     by-ending s quiet conn epoch at most c c.ending none running
 
 -- what a client pulls is that of its cursor
-pub pull-is : (past : Past) (participant : Participant) (conn epoch at : ℕ) (answer : Answer) → CanTake past participant
-    → conn ≡ participant.conn → epoch ≡ participant.state.epoch → at ≡ length participant.state.taken
+pub pull-is : (past : Past) (participant : Participant) (conn epoch at : ℕ) (answer : Answer)
+    → CanTake past participant
+    → conn ≡ participant.conn → epoch ≡ participant.state.epoch
+    → at ≡ length participant.state.taken
     → answer ≡ answered past (Pull conn epoch at 1)
-    → answer ≡ pulled_from (state_of past) participant.state.epoch (length participant.state.taken) 1 (state_of past).live
+    → answer ≡ pulled_from (state_of past) participant.state.epoch (length participant.state.taken)
+    1 (state_of past).live
 pull-is past participant conn epoch at answer can same_conn same_epoch same_at is =
     let s = state_of past in
     is
     ∙ ap (λ n. pulled_where s past.quiet n epoch at 1 (connection_of s n)) same_conn
-    ∙ by-connection s past.quiet participant.conn epoch at 1 (connection_of s participant.conn) can.quiet can.running
+    ∙ by-connection s past.quiet participant.conn epoch at 1 (connection_of s participant.conn)
+    can.quiet can.running
     ∙ ap (λ n. pulled_from s n at 1 s.live) same_epoch
     ∙ ap (λ n. pulled_from s participant.state.epoch n 1 s.live) same_at
 
 -- its first entry comes next
 pub next-is : (past : Past) (participant : Participant) (epoch at : ℕ) (list : List Entry)
     → Entries epoch at list
-    ≡ pulled_from (state_of past) participant.state.epoch (length participant.state.taken) 1 (state_of past).live
+    ≡ pulled_from (state_of past) participant.state.epoch (length participant.state.taken) 1
+    (state_of past).live
     → slice_get list 0 ≡ next_entry (exchange past participant)
 next-is past participant epoch at list is =
     let s = state_of past in
@@ -83,7 +92,8 @@ next-is past participant epoch at list is =
 -- ---- worlds
 
 -- the world is one after a call that succeeds
-pub on-ok-world : {T E : Type 0} (r : Result T E) (new due : World) → IsWorld due → OnOk r (new ≡ due)
+pub on-ok-world : {T E : Type 0} (r : Result T E) (new due : World) → IsWorld due
+    → OnOk r (new ≡ due)
     → OnOk r (IsWorld new)
 on-ok-world (Ok x) new due is same = subst IsWorld (sym same) is
 on-ok-world (Err e) new due is same = same

@@ -1,5 +1,6 @@
 -- Lists that are numbered from 1, histories, and what is open.
-use Rattle.std.proofs.Common.{◌≡◌, ◌⊎◌, ℕ, zero, suc, ◌+◌, ◌-◌, ◌<◌, ◌==◌, Bool, true, false, if◌then◌else◌}
+use Rattle.std.proofs.Common.{◌≡◌, ◌⊎◌, ℕ, zero, suc, ◌+◌, ◌-◌, ◌<◌, ◌==◌, Bool, true, false}
+use Rattle.std.proofs.Common.{if◌then◌else◌}
 use Rattle.std.proofs.Common.{List, [], ◌∷◌, ◌++◌, length, take, Option, None, Some, is_some}
 use Rattle.std.proofs.Common.{refl, sym, ap, subst, ◌∙◌, ⊎_elim, inl, inr, arith}
 use Rattle.std.specs.Prelude.{slice_set, IfSome}
@@ -25,7 +26,8 @@ pub at_some : {T : Type 0} (o : Option T) (P : T → Type 0) (x : T) → IfSome 
 at_some None P x h is = cc
 at_some (Some y) P x h is = let same : y ≡ x = cc in subst P same h
 
-pub if_some : {T : Type 0} (o : Option T) (P : T → Type 0) → ((x : T) → o ≡ Some x → P x) → IfSome o P
+pub if_some : {T : Type 0} (o : Option T) (P : T → Type 0) → ((x : T) → o ≡ Some x → P x)
+    → IfSome o P
 if_some None P h = tt
 if_some (Some x) P h = h x refl
 
@@ -35,19 +37,22 @@ if_some (Some x) P h = h x refl
 abbrev pub numbered : {X : Type 0} → List X → ℕ → Option X
 numbered xs number = if number == 0 then None else slice_get xs (number - 1)
 
-get_other : {X : Type 0} (xs : List X) (i j : ℕ) (y : X) → (j ≡ i → ⊥) → slice_get (slice_set xs i y) j ≡ slice_get xs j
+get_other : {X : Type 0} (xs : List X) (i j : ℕ) (y : X) → (j ≡ i → ⊥)
+    → slice_get (slice_set xs i y) j ≡ slice_get xs j
 get_other [] i j y ne = refl
 get_other (x ∷ xs) zero zero y ne = absurd (ne refl)
 get_other (x ∷ xs) zero (suc j) y ne = refl
 get_other (x ∷ xs) (suc i) zero y ne = refl
 get_other (x ∷ xs) (suc i) (suc j) y ne = get_other xs i j y (λ e. ne (ap suc e))
 
-get_same : {X : Type 0} (xs : List X) (i : ℕ) (x y : X) → slice_get xs i ≡ Some x → slice_get (slice_set xs i y) i ≡ Some y
+get_same : {X : Type 0} (xs : List X) (i : ℕ) (x y : X) → slice_get xs i ≡ Some x
+    → slice_get (slice_set xs i y) i ≡ Some y
 get_same [] i x y is = cc
 get_same (z ∷ xs) zero x y is = refl
 get_same (z ∷ xs) (suc i) x y is = get_same xs i x y is
 
-get_old : {X : Type 0} (xs ys : List X) (i : ℕ) (x : X) → slice_get xs i ≡ Some x → slice_get (xs ++ ys) i ≡ Some x
+get_old : {X : Type 0} (xs ys : List X) (i : ℕ) (x : X) → slice_get xs i ≡ Some x
+    → slice_get (xs ++ ys) i ≡ Some x
 get_old [] ys i x is = cc
 get_old (z ∷ xs) ys zero x is = is
 get_old (z ∷ xs) ys (suc i) x is = get_old xs ys i x is
@@ -56,13 +61,15 @@ get_new : {X : Type 0} (xs : List X) (y : X) → slice_get (xs ++ y ∷ []) (len
 get_new [] y = refl
 get_new (x ∷ xs) y = get_new xs y
 
-get_either : {X : Type 0} (xs : List X) (y : X) (i : ℕ) (x : X) → slice_get (xs ++ y ∷ []) i ≡ Some x
+get_either : {X : Type 0} (xs : List X) (y : X) (i : ℕ) (x : X)
+    → slice_get (xs ++ y ∷ []) i ≡ Some x
     → (slice_get xs i ≡ Some x) ⊎ ((i ≡ length xs) × (x ≡ y))
 get_either [] y zero x is = inr (refl, cc)
 get_either [] y (suc i) x is = cc
 get_either (z ∷ xs) y zero x is = inl is
 get_either (z ∷ xs) y (suc i) x is =
-    ⊎_elim (λ old. inl old) (λ (new : (i ≡ length xs) × (x ≡ y)). inr (ap suc new.0, new.1)) (get_either xs y i x is)
+    ⊎_elim (λ old. inl old) (λ (new : (i ≡ length xs) × (x ≡ y)). inr (ap suc new.0, new.1))
+    (get_either xs y i x is)
 
 -- the item after those of the front
 pub take_one : {X : Type 0} (xs : List X) (i : ℕ) (x : X) → slice_get xs i ≡ Some x
@@ -71,11 +78,13 @@ take_one [] i x is = cc
 take_one (y ∷ xs) zero x is = let same : y ≡ x = cc in ap (λ z. z ∷ []) same
 take_one (y ∷ xs) (suc i) x is = ap (λ zs. y ∷ zs) (take_one xs i x is)
 
-if_none : {X : Type 0} (b : Bool) (o : Option X) (x : X) → (if b then None else o) ≡ Some x → (b ≡ false) × (o ≡ Some x)
+if_none : {X : Type 0} (b : Bool) (o : Option X) (x : X) → (if b then None else o) ≡ Some x
+    → (b ≡ false) × (o ≡ Some x)
 if_none true o x is = cc
 if_none false o x is = (refl, is)
 
-if_other : {X : Type 0} (b : Bool) (o p : Option X) → (b ≡ false → o ≡ p) → (if b then None else o) ≡ (if b then None else p)
+if_other : {X : Type 0} (b : Bool) (o p : Option X) → (b ≡ false → o ≡ p)
+    → (if b then None else o) ≡ (if b then None else p)
 if_other true o p same = refl
 if_other false o p same = same refl
 
@@ -110,13 +119,15 @@ numbered-old xs ys i x is =
     let found = number-found xs i x is in
     number-above (xs ++ ys) i found.0 ∙ get_old xs ys (i - 1) x found.1
 
-pub numbered-new : {X : Type 0} (xs : List X) (y : X) → numbered (xs ++ y ∷ []) (length xs + 1) ≡ Some y
+pub numbered-new : {X : Type 0} (xs : List X) (y : X) → numbered (xs ++ y ∷ []) (length xs + 1)
+    ≡ Some y
 numbered-new xs y =
     let less : length xs + 1 - 1 ≡ length xs = omega arith in
     number-above (xs ++ y ∷ []) (length xs + 1) (omega arith)
     ∙ ap (slice_get (xs ++ y ∷ [])) less ∙ get_new xs y
 
-pub numbered-either : {X : Type 0} (xs : List X) (y : X) (i : ℕ) (x : X) → numbered (xs ++ y ∷ []) i ≡ Some x
+pub numbered-either : {X : Type 0} (xs : List X) (y : X) (i : ℕ) (x : X)
+    → numbered (xs ++ y ∷ []) i ≡ Some x
     → (numbered xs i ≡ Some x) ⊎ ((i ≡ length xs + 1) × (x ≡ y))
 numbered-either xs y i x is =
     let found = number-found (xs ++ y ∷ []) i x is in
@@ -134,7 +145,8 @@ open_some None h = cc
 open_some (Some c) h =
     ⊎_elim (λ (up : is_open c ≡ true). (c, refl, up))
     (λ (shut : is_open c ≡ false).
-    let none : is_some (if false then Some c else None) ≡ true = subst (λ b. is_some (if b then Some c else None) ≡ true) shut h in cc)
+    let none : is_some (if false then Some c else None) ≡ true = subst
+    (λ b. is_some (if b then Some c else None) ≡ true) shut h in cc)
     (cases_Bool (is_open c))
 
 pub open_found : (cs : List Connection) (conn : ℕ) (c : Connection) → open_in cs conn ≡ Some c
@@ -148,8 +160,10 @@ open_found cs conn c is =
     (subst (λ d. numbered cs conn ≡ Some d) same there, subst (λ d. is_open d ≡ true) same found.2)
 
 -- an open connection is found open
-pub some_open : (c : Connection) (o : Option Connection) → o ≡ Some c → is_open c ≡ true → is_some (where_open o) ≡ true
-some_open c o is up = ap (λ p. is_some (where_open p)) is ∙ ap (λ b. is_some (if b then Some c else None)) up
+pub some_open : (c : Connection) (o : Option Connection) → o ≡ Some c → is_open c ≡ true
+    → is_some (where_open o) ≡ true
+some_open c o is up = ap (λ p. is_some (where_open p)) is
+    ∙ ap (λ b. is_some (if b then Some c else None)) up
 
 -- ---- histories
 
@@ -158,22 +172,27 @@ unmarked-append [] ys hx hy = hy
 unmarked-append (x ∷ xs) ys hx hy = (hx.0, unmarked-append xs ys hx.1 hy)
 
 -- a history with more entries that are no marks
-pub history-more : (live more : List Entry) → IsHistory 0 live → HasNoMark more → IsHistory 0 (live ++ more)
+pub history-more : (live more : List Entry) → IsHistory 0 live → HasNoMark more
+    → IsHistory 0 (live ++ more)
 history-more [] more h clean = absurd h
 history-more (first ∷ behind) more h clean = (h.0, unmarked-append behind more h.1 clean)
 
-unmarked-at : (xs : List Entry) (i : ℕ) (x : Entry) → HasNoMark xs → slice_get xs i ≡ Some x → marked x.msg ≡ None
+unmarked-at : (xs : List Entry) (i : ℕ) (x : Entry) → HasNoMark xs → slice_get xs i ≡ Some x
+    → marked x.msg ≡ None
 unmarked-at [] i x h is = cc
-unmarked-at (y ∷ xs) zero x h is = let same : y ≡ x = cc in subst (λ z. marked z.msg ≡ None) same h.0
+unmarked-at (y ∷ xs) zero x h is = let same : y ≡ x = cc in subst (λ z. marked z.msg ≡ None) same
+    h.0
 unmarked-at (y ∷ xs) (suc i) x h is = unmarked-at xs i x h.1 is
 
 -- the first entry of a history is its mark
-pub mark-first : (live : List Entry) (x : Entry) → IsHistory 0 live → slice_get live 0 ≡ Some x → marked x.msg ≡ Some 0
+pub mark-first : (live : List Entry) (x : Entry) → IsHistory 0 live → slice_get live 0 ≡ Some x
+    → marked x.msg ≡ Some 0
 mark-first [] x h is = absurd h
 mark-first (y ∷ live) x h is = let same : y ≡ x = cc in subst (λ z. marked z.msg ≡ Some 0) same h.0
 
 -- and no other entry is a mark
-pub mark-none : (live : List Entry) (i : ℕ) (x : Entry) → IsHistory 0 live → slice_get live (suc i) ≡ Some x
+pub mark-none : (live : List Entry) (i : ℕ) (x : Entry) → IsHistory 0 live
+    → slice_get live (suc i) ≡ Some x
     → marked x.msg ≡ None
 mark-none [] i x h is = absurd h
 mark-none (y ∷ live) i x h is = unmarked-at live i x h.1 is

@@ -1,5 +1,6 @@
 -- Lists of groups under a renaming that keeps different groups different.
-use Rattle.std.proofs.Common.{◌≡◌, ℕ, zero, suc, ◌+◌, ◌-◌, ◌<◌, ◌≤◌, ◌==◌, ◌||◌, Bool, true, false, if◌then◌else◌}
+use Rattle.std.proofs.Common.{◌≡◌, ℕ, zero, suc, ◌+◌, ◌-◌, ◌<◌, ◌≤◌, ◌==◌, ◌||◌, Bool, true, false}
+use Rattle.std.proofs.Common.{if◌then◌else◌}
 use Rattle.std.proofs.Common.{List, [], ◌∷◌, length, take, drop, map, Option, None, Some}
 use Rattle.std.proofs.Common.{refl, sym, ap, ◌∙◌, ⊎_elim, arith}
 use Rattle.std.specs.List.{find, slice_get}
@@ -29,7 +30,8 @@ later-injective zero x y e = less x y e
 later-injective (suc n) zero zero e = refl
 later-injective (suc n) zero (suc y) e = cc
 later-injective (suc n) (suc x) zero e = cc
-later-injective (suc n) (suc x) (suc y) e = ap suc (later-injective n x y (less (later n x) (later n y) e))
+later-injective (suc n) (suc x) (suc y) e = ap suc (later-injective n x y
+    (less (later n x) (later n y) e))
 
 pub later-below : (n p : ℕ) → p < n → later n p ≡ p
 later-below zero p below = absurd (omega arith)
@@ -39,7 +41,8 @@ later-below (suc n) (suc p) below = ap suc (later-below n p (omega arith))
 pub later-above : (n p : ℕ) → n ≤ p → later n p ≡ p + 1
 later-above zero p above = omega arith
 later-above (suc n) zero above = absurd (omega arith)
-later-above (suc n) (suc p) above = let rest : later n p ≡ p + 1 = later-above n p (omega arith) in omega arith
+later-above (suc n) (suc p) above = let rest : later n p
+    ≡ p + 1 = later-above n p (omega arith) in omega arith
 
 -- ---- lists under a renaming
 
@@ -70,17 +73,23 @@ find-renamed f p q same (x ∷ groups) =
     ∙ ap (λ o. if q x then Some (f x) else o) (find-renamed f p q same groups)
     ∙ choice-renamed f (q x) x (find q groups)
 
-pub last_few-renamed : (f : ℕ → ℕ) (n : ℕ) (groups : List ℕ) → last_few n (map f groups) ≡ map f (last_few n groups)
+pub last_few-renamed : (f : ℕ → ℕ) (n : ℕ) (groups : List ℕ)
+    → last_few n (map f groups) ≡ map f (last_few n groups)
 last_few-renamed f n groups =
-    ap (λ k. drop (k - n) (map f groups)) (length-map groups f) ∙ drop-map f (length groups - n) groups
+    ap (λ k. drop (k - n) (map f groups)) (length-map groups f)
+    ∙ drop-map f (length groups - n) groups
 
-pub last_of-renamed : (f : ℕ → ℕ) (groups : List ℕ) → last_of (map f groups) ≡ option_map f (last_of groups)
+pub last_of-renamed : (f : ℕ → ℕ) (groups : List ℕ) → last_of (map f groups)
+    ≡ option_map f (last_of groups)
 last_of-renamed f groups =
-    ap (λ k. slice_get (map f groups) (k - 1)) (length-map groups f) ∙ slice_get-map f groups (length groups - 1)
+    ap (λ k. slice_get (map f groups) (k - 1)) (length-map groups f)
+    ∙ slice_get-map f groups (length groups - 1)
 
-pub without_last-renamed : (f : ℕ → ℕ) (groups : List ℕ) → without_last (map f groups) ≡ map f (without_last groups)
+pub without_last-renamed : (f : ℕ → ℕ) (groups : List ℕ)
+    → without_last (map f groups) ≡ map f (without_last groups)
 without_last-renamed f groups =
-    ap (λ k. take (k - 1) (map f groups)) (length-map groups f) ∙ take-map f (length groups - 1) groups
+    ap (λ k. take (k - 1) (map f groups)) (length-map groups f)
+    ∙ take-map f (length groups - 1) groups
 
 rest-renamed : (f : ℕ → ℕ) (b : Bool) (x : ℕ) (xs ys : List ℕ)
     → (if b then map f xs else f x ∷ map f ys) ≡ map f (if b then xs else x ∷ ys)
@@ -91,7 +100,8 @@ pub without-renamed : (f : ℕ → ℕ) → IsInjective f → (group : ℕ) (gro
     → without (f group) (map f groups) ≡ map f (without group groups)
 without-renamed f inj group [] = refl
 without-renamed f inj group (x ∷ groups) =
-    ap (λ b. if b then map f groups else f x ∷ without (f group) (map f groups)) (eqb-renamed f inj x group)
+    ap (λ b. if b then map f groups else f x ∷ without (f group) (map f groups))
+    (eqb-renamed f inj x group)
     ∙ ap (λ xs. if x == group then map f groups else f x ∷ xs) (without-renamed f inj group groups)
     ∙ rest-renamed f (x == group) x groups (without group groups)
 

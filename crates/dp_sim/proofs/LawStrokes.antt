@@ -1,4 +1,5 @@
--- An act that is none of strokes changes nothing of a replay, whatever comes after it: it shifts the
+-- An act that is none of strokes changes nothing of a replay, whatever comes after it: it shifts
+-- the
 -- positions of the later Points, and so renames groups.
 use Rattle.std.proofs.Common.{◌≡◌, ℕ, ◌+◌, ◌-◌, ◌<◌, ◌≤◌, ◌==◌, Bool, true, false, if◌then◌else◌}
 use Rattle.std.proofs.Common.{List, [], ◌∷◌, ◌++◌, length, drop, map, fold, Option, None, Some}
@@ -10,12 +11,16 @@ use Rattle.std.proofs.lemmas.List.Sums.{fold-append}
 use Rattle.dp_board.specs.declared.act.Act.{Act}
 use Rattle.dp_board.specs.declared.act.Act.TheVariants.{Point, Undo, Redo, Draw, Other}
 use Rattle.dp_board.specs.declared.act.UserAct.{UserAct}
-use Rattle.dp_board.specs.Strokes.{Window, Groups, Strokes, no_strokes, last_few, cut, window_with, is_among, is_eligible, last_of, without_last, without}
-use Rattle.dp_board.specs.Strokes.{where_eligible, undoable, redoable, undo, redo, groups_after, concerned, after_act, strokes}
+use Rattle.dp_board.specs.Strokes.{Window, Groups, Strokes, no_strokes, last_few, cut, window_with}
+use Rattle.dp_board.specs.Strokes.{is_among, is_eligible, last_of, without_last, without}
+use Rattle.dp_board.specs.Strokes.{where_eligible, undoable, redoable, undo, redo, groups_after}
+use Rattle.dp_board.specs.Strokes.{concerned, after_act, strokes}
 use Rattle.dp_board.specs.Flags.{is_group_drawn, flag_of, flags_from}
 use Rattle.dp_board.specs.Commands.{command_of, commands, drawn_commands}
-use Rattle.dp_sim.proofs.LawRenaming.{IsInjective, later, later-injective, later-below, later-above, is_among-renamed, choice-renamed}
-use Rattle.dp_sim.proofs.LawRenaming.{find-renamed, last_few-renamed, last_of-renamed, without_last-renamed, without-renamed}
+use Rattle.dp_sim.proofs.LawRenaming.{IsInjective, later, later-injective, later-below, later-above}
+use Rattle.dp_sim.proofs.LawRenaming.{is_among-renamed, choice-renamed}
+use Rattle.dp_sim.proofs.LawRenaming.{find-renamed, last_few-renamed, last_of-renamed}
+use Rattle.dp_sim.proofs.LawRenaming.{without_last-renamed, without-renamed}
 use Rattle.dp_sim.proofs.LawRenaming.{is_group_drawn-renamed}
 
 -- ---- strokes that are the same but for the names of groups
@@ -32,7 +37,8 @@ record Renamed (f : ℕ → ℕ) (s t : Strokes) : Type 0 where
   pub window : RenamedWindow f s.window t.window
   pub groups : RenamedGroups f s.groups t.groups
 
-renamed-point : (f : ℕ → ℕ) (p q : ℕ) (xs ys : List ℕ) → q ≡ f p → ys ≡ map f xs → ys ++ q ∷ [] ≡ map f (xs ++ p ∷ [])
+renamed-point : (f : ℕ → ℕ) (p q : ℕ) (xs ys : List ℕ) → q ≡ f p → ys ≡ map f xs
+    → ys ++ q ∷ [] ≡ map f (xs ++ p ∷ [])
 renamed-point f p q xs ys same is =
     ap (λ zs. zs ++ q ∷ []) is ∙ ap (λ k. map f xs ++ k ∷ []) same ∙ sym (map-append f xs (p ∷ []))
 
@@ -75,7 +81,8 @@ renamed-redoable : (f : ℕ → ℕ) → IsInjective f → (s t : Strokes) → R
     → redoable t.window t.groups ≡ option_map f (redoable s.window s.groups)
 renamed-redoable f inj s t h =
     ap (find (is_eligible t.window)) h.groups.undone
-    ∙ find-renamed f (is_eligible t.window) (is_eligible s.window) (renamed-eligible f inj s.window t.window h.window)
+    ∙ find-renamed f (is_eligible t.window) (is_eligible s.window)
+    (renamed-eligible f inj s.window t.window h.window)
     s.groups.undone
 
 renamed-undo : (f : ℕ → ℕ) (o : Option ℕ) (g h : Groups) → RenamedGroups f g h
@@ -94,7 +101,8 @@ renamed-redo f inj (Some group) g h same = record {
   undone = ap (without (f group)) same.undone ∙ without-renamed f inj group g.undone;
 }
 
-renamed-groups : {Op : Type 0} → (f : ℕ → ℕ) → IsInjective f → (act : Act Op) (s t : Strokes) → t.position ≡ f s.position
+renamed-groups : {Op : Type 0} → (f : ℕ → ℕ) → IsInjective f → (act : Act Op) (s t : Strokes)
+    → t.position ≡ f s.position
     → Renamed f s t → RenamedGroups f (groups_after s act) (groups_after t act)
 renamed-groups f inj Point s t same h = record {
   done = renamed-point f s.position t.position s.groups.done t.groups.done same h.groups.done;
@@ -102,25 +110,32 @@ renamed-groups f inj Point s t same h = record {
 }
 renamed-groups f inj (Undo who) s t same h =
     subst (λ o. RenamedGroups f (undo (undoable s.window s.groups) s.groups) (undo o t.groups))
-    (sym (renamed-undoable f inj s t h)) (renamed-undo f (undoable s.window s.groups) s.groups t.groups h.groups)
+    (sym (renamed-undoable f inj s t h)) (renamed-undo f (undoable s.window s.groups) s.groups
+    t.groups h.groups)
 renamed-groups f inj (Redo who) s t same h =
     subst (λ o. RenamedGroups f (redo (redoable s.window s.groups) s.groups) (redo o t.groups))
-    (sym (renamed-redoable f inj s t h)) (renamed-redo f inj (redoable s.window s.groups) s.groups t.groups h.groups)
+    (sym (renamed-redoable f inj s t h)) (renamed-redo f inj (redoable s.window s.groups) s.groups
+    t.groups h.groups)
 renamed-groups f inj (Draw op) s t same h = record { done = h.groups.done; undone = refl }
 renamed-groups f inj Other s t same h = h.groups
 
-renamed-choice : (f : ℕ → ℕ) (b : Bool) (g h i j : Groups) → RenamedGroups f g i → RenamedGroups f h j
+renamed-choice : (f : ℕ → ℕ) (b : Bool) (g h i j : Groups) → RenamedGroups f g i
+    → RenamedGroups f h j
     → RenamedGroups f (if b then g else h) (if b then i else j)
 renamed-choice f true g h i j left right = left
 renamed-choice f false g h i j left right = right
 
 -- an act keeps them the same but for the names
-renamed-act : {Op : Type 0} → (f : ℕ → ℕ) → IsInjective f → (user : ℕ) (s t : Strokes) (a : UserAct Op)
-    → t.position ≡ f s.position → Renamed f s t → Renamed f (after_act user s a) (after_act user t a)
+renamed-act : {Op : Type 0} → (f : ℕ → ℕ) → IsInjective f
+    → (user : ℕ) (s t : Strokes) (a : UserAct Op)
+    → t.position ≡ f s.position → Renamed f s t → Renamed f (after_act user s a)
+    (after_act user t a)
 renamed-act f inj user s t a same h = record {
-  window = renamed-cut f (window_with s.position a.act s.window) (window_with t.position a.act t.window)
+  window = renamed-cut f (window_with s.position a.act s.window)
+      (window_with t.position a.act t.window)
       (renamed-window_with f s.position t.position a.act s.window t.window same h.window);
-  groups = renamed-choice f (concerned a == user) (groups_after s a.act) s.groups (groups_after t a.act) t.groups
+  groups = renamed-choice f (concerned a == user) (groups_after s a.act) s.groups
+      (groups_after t a.act) t.groups
       (renamed-groups f inj a.act s t same h) h.groups;
 }
 
@@ -128,14 +143,17 @@ renamed-act f inj user s t a same h = record {
 abbrev Shifts : (ℕ → ℕ) → ℕ → Strokes → Strokes → Type 0
 Shifts f n s t = (p : ℕ) → s.position ≤ p → p < s.position + n → f p + s.position ≡ p + t.position
 
-renamed-acts : {Op : Type 0} → (f : ℕ → ℕ) → IsInjective f → (user : ℕ) (acts : List (UserAct Op)) (s t : Strokes)
+renamed-acts : {Op : Type 0} → (f : ℕ → ℕ) → IsInjective f
+    → (user : ℕ) (acts : List (UserAct Op)) (s t : Strokes)
     → Shifts f (length acts) s t → Renamed f s t
     → Renamed f (fold (after_act user) s acts) (fold (after_act user) t acts)
 renamed-acts f inj user [] s t shifts h = h
 renamed-acts f inj user (a ∷ acts) s t shifts h =
-    let here : f s.position + s.position ≡ s.position + t.position = shifts s.position (omega arith) (omega arith) in
+    let here : f s.position + s.position ≡ s.position + t.position = shifts s.position (omega arith)
+    (omega arith) in
     renamed-acts f inj user acts (after_act user s a) (after_act user t a)
-    (λ p above below. let there : f p + s.position ≡ p + t.position = shifts p (omega arith) (omega arith) in omega arith)
+    (λ p above below. let there : f p + s.position ≡ p + t.position = shifts p (omega arith)
+    (omega arith) in omega arith)
     (renamed-act f inj user s t a (omega arith) h)
 
 -- ---- after a history
@@ -144,12 +162,15 @@ fold-position : {Op : Type 0} → (user : ℕ) (acts : List (UserAct Op)) (s : S
     → (fold (after_act user) s acts).position ≡ s.position + length acts
 fold-position user [] s = omega arith
 fold-position user (a ∷ acts) s =
-    let rest : (fold (after_act user) (after_act user s a) acts).position ≡ s.position + 1 + length acts =
+    let rest : (fold (after_act user) (after_act user s a) acts).position
+    ≡ s.position + 1 + length acts =
     fold-position user acts (after_act user s a) in omega arith
 
-strokes-position : {Op : Type 0} → (depth user : ℕ) (acts : List (UserAct Op)) → (strokes depth user acts).position ≡ length acts
+strokes-position : {Op : Type 0} → (depth user : ℕ) (acts : List (UserAct Op))
+    → (strokes depth user acts).position ≡ length acts
 strokes-position depth user acts =
-    let e : (strokes depth user acts).position ≡ 0 + length acts = fold-position user acts (no_strokes depth) in omega arith
+    let e : (strokes depth user acts).position ≡ 0 + length acts = fold-position user acts
+    (no_strokes depth) in omega arith
 
 -- the window has no more Points than its depth
 abbrev IsShort : Strokes → Type 0
@@ -157,10 +178,12 @@ IsShort s = length s.window.points ≤ s.window.depth
 
 short-cut : (w : Window) → length (cut w).points ≤ w.depth
 short-cut w =
-    let e : length (drop (length w.points - w.depth) w.points) ≡ length w.points - (length w.points - w.depth) =
+    let e : length (drop (length w.points - w.depth) w.points)
+    ≡ length w.points - (length w.points - w.depth) =
     length-drop (length w.points - w.depth) w.points in omega arith
 
-fold-short : {Op : Type 0} → (user : ℕ) (acts : List (UserAct Op)) (s : Strokes) → IsShort s → IsShort (fold (after_act user) s acts)
+fold-short : {Op : Type 0} → (user : ℕ) (acts : List (UserAct Op)) (s : Strokes) → IsShort s
+    → IsShort (fold (after_act user) s acts)
 fold-short user [] s short = short
 fold-short user (a ∷ acts) s short =
     fold-short user acts (after_act user s a) (short-cut (window_with s.position a.act s.window))
@@ -189,7 +212,8 @@ renamed-other Op f user who s short h = record {
 
 -- for every user the strokes after two histories are the same but for the names
 abbrev AllRenamed : {Op : Type 0} → (ℕ → ℕ) → ℕ → List (UserAct Op) → List (UserAct Op) → Type 0
-AllRenamed f depth before after = (user : ℕ) → Renamed f (strokes depth user before) (strokes depth user after)
+AllRenamed f depth before after = (user : ℕ) → Renamed f (strokes depth user before)
+    (strokes depth user after)
 
 -- before the renaming begins nothing changes
 renamed-front : {Op : Type 0} → (n depth : ℕ) (before : List (UserAct Op)) → length before ≤ n
@@ -197,7 +221,11 @@ renamed-front : {Op : Type 0} → (n depth : ℕ) (before : List (UserAct Op)) �
 renamed-front n depth before within user =
     renamed-acts (later n) (later-injective n) user before (no_strokes depth) (no_strokes depth)
     (λ p above below. let same : later n p ≡ p = later-below n p (omega arith) in omega arith)
-    (record { window = record { depth = refl; points = refl }; groups = record { done = refl; undone = refl } })
+    (record {
+      window = record { depth = refl; points = refl };
+      groups = record
+          { done = refl; undone = refl };
+    })
 
 -- after the act all is shifted
 renamed-here : {Op : Type 0} → (depth who : ℕ) (before : List (UserAct Op))
@@ -210,7 +238,8 @@ renamed-here {Op} depth who before user =
     (renamed-front (length before) depth before (omega arith) user))
 
 -- and stays so
-renamed-behind : {Op : Type 0} → (n depth : ℕ) (before after more : List (UserAct Op)) → n ≤ length before
+renamed-behind : {Op : Type 0} → (n depth : ℕ) (before after more : List (UserAct Op))
+    → n ≤ length before
     → length after ≡ length before + 1 → AllRenamed (later n) depth before after
     → AllRenamed (later n) depth (before ++ more) (after ++ more)
 renamed-behind n depth before after more above one h user =
@@ -220,27 +249,34 @@ renamed-behind n depth before after more above one h user =
     (sym (fold-append (after_act user) (no_strokes depth) after more))
     (subst (λ s. Renamed (later n) s (fold (after_act user) (strokes depth user after) more))
     (sym (fold-append (after_act user) (no_strokes depth) before more))
-    (renamed-acts (later n) (later-injective n) user more (strokes depth user before) (strokes depth user after)
+    (renamed-acts (later n) (later-injective n) user more (strokes depth user before)
+    (strokes depth user after)
     (λ p from below. let next : later n p ≡ p + 1 = later-above n p (omega arith) in omega arith)
     (h user)))
 
 -- ---- what is drawn
 
-renamed-flag : {Op : Type 0} → (f : ℕ → ℕ) → IsInjective f → (depth : ℕ) (all all' before after : List (UserAct Op))
+renamed-flag : {Op : Type 0} → (f : ℕ → ℕ) → IsInjective f
+    → (depth : ℕ) (all all' before after : List (UserAct Op))
     → AllRenamed f depth all all' → AllRenamed f depth before after → (user : ℕ) (act : Act Op)
     → flag_of depth all' after user act ≡ flag_of depth all before user act
 renamed-flag f inj depth all all' before after whole part user (Draw op) =
-    ap (λ xs. is_group_drawn xs (last_of (strokes depth user after).groups.done)) (whole user).groups.done
-    ∙ ap (λ xs. is_group_drawn (map f (strokes depth user all).groups.done) (last_of xs)) (part user).groups.done
-    ∙ ap (is_group_drawn (map f (strokes depth user all).groups.done)) (last_of-renamed f (strokes depth user before).groups.done)
-    ∙ is_group_drawn-renamed f inj (strokes depth user all).groups.done (last_of (strokes depth user before).groups.done)
+    ap (λ xs. is_group_drawn xs (last_of (strokes depth user after).groups.done))
+    (whole user).groups.done
+    ∙ ap (λ xs. is_group_drawn (map f (strokes depth user all).groups.done) (last_of xs))
+    (part user).groups.done
+    ∙ ap (is_group_drawn (map f (strokes depth user all).groups.done))
+    (last_of-renamed f (strokes depth user before).groups.done)
+    ∙ is_group_drawn-renamed f inj (strokes depth user all).groups.done
+    (last_of (strokes depth user before).groups.done)
 renamed-flag f inj depth all all' before after whole part user Point = refl
 renamed-flag f inj depth all all' before after whole part user (Undo who) = refl
 renamed-flag f inj depth all all' before after whole part user (Redo who) = refl
 renamed-flag f inj depth all all' before after whole part user Other = refl
 
 -- the commands that are drawn of the acts after `before`
-abbrev drawn_from : {Op : Type 0} → ℕ → List (UserAct Op) → List (UserAct Op) → List (UserAct Op) → List Op
+abbrev drawn_from : {Op : Type 0} → ℕ → List (UserAct Op) → List (UserAct Op) → List (UserAct Op)
+    → List Op
 drawn_from depth all before acts = commands acts (flags_from depth all before acts)
 
 drawn-behind : {Op : Type 0} → (n depth : ℕ) (all all' before after acts : List (UserAct Op))
@@ -259,27 +295,34 @@ drawn-behind n depth all all' before after (a ∷ acts) whole part above one =
 
 drawn-here : {Op : Type 0} → (n depth who : ℕ) (all all' before front after : List (UserAct Op))
     → AllRenamed (later n) depth all all' → length before + length front ≡ n
-    → drawn_from depth all' before (front ++ other_act who ∷ after) ≡ drawn_from depth all before (front ++ after)
+    → drawn_from depth all' before (front ++ other_act who ∷ after)
+    ≡ drawn_from depth all before (front ++ after)
 drawn-here n depth who all all' before [] after whole here =
     let end : length before ≡ n = omega arith in
     let longer = length-append before (other_act who ∷ []) in
     drawn-behind n depth all all' before (before ++ other_act who ∷ []) after whole
-    (subst (λ k. AllRenamed (later k) depth before (before ++ other_act who ∷ [])) end (renamed-here depth who before))
+    (subst (λ k. AllRenamed (later k) depth before (before ++ other_act who ∷ [])) end
+    (renamed-here depth who before))
     (omega arith) (omega arith)
 drawn-here n depth who all all' before (a ∷ front) after whole here =
     let longer = length-append before (a ∷ []) in
-    ap (λ flag. command_of a.act flag ++ drawn_from depth all' (before ++ a ∷ []) (front ++ other_act who ∷ after))
+    ap (λ flag. command_of a.act flag ++ drawn_from depth all' (before ++ a ∷ [])
+    (front ++ other_act who ∷ after))
     (renamed-flag (later n) (later-injective n) depth all all' before before whole
     (renamed-front n depth before (omega arith)) a.user a.act)
     ∙ ap (λ ops. command_of a.act (flag_of depth all before a.user a.act) ++ ops)
     (drawn-here n depth who all all' (before ++ a ∷ []) front after whole (omega arith))
 
 pub drawn-other : {Op : Type 0} → (depth who : ℕ) (before after : List (UserAct Op))
-    → drawn_commands depth (before ++ other_act who ∷ after) ≡ drawn_commands depth (before ++ after)
+    → drawn_commands depth (before ++ other_act who ∷ after)
+    ≡ drawn_commands depth (before ++ after)
 drawn-other depth who before after =
     let longer = length-append before (other_act who ∷ []) in
-    drawn-here (length before) depth who (before ++ after) (before ++ other_act who ∷ after) [] before after
-    (subst (AllRenamed (later (length before)) depth (before ++ after)) (append_assoc before (other_act who ∷ []) after)
-    (renamed-behind (length before) depth before (before ++ other_act who ∷ []) after (omega arith) (omega arith)
+    drawn-here (length before) depth who (before ++ after) (before ++ other_act who ∷ after) []
+    before after
+    (subst (AllRenamed (later (length before)) depth (before ++ after))
+    (append_assoc before (other_act who ∷ []) after)
+    (renamed-behind (length before) depth before (before ++ other_act who ∷ []) after (omega arith)
+    (omega arith)
     (renamed-here depth who before)))
     (omega arith)

@@ -1,5 +1,6 @@
 -- Turns and worlds: what is true of a world stays so.
-use Rattle.std.proofs.Common.{◌≡◌, ℕ, zero, suc, ◌+◌, ◌-◌, ◌<◌, ◌≤◌, ◌==◌, Bool, true, false, if◌then◌else◌, MatchBool}
+use Rattle.std.proofs.Common.{◌≡◌, ℕ, zero, suc, ◌+◌, ◌-◌, ◌<◌, ◌≤◌, ◌==◌, Bool, true, false}
+use Rattle.std.proofs.Common.{if◌then◌else◌, MatchBool}
 use Rattle.std.proofs.Common.{List, [], ◌∷◌, ◌++◌, length, take, fold, Option, None, Some}
 use Rattle.std.proofs.Common.{refl, sym, ap, subst, ◌∙◌, ⊎_elim, arith, length-append}
 use Rattle.std.specs.Prelude.{slice_set, slice_index_or, IfSome, nat_lt, nat_le}
@@ -7,7 +8,8 @@ use Rattle.std.specs.List.{slice_get, filter_map}
 use Rattle.dp_plain.specs.Commands.{draw_all}
 use Rattle.dp_plain.specs.Replay.{replay}
 use Rattle.std.proofs.Math.ListN.{length-set}
-use Rattle.std.proofs.lemmas.Bool.{cond_both, cases_eq, eq-eqb, ltb-true, and_from, and_parts, MatchBool-at_false}
+use Rattle.std.proofs.lemmas.Bool.{cond_both, cases_eq, eq-eqb, ltb-true, and_from, and_parts}
+use Rattle.std.proofs.lemmas.Bool.{MatchBool-at_false}
 use Rattle.std.proofs.lemmas.List.{take-append-le}
 use Rattle.std.proofs.lemmas.Option.{slice_get_within}
 use Rattle.dp_messages.specs.declared.message.Msg.{Msg}
@@ -29,13 +31,17 @@ use Rattle.dp_schedule.specs.declared.action.Action.{Action}
 use Rattle.dp_schedule.specs.declared.action.Action.TheVariants.{Join, Act, Show}
 use Rattle.dp_sim.specs.declared.participant.LinkState.{LinkState}
 use Rattle.dp_sim.specs.declared.participant.LinkState.TheVariants.{Connected, Leaving, Closed}
-use Rattle.dp_sim.specs.Exchanges.{Participant, Exchange, is_gone, disconnected, heard, uplink_sent, next_entry, took_next, done, exchanged}
-use Rattle.dp_sim.specs.World.{World, participant_of, new_participant, with_joined, joined, with_exchange, acted, after, first_world, world_after}
+use Rattle.dp_sim.specs.Exchanges.{Participant, Exchange, is_gone, disconnected, heard, uplink_sent}
+use Rattle.dp_sim.specs.Exchanges.{next_entry, took_next, done, exchanged}
+use Rattle.dp_sim.specs.World.{World, participant_of, new_participant, with_joined, joined}
+use Rattle.dp_sim.specs.World.{with_exchange, acted, after, first_world, world_after}
 use Rattle.dp_sim.specs.Invariant.{IsHistory, is_closed, IsParticipant, IsWorld}
 use Rattle.dp_sim.specs.Headline.{history_of, ShowsPrefix}
-use Rattle.dp_sim.proofs.LawLists.{option_both, at_some, if_some, numbered, number-found, numbered-other, numbered-same}
+use Rattle.dp_sim.proofs.LawLists.{option_both, at_some, if_some, numbered, number-found}
+use Rattle.dp_sim.proofs.LawLists.{numbered-other, numbered-same}
 use Rattle.dp_sim.proofs.LawLists.{numbered-either, take_one, history-more, mark-first, mark-none}
-use Rattle.dp_sim.proofs.LawLemmas.{Grows, Keeps, OthersStay, IsOpen, keeps-all, keeps-fewer, keeps-both}
+use Rattle.dp_sim.proofs.LawLemmas.{Grows, Keeps, OthersStay, IsOpen, keeps-all, keeps-fewer}
+use Rattle.dp_sim.proofs.LawLemmas.{keeps-both}
 use Rattle.dp_sim.proofs.LawLemmas.{Joins, Leading, keeps-say, keeps-close, joins-open}
 
 -- ---- the past
@@ -51,23 +57,32 @@ pub record IsPast (past : Past) : Type 0 where
 
 step-first_fault : (past : Past) (e : Event) → (sure_step past e).first_fault ≡ past.first_fault
 step-first_fault past e =
-    cond_both (has_room past.journal e) (kept past e) (refused past e) (λ p. p.first_fault ≡ past.first_fault) (λ yes. refl) (λ no. refl)
+    cond_both (has_room past.journal e) (kept past e) (refused past e)
+    (λ p. p.first_fault ≡ past.first_fault) (λ yes. refl) (λ no. refl)
 
 step-quiet : (past : Past) (e : Event) → (sure_step past e).quiet ≡ past.quiet
 step-quiet past e =
-    cond_both (has_room past.journal e) (kept past e) (refused past e) (λ p. p.quiet ≡ past.quiet) (λ yes. refl) (λ no. refl)
+    cond_both (has_room past.journal e) (kept past e) (refused past e) (λ p. p.quiet ≡ past.quiet)
+    (λ yes. refl) (λ no. refl)
 
 step-events : (past : Past) (e : Event) → length past.journal ≤ event_limit
     → length (sure_step past e).journal ≤ event_limit
 step-events past e few =
-    cond_both (has_room past.journal e) (kept past e) (refused past e) (λ p. length p.journal ≤ event_limit)
+    cond_both (has_room past.journal e) (kept past e) (refused past e)
+    (λ p. length p.journal ≤ event_limit)
     (λ room.
     let below = and_parts (nat_lt (length past.journal) event_limit)
     (nat_le (row_bytes past.journal + length (row_of e)) byte_limit) room in
-    omega (arith, length-append past.journal (e ∷ []), ltb-true (length past.journal) event_limit below.0))
+    omega (
+      arith,
+      length-append past.journal (e ∷ []),
+      ltb-true (length past.journal) event_limit
+          below.0,
+    ))
     (λ no. few)
 
-past-step : Leading → (past : Past) (e : Event) → IsPast past → Grows (state_of past) (state_of (sure_step past e))
+past-step : Leading → (past : Past) (e : Event) → IsPast past
+    → Grows (state_of past) (state_of (sure_step past e))
     → IsPast (sure_step past e)
 past-step laws past e h grows = record {
   first_fault = step-first_fault past e ∙ h.first_fault;
@@ -75,18 +90,21 @@ past-step laws past e h grows = record {
   before = laws.before past e h.before;
   events = step-events past e h.events;
   ended = grows.ended ∙ h.ended;
-  history = subst (IsHistory 0) (sym grows.live) (history-more (state_of past).live grows.more h.history grows.clean);
+  history = subst (IsHistory 0) (sym grows.live) (history-more (state_of past).live grows.more
+      h.history grows.clean);
 }
 
 -- ---- a client
 
-running-still : (b : Bool) (P Q : Type 0) → (P → Q) → MatchBool b (Unit {0}) P → MatchBool b (Unit {0}) Q
+running-still : (b : Bool) (P Q : Type 0) → (P → Q) → MatchBool b (Unit {0}) P
+    → MatchBool b (Unit {0}) Q
 running-still true P Q f h = tt
 running-still false P Q f h = f h
 
 -- the history has grown
 participant-stays : (s t : State) (number : ℕ) (participant : Participant) → Grows s t
-    → MatchBool (is_closed participant.link) (Unit {0}) (IsOpen t number) → IsParticipant s number participant → IsParticipant t number participant
+    → MatchBool (is_closed participant.link) (Unit {0}) (IsOpen t number)
+    → IsParticipant s number participant → IsParticipant t number participant
 participant-stays s t number participant grows running h =
     let longer : length t.live ≡ length s.live + length grows.more =
     ap length grows.live ∙ length-append s.live grows.more in
@@ -101,10 +119,16 @@ participant-stays s t number participant grows running h =
     }
 
 -- the client is what it was but for its uplink, its fork and its link
-participant-made : (s : State) (number : ℕ) (participant : Participant) (fork uplink : List Msg) (now : LinkState)
+participant-made : (s : State) (number : ℕ) (participant : Participant) (fork uplink : List Msg)
+    (now : LinkState)
     → MatchBool (is_closed now) (Unit {0}) (IsOpen s number) → IsParticipant s number participant
     → IsParticipant s number
-    (record participant { state = record participant.state { fork = fork }; uplink = uplink; link = now })
+    (record participant {
+      state = record participant.state { fork = fork };
+      uplink = uplink;
+      link =
+          now;
+    })
 participant-made s number participant fork uplink now running h = record {
   conn = h.conn;
   running = running;
@@ -123,7 +147,8 @@ record HasTaken (live : List Entry) (c : client.State) : Type 0 where
   pub few : length c.taken ≤ length live
   pub front : c.taken ≡ take (length c.taken) live
 
-took-first : (live : List Entry) (c : client.State) (entry : Entry) → IsHistory 0 live → HasTaken live c
+took-first : (live : List Entry) (c : client.State) (entry : Entry) → IsHistory 0 live
+    → HasTaken live c
     → slice_get live 0 ≡ Some entry → length c.taken ≡ 0 → HasTaken live (client.took c entry)
 took-first live c entry history h there none =
     let mark : marked entry.msg ≡ Some 0 = mark-first live entry history there in
@@ -141,14 +166,21 @@ took-first live c entry history h there none =
       front = sym (take_one live 0 entry there);
     })
 
-took-next : (live : List Entry) (c : client.State) (entry : Entry) (k : ℕ) → IsHistory 0 live → HasTaken live c
-    → slice_get live (suc k) ≡ Some entry → length c.taken ≡ suc k → HasTaken live (client.took c entry)
+took-next : (live : List Entry) (c : client.State) (entry : Entry) (k : ℕ) → IsHistory 0 live
+    → HasTaken live c
+    → slice_get live (suc k) ≡ Some entry → length c.taken ≡ suc k
+    → HasTaken live (client.took c entry)
 took-next live c entry k history h there some =
     let mark : marked entry.msg ≡ None = mark-none live k entry history there in
     let within : suc k < length live = slice_get_within live (suc k) entry there in
-    let longer : length (c.taken ++ entry ∷ []) ≡ suc (suc k) = omega (arith, length-append c.taken (entry ∷ []), some) in
+    let longer : length (c.taken ++ entry ∷ []) ≡ suc (suc k) = omega
+    (arith, length-append c.taken (entry ∷ []), some) in
     let more : client.State =
-    record c { taken = c.taken ++ entry ∷ []; fork = client.fork_after (client.own_of c entry) c.fork } in
+    record c {
+      taken = c.taken ++ entry ∷ [];
+      fork = client.fork_after (client.own_of c entry)
+          c.fork;
+    } in
     let is : client.took c entry ≡ more = ap (λ m. client.took_at m c entry) mark in
     subst (HasTaken live) (sym is) (record {
       joined = h.joined;
@@ -158,7 +190,8 @@ took-next live c entry k history h there some =
           ∙ sym (take_one live (suc k) entry there) ∙ ap (λ n. take n live) (sym longer);
     })
 
-took-taken : (live : List Entry) (c : client.State) (entry : Entry) (n : ℕ) → IsHistory 0 live → HasTaken live c
+took-taken : (live : List Entry) (c : client.State) (entry : Entry) (n : ℕ) → IsHistory 0 live
+    → HasTaken live c
     → slice_get live n ≡ Some entry → length c.taken ≡ n → HasTaken live (client.took c entry)
 took-taken live c entry zero history h there is = took-first live c entry history h there is
 took-taken live c entry (suc k) history h there is = took-next live c entry k history h there is
@@ -172,27 +205,34 @@ record Turned (number : ℕ) (old : Past) (t : Exchange) : Type 0 where
   pub participant : IsParticipant (state_of t.past) number t.participant
 
 -- the client alone has changed
-exchanged-participant : (number : ℕ) (t : Exchange) (participant : Participant) → IsPast t.past → IsParticipant (state_of t.past) number participant
+exchanged-participant : (number : ℕ) (t : Exchange) (participant : Participant) → IsPast t.past
+    → IsParticipant (state_of t.past) number participant
     → Turned number t.past (record t { participant = participant })
 exchanged-participant number t participant h hp =
     record { past = h; keeps = keeps-all (state_of t.past) (OthersStay number); participant = hp }
 
-exchanged-both : (number : ℕ) (old : Past) (t u : Exchange) → Turned number old t → Turned number t.past u → Turned number old u
+exchanged-both : (number : ℕ) (old : Past) (t u : Exchange) → Turned number old t
+    → Turned number t.past u → Turned number old u
 exchanged-both number old t u h k = record {
   past = k.past;
-  keeps = keeps-both (state_of old) (state_of t.past) (state_of u.past) (OthersStay number) h.keeps k.keeps;
+  keeps = keeps-both (state_of old) (state_of t.past) (state_of u.past) (OthersStay number) h.keeps
+      k.keeps;
   participant = k.participant;
 }
 
-hung-exchanged : Leading → (number : ℕ) (t : Exchange) → IsPast t.past → IsParticipant (state_of t.past) number t.participant
+hung-exchanged : Leading → (number : ℕ) (t : Exchange) → IsPast t.past
+    → IsParticipant (state_of t.past) number t.participant
     → Turned number t.past (disconnected t)
 hung-exchanged laws number t h hp =
     let keeps = keeps-close laws t.past t.participant.conn h.before in
-    let gone = participant-made (state_of t.past) number t.participant t.participant.state.fork [] Closed tt hp in
+    let gone = participant-made (state_of t.past) number t.participant t.participant.state.fork []
+    Closed tt hp in
     record {
       past = past-step laws t.past (event.Close t.participant.conn) h keeps.grows;
-      keeps = subst (λ conn. Keeps (state_of t.past) (OthersStay conn) (state_of (disconnected t).past)) hp.conn keeps;
-      participant = participant-stays (state_of t.past) (state_of (disconnected t).past) number (disconnected t).participant keeps.grows tt gone;
+      keeps = subst (λ conn. Keeps (state_of t.past) (OthersStay conn)
+          (state_of (disconnected t).past)) hp.conn keeps;
+      participant = participant-stays (state_of t.past) (state_of (disconnected t).past) number
+          (disconnected t).participant keeps.grows tt gone;
     }
 
 heard-exchanged : Leading → (number : ℕ) (t : Exchange) (m : Msg) (rest : List Msg) → IsPast t.past
@@ -201,27 +241,33 @@ heard-exchanged laws number t m rest h hp =
     let keeps = keeps-say laws t.past t.participant.conn m h.before in
     let s = state_of t.past in
     let u = state_of (heard t m rest).past in
-    let waits = participant-made s number t.participant t.participant.state.fork rest t.participant.link hp.running hp in
+    let waits = participant-made s number t.participant t.participant.state.fork rest
+    t.participant.link hp.running hp in
     record {
       past = past-step laws t.past (event.Say t.participant.conn m) h keeps.grows;
       keeps = keeps-fewer s u (OthersStay number) keeps;
       participant = participant-stays s u number (heard t m rest).participant keeps.grows
-          (running-still (is_closed t.participant.link) (IsOpen s number) (IsOpen u number) (keeps.stay number tt) hp.running)
+          (running-still (is_closed t.participant.link) (IsOpen s number) (IsOpen u number)
+          (keeps.stay number tt) hp.running)
           waits;
     }
 
 up-exchanged : Leading → (number : ℕ) (t : Exchange) (uplink : List Msg) → IsPast t.past
-    → IsParticipant (state_of t.past) number t.participant → Turned number t.past (uplink_sent t uplink)
+    → IsParticipant (state_of t.past) number t.participant
+    → Turned number t.past (uplink_sent t uplink)
 up-exchanged laws number t [] h hp = exchanged-participant number t t.participant h hp
 up-exchanged laws number t (m ∷ rest) h hp =
     let taken = heard-exchanged laws number t m rest h hp in
-    cond_both (is_disconnect m) (disconnected (heard t m rest)) (heard t m rest) (Turned number t.past)
+    cond_both (is_disconnect m) (disconnected (heard t m rest)) (heard t m rest)
+    (Turned number t.past)
     (λ yes. exchanged-both number t.past (heard t m rest) (disconnected (heard t m rest)) taken
     (hung-exchanged laws number (heard t m rest) taken.past taken.participant))
     (λ no. taken)
 
-next-exchanged : (number : ℕ) (t : Exchange) (o : Option Entry) → IsPast t.past → IsParticipant (state_of t.past) number t.participant
-    → slice_get (state_of t.past).live (length t.participant.state.taken) ≡ o → Turned number t.past (took_next t o)
+next-exchanged : (number : ℕ) (t : Exchange) (o : Option Entry) → IsPast t.past
+    → IsParticipant (state_of t.past) number t.participant
+    → slice_get (state_of t.past).live (length t.participant.state.taken) ≡ o
+    → Turned number t.past (took_next t o)
 next-exchanged number t None h hp there = exchanged-participant number t t.participant h hp
 next-exchanged number t (Some entry) h hp there =
     let c = t.participant.state in
@@ -241,21 +287,27 @@ next-exchanged number t (Some entry) h hp there =
 next-is : (t : Exchange) → t.participant.state.epoch ≡ 0 → (state_of t.past).ended ≡ []
     → slice_get (state_of t.past).live (length t.participant.state.taken) ≡ next_entry t
 next-is t epoch ended =
-    let same : t.participant.state.epoch ≡ epoch_of (state_of t.past) = epoch ∙ sym (ap length ended) in
-    sym (ap (λ b. slice_get (state_of t.past).live (if b then length t.participant.state.taken else 0))
+    let same : t.participant.state.epoch ≡ epoch_of (state_of t.past) = epoch
+    ∙ sym (ap length ended) in
+    sym (ap (λ b. slice_get (state_of t.past).live (if b then length t.participant.state.taken
+    else 0))
     (eq-eqb t.participant.state.epoch (epoch_of (state_of t.past)) same))
 
-done-exchanged : Leading → (number : ℕ) (t : Exchange) (instruction : Instruction) → IsPast t.past → IsParticipant (state_of t.past) number t.participant
+done-exchanged : Leading → (number : ℕ) (t : Exchange) (instruction : Instruction) → IsPast t.past
+    → IsParticipant (state_of t.past) number t.participant
     → is_closed t.participant.link ≡ false → Turned number t.past (done t instruction)
 done-exchanged laws number t (Say m) h hp here =
     exchanged-participant number t (done t (Say m)).participant h
-    (participant-made (state_of t.past) number t.participant (t.participant.state.fork ++ m ∷ []) (t.participant.uplink ++ m ∷ []) t.participant.link
+    (participant-made (state_of t.past) number t.participant (t.participant.state.fork ++ m ∷ [])
+    (t.participant.uplink ++ m ∷ []) t.participant.link
     hp.running hp)
 done-exchanged laws number t Up h hp here = up-exchanged laws number t t.participant.uplink h hp
-done-exchanged laws number t Take h hp here = next-exchanged number t (next_entry t) h hp (next-is t hp.epoch h.ended)
+done-exchanged laws number t Take h hp here = next-exchanged number t (next_entry t) h hp
+    (next-is t hp.epoch h.ended)
 done-exchanged laws number t Leave h hp here =
     exchanged-participant number t (done t Leave).participant h
-    (participant-made (state_of t.past) number t.participant t.participant.state.fork (done t Leave).participant.uplink Leaving
+    (participant-made (state_of t.past) number t.participant t.participant.state.fork
+    (done t Leave).participant.uplink Leaving
     (MatchBool-at_false (Unit {0}) (IsOpen (state_of t.past) number) here hp.running) hp)
 done-exchanged laws number t Cut h hp here = hung-exchanged laws number t h hp
 
@@ -264,12 +316,14 @@ not-gone Connected d h = refl
 not-gone Leaving d h = refl
 not-gone Closed d h = cc
 
-exchange-exchanged : Leading → (number : ℕ) (t : Exchange) (instruction : Instruction) → IsPast t.past → IsParticipant (state_of t.past) number t.participant
+exchange-exchanged : Leading → (number : ℕ) (t : Exchange) (instruction : Instruction)
+    → IsPast t.past → IsParticipant (state_of t.past) number t.participant
     → Turned number t.past (exchanged t instruction)
 exchange-exchanged laws number t instruction h hp =
     cond_both (is_gone t.participant.link instruction) t (done t instruction) (Turned number t.past)
     (λ gone. exchanged-participant number t t.participant h hp)
-    (λ there. done-exchanged laws number t instruction h hp (not-gone t.participant.link instruction there))
+    (λ there. done-exchanged laws number t instruction h hp
+    (not-gone t.participant.link instruction there))
 
 -- ---- worlds
 
@@ -283,8 +337,10 @@ past-of w h = record {
   history = h.history;
 }
 
-world-made : (w : World) → IsPast w.past → length (state_of w.past).connections ≡ length w.participants
-    → ((number : ℕ) → IfSome (participant_of w number) (IsParticipant (state_of w.past) number)) → IsWorld w
+world-made : (w : World) → IsPast w.past → length (state_of w.past).connections
+    ≡ length w.participants
+    → ((number : ℕ) → IfSome (participant_of w number) (IsParticipant (state_of w.past) number))
+    → IsWorld w
 world-made w h connections participants = record {
   first_fault = h.first_fault;
   quiet = h.quiet;
@@ -296,55 +352,76 @@ world-made w h connections participants = record {
   participants = participants;
 }
 
-exchange-world : (w : World) (number : ℕ) (participant : Participant) (t : Exchange) → IsWorld w → participant_of w number ≡ Some participant
+exchange-world : (w : World) (number : ℕ) (participant : Participant) (t : Exchange) → IsWorld w
+    → participant_of w number ≡ Some participant
     → Turned number w.past t → IsWorld (with_exchange w number t)
 exchange-world w number participant t h found exchange =
     world-made (with_exchange w number t) exchange.past
-    (exchange.keeps.count ∙ h.connections ∙ sym (length-set w.participants (number - 1) t.participant))
-    (λ n. if_some (numbered (slice_set w.participants (number - 1) t.participant) n) (IsParticipant (state_of t.past) n)
+    (exchange.keeps.count ∙ h.connections ∙ sym (length-set w.participants (number - 1)
+    t.participant))
+    (λ n. if_some (numbered (slice_set w.participants (number - 1) t.participant) n)
+    (IsParticipant (state_of t.past) n)
     (λ other is. ⊎_elim (λ (same : n ≡ number). acting n other is same)
     (λ (ne : n ≡ number → ⊥). waiting n other is ne) (cases_eq n number)))
   where
-    acting : (n : ℕ) (other : Participant) → numbered (slice_set w.participants (number - 1) t.participant) n ≡ Some other → n ≡ number
+    acting : (n : ℕ) (other : Participant) → numbered (slice_set w.participants (number - 1)
+        t.participant) n ≡ Some other → n ≡ number
         → IsParticipant (state_of t.past) n other
     acting n other is same =
-        let there : numbered (slice_set w.participants (number - 1) t.participant) number ≡ Some other =
-        subst (λ k. numbered (slice_set w.participants (number - 1) t.participant) k ≡ Some other) same is in
-        let e : Some t.participant ≡ Some other = sym (numbered-same w.participants number participant t.participant found) ∙ there in
+        let there : numbered (slice_set w.participants (number - 1) t.participant) number
+        ≡ Some other =
+        subst (λ k. numbered (slice_set w.participants (number - 1) t.participant) k ≡ Some other)
+        same is in
+        let e : Some t.participant ≡ Some other = sym (numbered-same w.participants number
+        participant t.participant found) ∙ there in
         let it : t.participant ≡ other = cc in
-        subst (λ k. IsParticipant (state_of t.past) k other) (sym same) (subst (IsParticipant (state_of t.past) number) it exchange.participant)
+        subst (λ k. IsParticipant (state_of t.past) k other) (sym same)
+        (subst (IsParticipant (state_of t.past) number) it exchange.participant)
 
-    waiting : (n : ℕ) (other : Participant) → numbered (slice_set w.participants (number - 1) t.participant) n ≡ Some other → (n ≡ number → ⊥)
+    waiting : (n : ℕ) (other : Participant) → numbered (slice_set w.participants (number - 1)
+        t.participant) n ≡ Some other → (n ≡ number → ⊥)
         → IsParticipant (state_of t.past) n other
     waiting n other is ne =
         let above = number-found w.participants number participant found in
         let before : numbered w.participants n ≡ Some other =
         sym (numbered-other w.participants number n t.participant above.0 ne) ∙ is in
-        let hp = at_some (numbered w.participants n) (IsParticipant (state_of w.past) n) other (h.participants n) before in
+        let hp = at_some (numbered w.participants n) (IsParticipant (state_of w.past) n) other
+        (h.participants n) before in
         participant-stays (state_of w.past) (state_of t.past) n other exchange.keeps.grows
-        (running-still (is_closed other.link) (IsOpen (state_of w.past) n) (IsOpen (state_of t.past) n)
+        (running-still (is_closed other.link) (IsOpen (state_of w.past) n)
+        (IsOpen (state_of t.past) n)
         (exchange.keeps.stay n ne) hp.running) hp
 
-acted-world : Leading → (w : World) (number : ℕ) (instruction : Instruction) → IsWorld w → IsWorld (acted w number instruction)
+acted-world : Leading → (w : World) (number : ℕ) (instruction : Instruction) → IsWorld w
+    → IsWorld (acted w number instruction)
 acted-world laws w number instruction h =
-    option_both (λ participant. with_exchange w number (exchanged (record { past = w.past; participant = participant }) instruction)) (participant_of w number) w IsWorld
+    option_both (λ participant. with_exchange w number (exchanged
+    (record { past = w.past; participant = participant }) instruction))
+    (participant_of w number) w IsWorld
     (λ participant found.
-    let hp = at_some (participant_of w number) (IsParticipant (state_of w.past) number) participant (h.participants number) found in
-    exchange-world w number participant (exchanged (record { past = w.past; participant = participant }) instruction) h found
-    (exchange-exchanged laws number (record { past = w.past; participant = participant }) instruction (past-of w h) hp)) h
+    let hp = at_some (participant_of w number) (IsParticipant (state_of w.past) number) participant
+    (h.participants number) found in
+    exchange-world w number participant (exchanged (record
+    { past = w.past; participant = participant }) instruction) h found
+    (exchange-exchanged laws number (record { past = w.past; participant = participant })
+    instruction (past-of w h) hp)) h
 
 -- ---- joining
 
 participants-stay : (w : World) (t : State) → IsWorld w → Grows (state_of w.past) t
-    → ((n : ℕ) → IsOpen (state_of w.past) n → IsOpen t n) → (n : ℕ) (participant : Participant) → numbered w.participants n ≡ Some participant
+    → ((n : ℕ) → IsOpen (state_of w.past) n → IsOpen t n) → (n : ℕ) (participant : Participant)
+    → numbered w.participants n ≡ Some participant
     → IsParticipant t n participant
 participants-stay w t h grows stay n participant is =
-    let hp = at_some (numbered w.participants n) (IsParticipant (state_of w.past) n) participant (h.participants n) is in
+    let hp = at_some (numbered w.participants n) (IsParticipant (state_of w.past) n) participant
+    (h.participants n) is in
     participant-stays (state_of w.past) t n participant grows
-    (running-still (is_closed participant.link) (IsOpen (state_of w.past) n) (IsOpen t n) (stay n) hp.running) hp
+    (running-still (is_closed participant.link) (IsOpen (state_of w.past) n) (IsOpen t n) (stay n)
+    hp.running) hp
 
 -- as many clients as before
-none-joined : (w : World) (past : Past) → IsWorld w → IsPast past → Grows (state_of w.past) (state_of past)
+none-joined : (w : World) (past : Past) → IsWorld w → IsPast past
+    → Grows (state_of w.past) (state_of past)
     → ((n : ℕ) → IsOpen (state_of w.past) n → IsOpen (state_of past) n)
     → length (state_of past).connections ≡ length (state_of w.past).connections
     → IsWorld (record { past = past; participants = w.participants })
@@ -354,7 +431,8 @@ none-joined w past h hp grows stay count =
     (λ participant is. participants-stay w (state_of past) h grows stay n participant is))
 
 -- a client that was just welcomed
-participant-new : (s : State) (conn user at : ℕ) → IsOpen s conn → IsParticipant s conn (new_participant conn user 0 at)
+participant-new : (s : State) (conn user at : ℕ) → IsOpen s conn
+    → IsParticipant s conn (new_participant conn user 0 at)
 participant-new s conn user at up = record {
   conn = refl;
   running = up;
@@ -371,34 +449,58 @@ one-joined : (w : World) (past : Past) (conn user epoch at : ℕ) → IsWorld w 
     → length (state_of past).connections ≡ length (state_of w.past).connections + 1
     → conn ≡ length (state_of w.past).connections + 1 → epoch ≡ length (state_of w.past).ended
     → IsOpen (state_of past) conn
-    → IsWorld (record { past = past; participants = w.participants ++ new_participant conn user epoch at ∷ [] })
+    → IsWorld (record {
+      past = past;
+      participants = w.participants
+          ++ new_participant conn user epoch at ∷ [];
+    })
 one-joined w past conn user epoch at h hp grows stay count is_conn is_epoch up =
-    world-made (record { past = past; participants = w.participants ++ new_participant conn user epoch at ∷ [] }) hp
-    (omega (arith, count, h.connections, length-append w.participants (new_participant conn user epoch at ∷ [])))
-    (λ n. if_some (numbered (w.participants ++ new_participant conn user epoch at ∷ []) n) (IsParticipant (state_of past) n)
-    (λ participant is. ⊎_elim (λ (old : numbered w.participants n ≡ Some participant). participants-stay w (state_of past) h grows stay n participant old)
-    (λ (new : (n ≡ length w.participants + 1) × (participant ≡ new_participant conn user epoch at)). last n participant new.0 new.1)
+    world-made (record {
+      past = past;
+      participants = w.participants
+          ++ new_participant conn user epoch at ∷ [];
+    }) hp
+    (omega (
+      arith,
+      count,
+      h.connections,
+      length-append w.participants
+          (new_participant conn user epoch at ∷ []),
+    ))
+    (λ n. if_some (numbered (w.participants ++ new_participant conn user epoch at ∷ []) n)
+    (IsParticipant (state_of past) n)
+    (λ participant is. ⊎_elim (λ (old : numbered w.participants n ≡ Some participant).
+    participants-stay w (state_of past) h grows stay n participant old)
+    (λ (new : (n ≡ length w.participants + 1) × (participant ≡ new_participant conn user epoch at)).
+    last n participant new.0 new.1)
     (numbered-either w.participants (new_participant conn user epoch at) n participant is)))
   where
-    last : (n : ℕ) (participant : Participant) → n ≡ length w.participants + 1 → participant ≡ new_participant conn user epoch at
+    last : (n : ℕ) (participant : Participant) → n ≡ length w.participants + 1
+        → participant ≡ new_participant conn user epoch at
         → IsParticipant (state_of past) n participant
     last n participant at_end is =
         let zero_is : epoch ≡ 0 = is_epoch ∙ ap length h.ended in
         let same : conn ≡ n = omega (arith, is_conn, at_end, h.connections) in
-        let new : participant ≡ new_participant conn user 0 at = is ∙ ap (λ e. new_participant conn user e at) zero_is in
+        let new : participant ≡ new_participant conn user 0 at = is
+        ∙ ap (λ e. new_participant conn user e at) zero_is in
         subst (λ k. IsParticipant (state_of past) k participant) same
-        (subst (IsParticipant (state_of past) conn) (sym new) (participant-new (state_of past) conn user at up))
+        (subst (IsParticipant (state_of past) conn) (sym new)
+        (participant-new (state_of past) conn user at up))
 
-answered-world : (w : World) (past : Past) (r : Reply) → IsWorld w → IsPast past → Joins (state_of w.past) r (state_of past)
+answered-world : (w : World) (past : Past) (r : Reply) → IsWorld w → IsPast past
+    → Joins (state_of w.past) r (state_of past)
     → IsWorld (record { past = past; participants = with_joined w.participants r })
 answered-world w past (reply.Opened conn user epoch at) h hp j =
-    one-joined w past conn user epoch at h hp j.grows j.stay j.answer.0 j.answer.1 j.answer.2 j.answer.3
+    one-joined w past conn user epoch at h hp j.grows j.stay j.answer.0 j.answer.1 j.answer.2
+    j.answer.3
 answered-world w past r h hp j = none-joined w past h hp j.grows j.stay j.answer
 
-joined-world : Leading → (w : World) (registered : Bool) (name : List ℕ) → IsWorld w → IsWorld (joined w registered name)
+joined-world : Leading → (w : World) (registered : Bool) (name : List ℕ) → IsWorld w
+    → IsWorld (joined w registered name)
 joined-world laws w registered name h =
     let j = joins-open laws w.past name registered h.before in
-    answered-world w (sure_step w.past (event.Open name registered)) (sure_answer w.past (event.Open name registered)) h
+    answered-world w (sure_step w.past (event.Open name registered))
+    (sure_answer w.past (event.Open name registered)) h
     (past-step laws w.past (event.Open name registered) (past-of w h) j.grows) j
 
 -- what is true of a world is so after an action
@@ -412,13 +514,16 @@ action-world laws w (Show number kind) h = h
 actions-world : ((w : World) (action : Action) → IsWorld w → IsWorld (after w action))
     → (w : World) (actions : List Action) → IsWorld w → IsWorld (fold after w actions)
 actions-world stays w [] h = h
-actions-world stays w (action ∷ actions) h = actions-world stays (after w action) actions (stays w action h)
+actions-world stays w (action ∷ actions) h = actions-world stays (after w action) actions
+    (stays w action h)
 
-shows-front : (s : State) (number : ℕ) (participant : Participant) → s.ended ≡ [] → IsParticipant s number participant → ShowsPrefix s participant.state
+shows-front : (s : State) (number : ℕ) (participant : Participant) → s.ended ≡ []
+    → IsParticipant s number participant → ShowsPrefix s participant.state
 shows-front s number participant ended h =
     let c = participant.state in
     let live : history_of s c.epoch ≡ s.live =
-    ap (λ epoch. history_of s epoch) h.epoch ∙ ap (λ xs. slice_index_or (xs ++ s.live ∷ []) 0 []) ended in
+    ap (λ epoch. history_of s epoch) h.epoch ∙ ap (λ xs. slice_index_or (xs ++ s.live ∷ []) 0 [])
+    ended in
     let front : c.taken ≡ take (length c.taken) (history_of s c.epoch) =
     h.front ∙ ap (take (length c.taken)) (sym live) in
     record {
@@ -428,13 +533,16 @@ shows-front s number participant ended h =
       view = ap (λ board. draw_all board (filter_map client.command_of c.fork)) (ap replay front);
     }
 
-pub all-show : ((w : World) (action : Action) → IsWorld w → IsWorld (after w action)) → IsWorld first_world
+pub all-show : ((w : World) (action : Action) → IsWorld w → IsWorld (after w action))
+    → IsWorld first_world
     → (actions : List Action) (number : ℕ)
     → IfSome (participant_of (world_after actions) number)
     (λ participant. ShowsPrefix (state_of (world_after actions).past) participant.state)
 all-show stays first actions =
     let h = actions-world stays first_world actions first in
     let w = world_after actions in
-    λ number. if_some (participant_of w number) (λ participant. ShowsPrefix (state_of w.past) participant.state)
+    λ number. if_some (participant_of w number) (λ participant. ShowsPrefix (state_of w.past)
+    participant.state)
     (λ participant is. shows-front (state_of w.past) number participant h.ended
-    (at_some (participant_of w number) (IsParticipant (state_of w.past) number) participant (h.participants number) is))
+    (at_some (participant_of w number) (IsParticipant (state_of w.past) number) participant
+    (h.participants number) is))

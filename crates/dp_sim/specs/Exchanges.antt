@@ -32,7 +32,8 @@ pub record Exchange : Type 0 where
   pub past : Past
   pub participant : Participant
 
--- Which instructions a client does no more: one that is closed none, and one that is leaving says nothing and
+-- Which instructions a client does no more: one that is closed none, and one that is leaving says
+-- nothing and
 -- doesn't leave again.
 abbrev pub is_gone : LinkState → Instruction → Bool
 is_gone Connected instruction = false
@@ -83,7 +84,8 @@ heard t m rest = record {
   participant = record t.participant { uplink = rest };
 }
 
--- the session takes the next message of the uplink, if there is one; a Disconnect is followed by the Close
+-- the session takes the next message of the uplink, if there is one; a Disconnect is followed by
+-- the Close
 abbrev pub uplink_sent : Exchange → List Msg → Exchange
 uplink_sent t [] = t
 uplink_sent t (m ∷ rest) = if is_disconnect m then disconnected (heard t m rest) else heard t m rest
@@ -95,12 +97,14 @@ up_line t (m ∷ rest) =
     then left_line (sure_answer (heard t m rest).past (event.Close t.participant.conn))
     else said_line (sure_answer t.past (event.Say t.participant.conn m))
 
--- the entry that the client takes next, if there is one: the first of the live history where the client is
+-- the entry that the client takes next, if there is one: the first of the live history where the
+-- client is
 -- in another epoch, and else the one after those that it has taken
 abbrev pub next_entry : Exchange → Option Entry
 next_entry t =
     let s = state_of t.past in
-    slice_get s.live (if t.participant.state.epoch == epoch_of s then length t.participant.state.taken else 0)
+    slice_get s.live (if t.participant.state.epoch == epoch_of s
+    then length t.participant.state.taken else 0)
 
 -- the acknowledgement of an epoch, if one is due
 abbrev pub acks : Option ℕ → List Msg
@@ -124,7 +128,11 @@ next_taken_line t (Some entry) = took_line (client.taken_of t.participant.state 
 -- the exchange after an instruction that the client still does
 abbrev pub done : Exchange → Instruction → Exchange
 done t (Say m) = record t {
-  participant = record t.participant { state = client.said t.participant.state m; uplink = t.participant.uplink ++ m ∷ [] };
+  participant = record t.participant {
+    state = client.said t.participant.state m;
+    uplink =
+        t.participant.uplink ++ m ∷ [];
+  };
 }
 done t Up = uplink_sent t t.participant.uplink
 done t Take = took_next t (next_entry t)
@@ -150,4 +158,5 @@ exchanged t instruction = if is_gone t.participant.link instruction then t else 
 
 -- what is told of it
 abbrev pub exchange_line : Exchange → Instruction → ReportLine
-exchange_line t instruction = if is_gone t.participant.link instruction then report.Gone else performed_line t instruction
+exchange_line t instruction = if is_gone t.participant.link instruction then report.Gone
+    else performed_line t instruction

@@ -39,11 +39,13 @@ abbrev pub IsHistory : ℕ → List Entry → Type 0
 IsHistory epoch [] = ⊥
 IsHistory epoch (first ∷ behind) = (marked first.msg ≡ Some epoch) × HasNoMark behind
 
--- the client of a number: its connection has the same number and is open unless the client is closed, and
+-- the client of a number: its connection has the same number and is open unless the client is
+-- closed, and
 -- it has taken a prefix of the live history
 pub record IsParticipant (s : State) (number : ℕ) (participant : Participant) : Type 0 where
   pub conn : participant.conn ≡ number
-  pub running : MatchBool (is_closed participant.link) (Unit {0}) (is_some (open_connection s number) ≡ true)
+  pub running : MatchBool (is_closed participant.link) (Unit {0})
+      (is_some (open_connection s number) ≡ true)
   pub joined : participant.state.joined_epoch ≡ 0
   pub epoch : participant.state.epoch ≡ 0
   pub few : length participant.state.taken ≤ length s.live
@@ -59,4 +61,5 @@ pub record IsWorld (w : World) : Type 0 where
   pub ended : (state_of w.past).ended ≡ []
   pub history : IsHistory 0 (state_of w.past).live
   pub connections : length (state_of w.past).connections ≡ length w.participants
-  pub participants : (number : ℕ) → IfSome (participant_of w number) (IsParticipant (state_of w.past) number)
+  pub participants : (number : ℕ) → IfSome (participant_of w number)
+      (IsParticipant (state_of w.past) number)

@@ -11,7 +11,8 @@ use Rattle.dp_schedule.specs.declared.action.CanvasKind.TheVariants.{View, Confi
 use Rattle.dp_schedule.specs.declared.action.Action.{Action}
 use Rattle.dp_schedule.specs.declared.action.Action.TheVariants.{Join, Act, Show}
 use Rattle.dp_schedule.specs.ReportText.{text_of}
-use Rattle.dp_sim.specs.World.{World, first_world, after, length_of, participant_of, join_line, acted_line}
+use Rattle.dp_sim.specs.World.{World, first_world, after, length_of, participant_of, join_line}
+use Rattle.dp_sim.specs.World.{acted_line}
 
 -- a canvas of a client
 abbrev pub canvas_of : CanvasKind → State → Board
@@ -23,9 +24,11 @@ abbrev pub printed : World → Action → List ℕ
 printed w (Join name registered) =
     text_of (join_line (length_of w) (sure_answer w.past (Open name registered)))
 printed w (Act number instruction) =
-    option_map_or (λ participant. text_of (acted_line w.past participant instruction)) (participant_of w number) []
+    option_map_or (λ participant. text_of (acted_line w.past participant instruction))
+    (participant_of w number) []
 printed w (Show number kind) =
-    option_map_or (λ participant. p3 (canvas_of kind participant.state)) (participant_of w number) []
+    option_map_or (λ participant. p3 (canvas_of kind participant.state)) (participant_of w number)
+    []
 
 -- what a function gives at each action from the world before it, in order
 abbrev pub along : {X : Type 0} → (World → Action → List X) → World → List Action → List X

@@ -51,7 +51,8 @@ new_participant conn user epoch at = record {
 
 -- the clients with the one that the answer to an Open makes, if it makes one
 abbrev pub with_joined : List Participant → Reply → List Participant
-with_joined participants (reply.Opened conn user epoch at) = participants ++ new_participant conn user epoch at ∷ []
+with_joined participants (reply.Opened conn user epoch at) = participants
+    ++ new_participant conn user epoch at ∷ []
 with_joined participants other = participants
 
 -- the world after a user asked to join
@@ -72,7 +73,8 @@ join_line clients other = report.Ended
 
 -- what is told of an instruction of a client
 abbrev pub acted_line : Past → Participant → Instruction → ReportLine
-acted_line past participant instruction = exchange_line (record { past = past; participant = participant }) instruction
+acted_line past participant instruction = exchange_line (record
+    { past = past; participant = participant }) instruction
 
 -- the world after the exchange of the client of a number
 abbrev pub with_exchange : World → ℕ → Exchange → World
@@ -82,7 +84,8 @@ with_exchange w number t =
 -- the world after an instruction of the client of a number
 abbrev pub acted : World → ℕ → Instruction → World
 acted w number instruction =
-    option_map_or (λ participant. with_exchange w number (exchanged (record { past = w.past; participant = participant }) instruction))
+    option_map_or (λ participant. with_exchange w number
+    (exchanged (record { past = w.past; participant = participant }) instruction))
     (participant_of w number) w
 
 -- ---- lines

@@ -18,7 +18,8 @@ pub fn worlds_stay_worlds()
     steps_lead_on();
 }
 
-/// In every state of a session a message that is answered Filtered changes no canvas and no right, whatever
+/// In every state of a session a message that is answered Filtered changes no canvas and no right,
+/// whatever
 /// entries come after it.
 pub fn forbidden_changes_nothing()
     ensures { (state : State) → ForbiddenChangesNothing state }
@@ -26,8 +27,10 @@ pub fn forbidden_changes_nothing()
     forbidden_changes_no_right();
 }
 
-/// After every schedule each client has taken a prefix of the history of its epoch; its confirmed canvas is
-/// that prefix replayed, and its view the same with its unanswered sends drawn after it. A message that is
+/// After every schedule each client has taken a prefix of the history of its epoch; its confirmed
+/// canvas is
+/// that prefix replayed, and its view the same with its unanswered sends drawn after it. A message
+/// that is
 /// not permitted changes no canvas and no right.
 pub fn headline()
     ensures { (actions : List Action) → Headline (world_after actions) }

@@ -9,5 +9,5 @@ mod reply_line;
 mod world;
 
 pub use laws::{forbidden_changes_nothing, headline, worlds_stay_worlds};
-pub use participant::{Participant, LinkState};
+pub use participant::{LinkState, Participant};
 pub use world::World;

@@ -29,8 +29,8 @@ ghost use Rattle.dp_sim.specs.Calls.{exchange, took_entry, CanTake, CanAct};
 
 use crate::reply_line::{cut_line, left_line, said_line};
 use dp_client::Client;
-use dp_machine::Machine;
 use dp_keeper::SureKeeper;
+use dp_machine::Machine;
 use dp_messages::{Entry, Msg};
 use dp_msg_meta::Control;
 use dp_schedule::{Instruction, ReportLine};
@@ -50,7 +50,8 @@ pub enum LinkState {
     Closed,
 }
 
-/// A client: its connection, what it has taken and said, the messages on their way to the session, and its
+/// A client: its connection, what it has taken and said, the messages on their way to the session,
+/// and its
 /// link.
 #[derive(Drop)]
 pub struct Participant {
@@ -147,7 +148,8 @@ impl Participant {
         Ok(reply)
     }
 
-    /// The session takes the next message of the uplink, if there is one, and after a Disconnect the
+    /// The session takes the next message of the uplink, if there is one, and after a Disconnect
+    /// the
     /// Close.
     fn up(&mut self, session: &mut Session<SureKeeper>) -> Result<ReportLine, AllocError>
         requires { session.old.first_fault ≡ None }
@@ -168,7 +170,8 @@ impl Participant {
         }
     }
 
-    /// Entries of which the first is the one that comes next, if there is one. The only error is want of
+    /// Entries of which the first is the one that comes next, if there is one. The only error is
+    /// want of
     /// memory.
     fn pull(&self, session: &Session<SureKeeper>) -> Result<Entries, AllocError>
         requires { CanTake session.now self.now }
@@ -241,7 +244,8 @@ impl Participant {
         Ok(cut_line(self.disconnect(session)?))
     }
 
-    /// The client does an instruction. The only error is out of memory, and nothing is promised of the client and
+    /// The client does an instruction. The only error is out of memory, and nothing is promised of
+    /// the client and
     /// the session then.
     pub(crate) fn act(
         &mut self,

@@ -1,5 +1,6 @@
 -- A user's own answers in a history, and the sends that they answer.
-use Rattle.std.proofs.Common.{◌≡◌, ◌⊎◌, ℕ, zero, suc, ◌+◌, ◌<◌, ◌≤◌, ◌==◌, Bool, true, false, ◌&&◌, if◌then◌else◌}
+use Rattle.std.proofs.Common.{◌≡◌, ◌⊎◌, ℕ, zero, suc, ◌+◌, ◌<◌, ◌≤◌, ◌==◌, Bool, true, false, ◌&&◌}
+use Rattle.std.proofs.Common.{if◌then◌else◌}
 use Rattle.std.proofs.Common.{List, [], ◌∷◌, ◌++◌, length, take, drop, Some}
 use Rattle.std.proofs.Common.{refl, sym, ap, ◌∙◌, arith, append_assoc}
 use Rattle.std.specs.Prelude.{nat_lt}
@@ -10,7 +11,8 @@ use Rattle.dp_messages.specs.declared.message.Entry.{Entry}
 use Rattle.dp_client.specs.Client.{may_answer, is_filtered}
 use Rattle.dp_session.specs.State.{entry_of}
 
--- the answers of a user whose Join stands there, in a list of which the first is the entry of this index
+-- the answers of a user whose Join stands there, in a list of which the first is the entry of this
+-- index
 abbrev pub answers_from : ℕ → ℕ → ℕ → List Entry → List Msg
 answers_from user at n [] = []
 answers_from user at n (entry ∷ entries) =
@@ -19,17 +21,22 @@ answers_from user at n (entry ∷ entries) =
 
 -- no entry is an answer of the user's
 abbrev pub NoAnswers : ℕ → List Entry → Type 0
-NoAnswers user entries = AllByRecursion (λ entry. entry.user == user && may_answer entry.msg ≡ false) entries
+NoAnswers user entries = AllByRecursion (λ entry. entry.user == user && may_answer entry.msg
+    ≡ false) entries
 
 pub answers-append : (user at n : ℕ) (xs ys : List Entry)
-    → answers_from user at n (xs ++ ys) ≡ answers_from user at n xs ++ answers_from user at (n + length xs) ys
-answers-append user at n [] ys = let e : n ≡ n + 0 = omega arith in ap (λ k. answers_from user at k ys) e
+    → answers_from user at n (xs ++ ys) ≡ answers_from user at n xs
+    ++ answers_from user at (n + length xs) ys
+answers-append user at n [] ys = let e : n ≡ n + 0 = omega arith in ap
+    (λ k. answers_from user at k ys) e
 answers-append user at n (x ∷ xs) ys =
-    let own : List Msg = if x.user == user && may_answer x.msg && nat_lt at n then x.msg ∷ [] else [] in
+    let own : List Msg = if x.user == user && may_answer x.msg && nat_lt at n then x.msg ∷ []
+    else [] in
     let e : n + 1 + length xs ≡ n + suc (length xs) = omega arith in
     ap (λ zs. own ++ zs) (answers-append user at (n + 1) xs ys)
     ∙ ap (λ k. own ++ (answers_from user at (n + 1) xs ++ answers_from user at k ys)) e
-    ∙ sym (append_assoc own (answers_from user at (n + 1) xs) (answers_from user at (n + suc (length xs)) ys))
+    ∙ sym (append_assoc own (answers_from user at (n + 1) xs)
+    (answers_from user at (n + suc (length xs)) ys))
 
 not_third : (a b c : Bool) → (a && b) ≡ false → (a && b && c) ≡ false
 not_third true true c h = cc
@@ -51,25 +58,30 @@ left_out : (b : Bool) (m : Msg) (ms : List Msg) → b ≡ false → (if b then m
 left_out true m ms h = cc
 left_out false m ms h = refl
 
-pub answers-none : (user at n : ℕ) (xs : List Entry) → NoAnswers user xs → answers_from user at n xs ≡ []
+pub answers-none : (user at n : ℕ) (xs : List Entry) → NoAnswers user xs
+    → answers_from user at n xs ≡ []
 answers-none user at n [] h = refl
 answers-none user at n (x ∷ xs) h =
-    left_out (x.user == user && may_answer x.msg && nat_lt at n) x.msg (answers_from user at (n + 1) xs)
+    left_out (x.user == user && may_answer x.msg && nat_lt at n) x.msg
+    (answers_from user at (n + 1) xs)
     (not_third (x.user == user) (may_answer x.msg) (nat_lt at n) h.0)
     ∙ answers-none user at (n + 1) xs h.1
 
 -- none stands up to the Join
-pub answers-before : (user at n : ℕ) (xs : List Entry) → n + length xs ≤ at + 1 → answers_from user at n xs ≡ []
+pub answers-before : (user at n : ℕ) (xs : List Entry) → n + length xs ≤ at + 1
+    → answers_from user at n xs ≡ []
 answers-before user at n [] h = refl
 answers-before user at n (x ∷ xs) h =
-    left_out (x.user == user && may_answer x.msg && nat_lt at n) x.msg (answers_from user at (n + 1) xs)
+    left_out (x.user == user && may_answer x.msg && nat_lt at n) x.msg
+    (answers_from user at (n + 1) xs)
     (last_false (x.user == user) (may_answer x.msg) (nat_lt at n) (le-ltb at n (omega arith)))
     ∙ answers-before user at (n + 1) xs (omega arith)
 
 -- one entry after others
 pub answers-push : (user at : ℕ) (xs : List Entry) (x : Entry) (b : Bool)
     → (x.user == user && may_answer x.msg && nat_lt at (length xs)) ≡ b
-    → answers_from user at 0 (xs ++ x ∷ []) ≡ answers_from user at 0 xs ++ (if b then x.msg ∷ [] else [])
+    → answers_from user at 0 (xs ++ x ∷ []) ≡ answers_from user at 0 xs
+    ++ (if b then x.msg ∷ [] else [])
 answers-push user at xs x b is =
     let e : 0 + length xs ≡ length xs = omega arith in
     answers-append user at 0 xs (x ∷ [])
@@ -84,12 +96,14 @@ answers-push user at xs x b is =
 -- an answer among entries
 pub answers-at : (user at : ℕ) (xs : List Entry) (x : Entry) (ys : List Entry)
     → (x.user == user && may_answer x.msg && nat_lt at (length xs)) ≡ true
-    → answers_from user at 0 (xs ++ x ∷ ys) ≡ answers_from user at 0 xs ++ x.msg ∷ answers_from user at (length xs + 1) ys
+    → answers_from user at 0 (xs ++ x ∷ ys) ≡ answers_from user at 0 xs ++ x.msg
+    ∷ answers_from user at (length xs + 1) ys
 answers-at user at xs x ys own =
     let e : 0 + length xs ≡ length xs = omega arith in
     answers-append user at 0 xs (x ∷ ys)
     ∙ ap (λ n. answers_from user at 0 xs ++ answers_from user at n (x ∷ ys)) e
-    ∙ ap (λ c. answers_from user at 0 xs ++ ((if c then x.msg ∷ [] else []) ++ answers_from user at (length xs + 1) ys)) own
+    ∙ ap (λ c. answers_from user at 0 xs ++ ((if c then x.msg ∷ [] else [])
+    ++ answers_from user at (length xs + 1) ys)) own
 
 -- the user's own entry, which may answer, is one more
 pub answers-own : (user at : ℕ) (xs : List Entry) (m : Msg) → may_answer m ≡ true → at < length xs
@@ -112,18 +126,21 @@ answers-same user at xs ys h =
     no_more (m ∷ ms) = ap (λ ns. m ∷ ns) (no_more ms)
 
 -- an entry of another user is none
-pub none-other : (user : ℕ) (x : Entry) (xs : List Entry) → (x.user ≡ user → ⊥) → NoAnswers user xs → NoAnswers user (x ∷ xs)
+pub none-other : (user : ℕ) (x : Entry) (xs : List Entry) → (x.user ≡ user → ⊥) → NoAnswers user xs
+    → NoAnswers user (x ∷ xs)
 none-other user x xs ne h = (ap (λ b. b && may_answer x.msg) (ne_eqb x.user user ne), h)
 
 -- nor is one that can't answer
-pub none-mute : (user : ℕ) (x : Entry) (xs : List Entry) → may_answer x.msg ≡ false → NoAnswers user xs → NoAnswers user (x ∷ xs)
+pub none-mute : (user : ℕ) (x : Entry) (xs : List Entry) → may_answer x.msg ≡ false
+    → NoAnswers user xs → NoAnswers user (x ∷ xs)
 none-mute user x xs mute h = (ap (λ b. x.user == user && b) mute ∙ never (x.user == user), h)
   where
     never : (b : Bool) → (b && false) ≡ false
     never true = refl
     never false = refl
 
-pub none-append : (user : ℕ) (xs ys : List Entry) → NoAnswers user xs → NoAnswers user ys → NoAnswers user (xs ++ ys)
+pub none-append : (user : ℕ) (xs ys : List Entry) → NoAnswers user xs → NoAnswers user ys
+    → NoAnswers user (xs ++ ys)
 none-append user [] ys hx hy = hy
 none-append user (x ∷ xs) ys hx hy = (hx.0, none-append user xs ys hx.1 hy)
 
@@ -154,10 +171,17 @@ pub record Front (forked : List Msg) (m : Msg) : Type 0 where
   pub is : forked ≡ send ∷ rest
   pub answers : AnswersTo m send
 
-pub front-of : (before : List Msg) (m : Msg) (behind sends waits : List Msg) → Answer (before ++ m ∷ behind) sends
+pub front-of : (before : List Msg) (m : Msg) (behind sends waits : List Msg)
+    → Answer (before ++ m ∷ behind) sends
     → Front (drop (length before) (sends ++ waits)) m
 front-of [] m behind [] waits h = absurd h
-front-of [] m behind (s ∷ sends) waits h = record { send = s; rest = sends ++ waits; is = refl; answers = h.0 }
+front-of [] m behind (s ∷ sends) waits h = record {
+  send = s;
+  rest = sends
+      ++ waits;
+  is = refl;
+  answers = h.0;
+}
 front-of (n ∷ before) m behind [] waits h = absurd h
 front-of (n ∷ before) m behind (s ∷ sends) waits h = front-of before m behind sends waits h.1
 
@@ -176,4 +200,5 @@ pub drop-front : {X : Type 0} (n : ℕ) (xs : List X) (x : X) (rest : List X) �
 drop-front zero [] x rest is = cc
 drop-front zero (y ∷ xs) x rest is = (omega arith, cc)
 drop-front (suc n) [] x rest is = cc
-drop-front (suc n) (y ∷ xs) x rest is = let h = drop-front n xs x rest is in (omega (arith, h.0), h.1)
+drop-front (suc n) (y ∷ xs) x rest is = let h = drop-front n xs x rest is in
+    (omega (arith, h.0), h.1)

@@ -1,11 +1,15 @@
--- What one event does to the users and their answers: open connections are of users that differ, and an
+-- What one event does to the users and their answers: open connections are of users that differ,
+-- and an
 -- event of one connection places no answers of others.
-use Rattle.std.proofs.Common.{◌≡◌, ◌⊎◌, ℕ, zero, suc, ◌+◌, ◌-◌, ◌<◌, ◌≤◌, ◌==◌, Bool, true, false, not, ◌&&◌, cond, if◌then◌else◌}
+use Rattle.std.proofs.Common.{◌≡◌, ◌⊎◌, ℕ, zero, suc, ◌+◌, ◌-◌, ◌<◌, ◌≤◌, ◌==◌, Bool, true, false}
+use Rattle.std.proofs.Common.{not, ◌&&◌, cond, if◌then◌else◌}
 use Rattle.std.proofs.Common.{List, [], ◌∷◌, ◌++◌, length, Option, None, Some}
-use Rattle.std.proofs.Common.{refl, sym, ap, subst, ◌∙◌, ⊎_elim, inl, inr, arith, append-nil, append_assoc, length-append}
+use Rattle.std.proofs.Common.{refl, sym, ap, subst, ◌∙◌, ⊎_elim, inl, inr, arith, append-nil}
+use Rattle.std.proofs.Common.{append_assoc, length-append}
 use Rattle.std.specs.Prelude.{slice_set}
 use Rattle.std.specs.List.{find, list_any, range_with_len, slice_get}
-use Rattle.std.proofs.lemmas.Bool.{cond_both, cases_eq, cases_Bool, eq-eqb, or_parts, le-leb, not-true}
+use Rattle.std.proofs.lemmas.Bool.{cond_both, cases_eq, cases_Bool, eq-eqb, or_parts, le-leb}
+use Rattle.std.proofs.lemmas.Bool.{not-true}
 use Rattle.dp_client.specs.Client.{may_answer}
 use Rattle.dp_msg_meta.specs.declared.message.Control.TheVariants as control
 use Rattle.dp_msg_meta.specs.declared.message.Meta.TheVariants as meta
@@ -22,20 +26,27 @@ use Rattle.dp_session.specs.declared.event.Event.{Event}
 use Rattle.dp_session.specs.declared.event.Event.TheVariants as event
 use Rattle.dp_session.specs.declared.event.Reply.{Reply}
 use Rattle.dp_session.specs.declared.event.Reply.TheVariants as reply
-use Rattle.dp_session.specs.State.{State, acted, stays, after_event, placed, entry_of, server_entry, epoch_of, here}
-use Rattle.dp_session.specs.State.{is_present, present_users, user_ids, free_id, is_name, join_entries, new_connection, opened_as, opened}
-use Rattle.dp_session.specs.State.{is_open, where_open, open_in, open_connection, with_connection, left, next_owner, owners_behind, closed_by, closed}
-use Rattle.dp_session.specs.State.{said, filtered, judged, acknowledged_by, said_by, heard, says_by, says}
+use Rattle.dp_session.specs.State.{State, acted, stays, after_event, placed, entry_of, server_entry}
+use Rattle.dp_session.specs.State.{epoch_of, here}
+use Rattle.dp_session.specs.State.{is_present, present_users, user_ids, free_id, is_name}
+use Rattle.dp_session.specs.State.{join_entries, new_connection, opened_as, opened}
+use Rattle.dp_session.specs.State.{is_open, where_open, open_in, open_connection, with_connection}
+use Rattle.dp_session.specs.State.{left, next_owner, owners_behind, closed_by, closed}
+use Rattle.dp_session.specs.State.{said, filtered, judged, acknowledged_by, said_by, heard, says_by}
+use Rattle.dp_session.specs.State.{says}
 use Rattle.dp_session.specs.Rows.{has_room}
 use Rattle.dp_session.specs.Past.{Past, state_of, kept, refused, answer_to, sure_step, sure_answer}
 use Rattle.dp_session.specs.Laws.{ShutBefore}
-use Rattle.dp_sim_laws.proofs.Lists.{option_both, numbered, number-found, numbered-other, numbered-same, numbered-old, numbered-either}
+use Rattle.dp_sim_laws.proofs.Lists.{option_both, numbered, number-found, numbered-other}
+use Rattle.dp_sim_laws.proofs.Lists.{numbered-same, numbered-old, numbered-either}
 use Rattle.dp_sim_laws.proofs.Lists.{numbered-new}
-use Rattle.dp_sim_laws.proofs.Answering.{answers_from, NoAnswers, answers-same, answers-before, none-append, none-other, none-mute, AnswersTo}
+use Rattle.dp_sim_laws.proofs.Answering.{answers_from, NoAnswers, answers-same, answers-before}
+use Rattle.dp_sim_laws.proofs.Answering.{none-append, none-other, none-mute, AnswersTo}
 
 -- ---- open connections
 
-found-by : (found : Option Connection) (c : Connection) → where_open found ≡ Some c → (found ≡ Some c) × (is_open c ≡ true)
+found-by : (found : Option Connection) (c : Connection) → where_open found ≡ Some c
+    → (found ≡ Some c) × (is_open c ≡ true)
 found-by None c h = cc
 found-by (Some x) c h =
     ⊎_elim (λ (up : is_open x ≡ true).
@@ -51,12 +62,14 @@ open-found : (cs : List Connection) (n : ℕ) (c : Connection) → open_in cs n 
 open-found cs n c is = found-by (numbered cs n) c is
 
 -- an open connection is found open
-open-from : (cs : List Connection) (n : ℕ) (c : Connection) → numbered cs n ≡ Some c → is_open c ≡ true
+open-from : (cs : List Connection) (n : ℕ) (c : Connection) → numbered cs n ≡ Some c
+    → is_open c ≡ true
     → open_in cs n ≡ Some c
 open-from cs n c is up = ap where_open is ∙ ap (λ b. if b then Some c else None) up
 
 -- another connection stays open
-open-other : (cs : List Connection) (conn : ℕ) (c d : Connection) (n : ℕ) (x : Connection) → open_in cs conn ≡ Some c
+open-other : (cs : List Connection) (conn : ℕ) (c d : Connection) (n : ℕ) (x : Connection)
+    → open_in cs conn ≡ Some c
     → (n ≡ conn → ⊥) → open_in cs n ≡ Some x → open_in (slice_set cs (conn - 1) d) n ≡ Some x
 open-other cs conn c d n x found ne is =
     let above = number-found cs conn c (open-found cs conn c found).0 in
@@ -64,7 +77,8 @@ open-other cs conn c d n x found ne is =
     open-from (slice_set cs (conn - 1) d) n x (numbered-other cs conn n d above.0 ne ∙ h.0) h.1
 
 -- what is open where one was shut was open
-open-back : (cs : List Connection) (conn : ℕ) (c d : Connection) (n : ℕ) (x : Connection) → open_in cs conn ≡ Some c
+open-back : (cs : List Connection) (conn : ℕ) (c d : Connection) (n : ℕ) (x : Connection)
+    → open_in cs conn ≡ Some c
     → is_open d ≡ false → open_in (slice_set cs (conn - 1) d) n ≡ Some x → open_in cs n ≡ Some x
 open-back cs conn c d n x found shut is =
     let there = (open-found cs conn c found).0 in
@@ -76,20 +90,24 @@ open-back cs conn c d n x found shut is =
     let e : Some d ≡ Some x = sym (numbered-same cs conn c d there) ∙ at in
     let it : d ≡ x = cc in
     let no : false ≡ true = sym shut ∙ subst (λ y. is_open y ≡ true) (sym it) h.1 in cc)
-    (λ (ne : n ≡ conn → ⊥). open-from cs n x (sym (numbered-other cs conn n d above.0 ne) ∙ h.0) h.1)
+    (λ (ne : n ≡ conn → ⊥). open-from cs n x (sym (numbered-other cs conn n d above.0 ne) ∙ h.0)
+    h.1)
     (cases_eq n conn)
 
 -- ---- people
 
--- The users of open connections are above 0 and differ, and each connection has acknowledged its epoch.
+-- The users of open connections are above 0 and differ, and each connection has acknowledged its
+-- epoch.
 pub record ArePeople (cs : List Connection) : Type 0 where
   pub users : (n : ℕ) (c : Connection) → open_in cs n ≡ Some c → 1 ≤ c.user
   pub ready : (n : ℕ) (c : Connection) → open_in cs n ≡ Some c → c.acknowledged ≡ true
-  pub apart : (n m : ℕ) (c d : Connection) → open_in cs n ≡ Some c → open_in cs m ≡ Some d → c.user ≡ d.user → n ≡ m
+  pub apart : (n m : ℕ) (c d : Connection) → open_in cs n ≡ Some c → open_in cs m ≡ Some d
+      → c.user ≡ d.user → n ≡ m
 
 none-open : (n : ℕ) (c : Connection) → open_in [] n ≡ Some c → ⊥
 none-open n c is =
-    let found = number-found [] n c (open-found [] n c is).0 in let no : None ≡ Some c = found.1 in cc
+    let found = number-found [] n c (open-found [] n c is).0 in let no : None
+    ≡ Some c = found.1 in cc
 
 -- where there are no connections
 pub no-people : ArePeople []
@@ -99,7 +117,8 @@ no-people = record {
   apart = λ n m c d is it same. absurd (none-open n c is);
 }
 
-people-fewer : (cs ds : List Connection) → ((n : ℕ) (x : Connection) → open_in ds n ≡ Some x → open_in cs n ≡ Some x)
+people-fewer : (cs ds : List Connection) → ((n : ℕ) (x : Connection) → open_in ds n ≡ Some x
+    → open_in cs n ≡ Some x)
     → ArePeople cs → ArePeople ds
 people-fewer cs ds back h = record {
   users = λ n c is. h.users n c (back n c is);
@@ -108,7 +127,8 @@ people-fewer cs ds back h = record {
 }
 
 -- the last of connections, or another
-open-either : (cs : List Connection) (d : Connection) (n : ℕ) (x : Connection) → open_in (cs ++ d ∷ []) n ≡ Some x
+open-either : (cs : List Connection) (d : Connection) (n : ℕ) (x : Connection)
+    → open_in (cs ++ d ∷ []) n ≡ Some x
     → (open_in cs n ≡ Some x) ⊎ ((n ≡ length cs + 1) × (x ≡ d))
 open-either cs d n x is =
     let h = open-found (cs ++ d ∷ []) n x is in
@@ -118,21 +138,26 @@ open-either cs d n x is =
 
 -- one more, of a user whom no open connection has
 people-more : (cs : List Connection) (d : Connection) → 1 ≤ d.user → d.acknowledged ≡ true
-    → ((n : ℕ) (x : Connection) → open_in cs n ≡ Some x → x.user ≡ d.user → ⊥) → ArePeople cs → ArePeople (cs ++ d ∷ [])
+    → ((n : ℕ) (x : Connection) → open_in cs n ≡ Some x → x.user ≡ d.user → ⊥) → ArePeople cs
+    → ArePeople (cs ++ d ∷ [])
 people-more cs d user ready fresh h = record {
   users = λ n c is.
       ⊎_elim (λ (old : open_in cs n ≡ Some c). h.users n c old)
-      (λ (new : (n ≡ length cs + 1) × (c ≡ d)). subst (λ x. 1 ≤ x.user) (sym new.1) user) (open-either cs d n c is);
+      (λ (new : (n ≡ length cs + 1) × (c ≡ d)). subst (λ x. 1 ≤ x.user) (sym new.1) user)
+      (open-either cs d n c is);
   ready = λ n c is.
       ⊎_elim (λ (old : open_in cs n ≡ Some c). h.ready n c old)
-      (λ (new : (n ≡ length cs + 1) × (c ≡ d)). ap (λ x. x.acknowledged) new.1 ∙ ready) (open-either cs d n c is);
+      (λ (new : (n ≡ length cs + 1) × (c ≡ d)). ap (λ x. x.acknowledged) new.1 ∙ ready)
+      (open-either cs d n c is);
   apart = λ n m c e is it same.
       ⊎_elim (λ (old : open_in cs n ≡ Some c).
       ⊎_elim (λ (older : open_in cs m ≡ Some e). h.apart n m c e old older same)
-      (λ (new : (m ≡ length cs + 1) × (e ≡ d)). absurd (fresh n c old (same ∙ ap (λ x. x.user) new.1)))
+      (λ (new : (m ≡ length cs + 1) × (e ≡ d)). absurd (fresh n c old
+      (same ∙ ap (λ x. x.user) new.1)))
       (open-either cs d m e it))
       (λ (new : (n ≡ length cs + 1) × (c ≡ d)).
-      ⊎_elim (λ (older : open_in cs m ≡ Some e). absurd (fresh m e older (sym same ∙ ap (λ x. x.user) new.1)))
+      ⊎_elim (λ (older : open_in cs m ≡ Some e). absurd (fresh m e older
+      (sym same ∙ ap (λ x. x.user) new.1)))
       (λ (newer : (m ≡ length cs + 1) × (e ≡ d)). new.0 ∙ sym newer.0)
       (open-either cs d m e it))
       (open-either cs d n c is);
@@ -140,13 +165,16 @@ people-more cs d user ready fresh h = record {
 
 -- ---- events
 
--- The users are people after it, these connections stay, and no entry that is placed answers their users.
+-- The users are people after it, these connections stay, and no entry that is placed answers their
+-- users.
 pub record Passes (s : State) (Others : ℕ → Type 0) (t : State) : Type 0 where
   pub people : ArePeople t.connections
   pub more : List Entry
   pub live : t.live ≡ s.live ++ more
-  pub stay : (n : ℕ) (c : Connection) → Others n → open_connection s n ≡ Some c → open_connection t n ≡ Some c
-  pub strange : (n : ℕ) (c : Connection) → Others n → open_connection s n ≡ Some c → NoAnswers c.user more
+  pub stay : (n : ℕ) (c : Connection) → Others n → open_connection s n ≡ Some c
+      → open_connection t n ≡ Some c
+  pub strange : (n : ℕ) (c : Connection) → Others n → open_connection s n ≡ Some c
+      → NoAnswers c.user more
 
 -- all connections, and all but one
 abbrev pub Everyone : ℕ → Type 0
@@ -164,13 +192,15 @@ passes-not s Others h = record {
   strange = λ n c other is. tt;
 }
 
-pub passes-both : (s t u : State) (Others : ℕ → Type 0) → Passes s Others t → Passes t Others u → Passes s Others u
+pub passes-both : (s t u : State) (Others : ℕ → Type 0) → Passes s Others t → Passes t Others u
+    → Passes s Others u
 passes-both s t u Others h k = record {
   people = k.people;
   more = h.more ++ k.more;
   live = k.live ∙ ap (λ live. live ++ k.more) h.live ∙ append_assoc s.live h.more k.more;
   stay = λ n c other is. k.stay n c other (h.stay n c other is);
-  strange = λ n c other is. none-append c.user h.more k.more (h.strange n c other is) (k.strange n c other (h.stay n c other is));
+  strange = λ n c other is. none-append c.user h.more k.more (h.strange n c other is)
+      (k.strange n c other (h.stay n c other is));
 }
 
 -- ---- saying
@@ -181,7 +211,8 @@ IsSaid s user t = (t ≡ s) ⊎ ((m : Msg) × (t ≡ placed s (entry_of user m �
 
 said-judged : (s : State) (user : ℕ) (m : Msg) → IsSaid s user (judged s user m).state
 said-judged s user m =
-    cond_both (permitted s.live user m) (said s user m) (filtered s user m) (λ a. IsSaid s user a.state)
+    cond_both (permitted s.live user m) (said s user m) (filtered s user m)
+    (λ a. IsSaid s user a.state)
     (λ may. inr (m, refl)) (λ no. inr (msg.Meta (meta.Filtered (kind_of m)), refl))
 
 said-said_by : (s : State) (c : Connection) (m : Msg) → IsSaid s c.user (said_by s c m).state
@@ -212,13 +243,16 @@ said-says_by : (s : State) (conn : ℕ) (m : Msg) (c : Connection) → c.acknowl
     → IsSaid s c.user (says_by s conn m c).state
 said-says_by s conn (msg.Control (control.Ping pong)) c ready = inl refl
 said-says_by s conn (msg.Control (control.Disconnect reason)) c ready = inl refl
-said-says_by s conn (msg.Control (control.Ack epoch)) c ready = said-acknowledged s conn c epoch ready
+said-says_by s conn (msg.Control (control.Ack epoch)) c ready = said-acknowledged s conn c epoch
+    ready
 said-says_by s conn m c ready = said-heard s c m
 
-passes-said : (s t : State) (conn : ℕ) (c : Connection) → ArePeople s.connections → open_connection s conn ≡ Some c
+passes-said : (s t : State) (conn : ℕ) (c : Connection) → ArePeople s.connections
+    → open_connection s conn ≡ Some c
     → IsSaid s c.user t → Passes s (NotThis conn) t
 passes-said s t conn c h found is =
-    ⊎_elim (λ (same : t ≡ s). subst (Passes s (NotThis conn)) (sym same) (passes-not s (NotThis conn) h))
+    ⊎_elim (λ (same : t ≡ s). subst (Passes s (NotThis conn)) (sym same)
+    (passes-not s (NotThis conn) h))
     (λ (one : (m : Msg) × (t ≡ placed s (entry_of c.user m ∷ []))).
     subst (Passes s (NotThis conn)) (sym one.1) (record {
       people = h;
@@ -226,13 +260,16 @@ passes-said s t conn c h found is =
       live = refl;
       stay = λ n x other there. there;
       strange = λ n x other there.
-          none-other x.user (entry_of c.user one.0) [] (λ same. other (h.apart n conn x c there found (sym same))) tt;
+          none-other x.user (entry_of c.user one.0) [] (λ same. other
+          (h.apart n conn x c there found (sym same))) tt;
     }))
     is
 
-passes-says : (s : State) (conn : ℕ) (m : Msg) → ArePeople s.connections → Passes s (NotThis conn) (says s conn m).state
+passes-says : (s : State) (conn : ℕ) (m : Msg) → ArePeople s.connections
+    → Passes s (NotThis conn) (says s conn m).state
 passes-says s conn m h =
-    option_both (says_by s conn m) (open_connection s conn) (stays s reply.Ignored) (λ a. Passes s (NotThis conn) a.state)
+    option_both (says_by s conn m) (open_connection s conn) (stays s reply.Ignored)
+    (λ a. Passes s (NotThis conn) a.state)
     (λ c found. passes-said s (says_by s conn m c).state conn c h found
     (said-says_by s conn m c (h.ready conn c found)))
     (λ none. passes-not s (NotThis conn) h)
@@ -247,7 +284,8 @@ pub record Answered (s : State) (user : ℕ) (send : Msg) (t : State) : Type 0 w
   pub may : may_answer answer ≡ true
   pub answers : AnswersTo answer send
 
-may-permitted : (h : List Entry) (user : ℕ) (m : Msg) → permitted h user m ≡ true → may_answer m ≡ true
+may-permitted : (h : List Entry) (user : ℕ) (m : Msg) → permitted h user m ≡ true
+    → may_answer m ≡ true
 may-permitted h user (msg.Meta (meta.Join registered name)) may = cc
 may-permitted h user (msg.Meta meta.Leave) may = cc
 may-permitted h user (msg.Meta (meta.Owners ids)) may = refl
@@ -267,10 +305,19 @@ may-permitted h user (msg.Undo target redo) may = refl
 may-permitted h user (msg.Draw command) may = refl
 may-permitted h user (msg.Opaque kind body) may = refl
 
-answered-judged : (s : State) (user : ℕ) (m : Msg) → 32 ≤ kind_of m → Answered s user m (judged s user m).state
+answered-judged : (s : State) (user : ℕ) (m : Msg) → 32 ≤ kind_of m
+    → Answered s user m (judged s user m).state
 answered-judged s user m high =
-    cond_both (permitted s.live user m) (said s user m) (filtered s user m) (λ a. Answered s user m a.state)
-    (λ may. record { answer = m; connections = refl; live = refl; may = may-permitted s.live user m may; answers = inr refl })
+    cond_both (permitted s.live user m) (said s user m) (filtered s user m)
+    (λ a. Answered s user m a.state)
+    (λ may. record {
+      answer = m;
+      connections = refl;
+      live = refl;
+      may = may-permitted s.live user m
+          may;
+      answers = inr refl;
+    })
     (λ no. record {
       answer = msg.Meta (meta.Filtered (kind_of m));
       connections = refl;
@@ -279,7 +326,8 @@ answered-judged s user m high =
       answers = inl refl;
     })
 
-answered-said_by : (s : State) (c : Connection) (m : Msg) → 32 ≤ kind_of m → Answered s c.user m (said_by s c m).state
+answered-said_by : (s : State) (c : Connection) (m : Msg) → 32 ≤ kind_of m
+    → Answered s c.user m (said_by s c m).state
 answered-said_by s c (msg.Control control.ResetBegin) high = absurd (omega arith)
 answered-said_by s c (msg.Control control.ResetEnd) high = absurd (omega arith)
 answered-said_by s c (msg.Part command) high = absurd (omega arith)
@@ -288,33 +336,40 @@ answered-said_by s c m high = answered-judged s c.user m high
 answered-heard : (s : State) (c : Connection) (m : Msg) → c.acknowledged ≡ true → 32 ≤ kind_of m
     → Answered s c.user m (heard s c m).state
 answered-heard s c m ready high =
-    subst (λ b. Answered s c.user m (if b then said_by s c m else stays s reply.Ignored).state) (sym ready)
+    subst (λ b. Answered s c.user m (if b then said_by s c m else stays s reply.Ignored).state)
+    (sym ready)
     (answered-said_by s c m high)
 
-answered-says_by : (s : State) (conn : ℕ) (m : Msg) (c : Connection) → c.acknowledged ≡ true → 32 ≤ kind_of m
+answered-says_by : (s : State) (conn : ℕ) (m : Msg) (c : Connection) → c.acknowledged ≡ true
+    → 32 ≤ kind_of m
     → Answered s c.user m (says_by s conn m c).state
 answered-says_by s conn (msg.Control (control.Ping pong)) c ready high = absurd (omega arith)
-answered-says_by s conn (msg.Control (control.Disconnect reason)) c ready high = absurd (omega arith)
+answered-says_by s conn (msg.Control (control.Disconnect reason)) c ready high = absurd
+    (omega arith)
 answered-says_by s conn (msg.Control (control.Ack epoch)) c ready high = absurd (omega arith)
 answered-says_by s conn m c ready high = answered-heard s c m ready high
 
 answered-says : (s : State) (conn : ℕ) (m : Msg) (c : Connection) → open_connection s conn ≡ Some c
     → c.acknowledged ≡ true → 32 ≤ kind_of m → Answered s c.user m (says s conn m).state
 answered-says s conn m c found ready high =
-    option_both (says_by s conn m) (open_connection s conn) (stays s reply.Ignored) (λ a. Answered s c.user m a.state)
+    option_both (says_by s conn m) (open_connection s conn) (stays s reply.Ignored)
+    (λ a. Answered s c.user m a.state)
     (λ x is. let e : Some c ≡ Some x = sym found ∙ is in let same : c ≡ x = cc in
-    subst (λ y. Answered s c.user m (says_by s conn m y).state) same (answered-says_by s conn m c ready high))
+    subst (λ y. Answered s c.user m (says_by s conn m y).state) same
+    (answered-says_by s conn m c ready high))
     (λ none. let e : None ≡ Some c = sym none ∙ found in cc)
 
 -- ---- closing
 
-none-owner : (user : ℕ) (b : Bool) (o : Option ℕ) → 1 ≤ user → NoAnswers user (if b then next_owner o else [])
+none-owner : (user : ℕ) (b : Bool) (o : Option ℕ) → 1 ≤ user
+    → NoAnswers user (if b then next_owner o else [])
 none-owner user true None above = tt
 none-owner user true (Some owner) above =
     none-other user (server_entry (meta.Owners (owner ∷ []))) [] (λ same. omega arith) tt
 none-owner user false o above = tt
 
-passes-closed_by : (s : State) (conn : ℕ) (c : Connection) → ArePeople s.connections → open_connection s conn ≡ Some c
+passes-closed_by : (s : State) (conn : ℕ) (c : Connection) → ArePeople s.connections
+    → open_connection s conn ≡ Some c
     → Passes s (NotThis conn) (closed_by s conn c).state
 passes-closed_by s conn c h found =
     let gone = left s conn c in
@@ -334,33 +389,40 @@ passes-closed_by s conn c h found =
           (find (is_present gone) user_ids) (h.users n x is));
     }
 
-passes-closed : (s : State) (conn : ℕ) → ArePeople s.connections → Passes s (NotThis conn) (closed s conn).state
+passes-closed : (s : State) (conn : ℕ) → ArePeople s.connections
+    → Passes s (NotThis conn) (closed s conn).state
 passes-closed s conn h =
-    option_both (closed_by s conn) (open_connection s conn) (stays s reply.Ignored) (λ a. Passes s (NotThis conn) a.state)
+    option_both (closed_by s conn) (open_connection s conn) (stays s reply.Ignored)
+    (λ a. Passes s (NotThis conn) a.state)
     (λ c found. passes-closed_by s conn c h found) (λ none. passes-not s (NotThis conn) h)
 
 -- ---- opening
 
 -- what is found among numbers is among them, and passes
-find-passes : (p : ℕ → Bool) (low n k : ℕ) → find p (range_with_len low n) ≡ Some k → (low ≤ k) × (p k ≡ true)
+find-passes : (p : ℕ → Bool) (low n k : ℕ) → find p (range_with_len low n) ≡ Some k
+    → (low ≤ k) × (p k ≡ true)
 find-passes p low zero k found = cc
 find-passes p low (suc n) k found =
     ⊎_elim (λ (here : p low ≡ true).
-    let e : Some low ≡ Some k = sym (ap (λ b. cond b (Some low) (find p (range_with_len (low + 1) n))) here) ∙ found in
+    let e : Some low ≡ Some k = sym (ap (λ b. cond b (Some low)
+    (find p (range_with_len (low + 1) n))) here) ∙ found in
     let same : low ≡ k = cc in
     (omega arith, ap p (sym same) ∙ here))
     (λ (other : p low ≡ false).
-    let h = find-passes p (low + 1) n k (sym (ap (λ b. cond b (Some low) (find p (range_with_len (low + 1) n))) other) ∙ found) in
+    let h = find-passes p (low + 1) n k (sym (ap (λ b. cond b (Some low)
+    (find p (range_with_len (low + 1) n))) other) ∙ found) in
     (omega (arith, h.0), h.1))
     (cases_Bool (p low))
 
 free-id : (s : State) (user : ℕ) → free_id s ≡ Some user → (1 ≤ user) × (is_present s user ≡ false)
 unfolding user_ids
 free-id s user is =
-    let h = find-passes (λ k. not (is_present s k)) 1 254 user is in (h.0, not-true (is_present s user) h.1)
+    let h = find-passes (λ k. not (is_present s k)) 1 254 user is in
+    (h.0, not-true (is_present s user) h.1)
 
 -- none of the items at numbers passes where none does
-none-at : (p : Connection → Bool) (cs : List Connection) (i : ℕ) (x : Connection) → list_any p cs ≡ false
+none-at : (p : Connection → Bool) (cs : List Connection) (i : ℕ) (x : Connection)
+    → list_any p cs ≡ false
     → slice_get cs i ≡ Some x → p x ≡ false
 none-at p [] i x none is = cc
 none-at p (c ∷ cs) zero x none is =
@@ -375,9 +437,11 @@ fresh-id s user none n x is same =
     let at = number-found s.connections n x h.0 in
     let no : (is_open x && x.user == user) ≡ false =
     none-at (λ c. is_open c && c.user == user) s.connections (n - 1) x none at.1 in
-    let e : true ≡ false = sym (ap (λ b. b && x.user == user) h.1 ∙ eq-eqb x.user user same) ∙ no in cc
+    let e : true ≡ false = sym (ap (λ b. b && x.user == user) h.1 ∙ eq-eqb x.user user same)
+    ∙ no in cc
 
--- what the answer to an Open tells: its connection is open and of the user, and no answer of the user's
+-- what the answer to an Open tells: its connection is open and of the user, and no answer of the
+-- user's
 -- stands after the place of the Join
 abbrev pub Tells : State → State → Reply → Type 0
 Tells s t (reply.Opened conn user epoch at) =
@@ -392,13 +456,15 @@ pub record Opens (s : State) (r : Reply) (t : State) : Type 0 where
 opens-not : (s : State) (r : Reply) → ArePeople s.connections → Tells s s r → Opens s r s
 opens-not s r h tells = record { passes = passes-not s Everyone h; tells = tells }
 
-none-join : (user : ℕ) (b : Bool) (join owner : Entry) → may_answer join.msg ≡ false → (owner.user ≡ user → ⊥)
+none-join : (user : ℕ) (b : Bool) (join owner : Entry) → may_answer join.msg ≡ false
+    → (owner.user ≡ user → ⊥)
     → NoAnswers user (join ∷ (if b then [] else owner ∷ []))
 none-join user true join owner mute other = none-mute user join [] mute tt
 none-join user false join owner mute other =
     none-mute user join (owner ∷ []) mute (none-other user owner [] other tt)
 
-opens-as : (s : State) (registered : Bool) (name : List ℕ) (o : Option ℕ) → free_id s ≡ o → ArePeople s.connections
+opens-as : (s : State) (registered : Bool) (name : List ℕ) (o : Option ℕ) → free_id s ≡ o
+    → ArePeople s.connections
     → Opens s (opened_as s registered name o).reply (opened_as s registered name o).state
 opens-as s registered name None is h = opens-not s reply.Full h tt
 opens-as s registered name (Some user) is h =
@@ -406,16 +472,19 @@ opens-as s registered name (Some user) is h =
     let more = join_entries s user registered name in
     let d = new_connection s user in
     let strange : (k : ℕ) → 1 ≤ k → NoAnswers k more =
-    λ k above. none-join k (list_any (is_present s) user_ids) (entry_of user (msg.Meta (meta.Join registered name)))
+    λ k above. none-join k (list_any (is_present s) user_ids)
+    (entry_of user (msg.Meta (meta.Join registered name)))
     (server_entry (meta.Owners (user ∷ []))) refl (λ same. omega arith) in
-    let at_end : numbered (s.connections ++ d ∷ []) (length s.connections + 1) ≡ Some d = numbered-new s.connections d in
+    let at_end : numbered (s.connections ++ d ∷ []) (length s.connections + 1)
+    ≡ Some d = numbered-new s.connections d in
     record {
       passes = record {
         people = people-more s.connections d free.0 refl (fresh-id s user free.1) h;
         more = more;
         live = refl;
         stay = λ n c other is. let f = open-found s.connections n c is in
-            open-from (s.connections ++ d ∷ []) n c (numbered-old s.connections (d ∷ []) n c f.0) f.1;
+            open-from (s.connections ++ d ∷ []) n c (numbered-old s.connections (d ∷ []) n c f.0)
+            f.1;
         strange = λ n c other is. strange c.user (h.users n c is);
       };
       tells = (
@@ -442,7 +511,8 @@ opens-opened s name registered h =
 
 -- the laws of sessions and of messages that are used
 pub record Leading : Type 0 where
-  pub on_kept : (past : Past) (e : Event) → ShutBefore past → state_of (kept past e) ≡ after_event (state_of past) e
+  pub on_kept : (past : Past) (e : Event) → ShutBefore past
+      → state_of (kept past e) ≡ after_event (state_of past) e
   pub before : (past : Past) (e : Event) → ShutBefore past → ShutBefore (sure_step past e)
   pub same : (m : Msg) → same_message m m ≡ true
 
@@ -460,41 +530,59 @@ step-room past e goes = by_room (has_room past.journal e) refl
 step-kept : Leading → (past : Past) (e : Event) → ShutBefore past → NotEnded past e
     → state_of (sure_step past e) ≡ after_event (state_of past) e
 step-kept laws past e before goes =
-    ap (λ b. state_of (if b then kept past e else refused past e)) (step-room past e goes) ∙ laws.on_kept past e before
+    ap (λ b. state_of (if b then kept past e else refused past e)) (step-room past e goes)
+    ∙ laws.on_kept past e before
 
-passes-step : Leading → (past : Past) (e : Event) (Others : ℕ → Type 0) → ShutBefore past → NotEnded past e
-    → Passes (state_of past) Others (acted (state_of past) e).state → Passes (state_of past) Others (state_of (sure_step past e))
+passes-step : Leading → (past : Past) (e : Event) (Others : ℕ → Type 0) → ShutBefore past
+    → NotEnded past e
+    → Passes (state_of past) Others (acted (state_of past) e).state
+    → Passes (state_of past) Others (state_of (sure_step past e))
 passes-step laws past e Others before goes h =
     subst (Passes (state_of past) Others) (sym (step-kept laws past e before goes))
     (record { people = h.people; more = h.more; live = h.live; stay = h.stay; strange = h.strange })
 
-pub passes-say : Leading → (past : Past) (conn : ℕ) (m : Msg) → ShutBefore past → NotEnded past (event.Say conn m)
+pub passes-say : Leading → (past : Past) (conn : ℕ) (m : Msg) → ShutBefore past
+    → NotEnded past (event.Say conn m)
     → ArePeople (state_of past).connections
     → Passes (state_of past) (NotThis conn) (state_of (sure_step past (event.Say conn m)))
 passes-say laws past conn m before goes h =
-    passes-step laws past (event.Say conn m) (NotThis conn) before goes (passes-says (state_of past) conn m h)
+    passes-step laws past (event.Say conn m) (NotThis conn) before goes
+    (passes-says (state_of past) conn m h)
 
-pub passes-close : Leading → (past : Past) (conn : ℕ) → ShutBefore past → NotEnded past (event.Close conn)
+pub passes-close : Leading → (past : Past) (conn : ℕ) → ShutBefore past
+    → NotEnded past (event.Close conn)
     → ArePeople (state_of past).connections
     → Passes (state_of past) (NotThis conn) (state_of (sure_step past (event.Close conn)))
 passes-close laws past conn before goes h =
-    passes-step laws past (event.Close conn) (NotThis conn) before goes (passes-closed (state_of past) conn h)
+    passes-step laws past (event.Close conn) (NotThis conn) before goes
+    (passes-closed (state_of past) conn h)
 
 pub answered-say : Leading → (past : Past) (conn : ℕ) (m : Msg) (c : Connection) → ShutBefore past
-    → NotEnded past (event.Say conn m) → open_connection (state_of past) conn ≡ Some c → c.acknowledged ≡ true → 32 ≤ kind_of m
+    → NotEnded past (event.Say conn m) → open_connection (state_of past) conn ≡ Some c
+    → c.acknowledged ≡ true → 32 ≤ kind_of m
     → Answered (state_of past) c.user m (state_of (sure_step past (event.Say conn m)))
 answered-say laws past conn m c before goes found ready high =
     let h = answered-says (state_of past) conn m c found ready high in
-    subst (Answered (state_of past) c.user m) (sym (step-kept laws past (event.Say conn m) before goes))
-    (record { answer = h.answer; connections = h.connections; live = h.live; may = h.may; answers = h.answers })
+    subst (Answered (state_of past) c.user m) (sym (step-kept laws past (event.Say conn m) before
+    goes))
+    (record {
+      answer = h.answer;
+      connections = h.connections;
+      live = h.live;
+      may = h.may;
+      answers =
+          h.answers;
+    })
 
-tells-answered : (s t : State) (r : Reply) (answers : List Reply) → Tells s t r → Tells s (record t { answers = answers }) r
+tells-answered : (s t : State) (r : Reply) (answers : List Reply) → Tells s t r
+    → Tells s (record t { answers = answers }) r
 tells-answered s t (reply.Opened conn user epoch at) answers h = h
 tells-answered s t r answers h = tt
 
 pub opens-open : Leading → (past : Past) (name : List ℕ) (registered : Bool) → ShutBefore past
     → NotEnded past (event.Open name registered) → ArePeople (state_of past).connections
-    → Opens (state_of past) (sure_answer past (event.Open name registered)) (state_of (sure_step past (event.Open name registered)))
+    → Opens (state_of past) (sure_answer past (event.Open name registered))
+    (state_of (sure_step past (event.Open name registered)))
 opens-open laws past name registered before goes h =
     let e = event.Open name registered in
     let s = state_of past in
@@ -511,5 +599,6 @@ opens-open laws past name registered before goes h =
         stay = o.passes.stay;
         strange = o.passes.strange;
       };
-      tells = tells-answered s (acted s e).state (answer_to past e) (s.answers ++ (acted s e).reply ∷ []) o.tells;
+      tells = tells-answered s (acted s e).state (answer_to past e)
+          (s.answers ++ (acted s e).reply ∷ []) o.tells;
     }))

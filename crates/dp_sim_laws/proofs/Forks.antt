@@ -26,24 +26,32 @@ use Rattle.dp_schedule.specs.declared.action.Instruction.TheVariants.{Take}
 use Rattle.dp_schedule.specs.declared.action.Action.{Action}
 use Rattle.dp_schedule.specs.declared.action.Action.TheVariants.{Join, Act, Show}
 use Rattle.dp_sim.specs.Exchanges.{Participant, Exchange, is_gone, exchanged, next_entry}
-use Rattle.dp_sim.specs.World.{World, participant_of, new_participant, with_joined, joined, with_exchange, acted, after, first_world, world_after}
+use Rattle.dp_sim.specs.World.{World, participant_of, new_participant, with_joined, joined}
+use Rattle.dp_sim.specs.World.{with_exchange, acted, after, first_world, world_after}
 use Rattle.dp_sim.specs.Report.{along}
 use Rattle.dp_sim.specs.Invariant.{IsWorld, IsParticipant, IsSayable}
-use Rattle.dp_sim_laws.specs.OwnSteps.{turn_of, next_of, steps_of_turn, own_step, own_steps, welcome_of, GoesBy}
-use Rattle.dp_sim_laws.specs.Tally.{Tally, no_sends, tally_step, tally_from, tally_of, turn_replies, replies, SaysNoControl, IsUnended}
-use Rattle.dp_sim_laws.proofs.Lists.{at_some, if_some, numbered, number-found, numbered-other, numbered-same}
+use Rattle.dp_sim_laws.specs.OwnSteps.{turn_of, next_of, steps_of_turn, own_step, own_steps}
+use Rattle.dp_sim_laws.specs.OwnSteps.{welcome_of, GoesBy}
+use Rattle.dp_sim_laws.specs.Tally.{Tally, no_sends, tally_step, tally_from, tally_of, turn_replies}
+use Rattle.dp_sim_laws.specs.Tally.{replies, SaysNoControl, IsUnended}
+use Rattle.dp_sim_laws.proofs.Lists.{at_some, if_some, numbered, number-found, numbered-other}
+use Rattle.dp_sim_laws.proofs.Lists.{numbered-same}
 use Rattle.dp_sim_laws.proofs.Lists.{numbered-either, numbered-past}
-use Rattle.dp_sim_laws.proofs.Steps.{none-if, Goes, goes-after, goes-first, welcome-steps, exchange-steps}
+use Rattle.dp_sim_laws.proofs.Steps.{none-if, Goes, goes-after, goes-first, welcome-steps}
+use Rattle.dp_sim_laws.proofs.Steps.{exchange-steps}
 use Rattle.dp_sim_laws.proofs.Answering.{answers_from, Answer}
-use Rattle.dp_sim_laws.proofs.Events.{ArePeople, no-people, Everyone, NotThis, Passes, Opens, Leading, opens-open}
-use Rattle.dp_sim_laws.proofs.Clients.{NeverEnds, Holds, holds-passes, exchange-passes, holds-exchanged, not-gone, next-is, next-kept}
+use Rattle.dp_sim_laws.proofs.Events.{ArePeople, no-people, Everyone, NotThis, Passes, Opens}
+use Rattle.dp_sim_laws.proofs.Events.{Leading, opens-open}
+use Rattle.dp_sim_laws.proofs.Clients.{NeverEnds, Holds, holds-passes, exchange-passes}
+use Rattle.dp_sim_laws.proofs.Clients.{holds-exchanged, not-gone, next-is, next-kept}
 
 -- ---- tallies
 
 tally-append : (c : client.State) (t : Tally) (steps more : List Step)
     → tally_from c t (steps ++ more) ≡ tally_from (after_steps c steps) (tally_from c t steps) more
 tally-append c t [] more = refl
-tally-append c t (step ∷ steps) more = tally-append (after_step c step) (tally_step c t step) steps more
+tally-append c t (step ∷ steps) more = tally-append (after_step c step) (tally_step c t step) steps
+    more
 
 -- the tally of a client after more steps
 tally-more : (c d : client.State) (steps more : List Step) → GoesBy c steps → d ≡ after_steps c more
@@ -61,18 +69,21 @@ pub record Good (w : World) (number : ℕ) (steps : List Step) : Type 0 where
   pub world : IsWorld w
   pub people : ArePeople (state_of w.past).connections
   pub goes : Goes w number steps
-  pub holds : (p : Participant) → participant_of w number ≡ Some p → Holds (state_of w.past) number p (tally_of p.state steps)
+  pub holds : (p : Participant) → participant_of w number ≡ Some p
+      → Holds (state_of w.past) number p (tally_of p.state steps)
 
 -- an action leaves this of it
 record Leaves (v : World) (number : ℕ) (steps : List Step) : Type 0 where
   pub people : ArePeople (state_of v.past).connections
-  pub holds : (p : Participant) → participant_of v number ≡ Some p → Holds (state_of v.past) number p (tally_of p.state steps)
+  pub holds : (p : Participant) → participant_of v number ≡ Some p
+      → Holds (state_of v.past) number p (tally_of p.state steps)
 
 -- ---- joining
 
 -- a client that was just welcomed
 holds-new : (past : Past) (number conn user epoch at : ℕ) (c : Connection)
-    → open_connection (state_of past) conn ≡ Some c → c.user ≡ user → at < length (state_of past).live
+    → open_connection (state_of past) conn ≡ Some c → c.user ≡ user
+    → at < length (state_of past).live
     → answers_from user at 0 (state_of past).live ≡ [] → conn ≡ number
     → Holds (state_of past) number (new_participant conn user epoch at) no_sends
 holds-new past number conn user epoch at c found same behind none is = record {
@@ -93,15 +104,20 @@ holds-new past number conn user epoch at c found same behind none is = record {
   };
 }
 
-holds-joined : (w : World) (past : Past) (r : Reply) (number : ℕ) (steps : List Step) → Good w number steps
-    → Opens (state_of w.past) r (state_of past) → IsWorld (record { past = past; participants = with_joined w.participants r })
-    → (p : Participant) → numbered (with_joined w.participants r) number ≡ Some p → Holds (state_of past) number p (tally_of p.state steps)
+holds-joined : (w : World) (past : Past) (r : Reply) (number : ℕ) (steps : List Step)
+    → Good w number steps
+    → Opens (state_of w.past) r (state_of past) → IsWorld
+    (record { past = past; participants = with_joined w.participants r })
+    → (p : Participant) → numbered (with_joined w.participants r) number ≡ Some p
+    → Holds (state_of past) number p (tally_of p.state steps)
 holds-joined w past (reply.Opened conn user epoch at) number steps h opens world p is =
     ⊎_elim (λ (old : numbered w.participants number ≡ Some p).
-    holds-passes (state_of w.past) (state_of past) Everyone number p (tally_of p.state steps) opens.passes tt (h.holds p old))
+    holds-passes (state_of w.past) (state_of past) Everyone number p (tally_of p.state steps)
+    opens.passes tt (h.holds p old))
     (λ (new : (number ≡ length w.participants + 1) × (p ≡ new_participant conn user epoch at)).
     let none : steps ≡ [] = h.goes.none (numbered-past w.participants number new.0) in
-    let hp = at_some (numbered (w.participants ++ new_participant conn user epoch at ∷ []) number) (IsParticipant (state_of past) number) p
+    let hp = at_some (numbered (w.participants ++ new_participant conn user epoch at ∷ []) number)
+    (IsParticipant (state_of past) number) p
     (world.participants number) is in
     let same : conn ≡ number = ap (λ q. q.conn) (sym new.1) ∙ hp.conn in
     let t = opens.tells in
@@ -110,9 +126,11 @@ holds-joined w past (reply.Opened conn user epoch at) number steps h opens world
     (holds-new past number conn user epoch at t.0 t.1 t.2 t.3 t.4 same)))
     (numbered-either w.participants (new_participant conn user epoch at) number p is)
 holds-joined w past r number steps h opens world p is =
-    holds-passes (state_of w.past) (state_of past) Everyone number p (tally_of p.state steps) opens.passes tt (h.holds p is)
+    holds-passes (state_of w.past) (state_of past) Everyone number p (tally_of p.state steps)
+    opens.passes tt (h.holds p is)
 
-leaves-joined : Leading → (w : World) (number : ℕ) (registered : Bool) (name : List ℕ) (steps : List Step) → Good w number steps
+leaves-joined : Leading → (w : World) (number : ℕ) (registered : Bool) (name : List ℕ)
+    (steps : List Step) → Good w number steps
     → IsWorld (joined w registered name) → NeverEnds (replies w (Join name registered))
     → Leaves (joined w registered name) number steps
 leaves-joined laws w number registered name steps h world goes =
@@ -126,71 +144,105 @@ leaves-joined laws w number registered name steps h world goes =
 -- ---- acting
 
 -- the exchange of a client of another number
-holds-other : (w : World) (number actor : ℕ) (participant : Participant) (t : Exchange) (steps : List Step) → Good w number steps
-    → participant_of w actor ≡ Some participant → Passes (state_of w.past) (NotThis participant.conn) (state_of t.past) → (number ≡ actor → ⊥)
-    → (p : Participant) → participant_of (with_exchange w actor t) number ≡ Some p → Holds (state_of t.past) number p (tally_of p.state steps)
+holds-other : (w : World) (number actor : ℕ) (participant : Participant) (t : Exchange)
+    (steps : List Step) → Good w number steps
+    → participant_of w actor ≡ Some participant → Passes (state_of w.past)
+    (NotThis participant.conn) (state_of t.past) → (number ≡ actor → ⊥)
+    → (p : Participant) → participant_of (with_exchange w actor t) number ≡ Some p
+    → Holds (state_of t.past) number p (tally_of p.state steps)
 holds-other w number actor participant t steps h found passes ne p is =
     let above = number-found w.participants actor participant found in
-    let before : participant_of w number ≡ Some p = sym (numbered-other w.participants actor number t.participant above.0 ne) ∙ is in
-    let hp = at_some (participant_of w actor) (IsParticipant (state_of w.past) actor) participant (h.world.participants actor) found in
-    holds-passes (state_of w.past) (state_of t.past) (NotThis participant.conn) number p (tally_of p.state steps) passes
+    let before : participant_of w number ≡ Some p = sym (numbered-other w.participants actor number
+    t.participant above.0 ne) ∙ is in
+    let hp = at_some (participant_of w actor) (IsParticipant (state_of w.past) actor) participant
+    (h.world.participants actor) found in
+    holds-passes (state_of w.past) (state_of t.past) (NotThis participant.conn) number p
+    (tally_of p.state steps) passes
     (λ same. ne (same ∙ hp.conn)) (h.holds p before)
 
 -- and of the client itself
-holds-own : Leading → (w : World) (number : ℕ) (participant : Participant) (instruction : Instruction) (steps : List Step) → Good w number steps
-    → participant_of w number ≡ Some participant → IsSayable instruction → NeverEnds (turn_replies (turn_of w participant) instruction)
-    → (p : Participant) → participant_of (with_exchange w number (exchanged (turn_of w participant) instruction)) number ≡ Some p
+holds-own : Leading → (w : World) (number : ℕ) (participant : Participant)
+    (instruction : Instruction) (steps : List Step) → Good w number steps
+    → participant_of w number ≡ Some participant → IsSayable instruction
+    → NeverEnds (turn_replies (turn_of w participant) instruction)
+    → (p : Participant) → participant_of (with_exchange w number
+    (exchanged (turn_of w participant) instruction)) number ≡ Some p
     → Holds (state_of (exchanged (turn_of w participant) instruction).past) number p
     (tally_of p.state (steps ++ steps_of_turn (turn_of w participant) instruction))
 holds-own laws w number participant instruction steps h found may goes p is =
     let t = exchanged (turn_of w participant) instruction in
     let more = steps_of_turn (turn_of w participant) instruction in
-    let hp = at_some (participant_of w number) (IsParticipant (state_of w.past) number) participant (h.world.participants number) found in
-    let e : Some t.participant ≡ Some p = sym (numbered-same w.participants number participant t.participant found) ∙ is in
+    let hp = at_some (participant_of w number) (IsParticipant (state_of w.past) number) participant
+    (h.world.participants number) found in
+    let e : Some t.participant ≡ Some p = sym (numbered-same w.participants number participant
+    t.participant found) ∙ is in
     let same : t.participant ≡ p = cc in
-    let tally = tally-more participant.state t.participant.state steps more (h.goes.some participant found) (exchange-steps (turn_of w participant) instruction) in
+    let tally = tally-more participant.state t.participant.state steps more
+    (h.goes.some participant found) (exchange-steps (turn_of w participant) instruction) in
     subst (λ q. Holds (state_of t.past) number q (tally_of q.state (steps ++ more))) same
     (subst (Holds (state_of t.past) number t.participant) (sym tally)
-    (holds-exchanged laws number (turn_of w participant) instruction (tally_of participant.state steps) h.world.before h.people h.world.history
+    (holds-exchanged laws number (turn_of w participant) instruction
+    (tally_of participant.state steps) h.world.before h.people h.world.history
     h.world.ended hp may goes (h.holds participant found)))
 
-leaves-acted : Leading → (w : World) (number actor : ℕ) (instruction : Instruction) (steps : List Step) → Good w number steps
+leaves-acted : Leading → (w : World) (number actor : ℕ) (instruction : Instruction)
+    (steps : List Step) → Good w number steps
     → IsSayable instruction → NeverEnds (replies w (Act actor instruction))
     → Leaves (acted w actor instruction) number (steps ++ own_step number w (Act actor instruction))
-leaves-acted laws w number actor instruction steps h may goes = by_peer (participant_of w actor) refl goes
+leaves-acted laws w number actor instruction steps h may goes = by_peer (participant_of w actor)
+    refl goes
   where
     by_peer : (o : Option Participant) → participant_of w actor ≡ o
-        → NeverEnds (option_map_or (λ participant. turn_replies (turn_of w participant) instruction) o [])
-        → Leaves (option_map_or (λ participant. with_exchange w actor (exchanged (turn_of w participant) instruction)) o w) number
-        (steps ++ (if actor == number then option_map_or (λ participant. steps_of_turn (turn_of w participant) instruction) o [] else []))
+        → NeverEnds (option_map_or (λ participant. turn_replies (turn_of w participant) instruction)
+        o [])
+        → Leaves (option_map_or (λ participant. with_exchange w actor
+        (exchanged (turn_of w participant) instruction)) o w) number
+        (steps ++ (if actor == number then option_map_or
+        (λ participant. steps_of_turn (turn_of w participant) instruction) o [] else []))
     by_peer None found goes =
-        subst (Leaves w number) (sym (ap (λ more. steps ++ more) (none-if (actor == number) [] refl) ∙ append-nil steps))
+        subst (Leaves w number) (sym (ap (λ more. steps ++ more) (none-if (actor == number) [] refl)
+        ∙ append-nil steps))
         (record { people = h.people; holds = h.holds })
     by_peer (Some participant) found goes =
         let t = exchanged (turn_of w participant) instruction in
-        let passes = exchange-passes laws (turn_of w participant) instruction h.world.before h.people goes in
+        let passes = exchange-passes laws (turn_of w participant) instruction h.world.before
+        h.people goes in
         ⊎_elim (λ (same : number ≡ actor).
-        let there : participant_of w number ≡ Some participant = ap (participant_of w) same ∙ found in
-        subst (λ b. Leaves (with_exchange w actor t) number (steps ++ (if b then steps_of_turn (turn_of w participant) instruction else [])))
+        let there : participant_of w number ≡ Some participant = ap (participant_of w) same
+        ∙ found in
+        subst (λ b. Leaves (with_exchange w actor t) number
+        (steps ++ (if b then steps_of_turn (turn_of w participant) instruction else [])))
         (sym (eq-eqb actor number (sym same)))
-        (subst (λ n. Leaves (with_exchange w n t) number (steps ++ steps_of_turn (turn_of w participant) instruction)) same
-        (record { people = passes.people; holds = holds-own laws w number participant instruction steps h there may goes })))
+        (subst (λ n. Leaves (with_exchange w n t) number
+        (steps ++ steps_of_turn (turn_of w participant) instruction)) same
+        (record {
+          people = passes.people;
+          holds = holds-own laws w number participant instruction
+              steps h there may goes;
+        })))
         (λ (ne : number ≡ actor → ⊥).
-        subst (λ b. Leaves (with_exchange w actor t) number (steps ++ (if b then steps_of_turn (turn_of w participant) instruction else [])))
+        subst (λ b. Leaves (with_exchange w actor t) number
+        (steps ++ (if b then steps_of_turn (turn_of w participant) instruction else [])))
         (sym (ne_eqb actor number (λ e. ne (sym e))))
         (subst (Leaves (with_exchange w actor t) number) (sym (append-nil steps))
-        (record { people = passes.people; holds = holds-other w number actor participant t steps h found passes ne })))
+        (record {
+          people = passes.people;
+          holds = holds-other w number actor participant t steps h
+              found passes ne;
+        })))
         (cases_eq number actor)
 
 -- ---- schedules
 
-leaves-after : Leading → (w : World) (number : ℕ) (action : Action) (steps : List Step) → Good w number steps
+leaves-after : Leading → (w : World) (number : ℕ) (action : Action) (steps : List Step)
+    → Good w number steps
     → IsWorld (after w action) → SaysNoControl action → NeverEnds (replies w action)
     → Leaves (after w action) number (steps ++ own_step number w action)
 leaves-after laws w number (Join name registered) steps h world may goes =
     subst (Leaves (joined w registered name) number) (sym (append-nil steps))
     (leaves-joined laws w number registered name steps h world goes)
-leaves-after laws w number (Act actor instruction) steps h world may goes = leaves-acted laws w number actor instruction steps h may goes
+leaves-after laws w number (Act actor instruction) steps h world may goes = leaves-acted laws w
+    number actor instruction steps h may goes
 leaves-after laws w number (Show actor kind) steps h world may goes =
     subst (Leaves w number) (sym (append-nil steps)) (record { people = h.people; holds = h.holds })
 
@@ -200,7 +252,8 @@ pub record Staying : Type 0 where
   pub first : IsWorld first_world
   pub stays : (w : World) (action : Action) → IsWorld w → IsWorld (after w action)
 
-pub staying : ((past : Past) (e : Event) → ShutBefore past → state_of (kept past e) ≡ after_event (state_of past) e)
+pub staying : ((past : Past) (e : Event) → ShutBefore past
+    → state_of (kept past e) ≡ after_event (state_of past) e)
     → ((past : Past) (e : Event) → ShutBefore past → ShutBefore (sure_step past e))
     → ((m n : Msg) → IsTrue (same_message m n) ↔ (m ≡ n)) → IsWorld first_world
     → ((w : World) (action : Action) → IsWorld w → IsWorld (after w action)) → Staying
@@ -210,8 +263,10 @@ staying on_kept before equality first stays = record {
   stays = stays;
 }
 
-good-after : Staying → (w : World) (number : ℕ) (action : Action) (steps : List Step) → Good w number steps
-    → SaysNoControl action → NeverEnds (replies w action) → Good (after w action) number (steps ++ own_step number w action)
+good-after : Staying → (w : World) (number : ℕ) (action : Action) (steps : List Step)
+    → Good w number steps
+    → SaysNoControl action → NeverEnds (replies w action)
+    → Good (after w action) number (steps ++ own_step number w action)
 good-after laws w number action steps h may goes =
     let world = laws.stays w action h.world in
     let leaves = leaves-after laws.leading w number action steps h world may goes in
@@ -226,19 +281,22 @@ ends-split : (xs ys : List Reply) → NeverEnds (xs ++ ys) → NeverEnds xs × N
 ends-split [] ys h = (tt, h)
 ends-split (x ∷ xs) ys h = let s = ends-split xs ys h.1 in ((h.0, s.0), s.1)
 
-good-along : Staying → (w : World) (number : ℕ) (actions : List Action) (steps : List Step) → Good w number steps
+good-along : Staying → (w : World) (number : ℕ) (actions : List Action) (steps : List Step)
+    → Good w number steps
     → AllByRecursion SaysNoControl actions → NeverEnds (along replies w actions)
     → Good (fold after w actions) number (steps ++ along (own_step number) w actions)
 good-along laws w number [] steps h may goes = subst (Good w number) (sym (append-nil steps)) h
 good-along laws w number (action ∷ actions) steps h may goes =
     let two = ends-split (replies w action) (along replies (after w action) actions) goes in
     subst (Good (fold after w (action ∷ actions)) number)
-    (append_assoc steps (own_step number w action) (along (own_step number) (after w action) actions))
+    (append_assoc steps (own_step number w action) (along (own_step number) (after w action)
+    actions))
     (good-along laws (after w action) number actions (steps ++ own_step number w action)
     (good-after laws w number action steps h may.0 two.0) may.1 two.1)
 
 none-first : {X : Type 0} (number : ℕ) (x : X) → numbered [] number ≡ Some x → ⊥
-none-first number x is = let found = number-found [] number x is in let no : None ≡ Some x = found.1 in cc
+none-first number x is = let found = number-found [] number x is in let no : None
+    ≡ Some x = found.1 in cc
 
 good-first : Staying → (number : ℕ) → Good first_world number []
 good-first laws number = record {
@@ -253,26 +311,31 @@ good : Staying → (actions : List Action) (number : ℕ) → IsUnended actions
 good laws actions number h =
     good-along laws first_world number actions [] (good-first laws number)
     (recursion_from_All SaysNoControl actions h.said)
-    (recursion_from_All (λ answer. answer ≡ reply.Ended → ⊥) (along replies first_world actions) h.replies)
+    (recursion_from_All (λ answer. answer ≡ reply.Ended → ⊥) (along replies first_world actions)
+    h.replies)
 
 -- ---- the laws
 
 pub few-answers : Staying → (actions : List Action) (number : ℕ) → IsUnended actions
     → IfSome (participant_of (world_after actions) number) (λ participant.
-    (tally_of participant.state (own_steps number actions)).answers ≤ length (tally_of participant.state (own_steps number actions)).sends)
+    (tally_of participant.state (own_steps number actions)).answers
+    ≤ length (tally_of participant.state (own_steps number actions)).sends)
 few-answers laws actions number h =
     let g = good laws actions number h in
     if_some (participant_of (world_after actions) number) (λ participant.
-    (tally_of participant.state (own_steps number actions)).answers ≤ length (tally_of participant.state (own_steps number actions)).sends)
+    (tally_of participant.state (own_steps number actions)).answers
+    ≤ length (tally_of participant.state (own_steps number actions)).sends)
     (λ p is. (g.holds p is).few)
 
 pub fork-plain : Staying → (actions : List Action) (number : ℕ) → IsUnended actions
     → IfSome (participant_of (world_after actions) number) (λ participant. participant.state.fork
-    ≡ drop (tally_of participant.state (own_steps number actions)).answers (tally_of participant.state (own_steps number actions)).sends)
+    ≡ drop (tally_of participant.state (own_steps number actions)).answers
+    (tally_of participant.state (own_steps number actions)).sends)
 fork-plain laws actions number h =
     let g = good laws actions number h in
     if_some (participant_of (world_after actions) number) (λ participant. participant.state.fork
-    ≡ drop (tally_of participant.state (own_steps number actions)).answers (tally_of participant.state (own_steps number actions)).sends)
+    ≡ drop (tally_of participant.state (own_steps number actions)).answers
+    (tally_of participant.state (own_steps number actions)).sends)
     (λ p is. (g.holds p is).fork)
 
 next-some : (w : World) (p : Participant) (entry : Entry) → next_of w p ≡ Some entry
@@ -286,14 +349,18 @@ next-some w p entry = by_gone (is_gone p.link Take)
 
 pub fork-kept : Staying → (actions : List Action) (number : ℕ) → IsUnended actions
     → IfSome (participant_of (world_after actions) number) (λ participant.
-    IfSome (next_of (world_after actions) participant) (λ entry. own_of participant.state entry ≡ Lost → ⊥))
+    IfSome (next_of (world_after actions) participant) (λ entry. own_of participant.state entry
+    ≡ Lost → ⊥))
 fork-kept laws actions number h =
     let g = good laws actions number h in
     let w = world_after actions in
-    if_some (participant_of w number) (λ participant. IfSome (next_of w participant) (λ entry. own_of participant.state entry ≡ Lost → ⊥))
+    if_some (participant_of w number) (λ participant. IfSome (next_of w participant)
+    (λ entry. own_of participant.state entry ≡ Lost → ⊥))
     (λ p is. if_some (next_of w p) (λ entry. own_of p.state entry ≡ Lost → ⊥)
     (λ entry next.
-    let hp = at_some (participant_of w number) (IsParticipant (state_of w.past) number) p (g.world.participants number) is in
+    let hp = at_some (participant_of w number) (IsParticipant (state_of w.past) number) p
+    (g.world.participants number) is in
     let some = next-some w p entry next in
-    next-kept laws.leading (state_of w.past) number p (tally_of p.state (own_steps number actions)) entry hp (g.holds p is)
+    next-kept laws.leading (state_of w.past) number p (tally_of p.state (own_steps number actions))
+    entry hp (g.holds p is)
     (not-gone p.link Take some.0) (next-is (turn_of w p) hp.epoch g.world.ended ∙ some.1)))

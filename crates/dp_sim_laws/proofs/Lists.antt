@@ -1,5 +1,6 @@
 -- Options, and lists that are numbered from 1.
-use Rattle.std.proofs.Common.{◌≡◌, ◌⊎◌, ℕ, zero, suc, ◌+◌, ◌-◌, ◌<◌, ◌==◌, Bool, true, false, if◌then◌else◌}
+use Rattle.std.proofs.Common.{◌≡◌, ◌⊎◌, ℕ, zero, suc, ◌+◌, ◌-◌, ◌<◌, ◌==◌, Bool, true, false}
+use Rattle.std.proofs.Common.{if◌then◌else◌}
 use Rattle.std.proofs.Common.{List, [], ◌∷◌, ◌++◌, length, Option, None, Some}
 use Rattle.std.proofs.Common.{refl, sym, ap, subst, ◌∙◌, ⊎_elim, inl, inr, arith}
 use Rattle.std.specs.Prelude.{slice_set, IfSome}
@@ -24,7 +25,8 @@ pub at_some : {T : Type 0} (o : Option T) (P : T → Type 0) (x : T) → IfSome 
 at_some None P x h is = cc
 at_some (Some y) P x h is = let same : y ≡ x = cc in subst P same h
 
-pub if_some : {T : Type 0} (o : Option T) (P : T → Type 0) → ((x : T) → o ≡ Some x → P x) → IfSome o P
+pub if_some : {T : Type 0} (o : Option T) (P : T → Type 0) → ((x : T) → o ≡ Some x → P x)
+    → IfSome o P
 if_some None P h = tt
 if_some (Some x) P h = h x refl
 
@@ -34,30 +36,35 @@ if_some (Some x) P h = h x refl
 abbrev pub numbered : {X : Type 0} → List X → ℕ → Option X
 numbered xs number = if number == 0 then None else slice_get xs (number - 1)
 
-get_other : {X : Type 0} (xs : List X) (i j : ℕ) (y : X) → (j ≡ i → ⊥) → slice_get (slice_set xs i y) j ≡ slice_get xs j
+get_other : {X : Type 0} (xs : List X) (i j : ℕ) (y : X) → (j ≡ i → ⊥)
+    → slice_get (slice_set xs i y) j ≡ slice_get xs j
 get_other [] i j y ne = refl
 get_other (x ∷ xs) zero zero y ne = absurd (ne refl)
 get_other (x ∷ xs) zero (suc j) y ne = refl
 get_other (x ∷ xs) (suc i) zero y ne = refl
 get_other (x ∷ xs) (suc i) (suc j) y ne = get_other xs i j y (λ e. ne (ap suc e))
 
-get_same : {X : Type 0} (xs : List X) (i : ℕ) (x y : X) → slice_get xs i ≡ Some x → slice_get (slice_set xs i y) i ≡ Some y
+get_same : {X : Type 0} (xs : List X) (i : ℕ) (x y : X) → slice_get xs i ≡ Some x
+    → slice_get (slice_set xs i y) i ≡ Some y
 get_same [] i x y is = cc
 get_same (z ∷ xs) zero x y is = refl
 get_same (z ∷ xs) (suc i) x y is = get_same xs i x y is
 
-get_old : {X : Type 0} (xs ys : List X) (i : ℕ) (x : X) → slice_get xs i ≡ Some x → slice_get (xs ++ ys) i ≡ Some x
+get_old : {X : Type 0} (xs ys : List X) (i : ℕ) (x : X) → slice_get xs i ≡ Some x
+    → slice_get (xs ++ ys) i ≡ Some x
 get_old [] ys i x is = cc
 get_old (z ∷ xs) ys zero x is = is
 get_old (z ∷ xs) ys (suc i) x is = get_old xs ys i x is
 
-get_either : {X : Type 0} (xs : List X) (y : X) (i : ℕ) (x : X) → slice_get (xs ++ y ∷ []) i ≡ Some x
+get_either : {X : Type 0} (xs : List X) (y : X) (i : ℕ) (x : X)
+    → slice_get (xs ++ y ∷ []) i ≡ Some x
     → (slice_get xs i ≡ Some x) ⊎ ((i ≡ length xs) × (x ≡ y))
 get_either [] y zero x is = inr (refl, cc)
 get_either [] y (suc i) x is = cc
 get_either (z ∷ xs) y zero x is = inl is
 get_either (z ∷ xs) y (suc i) x is =
-    ⊎_elim (λ old. inl old) (λ (new : (i ≡ length xs) × (x ≡ y)). inr (ap suc new.0, new.1)) (get_either xs y i x is)
+    ⊎_elim (λ old. inl old) (λ (new : (i ≡ length xs) × (x ≡ y)). inr (ap suc new.0, new.1))
+    (get_either xs y i x is)
 
 get_new : {X : Type 0} (xs : List X) (y : X) → slice_get (xs ++ y ∷ []) (length xs) ≡ Some y
 get_new [] y = refl
@@ -67,11 +74,13 @@ get_past : {X : Type 0} (xs : List X) → slice_get xs (length xs) ≡ None
 get_past [] = refl
 get_past (x ∷ xs) = get_past xs
 
-if_none : {X : Type 0} (b : Bool) (o : Option X) (x : X) → (if b then None else o) ≡ Some x → (b ≡ false) × (o ≡ Some x)
+if_none : {X : Type 0} (b : Bool) (o : Option X) (x : X) → (if b then None else o) ≡ Some x
+    → (b ≡ false) × (o ≡ Some x)
 if_none true o x is = cc
 if_none false o x is = (refl, is)
 
-if_other : {X : Type 0} (b : Bool) (o p : Option X) → (b ≡ false → o ≡ p) → (if b then None else o) ≡ (if b then None else p)
+if_other : {X : Type 0} (b : Bool) (o p : Option X) → (b ≡ false → o ≡ p)
+    → (if b then None else o) ≡ (if b then None else p)
 if_other true o p same = refl
 if_other false o p same = same refl
 
@@ -106,13 +115,15 @@ numbered-old xs ys i x is =
     let found = number-found xs i x is in
     number-above (xs ++ ys) i found.0 ∙ get_old xs ys (i - 1) x found.1
 
-pub numbered-new : {X : Type 0} (xs : List X) (y : X) → numbered (xs ++ y ∷ []) (length xs + 1) ≡ Some y
+pub numbered-new : {X : Type 0} (xs : List X) (y : X) → numbered (xs ++ y ∷ []) (length xs + 1)
+    ≡ Some y
 numbered-new xs y =
     let less : length xs + 1 - 1 ≡ length xs = omega arith in
     number-above (xs ++ y ∷ []) (length xs + 1) (omega arith)
     ∙ ap (slice_get (xs ++ y ∷ [])) less ∙ get_new xs y
 
-pub numbered-either : {X : Type 0} (xs : List X) (y : X) (i : ℕ) (x : X) → numbered (xs ++ y ∷ []) i ≡ Some x
+pub numbered-either : {X : Type 0} (xs : List X) (y : X) (i : ℕ) (x : X)
+    → numbered (xs ++ y ∷ []) i ≡ Some x
     → (numbered xs i ≡ Some x) ⊎ ((i ≡ length xs + 1) × (x ≡ y))
 numbered-either xs y i x is =
     let found = number-found (xs ++ y ∷ []) i x is in
@@ -128,7 +139,8 @@ numbered-past xs i is =
     number-above xs i (omega arith) ∙ ap (slice_get xs) less ∙ get_past xs
 
 -- a number that no item has had no item before one more came
-pub numbered-none : {X : Type 0} (xs ys : List X) (i : ℕ) → numbered (xs ++ ys) i ≡ None → numbered xs i ≡ None
+pub numbered-none : {X : Type 0} (xs ys : List X) (i : ℕ) → numbered (xs ++ ys) i ≡ None
+    → numbered xs i ≡ None
 numbered-none xs ys i is =
     ⊎_elim (λ (no : numbered xs i ≡ None). no)
     (λ (yes : (x : _) × (numbered xs i ≡ Some x)).

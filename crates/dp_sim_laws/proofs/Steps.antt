@@ -19,30 +19,37 @@ use Rattle.dp_schedule.specs.declared.action.Instruction.{Instruction}
 use Rattle.dp_schedule.specs.declared.action.Instruction.TheVariants.{Say, Up, Take, Leave, Cut}
 use Rattle.dp_schedule.specs.declared.action.Action.{Action}
 use Rattle.dp_schedule.specs.declared.action.Action.TheVariants.{Join, Act, Show}
-use Rattle.dp_sim.specs.Exchanges.{Participant, Exchange, is_gone, disconnected, heard, uplink_sent, next_entry, took_next, done, exchanged}
-use Rattle.dp_sim.specs.World.{World, participant_of, new_participant, with_joined, joined, with_exchange, acted, after, first_world, world_after}
+use Rattle.dp_sim.specs.Exchanges.{Participant, Exchange, is_gone, disconnected, heard, uplink_sent}
+use Rattle.dp_sim.specs.Exchanges.{next_entry, took_next, done, exchanged}
+use Rattle.dp_sim.specs.World.{World, participant_of, new_participant, with_joined, joined}
+use Rattle.dp_sim.specs.World.{with_exchange, acted, after, first_world, world_after}
 use Rattle.dp_sim.specs.Report.{along}
-use Rattle.dp_sim_laws.specs.OwnSteps.{turn_of, steps_of_deed, steps_of_turn, own_step, own_steps, welcome_of, GoesBy}
+use Rattle.dp_sim_laws.specs.OwnSteps.{turn_of, steps_of_deed, steps_of_turn, own_step, own_steps}
+use Rattle.dp_sim_laws.specs.OwnSteps.{welcome_of, GoesBy}
 use Rattle.dp_sim_laws.proofs.Lists.{if_some, numbered, number-found, numbered-other, numbered-same}
 use Rattle.dp_sim_laws.proofs.Lists.{numbered-either, numbered-past, numbered-none}
 
 -- ---- a client's steps
 
-welcome-took : (o : Option ℕ) (c : client.State) (entry : Entry) → welcome_of (client.took_at o c entry) ≡ welcome_of c
+welcome-took : (o : Option ℕ) (c : client.State) (entry : Entry)
+    → welcome_of (client.took_at o c entry) ≡ welcome_of c
 welcome-took None c entry = refl
 welcome-took (Some epoch) c entry =
     cond_both (is_first_mark c epoch) (record c { taken = entry ∷ [] })
-    (record c { epoch = epoch; taken = entry ∷ []; fork = [] }) (λ d. welcome_of d ≡ welcome_of c) (λ yes. refl) (λ no. refl)
+    (record c { epoch = epoch; taken = entry ∷ []; fork = [] }) (λ d. welcome_of d ≡ welcome_of c)
+    (λ yes. refl) (λ no. refl)
 
 -- steps leave what the Welcome told
-pub welcome-steps : (c : client.State) (steps : List Step) → welcome_of (after_steps c steps) ≡ welcome_of c
+pub welcome-steps : (c : client.State) (steps : List Step)
+    → welcome_of (after_steps c steps) ≡ welcome_of c
 welcome-steps c [] = refl
 welcome-steps c (Said m ∷ steps) = welcome-steps (client.said c m) steps
 welcome-steps c (Took entry ∷ steps) =
     welcome-steps (client.took c entry) steps ∙ welcome-took (marked entry.msg) c entry
 
 -- a client that was where steps lead, after more steps
-pub goes-more : (c d : client.State) (steps more : List Step) → GoesBy c steps → d ≡ after_steps c more
+pub goes-more : (c d : client.State) (steps more : List Step) → GoesBy c steps
+    → d ≡ after_steps c more
     → GoesBy d (steps ++ more)
 goes-more c d steps more goes is =
     let same : welcome_of d ≡ welcome_of c = ap welcome_of is ∙ welcome-steps c more in
@@ -52,17 +59,21 @@ goes-more c d steps more goes is =
 -- ---- an exchange
 
 next-steps : (t : Exchange) (o : Option Entry)
-    → (took_next t o).participant.state ≡ after_steps t.participant.state (map Took (option_to_list o))
+    → (took_next t o).participant.state ≡ after_steps t.participant.state
+    (map Took (option_to_list o))
 next-steps t None = refl
 next-steps t (Some entry) = refl
 
-pub up-state : (t : Exchange) (uplink : List Msg) → (uplink_sent t uplink).participant.state ≡ t.participant.state
+pub up-state : (t : Exchange) (uplink : List Msg) → (uplink_sent t uplink).participant.state
+    ≡ t.participant.state
 up-state t [] = refl
 up-state t (m ∷ rest) =
-    cond_both (is_disconnect m) (disconnected (heard t m rest)) (heard t m rest) (λ u. u.participant.state ≡ t.participant.state)
+    cond_both (is_disconnect m) (disconnected (heard t m rest)) (heard t m rest)
+    (λ u. u.participant.state ≡ t.participant.state)
     (λ yes. refl) (λ no. refl)
 
-done-steps : (t : Exchange) (instruction : Instruction) → (done t instruction).participant.state ≡ after_steps t.participant.state (steps_of_deed t instruction)
+done-steps : (t : Exchange) (instruction : Instruction) → (done t instruction).participant.state
+    ≡ after_steps t.participant.state (steps_of_deed t instruction)
 done-steps t (Say m) = refl
 done-steps t Up = up-state t t.participant.uplink
 done-steps t Take = next-steps t (next_entry t)
@@ -70,7 +81,9 @@ done-steps t Leave = refl
 done-steps t Cut = refl
 
 -- an exchange leads where its steps do
-pub exchange-steps : (t : Exchange) (instruction : Instruction) → (exchanged t instruction).participant.state ≡ after_steps t.participant.state (steps_of_turn t instruction)
+pub exchange-steps : (t : Exchange) (instruction : Instruction)
+    → (exchanged t instruction).participant.state ≡ after_steps t.participant.state
+    (steps_of_turn t instruction)
 exchange-steps t instruction = by_gone (is_gone t.participant.link instruction)
   where
     by_gone : (b : Bool) → (if b then t else done t instruction).participant.state
@@ -80,24 +93,31 @@ exchange-steps t instruction = by_gone (is_gone t.participant.link instruction)
 
 -- ---- worlds
 
--- the client of the number, if there is one, is where the steps lead; and if there is none, there are none
+-- the client of the number, if there is one, is where the steps lead; and if there is none, there
+-- are none
 pub record Goes (w : World) (number : ℕ) (steps : List Step) : Type 0 where
   pub none : participant_of w number ≡ None → steps ≡ []
-  pub some : (participant : Participant) → participant_of w number ≡ Some participant → GoesBy participant.state steps
+  pub some : (participant : Participant) → participant_of w number ≡ Some participant
+      → GoesBy participant.state steps
 
-goes-participants : (w v : World) (number : ℕ) (steps : List Step) → participant_of v number ≡ participant_of w number → Goes w number steps
+goes-participants : (w v : World) (number : ℕ) (steps : List Step)
+    → participant_of v number ≡ participant_of w number → Goes w number steps
     → Goes v number steps
 goes-participants w v number steps same h = record {
   none = λ is. h.none (sym same ∙ is);
   some = λ participant is. h.some participant (sym same ∙ is);
 }
 
-goes-joined : (w : World) (past : Past) (r : Reply) (number : ℕ) (steps : List Step) → Goes w number steps
+goes-joined : (w : World) (past : Past) (r : Reply) (number : ℕ) (steps : List Step)
+    → Goes w number steps
     → Goes (record { past = past; participants = with_joined w.participants r }) number steps
 goes-joined w past (reply.Opened conn user epoch at) number steps h = record {
-  none = λ is. h.none (numbered-none w.participants (new_participant conn user epoch at ∷ []) number is);
-  some = λ participant is. ⊎_elim (λ (old : numbered w.participants number ≡ Some participant). h.some participant old)
-      (λ (new : (number ≡ length w.participants + 1) × (participant ≡ new_participant conn user epoch at)).
+  none = λ is. h.none (numbered-none w.participants (new_participant conn user epoch at ∷ []) number
+      is);
+  some = λ participant is. ⊎_elim (λ (old : numbered w.participants number ≡ Some participant).
+      h.some participant old)
+      (λ (new : (number ≡ length w.participants + 1) × (participant
+      ≡ new_participant conn user epoch at)).
       let no : steps ≡ [] = h.none (numbered-past w.participants number new.0) in
       subst (λ p. GoesBy p.state steps) (sym new.1)
       (subst (GoesBy (new_participant conn user epoch at).state) (sym no) refl))
@@ -111,15 +131,19 @@ none-if true steps is = refl
 none-if false steps is = sym is
 
 -- the exchange of a client of another number
-goes-other : (w : World) (number actor : ℕ) (participant : Participant) (t : Exchange) (steps : List Step) → participant_of w actor ≡ Some participant
+goes-other : (w : World) (number actor : ℕ) (participant : Participant) (t : Exchange)
+    (steps : List Step) → participant_of w actor ≡ Some participant
     → (number ≡ actor → ⊥) → Goes w number steps → Goes (with_exchange w actor t) number steps
 goes-other w number actor participant t steps found ne h =
     let above = number-found w.participants actor participant found in
-    goes-participants w (with_exchange w actor t) number steps (numbered-other w.participants actor number t.participant above.0 ne) h
+    goes-participants w (with_exchange w actor t) number steps
+    (numbered-other w.participants actor number t.participant above.0 ne) h
 
 -- and of the client itself
-goes-exchanged : (w : World) (number : ℕ) (participant : Participant) (t : Exchange) (steps more : List Step) → participant_of w number ≡ Some participant
-    → t.participant.state ≡ after_steps participant.state more → Goes w number steps → Goes (with_exchange w number t) number (steps ++ more)
+goes-exchanged : (w : World) (number : ℕ) (participant : Participant) (t : Exchange)
+    (steps more : List Step) → participant_of w number ≡ Some participant
+    → t.participant.state ≡ after_steps participant.state more → Goes w number steps
+    → Goes (with_exchange w number t) number (steps ++ more)
 goes-exchanged w number participant t steps more found is h =
     let there = numbered-same w.participants number participant t.participant found in
     record {
@@ -128,57 +152,75 @@ goes-exchanged w number participant t steps more found is h =
           let e : Some t.participant ≡ Some other = sym there ∙ yes in
           let same : t.participant ≡ other = cc in
           subst (λ p. GoesBy p.state (steps ++ more)) same
-          (goes-more participant.state t.participant.state steps more (h.some participant found) is);
+          (goes-more participant.state t.participant.state steps more (h.some participant found)
+          is);
     }
 
-goes-acted : (w : World) (number actor : ℕ) (instruction : Instruction) (steps : List Step) → Goes w number steps
+goes-acted : (w : World) (number actor : ℕ) (instruction : Instruction) (steps : List Step)
+    → Goes w number steps
     → Goes (acted w actor instruction) number (steps ++ own_step number w (Act actor instruction))
 goes-acted w number actor instruction steps h = by_peer (participant_of w actor) refl
   where
     by_peer : (o : Option Participant) → participant_of w actor ≡ o
-        → Goes (option_map_or (λ participant. with_exchange w actor (exchanged (turn_of w participant) instruction)) o w) number
-        (steps ++ (if actor == number then option_map_or (λ participant. steps_of_turn (turn_of w participant) instruction) o [] else []))
-    by_peer None found = subst (Goes w number) (sym (ap (λ more. steps ++ more) (none-if (actor == number) [] refl) ∙ append-nil steps)) h
+        → Goes (option_map_or (λ participant. with_exchange w actor
+        (exchanged (turn_of w participant) instruction)) o w) number
+        (steps ++ (if actor == number then option_map_or
+        (λ participant. steps_of_turn (turn_of w participant) instruction) o [] else []))
+    by_peer None found = subst (Goes w number) (sym (ap (λ more. steps ++ more)
+        (none-if (actor == number) [] refl) ∙ append-nil steps)) h
     by_peer (Some participant) found =
         let t = exchanged (turn_of w participant) instruction in
         ⊎_elim (λ (same : number ≡ actor).
-        subst (λ b. Goes (with_exchange w actor t) number (steps ++ (if b then steps_of_turn (turn_of w participant) instruction else [])))
+        subst (λ b. Goes (with_exchange w actor t) number
+        (steps ++ (if b then steps_of_turn (turn_of w participant) instruction else [])))
         (sym (eq-eqb actor number (sym same)))
-        (subst (λ n. Goes (with_exchange w n t) number (steps ++ steps_of_turn (turn_of w participant) instruction)) same
-        (goes-exchanged w number participant t steps (steps_of_turn (turn_of w participant) instruction) (ap (participant_of w) same ∙ found)
+        (subst (λ n. Goes (with_exchange w n t) number (steps
+        ++ steps_of_turn (turn_of w participant) instruction)) same
+        (goes-exchanged w number participant t steps (steps_of_turn (turn_of w participant)
+        instruction) (ap (participant_of w) same ∙ found)
         (exchange-steps (turn_of w participant) instruction) h)))
         (λ (ne : number ≡ actor → ⊥).
-        subst (λ b. Goes (with_exchange w actor t) number (steps ++ (if b then steps_of_turn (turn_of w participant) instruction else [])))
+        subst (λ b. Goes (with_exchange w actor t) number
+        (steps ++ (if b then steps_of_turn (turn_of w participant) instruction else [])))
         (sym (ne_eqb actor number (λ e. ne (sym e))))
-        (subst (Goes (with_exchange w actor t) number) (sym (append-nil steps)) (goes-other w number actor participant t steps found ne h)))
+        (subst (Goes (with_exchange w actor t) number) (sym (append-nil steps))
+        (goes-other w number actor participant t steps found ne h)))
         (cases_eq number actor)
 
 -- so after an action
-pub goes-after : (w : World) (number : ℕ) (action : Action) (steps : List Step) → Goes w number steps
+pub goes-after : (w : World) (number : ℕ) (action : Action) (steps : List Step)
+    → Goes w number steps
     → Goes (after w action) number (steps ++ own_step number w action)
 goes-after w number (Join name registered) steps h =
     subst (Goes (joined w registered name) number) (sym (append-nil steps))
-    (goes-joined w (sure_step w.past (event.Open name registered)) (sure_answer w.past (event.Open name registered)) number steps h)
+    (goes-joined w (sure_step w.past (event.Open name registered))
+    (sure_answer w.past (event.Open name registered)) number steps h)
 goes-after w number (Act actor instruction) steps h = goes-acted w number actor instruction steps h
 goes-after w number (Show actor kind) steps h = subst (Goes w number) (sym (append-nil steps)) h
 
 pub goes-first : (number : ℕ) → Goes first_world number []
 goes-first number = record {
   none = λ is. refl;
-  some = λ participant is. let found = number-found [] number participant is in let no : None ≡ Some participant = found.1 in cc;
+  some = λ participant is. let found = number-found [] number participant is in let no : None
+      ≡ Some participant = found.1 in cc;
 }
 
-goes-along : (w : World) (number : ℕ) (actions : List Action) (steps : List Step) → Goes w number steps
+goes-along : (w : World) (number : ℕ) (actions : List Action) (steps : List Step)
+    → Goes w number steps
     → Goes (fold after w actions) number (steps ++ along (own_step number) w actions)
 goes-along w number [] steps h = subst (Goes w number) (sym (append-nil steps)) h
 goes-along w number (action ∷ actions) steps h =
     subst (Goes (fold after w (action ∷ actions)) number)
-    (append_assoc steps (own_step number w action) (along (own_step number) (after w action) actions))
-    (goes-along (after w action) number actions (steps ++ own_step number w action) (goes-after w number action steps h))
+    (append_assoc steps (own_step number w action) (along (own_step number) (after w action)
+    actions))
+    (goes-along (after w action) number actions (steps ++ own_step number w action)
+    (goes-after w number action steps h))
 
 -- each client of a world after a schedule is where its own steps lead
 pub goes-by : (actions : List Action) (number : ℕ)
-    → IfSome (participant_of (world_after actions) number) (λ participant. GoesBy participant.state (own_steps number actions))
+    → IfSome (participant_of (world_after actions) number)
+    (λ participant. GoesBy participant.state (own_steps number actions))
 goes-by actions number =
     let h = goes-along first_world number actions [] (goes-first number) in
-    if_some (participant_of (world_after actions) number) (λ participant. GoesBy participant.state (own_steps number actions)) h.some
+    if_some (participant_of (world_after actions) number)
+    (λ participant. GoesBy participant.state (own_steps number actions)) h.some

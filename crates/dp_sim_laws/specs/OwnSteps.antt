@@ -1,5 +1,6 @@
 -- A client's own steps along a schedule: what it said and took since its Welcome.
-use Rattle.std.specs.Prelude.{◌≡◌, ℕ, ◌==◌, if◌then◌else◌, Option, None, option_to_list, List, [], ◌∷◌, map}
+use Rattle.std.specs.Prelude.{◌≡◌, ℕ, ◌==◌, if◌then◌else◌, Option, None, option_to_list, List, []}
+use Rattle.std.specs.Prelude.{◌∷◌, map}
 use Rattle.std.specs.Option.{option_map_or}
 use Rattle.dp_messages.specs.declared.message.Entry.{Entry}
 use Rattle.dp_client.specs.Client.{State, Step, Said, Took, welcomed, after_steps}
@@ -17,7 +18,8 @@ turn_of w participant = record { past = w.past; participant = participant }
 
 -- the entry that the client takes next, if it still takes and there is one
 abbrev pub next_of : World → Participant → Option Entry
-next_of w participant = if is_gone participant.link Take then None else next_entry (turn_of w participant)
+next_of w participant = if is_gone participant.link Take then None
+    else next_entry (turn_of w participant)
 
 -- the steps that an instruction is, which the client still does
 abbrev pub steps_of_deed : Exchange → Instruction → List Step
@@ -29,13 +31,15 @@ steps_of_deed t Cut = []
 
 -- the steps that an instruction of a client is
 abbrev pub steps_of_turn : Exchange → Instruction → List Step
-steps_of_turn t instruction = if is_gone t.participant.link instruction then [] else steps_of_deed t instruction
+steps_of_turn t instruction = if is_gone t.participant.link instruction then []
+    else steps_of_deed t instruction
 
 -- the steps that an action is of the client of a number
 abbrev pub own_step : ℕ → World → Action → List Step
 own_step number w (Act client instruction) =
     if client == number
-    then option_map_or (λ participant. steps_of_turn (turn_of w participant) instruction) (participant_of w client) []
+    then option_map_or (λ participant. steps_of_turn (turn_of w participant) instruction)
+    (participant_of w client) []
     else []
 own_step number w (Join name registered) = []
 own_step number w (Show client kind) = []

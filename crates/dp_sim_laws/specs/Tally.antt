@@ -19,7 +19,8 @@ use Rattle.dp_sim.specs.Report.{along}
 use Rattle.dp_sim.specs.Invariant.{IsSayable}
 use Rattle.dp_sim_laws.specs.OwnSteps.{turn_of, welcome_of}
 
--- what was said since the Welcome, or since the last mark that was acknowledged, and how many own answers
+-- what was said since the Welcome, or since the last mark that was acknowledged, and how many own
+-- answers
 -- were taken since then
 pub record Tally : Type 0 where
   pub sends : List Msg
@@ -51,7 +52,8 @@ abbrev pub up_replies : Exchange → List Msg → List Reply
 up_replies t [] = []
 up_replies t (m ∷ rest) =
     sure_answer t.past (event.Say t.participant.conn m)
-    ∷ (if is_disconnect m then sure_answer (heard t m rest).past (event.Close t.participant.conn) ∷ [] else [])
+    ∷ (if is_disconnect m then sure_answer (heard t m rest).past (event.Close t.participant.conn)
+    ∷ [] else [])
 
 -- the replies to the events of an instruction that the client still does
 abbrev pub deed_replies : Exchange → Instruction → List Reply
@@ -62,13 +64,15 @@ deed_replies t Leave = []
 deed_replies t Cut = sure_answer t.past (event.Close t.participant.conn) ∷ []
 
 abbrev pub turn_replies : Exchange → Instruction → List Reply
-turn_replies t instruction = if is_gone t.participant.link instruction then [] else deed_replies t instruction
+turn_replies t instruction = if is_gone t.participant.link instruction then []
+    else deed_replies t instruction
 
 -- the replies to the events of an action
 abbrev pub replies : World → Action → List Reply
 replies w (Join name registered) = sure_answer w.past (event.Open name registered) ∷ []
 replies w (Act client instruction) =
-    option_map_or (λ participant. turn_replies (turn_of w participant) instruction) (participant_of w client) []
+    option_map_or (λ participant. turn_replies (turn_of w participant) instruction)
+    (participant_of w client) []
 replies w (Show client kind) = []
 
 -- a message that the action says is no control message

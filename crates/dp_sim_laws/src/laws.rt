@@ -9,8 +9,8 @@ ghost use Rattle.dp_sim_laws.specs.OwnSteps.{own_steps, GoesBy, next_of};
 ghost use Rattle.dp_sim_laws.specs.Tally.{IsUnended, tally_of};
 
 use dp_messages::one_equality;
-use dp_sim::worlds_stay_worlds;
 use dp_session::steps_lead_on;
+use dp_sim::worlds_stay_worlds;
 
 /// After every schedule each client is where its own steps since its Welcome lead.
 pub fn clients_go_by_their_steps()
@@ -18,7 +18,8 @@ pub fn clients_go_by_their_steps()
         → IfSome (participant_of (world_after actions) number) (λ participant. GoesBy participant.state (own_steps number actions)) }
 {}
 
-/// After a schedule of such messages as lines say, in which no event was answered Ended, a client's fork is its
+/// After a schedule of such messages as lines say, in which no event was answered Ended, a client's
+/// fork is its
 /// sends without the first n, n the number of own answers that it has taken.
 pub fn forks_are_plain()
     ensures few { (actions : List Action) (number : ℕ) → IsUnended actions

@@ -11,7 +11,8 @@ use Rattle.dp_world.specs.Schedule.{IsStep}
 
 -- a line asks for one action
 abbrev pub OneAction : Type 0
-OneAction = (line : List ℕ) (action other : Action) → Parses line action → Parses line other → action ≡ other
+OneAction = (line : List ℕ) (action other : Action) → Parses line action → Parses line other
+    → action ≡ other
 
 -- steps with a doable line after them are steps
 abbrev pub FurtherStep : Type 0
@@ -33,7 +34,8 @@ LeftGiven = (all : List ℕ) (done front : List Line) (old new : Held) → IsLef
 
 -- what was given is a prefix of what is seen
 abbrev pub SeenGiven : Type 0
-SeenGiven = (limit : ℕ) (all more : List ℕ) (done : List Line) (held : Held) → IsLeft all done held → length all ≤ limit
+SeenGiven = (limit : ℕ) (all more : List ℕ) (done : List Line) (held : Held) → IsLeft all done held
+    → length all ≤ limit
     → (behind : List Line) × (seen limit (all ++ more) ≡ done ++ behind)
 
 -- a next line that is too long is the next that is seen
@@ -45,10 +47,13 @@ SeenLong = (limit : ℕ) (all more : List ℕ) (done : List Line) (held : Held) 
 
 -- at the limit all is given
 abbrev pub SeenCut : Type 0
-SeenCut = (limit : ℕ) (all more : List ℕ) (done : List Line) (held : Held) → IsLeft all done held → length all ≡ limit
-    → more ≢ [] → ended_from held ≡ [] → ((n : ℕ) → ¬ NextIsLong held n) → seen limit (all ++ more) ≡ done
+SeenCut = (limit : ℕ) (all more : List ℕ) (done : List Line) (held : Held) → IsLeft all done held
+    → length all ≡ limit
+    → more ≢ [] → ended_from held ≡ [] → ((n : ℕ) → ¬ NextIsLong held n)
+    → seen limit (all ++ more) ≡ done
 
 -- at the end the lines to come are left
 abbrev pub SeenWhole : Type 0
-SeenWhole = (limit : ℕ) (all : List ℕ) (done : List Line) (held : Held) → IsLeft all done held → length all ≤ limit
+SeenWhole = (limit : ℕ) (all : List ℕ) (done : List Line) (held : Held) → IsLeft all done held
+    → length all ≤ limit
     → seen limit all ≡ done ++ lines_from held

@@ -25,12 +25,23 @@ record Beyond (xs us vs : List Line) : Type 0 where
 two_fronts : (xs ys us vs : List Line) → xs ++ ys ≡ us ++ vs
     → ((more : List Line) × (us ≡ xs ++ more)) ⊎ Beyond xs us vs
 two_fronts [] ys us vs same = inl (us, refl)
-two_fronts (x ∷ xs) ys [] vs same = inr record { first = x; more = xs; behind = xs ++ ys; longer = refl; next = sym same }
+two_fronts (x ∷ xs) ys [] vs same = inr record {
+  first = x;
+  more = xs;
+  behind = xs
+      ++ ys;
+  longer = refl;
+  next = sym same;
+}
 two_fronts (x ∷ xs) ys (u ∷ us) vs same =
     let head : x ≡ u = cc (same) in
     let tail : xs ++ ys ≡ us ++ vs = cc (same) in
     elim (two_fronts xs ys us vs tail) [
-      | inl (more, is) ↦ inl (more, ap (λ (l : Line). l ∷ us) (sym head) ∙ ap (λ (ls : List Line). x ∷ ls) is)
+      | inl (more, is) ↦ inl (
+        more,
+        ap (λ (l : Line). l ∷ us) (sym head)
+            ∙ ap (λ (ls : List Line). x ∷ ls) is,
+      )
       | inr b ↦ inr record {
         first = b.first;
         more = b.more;
@@ -42,7 +53,8 @@ two_fronts (x ∷ xs) ys (u ∷ us) vs same =
 
 -- lines that are seen and are steps are the first of those that the input comes to
 pub front_of_done : (bytes : List ℕ) (done behind others : List Line) (end : LinesEnd)
-    → seen world_limit bytes ≡ done ++ behind → AreSteps IsStep done → LinesComeTo IsStep world_limit bytes others end
+    → seen world_limit bytes ≡ done ++ behind → AreSteps IsStep done
+    → LinesComeTo IsStep world_limit bytes others end
     → (more : List Line) × (others ≡ done ++ more)
 front_of_done bytes done behind others AllDone whole steps (few, all, are) = (behind, all ∙ whole)
 front_of_done bytes done behind others TooLong whole steps (many, all, are) = (behind, all ∙ whole)
@@ -57,15 +69,20 @@ front_of_done bytes done behind others (BadLine n) whole steps stops =
     ]
 
 -- so a prefix of their report is one of the report that the input is due
-pub begun_due : OneAction → (bytes : List ℕ) (old now : Option (List ℕ)) → HasBegunOf (seen world_limit bytes) old now
-    → (done : List Line) (actions : List Action) (end : LinesEnd) → WorldComesTo bytes done actions end
+pub begun_due : OneAction → (bytes : List ℕ) (old now : Option (List ℕ))
+    → HasBegunOf (seen world_limit bytes) old now
+    → (done : List Line) (actions : List Action) (end : LinesEnd)
+    → WorldComesTo bytes done actions end
     → GrowsByPrefix old now (report actions)
 begun_due one bytes old now begun done actions end (comes, asked) =
     let first = begun.begun in
-    let front = front_of_done bytes begun.done begun.behind done end begun.parts first.steps comes in
+    let front = front_of_done bytes begun.done begun.behind done end begun.parts first.steps comes
+    in
     let asked_whole = subst (λ (ls : List Line). AskFor ls actions) front.1 asked in
     let begins = asked_front one begun.done front.0 first.actions actions first.asked asked_whole in
-    let reports : report actions ≡ report first.actions ++ along printed (world_after first.actions) begins.rest =
+    let reports : report actions ≡ report first.actions ++ along printed (world_after first.actions)
+    begins.rest =
     ap report begins.whole ∙ report-append first.actions begins.rest in
     subst (GrowsByPrefix old now) (sym reports)
-    (grows_within old now (report first.actions) (along printed (world_after first.actions) begins.rest) first.text)
+    (grows_within old now (report first.actions) (along printed (world_after first.actions)
+    begins.rest) first.text)

@@ -1,5 +1,6 @@
 -- How a run goes on by what is fed and by the lines that are given.
-use Rattle.std.proofs.Common.{◌≡◌, ℕ, ◌+◌, ◌≤◌, List, [], ◌∷◌, ◌++◌, length, sym, ap, ◌∙◌, subst, append_assoc}
+use Rattle.std.proofs.Common.{◌≡◌, ℕ, ◌+◌, ◌≤◌, List, [], ◌∷◌, ◌++◌, length, sym, ap, ◌∙◌, subst}
+use Rattle.std.proofs.Common.{append_assoc}
 use Rattle.std.specs.Prelude.{Option}
 use Rattle.std.proofs.lemmas.List.{append-nil}
 use Rattle.dp_lines.specs.declared.line.Line.{Line}
@@ -18,8 +19,10 @@ use Rattle.std.proofs.KnownBytes.{Keeps-refl}
 -- ---- stops
 
 -- a line of these stops the run
-stops_in : (lines done behind : List Line) (line : Line) (start now : Option (List ℕ)) (end : RunEnd)
-    → lines ≡ done ++ line ∷ behind → AreSteps IsStep done → StopsBehind done line start now end → StopsIn lines start now end
+stops_in : (lines done behind : List Line) (line : Line) (start now : Option (List ℕ))
+    (end : RunEnd)
+    → lines ≡ done ++ line ∷ behind → AreSteps IsStep done → StopsBehind done line start now end
+    → StopsIn lines start now end
 stops_in lines done behind line start now (BadLine n) whole steps (number, bad, line) = (
   done,
   record { line = line; behind = behind; next = whole; number = number; steps = steps; bad = bad },
@@ -38,8 +41,10 @@ stops_in lines done behind line start now _ whole steps stops = absurd stops
 -- ---- while more is fed
 
 -- a piece is fed
-pub reading_fed : LeftFed → (all piece : List ℕ) (held later : Held) (world : World) (start now : Option (List ℕ))
-    → later.bytes ≡ held.bytes ++ piece → later.count ≡ held.count → later.fed ≡ held.fed + length piece
+pub reading_fed : LeftFed → (all piece : List ℕ) (held later : Held) (world : World)
+    (start now : Option (List ℕ))
+    → later.bytes ≡ held.bytes ++ piece → later.count ≡ held.count
+    → later.fed ≡ held.fed + length piece
     → IsReading all held world start now → IsReading (all ++ piece) later world start now
 reading_fed law all piece held later world start now bytes count fed reading = record {
   done = reading.done;
@@ -48,20 +53,24 @@ reading_fed law all piece held later world start now bytes count fed reading = r
 }
 
 -- a line is given and done
-pub reading_further : LeftGiven → (all : List ℕ) (held later : Held) (line : Line) (world after : World) (start old now : Option (List ℕ))
+pub reading_further : LeftGiven → (all : List ℕ) (held later : Held) (line : Line)
+    (world after : World) (start old now : Option (List ℕ))
     → ended_from held ≡ line ∷ ended_from later
     → later.count + length (ended later.bytes) ≡ held.count + length (ended held.bytes)
     → open_rest later.bytes ≡ open_rest held.bytes → later.fed ≡ held.fed
-    → ((start : Option (List ℕ)) (done : List Line) → HasDone done world start old → HasDone (done ++ line ∷ []) after start now)
+    → ((start : Option (List ℕ)) (done : List Line) → HasDone done world start old
+    → HasDone (done ++ line ∷ []) after start now)
     → IsReading all held world start old → IsReading all later after start now
-reading_further law all held later line world after start old now lines count rest fed does reading = record {
-  done = reading.done ++ line ∷ [];
-  left = law all reading.done (line ∷ []) held later reading.left lines count rest fed;
-  has = does start reading.done reading.has;
-}
+reading_further law all held later line world after start old now lines count rest fed does reading
+    = record {
+      done = reading.done ++ line ∷ [];
+      left = law all reading.done (line ∷ []) held later reading.left lines count rest fed;
+      has = does start reading.done reading.has;
+    }
 
 -- no line is given
-pub reading_on : LeftGiven → (all : List ℕ) (held later : Held) (world : World) (start now : Option (List ℕ))
+pub reading_on : LeftGiven → (all : List ℕ) (held later : Held) (world : World)
+    (start now : Option (List ℕ))
     → ended_from held ≡ ended_from later
     → later.count + length (ended later.bytes) ≡ held.count + length (ended held.bytes)
     → open_rest later.bytes ≡ open_rest held.bytes → later.fed ≡ held.fed
@@ -75,24 +84,31 @@ reading_on law all held later world start now lines count rest fed reading = rec
 }
 
 -- a line is given, and stops the run
-pub reading_stops : LeftGiven → SeenGiven → (all more : List ℕ) (held later : Held) (line : Line) (world : World) (start old now : Option (List ℕ)) (end : RunEnd)
+pub reading_stops : LeftGiven → SeenGiven → (all more : List ℕ) (held later : Held) (line : Line)
+    (world : World) (start old now : Option (List ℕ)) (end : RunEnd)
     → length all ≤ world_limit → ended_from held ≡ line ∷ ended_from later
     → later.count + length (ended later.bytes) ≡ held.count + length (ended held.bytes)
     → open_rest later.bytes ≡ open_rest held.bytes → later.fed ≡ held.fed
-    → ((start : Option (List ℕ)) (done : List Line) → HasDone done world start old → StopsBehind done line start now end)
+    → ((start : Option (List ℕ)) (done : List Line) → HasDone done world start old
+    → StopsBehind done line start now end)
     → IsReading all held world start old → StopsIn (seen world_limit (all ++ more)) start now end
-reading_stops law law_seen all more held later line world start old now end few lines count rest fed stops reading =
+reading_stops law law_seen all more held later line world start old now end few lines count rest fed
+    stops reading =
     let left = law all reading.done (line ∷ []) held later reading.left lines count rest fed in
     let sees = law_seen world_limit all more (reading.done ++ line ∷ []) later left few in
     stops_in (seen world_limit (all ++ more)) reading.done sees.0 line start now end
-    (sees.1 ∙ append_assoc reading.done (line ∷ []) sees.0) reading.has.steps (stops start reading.done reading.has)
+    (sees.1 ∙ append_assoc reading.done (line ∷ []) sees.0) reading.has.steps
+    (stops start reading.done reading.has)
 
 -- the next line is too long
-pub reading_long : SeenLong → (all more : List ℕ) (held : Held) (n : ℕ) (world : World) (start now : Option (List ℕ))
+pub reading_long : SeenLong → (all more : List ℕ) (held : Held) (n : ℕ) (world : World)
+    (start now : Option (List ℕ))
     → length all ≤ world_limit → NextIsLong held n
-    → IsReading all held world start now → StopsIn (seen world_limit (all ++ more)) start now (BadLine n)
+    → IsReading all held world start now → StopsIn (seen world_limit (all ++ more)) start now
+    (BadLine n)
 reading_long law all more held n world start now few long reading =
-    let (line, behind, whole, overlong, number) = law world_limit all more reading.done held n reading.left few long in (
+    let (line, behind, whole, overlong, number) = law world_limit all more reading.done held n
+    reading.left few long in (
       reading.done,
       record {
         line = line;
@@ -106,7 +122,8 @@ reading_long law all more held n world start now few long reading =
     )
 
 -- memory runs out
-pub reading_full : SeenGiven → (all more : List ℕ) (held : Held) (world : World) (start now : Option (List ℕ))
+pub reading_full : SeenGiven → (all more : List ℕ) (held : Held) (world : World)
+    (start now : Option (List ℕ))
     → length all ≤ world_limit
     → IsReading all held world start now → StopsIn (seen world_limit (all ++ more)) start now Memory
 reading_full law all more held world start now few reading =
@@ -120,9 +137,11 @@ reading_full law all more held world start now few reading =
 -- ---- where nothing more is fed
 
 -- a line is given and done
-pub ending_further : (lines : List Line) (held later : Held) (line : Line) (world after : World) (start old now : Option (List ℕ))
+pub ending_further : (lines : List Line) (held later : Held) (line : Line) (world after : World)
+    (start old now : Option (List ℕ))
     → lines_from held ≡ line ∷ lines_from later
-    → ((start : Option (List ℕ)) (done : List Line) → HasDone done world start old → HasDone (done ++ line ∷ []) after start now)
+    → ((start : Option (List ℕ)) (done : List Line) → HasDone done world start old
+    → HasDone (done ++ line ∷ []) after start now)
     → IsEnding lines held world start old → IsEnding lines later after start now
 ending_further lines held later line world after start old now given does ending = record {
   done = ending.done ++ line ∷ [];
@@ -133,16 +152,20 @@ ending_further lines held later line world after start old now given does ending
 }
 
 -- a line is given, and stops the run
-pub ending_stops : (lines : List Line) (held later : Held) (line : Line) (world : World) (start old now : Option (List ℕ)) (end : RunEnd)
+pub ending_stops : (lines : List Line) (held later : Held) (line : Line) (world : World)
+    (start old now : Option (List ℕ)) (end : RunEnd)
     → lines_from held ≡ line ∷ lines_from later
-    → ((start : Option (List ℕ)) (done : List Line) → HasDone done world start old → StopsBehind done line start now end)
+    → ((start : Option (List ℕ)) (done : List Line) → HasDone done world start old
+    → StopsBehind done line start now end)
     → IsEnding lines held world start old → StopsIn lines start now end
 ending_stops lines held later line world start old now end given stops ending =
     stops_in lines ending.done (lines_from later) line start now end
-    (ending.whole ∙ ap (λ (ls : List Line). ending.done ++ ls) given) ending.has.steps (stops start ending.done ending.has)
+    (ending.whole ∙ ap (λ (ls : List Line). ending.done ++ ls) given) ending.has.steps
+    (stops start ending.done ending.has)
 
 -- the next line is too long
-pub ending_long : (lines : List Line) (held : Held) (n : ℕ) (world : World) (start now : Option (List ℕ))
+pub ending_long : (lines : List Line) (held : Held) (n : ℕ) (world : World)
+    (start now : Option (List ℕ))
     → NextIsLong held n → IsEnding lines held world start now → StopsIn lines start now (BadLine n)
 ending_long lines held n world start now long ending = (
   ending.done,
@@ -173,4 +196,5 @@ pub ending_told : (lines : List Line) (held : Held) (world : World) (start now :
 ending_told lines held world start now none ending =
     let all : ending.done ≡ lines =
     sym (ending.whole ∙ ap (λ (ls : List Line). ending.done ++ ls) none ∙ append-nil ending.done) in
-    subst (λ (ls : List Line). HasPrinted ls start now) all (told_of ending.done world start now ending.has)
+    subst (λ (ls : List Line). HasPrinted ls start now) all
+    (told_of ending.done world start now ending.has)

@@ -15,7 +15,8 @@ use Rattle.dp_world.proofs.Called.{OneAction}
 
 -- one line more asks for one action more
 pub asked_more : (done : List Line) (actions : List Action) (line : Line) (action : Action)
-    → AskFor done actions → Parses line.bytes action → AskFor (done ++ line ∷ []) (actions ++ action ∷ [])
+    → AskFor done actions → Parses line.bytes action → AskFor (done ++ line ∷ [])
+    (actions ++ action ∷ [])
 asked_more [] [] line action asked asks = (asks, tt)
 asked_more [] (first ∷ actions) line action asked asks = absurd asked
 asked_more (first ∷ done) [] line action asked asks = absurd asked
@@ -33,7 +34,8 @@ asked_front one [] behind [] more front whole = record { rest = more; whole = re
 asked_front one [] behind (action ∷ actions) more front whole = absurd front
 asked_front one (line ∷ done) behind [] more front whole = absurd front
 asked_front one (line ∷ done) behind (action ∷ actions) [] front whole = absurd whole
-asked_front one (line ∷ done) behind (action ∷ actions) (other ∷ more) (here, front) (there, whole) =
+asked_front one (line ∷ done) behind (action ∷ actions) (other ∷ more) (here, front) (there, whole)
+    =
     let begins = asked_front one done behind actions more front whole in
     let first : other ≡ action = one line.bytes other action there here in
     let others = begins.whole in record { rest = begins.rest; whole = cc }
@@ -53,11 +55,13 @@ asked_same one (line ∷ done) (action ∷ actions) (other ∷ more) (here, h) (
 -- ---- what the actions make and print
 
 pub along-append : (world : World) (actions more : List Action)
-    → along printed world (actions ++ more) ≡ along printed world actions ++ along printed (fold after world actions) more
+    → along printed world (actions ++ more) ≡ along printed world actions
+    ++ along printed (fold after world actions) more
 along-append world [] more = refl
 along-append world (action ∷ actions) more =
     ap (λ (b : List ℕ). printed world action ++ b) (along-append (after world action) actions more)
-    ∙ sym (append_assoc (printed world action) (along printed (after world action) actions) (along printed (fold after (after world action) actions) more))
+    ∙ sym (append_assoc (printed world action) (along printed (after world action) actions)
+    (along printed (fold after (after world action) actions) more))
 
 -- a report goes on
 pub report-append : (actions more : List Action)

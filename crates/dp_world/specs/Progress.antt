@@ -22,14 +22,16 @@ IsAllowed (Join name registered) = Unit {0}
 IsAllowed (Act client instruction) = IsSayable instruction
 IsAllowed (Show client kind) = Unit {0}
 
--- why no action is had of a line: it asks for nothing that may be done in the world, or memory ran out
+-- why no action is had of a line: it asks for nothing that may be done in the world, or memory ran
+-- out
 abbrev pub IsRefused : Line → World → RunEnd → Type 0
 IsRefused line world (BadLine n) =
     (line.number ≡ n) × ((action : Action) → Parses line.bytes action → ¬ IsPossible world action)
 IsRefused line world Memory = Unit {0}
 IsRefused line world _ = ⊥
 
--- these lines were done: they are steps, the world is the one after them, and the output grew by their report
+-- these lines were done: they are steps, the world is the one after them, and the output grew by
+-- their report
 pub record HasDone (done : List Line) (world : World) (old now : Option (List ℕ)) : Type 0 where
   pub actions : List Action
   pub asked : AskFor done actions
@@ -75,24 +77,28 @@ StopsIn lines old now Memory = HasBegunOf lines old now
 StopsIn lines old now _ = ⊥
 
 -- all of these bytes were fed, and the lines that aren't held any more were done
-pub record IsReading (all : List ℕ) (held : Held) (world : World) (old now : Option (List ℕ)) : Type 0 where
+pub record IsReading (all : List ℕ) (held : Held) (world : World) (old now : Option (List ℕ)) : Type
+    0 where
   pub done : List Line
   pub left : IsLeft all done held
   pub has : HasDone done world old now
 
 -- nothing more is fed: of these lines those were done that aren't to come
-pub record IsEnding (lines : List Line) (held : Held) (world : World) (old now : Option (List ℕ)) : Type 0 where
+pub record IsEnding (lines : List Line) (held : Held) (world : World) (old now : Option (List ℕ)) :
+    Type 0 where
   pub done : List Line
   pub whole : lines ≡ done ++ lines_from held
   pub has : HasDone done world old now
 
 -- of the bytes of the input these were taken and fed, where it tells them
-pub record HasRead (input left : Option (List ℕ)) (held : Held) (world : World) (old now : Option (List ℕ)) : Type 0 where
+pub record HasRead (input left : Option (List ℕ)) (held : Held) (world : World)
+    (old now : Option (List ℕ)) : Type 0 where
   pub taken : List ℕ
   pub consumed : Consumes input left taken
   pub reading : IsReading taken held world old now
 
--- what the count of the output's faults does where a run stops so at a line, because memory ran out or at a fault
+-- what the count of the output's faults does where a run stops so at a line, because memory ran out
+-- or at a fault
 abbrev pub CountsTo : ℕ → ℕ → RunEnd → Type 0
 CountsTo before now (BadLine n) = now ≡ before
 CountsTo before now WriteFault = Rose before now

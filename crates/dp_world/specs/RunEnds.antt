@@ -5,7 +5,8 @@ use Rattle.dp_io.specs.Faults.{Rose}
 use Rattle.dp_io.specs.Streams.{GrowsByPrefix}
 use Rattle.dp_lines.specs.declared.line.Line.{Line}
 use Rattle.dp_lines.specs.declared.run_end.RunEnd.{RunEnd}
-use Rattle.dp_lines.specs.declared.run_end.RunEnd.TheVariants.{Done, BadLine, ReadFault, WriteFault, Memory, Long}
+use Rattle.dp_lines.specs.declared.run_end.RunEnd.TheVariants.{Done, BadLine, ReadFault, WriteFault}
+use Rattle.dp_lines.specs.declared.run_end.RunEnd.TheVariants.{Memory, Long}
 use Rattle.dp_lines.specs.Ends.{LinesEnd, AreSteps}
 use Rattle.dp_lines.specs.Ends as ends
 use Rattle.dp_lines.specs.Lines.{ended, numbered}
@@ -25,7 +26,8 @@ ReportsPart input old new =
     IfSome input (λ bytes. (done : List Line) (actions : List Action) (end : LinesEnd)
     → WorldComesTo bytes done actions end → GrowsByPrefix old new (report actions))
 
--- Of the bytes of the input these were taken, and those are left; the lines that are whole in those that were
+-- Of the bytes of the input these were taken, and those are left; the lines that are whole in those
+-- that were
 -- taken are steps, and the output grew by the report of them.
 pub record ReportsOf (bytes : List ℕ) (left old new : Option (List ℕ)) : Type 0 where
   pub taken : List ℕ
@@ -38,7 +40,8 @@ pub record ReportsOf (bytes : List ℕ) (left old new : Option (List ℕ)) : Typ
   pub text : Appends old new (report actions)
 
 -- What a run that ends so leaves of an input and on the output.
-abbrev pub WorldLeaves : Option (List ℕ) → Option (List ℕ) → Option (List ℕ) → Option (List ℕ) → RunEnd → Type 0
+abbrev pub WorldLeaves : Option (List ℕ) → Option (List ℕ) → Option (List ℕ) → Option (List ℕ)
+    → RunEnd → Type 0
 WorldLeaves input left old new Done = IsAtEnd left × ReportsWhole input old new ends.AllDone
 WorldLeaves input left old new (BadLine n) = ReportsWhole input old new (ends.BadLine n)
 WorldLeaves input left old new Long = ReportsWhole input old new ends.TooLong

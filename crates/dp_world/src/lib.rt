@@ -3,9 +3,9 @@
 //! The rule: docs/protocol.md, "The world".
 #![tactic(auto)]
 
+mod laws;
 mod line_run;
 mod piece_run;
-mod laws;
 mod run;
 mod steps;
 

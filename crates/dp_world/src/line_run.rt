@@ -22,9 +22,9 @@ use crate::steps::ScheduleSteps;
 use dp_flat::{PictureEnd, write_p3};
 use dp_io::{Sink, put_all};
 use dp_lines::{Line, Lines, RunEnd, further_step};
-use dp_sim::World;
 use dp_plain::PlainBoard;
 use dp_schedule::{Action, CanvasKind, ReportLine, one_action, read_action};
+use dp_sim::World;
 use dp_steps::Steps;
 use std::alloc::{AllocError, Global};
 use std::sync::ledger::Ledger;
@@ -141,7 +141,10 @@ impl Run {
                 let line = self.world.join(name, registered)?;
                 put_line(self.alloc, line, output)
             }
-            Action::Act { client, instruction } => {
+            Action::Act {
+                client,
+                instruction,
+            } => {
                 let line = self.world.act(client, &instruction)?;
                 put_line(self.alloc, line, output)
             }

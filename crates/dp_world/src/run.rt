@@ -15,13 +15,16 @@ use std::sync::ledger::Ledger;
 /// How many bytes of the input count: 64 MiB.
 const WORLD_LIMIT: usize = 1 << 26;
 
-/// Reads the lines of a schedule and does them one after the other. What a line prints is written before the
+/// Reads the lines of a schedule and does them one after the other. What a line prints is written
+/// before the
 /// next line is read.
 ///
 /// # Errors
 ///
-/// It ends with `BadLine` at the first line that is no step, with `Long` where the input has more than 64 MiB,
-/// with `ReadFault` and `WriteFault` where the input and the output failed, and with `Memory` where memory ran
+/// It ends with `BadLine` at the first line that is no step, with `Long` where the input has more
+/// than 64 MiB,
+/// with `ReadFault` and `WriteFault` where the input and the output failed, and with `Memory` where
+/// memory ran
 /// out.
 ///
 /// The rule: docs/protocol.md, "The world".

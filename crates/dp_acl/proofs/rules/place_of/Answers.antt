@@ -13,6 +13,7 @@ returns-clause-found c =
 pub returns-clause-absent : goal.returns-clause-absent
 returns-clause-absent c =
     let facts = c.binary_search_by_key.ensures in
-    search-absent c.args.rules.now c.args.layer c.requires c.binary_search_by_key.result (omega arith)
+    search-absent c.args.rules.now c.args.layer c.requires c.binary_search_by_key.result
+    (omega arith)
     facts.bound
     (facts.position (λ (r : Rule). r.layer) (answers_always _ _ _ (λ f a r g called. search rules)))

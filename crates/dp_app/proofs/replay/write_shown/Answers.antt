@@ -13,6 +13,7 @@ returns-in-Ok-write_p6-clause-shown g c =
     let held = g.O.Sink.held in
     inl (
       refl,
-      subst (λ (b : Board). Appends (held c.args.output.now) (held c.write_p6.new.out) (p6 b)) drawn c.in-Ok-write_p6.ensures.written,
+      subst (λ (b : Board). Appends (held c.args.output.now) (held c.write_p6.new.out) (p6 b)) drawn
+          c.in-Ok-write_p6.ensures.written,
       c.in-Ok-write_p6.ensures.cause.kept,
     )

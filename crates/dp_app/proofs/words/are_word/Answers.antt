@@ -6,5 +6,7 @@ use Rattle.dp_app.proofs.words.are_word.Goals as goal
 
 pub returns-in-len1 : goal.returns-in-len1
 returns-in-len1 c =
-    one_word c.args.words.now c.only-item.result c.args.word.now c.eq.result c.only-item.is c.in-len1.len_at_least c.in-len1.len_below
-    (c.eq.ensures ∙ ap (λ (bytes : List ℕ). pointwise eqb bytes c.args.word.now) c.as_str.ensures.value)
+    one_word c.args.words.now c.only-item.result c.args.word.now c.eq.result c.only-item.is
+    c.in-len1.len_at_least c.in-len1.len_below
+    (c.eq.ensures ∙ ap (λ (bytes : List ℕ). pointwise eqb bytes c.args.word.now)
+    c.as_str.ensures.value)

@@ -8,7 +8,8 @@ pub blend_lanes-requires-clause-sources : goal.blend_lanes-requires-clause-sourc
 blend_lanes-requires-clause-sources g c =
     let p = c.lanes_of.ensures in
     are_faded _ _ _ _ p.first_pixel p.second_pixel c.requires.first c.requires.second
-    (rw (c.products-faded.ensures, c.fours_of-masks.ensures, p.value) (masks_fade c.args.src c.args.src c.args.masks.0 c.args.masks.1))
+    (rw (c.products-faded.ensures, c.fours_of-masks.ensures, p.value)
+    (masks_fade c.args.src c.args.src c.args.masks.0 c.args.masks.1))
 
 pub pixels_of-requires : goal.pixels_of-requires
 pixels_of-requires g c =
@@ -18,5 +19,6 @@ pixels_of-requires g c =
     let masks = c.fours_of-masks.ensures in
     let faded : c.products-faded.result ≡ lanes (fade s m.0) (fade s m.1) =
     rw (c.products-faded.ensures, masks, c.lanes_of.ensures.value) (masks_fade s s m.0 m.1) in
-    are_masked g.K.Kernel.mode s m.0 m.1 _ _ c.lanes_of.ensures.first_pixel old.first_pixel old.second_pixel c.requires.first c.requires.second
+    are_masked g.K.Kernel.mode s m.0 m.1 _ _ c.lanes_of.ensures.first_pixel old.first_pixel
+    old.second_pixel c.requires.first c.requires.second
     masks faded old.value c.blend_lanes.ensures c.kept_where_zero.ensures

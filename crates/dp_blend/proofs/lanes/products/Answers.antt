@@ -8,5 +8,7 @@ pub returns : goal.returns
 returns c =
     let v = c.args.values in
     let f = c.args.factors in
-    let ones = tops_compared w16 eqb f (replicate 8 32768) ∙ zip2_splat eqb f 8 32768 c.fits-factors.0 in
-    ap (λ m. sel_l m v c.high_halves.result) ones ∙ ap (sel_l _ v) c.high_halves.ensures ∙ products_is v f c.requires
+    let ones = tops_compared w16 eqb f (replicate 8 32768)
+    ∙ zip2_splat eqb f 8 32768 c.fits-factors.0 in
+    ap (λ m. sel_l m v c.high_halves.result) ones ∙ ap (sel_l _ v) c.high_halves.ensures
+    ∙ products_is v f c.requires

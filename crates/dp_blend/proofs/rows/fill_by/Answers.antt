@@ -9,19 +9,24 @@ loop-k-preserved g c =
     let f = blend g.K.Kernel.mode c.args.src in
     let row = c.args.row.now in
     let made = c.fill_two-first.ensures in
-    changed-two (λ (_ d : Channels). f d) row row c.loop-k.row (2 * c.loop-k.k) (2 * (c.loop-k.k + 1)) c.args.src c.args.src _ _ _ _
-    (omega arith) (omega arith) (omega arith) c.loop-k.invariant (made.first ∙ ap f c.index-row-at.is) (made.second ∙ ap f c.index-row-next.is)
+    changed-two (λ (_ d : Channels). f d) row row c.loop-k.row (2 * c.loop-k.k)
+    (2 * (c.loop-k.k + 1)) c.args.src c.args.src _ _ _ _
+    (omega arith) (omega arith) (omega arith) c.loop-k.invariant
+    (made.first ∙ ap f c.index-row-at.is) (made.second ∙ ap f c.index-row-next.is)
 
 pub returns-then-row-eq1 : goal.returns-then-row-eq1
 returns-then-row-eq1 g c =
     let f = blend g.K.Kernel.mode c.args.src in
     let row = c.args.row.now in
-    changed-last (λ (_ d : Channels). f d) row row c.loop-k.row (2 * c.loop-k.k) (length c.loop-k.row - 1) c.args.src _ _
-    (omega arith) (omega arith) (omega arith) c.loop-k.invariant (c.fill_two-only.ensures.first ∙ ap f c.index-row-last.is)
+    changed-last (λ (_ d : Channels). f d) row row c.loop-k.row (2 * c.loop-k.k)
+    (length c.loop-k.row - 1) c.args.src _ _
+    (omega arith) (omega arith) (omega arith) c.loop-k.invariant
+    (c.fill_two-only.ensures.first ∙ ap f c.index-row-last.is)
     ∙ sym (row_filled-is g.K.Kernel.mode c.args.src row)
 
 pub returns-else-row-eq1 : goal.returns-else-row-eq1
 returns-else-row-eq1 g c =
     let row = c.args.row.now in
-    changed-all (λ (_ d : Channels). blend g.K.Kernel.mode c.args.src d) row row c.loop-k.row (2 * c.loop-k.k) (omega arith) c.loop-k.invariant
+    changed-all (λ (_ d : Channels). blend g.K.Kernel.mode c.args.src d) row row c.loop-k.row
+    (2 * c.loop-k.k) (omega arith) c.loop-k.invariant
     ∙ sym (row_filled-is g.K.Kernel.mode c.args.src row)

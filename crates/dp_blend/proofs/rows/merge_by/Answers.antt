@@ -1,7 +1,8 @@
 use Rattle.std.proofs.Common.{◌+◌, ◌-◌, ◌*◌, length, sym, ap, ◌∙◌, arith}
 use Rattle.dp_blend.specs.Color.{Channels, fade}
 use Rattle.dp_blend.specs.Blending.{blend}
-use Rattle.dp_blend.proofs.RowLemmas.{changed-all, changed-last, changed-two, row_merged-is, row_merged-places}
+use Rattle.dp_blend.proofs.RowLemmas.{changed-all, changed-last, changed-two, row_merged-is}
+use Rattle.dp_blend.proofs.RowLemmas.{row_merged-places}
 use Rattle.dp_blend.proofs.rows.merge_by.Goals as goal
 
 pub loop-k-preserved : goal.loop-k-preserved
@@ -10,8 +11,10 @@ loop-k-preserved g c =
     let made = c.merge_two-first.ensures in
     let at = c.index-row-at in
     let next = c.index-row-next in
-    changed-two f c.args.sources.now c.args.row.now c.loop-k.row (2 * c.loop-k.k) (2 * (c.loop-k.k + 1))
-    c.index-sources-at.result c.index-sources-next.result _ _ _ _ (omega arith) (omega arith) (omega arith) c.loop-k.invariant
+    changed-two f c.args.sources.now c.args.row.now c.loop-k.row (2 * c.loop-k.k)
+    (2 * (c.loop-k.k + 1))
+    c.index-sources-at.result c.index-sources-next.result _ _ _ _ (omega arith) (omega arith)
+    (omega arith) c.loop-k.invariant
     (made.first ∙ ap (λ s. f s at.result) c.index-sources-at.is ∙ ap (f _) at.is)
     (made.second ∙ ap (λ s. f s next.result) c.index-sources-next.is ∙ ap (f _) next.is)
 
@@ -22,11 +25,17 @@ returns-then-row-eq1 g c =
     let sources = c.args.sources.now in
     let row = c.args.row.now in
     let last = c.index-row-last in
-    let whole = changed-last f sources row c.loop-k.row (2 * c.loop-k.k) (length c.loop-k.row - 1) c.index-sources-last.result _ _
+    let whole = changed-last f sources row c.loop-k.row (2 * c.loop-k.k) (length c.loop-k.row - 1)
+    c.index-sources-last.result _ _
     (omega arith) (omega arith) (omega arith) c.loop-k.invariant
-    (c.merge_two-only.ensures.first ∙ ap (λ s. f s last.result) c.index-sources-last.is ∙ ap (f _) last.is) in
+    (c.merge_two-only.ensures.first ∙ ap (λ s. f s last.result) c.index-sources-last.is
+    ∙ ap (f _) last.is) in
     let value = whole ∙ sym (row_merged-is mode c.args.by sources row) in
-    record { value = value; places = row_merged-places mode c.args.by sources row _ value c.requires.same_length }
+    record {
+      value = value;
+      places = row_merged-places mode c.args.by sources row _ value
+          c.requires.same_length;
+    }
 
 pub returns-else-row-eq1 : goal.returns-else-row-eq1
 returns-else-row-eq1 g c =
@@ -34,6 +43,11 @@ returns-else-row-eq1 g c =
     let f = λ (s d : Channels). blend mode (fade s c.args.by) d in
     let sources = c.args.sources.now in
     let row = c.args.row.now in
-    let value = changed-all f sources row c.loop-k.row (2 * c.loop-k.k) (omega arith) c.loop-k.invariant
+    let value = changed-all f sources row c.loop-k.row (2 * c.loop-k.k) (omega arith)
+    c.loop-k.invariant
     ∙ sym (row_merged-is mode c.args.by sources row) in
-    record { value = value; places = row_merged-places mode c.args.by sources row _ value c.requires.same_length }
+    record {
+      value = value;
+      places = row_merged-places mode c.args.by sources row _ value
+          c.requires.same_length;
+    }

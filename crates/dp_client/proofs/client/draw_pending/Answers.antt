@@ -9,6 +9,8 @@ pub loop-k-preserved : goal.loop-k-preserved
 loop-k-preserved g c =
     let within : c.loop-k.k < length c.args.fork.now.items = search rules in
     let next : suc c.loop-k.k ≡ c.loop-k.k + 1 = omega arith in
-    subst (λ (n : ℕ). c.draw_message.new.board ≡ draw_all c.args.board.now (filter_map command_of (take n c.args.fork.now.items))) next
-    (drawn_more c.args.board.now c.loop-k.board c.draw_message.new.board c.args.fork.now.items c.loop-k.k c.index.result.now
+    subst (λ (n : ℕ). c.draw_message.new.board ≡ draw_all c.args.board.now
+    (filter_map command_of (take n c.args.fork.now.items))) next
+    (drawn_more c.args.board.now c.loop-k.board c.draw_message.new.board c.args.fork.now.items
+    c.loop-k.k c.index.result.now
     within c.index.ensures c.in_ok-draw_message.ensures c.loop-k.invariant)

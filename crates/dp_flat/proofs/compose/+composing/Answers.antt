@@ -35,11 +35,13 @@ compose_row-loop-row-preserved g t c = λ x in_row.
             | compose_row-else-row-parent-via-then-row-parent+else-not-row v ↦
                 same ∙ passed_more board (c.args.depth - 1) c.args.parent rows x c.args.y _
                 c.loop-row.row-index c.row-item.result _
-                inside c.row-item.is (hidden_no c.args.parent c.row-item.result v.if-not-row.false) before
+                inside c.row-item.is (hidden_no c.args.parent c.row-item.result v.if-not-row.false)
+                before
             | compose_row-else-row-parent-via-else-row-parent v ↦
                 same ∙ passed_more board (c.args.depth - 1) c.args.parent rows x c.args.y _
                 c.loop-row.row-index c.row-item.result _
-                inside c.row-item.is (elsewhere_no c.args.parent c.row-item.result v.if-row-parent.false)
+                inside c.row-item.is (elsewhere_no c.args.parent c.row-item.result
+                v.if-row-parent.false)
                 before
           ]
     ]
@@ -53,5 +55,6 @@ compose_row-returns g t c = λ x in_row.
 
 pub show_row-returns-else-row : goal.show_row-returns-else-row
 show_row-returns-else-row g t c =
-    shown_paint (g.V.BoardView.board c.args.board.now) c.args.depth c.args.row.now c.args.y c.copy_row.new.row
+    shown_paint (g.V.BoardView.board c.args.board.now) c.args.depth c.args.row.now c.args.y
+    c.copy_row.new.row
     c.if-row.false c.copy_row.ensures (omega arith)

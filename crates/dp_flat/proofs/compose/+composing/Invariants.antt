@@ -13,5 +13,6 @@ decreases-show_row g l = 2 * l.depth + 1
 abbrev pub invariant-compose_row-loop-row : goal.invariant-compose_row-loop-row
 invariant-compose_row-loop-row g l =
     (x : ℕ) → x < length l.initial.out → get_or l.out x clear
-    ≡ composed_by (g.V.BoardView.board l.board) (l.depth - 1) l.parent (take l.row-index l.row-items) x
+    ≡ composed_by (g.V.BoardView.board l.board) (l.depth - 1) l.parent
+    (take l.row-index l.row-items) x
     l.y (get_or l.initial.out x clear)

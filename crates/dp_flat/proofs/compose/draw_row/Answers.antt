@@ -15,6 +15,10 @@ returns g c =
     c.compose_row.new.out long (λ x in_row.
     let in_out : x < length c.compose_row.new.out = omega arith in
     seen_at board x c.args.y _ _ _
-    (c.lay_on_white.ensures x (omega (arith, length-take c.width-width.result c.compose_row.new.levels)))
+    (c.lay_on_white.ensures x (omega (
+      arith,
+      length-take c.width-width.result
+          c.compose_row.new.levels,
+    )))
     (c.compose_row.ensures x (omega arith)) (c.row_fill.ensures.places x clear (omega arith)
     ∙ c.of_argb.ensures.value ∙ ap of_argb c.background.ensures))

@@ -20,7 +20,8 @@ returns-in_err-put_row-clause-prefix g c =
     ap (λ n. take n c.draw_row.new.memory) c.width-width.ensures.value ∙ c.draw_row.ensures in
     text_failed (held c.args.out.now) (held c.put_row.new.out) text board c.loop-y.y front shown row
     (omega (arith, c.height-height.ensures.value))
-    (before_failed (held c.args.out.now) (held c.loop-y.out) (held c.put_row.new.out) c.loop-y.piece.items
+    (before_failed (held c.args.out.now) (held c.loop-y.out) (held c.put_row.new.out)
+    c.loop-y.piece.items
     (front ++ flat_map text (canvas_of board.width c.loop-y.y (seen board))) (flat_map text shown)
     c.loop-y.invariant.before c.in_err-put_row.ensures.prefix)
 
@@ -36,8 +37,10 @@ loop-y-preserved g c =
     record {
       before = subst (GrowsBefore (held c.args.out.now) (held c.put_row.new.out)
           c.put_row.new.piece.items) (text_more text board c.loop-y.y front shown row)
-          (before_on (held c.args.out.now) (held c.loop-y.out) (held c.put_row.new.out) c.loop-y.piece.items
-          (front ++ flat_map text (canvas_of board.width c.loop-y.y (seen board))) (flat_map text shown)
+          (before_on (held c.args.out.now) (held c.loop-y.out) (held c.put_row.new.out)
+          c.loop-y.piece.items
+          (front ++ flat_map text (canvas_of board.width c.loop-y.y (seen board)))
+          (flat_map text shown)
           c.put_row.new.piece.items
           c.loop-y.invariant.before c.in_ok-put_row.ensures.before);
       kept = c.in_ok-put_row.ensures.cause.kept ∙ c.loop-y.invariant.kept;
@@ -47,7 +50,8 @@ pub returns-clause-written : goal.returns-clause-written
 returns-clause-written g c =
     let board = g.V.BoardView.board c.args.board.now in
     let all : c.loop-y.y ≡ board.height = omega (arith, c.height-height.ensures.value) in
-    last_written _ _ _ _ _ _ c.put_all.result (text_all _ _ (pixel_text_of c.args.format) board c.loop-y.y
+    last_written _ _ _ _ _ _ c.put_all.result (text_all _ _ (pixel_text_of c.args.format) board
+    c.loop-y.y
     (head (name_of c.args.format) board.width board.height) _ all c.loop-y.invariant.before)
     c.as_slice.ensures.value c.put_all.ensures.written
 

@@ -9,7 +9,8 @@ use Rattle.dp_flat.proofs.picture.put_row.Goals as goal
 
 pub returns-in_err-make_room-clause-prefix : goal.returns-in_err-make_room-clause-prefix
 returns-in_err-make_room-clause-prefix g c =
-    let whole = toward_failed _ _ _ _ _ _ c.loop-pixels.invariant.toward c.in_err-make_room.ensures.prefix in
+    let whole = toward_failed _ _ _ _ _ _ c.loop-pixels.invariant.toward
+    c.in_err-make_room.ensures.prefix in
     search rules
 
 pub loop-pixels-preserved : goal.loop-pixels-preserved

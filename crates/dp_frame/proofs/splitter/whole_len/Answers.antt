@@ -4,4 +4,5 @@ use Rattle.dp_frame.proofs.splitter.whole_len.Goals as goal
 
 pub returns-then-len-bytes-clause-some : goal.returns-then-len-bytes-clause-some
 returns-then-len-bytes-clause-some c =
-    holds_frame c.args.bytes.now (λ i. omega (arith, c.type_inv.bytes i)) (omega arith) (omega arith)
+    holds_frame c.args.bytes.now (λ i. omega (arith, c.type_inv.bytes i)) (omega arith)
+    (omega arith)

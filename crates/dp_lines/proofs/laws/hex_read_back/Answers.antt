@@ -1,4 +1,5 @@
-use Rattle.std.proofs.Common.{◌≡◌, ℕ, ◌%◌, ◌<◌, List, length, Result, Ok, Err, IsSome, inl, inr, refl, ap, arith}
+use Rattle.std.proofs.Common.{◌≡◌, ℕ, ◌%◌, ◌<◌, List, length, Result, Ok, Err, IsSome, inl, inr}
+use Rattle.std.proofs.Common.{refl, ap, arith}
 use Rattle.std.specs.List.{All, AllPass}
 use Rattle.std.specs.Option.{is_some}
 use Rattle.std.specs.Result.{result_ok}

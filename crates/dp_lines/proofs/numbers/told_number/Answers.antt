@@ -14,11 +14,13 @@ text_of_number word n is =
 
 -- bytes that are no text are no number
 pub returns-in_default : goal.returns-in_default
-returns-in_default c n is = absurd (c.in_default.ensures.cases.0 (text_of_number c.args.word.now n is))
+returns-in_default c n is = absurd (c.in_default.ensures.cases.0
+    (text_of_number c.args.word.now n is))
 
 -- the digits of a number tell it
 pub returns : goal.returns
 returns c n is =
     let small : n < 2 ^ 64 = omega (arith, is.fits) in
     c.ok.ensures.value
-    ∙ ap result_ok (parse-decimal 32 n c.in-Ok.text.now c.parse.result is.fits small (c.in-Ok.ensures.cases.0 ∙ is.text) c.parse.ensures.value.0)
+    ∙ ap result_ok (parse-decimal 32 n c.in-Ok.text.now c.parse.result is.fits small
+    (c.in-Ok.ensures.cases.0 ∙ is.text) c.parse.ensures.value.0)

@@ -1,4 +1,5 @@
-use Rattle.std.proofs.Common.{◌≡◌, ◌∙◌, ℕ, List, ◌++◌, true, false, refl, sym, ap, length, length-append, arith, inl, inr}
+use Rattle.std.proofs.Common.{◌≡◌, ◌∙◌, ℕ, List, ◌++◌, true, false, refl, sym, ap, length}
+use Rattle.std.proofs.Common.{length-append, arith, inl, inr}
 use Rattle.dp_frame.specs.Frames.{FrameParts}
 use Rattle.dp_messages.specs.declared.message.Msg.{Msg}
 use Rattle.dp_messages.specs.declared.message.Entry.{Entry}
@@ -10,7 +11,8 @@ abbrev frame_parts : ℕ → ℕ → List ℕ → FrameParts
 frame_parts kind user body = record { kind = kind; user = user; body = body }
 
 -- a frame of the message's kind and payload carries the entry
-carried : (frame : FrameParts) (entry : Entry) (kind : ℕ) (body : List ℕ) → frame ≡ frame_parts kind entry.user body → kind ≡ kind_of entry.msg →
+carried : (frame : FrameParts) (entry : Entry) (kind : ℕ) (body : List ℕ)
+    → frame ≡ frame_parts kind entry.user body → kind ≡ kind_of entry.msg →
     body ≡ payload_of entry.msg → HasSpelling entry.msg → Carries frame entry
 carried frame entry kind body is k b spelled =
     record {
@@ -25,17 +27,28 @@ carried frame entry kind body is k b spelled =
 pub returns-then-len-gt65535-clause-spelled : goal.returns-then-len-gt65535-clause-spelled
 returns-then-len-gt65535-clause-spelled c = λ spelled.
     let m = c.args.entry.now.msg in
-    let short = c.one_message.ensures.short (kind_of m) (payload_of m) m (record { kind = refl; payload = refl; spelled = spelled }) in
-    absurd (omega (arith, short, ap length c.in_ok-write_payload.ensures, ap length c.new-payload.ensures.items, length-append {A = ℕ}))
+    let short = c.one_message.ensures.short (kind_of m) (payload_of m) m
+    (record { kind = refl; payload = refl; spelled = spelled }) in
+    absurd (omega (
+      arith,
+      short,
+      ap length c.in_ok-write_payload.ensures,
+      ap length
+          c.new-payload.ensures.items,
+      length-append {A = ℕ},
+    ))
 
 pub returns-in-Ok-clause-spelled : goal.returns-in-Ok-clause-spelled
 returns-in-Ok-clause-spelled c = λ spelled.
     let m = c.args.entry.now.msg in
-    let written = c.from_vec.ensures ∙ c.in_ok-write_payload.ensures ∙ ap (λ (xs : List ℕ). xs ++ payload_of m) c.new-payload.ensures.items in
-    let carries = carried c.new-frame.result c.args.entry.now c.kind.result c.from_vec.result c.new-frame.ensures c.kind.ensures written spelled in
+    let written = c.from_vec.ensures ∙ c.in_ok-write_payload.ensures
+    ∙ ap (λ (xs : List ℕ). xs ++ payload_of m) c.new-payload.ensures.items in
+    let carries = carried c.new-frame.result c.args.entry.now c.kind.result c.from_vec.result
+    c.new-frame.ensures c.kind.ensures written spelled in
     let told : c.same.result ≡ true =
     elim (c.in-Ok.ensures.only c.args.entry.now carries) as (λ _. c.same.result ≡ true) [
-      | inl e ↦ let again : c.in-Ok.again ≡ c.args.entry.now = cc in c.same.ensures.equal.1 (ap (λ (entry : Entry). entry.msg) again)
+      | inl e ↦ let again : c.in-Ok.again ≡ c.args.entry.now = cc in c.same.ensures.equal.1
+          (ap (λ (entry : Entry). entry.msg) again)
       | inr e ↦ absurd (cc)
     ] in
     absurd (let never : true ≡ false = sym told ∙ c.if-same.false in cc)

@@ -5,7 +5,8 @@ use Rattle.dp_msg_draw.proofs.items.collect_items.Goals as goal
 
 pub loop-item-preserved : goal.loop-item-preserved
 loop-item-preserved g c =
-    let more = taken_more g.met.T.Part.is_part c.loop-item.invariant c.in-Some.ensures.some c.in-Some.ensures.shorter in
+    let more = taken_more g.met.T.Part.is_part c.loop-item.invariant c.in-Some.ensures.some
+    c.in-Some.ensures.shorter in
     grind (arith, common_steps, more, c.in_ok-push.ensures.items)
 
 pub returns : goal.returns

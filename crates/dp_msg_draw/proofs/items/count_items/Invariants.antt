@@ -4,7 +4,8 @@ use Rattle.dp_msg_draw.proofs.items.count_items.Given as goal
 
 abbrev pub invariant-loop-after : goal.invariant-loop-after
 invariant-loop-after g l = record {
-  taken : (xs : List g.row.T.Denot) × Taken g.T.Part.spelling g.T.Part.valid l.bytes xs l.rest × (length xs ≡ l.count);
+  taken : (xs : List g.row.T.Denot) × Taken g.T.Part.spelling g.T.Part.valid l.bytes xs l.rest
+      × (length xs ≡ l.count);
   room : l.count + length l.rest ≤ length l.bytes;
 }
 

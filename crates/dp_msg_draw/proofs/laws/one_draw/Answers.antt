@@ -6,4 +6,5 @@ pub returns-clause-message : goal.returns-clause-message
 returns-clause-message c = one_draw
 
 pub returns-clause-short : goal.returns-clause-short
-returns-clause-short c = λ kind payload m s. subst (λ (bytes : List ℕ). length bytes ≤ 65535) (sym s.payload) (short_payload m s.spelled)
+returns-clause-short c = λ kind payload m s. subst (λ (bytes : List ℕ). length bytes ≤ 65535)
+    (sym s.payload) (short_payload m s.spelled)

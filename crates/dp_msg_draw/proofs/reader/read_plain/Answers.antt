@@ -1,5 +1,6 @@
 use Rattle.std.proofs.Common.{◌≡◌, arith}
-use Rattle.dp_msg_draw.proofs.Forms.{refused, canvas_resize, layer_attr, layer_move, fill_rect, move_rect}
+use Rattle.dp_msg_draw.proofs.Forms.{refused, canvas_resize, layer_attr, layer_move, fill_rect}
+use Rattle.dp_msg_draw.proofs.Forms.{move_rect}
 use Rattle.dp_msg_draw.proofs.reader.read_plain.Goals as goal
 
 pub returns-in_default-all : goal.returns-in_default-all

@@ -15,4 +15,5 @@ returns-in-DabsSquare-clause-spelled c =
     let m = c.in-DabsSquare in
     let x_fits : FitsSigned w32 m.x = search rules in
     let y_fits : FitsSigned w32 m.y = search rules in
-    rw m.is (rw (to_z-of_z w32 m.x x_fits, to_z-of_z w32 m.y y_fits) at c.put_dabs-in-DabsSquare.ensures.spelled)
+    rw m.is (rw (to_z-of_z w32 m.x x_fits, to_z-of_z w32 m.y y_fits) at
+    c.put_dabs-in-DabsSquare.ensures.spelled)

@@ -9,5 +9,9 @@ pub returns : goal.returns
 returns c =
     let width = c.args.width in
     let height = c.args.height in
-    let painted = subst (λ (w : Region). IsPainted w width (pixel_drawn w.canvas_width w.canvas_height c.args.op.now) c.args.pixels.now c.draw_region.new.pixels) c.whole.ensures c.draw_region.ensures in
-    whole_painted c.canvas_law.ensures width height (whole_window width height) (pixel_drawn width height c.args.op.now) c.args.pixels.now c.draw_region.new.pixels refl c.requires painted
+    let painted = subst (λ (w : Region). IsPainted w width
+    (pixel_drawn w.canvas_width w.canvas_height c.args.op.now) c.args.pixels.now
+    c.draw_region.new.pixels) c.whole.ensures c.draw_region.ensures in
+    whole_painted c.canvas_law.ensures width height (whole_window width height)
+    (pixel_drawn width height c.args.op.now) c.args.pixels.now c.draw_region.new.pixels refl
+    c.requires painted

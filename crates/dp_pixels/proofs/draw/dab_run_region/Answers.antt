@@ -14,11 +14,15 @@ pub loop-dab-preserved : goal.loop-dab-preserved
 loop-dab-preserved c =
     let s = c.args.run in
     let made = c.behind-placed.ensures in
-    let next = next_is s.at.x s.at.y s.dabs.now c.loop-dab.dab-index c.loop-dab.last c.behind-placed.result c.loop-dab-test.true made.value made.near_x made.near_y c.loop-dab.invariant.last in
+    let next = next_is s.at.x s.at.y s.dabs.now c.loop-dab.dab-index c.loop-dab.last
+    c.behind-placed.result c.loop-dab-test.true made.value made.near_x made.near_y
+    c.loop-dab.invariant.last in
     record {
       last = next.last;
-      drawn = dabs_more c.args.region.now c.args.stride s.shape c.in-Some.mode c.args.color (placed_dabs s.at.x s.at.y s.dabs.now) c.loop-dab.dab-index c.behind-placed.result
-          c.args.pixels.now c.loop-dab.pixels c.dab_region.new.pixels next.within next.is c.loop-dab.invariant.drawn c.dab_region.ensures;
+      drawn = dabs_more c.args.region.now c.args.stride s.shape c.in-Some.mode c.args.color
+          (placed_dabs s.at.x s.at.y s.dabs.now) c.loop-dab.dab-index c.behind-placed.result
+          c.args.pixels.now c.loop-dab.pixels c.dab_region.new.pixels next.within next.is
+          c.loop-dab.invariant.drawn c.dab_region.ensures;
     }
 
 pub returns : goal.returns
@@ -28,7 +32,17 @@ returns c =
     let dabs = placed_dabs s.at.x s.at.y s.dabs.now in
     let mode_is = c.from_u8.ensures.value in
     let some = c.in-Some.is in
-    let drawn = subst (λ (l : List PlacedDab). IsPainted w c.args.stride (on_canvas w (dabs_blended s.shape c.in-Some.mode c.args.color l)) c.args.pixels.now c.loop-dab.pixels)
-    (take_all c.loop-dab.dab-index dabs (omega (arith, c.loop-dab-test.false, length-placed_dabs s.at.x s.at.y s.dabs.now))) c.loop-dab.invariant.drawn in
-    subst (λ (o : Option Mode). IsPainted w c.args.stride (on_canvas w (λ (x y : ℤ) (p : Channels). option_map_or (λ m. dabs_blended s.shape m c.args.color dabs x y p) o p)) c.args.pixels.now c.loop-dab.pixels)
+    let drawn = subst (λ (l : List PlacedDab). IsPainted w c.args.stride
+    (on_canvas w (dabs_blended s.shape c.in-Some.mode c.args.color l)) c.args.pixels.now
+    c.loop-dab.pixels)
+    (take_all c.loop-dab.dab-index dabs (omega (
+      arith,
+      c.loop-dab-test.false,
+      length-placed_dabs
+          s.at.x s.at.y s.dabs.now,
+    ))) c.loop-dab.invariant.drawn in
+    subst (λ (o : Option Mode). IsPainted w c.args.stride
+    (on_canvas w (λ (x y : ℤ) (p : Channels). option_map_or
+    (λ m. dabs_blended s.shape m c.args.color dabs x y p) o p)) c.args.pixels.now
+    c.loop-dab.pixels)
     (sym some ∙ mode_is) drawn

@@ -18,10 +18,15 @@ returns-in-DabsRound c =
     let made = c.dab_run_of-run.ensures in
     let x : SFits w32 op.x = search rules in
     let y : SFits w32 op.y = search rules in
-    let dabs = made.placed ∙ (ap (λ (z : ℤ). placed_dabs z (to_z w32 (of_z w32 op.y)) op.dabs) (to_z-of_z w32 op.x x) ∙ ap (λ (z : ℤ). placed_dabs op.x z op.dabs) (to_z-of_z w32 op.y y)) in
-    subst (λ (op : Draw). IsPainted w c.args.stride (pixel_drawn w.canvas_width w.canvas_height op) c.args.pixels.now c.dab_run_region.new.pixels) (sym op.is)
-    (stroke_as w c.args.stride op.mode c.opaque.result (premultiplied op.r op.g op.b 255) run.shape Round (placed_dabs run.at.x run.at.y run.dabs.now) (placed_dabs op.x op.y op.dabs)
-    c.args.pixels.now c.dab_run_region.new.pixels c.opaque.ensures made.shape dabs c.dab_run_region.ensures)
+    let dabs = made.placed ∙ (ap (λ (z : ℤ). placed_dabs z (to_z w32 (of_z w32 op.y)) op.dabs)
+    (to_z-of_z w32 op.x x) ∙ ap (λ (z : ℤ). placed_dabs op.x z op.dabs) (to_z-of_z w32 op.y y))
+    in
+    subst (λ (op : Draw). IsPainted w c.args.stride (pixel_drawn w.canvas_width w.canvas_height op)
+    c.args.pixels.now c.dab_run_region.new.pixels) (sym op.is)
+    (stroke_as w c.args.stride op.mode c.opaque.result (premultiplied op.r op.g op.b 255) run.shape
+    Round (placed_dabs run.at.x run.at.y run.dabs.now) (placed_dabs op.x op.y op.dabs)
+    c.args.pixels.now c.dab_run_region.new.pixels c.opaque.ensures made.shape dabs
+    c.dab_run_region.ensures)
 
 pub returns-in-DabsSquare : goal.returns-in-DabsSquare
 returns-in-DabsSquare c =
@@ -31,7 +36,13 @@ returns-in-DabsSquare c =
     let made = c.dab_run_of-run-in-DabsSquare.ensures in
     let x : SFits w32 op.x = search rules in
     let y : SFits w32 op.y = search rules in
-    let dabs = made.placed ∙ (ap (λ (z : ℤ). placed_dabs z (to_z w32 (of_z w32 op.y)) op.dabs) (to_z-of_z w32 op.x x) ∙ ap (λ (z : ℤ). placed_dabs op.x z op.dabs) (to_z-of_z w32 op.y y)) in
-    subst (λ (op : Draw). IsPainted w c.args.stride (pixel_drawn w.canvas_width w.canvas_height op) c.args.pixels.now c.dab_run_region-in-DabsSquare.new.pixels) (sym op.is)
-    (stroke_as w c.args.stride op.mode c.opaque-in-DabsSquare.result (premultiplied op.r op.g op.b 255) run.shape Square (placed_dabs run.at.x run.at.y run.dabs.now) (placed_dabs op.x op.y op.dabs)
-    c.args.pixels.now c.dab_run_region-in-DabsSquare.new.pixels c.opaque-in-DabsSquare.ensures made.shape dabs c.dab_run_region-in-DabsSquare.ensures)
+    let dabs = made.placed ∙ (ap (λ (z : ℤ). placed_dabs z (to_z w32 (of_z w32 op.y)) op.dabs)
+    (to_z-of_z w32 op.x x) ∙ ap (λ (z : ℤ). placed_dabs op.x z op.dabs) (to_z-of_z w32 op.y y))
+    in
+    subst (λ (op : Draw). IsPainted w c.args.stride (pixel_drawn w.canvas_width w.canvas_height op)
+    c.args.pixels.now c.dab_run_region-in-DabsSquare.new.pixels) (sym op.is)
+    (stroke_as w c.args.stride op.mode c.opaque-in-DabsSquare.result
+    (premultiplied op.r op.g op.b 255) run.shape Square
+    (placed_dabs run.at.x run.at.y run.dabs.now) (placed_dabs op.x op.y op.dabs)
+    c.args.pixels.now c.dab_run_region-in-DabsSquare.new.pixels c.opaque-in-DabsSquare.ensures
+    made.shape dabs c.dab_run_region-in-DabsSquare.ensures)

@@ -9,7 +9,8 @@ invariant-loop-start l = record {
   chunk : length l.sources ≡ 64;
   within : l.start ≤ length l.row;
   merged : (k : ℕ) (d : Channels) → k < length l.row
-      → get_or l.row k d ≡ cond (ltb k l.start) (blend l.mode (of_argb (get_or l.colors k 0)) (get_or l.initial.row k d)) (get_or l.initial.row k d);
+      → get_or l.row k d ≡ cond (ltb k l.start) (blend l.mode (of_argb (get_or l.colors k 0))
+      (get_or l.initial.row k d)) (get_or l.initial.row k d);
 }
 
 abbrev pub decreases-loop-start : goal.decreases-loop-start

@@ -4,4 +4,5 @@ use Rattle.dp_pixels.proofs.image.put_sources.Given as goal
 
 -- the pixels of the colours before index k stand at their places
 abbrev pub invariant-loop-k : goal.invariant-loop-k
-invariant-loop-k l = (k : ℕ) (d : Channels) → k < l.k → get_or l.sources k d ≡ of_argb (get_or l.colors k 0)
+invariant-loop-k l = (k : ℕ) (d : Channels) → k < l.k → get_or l.sources k d
+    ≡ of_argb (get_or l.colors k 0)

@@ -6,4 +6,5 @@ use Rattle.dp_pixels.proofs.paint.paint_region.Given as goal
 -- the rows above row j are painted
 abbrev pub invariant-loop-j : goal.invariant-loop-j
 invariant-loop-j g l =
-    IsPainted l.region l.stride (above (pos (l.region.y + l.j)) (on_canvas l.region (g.P.Paint.change l.paint))) l.initial.pixels l.pixels
+    IsPainted l.region l.stride (above (pos (l.region.y + l.j))
+    (on_canvas l.region (g.P.Paint.change l.paint))) l.initial.pixels l.pixels

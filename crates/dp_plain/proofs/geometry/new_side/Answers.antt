@@ -16,6 +16,7 @@ pub returns-else-new-ge1-clause-value : goal.returns-else-new-ge1-clause-value
 returns-else-new-ge1-clause-value c =
     let n : ℤ = pos c.args.old +ℤ c.args.before +ℤ c.args.after in
     elim c.else-new-ge1.branch [
-      | else-new-ge1-via-then-new-ge1+else-new-le-MAX_SIDE w ↦ none_above_side n (omega (arith, ints))
+      | else-new-ge1-via-then-new-ge1+else-new-le-MAX_SIDE w ↦ none_above_side n
+          (omega (arith, ints))
       | else-new-ge1-via-else-new-ge1 w ↦ none_below_side n (omega (arith, ints))
     ]

@@ -33,4 +33,5 @@ pub returns-after-loop-start-clause-behind : goal.returns-after-loop-start-claus
 returns-after-loop-start-clause-behind c =
     start_is c.args.entries.now c.loop-start.start (record { user = 0; msg = Point })
     c.loop-start.invariant.within
-    (λ k from below. c.loop-start.invariant.none k _ from below) (λ some. absurd (omega (arith, some)))
+    (λ k from below. c.loop-start.invariant.none k _ from below)
+    (λ some. absurd (omega (arith, some)))

@@ -10,7 +10,8 @@ draw_flagged-requires g c =
     flags_fit c.each_act_has_a_flag.ensures 30 c.args.entries.now c.deref-2.result.now
     (flags_of_acts c.commands_do_not_count.ensures 30 c.args.entries.now c.deref.result.now
     c.deref-2.result.now
-    (c.deref.ensures.value ∙ c.in_ok-kinds.ensures) (c.deref-2.ensures.value ∙ c.in_ok-flags.ensures))
+    (c.deref.ensures.value ∙ c.in_ok-kinds.ensures) (c.deref-2.ensures.value
+    ∙ c.in_ok-flags.ensures))
 
 pub returns-clause-board : goal.returns-clause-board
 returns-clause-board g c =
@@ -20,7 +21,8 @@ returns-clause-board g c =
     (commands (map user_act_of c.args.entries.now) flags))
     (flags_of_acts c.commands_do_not_count.ensures 30 c.args.entries.now c.deref.result.now
     c.deref-2.result.now
-    (c.deref.ensures.value ∙ c.in_ok-kinds.ensures) (c.deref-2.ensures.value ∙ c.in_ok-flags.ensures))
+    (c.deref.ensures.value ∙ c.in_ok-kinds.ensures) (c.deref-2.ensures.value
+    ∙ c.in_ok-flags.ensures))
 
 pub returns-clause-draws : goal.returns-clause-draws
 returns-clause-draws g c =
@@ -30,4 +32,5 @@ returns-clause-draws g c =
     (commands (map user_act_of c.args.entries.now) flags))
     (flags_of_acts c.commands_do_not_count.ensures 30 c.args.entries.now c.deref.result.now
     c.deref-2.result.now
-    (c.deref.ensures.value ∙ c.in_ok-kinds.ensures) (c.deref-2.ensures.value ∙ c.in_ok-flags.ensures))
+    (c.deref.ensures.value ∙ c.in_ok-kinds.ensures) (c.deref-2.ensures.value
+    ∙ c.in_ok-flags.ensures))

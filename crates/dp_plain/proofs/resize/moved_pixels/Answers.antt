@@ -14,6 +14,7 @@ loop-y-preserved c =
     ∙
     (ap (λ (z : ℤ). c.loop-y.moved.items ++ row_moved r.new_width c.row_at-row.result.now z)
     (to_z-of_z w32 r.left left_fits)
-    ∙ pixels_moved_more r.width r.height c.args.pixels.now c.loop-y.moved.items c.row_at-row.result.now
+    ∙ pixels_moved_more r.width r.height c.args.pixels.now c.loop-y.moved.items
+    c.row_at-row.result.now
     r.new_width c.loop-y.y r.left r.top (difference c.loop-y.y r.top)
     c.loop-y.invariant (omega (arith, ints)) c.row_at-row.ensures)

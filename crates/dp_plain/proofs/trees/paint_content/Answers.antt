@@ -22,7 +22,8 @@ none_copied (Some x) none = absurd (false≢true (sym none))
 pub returns-then-is_none-clause-ok : goal.returns-then-is_none-clause-ok
 returns-then-is_none-clause-ok g c =
     let rows = c.args.tree.now in
-    painted_none (g.C.LayerPixels.pixels c.args.width c.args.height) rows c.requires.held.tree c.args.id
+    painted_none (g.C.LayerPixels.pixels c.args.width c.args.height) rows c.requires.held.tree
+    c.args.id
     (pixels_after c.args.width c.args.height c.args.op.now)
     (sym c.content.ensures.value
     ∙ none_copied c.content.result (c.is_none.ensures ∙ ap not c.if-is_none.true))
@@ -47,12 +48,15 @@ returns-clause-held g c =
     let new = c.paint-painted.new.self in
     let paint : is_paint_row (layers_of rows) c.args.id ≡ true = sym c.content.ensures.paint
     ∙ c.is_none.ensures ∙ ap not c.if-is_none.false in
-    let was = fit_found (fits c.args.width c.args.height) rows c.args.id c.put_content-content.result
+    let was = fit_found (fits c.args.width c.args.height) rows c.args.id
+    c.put_content-content.result
     c.requires.held.each
     c.put_content-content.ensures.old in
-    held_filled fits c.args.width c.args.height rows c.put_content-placeholder.new.self c.requires.held
+    held_filled fits c.args.width c.args.height rows c.put_content-placeholder.new.self
+    c.requires.held
     c.trees_stay_trees.ensures.filled c.args.id new paint
-    (either_way c.paint-painted.result c.paint-painted.ensures.fits c.paint-painted.ensures.err (λ ok. ok)
+    (either_way c.paint-painted.result c.paint-painted.ensures.fits c.paint-painted.ensures.err
+    (λ ok. ok)
     (λ same. subst (fits c.args.width c.args.height) (sym same) was))
     (c.put_content-placeholder.ensures.new
     ∙ ap (λ rs. with_content rs c.args.id new) c.put_content-content.ensures.new

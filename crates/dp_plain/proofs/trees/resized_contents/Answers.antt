@@ -7,7 +7,8 @@ use Rattle.dp_plain.specs.Resizes.{pixels_resized}
 use Rattle.dp_plain.proofs.Holds.{fit_found}
 use Rattle.dp_plain.proofs.Remaking.{none_next, changed_next}
 use Rattle.dp_plain.proofs.trees.resized_contents.Goals as goal
-use Rattle.dp_plain.proofs.trees.resized_contents.Goals.{in-Some+in_ok-resize+in_ok-push, in_default}
+use Rattle.dp_plain.proofs.trees.resized_contents.Goals.{in-Some+in_ok-resize+in_ok-push}
+use Rattle.dp_plain.proofs.trees.resized_contents.Goals.{in_default}
 
 pub resize-requires : goal.resize-requires
 resize-requires g c = record {
@@ -37,7 +38,8 @@ loop-row-preserved g c =
                 c.loop-row.invariant.fit w.in_ok-resize.ensures.fits);
             pixels = changed_next held rows i c.row-item.result in_list c.row-item.is old new
                 (pixels_resized change) w.in-Some.content.now y made
-                c.match-content.contents.items (sym w.in-Some.ensures.value) c.loop-row.invariant.pixels
+                c.match-content.contents.items (sym w.in-Some.ensures.value)
+                c.loop-row.invariant.pixels
                 added w.in_ok-resize.ensures.pixels;
             rise = omega arith;
             few = omega arith;

@@ -11,7 +11,8 @@ invariant-loop-row g l =
     record {
       fit : All (g.C.LayerPixels.fits l.change.new_width l.change.new_height) l.contents.items;
       pixels : map (g.C.LayerPixels.pixels l.change.new_width l.change.new_height) l.contents.items
-          ≡ map (pixels_resized l.change) (map (g.C.LayerPixels.pixels l.change.width l.change.height)
+          ≡ map (pixels_resized l.change) (map (g.C.LayerPixels.pixels l.change.width
+          l.change.height)
           (filter_map (λ row. content_of l.tree row.id) (take l.row-index l.row-items)));
       rise : l.initial.tiles ≤ l.tiles;
       few : l.tiles ≤ l.initial.tiles + l.row-index * g.C.LayerPixels.resizing;

@@ -6,7 +6,8 @@ use Rattle.dp_schedule.specs.LineGrammar.{MaySay, HexSpells}
 use Rattle.dp_schedule.proofs.parser.message_of.Goals as goal
 
 -- where the digits tell bytes that none may say, they tell none
-none_told : {E : Type 0} (digits bytes : List ℕ) (r : Result (Option Msg) E) → Some bytes ≡ hex_bytes digits
+none_told : {E : Type 0} (digits bytes : List ℕ) (r : Result (Option Msg) E)
+    → Some bytes ≡ hex_bytes digits
     → IfOk r (λ found. IfNone found ((m : Msg) → ¬ MaySay bytes m))
     → IfOk r (λ found. IfNone found ((m : Msg) → ¬ HexSpells digits m))
 none_told digits bytes (Err e) line none = tt

@@ -22,7 +22,8 @@ returns-clause-some c =
     found_asked c.args.line.now _
     (three_words (words c.args.line.now) c.in-Some.first.now c.in-Some-word_of.second.now
     c.in-Some-word_of-2.third.now (sym c.in-Some.ensures) (sym c.in-Some-word_of.ensures)
-    (sym c.in-Some-word_of-2.ensures) (no_word c.word_of-4.result _ c.word_of-4.ensures c.if-is_some.ensures))
+    (sym c.in-Some-word_of-2.ensures) (no_word c.word_of-4.result _ c.word_of-4.ensures
+    c.if-is_some.ensures))
     c.read_three.result c.read_three.ensures.some
 
 pub returns-clause-none : goal.returns-clause-none
@@ -30,5 +31,6 @@ returns-clause-none c =
     none_asked c.args.line.now _
     (three_words (words c.args.line.now) c.in-Some.first.now c.in-Some-word_of.second.now
     c.in-Some-word_of-2.third.now (sym c.in-Some.ensures) (sym c.in-Some-word_of.ensures)
-    (sym c.in-Some-word_of-2.ensures) (no_word c.word_of-4.result _ c.word_of-4.ensures c.if-is_some.ensures))
+    (sym c.in-Some-word_of-2.ensures) (no_word c.word_of-4.result _ c.word_of-4.ensures
+    c.if-is_some.ensures))
     c.read_three.result c.read_three.ensures.none

@@ -5,7 +5,8 @@ use Rattle.dp_session.proofs.presence.free_id.Goals as goal
 
 pub returns-then-not-present-user : goal.returns-then-not-present-user
 returns-then-not-present-user c =
-    sym (find_user-first (λ user. not (mark c.args.present.now user)) c.loop-user.user (omega arith) (omega arith)
+    sym (find_user-first (λ user. not (mark c.args.present.now user)) c.loop-user.user (omega arith)
+    (omega arith)
     (search rules) (λ j from to. ap not (c.loop-user.invariant j from to)))
 
 pub returns : goal.returns

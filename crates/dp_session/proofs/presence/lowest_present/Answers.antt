@@ -10,4 +10,5 @@ returns-then-present-user c =
 
 pub returns : goal.returns
 returns c =
-    sym (find_user-none (mark c.args.present.now) (λ j from to. c.loop-user.invariant j from (omega arith)))
+    sym (find_user-none (mark c.args.present.now) (λ j from to. c.loop-user.invariant j from
+    (omega arith)))

@@ -9,7 +9,8 @@ pub returns-then-is_open : goal.returns-then-is_open
 returns-then-is_open c =
     let cs = c.args.connections.now in
     let i = c.loop-index.index in
-    sym (find-first (λ conn. is_some (open_in cs conn)) (c.args.after + 1) (length cs - c.args.after) (i + 1)
+    sym (find-first (λ conn. is_some (open_in cs conn)) (c.args.after + 1)
+    (length cs - c.args.after) (i + 1)
     (omega arith) (omega arith)
     (open-index cs i _ c.loop-index-test.true ∙ sym c.is_open.ensures ∙ c.if-is_open.true)
     (λ j from to. c.loop-index.invariant j from (omega arith)))
@@ -27,4 +28,5 @@ loop-index-preserved c = λ k from to.
 pub returns : goal.returns
 returns c =
     sym (find-none (λ conn. is_some (open_in c.args.connections.now conn)) (c.args.after + 1)
-    (length c.args.connections.now - c.args.after) (λ j from to. c.loop-index.invariant j from (omega arith)))
+    (length c.args.connections.now - c.args.after) (λ j from to. c.loop-index.invariant j from
+    (omega arith)))

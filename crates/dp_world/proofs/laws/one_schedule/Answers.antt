@@ -6,5 +6,7 @@ use Rattle.dp_world.proofs.laws.one_schedule.Goals as goal
 
 pub returns-clause-actions : goal.returns-clause-actions
 returns-clause-actions c bytes done others actions more end last (first, asked) (second, asks) =
-    let lines : done ≡ others = c.one_end.ensures.lines world_limit bytes done others end last first second in
-    asked_same c.one_action.ensures.one others actions more (subst (λ (ls : List Line). AskFor ls actions) lines asked) asks
+    let lines : done ≡ others = c.one_end.ensures.lines world_limit bytes done others end last first
+    second in
+    asked_same c.one_action.ensures.one others actions more
+    (subst (λ (ls : List Line). AskFor ls actions) lines asked) asks

@@ -6,5 +6,6 @@ abbrev pub invariant-loop-place : goal.invariant-loop-place
 invariant-loop-place l = record {
   long : length l.words ≡ 4;
   so_far : (k : ℕ) → k < l.place
-      → get_or l.words k 0 ≡ bit_and (get_or l.self-inside.words k 0) (get_or l.other-inside.words k 0);
+      → get_or l.words k 0 ≡ bit_and (get_or l.self-inside.words k 0)
+      (get_or l.other-inside.words k 0);
 }

@@ -1,18 +1,22 @@
-use Rattle.std.proofs.Common.{◌≡◌, ◌∙◌, ◌++◌, ◌∷◌, [], ◌≤◌, ap, sym, subst, arith, length, map, if◌then◌else◌}
+use Rattle.std.proofs.Common.{◌≡◌, ◌∙◌, ◌++◌, ◌∷◌, [], ◌≤◌, ap, sym, subst, arith, length, map}
+use Rattle.std.proofs.Common.{if◌then◌else◌}
 use Rattle.std.specs.List.{filter}
 use Rattle.dp_msg_meta.specs.Fields.{RiseFrom}
-use Rattle.dp_msg_meta.specs.declared.message.Meta.TheVariants.{Owners, Trusted, UserAcl, FeatureTiers}
+use Rattle.dp_msg_meta.specs.declared.message.Meta.TheVariants.{Owners, Trusted, UserAcl}
+use Rattle.dp_msg_meta.specs.declared.message.Meta.TheVariants.{FeatureTiers}
 use Rattle.dp_acl.specs.contracts.rights.Rights.{the_view}
 use Rattle.dp_acl.specs.Table.{Kept, StandsFor, mark_of}
 use Rattle.dp_acl.specs.RuleTable.{acl_of}
-use Rattle.dp_acl.proofs.CarryLemmas.{length-filter_le, locks-short, carried-kept, five-pushed, same-start}
+use Rattle.dp_acl.proofs.CarryLemmas.{length-filter_le, locks-short, carried-kept, five-pushed}
+use Rattle.dp_acl.proofs.CarryLemmas.{same-start}
 use Rattle.dp_acl.proofs.rights.Rights.carry.Goals as goal
 
 pub from_vec-requires : goal.from_vec-requires
 from_vec-requires c =
     let present = c.as_slice-present.result.now in
     let few : length present ≤ 255 =
-    subst (λ xs. length xs ≤ 255) (sym c.as_slice-present.ensures.value) c.as_slice-present.ensures.short in
+    subst (λ xs. length xs ≤ 255) (sym c.as_slice-present.ensures.value)
+    c.as_slice-present.ensures.short in
     omega (
       arith,
       ap length c.in_ok-owners.ensures,
@@ -24,7 +28,8 @@ pub from_vec-requires-2 : goal.from_vec-requires-2
 from_vec-requires-2 c =
     let present = c.as_slice-present.result.now in
     let few : length present ≤ 255 =
-    subst (λ xs. length xs ≤ 255) (sym c.as_slice-present.ensures.value) c.as_slice-present.ensures.short in
+    subst (λ xs. length xs ≤ 255) (sym c.as_slice-present.ensures.value)
+    c.as_slice-present.ensures.short in
     omega (
       arith,
       ap length c.in_ok-trusted.ensures,
@@ -35,8 +40,10 @@ from_vec-requires-2 c =
 pub from_vec-requires-3 : goal.from_vec-requires-3
 from_vec-requires-3 c =
     let present = c.as_slice-present.result.now in
-    let rise : RiseFrom 1 present = subst (RiseFrom 1) (sym c.as_slice-present.ensures.value) c.requires in
-    locks-short c.in_ok-locks.locks.items c.args.self.now.all_locked c.args.self.now.lock_listed present
+    let rise : RiseFrom 1 present = subst (RiseFrom 1) (sym c.as_slice-present.ensures.value)
+    c.requires in
+    locks-short c.in_ok-locks.locks.items c.args.self.now.all_locked c.args.self.now.lock_listed
+    present
     c.in_ok-locks.ensures rise c.in_ok-locks.locks.ok.0
 
 pub returns : goal.returns
@@ -61,7 +68,9 @@ returns c = λ history stands.
     (c.from_vec.ensures ∙ c.in_ok-owners.ensures ∙ ap (filter (mark_of kept.operators)) same)
     (c.from_vec-2.ensures ∙ c.in_ok-trusted.ensures ∙ ap (filter (mark_of kept.trusted)) same)
     (c.from_vec-3.ensures ∙ c.in_ok-locks.ensures
-    ∙ ap (λ (k : Kept). (if k.all_locked then 0 ∷ [] else []) ++ filter (mark_of k.lock_listed) slice)
+    ∙ ap (λ (k : Kept). (if k.all_locked then 0 ∷ [] else [])
+    ++ filter (mark_of k.lock_listed) slice)
     (sym c.self.view_is)
-    ∙ ap (λ ids. (if kept.all_locked then 0 ∷ [] else []) ++ filter (mark_of kept.lock_listed) ids) same)
+    ∙ ap (λ ids. (if kept.all_locked then 0 ∷ [] else []) ++ filter (mark_of kept.lock_listed) ids)
+    same)
     ∙ carried-kept kept history present stands' c.requires c.in_ok-carry.ensures.rise

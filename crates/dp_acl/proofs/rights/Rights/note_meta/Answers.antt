@@ -12,7 +12,8 @@ returns-in-Join-clause-kept c =
 pub returns-in-Owners-clause-kept : goal.returns-in-Owners-clause-kept
 returns-in-Owners-clause-kept c =
     subst (λ m. IsKeptAfter c.args.self.now (meta_entry c.args.user m) c.note_owners.new.self)
-    (ap Owners c.as_slice.ensures.value ∙ sym c.in-Owners.is) (c.note_owners.ensures.kept c.args.user)
+    (ap Owners c.as_slice.ensures.value ∙ sym c.in-Owners.is)
+    (c.note_owners.ensures.kept c.args.user)
 
 pub returns-in-Trusted-clause-kept : goal.returns-in-Trusted-clause-kept
 returns-in-Trusted-clause-kept c =

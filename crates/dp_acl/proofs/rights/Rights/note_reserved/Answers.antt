@@ -13,6 +13,7 @@ returns-in-Meta-clause-stands c = λ history stands.
 pub returns-in_default : goal.returns-in_default
 returns-in_default c = record {
   stands = λ history stands. stands-push c.args.self.now c.args.self.now history c.args.entry.now
-      (kept-other c.args.self.now c.args.entry.now.user c.args.entry.now.msg c.in_default.not-Meta) stands;
+      (kept-other c.args.self.now c.args.entry.now.user c.args.entry.now.msg c.in_default.not-Meta)
+      stands;
   room = omega arith;
 }

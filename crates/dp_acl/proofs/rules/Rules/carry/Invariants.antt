@@ -6,4 +6,5 @@ use Rattle.dp_acl.proofs.rules.Rules.carry.Given as goal
 -- the messages of the rules so far are added
 abbrev pub invariant-loop-rule : goal.invariant-loop-rule
 invariant-loop-rule l =
-    l.metas.items ≡ l.fn.metas.items ++ map (λ r. acl_of (kept_of r)) (take l.rule-index l.rule-items)
+    l.metas.items ≡ l.fn.metas.items ++ map (λ r. acl_of (kept_of r))
+    (take l.rule-index l.rule-items)

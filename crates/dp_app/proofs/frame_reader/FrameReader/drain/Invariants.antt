@@ -6,8 +6,10 @@ use Rattle.dp_app.proofs.frame_reader.FrameReader.drain.Given as goal
 abbrev pub invariant-frames : goal.invariant-frames
 invariant-frames l =
     record {
-      follows : (read : List ℕ) → Follows read l.fn.self.entries.items l.fn.self.splitter → Follows read l.self.entries.items l.self.splitter;
-      len : l.self.splitter.at + length l.self.splitter.held ≡ l.fn.self.splitter.at + length l.fn.self.splitter.held;
+      follows : (read : List ℕ) → Follows read l.fn.self.entries.items l.fn.self.splitter
+          → Follows read l.self.entries.items l.self.splitter;
+      len : l.self.splitter.at + length l.self.splitter.held
+          ≡ l.fn.self.splitter.at + length l.fn.self.splitter.held;
     }
 
 abbrev pub decreases-frames : goal.decreases-frames

@@ -7,5 +7,6 @@ use Rattle.dp_board.proofs.table.StrokeTable.done.Given as goal
 abbrev pub invariant-loop-user : goal.invariant-loop-user
 invariant-loop-user l = record {
   count : vec_len l.done ≡ l.user-index;
-  same : (user : ℕ) → user < l.user-index → HaveSame (get_or l.done.items user []) (groups_of l.user-items user).done;
+  same : (user : ℕ) → user < l.user-index → HaveSame (get_or l.done.items user [])
+      (groups_of l.user-items user).done;
 }

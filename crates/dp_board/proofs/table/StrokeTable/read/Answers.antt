@@ -17,23 +17,30 @@ loop-act-preserved g c =
     let inside : i < length xs = c.loop-act-test.true in
     let taken : take (i + 1) xs ≡ take i xs ++ a ∷ [] = take-step xs i a inside c.act-item.is in
     record {
-      in_range = subst (All (λ act. act.user < 256)) (sym taken) (All-push (λ act. act.user < 256) (take i xs) a was.in_range c.join_of.ensures.user);
+      in_range = subst (All (λ act. act.user < 256)) (sym taken)
+          (All-push (λ act. act.user < 256) (take i xs) a was.in_range c.join_of.ensures.user);
       position = c.in_ok-take.ensures.position ∙ ap (λ n. n + 1) was.position;
-      strokes = subst (λ before. IsTableBehind c.args.depth before c.take.new.self) (sym taken) (IsTableBehind-push c.args.depth (take i xs) a old c.take.new.self was.strokes c.in_ok-take.ensures.strokes);
-      joins = joins_from-step c.args.depth xs i a old c.loop-act.joins.items c.push.new.self.items c.join_of.result _ inside c.act-item.is was.strokes c.join_of.ensures.user c.join_of.ensures.value c.in_ok-push.ensures.items was.joins;
+      strokes = subst (λ before. IsTableBehind c.args.depth before c.take.new.self) (sym taken)
+          (IsTableBehind-push c.args.depth (take i xs) a old c.take.new.self was.strokes
+          c.in_ok-take.ensures.strokes);
+      joins = joins_from-step c.args.depth xs i a old c.loop-act.joins.items c.push.new.self.items
+          c.join_of.result _ inside c.act-item.is was.strokes c.join_of.ensures.user
+          c.join_of.ensures.value c.in_ok-push.ensures.items was.joins;
     }
 
 pub returns-clause-strokes : goal.returns-clause-strokes
 returns-clause-strokes g c =
     let all = take_all c.loop-act.act-index c.args.acts.now c.loop-act-test.false in
-    subst (λ before. IsTableBehind c.args.depth before c.loop-act.table) all c.loop-act.invariant.strokes
+    subst (λ before. IsTableBehind c.args.depth before c.loop-act.table) all
+    c.loop-act.invariant.strokes
 
 pub returns-clause-joins : goal.returns-clause-joins
 returns-clause-joins g c =
     let acts = c.args.acts.now in
     let joins = c.loop-act.joins.items in
     let none = drop_all c.loop-act.act-index acts c.loop-act-test.false in
-    sym (append-nil joins) ∙ ap (λ rest. joins ++ joins_from c.args.depth (take c.loop-act.act-index acts) rest) (sym none) ∙ c.loop-act.invariant.joins
+    sym (append-nil joins) ∙ ap (λ rest. joins ++ joins_from c.args.depth
+    (take c.loop-act.act-index acts) rest) (sym none) ∙ c.loop-act.invariant.joins
 
 pub returns-clause-in_range : goal.returns-clause-in_range
 returns-clause-in_range g c =

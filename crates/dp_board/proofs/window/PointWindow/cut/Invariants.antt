@@ -7,7 +7,8 @@ use Rattle.dp_board.proofs.window.PointWindow.cut.Given as goal
 abbrev pub invariant-loop-self : goal.invariant-loop-self
 invariant-loop-self l = record {
   depth : l.self-inside.depth ≡ l.fn.self.depth;
-  last : last_few l.fn.self.depth l.self-inside.points.items ≡ last_few l.fn.self.depth l.fn.self.points;
+  last : last_few l.fn.self.depth l.self-inside.points.items
+      ≡ last_few l.fn.self.depth l.fn.self.points;
 }
 
 abbrev pub decreases-loop-self : goal.decreases-loop-self

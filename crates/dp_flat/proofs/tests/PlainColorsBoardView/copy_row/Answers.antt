@@ -13,7 +13,8 @@ PixelLaw = (w h : ℕ) (f : ℕ → ℕ → Channels) (x y : ℕ) → x < w → 
 
 -- the pixel at a place of a layer that has one colour
 pixel_is : (w h : ℕ) (color : Option Channels) (x y : ℕ) → PixelLaw → x < w → y < h
-    → unwrap_or color clear ≡ pixel_at w (unwrap_or (option_map (λ c. canvas_of w h (λ x y. c)) color) []) x y
+    → unwrap_or color clear ≡ pixel_at w (unwrap_or (option_map (λ c. canvas_of w h (λ x y. c))
+    color) []) x y
 pixel_is w h None x y law in_x in_y = refl
 pixel_is w h (Some c) x y law in_x in_y = sym (law w h (λ x y. c) x y in_x in_y)
 
@@ -37,5 +38,6 @@ returns c =
     row_is board.width board.height color _ c.args._y c.row_fill.new.row c.pixel_of_canvas.ensures
     c.requires.inside
     (c.contents_ride_along.ensures.content _ board.tree c.args.id
-    ∙ ap (option_map (λ c. canvas_of board.width board.height (λ x y. c))) (sym c.content.ensures.value))
+    ∙ ap (option_map (λ c. canvas_of board.width board.height (λ x y. c)))
+    (sym c.content.ensures.value))
     (omega arith) (λ x in_x. c.row_fill.ensures.places x clear (omega arith) ∙ same)

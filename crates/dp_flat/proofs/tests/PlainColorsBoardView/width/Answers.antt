@@ -1,5 +1,6 @@
 -- Each layer covers the canvas, and the rows stay a tree.
-use Rattle.std.proofs.Common.{◌≡◌, ℕ, ◌*◌, zero, suc, List, [], ◌∷◌, length, All, sym, ap, ◌∙◌, arith}
+use Rattle.std.proofs.Common.{◌≡◌, ℕ, ◌*◌, zero, suc, List, [], ◌∷◌, length, All, sym, ap, ◌∙◌}
+use Rattle.std.proofs.Common.{arith}
 use Rattle.std.specs.Prelude.{Option, None, Some}
 use Rattle.std.specs.Option.{ForSome, option_map}
 use Rattle.dp_blend.specs.Color.{Channels}

@@ -9,5 +9,6 @@ returns-clause-front c =
     let held = ap (λ (s : Stream). s.held) (sym c.self.view_is) in
     let front = ap (λ (bytes : List ℕ). take c.in-Some.len bytes) (sym c.as_slice-held.ensures) in
     held
-    ∙ frame_and_rest c.self.inside.buffer.items c.advance.new.self.items c.in-Some.len c.in_ok-frame.frame
+    ∙ frame_and_rest c.self.inside.buffer.items c.advance.new.self.items c.in-Some.len
+    c.in_ok-frame.frame
     (front ∙ c.in_ok-frame.ensures.value) c.advance.ensures.items

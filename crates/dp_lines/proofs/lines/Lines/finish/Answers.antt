@@ -1,6 +1,7 @@
 use Rattle.std.proofs.Common.{◌≡◌, [], sym, ◌∙◌}
 use Rattle.dp_lines.specs.Held.{lines_from, given}
-use Rattle.dp_lines.proofs.Giving.{if_none_then, further_lines, lines_kept, long_kept, long_still, none_lines}
+use Rattle.dp_lines.proofs.Giving.{if_none_then, further_lines, lines_kept, long_kept, long_still}
+use Rattle.dp_lines.proofs.Giving.{none_lines}
 use Rattle.dp_lines.proofs.lines.Lines.finish.Goals as goal
 
 -- the lines to come are the same before and after lines are passed over
@@ -22,16 +23,19 @@ returns-in-Some-clause-long c n =
 pub returns-in-Some-clause-memory : goal.returns-in-Some-clause-memory
 returns-in-Some-clause-memory c err none =
     c.take_ended.ensures.memory
-    (none_lines c.pass_over.new.self (sym (lines_kept c.args.self.now c.pass_over.new.self c.pass_over.ensures.keeps) ∙ none))
+    (none_lines c.pass_over.new.self (sym (lines_kept c.args.self.now c.pass_over.new.self
+    c.pass_over.ensures.keeps) ∙ none))
 
 pub returns-in-None-clause-lines : goal.returns-in-None-clause-lines
 returns-in-None-clause-lines c =
-    lines_kept c.args.self.now c.pass_over.new.self c.pass_over.ensures.keeps ∙ c.take_rest.ensures.lines
+    lines_kept c.args.self.now c.pass_over.new.self c.pass_over.ensures.keeps
+    ∙ c.take_rest.ensures.lines
 
 pub returns-in-None-clause-none : goal.returns-in-None-clause-none
 returns-in-None-clause-none c =
     let kept = lines_kept c.args.self.now c.pass_over.new.self c.pass_over.ensures.keeps in
-    if_none_then c.take_rest.result (λ (none : lines_from c.pass_over.new.self ≡ []). kept ∙ none) c.take_rest.ensures.none
+    if_none_then c.take_rest.result (λ (none : lines_from c.pass_over.new.self ≡ []). kept ∙ none)
+    c.take_rest.ensures.none
 
 pub returns-in-None-clause-long : goal.returns-in-None-clause-long
 returns-in-None-clause-long c n =

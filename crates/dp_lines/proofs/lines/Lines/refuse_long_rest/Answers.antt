@@ -14,7 +14,8 @@ returns-then-is_long-clause-long c n =
     let count = ap (λ (h : Held). h.count) c.self.view_is in (
       λ err.
           let same : c.self.inside.count + 1 ≡ n = cc (err) in
-          subst (NextIsLong held) (sym (ap (λ (k : ℕ). k + 1) count) ∙ same) (long_rest held c.requires long),
+          subst (NextIsLong held) (sym (ap (λ (k : ℕ). k + 1) count) ∙ same)
+          (long_rest held c.requires long),
       λ next.
           let told = (long_in_rest held c.requires n next).1 in
           ap (λ (k : ℕ). Err (Long k)) (ap (λ (k : ℕ). k + 1) count ∙ sym told),

@@ -10,13 +10,15 @@ pub returns-clause-lines : goal.returns-clause-lines
 returns-clause-lines c =
     given_line ended_from c.args.self.now c.take_line.new.self
     (behind_first c.args.self.now (c.args.len + 1)) (first_line c.args.self.now c.args.len)
-    c.take_line.result (lines_behind_kept c.args.self.now c.args.len c.requires.end c.requires.first)
+    c.take_line.result (lines_behind_kept c.args.self.now c.args.len c.requires.end
+    c.requires.first)
     c.take_line.ensures.line c.take_line.ensures.taken c.take_line.ensures.err
 
 pub returns-clause-long : goal.returns-clause-long
 returns-clause-long c =
     let first = first_of_lines c.args.self.now c.args.len c.requires.end c.requires.first in
-    long_next c.args.self.now (first_line c.args.self.now c.args.len) first.0 c.take_line.result first.1
+    long_next c.args.self.now (first_line c.args.self.now c.args.len) first.0 c.take_line.result
+    first.1
     c.take_line.ensures.long
 
 pub returns-clause-memory : goal.returns-clause-memory
@@ -28,7 +30,8 @@ pub returns-clause-count : goal.returns-clause-count
 returns-clause-count c =
     same_after (λ held. held.count + length (ended held.bytes)) c.args.self.now c.take_line.new.self
     (behind_first c.args.self.now (c.args.len + 1)) c.take_line.result
-    (first_counted c.args.self.now c.args.len c.requires.end) c.take_line.ensures.taken c.take_line.ensures.err
+    (first_counted c.args.self.now c.args.len c.requires.end) c.take_line.ensures.taken
+    c.take_line.ensures.err
 
 pub returns-clause-rest : goal.returns-clause-rest
 returns-clause-rest c =

@@ -3,9 +3,11 @@ use Rattle.std.proofs.lemmas.List.{nil_from_length}
 use Rattle.dp_lines.specs.Lines.{lines, numbered, is_skipped}
 use Rattle.dp_lines.specs.Held.{Held, lines_from}
 use Rattle.dp_lines.specs.Taken.{first_line, behind_first}
-use Rattle.dp_lines.proofs.Giving.{given_line, same_after, long_next, none_next, no_lines, none_behind, rest_counted, skipped_rest, kept_rest}
+use Rattle.dp_lines.proofs.Giving.{given_line, same_after, long_next, none_next, no_lines}
+use Rattle.dp_lines.proofs.Giving.{none_behind, rest_counted, skipped_rest, kept_rest}
 use Rattle.dp_lines.proofs.lines.Lines.take_rest.Goals as goal
-use Rattle.dp_lines.proofs.lines.Lines.take_rest.Goals.{Then-len-eq0, After-drop_line, After-take_line}
+use Rattle.dp_lines.proofs.lines.Lines.take_rest.Goals.{Then-len-eq0, After-drop_line}
+use Rattle.dp_lines.proofs.lines.Lines.take_rest.Goals.{After-take_line}
 
 -- no bytes are no line
 none_to_come : (held : Held) (len : ℕ) → len ≡ length held.bytes → len ≡ 0 → lines_from held ≡ []
@@ -27,12 +29,14 @@ returns-then-len-eq0-clause-long c n =
 
 -- what is known where the rest is passed over
 skipped_facts : (c : After-drop_line)
-    → (c.drop_line.new.self ≡ behind_first c.args.self.now (length c.args.self.now.bytes)) × (0 < length c.args.self.now.bytes) × (lines_from c.args.self.now ≡ [])
+    → (c.drop_line.new.self ≡ behind_first c.args.self.now (length c.args.self.now.bytes))
+    × (0 < length c.args.self.now.bytes) × (lines_from c.args.self.now ≡ [])
 skipped_facts c =
     let bytes = ap (λ (h : Held). h.bytes) c.self.view_is in
     let len = c.len-len.ensures.value ∙ ap length bytes in
     let some : 0 < length c.args.self.now.bytes = omega (arith, c.if-len-eq0.false, len) in
-    let skipped = ap is_skipped (sym bytes ∙ sym c.as_slice.ensures) ∙ sym c.if-is_passed.ensures in (
+    let skipped = ap is_skipped (sym bytes ∙ sym c.as_slice.ensures)
+    ∙ sym c.if-is_passed.ensures in (
       c.drop_line.ensures ∙ ap (behind_first c.args.self.now) len,
       some,
       skipped_rest c.args.self.now c.requires some skipped,
@@ -47,8 +51,11 @@ pub returns-then-is_passed-clause-none : goal.returns-then-is_passed-clause-none
 returns-then-is_passed-clause-none c = (skipped_facts c).2
 
 pub returns-then-is_passed-clause-long : goal.returns-then-is_passed-clause-long
-returns-then-is_passed-clause-long c n =
-    (λ err. absurd (cc (err)), λ next. absurd (none_next c.args.self.now (skipped_facts c).2 n next))
+returns-then-is_passed-clause-long c n = (
+  λ err. absurd (cc (err)),
+  λ next. absurd (none_next c.args.self.now (skipped_facts c).2 n
+      next),
+)
 
 pub returns-then-is_passed-clause-count : goal.returns-then-is_passed-clause-count
 returns-then-is_passed-clause-count c =
@@ -58,7 +65,10 @@ returns-then-is_passed-clause-count c =
 
 -- what is known where the rest is a line to come
 kept_facts : (c : After-take_line)
-    → (behind_first c.args.self.now (c.len-len.result + 0) ≡ behind_first c.args.self.now (length c.args.self.now.bytes)) × (0 < length c.args.self.now.bytes) × (lines_from c.args.self.now ≡ first_line c.args.self.now c.len-len.result ∷ [])
+    → (behind_first c.args.self.now (c.len-len.result + 0)
+    ≡ behind_first c.args.self.now (length c.args.self.now.bytes))
+    × (0 < length c.args.self.now.bytes) × (lines_from c.args.self.now
+    ≡ first_line c.args.self.now c.len-len.result ∷ [])
 kept_facts c =
     let bytes = ap (λ (h : Held). h.bytes) c.self.view_is in
     let len = c.len-len.ensures.value ∙ ap length bytes in
@@ -76,7 +86,8 @@ returns-clause-lines c =
     let facts = kept_facts c in
     let none = ap lines_from facts.0 ∙ none_behind c.args.self.now in
     given_line lines_from c.args.self.now c.take_line.new.self
-    (behind_first c.args.self.now (c.len-len.result + 0)) (first_line c.args.self.now c.len-len.result)
+    (behind_first c.args.self.now (c.len-len.result + 0))
+    (first_line c.args.self.now c.len-len.result)
     c.take_line.result
     (facts.2 ∙ ap (λ ls. first_line c.args.self.now c.len-len.result ∷ ls) (sym none))
     c.take_line.ensures.line c.take_line.ensures.taken c.take_line.ensures.err

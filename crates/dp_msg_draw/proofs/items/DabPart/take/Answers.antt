@@ -8,5 +8,12 @@ returns-in_default-clause-none c = λ d rest b.
     let v = b.is_valid in
     let dx = Fits-of_z v.0 in
     let dy = Fits-of_z v.1 in
-    c.in_default.ensures.none ((cast_unsigned w8 d.dx, cast_unsigned w8 d.dy), (d.size, d.opacity)) rest
-    (record { bytes_are = b.bytes_are; is_valid = ((omega arith, omega arith), (omega arith, omega arith)) })
+    c.in_default.ensures.none ((cast_unsigned w8 d.dx, cast_unsigned w8 d.dy), (d.size, d.opacity))
+    rest
+    (record {
+      bytes_are = b.bytes_are;
+      is_valid = (
+        (omega arith, omega arith),
+        (omega arith, omega arith),
+      );
+    })

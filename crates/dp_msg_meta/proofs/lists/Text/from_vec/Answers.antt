@@ -5,6 +5,7 @@ use Rattle.dp_msg_meta.proofs.lists.Text.from_vec.Goals as goal
 
 pub returns-in-Ok-clause-valid : goal.returns-in-Ok-clause-valid
 returns-in-Ok-clause-valid c =
-    let same : string_bytes c.in-Ok.text ≡ c.args.bytes.items = ap (λ v. v.items) c.in-Ok.ensures.ok in
+    let same : string_bytes c.in-Ok.text ≡ c.args.bytes.items = ap (λ v. v.items) c.in-Ok.ensures.ok
+    in
     let P : List ℕ → Type 0 = λ b. IsUtf8 b in
     (λ _. (subst P same (IsUtf8-string_bytes c.in-Ok.text), omega arith), λ _. refl)

@@ -1,4 +1,5 @@
-use Rattle.std.proofs.Common.{◌≡◌, ◌+◌, ◌<◌, ◌||◌, false, true, List, length, get_or, take, arith, ap, ◌∙◌, sym}
+use Rattle.std.proofs.Common.{◌≡◌, ◌+◌, ◌<◌, ◌||◌, false, true, List, length, get_or, take, arith}
+use Rattle.std.proofs.Common.{ap, ◌∙◌, sym}
 use Rattle.std.specs.List.{list_any}
 use Rattle.std.proofs.lemmas.List.{take_all}
 use Rattle.std.proofs.lemmas.List.Folds.{list_any_more, list_any_at}
@@ -9,22 +10,33 @@ use Rattle.dp_pixels.proofs.dabs.DabRun.covers.Goals as goal
 use Rattle.dp_pixels.proofs.dabs.DabRun.covers.Goals.{After-behind-placed}
 
 -- the dab stands after the last one
-next : (c : After-behind-placed) → IsLast c.args.self.at.x c.args.self.at.y c.args.self.dabs.now (c.loop-dab.dab-index + 1) c.behind-placed.result.at
+next : (c : After-behind-placed) → IsLast c.args.self.at.x c.args.self.at.y c.args.self.dabs.now
+    (c.loop-dab.dab-index + 1) c.behind-placed.result.at
 next c =
     let s = c.args.self in
-    last_more s.at.x s.at.y s.dabs.now c.loop-dab.dab-index c.loop-dab.last c.behind-placed.result c.loop-dab-test.true
-    c.behind-placed.ensures.value c.behind-placed.ensures.near_x c.behind-placed.ensures.near_y c.loop-dab.invariant.last
+    last_more s.at.x s.at.y s.dabs.now c.loop-dab.dab-index c.loop-dab.last c.behind-placed.result
+    c.loop-dab-test.true
+    c.behind-placed.ensures.value c.behind-placed.ensures.near_x c.behind-placed.ensures.near_y
+    c.loop-dab.invariant.last
 
 -- and is the next of the list
-is_next : (c : After-behind-placed) → get_or (placed_dabs c.args.self.at.x c.args.self.at.y c.args.self.dabs.now) c.loop-dab.dab-index c.behind-placed.result ≡ c.behind-placed.result
+is_next : (c : After-behind-placed) → get_or (placed_dabs c.args.self.at.x c.args.self.at.y
+    c.args.self.dabs.now) c.loop-dab.dab-index c.behind-placed.result ≡ c.behind-placed.result
 is_next c =
     let s = c.args.self in
-    placed_is s.at.x s.at.y s.dabs.now c.loop-dab.dab-index c.loop-dab.last c.behind-placed.result c.behind-placed.result c.loop-dab-test.true
+    placed_is s.at.x s.at.y s.dabs.now c.loop-dab.dab-index c.loop-dab.last c.behind-placed.result
+    c.behind-placed.result c.loop-dab-test.true
     c.behind-placed.ensures.value c.loop-dab.invariant.last
 
 -- it is in the list
-is_within : (c : After-behind-placed) → c.loop-dab.dab-index < length (placed_dabs c.args.self.at.x c.args.self.at.y c.args.self.dabs.now)
-is_within c = let s = c.args.self in omega (arith, c.loop-dab-test.true, length-placed_dabs s.at.x s.at.y s.dabs.now)
+is_within : (c : After-behind-placed) → c.loop-dab.dab-index
+    < length (placed_dabs c.args.self.at.x c.args.self.at.y c.args.self.dabs.now)
+is_within c = let s = c.args.self in omega (
+  arith,
+  c.loop-dab-test.true,
+  length-placed_dabs s.at.x
+      s.at.y s.dabs.now,
+)
 
 pub covers-requires : goal.covers-requires
 covers-requires c =
@@ -38,7 +50,8 @@ returns-then-covers c =
     let s = c.args.self in
     let a = (goal.at.returns-then-covers c).After-behind-placed in
     let covers_place = λ (dab : PlacedDab). dab_covers s.shape dab c.args.place.x c.args.place.y in
-    sym (list_any_at covers_place (placed_dabs s.at.x s.at.y s.dabs.now) c.loop-dab.dab-index c.behind-placed.result (is_within a)
+    sym (list_any_at covers_place (placed_dabs s.at.x s.at.y s.dabs.now) c.loop-dab.dab-index
+    c.behind-placed.result (is_within a)
     (ap covers_place (is_next a) ∙ (sym c.covers.ensures ∙ c.if-covers.true)))
 
 pub loop-dab-preserved : goal.loop-dab-preserved
@@ -46,12 +59,15 @@ loop-dab-preserved c =
     let s = c.args.self in
     let a = (goal.at.loop-dab-preserved c).After-behind-placed in
     let covers_place = λ (dab : PlacedDab). dab_covers s.shape dab c.args.place.x c.args.place.y in
-    let here : covers_place (get_or (placed_dabs s.at.x s.at.y s.dabs.now) c.loop-dab.dab-index c.behind-placed.result) ≡ false =
+    let here : covers_place (get_or (placed_dabs s.at.x s.at.y s.dabs.now) c.loop-dab.dab-index
+    c.behind-placed.result) ≡ false =
     ap covers_place (is_next a) ∙ (sym c.covers.ensures ∙ c.if-covers.false) in
     record {
       last = next a;
-      none = list_any_more covers_place (placed_dabs s.at.x s.at.y s.dabs.now) c.loop-dab.dab-index c.behind-placed.result (is_within a)
-          ∙ (ap (λ (t : _). t || covers_place (get_or (placed_dabs s.at.x s.at.y s.dabs.now) c.loop-dab.dab-index c.behind-placed.result)) c.loop-dab.invariant.none ∙ here);
+      none = list_any_more covers_place (placed_dabs s.at.x s.at.y s.dabs.now) c.loop-dab.dab-index
+          c.behind-placed.result (is_within a)
+          ∙ (ap (λ (t : _). t || covers_place (get_or (placed_dabs s.at.x s.at.y s.dabs.now)
+          c.loop-dab.dab-index c.behind-placed.result)) c.loop-dab.invariant.none ∙ here);
     }
 
 pub returns : goal.returns
@@ -59,4 +75,6 @@ returns c =
     let s = c.args.self in
     let covers_place = λ (dab : PlacedDab). dab_covers s.shape dab c.args.place.x c.args.place.y in
     sym c.loop-dab.invariant.none
-    ∙ ap (λ (l : List PlacedDab). list_any covers_place l) (take_all c.loop-dab.dab-index (placed_dabs s.at.x s.at.y s.dabs.now) (omega (arith, length-placed_dabs s.at.x s.at.y s.dabs.now)))
+    ∙ ap (λ (l : List PlacedDab). list_any covers_place l)
+    (take_all c.loop-dab.dab-index (placed_dabs s.at.x s.at.y s.dabs.now)
+    (omega (arith, length-placed_dabs s.at.x s.at.y s.dabs.now)))

@@ -9,5 +9,6 @@ use Rattle.dp_pixels.proofs.dabs.DabRun.covers.Given as goal
 abbrev pub invariant-loop-dab : goal.invariant-loop-dab
 invariant-loop-dab l = record {
   last : IsLast l.self.at.x l.self.at.y l.self.dabs.now l.dab-index l.last;
-  none : list_any (λ (dab : PlacedDab). dab_covers l.self.shape dab l.place.x l.place.y) (take l.dab-index (placed_dabs l.self.at.x l.self.at.y l.self.dabs.now)) ≡ false;
+  none : list_any (λ (dab : PlacedDab). dab_covers l.self.shape dab l.place.x l.place.y)
+      (take l.dab-index (placed_dabs l.self.at.x l.self.at.y l.self.dabs.now)) ≡ false;
 }

@@ -14,4 +14,5 @@ returns-clause-stays c = λ x y old out.
     let square = dab_rect disc.dab in
     let outside = sym (ap (λ (r : Rect). is_in r x y) c.rect.ensures) ∙ out in
     cond-false (dab_covers Round disc.dab x y) (blend disc.mode disc.source old) old
-    (and_left (is_in square x y) (is_in_disc disc.dab.size (x -ℤ square.x0) (y -ℤ square.y0)) outside)
+    (and_left (is_in square x y) (is_in_disc disc.dab.size (x -ℤ square.x0) (y -ℤ square.y0))
+    outside)

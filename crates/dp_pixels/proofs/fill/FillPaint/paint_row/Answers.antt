@@ -11,5 +11,6 @@ returns c = λ k d within.
     let fill = c.args.self.now in
     let place = c.args._place in
     c.row_fill.ensures.places k d within
-    ∙ sym (cond-true (is_in fill.area (place.x +ℤ pos k) place.y) (blend fill.mode fill.source (get_or c.args.row.now k d)) (get_or c.args.row.now k d)
+    ∙ sym (cond-true (is_in fill.area (place.x +ℤ pos k) place.y)
+    (blend fill.mode fill.source (get_or c.args.row.now k d)) (get_or c.args.row.now k d)
     (row_in fill.area place (length c.args.row.now) k c.requires within))

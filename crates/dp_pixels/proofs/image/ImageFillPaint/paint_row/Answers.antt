@@ -1,4 +1,5 @@
-use Rattle.std.proofs.Common.{◌≡◌, ℕ, ◌+◌, ◌-◌, ◌<◌, List, length, get_or, take, drop, Option, cond, sym, ap, ◌∙◌, arith}
+use Rattle.std.proofs.Common.{◌≡◌, ℕ, ◌+◌, ◌-◌, ◌<◌, List, length, get_or, take, drop, Option, cond}
+use Rattle.std.proofs.Common.{sym, ap, ◌∙◌, arith}
 use Rattle.std.specs.Prelude.{pos, ◌+ℤ◌, slice_get, None}
 use Rattle.std.specs.Option.{option_map_or}
 use Rattle.std.proofs.lemmas.Bool.{cond-true}
@@ -32,7 +33,11 @@ returns c = λ k d within.
     (omega arith) (omega arith) within (c.merge_colors.auto.row ∙ part_len)
     (λ n in_part.
     c.merge_colors.ensures n d (omega (arith, part_len))
-    ∙ ap (λ (size : ℕ). f (get_or (take size (drop start colors)) n 0) (get_or (take len row) n d)) size_is)
+    ∙ ap (λ (size : ℕ). f (get_or (take size (drop start colors)) n 0) (get_or (take len row) n d))
+    size_is)
     ∙ ap (λ (color : Option ℕ). option_map_or (λ (n : ℕ). f n old) color old)
-    (ap (λ (n : ℕ). slice_get colors n) (sym (image_index-right (pos image.x) (pos image.y) image.w k place.x place.y c.requires.left))
-    ∙ sym (cond-true (is_in area (place.x +ℤ pos k) place.y) (slice_get colors (image_index (pos image.x) (pos image.y) image.w (place.x +ℤ pos k) place.y)) None inside))
+    (ap (λ (n : ℕ). slice_get colors n) (sym (image_index-right (pos image.x) (pos image.y) image.w
+    k place.x place.y c.requires.left))
+    ∙ sym (cond-true (is_in area (place.x +ℤ pos k) place.y)
+    (slice_get colors (image_index (pos image.x) (pos image.y) image.w (place.x +ℤ pos k)
+    place.y)) None inside))

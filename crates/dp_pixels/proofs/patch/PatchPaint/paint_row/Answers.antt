@@ -1,4 +1,5 @@
-use Rattle.std.proofs.Common.{◌≡◌, ℕ, ◌+◌, ◌-◌, ◌*◌, ◌<◌, ◌≤◌, length, get_or, take, drop, cond, true, ap, ◌∙◌, sym, arith}
+use Rattle.std.proofs.Common.{◌≡◌, ℕ, ◌+◌, ◌-◌, ◌*◌, ◌<◌, ◌≤◌, length, get_or, take, drop, cond}
+use Rattle.std.proofs.Common.{true, ap, ◌∙◌, sym, arith}
 use Rattle.std.specs.Prelude.{ℤ, pos, ◌+ℤ◌}
 use Rattle.std.proofs.lemmas.Bool.{cond-true}
 use Rattle.std.proofs.lemmas.List.{get_or-take, get_or-drop}
@@ -21,10 +22,17 @@ returns c = λ k d within.
     let start = c.start-start.result in
     let size_is : start + length row - start ≡ length row = omega arith in
     let at : image_index p.corner.x p.corner.y p.w (place.x +ℤ pos k) place.y ≡ start + k =
-    image_index-right p.corner.x p.corner.y p.w k place.x place.y c.requires.left ∙ ap (λ (n : ℕ). n + k) (sym c.start-start.ensures.value) in
-    let source : get_or (take (start + length row - start) (drop start p.pixels.now)) k clear ≡ get_or p.pixels.now (image_index p.corner.x p.corner.y p.w (place.x +ℤ pos k) place.y) clear =
+    image_index-right p.corner.x p.corner.y p.w k place.x place.y c.requires.left
+    ∙ ap (λ (n : ℕ). n + k) (sym c.start-start.ensures.value) in
+    let source : get_or (take (start + length row - start) (drop start p.pixels.now)) k clear
+    ≡ get_or p.pixels.now (image_index p.corner.x p.corner.y p.w (place.x +ℤ pos k) place.y)
+    clear =
     get_or-take (start + length row - start) (drop start p.pixels.now) k clear (omega arith)
-    ∙ (get_or-drop start p.pixels.now k clear ∙ ap (λ (n : ℕ). get_or p.pixels.now n clear) (sym at)) in
+    ∙ (get_or-drop start p.pixels.now k clear ∙ ap (λ (n : ℕ). get_or p.pixels.now n clear)
+    (sym at)) in
     c.row_merge.ensures.places k clear d within
-    ∙ (ap (λ (q : Channels). blend Normal q (get_or row k d)) (fade_one (get_or (take (start + length row - start) (drop start p.pixels.now)) k clear) ∙ source)
-    ∙ sym (cond-true (is_in area (place.x +ℤ pos k) place.y) _ (get_or row k d) (row_in area place (length row) k c.requires within)))
+    ∙ (ap (λ (q : Channels). blend Normal q (get_or row k d))
+    (fade_one (get_or (take (start + length row - start) (drop start p.pixels.now)) k clear)
+    ∙ source)
+    ∙ sym (cond-true (is_in area (place.x +ℤ pos k) place.y) _ (get_or row k d)
+    (row_in area place (length row) k c.requires within)))

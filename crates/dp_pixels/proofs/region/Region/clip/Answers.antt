@@ -16,8 +16,12 @@ returns c =
     let y0 : SFits w64 area.y0 = search rules in
     let y1 : SFits w64 area.y1 = search rules in
     record {
-      left = subst (λ (z : ℤ). IsCountBelow z w.x w.width c.count_below.result) (to_z-of_z w64 area.x0 x0 ∙ ap (λ (r : Rect). r.x0) is) c.count_below.ensures;
-      right = subst (λ (z : ℤ). IsCountBelow z w.x w.width c.count_below-2.result) (to_z-of_z w64 area.x1 x1 ∙ ap (λ (r : Rect). r.x1) is) c.count_below-2.ensures;
-      top = subst (λ (z : ℤ). IsCountBelow z w.y w.height c.count_below-3.result) (to_z-of_z w64 area.y0 y0 ∙ ap (λ (r : Rect). r.y0) is) c.count_below-3.ensures;
-      bottom = subst (λ (z : ℤ). IsCountBelow z w.y w.height c.count_below-4.result) (to_z-of_z w64 area.y1 y1 ∙ ap (λ (r : Rect). r.y1) is) c.count_below-4.ensures;
+      left = subst (λ (z : ℤ). IsCountBelow z w.x w.width c.count_below.result)
+          (to_z-of_z w64 area.x0 x0 ∙ ap (λ (r : Rect). r.x0) is) c.count_below.ensures;
+      right = subst (λ (z : ℤ). IsCountBelow z w.x w.width c.count_below-2.result)
+          (to_z-of_z w64 area.x1 x1 ∙ ap (λ (r : Rect). r.x1) is) c.count_below-2.ensures;
+      top = subst (λ (z : ℤ). IsCountBelow z w.y w.height c.count_below-3.result)
+          (to_z-of_z w64 area.y0 y0 ∙ ap (λ (r : Rect). r.y0) is) c.count_below-3.ensures;
+      bottom = subst (λ (z : ℤ). IsCountBelow z w.y w.height c.count_below-4.result)
+          (to_z-of_z w64 area.y1 y1 ∙ ap (λ (r : Rect). r.y1) is) c.count_below-4.ensures;
     }

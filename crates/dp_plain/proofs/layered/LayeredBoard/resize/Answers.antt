@@ -24,7 +24,8 @@ returns-in_default-clause-ok g c =
       background = inside.background;
       rows = map_contents (g.C.LayerPixels.pixels inside.width inside.height) inside.tree;
     } in
-    subst (λ (b : Board). b ≡ resized b c.args.top c.args.right c.args.bottom c.args.left) c.self.view_is
+    subst (λ (b : Board). b ≡ resized b c.args.top c.args.right c.args.bottom c.args.left)
+    c.self.view_is
     (resized_not view c.args.top c.args.right c.args.bottom c.args.left
     (elim c.in_default.branch [
       | in_default-via-in-Some+in_default w ↦ inr (sym w.in_default.is-1 ∙ height)
@@ -58,7 +59,8 @@ returns-clause-ok g c =
       background = inside.background;
       rows = map_contents (g.C.LayerPixels.pixels inside.width inside.height) inside.tree;
     } in
-    let rows = map_contents (g.C.LayerPixels.pixels c.in-Some-Some.new_width c.in-Some-Some.new_height)
+    let rows = map_contents (g.C.LayerPixels.pixels c.in-Some-Some.new_width
+    c.in-Some-Some.new_height)
     c.in_ok-self-inside.field-0 in
     let is = simp to_z-of_z at c.in_ok-self-inside.ensures.pixels in
     let new : Board = record {

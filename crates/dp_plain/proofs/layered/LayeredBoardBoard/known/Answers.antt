@@ -7,5 +7,6 @@ pub returns : goal.returns
 returns g c =
     let inside = c.self.inside in
     subst IsBoard c.self.view_is
-    (board_of_held g.C.LayerPixels.fits g.C.LayerPixels.pixels inside.width inside.height inside.background
+    (board_of_held g.C.LayerPixels.fits g.C.LayerPixels.pixels inside.width inside.height
+    inside.background
     inside.tree c.laws.ensures.covers c.self.invariant)

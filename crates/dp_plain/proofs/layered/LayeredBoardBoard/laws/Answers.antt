@@ -2,4 +2,5 @@ use Rattle.dp_plain.proofs.Holds.{drawn_whole}
 use Rattle.dp_plain.proofs.layered.LayeredBoardBoard.laws.Goals as goal
 
 pub returns-clause-keeps : goal.returns-clause-keeps
-returns-clause-keeps g c = λ board op whole. drawn_whole board whole c.trees_stay_trees.ensures.after op
+returns-clause-keeps g c = λ board op whole. drawn_whole board whole
+    c.trees_stay_trees.ensures.after op

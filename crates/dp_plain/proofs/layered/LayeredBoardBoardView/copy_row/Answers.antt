@@ -12,7 +12,8 @@ use Rattle.dp_plain.proofs.layered.LayeredBoardBoardView.copy_row.Goals as goal
 pub copy_row-requires-clause-fits : goal.copy_row-requires-clause-fits
 copy_row-requires-clause-fits g c =
     let inside = c.self.inside in
-    fit_found (g.C.LayerPixels.fits inside.width inside.height) inside.tree c.args.id c.in-Some.content.now
+    fit_found (g.C.LayerPixels.fits inside.width inside.height) inside.tree c.args.id
+    c.in-Some.content.now
     c.self.invariant.each (sym c.in-Some.ensures.value)
 
 pub returns-in-Some : goal.returns-in-Some

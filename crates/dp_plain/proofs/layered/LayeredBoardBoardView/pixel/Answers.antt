@@ -43,7 +43,8 @@ returns g c =
     let found : content_of view.rows c.args.id ≡ Some (pixels c.in_ok-content.content.now) =
     content_seen pixels inside.tree c.args.id (Some c.in_ok-content.content.now)
     (sym c.in_ok-content.ensures.value) in
-    let p : Channels = pixel_at inside.width (pixels c.in_ok-content.content.now) c.args.x c.args.y in
+    let p : Channels = pixel_at inside.width (pixels c.in_ok-content.content.now) c.args.x c.args.y
+    in
     let is : ◌≡◌ {A = Option Channels} (Some c.pixel.result) (Some p) = ap
     (λ (q : Channels). Some q) c.pixel.ensures in
     is

@@ -8,4 +8,5 @@ pub returns : goal.returns
 returns g c =
     let inside = c.self.inside in
     subst (λ (board : Board). c.rows.result.now ≡ layers_of board.rows) c.self.view_is
-    (c.rows.ensures.rows ∙ sym (layers_seen (g.C.LayerPixels.pixels inside.width inside.height) inside.tree))
+    (c.rows.ensures.rows ∙ sym (layers_seen (g.C.LayerPixels.pixels inside.width inside.height)
+    inside.tree))

@@ -1,5 +1,6 @@
 use Rattle.std.proofs.Common.{refl}
-use Rattle.dp_session.proofs.SessionLemmas.{past-kept, past-failed, past-undone, past-ended, past-broken, none-of, on-err}
+use Rattle.dp_session.proofs.SessionLemmas.{past-kept, past-failed, past-undone, past-ended}
+use Rattle.dp_session.proofs.SessionLemmas.{past-broken, none-of, on-err}
 use Rattle.dp_session.proofs.session.Session.serve.Goals as goal
 
 pub same-self : goal.same-self
@@ -13,8 +14,10 @@ same-self-in_default-2 g c = refl
 
 pub returns-in-Some-clause-served : goal.returns-in-Some-clause-served
 returns-in-Some-clause-served g c =
-    past-broken c.args.self.now c.refuse.new.self c.self.inside.tables c.args.event.now c.refuse.result
-    c.self.inside.first_fault _ _ c.in-Some.count c.self.view_is c.in-Some.is c.refuse.ensures.refused
+    past-broken c.args.self.now c.refuse.new.self c.self.inside.tables c.args.event.now
+    c.refuse.result
+    c.self.inside.first_fault _ _ c.in-Some.count c.self.view_is c.in-Some.is
+    c.refuse.ensures.refused
 
 pub returns-in-Some-clause-err : goal.returns-in-Some-clause-err
 returns-in-Some-clause-err g c = c.refuse.ensures.err
@@ -53,8 +56,10 @@ invariant_of-self-in-Err-Failed g c = c.put.ensures.tables
 pub returns-in-Ok-clause-served : goal.returns-in-Ok-clause-served
 returns-in-Ok-clause-served g c =
     let ready = rw c.in-Some-2.is at c.in_ok-ready.ensures in
-    past-kept c.args.self.now c.self.inside.tables c.put.new.tables c.args.event.now c.in-Ok.reply c.self.inside.first_fault
-    _ _ _ _ c.in-Some-2.ready.row c.self.view_is c.in_default.not-Some ready.room ready.row c.in-Ok.ensures.outcome
+    past-kept c.args.self.now c.self.inside.tables c.put.new.tables c.args.event.now c.in-Ok.reply
+    c.self.inside.first_fault
+    _ _ _ _ c.in-Some-2.ready.row c.self.view_is c.in_default.not-Some ready.room ready.row
+    c.in-Ok.ensures.outcome
     c.in-Ok.ensures.rows c.in-Ok.ensures.count
 
 pub returns-in-Err-Memory-clause-err : goal.returns-in-Err-Memory-clause-err
@@ -62,7 +67,8 @@ returns-in-Err-Memory-clause-err g c =
     let undone = rw c.in-Err-Memory.field-0-is at c.in-Err-Memory.ensures.outcome in
     let rows = rw c.in-Err-Memory.field-0-is at c.in-Err-Memory.ensures.rows in
     let counts = rw c.in-Err-Memory.field-0-is at c.in-Err-Memory.ensures.count in
-    past-undone c.args.self.now c.self.inside.tables c.put.new.tables c.self.inside.first_fault _ _ _ _ c.self.view_is
+    past-undone c.args.self.now c.self.inside.tables c.put.new.tables c.self.inside.first_fault _ _
+    _ _ c.self.view_is
     undone rows counts
 
 pub returns-in-Err-Failed-clause-served : goal.returns-in-Err-Failed-clause-served
@@ -71,6 +77,8 @@ returns-in-Err-Failed-clause-served g c =
     let out = rw c.in-Err-Failed.field-0-is at c.in-Err-Failed.ensures.outcome in
     let rows = rw c.in-Err-Failed.field-0-is at c.in-Err-Failed.ensures.rows in
     let rose = rw c.in-Err-Failed.field-0-is at c.in-Err-Failed.ensures.count in
-    past-failed c.args.self.now c.self.inside.tables c.put.new.tables c.args.event.now c.self.inside.first_fault _ _ _ _
-    c.count-count.result c.in-Some-2.ready.row c.self.view_is c.in_default.not-Some ready.room ready.row out rows rose
+    past-failed c.args.self.now c.self.inside.tables c.put.new.tables c.args.event.now
+    c.self.inside.first_fault _ _ _ _
+    c.count-count.result c.in-Some-2.ready.row c.self.view_is c.in_default.not-Some ready.room
+    ready.row out rows rose
     c.count-count.ensures

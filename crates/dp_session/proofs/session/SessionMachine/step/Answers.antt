@@ -17,6 +17,7 @@ returns-in-Ok g c = c.in-Ok.ensures.served
 
 pub returns-in-Err : goal.returns-in-Err
 returns-in-Err g c =
-    quieted-is c.self.inside.tables c.quieten.new.self c.args.event.now c.self.inside.first_fault _ _ c.self.invariant
+    quieted-is c.self.inside.tables c.quieten.new.self c.args.event.now c.self.inside.first_fault _
+    _ c.self.invariant
     c.quieten.ensures.journal c.quieten.ensures.shut c.quieten.ensures.quiet
     ∙ ap (λ p. quieted p c.args.event.now) (c.self.view_is ∙ c.in-Err.ensures.err)

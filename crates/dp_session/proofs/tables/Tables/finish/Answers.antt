@@ -6,11 +6,13 @@ use Rattle.dp_session.proofs.tables.Tables.finish.Goals as goal
 
 pub keep_ready-requires-clause-ready : goal.keep_ready-requires-clause-ready
 keep_ready-requires-clause-ready c =
-    subst (λ e. IsReady c.args.self.now e c.args.ready) (sym c.requires.ready.plan.event) c.requires.ready
+    subst (λ e. IsReady c.args.self.now e c.args.ready) (sym c.requires.ready.plan.event)
+    c.requires.ready
 
 pub returns-in-Ok-clause-put : goal.returns-in-Ok-clause-put
 returns-in-Ok-clause-put c =
-    subst (λ e. HasCome c.args.self.now e c.keep_ready.new.self × (c.keep_ready.result ≡ (acted (state_in c.args.self.now) e).reply))
+    subst (λ e. HasCome c.args.self.now e c.keep_ready.new.self
+    × (c.keep_ready.result ≡ (acted (state_in c.args.self.now) e).reply))
     c.requires.ready.plan.event (c.keep_ready.ensures.come, c.keep_ready.ensures.reply)
 
 pub returns-in-Err-Failed-clause-put : goal.returns-in-Err-Failed-clause-put

@@ -6,7 +6,8 @@ use Rattle.dp_session.proofs.tables.Tables.keep.Goals as goal
 pub returns-clause-tables : goal.returns-clause-tables
 returns-clause-tables c =
     let t = c.args.self.now in
-    tables-kept t _ c.args.plan c.args.row_length c.requires.tables c.requires.plan c.requires.row c.requires.limits (record {
+    tables-kept t _ c.args.plan c.args.row_length c.requires.tables c.requires.plan c.requires.row
+    c.requires.limits (record {
       journal = c.place.ensures.journal;
       bytes = refl;
       shut = refl;

@@ -7,7 +7,8 @@ pub returns-clause-come : goal.returns-clause-come
 returns-clause-come c = record {
   journal = c.keep.ensures.journal;
   shut = c.keep.ensures.shut;
-  quiet = ap quiet_of c.keep.ensures.quiet ∙ quiet-changed c.args.ready.plan.change c.args.self.now.quiet.items;
+  quiet = ap quiet_of c.keep.ensures.quiet ∙ quiet-changed c.args.ready.plan.change
+      c.args.self.now.quiet.items;
 }
 
 pub returns-clause-reply : goal.returns-clause-reply

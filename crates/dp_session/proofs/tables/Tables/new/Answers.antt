@@ -7,7 +7,9 @@ use Rattle.dp_session.proofs.tables.Tables.new.Goals as goal
 
 pub returns-clause-tables : goal.returns-clause-tables
 returns-clause-tables c =
-    tables-first _ c.new.ensures.items c.new-2.ensures.items c.new-3.ensures.items c.new-4.ensures.items
+    tables-first _ c.new.ensures.items c.new-2.ensures.items c.new-3.ensures.items
+    c.new-4.ensures.items
     (c.in_ok-push.ensures.items
-    ∙ ap (λ items. items ++ item.Server (server_entry (ResetMark 0 0)) ∷ []) c.new-live.ensures.items) refl
+    ∙ ap (λ items. items ++ item.Server (server_entry (ResetMark 0 0)) ∷ [])
+    c.new-live.ensures.items) refl
     (c.in_ok-note.ensures.stands [] c.new-rights.ensures) c.no_marks.ensures

@@ -11,10 +11,13 @@ pub returns-then-is_quiet : goal.returns-then-is_quiet
 returns-then-is_quiet c =
     let t = c.args.self.now in
     let s = state_in t in
-    sym (pulled-open s t.quiet.items c.args.conn c.args.epoch c.args.at c.args.most c.in-Some.found _
-    (c.in-Some.ensures ∙ ap (λ cs. connection_in cs c.args.conn) (c.deref.ensures.value ∙ c.requires.of.table))
+    sym (pulled-open s t.quiet.items c.args.conn c.args.epoch c.args.at c.args.most c.in-Some.found
+    _
+    (c.in-Some.ensures ∙ ap (λ cs. connection_in cs c.args.conn)
+    (c.deref.ensures.value ∙ c.requires.of.table))
     c.in-Running.is (c.requires.flags ∙ ap length c.requires.of.table)
-    (sym c.if-is_quiet.true ∙ c.is_quiet.ensures ∙ ap (λ q. mark q (c.args.conn - 1)) c.deref-in-Running.ensures.value))
+    (sym c.if-is_quiet.true ∙ c.is_quiet.ensures ∙ ap (λ q. mark q (c.args.conn - 1))
+    c.deref-in-Running.ensures.value))
 
 pub returns-else-is_quiet : goal.returns-else-is_quiet
 returns-else-is_quiet c =
@@ -25,12 +28,16 @@ returns-else-is_quiet c =
       arith,
       t.live.ok.0,
       c.len.ensures,
-      live-length s t.journal.items t.connections.items t.live.items t.rights t.present c.requires.of,
+      live-length s t.journal.items t.connections.items t.live.items t.rights t.present
+          c.requires.of,
     )) in
     subst (λ a. IfOk c.pull_from.result (λ answer. answer ≡ a))
     (ap (pulled_from s c.args.epoch c.args.at c.args.most) whole
-    ∙ sym (pulled-open s t.quiet.items c.args.conn c.args.epoch c.args.at c.args.most c.in-Some.found _
-    (c.in-Some.ensures ∙ ap (λ cs. connection_in cs c.args.conn) (c.deref.ensures.value ∙ c.requires.of.table))
+    ∙ sym (pulled-open s t.quiet.items c.args.conn c.args.epoch c.args.at c.args.most
+    c.in-Some.found _
+    (c.in-Some.ensures ∙ ap (λ cs. connection_in cs c.args.conn)
+    (c.deref.ensures.value ∙ c.requires.of.table))
     c.in-Running.is (c.requires.flags ∙ ap length c.requires.of.table)
-    (sym c.if-is_quiet.false ∙ c.is_quiet.ensures ∙ ap (λ q. mark q (c.args.conn - 1)) c.deref-in-Running.ensures.value)))
+    (sym c.if-is_quiet.false ∙ c.is_quiet.ensures ∙ ap (λ q. mark q (c.args.conn - 1))
+    c.deref-in-Running.ensures.value)))
     c.pull_from.ensures
