@@ -8,5 +8,4 @@ pub fn items_are_numbered<T>()
     ensures stay { NumbersStay T }
     ensures last { LastIsNext T }
     ensures others { OthersStay T }
-{
-}
+{}

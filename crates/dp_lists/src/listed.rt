@@ -1,6 +1,7 @@
 //! A vector that contracts see as its list.
 
-ghost use Rattle.std.specs.Prelude.{◌≡◌, ◌∷◌, ◌++◌, [], take, drop, length, OnOk, OnErr};
+ghost use Rattle.std.specs.Prelude.{◌≡◌, ◌↔◌, ◌∷◌, ◌++◌, [], take, drop, length};
+ghost use Rattle.std.specs.Prelude.{IsTrue, IfOk, OnOk, OnErr};
 
 use std::alloc::{AllocError, Global};
 use std::marker::Model;
@@ -41,6 +42,76 @@ impl<T> Listed<T> {
         ensures { result.now ≡ self.now }
     {
         self.entries.as_slice()
+    }
+
+    /// Where its memory comes from.
+    pub fn allocator(&self) -> Global {
+        *self.entries.allocator()
+    }
+}
+
+impl<T: Drop> Listed<T> {
+    /// Adds an item at the end.
+    ///
+    /// # Errors
+    ///
+    /// Where memory runs out. The item is dropped then, and the list is as it was.
+    pub fn push(&mut self, item: T) -> Result<(), AllocError>
+        ensures ok { OnOk result (self.new ≡ self.old ++ item ∷ []) }
+        ensures err { OnErr result (self.new ≡ self.old) }
+    {
+        self.entries.push(item)?;
+        Ok(())
+    }
+}
+
+impl Listed<u8> {
+    /// How many bytes there are.
+    pub fn len(&self) -> usize
+        ensures { result ≡ length self.now }
+    {
+        self.entries.len()
+    }
+
+    /// Whether there is no byte.
+    pub fn is_empty(&self) -> bool
+        ensures { IsTrue result ↔ (length self.now ≡ 0) }
+    {
+        self.entries.is_empty()
+    }
+
+    /// Adds the bytes at the end.
+    ///
+    /// # Errors
+    ///
+    /// Where memory runs out. The bytes are then as they were.
+    pub fn append(&mut self, bytes: &[u8]) -> Result<(), AllocError>
+        ensures ok { OnOk result (self.new ≡ self.old ++ bytes.now) }
+        ensures err { OnErr result (self.new ≡ self.old) }
+    {
+        self.entries.extend_from_slice(bytes)
+    }
+
+    /// Adds one run of bytes and then another at the end.
+    ///
+    /// # Errors
+    ///
+    /// Where memory runs out. The bytes are then as they were.
+    pub fn append_both(&mut self, first: &[u8], second: &[u8]) -> Result<(), AllocError>
+        ensures ok { OnOk result (self.new ≡ self.old ++ first.now ++ second.now) }
+        ensures err { OnErr result (self.new ≡ self.old) }
+    {
+        self.entries.reserve(first.len() + second.len())?;
+        self.entries.extend_from_slice(first)?;
+        self.entries.extend_from_slice(second)
+    }
+
+    /// The same bytes once more.
+    pub fn copy(&self) -> Result<Listed<u8>, AllocError>
+        ensures { IfOk result (λ copy. copy ≡ self.now) }
+    {
+        let entries = self.entries.clone()?;
+        Ok(Listed { entries })
     }
 }
 
