@@ -45,11 +45,11 @@ marked-none marks long none =
     (λ user short. ap not (filter-numbers_nil (mark_of marks) 256 user none (omega arith))))
 
 -- the test of the marks says whether nobody is marked
-pub clear-iff_none : (marks : List Bool) (r : Bool) → length marks ≡ 256 → r ≡ list_all not marks
-    → (IsTrue r → marked marks ≡ []) × (marked marks ≡ [] → IsTrue r)
-clear-iff_none marks r long test = (
-  λ yes. none-marked marks long (sym test ∙ yes),
-  λ none. test ∙ marked-none marks long none,
+pub clear-iff_none : (held marks : List Bool) (r : Bool) → length held ≡ 256 → held ≡ marks
+    → r ≡ list_all not held → (IsTrue r → marked marks ≡ []) × (marked marks ≡ [] → IsTrue r)
+clear-iff_none held marks r long view test = (
+  λ yes. ap marked (sym view) ∙ none-marked held long (sym test ∙ yes),
+  λ none. test ∙ marked-none held long (ap marked view ∙ none),
 )
 
 open-some : (ids : List ℕ) (user : ℕ) → ids ≢ [] → is_open_to ids user ≡ lists ids user

@@ -8,13 +8,14 @@ ghost use Rattle.std.specs.Prelude.{
   ◌↔◌,
   [],
   false,
+  not,
   length,
   if◌then◌else◌,
   IsTrue,
   IfOk,
   All,
 };
-ghost use Rattle.std.specs.List.{filter};
+ghost use Rattle.std.specs.List.{filter, list_all};
 ghost use Rattle.dp_acl.specs.LookBack.{lists};
 ghost use Rattle.dp_acl.specs.Rights.{is_open_to};
 ghost use Rattle.dp_acl.specs.Table.{mark_of, Mark};
@@ -24,12 +25,12 @@ use std::alloc::{AllocError, Global};
 use std::marker::Model;
 
 /// The number of ids.
-const IDS: usize = 256;
+const IDS: u16 = 256;
 
 /// A set of user ids, as a mark for each.
 #[derive(Debug, Drop)]
 pub(crate) struct IdSet {
-    marks: [bool; IDS],
+    marks: [bool; 256],
 }
 
 impl Model for IdSet {
@@ -40,13 +41,20 @@ impl Model for IdSet {
     ghost view = { λ set. set.marks };
 }
 
+/// Whether no mark is set.
+fn are_clear(marks: &[bool]) -> bool
+    ensures { result ≡ list_all not marks.now }
+{
+    marks.iter().all(|mark| !*mark)
+}
+
 impl IdSet {
     /// No ids.
     pub(crate) fn new() -> IdSet
         ensures { Mark result (λ id. false) }
     {
         IdSet {
-            marks: [false; IDS],
+            marks: [false; 256],
         }
     }
 
@@ -80,18 +88,19 @@ impl IdSet {
     pub(crate) fn both(&self, other: &IdSet) -> IdSet
         ensures { Mark result (λ id. mark_of self.now id && mark_of other.now id) }
     {
-        let mut marks = [false; IDS];
-        for id in 0..IDS {
-            marks[id] = self.marks[id] && other.marks[id];
+        let mut both = IdSet::new();
+        for number in 0..IDS {
+            let id = number as u8;
+            both.set(id, self.contains(id) && other.contains(id));
         }
-        IdSet { marks }
+        both
     }
 
     /// Whether no id is in the set.
     fn is_empty(&self) -> bool
         ensures { IsTrue result ↔ (marked self.now ≡ []) }
     {
-        self.marks.iter().all(|mark| !*mark)
+        are_clear(&self.marks)
     }
 
     /// Whether the id is in the set, or none is.
@@ -116,9 +125,10 @@ impl IdSet {
         ensures { IfOk result (λ ids. ids.items ≡ marked self.now) }
     {
         let mut ids = Vec::new(alloc);
-        for id in 0..IDS {
-            if self.marks[id] {
-                ids.push(id as u8)?;
+        for number in 0..IDS {
+            let id = number as u8;
+            if self.contains(id) {
+                ids.push(id)?;
             }
         }
         Ok(ids)
