@@ -79,7 +79,7 @@ kept_rule-below (k ∷ ks) low layer rise below =
     (ne_eqb k.layer layer (λ e. omega (arith, rise.0)))
     ∙ kept_rule-below ks (suc k.layer) layer rise.2 (omega (arith, rise.0))
 
--- the rules after the first tell of the layers above it
+-- the rules after the first are of the layers above it
 acl_by-rest : (k : KeptRule) (ks : List KeptRule) (low layer : ℕ) → low ≡ k.layer → low < layer
     → acl_by (k ∷ ks) layer ≡ acl_by ks layer
 acl_by-rest k ks low layer same above =

@@ -1,81 +1,55 @@
 -- Marks as lists of ids.
 use Rattle.std.proofs.Common.{◌≡◌, ◌≢◌, ℕ, zero, suc, ◌+◌, ◌*◌, ◌/◌, ◌%◌, ◌^◌, ◌<◌, ◌≤◌, ◌==◌, ◌||◌}
-use Rattle.std.proofs.Common.{Bool, true, false, cond, IsTrue, List, [], ◌∷◌, length, get_or, All}
+use Rattle.std.proofs.Common.{Bool, true, false, not, cond, IsTrue, List, [], ◌∷◌, length, get_or}
+use Rattle.std.proofs.Common.{All}
 use Rattle.std.proofs.Common.{refl, sym, ap, ◌∙◌, inl, inr, arith}
 use Rattle.std.specs.List.{filter, list_all, range_with_len}
-use Rattle.std.specs.Int.{bit_at}
 use Rattle.std.proofs.lemmas.Bool.{cases_eq, eqb-true, eqb-false, eq-eqb, ne_eqb, cond-true}
 use Rattle.std.proofs.lemmas.Bool.{cond-false}
 use Rattle.std.proofs.lemmas.Bool.{false≢true}
 use Rattle.std.proofs.lemmas.List.Sums.{AllPass-from_list_all, list_all-from_AllPass}
 use Rattle.std.proofs.lemmas.List.Elements.{All-get_or, All-from_get_or}
-use Rattle.std.proofs.lemmas.Nat.Bits.{bit_at-zero, bit_at-lt, same_from_bits_below}
 use Rattle.dp_acl.specs.LookBack.{numbers_below, lists}
 use Rattle.dp_acl.specs.Rights.{is_open_to}
 use Rattle.dp_acl.specs.Carried.{in_order}
 use Rattle.dp_acl.specs.Table.{mark_of, Mark}
-use Rattle.dp_acl.specs.Marks.{bit_of, marks_of, marked}
+use Rattle.dp_acl.specs.Marks.{marked}
 use Rattle.dp_acl.proofs.ListLemmas.{filter-same, All-range, filter-numbers, filter-none}
 use Rattle.dp_acl.proofs.ListLemmas.{filter-numbers_nil, lists-filter}
-use Rattle.dp_acl.proofs.BitLemmas.{mark-bit}
+
+not-true : (b : Bool) → not b ≡ true → b ≡ false
+not-true true is = cc
+not-true false is = refl
 
 -- ids that are listed and marked alike are the marked ones
 pub marked-in_order : (marks : List Bool) (ids : List ℕ) → Mark marks (lists ids)
     → marked marks ≡ in_order ids
 marked-in_order marks ids same = filter-numbers (mark_of marks) (lists ids) 256 same
 
--- where no word has a bit, nobody is marked
-marked-zero : (words : List ℕ) → length words ≡ 4 → list_all (λ w. w == 0) words ≡ true
-    → marked (marks_of words) ≡ []
-marked-zero words four zeros =
-    filter-numbers (mark_of (marks_of words)) (λ _. false) 256 none
+-- where no mark is set, nobody is marked
+none-marked : (marks : List Bool) → length marks ≡ 256 → list_all not marks ≡ true
+    → marked marks ≡ []
+none-marked marks long clear =
+    filter-numbers (mark_of marks) (λ _. false) 256
+    (λ user low. not-true (mark_of marks user)
+    (All-get_or (λ mark. not mark ≡ true) marks user false (omega arith)
+    (AllPass-from_list_all not marks clear)))
     ∙ filter-none (numbers_below 256)
-  where
-    none : (user : ℕ) → user < 256 → mark_of (marks_of words) user ≡ false
-    none user low =
-        let zero_word : get_or words (user / 64) 0 ≡ 0 =
-        eqb-true _ 0 (All-get_or (λ w. (w == 0) ≡ true) words (user / 64) 0 (omega arith)
-        (AllPass-from_list_all (λ w. w == 0) words zeros)) in
-        mark-bit words user low
-        ∙ ap (λ w. bit_at w (user % 64) == 1) zero_word
-        ∙ ap (λ b. b == 1) (bit_at-zero (user % 64))
 
--- where nobody is marked, no word has a bit
-zero-marked : (words : List ℕ) → length words ≡ 4 → All (λ w. w < 2 ^ 64) words
-    → marked (marks_of words) ≡ []
-    → list_all (λ w. w == 0) words ≡ true
-zero-marked words four fit none =
-    list_all-from_AllPass (λ w. w == 0) words
-    (All-from_get_or (λ w. (w == 0) ≡ true) words 0 (λ k short. eq-eqb _ 0 (word_zero k short)))
-  where
-    bit_none : (k i : ℕ) → k < length words → i < 64 → bit_at (get_or words k 0) i ≡ 0
-    bit_none k i short small =
-        let user : ℕ = k * 64 + i in
-        let low : user < 256 = omega arith in
-        let place : user / 64 ≡ k = omega arith in
-        let rest : user % 64 ≡ i = omega arith in
-        let unmarked : bit_of words user ≡ false =
-        sym (mark-bit words user low) ∙ filter-numbers_nil (mark_of (marks_of words)) 256 user none
-        low in
-        let bit : (bit_at (get_or words k 0) i == 1) ≡ false =
-        ap (λ p. bit_at (get_or words p 0) i == 1) (sym place)
-        ∙ ap (λ j. bit_at (get_or words (user / 64) 0) j == 1) (sym rest)
-        ∙ unmarked in
-        let other : bit_at (get_or words k 0) i ≢ 1 = eqb-false _ 1 bit in
-        omega (arith, bit_at-lt (get_or words k 0) i)
+-- where nobody is marked, no mark is set
+marked-none : (marks : List Bool) → length marks ≡ 256 → marked marks ≡ []
+    → list_all not marks ≡ true
+marked-none marks long none =
+    list_all-from_AllPass not marks
+    (All-from_get_or (λ mark. not mark ≡ true) marks false
+    (λ user short. ap not (filter-numbers_nil (mark_of marks) 256 user none (omega arith))))
 
-    word_zero : (k : ℕ) → k < length words → get_or words k 0 ≡ 0
-    word_zero k short =
-        same_from_bits_below 64 (get_or words k 0) 0 (fit k 0 short) (omega arith)
-        (λ i small. bit_none k i short small ∙ sym (bit_at-zero i))
-
--- the test of the words says whether nobody is marked
-pub zero-iff_none : (words : List ℕ) (marks : List Bool) (r : Bool) → length words ≡ 4
-    → All (λ w. w < 2 ^ 64) words → marks_of words ≡ marks → r ≡ list_all (λ w. w == 0) words
+-- the test of the marks says whether nobody is marked
+pub clear-iff_none : (marks : List Bool) (r : Bool) → length marks ≡ 256 → r ≡ list_all not marks
     → (IsTrue r → marked marks ≡ []) × (marked marks ≡ [] → IsTrue r)
-zero-iff_none words marks r four fit view test = (
-  λ yes. ap marked (sym view) ∙ marked-zero words four (sym test ∙ yes),
-  λ none. test ∙ zero-marked words four fit (ap marked view ∙ none),
+clear-iff_none marks r long test = (
+  λ yes. none-marked marks long (sym test ∙ yes),
+  λ none. test ∙ marked-none marks long none,
 )
 
 open-some : (ids : List ℕ) (user : ℕ) → ids ≢ [] → is_open_to ids user ≡ lists ids user

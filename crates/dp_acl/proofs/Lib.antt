@@ -1,5 +1,4 @@
 pub mod ListLemmas
-pub mod BitLemmas
 pub mod IdLemmas
 pub mod RuleLemmas
 pub mod PushLemmas

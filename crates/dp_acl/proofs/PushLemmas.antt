@@ -131,8 +131,7 @@ since-push history e user =
     (after_last-push (is_join_of user) history e)
 
 -- whether a user is listed after an entry: whether it is the user's Join, whether the user had
--- joined,
--- what it lists, and whether the user was listed
+-- joined, what it lists, and whether the user was listed
 abbrev pub listed_behind : Bool → Bool → Option (List ℕ) → Bool → ℕ → Bool
 listed_behind joins had_joined ids was_listed user =
     if joins then false else option_map_or (λ listed. had_joined && lists listed user) ids

@@ -57,7 +57,7 @@ map-cond : {X Y : Type 0} (f : X → Y) (b : Bool) (x : X) (o : Option X)
 map-cond f true x o = refl
 map-cond f false x o = refl
 
--- the first rule is of the layer, or the others tell
+-- the first rule is of the layer, or the others decide
 pub kept_rule-cons : (k : KeptRule) (ks : List KeptRule) (layer : ℕ)
     → kept_rule (k ∷ ks) layer ≡ (if k.layer == layer then Some k.rule else kept_rule ks layer)
 kept_rule-cons k ks layer = map-cond (λ kept. kept.rule) (k.layer == layer) k _

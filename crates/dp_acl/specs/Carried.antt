@@ -49,8 +49,7 @@ abbrev pub carried_rules : List Entry → List Meta
 carried_rules history = filter_map (carried_rule history) (numbers_below 65536)
 
 -- What opens the next epoch, where these users are present: each piece a part of the list. The
--- first
--- four stand always, empty or as at the start too.
+-- first four stand always, empty or as at the start too.
 abbrev pub carried : List Entry → List ℕ → List Meta
 carried history present =
     carried_owners history present

@@ -80,8 +80,7 @@ is_open_to [] user = true
 is_open_to (id ∷ ids) user = lists (id ∷ ids) user
 
 -- The rule lets the user paint: it doesn't lock the layer, and the user is an operator, or has a
--- tier
--- number at most the rule's and is among its ids, where it has some.
+-- tier number at most the rule's and is among its ids, where it has some.
 abbrev pub lets_paint : List Entry → ℕ → LayerRule → Bool
 lets_paint history user rule =
     not rule.locked

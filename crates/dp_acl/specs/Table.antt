@@ -16,8 +16,7 @@ pub record KeptRule : Type 0 where
   pub rule : LayerRule
 
 -- what is kept: for each user, by id, whether the user has joined, is operator, .., and the rules
--- of the
--- layers; and for how many entries memory is spared
+-- of the layers; and for how many entries memory is spared
 pub record Kept : Type 0 where
   pub joined : List Bool
   pub operators : List Bool
@@ -46,8 +45,7 @@ abbrev pub rule_in_order : LayerRule → LayerRule
 rule_in_order rule = record rule { ids = in_order rule.ids }
 
 -- What is kept is what looking back in the history finds. (The ids of the rules are ids of users,
--- as in
--- every entry that was noted: ids from 256 on are not kept.)
+-- as in every entry that was noted: ids from 256 on are not kept.)
 pub record StandsFor (kept : Kept) (history : List Entry) : Type 0 where
   pub joined : Mark kept.joined (has_joined history)
   pub operators : Mark kept.operators (is_operator history)

@@ -3,8 +3,6 @@
 ghost use Rattle.std.specs.Prelude.{
   ◌≡◌,
   ◌<◌,
-  ◌≤◌,
-  ◌^◌,
   ◌==◌,
   ◌&&◌,
   ◌↔◌,
@@ -16,7 +14,7 @@ ghost use Rattle.std.specs.Prelude.{
   IfOk,
   All,
 };
-ghost use Rattle.std.specs.List.{filter, list_all};
+ghost use Rattle.std.specs.List.{filter};
 ghost use Rattle.dp_acl.specs.LookBack.{lists};
 ghost use Rattle.dp_acl.specs.Rights.{is_open_to};
 ghost use Rattle.dp_acl.specs.Table.{mark_of, Mark};
@@ -25,33 +23,21 @@ ghost use Rattle.dp_acl.specs.Marks.{marked};
 use std::alloc::{AllocError, Global};
 use std::marker::Model;
 
-/// The number of words of 64 bits that hold a bit for each id.
-const WORDS: usize = 4;
-
 /// The number of ids.
-const IDS: u16 = 256;
+const IDS: usize = 256;
 
-/// A set of user ids, seen as the marks of all 256.
+/// A set of user ids, as a mark for each.
 #[derive(Debug, Drop)]
 pub(crate) struct IdSet {
-    words: [u64; WORDS],
+    marks: [bool; IDS],
 }
 
 impl Model for IdSet {
     ghost use Rattle.std.specs.Prelude.{Bool, List};
-    ghost use Rattle.dp_acl.specs.Marks.{marks_of};
 
     ghost Value = { List Bool };
 
-    ghost view = { λ set. marks_of set.words };
-}
-
-/// Whether all words are 0.
-fn are_zero(words: &[u64]) -> bool
-    ensures value { result ≡ list_all (λ word. word == 0) words.now }
-    ensures fit { All (λ word. word < 2 ^ 64) words.now }
-{
-    words.iter().all(|word| *word == 0)
+    ghost view = { λ set. set.marks };
 }
 
 impl IdSet {
@@ -59,27 +45,23 @@ impl IdSet {
     pub(crate) fn new() -> IdSet
         ensures { Mark result (λ id. false) }
     {
-        IdSet { words: [0; WORDS] }
+        IdSet {
+            marks: [false; IDS],
+        }
     }
 
     /// Whether the id is in the set.
     pub(crate) fn contains(&self, id: u8) -> bool
         ensures { result ≡ mark_of self.now id }
     {
-        (self.words[usize::from(id / 64)] >> (id % 64)) & 1 == 1
+        self.marks[id as usize]
     }
 
     /// Puts the id in, or takes it out.
     pub(crate) fn set(&mut self, id: u8, present: bool)
         ensures { Mark self.new (λ other. if id == other then present else mark_of self.old other) }
     {
-        let place = usize::from(id / 64);
-        let bit = 1u64 << (id % 64);
-        if present {
-            self.words[place] |= bit;
-        } else {
-            self.words[place] &= !bit;
-        }
+        self.marks[id as usize] = present;
     }
 
     /// The ids of a list.
@@ -98,18 +80,18 @@ impl IdSet {
     pub(crate) fn both(&self, other: &IdSet) -> IdSet
         ensures { Mark result (λ id. mark_of self.now id && mark_of other.now id) }
     {
-        let mut words = [0u64; WORDS];
-        for place in 0..WORDS {
-            words[place] = self.words[place] & other.words[place];
+        let mut marks = [false; IDS];
+        for id in 0..IDS {
+            marks[id] = self.marks[id] && other.marks[id];
         }
-        IdSet { words }
+        IdSet { marks }
     }
 
     /// Whether no id is in the set.
     fn is_empty(&self) -> bool
         ensures { IsTrue result ↔ (marked self.now ≡ []) }
     {
-        are_zero(&self.words)
+        self.marks.iter().all(|mark| !*mark)
     }
 
     /// Whether the id is in the set, or none is.
@@ -134,10 +116,9 @@ impl IdSet {
         ensures { IfOk result (λ ids. ids.items ≡ marked self.now) }
     {
         let mut ids = Vec::new(alloc);
-        for number in 0..IDS {
-            let id = number as u8;
-            if self.contains(id) {
-                ids.push(id)?;
+        for id in 0..IDS {
+            if self.marks[id] {
+                ids.push(id as u8)?;
             }
         }
         Ok(ids)

@@ -3,8 +3,7 @@
 ghost use Rattle.dp_acl.specs.Laws.{ForbiddenChangesNoRight, OperatorsStay, SpelledIdsAreInOrder};
 
 /// A message that was filtered out changes no right: what is permitted is the same with the entry
-/// that
-/// stands in its place and without it.
+/// that stands in its place and without it.
 pub fn forbidden_changes_no_right()
     ensures { ForbiddenChangesNoRight }
 {}

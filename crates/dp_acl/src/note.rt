@@ -38,6 +38,7 @@ impl Rights {
         ensures stands { OnOk result ((history : List Item) → StandsFor self.old history
             → StandsFor self.new (history ++ entry.now ∷ [])) }
         ensures err { OnErr result (self.new ≡ record self.old { room = self.new.room }) }
+        ensures spared { OnErr result (self.old.room ≤ self.new.room) }
     {
         self.reserve(1)?;
         self.note_reserved(entry);

@@ -73,11 +73,14 @@ impl Rights {
         }
     }
 
-    /// Makes the memory ready that noting so many entries needs.
+    /// Makes the memory ready that noting `count` entries needs.
     pub fn reserve(&mut self, count: usize) -> Result<(), AllocError>
         ensures kept { self.new ≡ record self.old { room = self.new.room } }
-        ensures stands { (history : List Item) → StandsFor self.old history → StandsFor self.new history }
+        ensures stands { (history : List Item) → StandsFor self.old history
+            → StandsFor self.new history }
         ensures room { OnOk result (count ≤ self.new.room) }
+        // What was spared before stays spared, whether memory runs out or not.
+        ensures spared { self.old.room ≤ self.new.room }
     {
         self.rules.reserve(count)
     }

@@ -98,10 +98,11 @@ impl Rules {
         *self.rules.allocator()
     }
 
-    /// Makes room for so many more rules.
+    /// Makes room for `count` more rules.
     pub(crate) fn reserve(&mut self, count: usize) -> Result<(), AllocError>
         ensures kept { self.new.rules ≡ self.old.rules }
         ensures room { OnOk result (count ≤ self.new.room) }
+        ensures spared { self.old.room ≤ self.new.room }
     {
         self.rules.reserve(count)
     }

@@ -264,7 +264,7 @@ uncounted dold dnew input input_now output output_now before now status WriteFau
     absurd (not_four (of_bytes status 4 h says.0))
 uncounted dold dnew input input_now output output_now before now status _ b (inl says) h = b
 
--- a fault that is told was counted
+-- a fault that is reported was counted
 pub read_told : (dold dnew : Option (List ℕ)) (input input_now output output_now before now status :
     ℕ) (end : RunEnd) →
     Blames input input_now output output_now end → Says dold dnew before now status end → status ≡ 3
@@ -368,7 +368,7 @@ pub named : {A : Type 0} (words : List (String A)) (command : Command) → Names
 named words Replay names = inl names
 named words World names = inr names
 
--- the headline, of an input that tells its bytes
+-- the headline, of an input whose bytes are known
 pub headline_of : ((actions : List Action) → Headline (world_after actions))
     → (told : Option (List ℕ)) → IfSome told HasHeadline
 headline_of law None = tt

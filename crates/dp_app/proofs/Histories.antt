@@ -104,7 +104,7 @@ follows_fed read bytes entries old new held at h =
       at = at ∙ h.at;
     }
 
--- where the splitter holds no whole frame, the bytes tell the entries
+-- where the splitter holds no whole frame, the bytes carry the entries
 pub follows_tells : (read : List ℕ) (entries : List Entry) (stream : Stream)
     → HoldsNoFrame stream.held → Follows read entries stream
     → Tells StandsInReplay read entries stream.held

@@ -79,8 +79,7 @@ abbrev pub usage_line : List ℕ
 usage_line = codes "usage: drawpile replay, world, play, join, serve or drill\n"
 
 -- what the output of `replay` is due: the picture of the whole frames where the input is read to
--- its
--- end, else nothing
+-- its end, else nothing
 abbrev pub replay_text : List Entry → RunEnd → List ℕ
 replay_text entries Done = p6 (shown entries)
 replay_text entries (Truncated n) = p6 (shown entries)
@@ -116,8 +115,7 @@ abbrev pub usage_answer : Answer
 usage_answer = record { status = 1; text = []; line = usage_line }
 
 -- The answer that the words and the input's bytes are due: for a command that of what the input
--- comes
--- to, and the line about the words where they are none.
+-- comes to, and the line about the words where they are none.
 abbrev pub IsDue : {A : Type 0} → List (String A) → List ℕ → Answer → Type 0
 IsDue words input answer =
     (IsReplay words × (entries : List Entry) × (end : RunEnd) × ReplayComesTo input entries end
@@ -134,7 +132,7 @@ pub record IsGiven (answer : Answer) (code : ℕ) (output printed diag said : Op
   pub text : Appends output printed answer.text
   pub line : Appends diag said answer.line
 
--- the output grew by the picture of what an input that tells its bytes shows, which comes to this
+-- the output grew by the picture of what an input whose bytes are known shows, which comes to this
 -- end
 abbrev pub ShowsWhole : Option (List ℕ) → Option (List ℕ) → Option (List ℕ) → RunEnd → Type 0
 ShowsWhole input old new end =
@@ -147,17 +145,16 @@ ShowsPart input old new =
     IfSome input (λ bytes. (entries : List Entry) × (end : RunEnd) × ReplayComesTo bytes entries end
     × GrowsByPrefix old new (replay_text entries end))
 
--- An input that tells its bytes comes to this end, and what was taken of it stops there: it holds
--- no
--- cause to end but for its last bytes, at most a piece of 4096.
+-- An input whose bytes are known comes to this end, and what was taken of it stops there: it holds
+-- no cause to end but for its last bytes, at most a piece of 4096.
 abbrev pub StopsAtCause : Option (List ℕ) → Option (List ℕ) → RunEnd → Type 0
 StopsAtCause input left end =
     IfSome input (λ bytes. ((entries : List Entry) × ReplayComesTo bytes entries end)
     × ReplayTookWithin 4096 bytes left)
 
 -- What a run of `replay` that ends so leaves of an input and on the output: the picture of the
--- whole
--- frames, a prefix of it, or nothing. Where the input failed, what was taken of it holds no cause.
+-- whole frames, a prefix of it, or nothing. Where the input failed, what was taken of it holds no
+-- cause.
 abbrev pub Leaves : Option (List ℕ) → Option (List ℕ) → Option (List ℕ) → Option (List ℕ) → RunEnd
     → Type 0
 Leaves input left old new Done = IsAtEnd left × ShowsWhole input old new Done

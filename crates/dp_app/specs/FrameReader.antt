@@ -25,8 +25,7 @@ IsStop (BadMessage n) = Unit {0}
 IsStop _ = ⊥
 
 -- why these bytes can't be read further: out of memory, or a frame that may not stand after those
--- of
--- the entries
+-- of the entries
 abbrev pub StopsAt : List ℕ → List Entry → RunEnd → Type 0
 StopsAt bytes entries Memory = Unit {0}
 StopsAt bytes entries (BadMessage n) = TellsUpTo StandsInReplay bytes entries n

@@ -1,6 +1,5 @@
 -- What an input of frames comes to: the entries that stand in it, and how it ends. What may stand
--- in an
--- input is a relation of the number of frames before, a frame and its entry.
+-- in an input is a relation of the number of frames before, a frame and its entry.
 use Rattle.std.specs.Prelude.{◌≡◌, ◌≢◌, ℕ, ◌+◌, ◌^◌, ◌<◌, ◌≤◌, List, [], ◌∷◌, ◌++◌, length, take}
 use Rattle.std.specs.Prelude.{drop}
 use Rattle.std.specs.Prelude.{Option, Some, ⊤}
@@ -42,9 +41,8 @@ pub record TellsUpTo (MayStand : ℕ → FrameParts → Entry → Type 0) (bytes
 
 -- What an input comes to of which so many bytes count, and whose first frame begins at the byte
 -- `first`. The earliest cause wins: the first frame that may not stand there, where it is whole
--- within
--- the limit; then the limit; then an end inside a frame. The other ends don't come from the input's
--- bytes.
+-- within the limit; then the limit; then an end inside a frame. The other ends don't come from the
+-- input's bytes.
 abbrev pub ComesTo : (ℕ → FrameParts → Entry → Type 0) → ℕ → ℕ → List ℕ → List Entry → RunEnd
     → Type 0
 ComesTo MayStand first limit input entries Done =
@@ -94,8 +92,7 @@ abbrev pub ReplayComesTo : List ℕ → List Entry → RunEnd → Type 0
 ReplayComesTo input entries end = ComesTo StandsInReplay 0 replay_limit input entries end
 
 -- What `replay` took of an input of which these bytes are left holds no cause to end, but for the
--- last
--- bytes of it, at most so many.
+-- last bytes of it, at most so many.
 abbrev pub ReplayTookWithin : ℕ → List ℕ → Option (List ℕ) → Type 0
 ReplayTookWithin most input left =
     TookWithin (HoldsNoCause StandsInReplay 0 replay_limit) most input left

@@ -9,7 +9,7 @@ use Rattle.dp_app.specs.Input.{ReplayComesTo, ReplayTookWithin}
 use Rattle.dp_io.specs.Faults.{Rose}
 use Rattle.dp_app.specs.FrameReader.{Follows}
 
--- of an input that tells its bytes these are read, and the rest is left
+-- of an input whose bytes are known these are read, and the rest is left
 pub record HasRead (input : List ℕ) (left : Option (List ℕ)) (entries : List Entry)
     (stream : Stream) : Type 0 where
   pub read : List ℕ
@@ -19,8 +19,7 @@ pub record HasRead (input : List ℕ) (left : Option (List ℕ)) (entries : List
   pub follows : Follows read entries stream
 
 -- How reading an input ended of which these bytes are left: by its bytes, with a piece at most
--- after
--- what holds no cause; by a fault, with nothing after it; or because memory ran out.
+-- after what holds no cause; by a fault, with nothing after it; or because memory ran out.
 abbrev pub EndsReading : List ℕ → Option (List ℕ) → List Entry → RunEnd → Type 0
 EndsReading input left entries Memory = Unit {0}
 EndsReading input left entries ReadFault = ReplayTookWithin 0 input left
@@ -30,8 +29,7 @@ EndsReading input left entries end = ReplayComesTo input entries end
     × ReplayTookWithin 4096 input left
 
 -- the count of the input's faults after reading that ended so: a fault raised it, and else it
--- stays;
--- reading ends in no other way
+-- stays; reading ends in no other way
 abbrev pub BlamesReading : ℕ → ℕ → RunEnd → Type 0
 BlamesReading before now ReadFault = Rose before now
 BlamesReading before now Done = now ≡ before

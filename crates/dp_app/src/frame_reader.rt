@@ -1,6 +1,7 @@
 //! The entries of the bytes read so far.
 
-ghost use Rattle.std.specs.Prelude.{◌≡◌, ℕ, ◌+◌, ◌^◌, ◌<◌, ◌++◌, [], List, length, OnOk, IfOk, IfErr};
+ghost use Rattle.std.specs.Prelude.{◌≡◌, ℕ, ◌+◌, ◌^◌, ◌<◌, ◌++◌, [], List, length, OnOk, IfOk};
+ghost use Rattle.std.specs.Prelude.{IfErr};
 ghost use Rattle.dp_frame.specs.Frames.{HoldsNoFrame};
 ghost use Rattle.dp_app.specs.FrameReader.{Follows, StopsAt, IsStop, IsRefusedAt, IsStopFor};
 ghost use Rattle.dp_app.specs.Read.{end_of};
@@ -34,7 +35,8 @@ impl FrameReader {
 impl FrameReader {
     /// Reads the next bytes of the input: each frame that is whole with them gives its entry.
     pub fn feed(&mut self, alloc: Global, bytes: &[u8]) -> Result<(), RunEnd>
-        requires { self.old.splitter.at + length self.old.splitter.held + length bytes.now < 2 ^ 64 }
+        requires { self.old.splitter.at + length self.old.splitter.held + length bytes.now
+            < 2 ^ 64 }
         ensures ok { OnOk result ((read : List ℕ)
             → Follows read self.old.entries.items self.old.splitter
             → Follows (read ++ bytes.now) self.new.entries.items self.new.splitter) }

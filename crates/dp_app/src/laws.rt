@@ -9,8 +9,7 @@ use dp_frame::{one_front, one_splitting};
 use dp_messages::one_answer;
 
 /// For `replay` an input comes to at most one end, with one list of entries: so the answer that it
-/// is
-/// due is one.
+/// is due is one.
 pub fn one_reading()
     ensures entries { (input : List ℕ) (entries others : List Entry) (end other : RunEnd)
         → ReplayComesTo input entries end → ReplayComesTo input others other → entries ≡ others }

@@ -44,13 +44,14 @@ pub fn drawpile<I: Source, O: Sink, E: Sink>(
         → SaysUsage (E.held diag.old) (E.held diag.new) (E.faults diag.old) (E.faults diag.new)
         result.status }
     ensures untouched { ¬ IsCommand words.now
-        → Keeps (I.left input.old) (I.left input.new) × Keeps (O.held output.old) (O.held output.new) }
+        → Keeps (I.left input.old) (I.left input.new) × Keeps (O.held output.old)
+        (O.held output.new) }
     ensures uncounted { ¬ IsCommand words.now
         → (I.faults input.new ≡ I.faults input.old) × (O.faults output.new ≡ O.faults output.old) }
 
     // `replay` ends in one of the ways of a run: what the input comes to decides what is written,
-    // the
-    // fault that ends it is the one that was counted, and the status and the line on diag tell it.
+    // the fault that ends it is the one that was counted, and the status and the line on diag
+    // report it.
     ensures replay { IsReplay words.now → (end : run_end)
         × Leaves (I.left input.old) (I.left input.new) (O.held output.old) (O.held output.new) end
         × Blames (I.faults input.old) (I.faults input.new)
@@ -60,20 +61,19 @@ pub fn drawpile<I: Source, O: Sink, E: Sink>(
 
     // So does `world`: what is written is the report of the lines that are done.
     ensures world { IsWorld words.now → (end : run_end)
-        × WorldLeaves (I.left input.old) (I.left input.new) (O.held output.old) (O.held output.new) end
+        × WorldLeaves (I.left input.old) (I.left input.new) (O.held output.old) (O.held output.new)
+        end
         × Blames (I.faults input.old) (I.faults input.new)
         (O.faults output.old) (O.faults output.new) end
         × Says (E.held diag.old) (E.held diag.new) (E.faults diag.old) (E.faults diag.new)
         result.status end }
 
     // And whatever the input comes to: after the lines that are done each client has taken a prefix
-    // of the
-    // history of its epoch, its confirmed canvas is that front replayed, its view the same with its
-    // unanswered
-    // sends drawn, and a message that is not permitted changes nothing.
+    // of the history of its epoch, its confirmed canvas is that front replayed, its view the same
+    // with its unanswered sends drawn, and a message that is not permitted changes nothing.
     ensures headline { IsWorld words.now → IfSome (I.left input.old) HasHeadline }
 
-    // Of both: the input is read to its end, faults are told, and none is passed over.
+    // Of both: the input is read to its end, faults are reported, and none is passed over.
     ensures to_end { IsCommand words.now → (result.status ≡ 0) ⊎ (result.status ≡ 9)
         → IsAtEnd (I.left input.new) }
     ensures fault_told { IsCommand words.now → I.faults input.old < I.faults input.new

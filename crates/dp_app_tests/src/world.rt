@@ -52,11 +52,9 @@ say 1 LAYER|said 2
 up 1|placed 0:5";
 
 /// A line of a row is a line of the input, and after a bar what it prints: words, or a picture in
-/// brackets, whose
-/// pixels are red, blue and white, each with how often it stands there, and its rows separated by a
-/// slash. `takes C N M` stands
-/// for the lines that take the entries from N to M, and `points K N` for K undo points of the
-/// second client, placed from N on.
+/// brackets, whose pixels are red, blue and white, each with how often it stands there, and its
+/// rows separated by a slash. `takes C N M` stands for the lines that take the entries from N to M,
+/// and `points K N` for K undo points of the second client, placed from N on.
 static ROWS: [(&str, &[&str]); 24] = [
     ("", &[START]),
     ("", &[START2]),
@@ -304,7 +302,7 @@ impl Case {
         Ok(())
     }
 
-    /// The second client says so many undo points, which are placed from an index on.
+    /// The second client says that many undo points, which are placed from an index on.
     fn points(&mut self, count: u32, from: u32) -> Result<(), AllocError> {
         for k in 0..count {
             self.input.extend_from_slice(b"say 2 80\nup 2\n")?;
@@ -399,8 +397,7 @@ fn all_ids_are_held(rt: HostRuntime) -> Result<(), Fail> {
 }
 
 /// A read that fails: the report is that of the lines that were whole before. In pieces of 20 bytes
-/// the first
-/// ends in the second line.
+/// the first ends in the second line.
 #[test]
 fn a_read_that_fails(rt: HostRuntime) -> Result<(), Fail> {
     let case = case_of(rt.alloc(), &[START])?;

@@ -15,9 +15,8 @@ use Rattle.dp_client.specs.declared.own.Own.{Own}
 use Rattle.dp_client.specs.declared.own.Own.TheVariants.{Stranger, Echo, Dropped, Lost}
 use Rattle.dp_client.specs.declared.client.Taken.{Taken}
 
--- The user's id, and the epoch and the index of the user's Join, as the Welcome told them; the
--- epoch
--- that the client is in; the entries that it has taken of that; and its fork: what it has said that
+-- The user's id, and the epoch and the index of the user's Join, from the Welcome; the epoch that
+-- the client is in; the entries that it has taken of that; and its fork: what it has said that
 -- isn't answered, in order.
 pub record State : Type 0 where
   pub user : ℕ
@@ -41,8 +40,7 @@ welcomed user epoch at = record {
 -- ---- what an entry is to the fork
 
 -- the message may answer a send: no Join, no Leave, and no Filtered in place of a message that has
--- no
--- entry
+-- no entry
 abbrev pub may_answer : Msg → Bool
 may_answer (msg.Meta (Join registered name)) = false
 may_answer (msg.Meta Leave) = false
@@ -60,8 +58,7 @@ carried_in [] = 0
 carried_in (entry ∷ entries) = carried_by entry.msg
 
 -- own answers stand after this index: that of the user's Join in the Welcome's epoch, else that of
--- the
--- last carried entry
+-- the last carried entry
 abbrev pub last_before : State → ℕ
 last_before s = if s.epoch == s.joined_epoch then s.joined_at else carried_in s.taken
 
@@ -76,7 +73,7 @@ is_filtered (msg.Meta (Filtered kind)) = true
 is_filtered m = false
 
 -- what an own answer is to the fork: nothing to an empty one; Filtered drops the front; an equal
--- message is the front's echo; and another one tells that the fork is lost
+-- message is the front's echo; and another one means that the fork is lost
 abbrev pub answered : List Msg → Msg → Own
 answered [] m = Stranger
 answered (front ∷ rest) m =
@@ -132,7 +129,7 @@ taken_at (Some epoch) s = record {
   at = 0;
 }
 
--- what the client tells of an entry that it takes
+-- where an entry stands that is taken, and the epoch to be acknowledged
 abbrev pub taken_of : State → Entry → Taken
 taken_of s entry = taken_at (marked entry.msg) s
 

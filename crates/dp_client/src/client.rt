@@ -1,8 +1,10 @@
 //! The client.
 
-ghost use Rattle.std.specs.Prelude.{◌≡◌, ◌-◌, ◌^◌, ◌<◌, ◌≤◌, length, Some, None, option_to_list, IfOk, OnOk, OnErr};
+ghost use Rattle.std.specs.Prelude.{◌≡◌, ◌-◌, ◌^◌, ◌<◌, ◌≤◌, length, Some, None, option_to_list};
+ghost use Rattle.std.specs.Prelude.{IfOk, OnOk, OnErr};
 ghost use Rattle.dp_messages.specs.Messages.{kind_of};
-ghost use Rattle.dp_client.specs.Client.{welcomed, own_of, last_before, is_own_answer, said, took, taken_of};
+ghost use Rattle.dp_client.specs.Client.{welcomed, own_of, last_before, is_own_answer, said, took};
+ghost use Rattle.dp_client.specs.Client.{taken_of};
 ghost use Rattle.dp_client.specs.Client.{command_of, confirmed, marked, view};
 ghost use Rattle.std.specs.List.{filter_map};
 ghost use Rattle.dp_plain.specs.Commands.{draw_all};
@@ -18,7 +20,7 @@ use std::collections::VecDeque;
 use std::marker::Model;
 use std::sync::ledger::Ledger;
 
-/// What a client tells of an entry that it has taken.
+/// Where an entry stands that was taken, and the epoch that is to be acknowledged.
 #[derive(Clone, Copy, Debug, PartialEq, Eq)]
 pub struct Taken {
     /// The epoch to be acknowledged, where the entry opened one.

@@ -10,7 +10,6 @@ pub enum Own {
     /// It stands in place of the first send, which wasn't permitted.
     Dropped,
     /// It is an answer of the client's own that isn't the first send's: what the client waited for
-    /// is
-    /// lost.
+    /// is lost.
     Lost,
 }

@@ -82,8 +82,7 @@ fn step(rt: &impl Abort, alloc: Global, client: &mut Client, word: &str) -> Resu
 }
 
 /// Does the steps of a row, which are followed by how many sends aren't answered and by the letters
-/// of
-/// the confirmed canvas and of the view.
+/// of the confirmed canvas and of the view.
 fn check_row<D: Ledger, T: Ledger>(
     rt: &impl Abort,
     alloc: Global,
@@ -115,8 +114,10 @@ fn check_rows<D: Ledger, T: Ledger>(
     draw_blank: Blank,
     tile_blank: Blank,
 ) -> Result<(), Fail>
-    requires draws { (draw_blank.name ≡ D.name) × (draw_blank.parts ≡ D.parts) × (0 < draw_blank.parts) }
-    requires tiles { (tile_blank.name ≡ T.name) × (tile_blank.parts ≡ T.parts) × (0 < tile_blank.parts) }
+    requires draws { (draw_blank.name ≡ D.name) × (draw_blank.parts ≡ D.parts)
+        × (0 < draw_blank.parts) }
+    requires tiles { (tile_blank.name ≡ T.name) × (tile_blank.parts ≡ T.parts)
+        × (0 < tile_blank.parts) }
 {
     let mut draws = Steps::<D>::new(draw_blank);
     let mut tiles = Steps::<T>::new(tile_blank);

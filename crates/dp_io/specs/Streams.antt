@@ -1,4 +1,4 @@
--- What reads and writes give and take, where the bytes are told.
+-- What reads and writes give and take, where the bytes are known.
 use Rattle.std.specs.Prelude.{◌≡◌, ℕ, ◌<◌, ◌≤◌, ◌↔◌, List, [], length, take, IfSome, IfOk}
 use Rattle.std.specs.Io.KnownBytes.{Appends}
 use Rattle.std.specs.declared.option.Option.{Option}

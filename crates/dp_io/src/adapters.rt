@@ -12,8 +12,8 @@ ghost use Rattle.dp_io.specs.Streams.{EndsExactly, TakesSome};
 use crate::{Failed, Sink, Source};
 use std::io::{Read, Write};
 
-/// A source over a reader. It tells the bytes that are left where the reader does. Each error of
-/// the reader is a fault, an interrupted read too.
+/// A source over a reader. The bytes that are left are known where those of the reader are. Each
+/// error of the reader is a fault, an interrupted read too.
 #[derive(Drop)]
 pub struct StdSource<R> {
     reader: R,
@@ -67,8 +67,8 @@ impl<R: Read + Drop> Source for StdSource<R> {
     }
 }
 
-/// A sink over a writer. It tells the bytes that it holds where the writer does. Each error of the
-/// writer is a fault, an interrupted write too. It flushes nothing.
+/// A sink over a writer. The bytes that it holds are known where those of the writer are. Each
+/// error of the writer is a fault, an interrupted write too. It flushes nothing.
 #[derive(Drop)]
 pub struct StdSink<W> {
     writer: W,

@@ -38,10 +38,7 @@ impl Model for MemSink {
 
 impl MemSink {
     /// An empty sink for at most `room` bytes, whose memory it takes here, and at most `piece`
-    /// bytes
-    /// a call. It fails at the calls whose numbers, counted from 1, are in `fails`. The only error
-    /// is
-    /// out of memory.
+    /// bytes a call. It fails at the calls whose numbers, counted from 1, are in `fails`.
     pub fn new(
         alloc: Global,
         room: usize,

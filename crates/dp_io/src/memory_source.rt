@@ -1,4 +1,4 @@
-//! A source over bytes in memory that gives pieces and fails where it is told to.
+//! A source over bytes in memory that gives pieces and fails at listed calls.
 
 ghost use Rattle.std.specs.Prelude.{◌≡◌, ◌≤◌, ◌↔◌, Some, length, drop, vec_len};
 ghost use Rattle.std.specs.Prelude.{IfOk, OnOk, OnErr, IsErr};

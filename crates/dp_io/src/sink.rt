@@ -11,7 +11,7 @@ use crate::Failed;
 
 /// Where bytes go to: a device, or what stands for one.
 pub trait Sink {
-    /// The bytes that it holds, where they are told.
+    /// The bytes that it holds, where they are known.
     ghost held: { Self → Option (List ℕ) };
 
     /// How often the sink has failed.

@@ -13,7 +13,7 @@ pub struct Failed;
 
 /// Where bytes come from: a device, or what stands for one.
 pub trait Source {
-    /// The bytes that are left, where they are told.
+    /// The bytes that are left, where they are known.
     ghost left: { Self → Option (List ℕ) };
 
     /// How often the source has failed.
@@ -26,8 +26,7 @@ pub trait Source {
     /// # Errors
     ///
     /// `Failed` comes only where the count of faults rose in this call, and takes no byte. `Ok`
-    /// leaves
-    /// the count.
+    /// leaves the count.
     fn read(&mut self, buf: &mut [u8]) -> Result<usize, Failed>
         ensures bound { ReadsAtMost result buf.new }
         ensures bytes { ReadConsumes (left self.old) (left self.new) result buf.new }

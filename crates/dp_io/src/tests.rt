@@ -20,7 +20,7 @@ fn read_all<R: Source>(alloc: Global, source: &mut R) -> Result<Vec<u8>, Fail> {
     Ok(bytes)
 }
 
-/// Reads once, and tells a fault by its cause.
+/// Reads once, and names a fault by its cause.
 fn read_once<R: Source>(source: &mut R, buf: &mut [u8]) -> Result<usize, Failed>
     ensures { OnErr result (Rose (R.faults source.old) (R.faults source.new)) }
 {

@@ -2,9 +2,11 @@
 
 ghost use Rattle.std.specs.Prelude.{◌≡◌, ℕ, List, Option};
 ghost use Rattle.dp_keeper.specs.declared.row.Row.{Row as Kept};
+ghost use Rattle.dp_keeper.specs.declared.keeper.KeepError.TheVariants.{Memory};
 ghost use Rattle.dp_keeper.specs.Store.{Puts, Counts, IsPage};
 
 use crate::row::{Row, Rows};
+use std::alloc::AllocError;
 
 /// Why a store did not do what it was asked.
 #[derive(Clone, Copy, Debug, PartialEq, Eq)]
@@ -15,10 +17,18 @@ pub enum KeepError {
     Memory,
 }
 
-/// A store of rows. It counts its faults; what it holds is told where a file's content can be
+impl From<AllocError> for KeepError {
+    ghost from_gives = { λ _ e. e ≡ Memory };
+
+    fn from(_e: AllocError) -> KeepError {
+        KeepError::Memory
+    }
+}
+
+/// A store of rows. It counts its faults; what it holds is known where a file's content can be
 /// known.
 pub trait Keeper {
-    /// The rows, where they are told.
+    /// The rows, where they are known.
     ghost held: { Self → Option (List Kept) };
 
     /// How often the store has failed; the count stops at the greatest `u64`.
@@ -29,8 +39,7 @@ pub trait Keeper {
     /// # Errors
     ///
     /// `Failed` where the store failed: the row may have been added. `Memory` where memory ran out:
-    /// it
-    /// was not.
+    /// it was not.
     fn put(&mut self, row: &Row) -> Result<(), KeepError>
         ensures rows { Puts (held self.old) row.now result (held self.new) }
         ensures count { Counts (faults self.old) result (faults self.new) };

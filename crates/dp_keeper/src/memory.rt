@@ -1,11 +1,13 @@
-//! A store in memory that fails when it is told to.
+//! A store in memory that fails at listed calls.
 
-ghost use Rattle.std.specs.Prelude.{◌≡◌, Some};
-ghost use Rattle.dp_io.specs.Faults.{Rose};
-ghost use Rattle.dp_keeper.specs.declared.keeper.KeepError.{KeepError as Errors};
+ghost use Rattle.std.specs.Prelude.{◌≡◌, ◌∷◌, ◌++◌, [], Some, OnOk, IfErr};
+ghost use Rattle.dp_io.specs.Faults.{one_more};
+ghost use Rattle.dp_keeper.specs.Store.{Puts, Counts, IsPage};
+ghost use Rattle.dp_keeper.specs.FailingStore.{listed_fault, put_counted, PutsAsListed};
+ghost use Rattle.dp_keeper.specs.FailingStore.{ReadsAsListed};
 
 use crate::keeper::{KeepError, Keeper};
-use crate::row::{Row, Rows};
+use crate::row::{Row, Rows, page};
 use std::marker::Model;
 
 /// Rows in memory. The calls of `put` and of `rows` that are listed by their numbers, from 1, fail.
@@ -36,8 +38,7 @@ impl Model for MemKeeper {
 
 impl MemKeeper {
     /// A store of these rows. A call of `put` that fails keeps its row where the flag beside its
-    /// number
-    /// is true.
+    /// number is true.
     pub fn new(rows: Rows, fails: Vec<(u64, bool)>, read_fails: Vec<u64>) -> MemKeeper
         ensures { result ≡ record {
           rows = rows;
@@ -65,11 +66,31 @@ impl MemKeeper {
         &self.rows
     }
 
+    /// Counts a put, and answers what is listed of it.
+    fn next_put(&mut self) -> Option<bool>
+        ensures listed { result ≡ listed_fault self.old }
+        ensures counted { self.new ≡ put_counted self.old }
+    {
+        self.puts = self.puts.saturating_add(1);
+        let puts = self.puts;
+        let listed = self.fails.iter().find(|(number, _)| *number == puts);
+        listed.map(|(_, kept)| *kept)
+    }
+
+    /// Adds a row.
+    fn add(&mut self, row: &Row) -> Result<(), KeepError>
+        ensures ok { OnOk result (self.new ≡ record self.old
+            { rows = self.old.rows ++ row.now ∷ [] }) }
+        ensures err { IfErr result (λ e. (e ≡ KeepError.Memory) × (self.new ≡ self.old)) }
+    {
+        self.rows.push(row.clone()?)?;
+        Ok(())
+    }
+
     /// Counts a fault.
     fn fail(&mut self) -> KeepError
         ensures error { result ≡ KeepError.Failed }
-        ensures counted { self.new ≡ record self.old { faults = self.new.faults } }
-        ensures rose { Rose self.old.faults self.new.faults }
+        ensures counted { self.new ≡ record self.old { faults = one_more self.old.faults } }
     {
         self.faults = self.faults.saturating_add(1);
         KeepError::Failed
@@ -81,36 +102,37 @@ impl Keeper for MemKeeper {
 
     ghost faults = { λ k. k.faults };
 
-    fn put(&mut self, row: &Row) -> Result<(), KeepError> {
-        self.puts = self.puts.saturating_add(1);
-        let puts = self.puts;
-        let failing = self
-            .fails
-            .iter()
-            .find(|(number, _)| *number == puts)
-            .copied();
-        match failing {
-            Some((_, false)) => Err(self.fail()),
-            Some((_, true)) => match self.rows.push(row) {
-                Ok(()) => Err(self.fail()),
-                Err(_) => Err(KeepError::Memory),
-            },
-            None => match self.rows.push(row) {
-                Ok(()) => Ok(()),
-                Err(_) => Err(KeepError::Memory),
-            },
+    fn put(&mut self, row: &Row) -> Result<(), KeepError>
+        ensures rows { Puts (Some self.old.rows) row.now result (Some self.new.rows) }
+        ensures count { Counts self.old.faults result self.new.faults }
+
+        // It fails at the listed calls alone, and keeps the row where the flag beside says so.
+        ensures listed { PutsAsListed self.old row.now result self.new }
+    {
+        let listed = self.next_put();
+        match listed {
+            Some(false) => Err(self.fail()),
+            Some(true) => {
+                self.add(row)?;
+                Err(self.fail())
+            }
+            None => self.add(row),
         }
     }
 
-    fn rows(&mut self, from: u64, max: u32) -> Result<Rows, KeepError> {
+    fn rows(&mut self, from: u64, max: u32) -> Result<Rows, KeepError>
+        ensures page { IsPage (Some self.old.rows) from max result }
+        ensures stay { Some self.new.rows ≡ Some self.old.rows }
+        ensures count { Counts self.old.faults result self.new.faults }
+
+        // It fails at the listed calls alone.
+        ensures listed { ReadsAsListed self.old from max result self.new }
+    {
         self.reads = self.reads.saturating_add(1);
         if self.read_fails.contains(&self.reads) {
             return Err(self.fail());
         }
-        match self.rows.page(from, max) {
-            Ok(page) => Ok(page),
-            Err(_) => Err(KeepError::Memory),
-        }
+        Ok(page(&self.rows, from, max)?)
     }
 
     fn count(&self) -> u64 {

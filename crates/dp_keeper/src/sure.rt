@@ -3,7 +3,7 @@
 ghost use Rattle.std.specs.Prelude.{◌≡◌, Some};
 
 use crate::keeper::{KeepError, Keeper};
-use crate::row::{Row, Rows};
+use crate::row::{Row, Rows, page};
 use std::marker::Model;
 
 /// Rows in memory. It never fails: its count of faults is 0.
@@ -36,17 +36,12 @@ impl Keeper for SureKeeper {
     ghost faults = { λ rows. 0 };
 
     fn put(&mut self, row: &Row) -> Result<(), KeepError> {
-        match self.rows.push(row) {
-            Ok(()) => Ok(()),
-            Err(_) => Err(KeepError::Memory),
-        }
+        self.rows.push(row.clone()?)?;
+        Ok(())
     }
 
     fn rows(&mut self, from: u64, max: u32) -> Result<Rows, KeepError> {
-        match self.rows.page(from, max) {
-            Ok(page) => Ok(page),
-            Err(_) => Err(KeepError::Memory),
-        }
+        Ok(page(&self.rows, from, max)?)
     }
 
     fn count(&self) -> u64 {

@@ -32,8 +32,7 @@ if_any_is [] long = absurd (cc (long))
 if_any_is (byte ∷ more) long = refl
 
 -- The lines that are seen of an input of which `all` is a front: the ended ones of a longer front,
--- and what the
--- rest adds, which is itself where it is too long.
+-- and what the rest adds, which is itself where it is too long.
 pub record Sees (limit : ℕ) (all more : List ℕ) : Type 0 where
   further : List ℕ
   tail : List ℕ → List (List ℕ)

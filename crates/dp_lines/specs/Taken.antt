@@ -4,22 +4,22 @@ use Rattle.dp_lines.specs.declared.line.Line.{Line}
 use Rattle.dp_lines.specs.Held.{Held, ended_from}
 use Rattle.dp_lines.specs.Lines.{newline, Lacks, ended, open_rest}
 
--- none of the first so many bytes is a newline
+-- none of the first `len` bytes is a newline
 pub record IsScanned (bytes : List ℕ) (count : ℕ) : Type 0 where
   pub within : count ≤ length bytes
   pub none : Lacks newline (take count bytes)
 
--- the first newline stands after so many bytes
+-- the first newline stands after `len` bytes
 pub record IsEnd (bytes : List ℕ) (len : ℕ) : Type 0 where
   pub within : len < length bytes
   pub before : Lacks newline (take len bytes)
   pub at : slice_index bytes len ≡ newline
 
--- the first so many bytes as the next line
+-- the first `len` bytes as the next line
 abbrev pub first_line : Held → ℕ → Line
 first_line held len = record { number = held.count + 1; bytes = take len held.bytes }
 
--- what is left where so many bytes are taken as a line
+-- what is left where `len` bytes are taken as a line
 abbrev pub behind_first : Held → ℕ → Held
 behind_first held taken =
     record { count = held.count + 1; bytes = drop taken held.bytes; fed = held.fed }

@@ -9,7 +9,7 @@ ghost use Rattle.dp_lines.specs.Hexadecimal.{hex_bytes, hex_text};
 use hex::{FromHexError, decode, encode};
 use std::alloc::{AllocError, Global};
 
-/// The bytes that the word tells by its digits, of either case; `None` where it isn't hexadecimal.
+/// The bytes that the digits of the word spell, of either case; `None` where it isn't hexadecimal.
 pub fn hex_of(alloc: Global, word: &[u8]) -> Result<Option<Vec<u8>>, AllocError>
     ensures { IfOk result (λ found. option_map (λ bytes. bytes.items) found ≡ hex_bytes word.now) }
 {
@@ -20,8 +20,7 @@ pub fn hex_of(alloc: Global, word: &[u8]) -> Result<Option<Vec<u8>>, AllocError>
     }
 }
 
-/// Adds the digits of the bytes at the end, in lower case. An error, out of memory, changes
-/// nothing.
+/// Adds the digits of the bytes at the end, in lower case. After an error nothing has changed.
 pub fn put_hex(bytes: &[u8], out: &mut Vec<u8>) -> Result<(), AllocError>
     ensures ok { OnOk result (out.new.items ≡ out.old.items ++ hex_text bytes.now) }
     ensures err { OnErr result (out.new.items ≡ out.old.items) }

@@ -119,8 +119,8 @@ pub fn one_number()
     ensures { (word : List ℕ) (m n : ℕ) → IsNumber word m → IsNumber word n → m ≡ n }
 {}
 
-/// A word tells bytes exactly where it has an even number of hexadecimal digits, and the digits of
-/// bytes tell them.
+/// A word spells bytes exactly where it has an even number of hexadecimal digits, and the digits of
+/// bytes spell them.
 pub fn hex_read_back()
     ensures digits { (word : List ℕ)
         → IsSome (hex_bytes word) ↔ ((length word % 2 ≡ 0) × AllPass is_hex_digit word) }

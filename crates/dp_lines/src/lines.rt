@@ -28,7 +28,7 @@ pub enum LineError {
     /// The next line, which has this number, is too long.
     #[error("line {0} is too long")]
     Long(u32),
-    /// out of memory.
+    /// Memory ran out.
     #[error("out of memory")]
     Memory,
 }
@@ -223,7 +223,7 @@ impl Lines {
         self.take_line(len, 0)
     }
 
-    /// Takes a line of `len` bytes off, with so many bytes of its ending, and gives it.
+    /// Takes a line of `len` bytes off, with `ending` bytes of its ending, and gives it.
     fn take_line(&mut self, len: usize, ending: usize) -> Result<Option<Line>, LineError>
         requires within { len + ending ≤ length self.old.bytes }
         requires some { 0 < len + ending }

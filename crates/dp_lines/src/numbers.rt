@@ -23,7 +23,7 @@ pub fn number(word: &[u8]) -> Option<u32>
     }
 }
 
-/// The number that the word's digits tell, which may have zeros or a plus in front.
+/// The number that the word's digits spell, which may have zeros or a plus in front.
 fn told_number(word: &[u8]) -> Option<u32>
     ensures { (n : ℕ) → IsNumber word.now n → result ≡ Some n }
 {

@@ -190,7 +190,7 @@ fn numbers_at_the_edges(rt: HostRuntime) -> Result<(), Fail> {
     Ok(())
 }
 
-/// Words, and the bytes that they tell.
+/// Words, and the bytes that they spell.
 static DIGITS: [(&[u8], Option<&[u8]>); 7] = [
     (b"", Some(b"")),
     (b"00ff", Some(b"\x00\xff")),

@@ -22,8 +22,7 @@ pub trait Machine {
     type Answer: Drop;
 
     /// From a machine the event may have this outcome, a reply or out of memory, and leave the
-    /// other
-    /// machine.
+    /// other machine.
     ghost may_step: { Self → Self.Event → Result Self.Reply AllocError → Self → Type 0 };
 
     /// The answer of a machine to a query.

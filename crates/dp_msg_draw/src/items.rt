@@ -1,6 +1,7 @@
 //! Lists of parts that run to the payload's end.
 
-ghost use Rattle.std.specs.Prelude.{◌≡◌, ◌≤◌, ◌++◌, List, ℕ, length, All, IfOk, IfSome, IfNone, OnOk, IsTrue, ◌↔◌};
+ghost use Rattle.std.specs.Prelude.{◌≡◌, ◌≤◌, ◌++◌, List, ℕ, length, All, IfOk, IfSome, IfNone};
+ghost use Rattle.std.specs.Prelude.{OnOk, IsTrue, ◌↔◌};
 ghost use Rattle.std.specs.List.{flat_map};
 ghost use Rattle.dp_msg_draw.specs.Payloads.{dab_bytes, IsDab, pixel_bytes, IsPixel};
 ghost use Rattle.dp_msg_draw.specs.Parts.{dab_part, pixel_part};

@@ -8,7 +8,7 @@ use Rattle.std.proofs.lemmas.List.{get_or-take, get_or_append_left}
 use Rattle.dp_blend.specs.Color.{Channels, fade, of_argb, mul}
 use Rattle.dp_blend.specs.Blending.{blend}
 use Rattle.dp_blend.specs.declared.modes.Mode.{Mode}
-use Rattle.dp_pixels.proofs.Windows.{part_written}
+use Rattle.dp_pixels.proofs.Regions.{part_written}
 use borrow.Rule.Slice.PartMut.{mid_of, put_mid}
 
 -- a fade by one keeps a pixel

@@ -18,7 +18,7 @@ use Rattle.dp_pixels.specs.declared.region.Region.{Region}
 use Rattle.dp_pixels.specs.Rectangles.{is_in, canvas_rect}
 use Rattle.dp_pixels.specs.Commands.{dab_blended, dabs_blended, stroked}
 use Rattle.dp_pixels.specs.Regions.{IsPainted, on_canvas}
-use Rattle.dp_pixels.proofs.Windows.{painted_same, painted_then}
+use Rattle.dp_pixels.proofs.Regions.{painted_same, painted_then}
 use Rattle.dp_pixels.specs.Near.{IsNear}
 use Rattle.dp_pixels.specs.Dabs.{int_sum, placed_dabs}
 

@@ -1,6 +1,7 @@
 //! Commands that are drawn on all pixels of a layer.
 
-ghost use Rattle.std.specs.Prelude.{◌≡◌, ◌*◌, ◌<◌, ◌^◌, ℕ, ℤ, pos, List, length, IsOk, OnErr, OnOk, false};
+ghost use Rattle.std.specs.Prelude.{◌≡◌, ◌*◌, ◌<◌, ◌^◌, ℕ, ℤ, pos, List, length, IsOk, OnErr, OnOk};
+ghost use Rattle.std.specs.Prelude.{false};
 ghost use Rattle.dp_blend.specs.Color.{Channels};
 ghost use Rattle.dp_blend.specs.Canvas.{canvas_of, pixel_at};
 ghost use Rattle.dp_pixels.specs.Commands.{is_move, pixels_after, pixels_drawn};

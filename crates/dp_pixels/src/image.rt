@@ -1,6 +1,7 @@
 //! Images of colours.
 
-ghost use Rattle.std.specs.Prelude.{◌≡◌, ℕ, ◌<◌, pos, length, slice_get, slice_index, slice_index_or, None, IsTrue};
+ghost use Rattle.std.specs.Prelude.{◌≡◌, ℕ, ◌<◌, pos, length, slice_get, slice_index};
+ghost use Rattle.std.specs.Prelude.{slice_index_or, None, IsTrue};
 ghost use Rattle.std.specs.Option.{option_map_or};
 ghost use Rattle.dp_blend.specs.Color.{Channels, of_argb};
 ghost use Rattle.dp_blend.specs.Blending.{blend};

@@ -1,10 +1,12 @@
 //! Tiles that are put on a canvas.
 
-ghost use Rattle.std.specs.Prelude.{◌≡◌, ◌≤◌, ◌<◌, ◌+◌, ◌*◌, ◌%◌, ◌/◌, ◌^◌, ◌↔◌, ℕ, pos, length, slice_index_or, Some, None, if◌then◌else◌};
+ghost use Rattle.std.specs.Prelude.{◌≡◌, ◌≤◌, ◌<◌, ◌+◌, ◌*◌, ◌%◌, ◌/◌, ◌^◌, ◌↔◌, ℕ, pos, length};
+ghost use Rattle.std.specs.Prelude.{slice_index_or, Some, None, if◌then◌else◌};
 ghost use Rattle.std.specs.Option.{option_map_or};
 ghost use Rattle.dp_blend.specs.Color.{Channels};
 ghost use Rattle.dp_pixels.specs.Rectangles.{canvas_rect, clipped, is_in};
-ghost use Rattle.dp_pixels.specs.Tiles.{content_at, is_tile_pixel, replaced_by, tile_changed, tile_number, tiles_along, tiles_rect};
+ghost use Rattle.dp_pixels.specs.Tiles.{content_at, is_tile_pixel, replaced_by, tile_changed};
+ghost use Rattle.dp_pixels.specs.Tiles.{tile_number, tiles_along, tiles_rect};
 
 use crate::paint::Paint;
 use crate::rect::{Place, Rect};

@@ -10,7 +10,7 @@ use Rattle.dp_schedule.specs.declared.action.Instruction.{Instruction}
 use Rattle.dp_schedule.specs.declared.action.Instruction.TheVariants.{Say, Up, Take, Leave, Cut}
 use Rattle.dp_schedule.specs.declared.action.CanvasKind.{CanvasKind}
 use Rattle.dp_schedule.specs.declared.action.CanvasKind.TheVariants.{View, Confirmed}
-use Rattle.dp_schedule.specs.LineGrammar.{Parses, NamesClient, EndsIn, HexSpells, join_word}
+use Rattle.dp_schedule.specs.LineGrammar.{WordsParse, NamesClient, EndsIn, HexSpells, join_word}
 use Rattle.dp_schedule.specs.LineGrammar.{instruction_word, canvas_word}
 
 -- the sort of a first word, by its fourth byte: 0 that of a join, 1 of an instruction, 2 of a
@@ -27,46 +27,45 @@ unfolding sort_by
 sort_of_join true = refl
 sort_of_join false = refl
 
-sort_of_deed : (instruction : Instruction) → sort_of (instruction_word instruction) ≡ 1
+sort_of_instruction : (instruction : Instruction) → sort_of (instruction_word instruction) ≡ 1
 unfolding sort_by
-sort_of_deed (Say m) = refl
-sort_of_deed Up = refl
-sort_of_deed Take = refl
-sort_of_deed Leave = refl
-sort_of_deed Cut = refl
+sort_of_instruction (Say m) = refl
+sort_of_instruction Up = refl
+sort_of_instruction Take = refl
+sort_of_instruction Leave = refl
+sort_of_instruction Cut = refl
 
-sort_of_shown : (kind : CanvasKind) → sort_of (canvas_word kind) ≡ 2
+sort_of_canvas : (kind : CanvasKind) → sort_of (canvas_word kind) ≡ 2
 unfolding sort_by
-sort_of_shown View = refl
-sort_of_shown Confirmed = refl
+sort_of_canvas View = refl
+sort_of_canvas Confirmed = refl
 
 -- words of two sorts are not one
-join_or_deed : (registered : Bool) (instruction : Instruction)
+join_or_instruction : (registered : Bool) (instruction : Instruction)
     → join_word registered ≡ instruction_word instruction → ⊥
-join_or_deed registered instruction same =
-    omega (arith, ap sort_of same, sort_of_join registered, sort_of_deed instruction)
+join_or_instruction registered instruction same =
+    omega (arith, ap sort_of same, sort_of_join registered, sort_of_instruction instruction)
 
-join_or_shown : (registered : Bool) (kind : CanvasKind) → join_word registered ≡ canvas_word kind
+join_or_canvas : (registered : Bool) (kind : CanvasKind) → join_word registered ≡ canvas_word kind
     → ⊥
-join_or_shown registered kind same =
-    omega (arith, ap sort_of same, sort_of_join registered, sort_of_shown kind)
+join_or_canvas registered kind same =
+    omega (arith, ap sort_of same, sort_of_join registered, sort_of_canvas kind)
 
-deed_or_shown : (instruction : Instruction) (kind : CanvasKind)
+instruction_or_canvas : (instruction : Instruction) (kind : CanvasKind)
     → instruction_word instruction ≡ canvas_word kind → ⊥
-deed_or_shown instruction kind same =
-    omega (arith, ap sort_of same, sort_of_deed instruction, sort_of_shown kind)
+instruction_or_canvas instruction kind same =
+    omega (arith, ap sort_of same, sort_of_instruction instruction, sort_of_canvas kind)
 
--- who is registered, which canvas is shown and which instruction without a message is done, by the
--- first
--- byte of the word
+-- who is registered, which canvas is shown and which instruction without a message is done, by
+-- the first byte of the word
 registered_by : ℕ → Bool
 registered_by byte = byte == 109
 
-shown_by : ℕ → CanvasKind
-shown_by byte = if byte == 118 then View else Confirmed
+canvas_by : ℕ → CanvasKind
+canvas_by byte = if byte == 118 then View else Confirmed
 
-deed_by : ℕ → Instruction
-deed_by byte =
+instruction_by : ℕ → Instruction
+instruction_by byte =
     if byte == 117 then Up else (if byte == 116 then Take else (if byte == 108 then Leave else Cut))
 
 registered_back : (registered : Bool) → registered_by (get_or (join_word registered) 0 0)
@@ -75,28 +74,28 @@ unfolding registered_by
 registered_back true = refl
 registered_back false = refl
 
-shown_back : (kind : CanvasKind) → shown_by (get_or (canvas_word kind) 0 0) ≡ kind
-unfolding shown_by
-shown_back View = refl
-shown_back Confirmed = refl
+canvas_back : (kind : CanvasKind) → canvas_by (get_or (canvas_word kind) 0 0) ≡ kind
+unfolding canvas_by
+canvas_back View = refl
+canvas_back Confirmed = refl
 
-deed_back : (instruction : Instruction) → EndsIn instruction []
-    → deed_by (get_or (instruction_word instruction) 0 0) ≡ instruction
-unfolding deed_by
-deed_back (Say m) (word, ends, tells) = absurd (cc (ends))
-deed_back Up ends = refl
-deed_back Take ends = refl
-deed_back Leave ends = refl
-deed_back Cut ends = refl
+instruction_back : (instruction : Instruction) → EndsIn instruction []
+    → instruction_by (get_or (instruction_word instruction) 0 0) ≡ instruction
+unfolding instruction_by
+instruction_back (Say m) (word, ends, tells) = absurd (cc (ends))
+instruction_back Up ends = refl
+instruction_back Take ends = refl
+instruction_back Leave ends = refl
+instruction_back Cut ends = refl
 
 one_registered : (r s : Bool) → join_word r ≡ join_word s → r ≡ s
 one_registered r s same =
     sym (registered_back r)
     ∙ ap (λ (w : List ℕ). registered_by (get_or w 0 0)) same ∙ registered_back s
 
-one_shown : (s t : CanvasKind) → canvas_word s ≡ canvas_word t → s ≡ t
-one_shown s t same =
-    sym (shown_back s) ∙ ap (λ (w : List ℕ). shown_by (get_or w 0 0)) same ∙ shown_back t
+one_canvas : (s t : CanvasKind) → canvas_word s ≡ canvas_word t → s ≡ t
+one_canvas s t same =
+    sym (canvas_back s) ∙ ap (λ (w : List ℕ). canvas_by (get_or w 0 0)) same ∙ canvas_back t
 
 -- the laws of the crates below
 abbrev pub OneNumber : Type 0
@@ -107,9 +106,9 @@ OneMessage =
     (kind : ℕ) (payload : List ℕ) (m n : Msg) → Spells kind payload m → Spells kind payload n
     → m ≡ n
 
--- a word tells one message
-one_told : OneMessage → (word : List ℕ) (m n : Msg) → HexSpells word m → HexSpells word n → m ≡ n
-one_told law word m n first second =
+-- a word spells one message
+one_spelled : OneMessage → (word : List ℕ) (m n : Msg) → HexSpells word m → HexSpells word n → m ≡ n
+one_spelled law word m n first second =
     let digits = first.digits in
     let others = second.digits in
     let parts = first.may.parts in
@@ -120,80 +119,82 @@ one_told law word m n first second =
     (subst (λ (k : ℕ). Spells k first.may.payload n) kinds
     (subst (λ (p : List ℕ). Spells second.may.kind p n) payloads second.may.spelled))
 
--- an instruction with a word after the client's number says the message that the word tells
-tells_of : (instruction : Instruction) (word : List ℕ) (behind : List (List ℕ))
+-- an instruction with a word after the client's number says the message that the word spells
+said_by : (instruction : Instruction) (word : List ℕ) (behind : List (List ℕ))
     → EndsIn instruction (word ∷ behind)
     → (m : Msg) × (instruction ≡ Say m) × HexSpells word m
-tells_of (Say m) word behind (other, ends, tells) =
+said_by (Say m) word behind (other, ends, tells) =
     let same : other ≡ word = cc in
     (m, refl, subst (λ (w : List ℕ). HexSpells w m) same tells)
-tells_of Up word behind ends = absurd (cc (ends))
-tells_of Take word behind ends = absurd (cc (ends))
-tells_of Leave word behind ends = absurd (cc (ends))
-tells_of Cut word behind ends = absurd (cc (ends))
+said_by Up word behind ends = absurd (cc (ends))
+said_by Take word behind ends = absurd (cc (ends))
+said_by Leave word behind ends = absurd (cc (ends))
+said_by Cut word behind ends = absurd (cc (ends))
 
 -- one word and one tail are of one instruction
-one_deed : OneMessage → (d e : Instruction) (tail : List (List ℕ))
+one_instruction : OneMessage → (d e : Instruction) (tail : List (List ℕ))
     → instruction_word d ≡ instruction_word e
     → EndsIn d tail → EndsIn e tail → d ≡ e
-one_deed law d e [] same first second =
-    sym (deed_back d first)
-    ∙ ap (λ (w : List ℕ). deed_by (get_or w 0 0)) same ∙ deed_back e second
-one_deed law d e (word ∷ behind) same first second =
-    let (m, is, tells) = tells_of d word behind first in
-    let (n, other, line) = tells_of e word behind second in
-    is ∙ ap Say (one_told law word m n tells line) ∙ sym other
+one_instruction law d e [] same first second =
+    sym (instruction_back d first)
+    ∙ ap (λ (w : List ℕ). instruction_by (get_or w 0 0)) same ∙ instruction_back e second
+one_instruction law d e (word ∷ behind) same first second =
+    let (m, is, tells) = said_by d word behind first in
+    let (n, other, line) = said_by e word behind second in
+    is ∙ ap Say (one_spelled law word m n tells line) ∙ sym other
 
 -- one word is one client's number
-one_client : OneNumber → (line first other : List ℕ) (m n : ℕ) (tail rest : List (List ℕ))
-    → NamesClient line first m tail → NamesClient line other n rest → m ≡ n
-one_client law line first other m n tail rest names others =
+one_client : OneNumber → (all : List (List ℕ)) (first other : List ℕ) (m n : ℕ)
+    (tail rest : List (List ℕ)) → NamesClient all first m tail → NamesClient all other n rest
+    → m ≡ n
+one_client law all first other m n tail rest names others =
     let parts = names.parts in
     let pieces = others.parts in
     let same : others.word ≡ names.word = cc in
     law names.word m n names.number (subst (λ (w : List ℕ). IsNumber w n) same others.number)
 
 -- a line asks for one thing
-pub one_asked : OneNumber → OneMessage → (line : List ℕ) (action other : Action)
-    → Parses line action → Parses line other → action ≡ other
-one_asked numbers messages line (Join name r) (Join title s) first second =
+pub one_asked : OneNumber → OneMessage → (all : List (List ℕ)) (action other : Action)
+    → WordsParse all action → WordsParse all other → action ≡ other
+one_asked numbers messages all (Join name r) (Join title s) first second =
     let words : join_word r ≡ join_word s = cc in
     let registered = one_registered r s words in
     let names : name ≡ title = cc in
     cc
-one_asked numbers messages line (Join name r) (Act client instruction) first (tail, names, ends) =
+one_asked numbers messages all (Join name r) (Act client instruction) first (tail, names, ends) =
     let parts = names.parts in
-    absurd (join_or_deed r instruction cc)
-one_asked numbers messages line (Join name r) (Show client kind) first names =
+    absurd (join_or_instruction r instruction cc)
+one_asked numbers messages all (Join name r) (Show client kind) first names =
     let parts = names.parts in
-    absurd (join_or_shown r kind cc)
-one_asked numbers messages line (Act client instruction) (Join name r) (tail, names, ends) second =
+    absurd (join_or_canvas r kind cc)
+one_asked numbers messages all (Act client instruction) (Join name r) (tail, names, ends) second =
     let parts = names.parts in
-    absurd (join_or_deed r instruction cc)
-one_asked numbers messages line (Act m d) (Act n e) (tail, names, ends) (rest, others, ending) =
+    absurd (join_or_instruction r instruction cc)
+one_asked numbers messages all (Act m d) (Act n e) (tail, names, ends) (rest, others, ending) =
     let parts = names.parts in
     let pieces = others.parts in
     let words : instruction_word d ≡ instruction_word e = cc in
     let tails : rest ≡ tail = cc in
-    let clients = one_client numbers line (instruction_word d) (instruction_word e) m n tail rest
+    let clients = one_client numbers all (instruction_word d) (instruction_word e) m n tail rest
     names others in
-    let instructions = one_deed messages d e tail words ends (subst (EndsIn e) tails ending) in
+    let instructions = one_instruction messages d e tail words ends (subst (EndsIn e) tails ending)
+    in
     cc
-one_asked numbers messages line (Act client instruction) (Show n kind) (tail, names, ends) others =
+one_asked numbers messages all (Act client instruction) (Show n kind) (tail, names, ends) others =
     let parts = names.parts in
     let pieces = others.parts in
-    absurd (deed_or_shown instruction kind cc)
-one_asked numbers messages line (Show client kind) (Join name r) names second =
+    absurd (instruction_or_canvas instruction kind cc)
+one_asked numbers messages all (Show client kind) (Join name r) names second =
     let parts = names.parts in
-    absurd (join_or_shown r kind cc)
-one_asked numbers messages line (Show n kind) (Act client instruction) others (tail, names, ends) =
+    absurd (join_or_canvas r kind cc)
+one_asked numbers messages all (Show n kind) (Act client instruction) others (tail, names, ends) =
     let parts = names.parts in
     let pieces = others.parts in
-    absurd (deed_or_shown instruction kind cc)
-one_asked numbers messages line (Show m s) (Show n t) names others =
+    absurd (instruction_or_canvas instruction kind cc)
+one_asked numbers messages all (Show m s) (Show n t) names others =
     let parts = names.parts in
     let pieces = others.parts in
     let words : canvas_word s ≡ canvas_word t = cc in
-    let clients = one_client numbers line (canvas_word s) (canvas_word t) m n [] [] names others in
-    let canvases = one_shown s t words in
+    let clients = one_client numbers all (canvas_word s) (canvas_word t) m n [] [] names others in
+    let canvases = one_canvas s t words in
     cc

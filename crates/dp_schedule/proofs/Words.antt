@@ -8,8 +8,7 @@ use Rattle.dp_messages.specs.declared.message.Msg.{Msg}
 use Rattle.dp_schedule.specs.declared.action.Action.{Action}
 use Rattle.dp_schedule.specs.declared.action.Action.TheVariants.{Join, Act, Show}
 use Rattle.dp_schedule.specs.declared.action.Instruction.TheVariants.{Say, Up, Take, Leave, Cut}
-use Rattle.dp_schedule.specs.LineGrammar.{Parses, HexSpells}
-use Rattle.dp_schedule.specs.WordGrammar.{WordsParse}
+use Rattle.dp_schedule.specs.LineGrammar.{Parses, WordsParse, HexSpells}
 
 -- a list with two items and no third
 pub two_words : (all : List (List ℕ)) (first second : List ℕ)
@@ -37,62 +36,36 @@ pub no_word : (found : Option (Bor (List ℕ))) (item : Option (List ℕ))
 no_word None item same none = sym same
 no_word (Some word) item same none = absurd (cc (none))
 
--- what the words ask for, the line does
-line_asks : (line : List ℕ) (all : List (List ℕ)) → words line ≡ all
-    → (action : Action) → WordsParse all action → Parses line action
-line_asks line all same (Join name registered) asks = same ∙ asks
-line_asks line all same (Act client instruction) (tail, names, ends) = (
-  tail,
-  record { word = names.word; parts = same ∙ names.parts; number = names.number },
-  ends,
-)
-line_asks line all same (Show client kind) names =
-    record { word = names.word; parts = same ∙ names.parts; number = names.number }
-
--- what the line asks for, its words do
-words_ask : (line : List ℕ) (all : List (List ℕ)) → words line ≡ all
-    → (action : Action) → Parses line action → WordsParse all action
-words_ask line all same (Join name registered) asks = sym same ∙ asks
-words_ask line all same (Act client instruction) (tail, names, ends) = (
-  tail,
-  record { word = names.word; parts = sym same ∙ names.parts; number = names.number },
-  ends,
-)
-words_ask line all same (Show client kind) names =
-    record { word = names.word; parts = sym same ∙ names.parts; number = names.number }
-
 -- the answer to the words is the answer to the line
 pub found_asked : {E : Type 0} (line : List ℕ) (all : List (List ℕ)) → words line ≡ all
     → (r : Result (Option Action) E)
     → IfOk r (λ found. IfSome found (WordsParse all)) → IfOk r (λ found. IfSome found (Parses line))
-found_asked line all same (Err e) asks = tt
-found_asked line all same (Ok None) asks = tt
-found_asked line all same (Ok (Some action)) asks = line_asks line all same action asks
+found_asked line all same r asks =
+    subst (λ ws. IfOk r (λ found. IfSome found (WordsParse ws))) (sym same) asks
 
 pub none_asked : {E : Type 0} (line : List ℕ) (all : List (List ℕ)) → words line ≡ all
     → (r : Result (Option Action) E)
     → IfOk r (λ found. IfNone found ((action : Action) → ¬ WordsParse all action))
     → IfOk r (λ found. IfNone found ((action : Action) → ¬ Parses line action))
-none_asked line all same (Err e) none = tt
-none_asked line all same (Ok (Some action)) none = tt
-none_asked line all same (Ok None) none =
-    λ action asks. none action (words_ask line all same action asks)
+none_asked line all same r none =
+    subst (λ ws. IfOk r (λ found. IfNone found ((action : Action) → ¬ WordsParse ws action)))
+    (sym same) none
 
--- three words ask for a message that the third tells
-pub third_tells : (first second third : List ℕ) (action : Action)
+-- three words ask for a message in the hexadecimal of the third
+pub third_spells : (first second third : List ℕ) (action : Action)
     → WordsParse (first ∷ second ∷ third ∷ []) action → (m : Msg) × HexSpells third m
-third_tells first second third (Join name registered) asks = absurd (cc (asks))
-third_tells first second third (Act client (Say m)) (tail, names, (word, ends, tells)) =
+third_spells first second third (Join name registered) asks = absurd (cc (asks))
+third_spells first second third (Act client (Say m)) (tail, names, (word, ends, tells)) =
     let parts = names.parts in
     let same : word ≡ third = cc in
     (m, subst (λ (w : List ℕ). HexSpells w m) same tells)
-third_tells first second third (Act client Up) (tail, names, ends) = let parts = names.parts in
+third_spells first second third (Act client Up) (tail, names, ends) = let parts = names.parts in
     absurd (cc (parts, ends))
-third_tells first second third (Act client Take) (tail, names, ends) = let parts = names.parts in
+third_spells first second third (Act client Take) (tail, names, ends) = let parts = names.parts in
     absurd (cc (parts, ends))
-third_tells first second third (Act client Leave) (tail, names, ends) = let parts = names.parts in
+third_spells first second third (Act client Leave) (tail, names, ends) = let parts = names.parts in
     absurd (cc (parts, ends))
-third_tells first second third (Act client Cut) (tail, names, ends) = let parts = names.parts in
+third_spells first second third (Act client Cut) (tail, names, ends) = let parts = names.parts in
     absurd (cc (parts, ends))
-third_tells first second third (Show client kind) names = let parts = names.parts in absurd
+third_spells first second third (Show client kind) names = let parts = names.parts in absurd
     (cc (parts))

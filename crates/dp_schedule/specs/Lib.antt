@@ -1,3 +1,2 @@
 pub mod LineGrammar
-pub mod WordGrammar
 pub mod ReportText

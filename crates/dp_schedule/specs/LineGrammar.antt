@@ -53,15 +53,20 @@ EndsIn Leave tail = tail ≡ []
 EndsIn Cut tail = tail ≡ []
 
 -- the words are this first word, a client's number, and a tail
-pub record NamesClient (line first : List ℕ) (client : ℕ) (tail : List (List ℕ)) : Type 0 where
+pub record NamesClient (all : List (List ℕ)) (first : List ℕ) (client : ℕ)
+    (tail : List (List ℕ)) : Type 0 where
   pub word : List ℕ
-  pub parts : words line ≡ first ∷ word ∷ tail
+  pub parts : all ≡ first ∷ word ∷ tail
   pub number : IsNumber word client
+
+-- the words ask for the action
+abbrev pub WordsParse : List (List ℕ) → Action → Type 0
+WordsParse all (Join name registered) = all ≡ join_word registered ∷ name ∷ []
+WordsParse all (Act client instruction) =
+    (tail : List (List ℕ)) × NamesClient all (instruction_word instruction) client tail
+    × EndsIn instruction tail
+WordsParse all (Show client kind) = NamesClient all (canvas_word kind) client []
 
 -- the line asks for the action
 abbrev pub Parses : List ℕ → Action → Type 0
-Parses line (Join name registered) = words line ≡ join_word registered ∷ name ∷ []
-Parses line (Act client instruction) =
-    (tail : List (List ℕ)) × NamesClient line (instruction_word instruction) client tail
-    × EndsIn instruction tail
-Parses line (Show client kind) = NamesClient line (canvas_word kind) client []
+Parses line action = WordsParse (words line) action

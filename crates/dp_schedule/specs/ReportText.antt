@@ -16,7 +16,7 @@ place epoch at = decimal epoch ++ codes ":" ++ decimal at
 abbrev pub placed_line : List ℕ → ℕ → ℕ → List ℕ
 placed_line word epoch at = word ++ codes " " ++ place epoch at ++ codes "\n"
 
--- the line of what is told
+-- the text of a line
 abbrev pub text_of : ReportLine → List ℕ
 text_of (Joined client user epoch at) =
     codes "joined " ++ decimal client ++ codes " user " ++ decimal user

@@ -11,7 +11,8 @@ use dp_messages::one_message;
 
 /// A line asks for at most one thing, and what it says is no control message.
 pub fn one_action()
-    ensures one { (line : List ℕ) (action other : Action) → Parses line action → Parses line other → action ≡ other }
+    ensures one { (line : List ℕ) (action other : Action) → Parses line action → Parses line other
+        → action ≡ other }
     ensures high { (bytes : List ℕ) (m : Msg) → MaySay bytes m → 32 ≤ kind_of m }
 {
     one_number();

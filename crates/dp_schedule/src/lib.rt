@@ -1,4 +1,4 @@
-//! The lines of a schedule: what each asks for, and what is told of it.
+//! The lines of a schedule: what each asks for, and what the report says of it.
 //!
 //! The rule: docs/protocol.md, "The world".
 #![tactic(auto)]

@@ -8,9 +8,8 @@ ghost use Rattle.dp_messages.specs.declared.message.Msg.{Msg as Message};
 ghost use Rattle.dp_schedule.specs.declared.action.Action.{Action as Asked};
 ghost use Rattle.dp_schedule.specs.declared.action.Instruction.{Instruction as Done};
 ghost use Rattle.dp_schedule.specs.declared.action.CanvasKind.{CanvasKind as Canvas};
-ghost use Rattle.dp_schedule.specs.LineGrammar.{Parses, EndsIn, MaySay, HexSpells};
+ghost use Rattle.dp_schedule.specs.LineGrammar.{Parses, WordsParse, EndsIn, MaySay, HexSpells};
 ghost use Rattle.dp_schedule.specs.LineGrammar.{instruction_word, join_word, canvas_word};
-ghost use Rattle.dp_schedule.specs.WordGrammar.{WordsParse};
 
 use crate::action::{Action, CanvasKind, Instruction};
 use dp_frame::{Frame, Octets};
@@ -32,7 +31,8 @@ const PAYLOAD_LIMIT: usize = 65_535;
 /// The rule: docs/protocol.md, "The world".
 pub fn read_action(alloc: Global, line: &[u8]) -> Result<Option<Action>, AllocError>
     ensures some { IfOk result (λ found. IfSome found (Parses line.now)) }
-    ensures none { IfOk result (λ found. IfNone found ((action : Asked) → ¬ Parses line.now action)) }
+    ensures none { IfOk result (λ found. IfNone found
+        ((action : Asked) → ¬ Parses line.now action)) }
 {
     let Some(first) = word_of(line, 0) else {
         return Ok(None);
@@ -137,8 +137,10 @@ fn canvas_kind_of(word: &[u8]) -> Option<CanvasKind>
 
 /// The instruction that this word names, with no word after the client's number.
 fn instruction_of(word: &[u8]) -> Option<Instruction>
-    ensures some { IfSome result (λ instruction. (word.now ≡ instruction_word instruction) × EndsIn instruction []) }
-    ensures none { IfNone result ((instruction : Done) → EndsIn instruction [] → word.now ≢ instruction_word instruction) }
+    ensures some { IfSome result (λ instruction. (word.now ≡ instruction_word instruction)
+        × EndsIn instruction []) }
+    ensures none { IfNone result ((instruction : Done) → EndsIn instruction []
+        → word.now ≢ instruction_word instruction) }
 {
     if word == b"up".as_slice() {
         Some(Instruction::Up)
@@ -153,7 +155,7 @@ fn instruction_of(word: &[u8]) -> Option<Instruction>
     }
 }
 
-/// The message that the digits tell.
+/// The message that the digits spell.
 fn message_of(alloc: Global, digits: &[u8]) -> Result<Option<Msg>, AllocError>
     ensures some { IfOk result (λ found. IfSome found (HexSpells digits.now)) }
     ensures none { IfOk result (λ found. IfNone found ((m : Message) → ¬ HexSpells digits.now m)) }

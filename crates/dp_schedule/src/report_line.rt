@@ -1,4 +1,4 @@
-//! What is told of an action.
+//! Lines of the report.
 
 ghost use Rattle.std.specs.Prelude.{◌≡◌, ◌++◌, codes, decimal, IfOk, OnOk};
 ghost use Rattle.dp_schedule.specs.ReportText.{place, placed_line, text_of};
@@ -7,7 +7,7 @@ use dp_lines::put_number;
 use itoa::Buffer;
 use std::alloc::{AllocError, Global};
 
-/// What is told of an action that shows no canvas.
+/// What the report says of an action that shows no canvas.
 #[derive(Clone, Copy, Debug, PartialEq, Eq)]
 pub enum ReportLine {
     /// The user has joined as this client, and the Join stands there.

@@ -1,4 +1,4 @@
-//! Lines with what they ask for, lines that ask for nothing, and what is told as text.
+//! Lines with what they ask for, lines that ask for nothing, and the lines of the report.
 
 use super::*;
 use std::alloc::Global;
@@ -95,7 +95,7 @@ fn lines_ask_for_nothing(rt: HostRuntime) -> Result<(), Fail> {
     Ok(())
 }
 
-/// Whether a message of a kind that isn't listed may be said with a payload of so many bytes.
+/// Whether a message of a kind that isn't listed may be said with a payload of `payload_len` bytes.
 fn may_be_said(rt: &impl Abort, alloc: Global, payload_len: usize) -> Result<bool, Fail> {
     assert!(rt; payload_len < 100_000);
     let mut line = Vec::from_slice(alloc, b"say 1 7f")?;
@@ -112,7 +112,7 @@ fn a_payload_has_at_most_65535_bytes(rt: HostRuntime) -> Result<(), Fail> {
     Ok(())
 }
 
-/// What is told, and its text.
+/// Lines of the report, and their texts.
 static TOLD: [(ReportLine, &str); 16] = [
     (
         ReportLine::Joined {
@@ -147,7 +147,7 @@ static TOLD: [(ReportLine, &str); 16] = [
 ];
 
 #[test]
-fn what_is_told_has_its_text(rt: HostRuntime) -> Result<(), Fail> {
+fn report_lines_have_their_texts(rt: HostRuntime) -> Result<(), Fail> {
     for (line, wanted) in &TOLD {
         let text = line.text(rt.alloc())?;
         assert_eq!(rt; text.as_slice(), wanted.as_bytes());

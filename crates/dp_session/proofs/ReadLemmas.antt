@@ -34,7 +34,7 @@ open-some : (c : Connection) (b : Bool) → is_some (if b then Some c else None)
 open-some c true = refl
 open-some c false = refl
 
--- whether the connection after so many others is open
+-- whether the connection after `n` others is open
 pub open-at : (cs : List Connection) (i : ℕ) (c : Connection) → slice_get cs i ≡ Some c
     → is_some (open_in cs (i + 1)) ≡ is_open c
 open-at cs i c found =

@@ -17,8 +17,7 @@ use Rattle.dp_session.specs.State.{State, first_state, acted, after_event, after
 use Rattle.dp_session.specs.State.{connection_of}
 
 -- What contracts see of a session. A closing that a store fault or the limits refused is in `shut`,
--- with
--- the number of events before it.
+-- with the number of events before it.
 pub record Past : Type 0 where
   -- the events that were kept
   pub journal : List Event
@@ -28,7 +27,7 @@ pub record Past : Type 0 where
   pub quiet : List ℕ
   -- how often the keeper had failed when a put of this session failed first
   pub first_fault : Option ℕ
-  -- the keeper's rows, where it tells them
+  -- the keeper's rows, where they are known
   pub known : Option (List Row)
   -- how often the keeper has failed
   pub count : ℕ
@@ -129,8 +128,7 @@ pub record Refuses (old : Past) (e : Event) (refusal answer : Reply) (new : Past
   pub after : new ≡ refused old e
 
 -- What may be answered, by whether a put has failed before: then that fault, for ever; else that
--- the
--- session has ended, exactly where there is no room; else the event's own answer, or the first
+-- the session has ended, exactly where there is no room; else the event's own answer, or the first
 -- fault.
 abbrev pub Serves : Option ℕ → Past → Event → Reply → Past → Type 0
 Serves (Some first) old e answer new = Refuses old e (StoreFault first) answer new
@@ -144,7 +142,7 @@ abbrev pub Step : Past → Event → Result Reply AllocError → Past → Type 0
 Step old e (Ok answer) new = Serves old.first_fault old e answer new
 Step old e (Err want) new = new ≡ quieted old e
 
--- the step over a keeper that never fails and tells its rows
+-- the step over a keeper that never fails and whose rows are known
 abbrev pub sure_step : Past → Event → Past
 sure_step past e = if has_room past.journal e then kept past e else refused past e
 

@@ -59,8 +59,7 @@ quiet_after (Adds connection) quiet = quiet ++ false ∷ []
 quiet_after (Becomes conn connection) quiet = quiet
 
 -- A connection that is added is open, and its user is not present; one that becomes another was
--- open, and
--- stays its user's.
+-- open, and stays its user's.
 abbrev pub IsChange : List Connection → Change → Type 0
 IsChange connections Stays = Unit {0}
 IsChange connections (Adds connection) =

@@ -14,13 +14,12 @@ use Rattle.dp_session.specs.declared.event.Answer.TheVariants.{Entries, Gone}
 use Rattle.dp_session.specs.State.{State, epoch_of, connection_of}
 use Rattle.dp_session.specs.Past.{Past, state_of}
 
--- at most so many entries of a history from a place on; at most 0 counts as at most 1
+-- at most `most` entries of a history from a place on; 0 counts as 1
 abbrev pub page : ℕ → ℕ → List Entry → List Entry
 page at most history = take (max 1 most) (drop at history)
 
 -- entries of the live epoch, of which this much counts: from the cursor on, where that is of the
--- live
--- epoch, or else from its beginning
+-- live epoch, or else from its beginning
 abbrev pub pulled_from : State → ℕ → ℕ → ℕ → List Entry → Answer
 pulled_from s epoch at most history =
     if epoch == epoch_of s

@@ -14,15 +14,15 @@ row_of (Open name registered) = one_byte 0 ++ flag_byte registered ++ name
 row_of (Say conn m) = one_byte 1 ++ four_bytes conn ++ one_byte (kind_of m) ++ payload_of m
 row_of (Close conn) = one_byte 2 ++ four_bytes conn
 
--- so many bytes have the rows of a journal
+-- how many bytes the rows of a journal have
 abbrev pub row_bytes : List Event → ℕ
 row_bytes journal = sum_by (λ event. length (row_of event)) journal
 
--- a journal has at most so many events
+-- the most events of a journal
 abbrev pub event_limit : ℕ
 event_limit = 2 ^ 24
 
--- the rows of a journal have at most so many bytes
+-- the most bytes of the rows of a journal
 abbrev pub byte_limit : ℕ
 byte_limit = 2 ^ 30
 

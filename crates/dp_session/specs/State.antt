@@ -15,6 +15,7 @@ use Rattle.dp_messages.specs.declared.message.Msg.{Msg}
 use Rattle.dp_messages.specs.declared.message.Msg.TheVariants as msg
 use Rattle.dp_messages.specs.declared.message.Entry.{Entry}
 use Rattle.dp_messages.specs.Messages.{kind_of}
+use Rattle.dp_lists.specs.Numbered.{numbered}
 use Rattle.dp_acl.specs.Rights.{is_operator}
 use Rattle.dp_acl.specs.Permitted.{permitted}
 use Rattle.dp_session.specs.declared.event.Event.{Event}
@@ -32,8 +33,8 @@ pub record Stream : Type 0 where
   pub commands : List Draw
 
 -- The histories of the epochs before, the live history, the connections in the order of their
--- Opened
--- (the first has number 1), the reset that is being sent, and the answer to each event so far.
+-- Opened (the first has number 1), the reset that is being sent, and the answer to each event so
+-- far.
 pub record State : Type 0 where
   pub ended : List (List Entry)
   pub live : List Entry
@@ -75,7 +76,7 @@ placed s entries = record s { live = s.live ++ entries }
 
 -- the connection of a number among these, if it was given out
 abbrev pub connection_in : List Connection → ℕ → Option Connection
-connection_in connections conn = if conn == 0 then None else slice_get connections (conn - 1)
+connection_in connections conn = numbered connections conn
 
 -- the connection of a number, if it was given out
 abbrev pub connection_of : State → ℕ → Option Connection

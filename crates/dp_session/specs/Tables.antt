@@ -59,7 +59,7 @@ MarksHolders present connections =
 
 -- ---- the whole
 
--- The tables are those of the state, to which so many events led.
+-- The tables are those of the state to which the journal led.
 pub record AreOf (s : State) (journal : List Event) (connections : List Connection)
     (live : List HistoryItem)
     (rights : Kept) (present : List Bool) : Type 0 where

@@ -43,7 +43,8 @@ use dp_messages::Entry;
 fn place_server(live: &mut Vec<HistoryItem>, rights: &mut Rights, entry: Option<Entry>)
     requires live { vec_len live.old + 1 ≤ vec_capacity live.old }
     requires rights { 1 ≤ rights.old.room }
-    ensures live { live.new.items ≡ live.old.items ++ map HistoryItem.Server (option_to_list entry) }
+    ensures live { live.new.items
+        ≡ live.old.items ++ map HistoryItem.Server (option_to_list entry) }
     ensures stands { (history : List Piece) → StandsFor rights.old history
         → StandsFor rights.new (history ++ option_to_list entry) }
     ensures len { vec_len live.new ≤ vec_len live.old + 1 }
@@ -132,7 +133,7 @@ fn flag(quiet: &mut Vec<bool>, conn: u32)
 }
 
 impl Tables {
-    /// Keeps an event whose row has so many bytes, and gives its answer.
+    /// Keeps an event, and gives its answer.
     pub(crate) fn keep(&mut self, plan: Plan, row_length: usize) -> Reply
         requires tables { AreTables self.old }
         requires room { HasRoom self.old }
@@ -140,7 +141,8 @@ impl Tables {
         requires row { row_length ≡ length (row_of (event_of plan.placing)) }
         requires limits { has_room self.old.journal.items (event_of plan.placing) ≡ true }
         ensures tables { AreTables self.new }
-        ensures journal { self.new.journal.items ≡ self.old.journal.items ++ event_of plan.placing ∷ [] }
+        ensures journal { self.new.journal.items ≡ self.old.journal.items ++ event_of plan.placing
+            ∷ [] }
         ensures shut { self.new.shut.items ≡ self.old.shut.items }
         ensures quiet { self.new.quiet.items ≡ quiet_after plan.change self.old.quiet.items }
         ensures reply { result ≡ plan.reply }

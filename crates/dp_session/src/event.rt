@@ -1,11 +1,8 @@
 //! What comes to a session, and what it answers.
 
-ghost use Rattle.std.specs.Prelude.{◌≡◌, []};
-
 use dp_frame::Octets;
+use dp_lists::Listed;
 use dp_messages::{Entry, Msg};
-use std::alloc::Global;
-use std::marker::Model;
 
 /// What comes to a session.
 #[derive(Debug, Drop)]
@@ -57,7 +54,7 @@ pub enum Reply {
 /// What a session is asked.
 #[derive(Clone, Copy, Debug, PartialEq, Eq)]
 pub enum Query {
-    /// The entries that a connection is to get from a place of an epoch on, at most so many; 0
+    /// The entries that a connection is to get from a place of an epoch on, at most `max`; 0
     /// counts as 1.
     Pull {
         conn: u32,
@@ -85,121 +82,10 @@ pub struct ShutAt {
 }
 
 /// Entries, in order.
-#[derive(Debug, Drop)]
-pub struct Entries {
-    entries: Vec<Entry>,
-}
-
-impl Model for Entries {
-    ghost use Rattle.std.specs.Prelude.{List};
-    ghost use Rattle.dp_messages.specs.declared.message.Entry.{Entry};
-
-    ghost Value = { List Entry };
-
-    ghost view = { λ e. e.entries.items };
-}
-
-impl Entries {
-    /// No entries.
-    pub fn new(alloc: Global) -> Entries
-        ensures { result ≡ [] }
-    {
-        Entries {
-            entries: Vec::new(alloc),
-        }
-    }
-
-    /// The entries of a vector.
-    pub fn from_vec(entries: Vec<Entry>) -> Entries
-        ensures { result ≡ entries.items }
-    {
-        Entries { entries }
-    }
-
-    /// The entries as a slice.
-    pub fn as_slice(&self) -> &[Entry]
-        ensures { result.now ≡ self.now }
-    {
-        self.entries.as_slice()
-    }
-}
+pub type Entries = Listed<Entry>;
 
 /// Events that were kept, in order.
-#[derive(Debug, Drop)]
-pub struct Journal {
-    events: Vec<Event>,
-}
-
-impl Model for Journal {
-    ghost use Rattle.std.specs.Prelude.{List};
-    ghost use Rattle.dp_session.specs.declared.event.Event.{Event};
-
-    ghost Value = { List Event };
-
-    ghost view = { λ l. l.events.items };
-}
-
-impl Journal {
-    /// None.
-    pub fn new(alloc: Global) -> Journal
-        ensures { result ≡ [] }
-    {
-        Journal {
-            events: Vec::new(alloc),
-        }
-    }
-
-    /// Those of a vector.
-    pub fn from_vec(events: Vec<Event>) -> Journal
-        ensures { result ≡ events.items }
-    {
-        Journal { events }
-    }
-
-    /// Those in it, as a slice.
-    pub fn as_slice(&self) -> &[Event]
-        ensures { result.now ≡ self.now }
-    {
-        self.events.as_slice()
-    }
-}
+pub type Journal = Listed<Event>;
 
 /// Closings that were refused, in order.
-#[derive(Debug, Drop)]
-pub struct Shut {
-    closings: Vec<ShutAt>,
-}
-
-impl Model for Shut {
-    ghost use Rattle.std.specs.Prelude.{List};
-    ghost use Rattle.dp_session.specs.declared.event.ShutAt.{ShutAt};
-
-    ghost Value = { List ShutAt };
-
-    ghost view = { λ l. l.closings.items };
-}
-
-impl Shut {
-    /// None.
-    pub fn new(alloc: Global) -> Shut
-        ensures { result ≡ [] }
-    {
-        Shut {
-            closings: Vec::new(alloc),
-        }
-    }
-
-    /// Those of a vector.
-    pub fn from_vec(closings: Vec<ShutAt>) -> Shut
-        ensures { result ≡ closings.items }
-    {
-        Shut { closings }
-    }
-
-    /// Those in it, as a slice.
-    pub fn as_slice(&self) -> &[ShutAt]
-        ensures { result.now ≡ self.now }
-    {
-        self.closings.as_slice()
-    }
-}
+pub type Shut = Listed<ShutAt>;

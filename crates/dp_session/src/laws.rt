@@ -1,7 +1,7 @@
 //! Laws of sessions, each the contract of a function that does nothing.
 
 ghost use Rattle.std.specs.Prelude.{◌≡◌, ◌≤◌, ◌+◌, ◌*◌, ◌∷◌, ◌++◌, [], ℕ, List, Some, All, length};
-ghost use Rattle.dp_session.specs.declared.event.Event.{Event as Journalled};
+ghost use Rattle.dp_session.specs.declared.event.Event.{Event as Kept};
 ghost use Rattle.dp_session.specs.declared.event.ShutAt.{ShutAt};
 ghost use Rattle.dp_session.specs.Past.{Past, state_after, state_of, kept, refused, sure_step};
 ghost use Rattle.dp_session.specs.State.{after_event};
@@ -17,7 +17,7 @@ pub fn one_answer_each()
 
 /// A history only grows: what stands in it stands there after one more event.
 pub fn histories_grow()
-    ensures { (journal : List Journalled) (shut : List ShutAt) (e : Journalled)
+    ensures { (journal : List Kept) (shut : List ShutAt) (e : Kept)
         → All (λ s. s.n ≤ length journal) shut
         → Continues (state_after journal shut).live (state_after (journal ++ e ∷ []) shut).live }
 {}
@@ -30,11 +30,11 @@ pub fn faults_for_good()
 
 /// Where one more event leads: one that is kept, and one that the limits refuse.
 pub fn steps_lead_on()
-    ensures kept { (past : Past) (e : Journalled) → ShutBefore past
+    ensures kept { (past : Past) (e : Kept) → ShutBefore past
         → state_of (kept past e) ≡ after_event (state_of past) e }
-    ensures refused { (past : Past) (e : Journalled)
+    ensures refused { (past : Past) (e : Kept)
         → state_of (refused past e) ≡ shut_by (state_of past) e }
-    ensures before { (past : Past) (e : Journalled) → ShutBefore past → ShutBefore (sure_step past e) }
+    ensures before { (past : Past) (e : Kept) → ShutBefore past → ShutBefore (sure_step past e) }
 {}
 
 /// A history has at most two entries for each event, after its mark.

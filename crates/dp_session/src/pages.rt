@@ -20,30 +20,9 @@ use crate::connection::{Ending, Place};
 use crate::event::{Answer, Entries, Event};
 use crate::history_item::HistoryItem;
 use crate::tables::{EPOCH, Tables, connection};
+use dp_lists::{prefix_of, rest_of};
 use dp_messages::Entry;
 use std::alloc::{AllocError, Global};
-
-/// The items from a place on.
-fn rest_of(items: &[HistoryItem], from: usize) -> &[HistoryItem]
-    ensures { result.now ≡ drop from items.now }
-{
-    if from < items.len() {
-        &items[from..]
-    } else {
-        &[]
-    }
-}
-
-/// The first items, at most that many.
-fn prefix_of(items: &[HistoryItem], most: usize) -> &[HistoryItem]
-    ensures { result.now ≡ take most items.now }
-{
-    if most < items.len() {
-        &items[..most]
-    } else {
-        items
-    }
-}
 
 /// A copy of an entry that is kept beside the journal.
 fn entry(journal: &[Event], item: &HistoryItem) -> Result<Entry, AllocError>
@@ -127,9 +106,7 @@ impl Tables {
         self.pull_from(place.index as usize + 1, epoch, at, most)
     }
 
-    /// What a connection is to get, from a cursor on, so many entries at most. The only error is
-    /// want of
-    /// memory.
+    /// What a connection is to get, from a cursor on, at most `most` entries.
     pub(crate) fn pull(
         &self,
         conn: u32,

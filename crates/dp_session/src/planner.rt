@@ -1,6 +1,7 @@
 //! What an event makes of a session, with the memory that it needs.
 
-ghost use Rattle.std.specs.Prelude.{◌≡◌, Some, None, length, is_some, option_to_list, false, IfOk, IfSome, MatchOption};
+ghost use Rattle.std.specs.Prelude.{◌≡◌, Some, None, length, is_some, option_to_list};
+ghost use Rattle.std.specs.Prelude.{true, false, IfOk, IfSome, MatchOption};
 ghost use Rattle.dp_session.specs.State.{is_name, open_in, next_owner};
 ghost use Rattle.dp_session.specs.Tables.{state_in, AreTables};
 ghost use Rattle.dp_session.specs.Rows.{has_room};
@@ -66,6 +67,42 @@ fn still(event: Event, reply: Reply) -> Plan
     }
 }
 
+/// The plan of an Open that is answered so, and lets nobody join.
+fn refused_open(name: Octets, registered: bool, reply: Reply) -> Plan
+    ensures { result ≡ record {
+      reply = reply;
+      change = Change.Stays;
+      placing = Placing.Server (Event.Open name registered) None None;
+    } }
+{
+    still(Event::Open { name, registered }, reply)
+}
+
+/// The plan of an Ack by which the connection takes up the live epoch.
+fn acknowledged(conn: u32, connection: &Connection, msg: Msg) -> Plan
+    ensures { result ≡ record {
+      reply = Reply.Noted;
+      change = Change.Becomes conn (record connection.now { acknowledged = true });
+      placing = Placing.Server (Event.Say conn msg) None None;
+    } }
+{
+    Plan {
+        reply: Reply::Noted,
+        change: Change::Becomes {
+            conn,
+            connection: Connection {
+                acknowledged: true,
+                ..*connection
+            },
+        },
+        placing: Placing::Server {
+            event: Event::Say { conn, msg },
+            first: None,
+            second: None,
+        },
+    }
+}
+
 impl Tables {
     /// What the event makes of the session.
     pub(crate) fn plan(&self, event: &Event) -> Result<Plan, AllocError>
@@ -85,18 +122,10 @@ impl Tables {
     {
         let copy = name.copy()?;
         let Some(text) = name_text(self.allocator(), name.as_slice())? else {
-            let event = Event::Open {
-                name: copy,
-                registered,
-            };
-            return Ok(still(event, Reply::NameRefused));
+            return Ok(refused_open(copy, registered, Reply::NameRefused));
         };
         let Some(user) = free_id(&self.present) else {
-            let event = Event::Open {
-                name: copy,
-                registered,
-            };
-            return Ok(still(event, Reply::Full));
+            return Ok(refused_open(copy, registered, Reply::Full));
         };
         let here = self.here();
         let operator = first_operator(&self.present, user);
@@ -216,21 +245,7 @@ impl Tables {
         let user = connection.user;
         match self.decide(connection, &msg) {
             Decision::Ignore => still(Event::Say { conn, msg }, Reply::Ignored),
-            Decision::Acknowledge => Plan {
-                reply: Reply::Noted,
-                change: Change::Becomes {
-                    conn,
-                    connection: Connection {
-                        acknowledged: true,
-                        ..*connection
-                    },
-                },
-                placing: Placing::Server {
-                    event: Event::Say { conn, msg },
-                    first: None,
-                    second: None,
-                },
-            },
+            Decision::Acknowledge => acknowledged(conn, connection, msg),
             Decision::Place => Plan {
                 reply: Reply::Placed {
                     epoch: here.epoch,
@@ -274,9 +289,7 @@ impl Tables {
         Ok(self.plan_decided(conn, &connection, copy))
     }
 
-    /// The event as it is ready to be kept; `None` where there is no room for it. The only error is
-    /// want of
-    /// memory.
+    /// The event as it is ready to be kept; `None` where there is no room for it.
     pub(crate) fn prepare(&self, event: &Event) -> Result<Option<Ready>, AllocError>
         requires { AreTables self.now }
         ensures { IfOk result (λ found. MatchOption found

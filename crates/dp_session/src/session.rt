@@ -17,8 +17,7 @@ use std::alloc::{AllocError, Global};
 use std::marker::Model;
 
 /// A session: users with their connections, one history, and the journal of the events that made
-/// it, each
-/// of which is a row of the store. Contracts see it as its past.
+/// it, each of which is a row of the store. Contracts see it as its past.
 ///
 /// The rule: docs/protocol.md, "The session".
 #[derive(Drop)]
@@ -41,8 +40,7 @@ impl<K: Keeper> Model for Session<K> {
 }
 
 /// Keeps an event that is ready, if its row is put. If the store fails, the event is left out, and
-/// if memory
-/// runs out, nothing is done.
+/// if memory runs out, nothing is done.
 fn put<K: Keeper>(
     keeper: &mut K,
     tables: &mut Tables,

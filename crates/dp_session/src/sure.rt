@@ -1,7 +1,7 @@
 //! Sessions over a store that never fails.
 
-ghost use Rattle.std.specs.Prelude.{◌≡◌, None, IfOk, OnOk};
-ghost use Rattle.dp_session.specs.Past.{sure_answer, sure_step};
+ghost use Rattle.std.specs.Prelude.{◌≡◌, None, IfOk, OnOk, OnErr};
+ghost use Rattle.dp_session.specs.Past.{quieted, sure_answer, sure_step};
 
 use crate::event::{Event, Reply};
 use crate::session::Session;
@@ -31,6 +31,7 @@ impl Session<SureKeeper> {
         requires { self.old.first_fault ≡ None }
         ensures reply { IfOk result (λ reply. reply ≡ sure_answer self.old event.now) }
         ensures ok { OnOk result (self.new ≡ sure_step self.old event.now) }
+        ensures err { OnErr result (self.new ≡ quieted self.old event.now) }
     {
         let _before = self.faults();
         let result = self.step(event);

@@ -36,10 +36,10 @@ use std::alloc::{AllocError, Global};
 /// The number of the live epoch.
 pub(crate) const EPOCH: u32 = 0;
 
-/// A journal has at most so many events.
+/// The most events of a journal.
 const EVENT_LIMIT: usize = 1 << 24;
 
-/// The rows of a journal have at most so many bytes.
+/// The most bytes of the rows of a journal.
 const BYTE_LIMIT: u64 = 1 << 30;
 
 /// The tables of a session. They are the state to which its past leads.
@@ -161,7 +161,7 @@ impl Tables {
         }
     }
 
-    /// Whether there is room for an event whose row has so many bytes.
+    /// Whether there is room for an event whose row has `length` bytes.
     pub(crate) fn has_room(&self, row_length: usize) -> bool
         requires { AreTables self.now }
         ensures { result ≡ (nat_lt (length self.now.journal.items) event_limit
@@ -170,9 +170,8 @@ impl Tables {
         self.journal.len() < EVENT_LIMIT && row_length as u64 <= BYTE_LIMIT - self.row_bytes
     }
 
-    /// Makes the memory ready that any one event needs. The only error is out of memory, and all
-    /// stays
-    /// then, too, but for memory that may be ready.
+    /// Makes the memory ready that any one event needs. After an error all stays, too, but for
+    /// memory that may be ready.
     pub(crate) fn reserve(&mut self) -> Result<(), AllocError>
         ensures same { IsSame self.old self.new }
         ensures stands { (history : List Entry) → StandsFor self.old.rights history

@@ -231,7 +231,7 @@ impl Keeper for Forgetful {
     }
 }
 
-/// Connection 1 says a message of an unlisted kind, with so many bytes.
+/// Connection 1 says a message of an unlisted kind, with that many bytes.
 fn say_bytes(
     alloc: Global,
     session: &mut Session<Forgetful>,
@@ -243,8 +243,7 @@ fn say_bytes(
 }
 
 /// The row of the Open has 3 bytes, each Say has 6 beside its payload, and a Close has 5: of 2^30
-/// bytes
-/// 49159 are left after 16382 of the greatest payloads.
+/// bytes 49159 are left after 16382 of the greatest payloads.
 #[test]
 fn ends_where_no_room_is_left(rt: HostRuntime) -> Result<(), Fail> {
     let mut session = Session::new(rt.alloc(), Forgetful {})?;

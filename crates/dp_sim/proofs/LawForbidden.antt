@@ -21,7 +21,7 @@ use Rattle.dp_session.specs.declared.event.Reply.TheVariants as reply
 use Rattle.dp_session.specs.State.{State, Acted, stays, with_connection, epoch_of, open_connection}
 use Rattle.dp_session.specs.State.{said, filtered, judged, acknowledged_by, said_by, heard, says_by}
 use Rattle.dp_sim.specs.Headline.{ChangesNothing, ForbiddenChangesNothing}
-use Rattle.dp_sim.proofs.LawLists.{option_both}
+use Rattle.dp_lists.proofs.Options.{option_both}
 use Rattle.dp_sim.proofs.LawStrokes.{drawn-other}
 
 -- the entry in place of a forbidden message changes no canvas

@@ -1,6 +1,5 @@
 -- What one event leaves of a session: its history grows by entries that are no marks, and
--- connections
--- stay open.
+-- connections stay open.
 use Rattle.std.proofs.Common.{◌≡◌, ℕ, ◌+◌, ◌-◌, Bool, true, false, if◌then◌else◌, List, [], ◌∷◌}
 use Rattle.std.proofs.Common.{◌++◌, length}
 use Rattle.std.proofs.Common.{Option, None, Some, is_some, refl, sym, ap, subst, ◌∙◌, ⊎_elim}
@@ -36,9 +35,11 @@ use Rattle.dp_session.specs.Rows.{has_room}
 use Rattle.dp_session.specs.Past.{Past, state_of, kept, refused, answer_to, sure_step, sure_answer}
 use Rattle.dp_session.specs.Laws.{ShutBefore, shut_by}
 use Rattle.dp_sim.specs.Invariant.{HasNoMark}
-use Rattle.dp_sim.proofs.LawLists.{option_both, numbered, number-found, numbered-other}
-use Rattle.dp_sim.proofs.LawLists.{numbered-same, numbered-old, numbered-new}
-use Rattle.dp_sim.proofs.LawLists.{open_some, open_found, some_open, unmarked-append}
+use Rattle.dp_lists.specs.Numbered.{numbered}
+use Rattle.dp_lists.proofs.Options.{option_both}
+use Rattle.dp_lists.proofs.Numbered.{number-found, numbered-other, numbered-same, numbered-old}
+use Rattle.dp_lists.proofs.Numbered.{numbered-new}
+use Rattle.dp_sim.proofs.OpenConnections.{open_some, open_found, some_open, unmarked-append}
 
 -- the epoch stays, and the history grows by entries that are no marks
 pub record Grows (s t : State) : Type 0 where
@@ -251,7 +252,7 @@ keeps-shut s conn =
 
 -- ---- opening
 
--- what an Open's answer tells of the connections: one more, which is open, or as many as before
+-- what an Open's answer says of the connections: one more, which is open, or as many as before
 abbrev pub Answers : State → List Connection → Reply → Type 0
 Answers s connections (reply.Opened conn user epoch at) =
     (length connections ≡ length s.connections + 1) × (conn ≡ length s.connections + 1)

@@ -1,6 +1,5 @@
 -- An act that is none of strokes changes nothing of a replay, whatever comes after it: it shifts
--- the
--- positions of the later Points, and so renames groups.
+-- the positions of the later Points, and so renames groups.
 use Rattle.std.proofs.Common.{◌≡◌, ℕ, ◌+◌, ◌-◌, ◌<◌, ◌≤◌, ◌==◌, Bool, true, false, if◌then◌else◌}
 use Rattle.std.proofs.Common.{List, [], ◌∷◌, ◌++◌, length, drop, map, fold, Option, None, Some}
 use Rattle.std.proofs.Common.{refl, sym, ap, subst, ◌∙◌, arith, append_assoc, length-append}

@@ -37,9 +37,11 @@ use Rattle.dp_sim.specs.World.{World, participant_of, new_participant, with_join
 use Rattle.dp_sim.specs.World.{with_exchange, acted, after, first_world, world_after}
 use Rattle.dp_sim.specs.Invariant.{IsHistory, is_closed, IsParticipant, IsWorld}
 use Rattle.dp_sim.specs.Headline.{history_of, ShowsPrefix}
-use Rattle.dp_sim.proofs.LawLists.{option_both, at_some, if_some, numbered, number-found}
-use Rattle.dp_sim.proofs.LawLists.{numbered-other, numbered-same}
-use Rattle.dp_sim.proofs.LawLists.{numbered-either, take_one, history-more, mark-first, mark-none}
+use Rattle.dp_lists.specs.Numbered.{numbered}
+use Rattle.dp_lists.proofs.Options.{option_both, at_some, if_some}
+use Rattle.dp_lists.proofs.Numbered.{number-found, numbered-other, numbered-same, numbered-either}
+use Rattle.dp_lists.proofs.Numbered.{take_one}
+use Rattle.dp_sim.proofs.OpenConnections.{history-more, mark-first, mark-none}
 use Rattle.dp_sim.proofs.LawLemmas.{Grows, Keeps, OthersStay, IsOpen, keeps-all, keeps-fewer}
 use Rattle.dp_sim.proofs.LawLemmas.{keeps-both}
 use Rattle.dp_sim.proofs.LawLemmas.{Joins, Leading, keeps-say, keeps-close, joins-open}

@@ -1,4 +1,4 @@
-pub mod LawLists
+pub mod OpenConnections
 pub mod LawLemmas
 pub mod LawWorlds
 pub mod LawRenaming

@@ -33,8 +33,7 @@ pub record Exchange : Type 0 where
   pub participant : Participant
 
 -- Which instructions a client does no more: one that is closed none, and one that is leaving says
--- nothing and
--- doesn't leave again.
+-- nothing and doesn't leave again.
 abbrev pub is_gone : LinkState → Instruction → Bool
 is_gone Connected instruction = false
 is_gone Leaving (Say m) = true
@@ -44,7 +43,7 @@ is_gone Leaving Leave = true
 is_gone Leaving Cut = false
 is_gone Closed instruction = true
 
--- ---- what is told
+-- ---- lines of the report
 
 -- of the answer to a message
 abbrev pub said_line : Reply → ReportLine
@@ -98,8 +97,7 @@ up_line t (m ∷ rest) =
     else said_line (sure_answer t.past (event.Say t.participant.conn m))
 
 -- the entry that the client takes next, if there is one: the first of the live history where the
--- client is
--- in another epoch, and else the one after those that it has taken
+-- client is in another epoch, and else the one after those that it has taken
 abbrev pub next_entry : Exchange → Option Entry
 next_entry t =
     let s = state_of t.past in
@@ -144,7 +142,7 @@ done t Leave = record t {
 }
 done t Cut = disconnected t
 
--- what is told of such an instruction
+-- what the report says of such an instruction
 abbrev pub performed_line : Exchange → Instruction → ReportLine
 performed_line t (Say m) = report.Said (length t.participant.state.fork + 1)
 performed_line t Up = up_line t t.participant.uplink
@@ -156,7 +154,7 @@ performed_line t Cut = cut_line (sure_answer t.past (event.Close t.participant.c
 abbrev pub exchanged : Exchange → Instruction → Exchange
 exchanged t instruction = if is_gone t.participant.link instruction then t else done t instruction
 
--- what is told of it
+-- what the report says of it
 abbrev pub exchange_line : Exchange → Instruction → ReportLine
 exchange_line t instruction = if is_gone t.participant.link instruction then report.Gone
     else performed_line t instruction

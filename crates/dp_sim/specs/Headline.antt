@@ -17,11 +17,9 @@ use Rattle.dp_sim.specs.World.{World, participant_of}
 abbrev pub history_of : State → ℕ → List Entry
 history_of s epoch = slice_index_or (s.ended ++ s.live ∷ []) epoch []
 
--- What a client shows: it has taken so many entries of the history of its epoch, its confirmed
--- canvas is
--- these replayed from scratch without undone strokes, and its view the same with the commands of
--- its
--- unanswered sends drawn after it.
+-- What a client shows: it has taken the first `count` entries of the history of its epoch, its
+-- confirmed canvas is these replayed from scratch without undone strokes, and its view the same
+-- with the commands of its unanswered sends drawn after it.
 pub record ShowsPrefix (s : State) (c : client.State) : Type 0 where
   pub count : ℕ
   pub taken : c.taken ≡ take count (history_of s c.epoch)
@@ -43,8 +41,7 @@ ForbiddenChangesNothing s =
     → ChangesNothing s.live (acted s (Say conn m)).state.live
 
 -- What is true of the world after every schedule: each client shows a prefix of the history of its
--- epoch,
--- and a forbidden message changes nothing.
+-- epoch, and a forbidden message changes nothing.
 pub record Headline (w : World) : Type 0 where
   pub clients : (number : ℕ) → IfSome (participant_of w number)
       (λ participant. ShowsPrefix (state_of w.past) participant.state)

@@ -40,8 +40,7 @@ IsHistory epoch [] = ⊥
 IsHistory epoch (first ∷ behind) = (marked first.msg ≡ Some epoch) × HasNoMark behind
 
 -- the client of a number: its connection has the same number and is open unless the client is
--- closed, and
--- it has taken a prefix of the live history
+-- closed, and it has taken a prefix of the live history
 pub record IsParticipant (s : State) (number : ℕ) (participant : Participant) : Type 0 where
   pub conn : participant.conn ≡ number
   pub running : MatchBool (is_closed participant.link) (Unit {0})

@@ -3,6 +3,7 @@ use Rattle.std.specs.Prelude.{ℕ, ◌+◌, ◌-◌, Bool, ◌==◌, if◌then�
 use Rattle.std.specs.Prelude.{Option, None, Some, List, [], ◌∷◌, ◌++◌, length, slice_get, slice_set}
 use Rattle.std.specs.List.{fold}
 use Rattle.std.specs.Option.{option_map_or}
+use Rattle.dp_lists.specs.Numbered.{numbered}
 use Rattle.dp_client.specs.Client as client
 use Rattle.dp_session.specs.declared.event.Event.TheVariants.{Open}
 use Rattle.dp_session.specs.declared.event.Reply.{Reply}
@@ -36,7 +37,7 @@ length_of w = length w.participants
 
 -- the client of a number, if there is one
 abbrev pub participant_of : World → ℕ → Option Participant
-participant_of w number = if number == 0 then None else slice_get w.participants (number - 1)
+participant_of w number = numbered w.participants number
 
 -- ---- joining
 
@@ -62,7 +63,7 @@ joined w registered name = record {
   participants = with_joined w.participants (sure_answer w.past (Open name registered));
 }
 
--- what is told of the answer, where there were so many clients
+-- what the report says of the answer, where there were that many clients
 abbrev pub join_line : ℕ → Reply → ReportLine
 join_line clients (reply.Opened conn user epoch at) = report.Joined (clients + 1) user epoch at
 join_line clients reply.Full = report.Full
@@ -71,7 +72,7 @@ join_line clients other = report.Ended
 
 -- ---- instructions
 
--- what is told of an instruction of a client
+-- what the report says of an instruction of a client
 abbrev pub acted_line : Past → Participant → Instruction → ReportLine
 acted_line past participant instruction = exchange_line (record
     { past = past; participant = participant }) instruction

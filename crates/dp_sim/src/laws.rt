@@ -13,14 +13,14 @@ use dp_session::steps_lead_on;
 /// What is true of every world: of the first one, and of the one after any action.
 pub fn worlds_stay_worlds()
     ensures first { IsWorld first_world }
-    ensures stays { (world : World) (action : Action) → IsWorld world → IsWorld (after world action) }
+    ensures stays { (world : World) (action : Action) → IsWorld world
+        → IsWorld (after world action) }
 {
     steps_lead_on();
 }
 
 /// In every state of a session a message that is answered Filtered changes no canvas and no right,
-/// whatever
-/// entries come after it.
+/// whatever entries come after it.
 pub fn forbidden_changes_nothing()
     ensures { (state : State) → ForbiddenChangesNothing state }
 {
@@ -28,10 +28,8 @@ pub fn forbidden_changes_nothing()
 }
 
 /// After every schedule each client has taken a prefix of the history of its epoch; its confirmed
-/// canvas is
-/// that prefix replayed, and its view the same with its unanswered sends drawn after it. A message
-/// that is
-/// not permitted changes no canvas and no right.
+/// canvas is that prefix replayed, and its view the same with its unanswered sends drawn after it.
+/// A message that is not permitted changes no canvas and no right.
 pub fn headline()
     ensures { (actions : List Action) → Headline (world_after actions) }
 {

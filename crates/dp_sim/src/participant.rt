@@ -1,6 +1,7 @@
 //! A client with its connection.
 
-ghost use Rattle.std.specs.Prelude.{◌≡◌, ◌≤◌, ◌<◌, ◌+◌, ◌-◌, ◌^◌, ◌++◌, ◌∷◌, [], None, length, slice_get, IfOk, OnOk};
+ghost use Rattle.std.specs.Prelude.{◌≡◌, ◌≤◌, ◌<◌, ◌+◌, ◌-◌, ◌^◌, ◌++◌, ◌∷◌, [], None, length};
+ghost use Rattle.std.specs.Prelude.{slice_get, IfOk, OnOk};
 ghost use Rattle.dp_msg_meta.specs.declared.message.Control.TheVariants.{Disconnect};
 ghost use Rattle.dp_messages.specs.declared.message.Msg.TheVariants as msg;
 ghost use Rattle.dp_messages.specs.Messages.{kind_of};
@@ -51,8 +52,7 @@ pub enum LinkState {
 }
 
 /// A client: its connection, what it has taken and said, the messages on their way to the session,
-/// and its
-/// link.
+/// and its link.
 #[derive(Drop)]
 pub struct Participant {
     conn: u32,
@@ -139,8 +139,10 @@ impl Participant {
     /// The connection is closed, and so is the client.
     fn disconnect(&mut self, session: &mut Session<SureKeeper>) -> Result<Reply, AllocError>
         requires { session.old.first_fault ≡ None }
-        ensures reply { IfOk result (λ reply. reply ≡ sure_answer session.old (event.Close self.old.conn)) }
-        ensures ok { OnOk result (exchange session.new self.new ≡ disconnected (exchange session.old self.old)) }
+        ensures reply { IfOk result (λ reply. reply ≡ sure_answer session.old
+            (event.Close self.old.conn)) }
+        ensures ok { OnOk result (exchange session.new self.new
+            ≡ disconnected (exchange session.old self.old)) }
     {
         let reply = serve(session, Event::Close { conn: self.conn })?;
         self.uplink.clear();
@@ -149,11 +151,11 @@ impl Participant {
     }
 
     /// The session takes the next message of the uplink, if there is one, and after a Disconnect
-    /// the
-    /// Close.
+    /// the Close.
     fn up(&mut self, session: &mut Session<SureKeeper>) -> Result<ReportLine, AllocError>
         requires { session.old.first_fault ≡ None }
-        ensures line { IfOk result (λ line. line ≡ up_line (exchange session.old self.old) self.old.uplink) }
+        ensures line { IfOk result (λ line. line ≡ up_line (exchange session.old self.old)
+            self.old.uplink) }
         ensures ok { OnOk result (exchange session.new self.new
             ≡ uplink_sent (exchange session.old self.old) self.old.uplink) }
     {
@@ -170,12 +172,11 @@ impl Participant {
         }
     }
 
-    /// Entries of which the first is the one that comes next, if there is one. The only error is
-    /// want of
-    /// memory.
+    /// Entries of which the first is the one that comes next, if there is one.
     fn pull(&self, session: &Session<SureKeeper>) -> Result<Entries, AllocError>
         requires { CanTake session.now self.now }
-        ensures { IfOk result (λ entries. slice_get entries 0 ≡ next_entry (exchange session.now self.now)) }
+        ensures { IfOk result (λ entries. slice_get entries 0
+            ≡ next_entry (exchange session.now self.now)) }
     {
         let query = Query::Pull {
             conn: self.conn,
@@ -193,9 +194,11 @@ impl Participant {
     fn take(&mut self, session: &Session<SureKeeper>) -> Result<ReportLine, AllocError>
         requires { CanTake session.now self.old }
         ensures line { IfOk result (λ line. line
-            ≡ next_taken_line (exchange session.now self.old) (next_entry (exchange session.now self.old))) }
+            ≡ next_taken_line (exchange session.now self.old)
+            (next_entry (exchange session.now self.old))) }
         ensures ok { OnOk result (exchange session.now self.new
-            ≡ took_next (exchange session.now self.old) (next_entry (exchange session.now self.old))) }
+            ≡ took_next (exchange session.now self.old) (next_entry
+            (exchange session.now self.old))) }
     {
         let entries = self.pull(session)?;
         match entries.as_slice().first() {
@@ -239,14 +242,14 @@ impl Participant {
         requires { session.old.first_fault ≡ None }
         ensures line { IfOk result (λ line. line
             ≡ cut_line (sure_answer session.old (event.Close self.old.conn))) }
-        ensures ok { OnOk result (exchange session.new self.new ≡ disconnected (exchange session.old self.old)) }
+        ensures ok { OnOk result (exchange session.new self.new
+            ≡ disconnected (exchange session.old self.old)) }
     {
         Ok(cut_line(self.disconnect(session)?))
     }
 
-    /// The client does an instruction. The only error is out of memory, and nothing is promised of
-    /// the client and
-    /// the session then.
+    /// The client does an instruction. After an error nothing is promised of
+    /// the client and the session then.
     pub(crate) fn act(
         &mut self,
         session: &mut Session<SureKeeper>,
@@ -254,8 +257,10 @@ impl Participant {
     ) -> Result<ReportLine, AllocError>
         requires able { CanAct session.old self.old }
         requires sayable { IsSayable instruction.now }
-        ensures line { IfOk result (λ line. line ≡ exchange_line (exchange session.old self.old) instruction.now) }
-        ensures ok { OnOk result (exchange session.new self.new ≡ exchanged (exchange session.old self.old) instruction.now) }
+        ensures line { IfOk result (λ line. line ≡ exchange_line (exchange session.old self.old)
+            instruction.now) }
+        ensures ok { OnOk result (exchange session.new self.new
+            ≡ exchanged (exchange session.old self.old) instruction.now) }
     {
         if self.is_gone(instruction) {
             return Ok(ReportLine::Gone);

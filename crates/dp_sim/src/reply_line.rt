@@ -1,4 +1,4 @@
-//! What is told of a session's answers.
+//! What the report says of a session's answers.
 
 ghost use Rattle.std.specs.Prelude.{◌≡◌};
 ghost use Rattle.dp_sim.specs.Exchanges.{said_line, left_line, cut_line};
@@ -6,7 +6,7 @@ ghost use Rattle.dp_sim.specs.Exchanges.{said_line, left_line, cut_line};
 use dp_schedule::ReportLine;
 use dp_session::Reply;
 
-/// What is told of the answer to a message.
+/// What the report says of the answer to a message.
 pub(crate) fn said_line(reply: Reply) -> ReportLine
     ensures { result ≡ said_line reply }
 {
@@ -19,7 +19,7 @@ pub(crate) fn said_line(reply: Reply) -> ReportLine
     }
 }
 
-/// What is told of the answer to a Close after a Disconnect.
+/// What the report says of the answer to a Close after a Disconnect.
 pub(crate) fn left_line(reply: Reply) -> ReportLine
     ensures { result ≡ left_line reply }
 {
@@ -29,7 +29,7 @@ pub(crate) fn left_line(reply: Reply) -> ReportLine
     }
 }
 
-/// What is told of the answer to a Close where the uplink is lost.
+/// What the report says of the answer to a Close where the uplink is lost.
 pub(crate) fn cut_line(reply: Reply) -> ReportLine
     ensures { result ≡ cut_line reply }
 {

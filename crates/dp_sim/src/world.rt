@@ -5,7 +5,8 @@ ghost use Rattle.dp_schedule.specs.declared.action.Action.TheVariants.{Join, Act
 ghost use Rattle.dp_session.specs.declared.event.Event.TheVariants.{Open};
 ghost use Rattle.dp_session.specs.Past.{sure_answer};
 ghost use Rattle.dp_client.specs.Client.{confirmed, view};
-ghost use Rattle.dp_sim.specs.World.{first_world, after, participant_of, join_line, acted_line, length_of};
+ghost use Rattle.dp_sim.specs.World.{first_world, after, participant_of, join_line, acted_line};
+ghost use Rattle.dp_sim.specs.World.{length_of};
 ghost use Rattle.dp_sim.specs.Invariant.{IsWorld, IsSayable};
 
 use crate::laws::worlds_stay_worlds;
@@ -145,7 +146,8 @@ impl World {
         tiles: &mut Steps<T>,
     ) -> Result<PlainBoard, AllocError>
         requires { IsSome (participant_of self.now client) }
-        ensures { IfOk result (λ board. IfSome (participant_of self.now client) (λ participant. board ≡ view participant.state)) }
+        ensures { IfOk result (λ board. IfSome (participant_of self.now client)
+            (λ participant. board ≡ view participant.state)) }
     {
         let participant = &self.participants[client as usize - 1];
         participant.client().view(draws, tiles)
@@ -159,7 +161,8 @@ impl World {
         tiles: &mut Steps<T>,
     ) -> Result<PlainBoard, AllocError>
         requires { IsSome (participant_of self.now client) }
-        ensures { IfOk result (λ board. IfSome (participant_of self.now client) (λ participant. board ≡ confirmed participant.state)) }
+        ensures { IfOk result (λ board. IfSome (participant_of self.now client)
+            (λ participant. board ≡ confirmed participant.state)) }
     {
         let participant = &self.participants[client as usize - 1];
         participant.client().confirmed(draws, tiles)

@@ -54,9 +54,8 @@ farewell Leaving = msg.Control (Disconnect 0) ∷ []
 farewell Closed = []
 
 -- The sends of a client that isn't closed: those that the session has heard, each with its own
--- answer in
--- the history, and those that wait on the uplink. Of the answers it has seen those that it has
--- taken.
+-- answer in the history, and those that wait on the uplink. Of the answers it has seen those that
+-- it has taken.
 pub record Live (s : State) (number : ℕ) (p : Participant) (t : Tally) : Type 0 where
   pub connection : Connection
   pub found : open_connection s number ≡ Some connection
@@ -641,7 +640,7 @@ holds-exchanged laws number t instruction tally before people history ended hp m
 
 -- ---- the next entry
 
--- it doesn't tell that the fork is lost
+-- it doesn't lose the fork
 pub next-kept : Leading → (s : State) (number : ℕ) (p : Participant) (t : Tally) (entry : Entry)
     → IsParticipant s number p
     → Holds s number p t → is_closed p.link ≡ false → slice_get s.live (length p.state.taken)

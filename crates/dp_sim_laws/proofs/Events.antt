@@ -1,6 +1,5 @@
 -- What one event does to the users and their answers: open connections are of users that differ,
--- and an
--- event of one connection places no answers of others.
+-- and an event of one connection places no answers of others.
 use Rattle.std.proofs.Common.{◌≡◌, ◌⊎◌, ℕ, zero, suc, ◌+◌, ◌-◌, ◌<◌, ◌≤◌, ◌==◌, Bool, true, false}
 use Rattle.std.proofs.Common.{not, ◌&&◌, cond, if◌then◌else◌}
 use Rattle.std.proofs.Common.{List, [], ◌∷◌, ◌++◌, length, Option, None, Some}
@@ -37,9 +36,10 @@ use Rattle.dp_session.specs.State.{says}
 use Rattle.dp_session.specs.Rows.{has_room}
 use Rattle.dp_session.specs.Past.{Past, state_of, kept, refused, answer_to, sure_step, sure_answer}
 use Rattle.dp_session.specs.Laws.{ShutBefore}
-use Rattle.dp_sim_laws.proofs.Lists.{option_both, numbered, number-found, numbered-other}
-use Rattle.dp_sim_laws.proofs.Lists.{numbered-same, numbered-old, numbered-either}
-use Rattle.dp_sim_laws.proofs.Lists.{numbered-new}
+use Rattle.dp_lists.specs.Numbered.{numbered}
+use Rattle.dp_lists.proofs.Options.{option_either}
+use Rattle.dp_lists.proofs.Numbered.{number-found, numbered-other, numbered-same, numbered-old}
+use Rattle.dp_lists.proofs.Numbered.{numbered-either, numbered-new}
 use Rattle.dp_sim_laws.proofs.Answering.{answers_from, NoAnswers, answers-same, answers-before}
 use Rattle.dp_sim_laws.proofs.Answering.{none-append, none-other, none-mute, AnswersTo}
 
@@ -268,7 +268,7 @@ passes-said s t conn c h found is =
 passes-says : (s : State) (conn : ℕ) (m : Msg) → ArePeople s.connections
     → Passes s (NotThis conn) (says s conn m).state
 passes-says s conn m h =
-    option_both (says_by s conn m) (open_connection s conn) (stays s reply.Ignored)
+    option_either (says_by s conn m) (open_connection s conn) (stays s reply.Ignored)
     (λ a. Passes s (NotThis conn) a.state)
     (λ c found. passes-said s (says_by s conn m c).state conn c h found
     (said-says_by s conn m c (h.ready conn c found)))
@@ -352,7 +352,7 @@ answered-says_by s conn m c ready high = answered-heard s c m ready high
 answered-says : (s : State) (conn : ℕ) (m : Msg) (c : Connection) → open_connection s conn ≡ Some c
     → c.acknowledged ≡ true → 32 ≤ kind_of m → Answered s c.user m (says s conn m).state
 answered-says s conn m c found ready high =
-    option_both (says_by s conn m) (open_connection s conn) (stays s reply.Ignored)
+    option_either (says_by s conn m) (open_connection s conn) (stays s reply.Ignored)
     (λ a. Answered s c.user m a.state)
     (λ x is. let e : Some c ≡ Some x = sym found ∙ is in let same : c ≡ x = cc in
     subst (λ y. Answered s c.user m (says_by s conn m y).state) same
@@ -392,7 +392,7 @@ passes-closed_by s conn c h found =
 passes-closed : (s : State) (conn : ℕ) → ArePeople s.connections
     → Passes s (NotThis conn) (closed s conn).state
 passes-closed s conn h =
-    option_both (closed_by s conn) (open_connection s conn) (stays s reply.Ignored)
+    option_either (closed_by s conn) (open_connection s conn) (stays s reply.Ignored)
     (λ a. Passes s (NotThis conn) a.state)
     (λ c found. passes-closed_by s conn c h found) (λ none. passes-not s (NotThis conn) h)
 
@@ -440,9 +440,8 @@ fresh-id s user none n x is same =
     let e : true ≡ false = sym (ap (λ b. b && x.user == user) h.1 ∙ eq-eqb x.user user same)
     ∙ no in cc
 
--- what the answer to an Open tells: its connection is open and of the user, and no answer of the
--- user's
--- stands after the place of the Join
+-- what the answer to an Open says: its connection is open and of the user, and no answer of the
+-- user's stands after the place of the Join
 abbrev pub Tells : State → State → Reply → Type 0
 Tells s t (reply.Opened conn user epoch at) =
     (c : Connection) × (open_connection t conn ≡ Some c) × (c.user ≡ user) × (at < length t.live)

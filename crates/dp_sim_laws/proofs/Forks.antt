@@ -34,9 +34,10 @@ use Rattle.dp_sim_laws.specs.OwnSteps.{turn_of, next_of, steps_of_turn, own_step
 use Rattle.dp_sim_laws.specs.OwnSteps.{welcome_of, GoesBy}
 use Rattle.dp_sim_laws.specs.Tally.{Tally, no_sends, tally_step, tally_from, tally_of, turn_replies}
 use Rattle.dp_sim_laws.specs.Tally.{replies, SaysNoControl, IsUnended}
-use Rattle.dp_sim_laws.proofs.Lists.{at_some, if_some, numbered, number-found, numbered-other}
-use Rattle.dp_sim_laws.proofs.Lists.{numbered-same}
-use Rattle.dp_sim_laws.proofs.Lists.{numbered-either, numbered-past}
+use Rattle.dp_lists.specs.Numbered.{numbered}
+use Rattle.dp_lists.proofs.Options.{at_some, if_some}
+use Rattle.dp_lists.proofs.Numbered.{number-found, numbered-other, numbered-same, numbered-either}
+use Rattle.dp_lists.proofs.Numbered.{numbered-past}
 use Rattle.dp_sim_laws.proofs.Steps.{none-if, Goes, goes-after, goes-first, welcome-steps}
 use Rattle.dp_sim_laws.proofs.Steps.{exchange-steps}
 use Rattle.dp_sim_laws.proofs.Answering.{answers_from, Answer}

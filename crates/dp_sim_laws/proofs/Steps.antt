@@ -26,8 +26,10 @@ use Rattle.dp_sim.specs.World.{with_exchange, acted, after, first_world, world_a
 use Rattle.dp_sim.specs.Report.{along}
 use Rattle.dp_sim_laws.specs.OwnSteps.{turn_of, steps_of_deed, steps_of_turn, own_step, own_steps}
 use Rattle.dp_sim_laws.specs.OwnSteps.{welcome_of, GoesBy}
-use Rattle.dp_sim_laws.proofs.Lists.{if_some, numbered, number-found, numbered-other, numbered-same}
-use Rattle.dp_sim_laws.proofs.Lists.{numbered-either, numbered-past, numbered-none}
+use Rattle.dp_lists.specs.Numbered.{numbered}
+use Rattle.dp_lists.proofs.Options.{if_some}
+use Rattle.dp_lists.proofs.Numbered.{number-found, numbered-other, numbered-same, numbered-either}
+use Rattle.dp_lists.proofs.Numbered.{numbered-past, numbered-none}
 
 -- ---- a client's steps
 
@@ -39,7 +41,7 @@ welcome-took (Some epoch) c entry =
     (record c { epoch = epoch; taken = entry ∷ []; fork = [] }) (λ d. welcome_of d ≡ welcome_of c)
     (λ yes. refl) (λ no. refl)
 
--- steps leave what the Welcome told
+-- steps leave what the Welcome said
 pub welcome-steps : (c : client.State) (steps : List Step)
     → welcome_of (after_steps c steps) ≡ welcome_of c
 welcome-steps c [] = refl

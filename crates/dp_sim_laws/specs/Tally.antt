@@ -20,8 +20,7 @@ use Rattle.dp_sim.specs.Invariant.{IsSayable}
 use Rattle.dp_sim_laws.specs.OwnSteps.{turn_of, welcome_of}
 
 -- what was said since the Welcome, or since the last mark that was acknowledged, and how many own
--- answers
--- were taken since then
+-- answers were taken since then
 pub record Tally : Type 0 where
   pub sends : List Msg
   pub answers : ℕ

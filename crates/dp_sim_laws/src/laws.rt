@@ -15,12 +15,12 @@ use dp_sim::worlds_stay_worlds;
 /// After every schedule each client is where its own steps since its Welcome lead.
 pub fn clients_go_by_their_steps()
     ensures { (actions : List Action) (number : ℕ)
-        → IfSome (participant_of (world_after actions) number) (λ participant. GoesBy participant.state (own_steps number actions)) }
+        → IfSome (participant_of (world_after actions) number)
+        (λ participant. GoesBy participant.state (own_steps number actions)) }
 {}
 
 /// After a schedule of such messages as lines say, in which no event was answered Ended, a client's
-/// fork is its
-/// sends without the first n, n the number of own answers that it has taken.
+/// fork is its sends without the first n, n the number of own answers that it has taken.
 pub fn forks_are_plain()
     ensures few { (actions : List Action) (number : ℕ) → IsUnended actions
         → IfSome (participant_of (world_after actions) number) (λ participant.
@@ -36,11 +36,12 @@ pub fn forks_are_plain()
     one_equality();
 }
 
-/// After such a schedule no client's next entry tells that its fork is lost.
+/// After such a schedule no client's next entry loses its fork.
 pub fn no_fork_is_lost()
     ensures { (actions : List Action) (number : ℕ) → IsUnended actions
         → IfSome (participant_of (world_after actions) number) (λ participant.
-        IfSome (next_of (world_after actions) participant) (λ entry. own_of participant.state entry ≢ Lost)) }
+        IfSome (next_of (world_after actions) participant)
+        (λ entry. own_of participant.state entry ≢ Lost)) }
 {
     worlds_stay_worlds();
     steps_lead_on();

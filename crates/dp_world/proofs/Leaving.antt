@@ -86,7 +86,7 @@ taken_length input left held world start now read = sym read.reading.left.fed
 
 -- ---- stops
 
--- of an input that tells its bytes
+-- of an input whose bytes are known
 told_of_stop : OneAction → (bytes : List ℕ) (left start now : Option (List ℕ)) (end : RunEnd)
     → StopsIn (seen world_limit bytes) start now end → WorldLeaves (Some bytes) left start now end
 told_of_stop one bytes left start now (BadLine n) (done, stops, line) =
@@ -194,7 +194,7 @@ long_leaves cut (Some bytes) left rest leaves chunk piece behind held later worl
 
 -- ---- the input's end, and its faults
 
--- of an input that tells its bytes, those that were taken
+-- of an input whose bytes are known, those that were taken
 record Whole (bytes : List ℕ) (left : Option (List ℕ)) (taken : List ℕ) : Type 0 where
   untaken : List ℕ
   parts : bytes ≡ taken ++ untaken

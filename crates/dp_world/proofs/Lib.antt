@@ -1,7 +1,7 @@
 pub mod Called
 pub mod Reports
 pub mod Prefixes
-pub mod CanvasKind
+pub mod Shown
 pub mod Lines
 pub mod Fronts
 pub mod Progress

@@ -12,7 +12,7 @@ use Rattle.dp_lines.specs.Lines.{ended, open_rest}
 use Rattle.dp_sim.specs.World.{World}
 use Rattle.dp_world.specs.Schedule.{IsStep, world_limit}
 use Rattle.dp_world.specs.Progress.{HasDone, HasPrinted, StopsBehind, StopsIn, IsReading, IsEnding}
-use Rattle.dp_world.proofs.Going.{begun_kept, told_of}
+use Rattle.dp_world.proofs.Progress.{begun_kept, told_of}
 use Rattle.dp_world.proofs.Called.{LeftFed, LeftGiven, SeenGiven, SeenLong}
 use Rattle.std.proofs.KnownBytes.{Keeps-refl}
 

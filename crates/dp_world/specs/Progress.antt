@@ -90,7 +90,7 @@ pub record IsEnding (lines : List Line) (held : Held) (world : World) (old now :
   pub whole : lines ≡ done ++ lines_from held
   pub has : HasDone done world old now
 
--- of the bytes of the input these were taken and fed, where it tells them
+-- of the bytes of the input these were taken and fed, where they are known
 pub record HasRead (input left : Option (List ℕ)) (held : Held) (world : World)
     (old now : Option (List ℕ)) : Type 0 where
   pub taken : List ℕ

@@ -14,7 +14,7 @@ use Rattle.dp_schedule.specs.declared.action.Action.{Action}
 use Rattle.dp_sim.specs.Report.{report}
 use Rattle.dp_world.specs.Schedule.{AskFor, IsStep, WorldComesTo}
 
--- the output grew by the report of an input that tells its bytes, which comes to this end
+-- the output grew by the report of an input whose bytes are known, which comes to this end
 abbrev pub ReportsWhole : Option (List ℕ) → Option (List ℕ) → Option (List ℕ) → LinesEnd → Type 0
 ReportsWhole input old new end =
     IfSome input (λ bytes. (done : List Line) × (actions : List Action)
@@ -27,8 +27,7 @@ ReportsPart input old new =
     → WorldComesTo bytes done actions end → GrowsByPrefix old new (report actions))
 
 -- Of the bytes of the input these were taken, and those are left; the lines that are whole in those
--- that were
--- taken are steps, and the output grew by the report of them.
+-- that were taken are steps, and the output grew by the report of them.
 pub record ReportsOf (bytes : List ℕ) (left old new : Option (List ℕ)) : Type 0 where
   pub taken : List ℕ
   pub untaken : List ℕ

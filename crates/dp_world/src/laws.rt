@@ -13,9 +13,12 @@ use dp_schedule::one_action;
 /// An input comes to at most one end, with one list of lines that are done and one of what they ask
 /// for.
 pub fn one_schedule()
-    ensures actions { (bytes : List ℕ) (done others : List Line) (actions more : List Action) (end last : LinesEnd)
-        → WorldComesTo bytes done actions end → WorldComesTo bytes others more last → actions ≡ more }
-    ensures end { (bytes : List ℕ) (done others : List Line) (actions more : List Action) (end last : LinesEnd)
+    ensures actions { (bytes : List ℕ) (done others : List Line) (actions more : List Action)
+        (end last : LinesEnd)
+        → WorldComesTo bytes done actions end → WorldComesTo bytes others more last
+        → actions ≡ more }
+    ensures end { (bytes : List ℕ) (done others : List Line) (actions more : List Action)
+        (end last : LinesEnd)
         → WorldComesTo bytes done actions end → WorldComesTo bytes others more last → end ≡ last }
 {
     one_end::<ScheduleSteps>();

@@ -195,7 +195,7 @@ impl Run {
     }
 }
 
-/// Writes the line of what is told.
+/// Writes a line of the report.
 fn put_line<O: Sink>(alloc: Global, line: ReportLine, output: &mut O) -> Result<(), PictureEnd>
     ensures written { OnOk result
         (Appends (O.held output.old) (O.held output.new) (text_of line)) }

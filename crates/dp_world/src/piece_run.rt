@@ -29,7 +29,8 @@ impl Run {
         requires few { self.old.lines.fed + length piece.now < 2 ^ 32 - 1 }
         ensures ok { OnOk result ((start : Option (List ℕ)) (all : List ℕ)
             → IsReading all self.old.lines self.old.world start (O.held output.old)
-            → IsReading (all ++ piece.now) self.new.lines self.new.world start (O.held output.new)) }
+            → IsReading (all ++ piece.now) self.new.lines self.new.world start
+            (O.held output.new)) }
         ensures drained { OnOk result (ended_from self.new.lines ≡ []) }
         ensures short { OnOk result ((n : ℕ) → ¬ NextIsLong self.new.lines n) }
         ensures world { OnOk result (IsWorld self.new.world) }

@@ -16,16 +16,13 @@ use std::sync::ledger::Ledger;
 const WORLD_LIMIT: usize = 1 << 26;
 
 /// Reads the lines of a schedule and does them one after the other. What a line prints is written
-/// before the
-/// next line is read.
+/// before the next line is read.
 ///
 /// # Errors
 ///
 /// It ends with `BadLine` at the first line that is no step, with `Long` where the input has more
-/// than 64 MiB,
-/// with `ReadFault` and `WriteFault` where the input and the output failed, and with `Memory` where
-/// memory ran
-/// out.
+/// than 64 MiB, with `ReadFault` and `WriteFault` where the input and the output failed, and with
+/// `Memory` where memory ran out.
 ///
 /// The rule: docs/protocol.md, "The world".
 pub fn run_world<I: Source, O: Sink, D: Ledger, T: Ledger>(

@@ -10,7 +10,7 @@ use Rattle.hex.specs.declared.error.FromHexError.{FromHexError}
 use Rattle.hex.proofs.HexLemmas.{decode_of-encode_lower, decode_of-ok, decode_of-digits}
 use Rattle.dp_lines.proofs.laws.hex_read_back.Goals as goal
 
--- what a word decodes to tells whether it has such digits
+-- what a word decodes to decides whether it has such digits
 tells : (word : List ℕ) (r : Result (List ℕ) FromHexError) → decode_of word ≡ r
     → IsSome (result_ok r) → (length word % 2 ≡ 0) × AllPass is_hex_digit word
 tells word (Ok bytes) is some = let ok = decode_of-ok word bytes is in (ok.0, ok.1)

@@ -17,7 +17,7 @@ pub returns-in_default : goal.returns-in_default
 returns-in_default c n is = absurd (c.in_default.ensures.cases.0
     (text_of_number c.args.word.now n is))
 
--- the digits of a number tell it
+-- the digits of a number spell it
 pub returns : goal.returns
 returns c n is =
     let small : n < 2 ^ 64 = omega (arith, is.fits) in

@@ -8,8 +8,8 @@ use Rattle.dp_pixels.specs.declared.rect.Rect.{Rect}
 use Rattle.dp_pixels.specs.declared.rect.Place.{Place}
 use Rattle.dp_pixels.specs.Rectangles.{is_in}
 use Rattle.dp_pixels.specs.Regions.{IsRowIn}
-use Rattle.dp_pixels.proofs.Parts.{part_empty, part_start, part_more, part_end, part_row}
-use Rattle.dp_pixels.proofs.Windows.{length-row}
+use Rattle.dp_pixels.proofs.Clips.{part_empty, part_start, part_more, part_end, part_row}
+use Rattle.dp_pixels.proofs.Regions.{length-row}
 use Rattle.dp_pixels.proofs.paint.paint_region.Given.{Over}
 use borrow.Rule.Slice.PartMut.{mid_of}
 use Rattle.dp_pixels.proofs.paint.paint_region.Goals as goal

@@ -1,6 +1,6 @@
 use Rattle.std.proofs.Common.{◌+◌, pos}
 use Rattle.dp_pixels.specs.Regions.{IsPainted, on_canvas}
-use Rattle.dp_pixels.proofs.Windows.{above}
+use Rattle.dp_pixels.proofs.Regions.{above}
 use Rattle.dp_pixels.proofs.paint.paint_region.Given as goal
 
 -- the rows above row j are painted

@@ -12,7 +12,7 @@ use Rattle.dp_pixels.proofs.Rectangles.{row_in}
 use Rattle.dp_pixels.proofs.Cells.{round_covers_cell, near_corner, near_corner_below, row_cell}
 use Rattle.dp_pixels.proofs.Cells.{cell_row}
 use Rattle.dp_pixels.proofs.SpanLemmas.{same_test, in_span}
-use Rattle.dp_pixels.proofs.Windows.{part_written}
+use Rattle.dp_pixels.proofs.Regions.{part_written}
 use Rattle.dp_pixels.proofs.disc.DiscPaint.paint_row.Goals as goal
 
 pub offset-from-requires-clause-near_x : goal.offset-from-requires-clause-near_x

@@ -13,7 +13,7 @@ use Rattle.dp_pixels.specs.Tiles.{tile_number}
 use Rattle.dp_pixels.proofs.Rectangles.{is_in-true, is_in_by, clipped_in, row_in, row_start}
 use Rattle.dp_pixels.proofs.TileLaws.{tiles_put_by}
 use Rattle.dp_pixels.proofs.SpanLemmas.{in_span}
-use Rattle.dp_pixels.proofs.Windows.{part_written}
+use Rattle.dp_pixels.proofs.Regions.{part_written}
 use Rattle.dp_pixels.proofs.tiles.TileRunPaint.paint_row.Goals as goal
 use borrow.Rule.Slice.PartMut.{mid_of}
 

@@ -10,7 +10,7 @@ returns-in_default-free_id c =
     let named : is_name c.args.name.now ≡ true =
     ap is_name (sym c.as_slice.ensures) ∙ sym c.in_ok-text.ensures.named
     ∙ ap is_some c.in-Some.is in
-    rw (c.still-in_default-free_id.ensures, c.in_ok-copy.ensures)
+    rw (c.refused_open-in_default-free_id.ensures, c.in_ok-copy.ensures)
     (plan-full (state_in t) t.journal.items t.connections.items t.live.items t.rights t.present
     c.requires.of
     c.args.name.now c.args.registered named c.in_default-free_id.ensures)

@@ -1,6 +1,6 @@
 use Rattle.std.proofs.Common.{rules}
 use Rattle.std.proofs.lemmas.Result.{err_from_is_err_and}
-use Rattle.dp_world.proofs.Going.{done_further, begun_further, begun_kept, refused_stops}
+use Rattle.dp_world.proofs.Progress.{done_further, begun_further, begun_kept, refused_stops}
 use Rattle.dp_world.proofs.line_run.Run.do_line.Goals as goal
 
 pub returns-in_err-action-clause-err : goal.returns-in_err-action-clause-err

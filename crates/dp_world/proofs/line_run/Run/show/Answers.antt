@@ -2,7 +2,7 @@ use Rattle.std.proofs.Common.{ℕ, List, subst, OnOk}
 use Rattle.std.specs.Io.KnownBytes.{Appends}
 use Rattle.dp_io.specs.Streams.{GrowsByPrefix}
 use Rattle.dp_sim.specs.World.{participant_of}
-use Rattle.dp_world.proofs.CanvasKind.{shown_text}
+use Rattle.dp_world.proofs.Shown.{shown_text}
 use Rattle.dp_world.proofs.line_run.Run.show.Goals as goal
 
 pub returns-clause-written : goal.returns-clause-written

@@ -14,7 +14,7 @@ use Rattle.dp_pixels.specs.Rectangles.{is_in, clipped, canvas_rect}
 use Rattle.dp_pixels.specs.Regions.{IsPainted, IsRowIn, on_canvas}
 use Rattle.dp_pixels.proofs.Rectangles.{IsIn, is_in-true, is_in_by, is_in-false, in_or_out}
 use Rattle.dp_pixels.proofs.Rectangles.{clipped_in, clipped_by}
-use Rattle.dp_pixels.proofs.Windows.{above, painted_none, painted_same, painted_more}
+use Rattle.dp_pixels.proofs.Regions.{above, painted_none, painted_same, painted_more}
 use borrow.Rule.Slice.PartMut.{mid_of, put_mid}
 use lib.Signed.{clash_ℤ}
 

@@ -1,40 +1,13 @@
--- Options, and lists that are numbered from 1.
+-- Items of a list that are numbered from 1.
 use Rattle.std.proofs.Common.{◌≡◌, ◌⊎◌, ℕ, zero, suc, ◌+◌, ◌-◌, ◌<◌, ◌==◌, Bool, true, false}
 use Rattle.std.proofs.Common.{if◌then◌else◌}
-use Rattle.std.proofs.Common.{List, [], ◌∷◌, ◌++◌, length, Option, None, Some}
+use Rattle.std.proofs.Common.{List, [], ◌∷◌, ◌++◌, length, take, Option, None, Some}
 use Rattle.std.proofs.Common.{refl, sym, ap, subst, ◌∙◌, ⊎_elim, inl, inr, arith}
-use Rattle.std.specs.Prelude.{slice_set, IfSome}
+use Rattle.std.specs.Prelude.{slice_set}
 use Rattle.std.specs.List.{slice_get}
-use Rattle.std.specs.Option.{option_map_or}
 use Rattle.std.proofs.lemmas.Bool.{eqb-false, ne_eqb}
-
--- ---- cases
-
--- what holds of each value that may come of an option
-pub option_both : {T U : Type 0} (f : T → U) (o : Option T) (d : U) (P : U → Type 0)
-    → ((x : T) → o ≡ Some x → P (f x)) → (o ≡ None → P d) → P (option_map_or f o d)
-option_both f None d P at_some at_none = at_none refl
-option_both f (Some x) d P at_some at_none = at_some x refl
-
-pub cases_option : {T : Type 0} (o : Option T) → (o ≡ None) ⊎ ((x : T) × (o ≡ Some x))
-cases_option None = inl refl
-cases_option (Some x) = inr (x, refl)
-
--- a fact of the value in an option
-pub at_some : {T : Type 0} (o : Option T) (P : T → Type 0) (x : T) → IfSome o P → o ≡ Some x → P x
-at_some None P x h is = cc
-at_some (Some y) P x h is = let same : y ≡ x = cc in subst P same h
-
-pub if_some : {T : Type 0} (o : Option T) (P : T → Type 0) → ((x : T) → o ≡ Some x → P x)
-    → IfSome o P
-if_some None P h = tt
-if_some (Some x) P h = h x refl
-
--- ---- numbers from 1
-
--- the item of a number, if there is one
-abbrev pub numbered : {X : Type 0} → List X → ℕ → Option X
-numbered xs number = if number == 0 then None else slice_get xs (number - 1)
+use Rattle.dp_lists.specs.Numbered.{numbered}
+use Rattle.dp_lists.proofs.Options.{cases_option}
 
 get_other : {X : Type 0} (xs : List X) (i j : ℕ) (y : X) → (j ≡ i → ⊥)
     → slice_get (slice_set xs i y) j ≡ slice_get xs j
@@ -73,6 +46,13 @@ get_new (x ∷ xs) y = get_new xs y
 get_past : {X : Type 0} (xs : List X) → slice_get xs (length xs) ≡ None
 get_past [] = refl
 get_past (x ∷ xs) = get_past xs
+
+-- one more item after the first ones
+pub take_one : {X : Type 0} (xs : List X) (i : ℕ) (x : X) → slice_get xs i ≡ Some x
+    → take (suc i) xs ≡ take i xs ++ x ∷ []
+take_one [] i x is = cc
+take_one (y ∷ xs) zero x is = let same : y ≡ x = cc in ap (λ z. z ∷ []) same
+take_one (y ∷ xs) (suc i) x is = ap (λ zs. y ∷ zs) (take_one xs i x is)
 
 if_none : {X : Type 0} (b : Bool) (o : Option X) (x : X) → (if b then None else o) ≡ Some x
     → (b ≡ false) × (o ≡ Some x)

@@ -53,7 +53,8 @@ done_further further done line action world later start old now fits asks possib
           ∙ sym (world_more has.actions action);
       text =
           subst (Appends start now) (sym (report_more has.actions action))
-          (Appends-trans start old now (report has.actions) (printed (world_after has.actions) action)
+          (Appends-trans start old now (report has.actions)
+          (printed (world_after has.actions) action)
           has.text
           (subst (λ (w : World). Appends old now (printed w action)) has.behind written));
     }

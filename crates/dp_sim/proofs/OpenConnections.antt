@@ -1,0 +1,73 @@
+-- Open connections, and histories.
+use Rattle.std.proofs.Common.{◌≡◌, ◌⊎◌, ℕ, zero, suc, Bool, true, false, if◌then◌else◌}
+use Rattle.std.proofs.Common.{List, [], ◌∷◌, ◌++◌, Option, None, Some, is_some}
+use Rattle.std.proofs.Common.{refl, sym, ap, subst, ◌∙◌, ⊎_elim}
+use Rattle.std.specs.List.{slice_get}
+use Rattle.std.proofs.lemmas.Bool.{cases_Bool}
+use Rattle.dp_lists.specs.Numbered.{numbered}
+use Rattle.dp_client.specs.Client.{marked}
+use Rattle.dp_messages.specs.declared.message.Entry.{Entry}
+use Rattle.dp_session.specs.declared.connection.Connection.{Connection}
+use Rattle.dp_session.specs.State.{connection_in, where_open, open_in, is_open}
+use Rattle.dp_sim.specs.Invariant.{HasNoMark, IsHistory}
+
+-- ---- open connections
+
+-- a connection that is there and open
+pub open_some : (o : Option Connection) → is_some (where_open o) ≡ true
+    → (c : Connection) × (o ≡ Some c) × (is_open c ≡ true)
+open_some None h = cc
+open_some (Some c) h =
+    ⊎_elim (λ (up : is_open c ≡ true). (c, refl, up))
+    (λ (shut : is_open c ≡ false).
+    let none : is_some (if false then Some c else None) ≡ true = subst
+    (λ b. is_some (if b then Some c else None) ≡ true) shut h in cc)
+    (cases_Bool (is_open c))
+
+pub open_found : (cs : List Connection) (conn : ℕ) (c : Connection) → open_in cs conn ≡ Some c
+    → (numbered cs conn ≡ Some c) × (is_open c ≡ true)
+open_found cs conn c is =
+    let found = open_some (connection_in cs conn) (ap is_some is) in
+    let there : connection_in cs conn ≡ Some found.0 = found.1 in
+    let whole : open_in cs conn ≡ Some found.0 =
+    ap where_open there ∙ ap (λ b. if b then Some found.0 else None) found.2 in
+    let same : found.0 ≡ c = let e : Some found.0 ≡ Some c = sym whole ∙ is in cc in
+    (subst (λ d. numbered cs conn ≡ Some d) same there, subst (λ d. is_open d ≡ true) same found.2)
+
+-- an open connection is found open
+pub some_open : (c : Connection) (o : Option Connection) → o ≡ Some c → is_open c ≡ true
+    → is_some (where_open o) ≡ true
+some_open c o is up = ap (λ p. is_some (where_open p)) is
+    ∙ ap (λ b. is_some (if b then Some c else None)) up
+
+-- ---- histories
+
+pub unmarked-append : (xs ys : List Entry) → HasNoMark xs → HasNoMark ys → HasNoMark (xs ++ ys)
+unmarked-append [] ys hx hy = hy
+unmarked-append (x ∷ xs) ys hx hy = (hx.0, unmarked-append xs ys hx.1 hy)
+
+-- a history with more entries that are no marks
+pub history-more : (live more : List Entry) → IsHistory 0 live → HasNoMark more
+    → IsHistory 0 (live ++ more)
+history-more [] more h clean = absurd h
+history-more (first ∷ behind) more h clean = (h.0, unmarked-append behind more h.1 clean)
+
+unmarked-at : (xs : List Entry) (i : ℕ) (x : Entry) → HasNoMark xs → slice_get xs i ≡ Some x
+    → marked x.msg ≡ None
+unmarked-at [] i x h is = cc
+unmarked-at (y ∷ xs) zero x h is = let same : y ≡ x = cc in subst (λ z. marked z.msg ≡ None) same
+    h.0
+unmarked-at (y ∷ xs) (suc i) x h is = unmarked-at xs i x h.1 is
+
+-- the first entry of a history is its mark
+pub mark-first : (live : List Entry) (x : Entry) → IsHistory 0 live → slice_get live 0 ≡ Some x
+    → marked x.msg ≡ Some 0
+mark-first [] x h is = absurd h
+mark-first (y ∷ live) x h is = let same : y ≡ x = cc in subst (λ z. marked z.msg ≡ Some 0) same h.0
+
+-- and no other entry is a mark
+pub mark-none : (live : List Entry) (i : ℕ) (x : Entry) → IsHistory 0 live
+    → slice_get live (suc i) ≡ Some x
+    → marked x.msg ≡ None
+mark-none [] i x h is = absurd h
+mark-none (y ∷ live) i x h is = unmarked-at live i x h.1 is
