@@ -1,10 +1,7 @@
 #!/usr/bin/env bash
-# Times `world` on schedules that it makes: 100,000 lines of strokes that are said and placed, 20,000 strokes that two clients say and take with
-# a picture at the end, and 64 MiB of empty lines, the most that counts.
-set -eu
-top=$(cd "$(dirname "$0")/.." && pwd)
-work=$(mktemp -d)
-trap 'rm -rf "$work"' EXIT
+# Times `world` on 100,000 lines of strokes that are said and placed, on 20,000 strokes that two
+# clients say and take, with a picture at the end, and on 64 MiB of empty lines, the most that counts.
+. "$(dirname "$0")/common.sh"
 python3 - "$work" <<'PY'
 import sys
 size, layer = '8100000000000000020000000100000000', '820101000000'
@@ -33,8 +30,4 @@ with open(sys.argv[1] + '/empty', 'w') as out:
     for _ in range(64):
         out.write('\n' * 1048576)
 PY
-"$top/bin/drawpile" world </dev/null
-for input in said taken empty; do
-  echo "$input: $(stat -c %s "$work/$input") bytes in"
-  time "$top/bin/drawpile" world <"$work/$input" >/dev/null
-done
+time_all world said taken empty
