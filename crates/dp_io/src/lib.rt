@@ -15,6 +15,7 @@ mod tests;
 pub use adapters::{StdSink, StdSource};
 pub use memory_sink::MemSink;
 pub use memory_source::MemSource;
+pub use plan::FaultPlan;
 pub use sink::{Sink, put_all};
 pub use source::{Failed, Source};
 pub use sure_source::SureSource;

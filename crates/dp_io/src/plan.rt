@@ -1,4 +1,4 @@
-//! The calls that a source or a sink in memory makes fail.
+//! The calls that an object in memory makes fail: a source, a sink or a wire.
 
 ghost use Rattle.std.specs.Prelude.{◌≡◌, ◌≤◌, ◌^◌, ◌<◌, ◌↔◌, IsTrue};
 ghost use Rattle.dp_io.specs.Faults.{Plan, IsDue, one_more, counted};
@@ -10,7 +10,7 @@ use std::marker::Model;
 ///
 /// Both counts stop at `u64::MAX`, and a call after that many is never to fail.
 #[derive(Drop)]
-pub(crate) struct FaultPlan {
+pub struct FaultPlan {
     fails: Vec<u64>,
     calls: u64,
     faults: u64,
@@ -24,7 +24,7 @@ impl Model for FaultPlan {
 
 impl FaultPlan {
     /// A plan before the first call.
-    pub(crate) fn new(fails: Vec<u64>) -> Self
+    pub fn new(fails: Vec<u64>) -> Self
         ensures { result ≡ record { fails = fails.items; calls = 0; faults = 0 } }
     {
         FaultPlan {
@@ -35,7 +35,7 @@ impl FaultPlan {
     }
 
     /// Counts a call, and answers whether it is to fail.
-    pub(crate) fn next_fails(&mut self) -> bool
+    pub fn next_fails(&mut self) -> bool
         ensures due { IsTrue result ↔ IsDue self.old }
         ensures counted { self.new ≡ counted self.old }
     {
@@ -48,8 +48,8 @@ impl FaultPlan {
         }
     }
 
-    /// Counts a fault, for the caller to answer.
-    pub(crate) fn fail(&mut self) -> Failed
+    /// Counts a fault, which the caller answers.
+    pub fn fail(&mut self) -> Failed
         ensures counted { self.new ≡ record self.old { faults = one_more self.old.faults } }
         ensures later { self.old.faults ≤ self.new.faults }
     {
