@@ -5,7 +5,7 @@ use Rattle.std.proofs.Common.{refl, sym, ap, subst, ◌∙◌, ⊎_elim}
 use Rattle.std.specs.List.{slice_get}
 use Rattle.std.proofs.lemmas.Bool.{cases_Bool}
 use Rattle.dp_lists.specs.Numbered.{numbered}
-use Rattle.dp_client.specs.Client.{marked}
+use Rattle.dp_messages.specs.Properties.{marked}
 use Rattle.dp_messages.specs.declared.message.Entry.{Entry}
 use Rattle.dp_session.specs.declared.connection.Connection.{Connection}
 use Rattle.dp_session.specs.State.{connection_in, where_open, open_in, is_open}
