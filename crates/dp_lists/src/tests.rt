@@ -16,3 +16,15 @@ fn a_list_and_its_pieces(rt: HostRuntime) -> Result<(), Fail> {
     items_are_numbered::<u8>();
     Ok(())
 }
+
+#[test]
+fn bytes_are_added_and_copied(rt: HostRuntime) -> Result<(), Fail> {
+    let mut bytes = Listed::new(rt.alloc());
+    assert!(rt; bytes.is_empty());
+    bytes.push(1)?;
+    bytes.append(&[2, 3])?;
+    bytes.append_both(&[4], &[5])?;
+    assert_eq!(rt; bytes.copy()?.as_slice(), [1, 2, 3, 4, 5].as_slice());
+    assert_eq!(rt; bytes.len(), 5);
+    Ok(())
+}

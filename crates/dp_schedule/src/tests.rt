@@ -9,15 +9,15 @@ use std::test::Fail;
 static ASKING: [(&[u8], &str); 14] = [
     (
         b"join ann",
-        "Join { name: Octets { bytes: [97, 110, 110] }, registered: false }",
+        "Join { name: Listed { entries: [97, 110, 110] }, registered: false }",
     ),
     (
         b"member bo",
-        "Join { name: Octets { bytes: [98, 111] }, registered: true }",
+        "Join { name: Listed { entries: [98, 111] }, registered: true }",
     ),
     (
         b"join ",
-        "Join { name: Octets { bytes: [] }, registered: false }",
+        "Join { name: Listed { entries: [] }, registered: false }",
     ),
     (b"say 1 80", "Act { client: 1, instruction: Say(Point) }"),
     (
@@ -40,7 +40,7 @@ static ASKING: [(&[u8], &str); 14] = [
     (b"conf 3", "Show { client: 3, kind: Confirmed }"),
     (
         b"join 3",
-        "Join { name: Octets { bytes: [51] }, registered: false }",
+        "Join { name: Listed { entries: [51] }, registered: false }",
     ),
 ];
 
