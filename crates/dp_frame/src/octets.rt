@@ -1,11 +1,11 @@
-//! A list of bytes with a home of its own.
+//! A list of bytes.
 
 ghost use Rattle.std.specs.Prelude.{◌≡◌, ◌↔◌, IsTrue, ◌++◌, [], length, IfOk, OnOk, OnErr};
 
 use std::alloc::{AllocError, Global};
 use std::marker::Model;
 
-/// A list of bytes. Contracts see it as that list.
+/// A list of bytes.
 #[derive(Drop, Debug)]
 pub struct Octets {
     bytes: Vec<u8>,
@@ -57,7 +57,11 @@ impl Octets {
         self.bytes.is_empty()
     }
 
-    /// Adds the bytes at the end. After an error nothing has changed.
+    /// Adds the bytes at the end.
+    ///
+    /// # Errors
+    ///
+    /// Where memory runs out. Nothing has changed then.
     pub fn append(&mut self, bytes: &[u8]) -> Result<(), AllocError>
         ensures ok { OnOk result (self.new ≡ self.old ++ bytes.now) }
         ensures err { OnErr result (self.new ≡ self.old) }
@@ -65,7 +69,7 @@ impl Octets {
         self.bytes.extend_from_slice(bytes)
     }
 
-    /// Adds two runs of bytes at the end. An error, out of memory, adds neither.
+    /// Adds two runs of bytes at the end, or neither.
     pub(crate) fn append_both(&mut self, front: &[u8], back: &[u8]) -> Result<(), AllocError>
         ensures ok { OnOk result (self.new ≡ self.old ++ front.now ++ back.now) }
         ensures err { OnErr result (self.new ≡ self.old) }
@@ -75,7 +79,7 @@ impl Octets {
         self.bytes.extend_from_slice(back)
     }
 
-    /// The same bytes once more.
+    /// Equal bytes.
     pub fn copy(&self) -> Result<Octets, AllocError>
         ensures { IfOk result (λ copy. copy ≡ self.now) }
     {
