@@ -9,7 +9,7 @@ use Rattle.std.proofs.lemmas.List.Sums.{fold-append}
 use Rattle.dp_messages.specs.declared.message.Msg.{Msg}
 use Rattle.dp_plain.specs.Board.{Board}
 use Rattle.dp_plain.specs.Commands.{draw, draw_all}
-use Rattle.dp_client.specs.Client.{command_of}
+use Rattle.dp_messages.specs.Properties.{command_of}
 
 -- what a function gives of one item
 one_given : {X Y : Type 0} (f : X → Option Y) (x : X) (o : Option Y) → f x ≡ o

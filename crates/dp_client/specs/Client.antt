@@ -2,12 +2,12 @@
 use Rattle.std.specs.Prelude.{ℕ, ◌+◌, Bool, true, false, ◌&&◌, ◌==◌, nat_lt, nat_le, if◌then◌else◌}
 use Rattle.std.specs.Prelude.{Option, None, Some, List, [], ◌∷◌, ◌++◌, length, drop}
 use Rattle.std.specs.List.{filter_map, fold}
-use Rattle.dp_msg_draw.specs.declared.draw.Draw.{Draw}
-use Rattle.dp_msg_meta.specs.declared.message.Meta.TheVariants.{Join, Leave, ResetMark, Filtered}
+use Rattle.dp_msg_meta.specs.declared.message.Meta.TheVariants.{Join, Leave, Filtered}
 use Rattle.dp_messages.specs.declared.message.Msg.{Msg}
 use Rattle.dp_messages.specs.declared.message.Msg.TheVariants as msg
 use Rattle.dp_messages.specs.declared.message.Entry.{Entry}
 use Rattle.dp_messages.specs.Equality.{same_message}
+use Rattle.dp_messages.specs.Properties.{carried_by, command_of, is_filtered, marked}
 use Rattle.dp_plain.specs.Board.{Board}
 use Rattle.dp_plain.specs.Commands.{draw_all}
 use Rattle.dp_plain.specs.Replay.{replay}
@@ -41,18 +41,12 @@ welcomed user epoch at = record {
 -- ---- what an entry is to the fork
 
 -- the message may answer a send: no Join, no Leave, and no Filtered in place of a message that has
--- no
--- entry
+-- no entry
 abbrev pub may_answer : Msg → Bool
 may_answer (msg.Meta (Join registered name)) = false
 may_answer (msg.Meta Leave) = false
 may_answer (msg.Meta (Filtered kind)) = nat_le 32 kind
 may_answer m = true
-
--- how many entries after its mark an epoch carried from the one before
-abbrev pub carried_by : Msg → ℕ
-carried_by (msg.Meta (ResetMark epoch carried)) = carried
-carried_by m = 0
 
 -- what the mark that heads the entries says of that
 abbrev pub carried_in : List Entry → ℕ
@@ -69,11 +63,6 @@ last_before s = if s.epoch == s.joined_epoch then s.joined_at else carried_in s.
 abbrev pub is_own_answer : State → Entry → Bool
 is_own_answer s entry =
     entry.user == s.user && may_answer entry.msg && nat_lt (last_before s) (length s.taken)
-
--- the message stands in place of one that was not permitted
-abbrev pub is_filtered : Msg → Bool
-is_filtered (msg.Meta (Filtered kind)) = true
-is_filtered m = false
 
 -- what an own answer is to the fork: nothing to an empty one; Filtered drops the front; an equal
 -- message is the front's echo; and another one tells that the fork is lost
@@ -98,11 +87,6 @@ fork_after Lost fork = []
 -- the client says a message
 abbrev pub said : State → Msg → State
 said s m = record s { fork = s.fork ++ m ∷ [] }
-
--- the epoch that a mark opens
-abbrev pub marked : Msg → Option ℕ
-marked (msg.Meta (ResetMark epoch carried)) = Some epoch
-marked m = None
 
 -- the mark of the Welcome's epoch, as the very first entry: the client is in that epoch already
 abbrev pub is_first_mark : State → ℕ → Bool
@@ -151,11 +135,6 @@ abbrev pub after_steps : State → List Step → State
 after_steps s steps = fold after_step s steps
 
 -- ---- what it shows
-
--- the command of a message, if it is one
-abbrev pub command_of : Msg → Option Draw
-command_of (msg.Draw op) = Some op
-command_of m = None
 
 -- the confirmed canvas: the entries taken, replayed
 abbrev pub confirmed : State → Board

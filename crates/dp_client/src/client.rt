@@ -2,12 +2,13 @@
 
 ghost use Rattle.std.specs.Prelude.{◌≡◌, ◌-◌, ◌^◌, ◌<◌, ◌≤◌, length, Some, None, option_to_list, IfOk, OnOk, OnErr};
 ghost use Rattle.dp_messages.specs.Messages.{kind_of};
+ghost use Rattle.dp_messages.specs.Properties.{command_of, marked};
 ghost use Rattle.dp_client.specs.Client.{welcomed, own_of, last_before, is_own_answer, said, took, taken_of};
-ghost use Rattle.dp_client.specs.Client.{command_of, confirmed, marked, view};
+ghost use Rattle.dp_client.specs.Client.{confirmed, view};
 ghost use Rattle.std.specs.List.{filter_map};
 ghost use Rattle.dp_plain.specs.Commands.{draw_all};
 
-use crate::answers::{carried_in, is_filtered, marked, may_answer};
+use crate::answers::{carried_in, may_answer};
 use crate::own::Own;
 use dp_board::Board;
 use dp_messages::{Entry, Msg, same};
@@ -125,7 +126,7 @@ impl Client {
         ensures ok { OnOk result (self.new ≡ took self.old entry.now) }
         ensures err { OnErr result (self.new ≡ self.old) }
     {
-        match marked(&entry.msg) {
+        match entry.msg.marked() {
             Some(epoch) => self.take_mark(entry, epoch),
             None => self.take_other(entry),
         }
@@ -212,7 +213,7 @@ impl Client {
         }
         match self.fork.front() {
             None => Own::Stranger,
-            Some(_) if is_filtered(&entry.msg) => Own::Dropped,
+            Some(_) if entry.msg.is_filtered() => Own::Dropped,
             Some(first) if same(&entry.msg, first) => Own::Echo,
             Some(_) => Own::Lost,
         }
@@ -271,8 +272,8 @@ fn draw_message<D: Ledger, T: Ledger>(
     ensures { OnOk result
         (board.new ≡ draw_all board.old (option_to_list (command_of msg.now))) }
 {
-    match msg {
-        Msg::Draw(op) => board.draw(op, draws, tiles),
-        _ => Ok(()),
+    match msg.command() {
+        Some(command) => board.draw(command, draws, tiles),
+        None => Ok(()),
     }
 }

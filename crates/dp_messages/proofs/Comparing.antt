@@ -1,5 +1,5 @@
 -- The test of two messages tells exactly whether they are equal.
-use Rattle.std.proofs.Common.{◌≡◌, ℕ, Bool, true, List, refl, ap, subst, ◌∙◌, arith}
+use Rattle.std.proofs.Common.{◌≡◌, ℕ, Bool, true, List, refl, ap, subst, ◌∙◌}
 use Rattle.std.specs.Prelude.{◌↔◌, bytes_eq}
 use Rattle.std.specs.Bool.{Decides, ◌==◌, beq}
 use Rattle.std.specs.Cmp.{booleans_Decides}

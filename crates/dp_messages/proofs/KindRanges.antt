@@ -1,5 +1,5 @@
 -- The kinds of messages, by variant: each variant has kinds of its own.
-use Rattle.std.proofs.Common.{◌≡◌, ◌≢◌, ◌⊎◌, ℕ, ◌<◌, ◌≤◌, List, [], ◌∷◌, ◌++◌, inl, inr, refl, sym}
+use Rattle.std.proofs.Common.{◌≡◌, ◌≢◌, ℕ, ◌≤◌, List, inl, inr}
 use Rattle.std.proofs.Common.{subst, arith, lit≤}
 use Rattle.std.specs.Prelude.{⊤}
 use Rattle.dp_msg_draw.specs.declared.draw.Draw.{Draw}
@@ -11,14 +11,8 @@ use Rattle.dp_msg_draw.specs.declared.draw.Draw.TheVariants.{MoveRect}
 use Rattle.dp_msg_draw.specs.Limits.{IsDrawKind}
 use Rattle.dp_msg_draw.specs.Payloads.{draw_kind, SpellsDraw}
 use Rattle.dp_msg_meta.specs.declared.message.Control.{Control}
-use Rattle.dp_msg_meta.specs.declared.message.Control.TheVariants.{Hello, Disconnect, Ping, Ack}
-use Rattle.dp_msg_meta.specs.declared.message.Control.TheVariants.{Welcome, ResetBegin, ResetEnd}
 use Rattle.dp_msg_meta.specs.declared.message.Meta.{Meta}
-use Rattle.dp_msg_meta.specs.declared.message.Meta.TheVariants.{Join, Leave, Owners, Chat, Trusted}
-use Rattle.dp_msg_meta.specs.declared.message.Meta.TheVariants.{ResetMark, Laser, MovePointer}
-use Rattle.dp_msg_meta.specs.declared.message.Meta.TheVariants.{UserAcl, LayerAcl, FeatureTiers}
-use Rattle.dp_msg_meta.specs.declared.message.Meta.TheVariants.{Filtered}
-use Rattle.dp_msg_meta.specs.Payloads.{control_kind, IsControlKind, SpellsControl, meta_kind}
+use Rattle.dp_msg_meta.specs.Payloads.{IsControlKind, SpellsControl}
 use Rattle.dp_msg_meta.specs.Payloads.{IsMetaKind, SpellsMeta}
 use Rattle.dp_messages.specs.declared.message.Msg.{Msg}
 use Rattle.dp_messages.specs.declared.message.Msg.TheVariants as msg

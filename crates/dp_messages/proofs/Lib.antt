@@ -1,3 +1,4 @@
 pub mod KindRanges
 pub mod OneMessage
+pub mod Refusals
 pub mod Comparing

@@ -1,6 +1,6 @@
 -- A payload spells at most one message, a frame has one answer, and bytes are heard in one way.
-use Rattle.std.proofs.Common.{◌≡◌, ◌⊎◌, ℕ, ◌<◌, ◌≤◌, ◌+◌, List, [], ◌∷◌, ◌++◌, length, Bool, true}
-use Rattle.std.proofs.Common.{false, inl, inr, refl, sym, ◌∙◌, ap, subst, arith, length-append}
+use Rattle.std.proofs.Common.{◌≡◌, ℕ, ◌≤◌, List, [], ◌∷◌, ◌++◌, length, Bool, true}
+use Rattle.std.proofs.Common.{false, refl, sym, ◌∙◌, ap, subst, arith, length-append}
 use Rattle.std.specs.Prelude.{MatchBool}
 use Rattle.dp_frame.specs.Frames.{FrameParts, Splits}
 use Rattle.dp_msg_draw.specs.declared.draw.Draw.{Draw}
@@ -12,9 +12,10 @@ use Rattle.dp_msg_meta.specs.Payloads.{SpellsControl, SpellsMeta}
 use Rattle.dp_messages.specs.declared.message.Msg.{Msg}
 use Rattle.dp_messages.specs.declared.message.Msg.TheVariants as msg
 use Rattle.dp_messages.specs.declared.message.Entry.{Entry}
-use Rattle.dp_messages.specs.Messages.{Spells, IsListedKind}
+use Rattle.dp_messages.specs.Messages.{Spells}
 use Rattle.dp_messages.specs.Decoded.{Carries}
-use Rattle.dp_messages.specs.Heard.{is_disconnect, AreHeard, Hears}
+use Rattle.dp_messages.specs.Heard.{AreHeard, Hears}
+use Rattle.dp_messages.specs.Properties.{is_disconnect}
 use Rattle.dp_messages.proofs.KindRanges.{KindLaws, InRange, in_range, not_listed, to_control}
 use Rattle.dp_messages.proofs.KindRanges.{to_meta, to_draw}
 

@@ -21,8 +21,7 @@ abbrev pub SpellsNothing : ℕ → List ℕ → Type 0
 SpellsNothing kind payload = (m : Msg) → Spells kind payload m → ⊥
 
 -- Why a frame of this kind and payload carries nothing: no message is of the kind, or none of the
--- kind
--- has the payload.
+-- kind has the payload.
 abbrev pub IsRefused : ℕ → List ℕ → DecodeError → Type 0
 IsRefused kind payload (Unknown k) = (k ≡ kind) × IsUnknownKind kind
 IsRefused kind payload (Malformed k) =

@@ -1,16 +1,10 @@
 -- What is heard in a list of bytes: the messages of its frames up to the first Disconnect.
-use Rattle.std.specs.Prelude.{◌≡◌, ℕ, Bool, true, false, List, [], ◌∷◌, MatchBool, ⊤}
+use Rattle.std.specs.Prelude.{◌≡◌, ℕ, List, [], ◌∷◌, MatchBool, ⊤}
 use Rattle.dp_frame.specs.Frames.{FrameParts, Splits}
-use Rattle.dp_msg_meta.specs.declared.message.Control.TheVariants.{Disconnect}
 use Rattle.dp_messages.specs.declared.message.Msg.{Msg}
-use Rattle.dp_messages.specs.declared.message.Msg.TheVariants as msg
 use Rattle.dp_messages.specs.Messages.{Spells}
+use Rattle.dp_messages.specs.Properties.{is_disconnect}
 use Rattle.dp_messages.specs.Decoded.{SpellsNothing}
-
--- the message ends what is heard
-abbrev pub is_disconnect : Msg → Bool
-is_disconnect (msg.Control (Disconnect reason)) = true
-is_disconnect _ = false
 
 -- The messages are those of the frames in order, to the first Disconnect with it, or to the frame
 -- before the first that spells no message, or to the end.

@@ -1,4 +1,5 @@
 pub mod Messages
+pub mod Properties
 pub mod Decoded
 pub mod Heard
 pub mod Equality

@@ -1,5 +1,7 @@
 -- The messages of a session: the kind of each, its payload, and which of them have a spelling.
 use Rattle.std.specs.Prelude.{◌≡◌, ℕ, ◌<◌, ◌≤◌, ◌^◌, ◌⊎◌, List, [], ◌++◌, length, ⊤}
+use Rattle.dp_frame.specs.Frames.{FrameParts, spelling}
+use Rattle.dp_messages.specs.declared.message.Entry.{Entry}
 use Rattle.dp_messages.specs.declared.message.Msg.{Msg}
 use Rattle.dp_messages.specs.declared.message.Msg.TheVariants as msg
 use Rattle.dp_msg_draw.specs.Fields.{one_byte, flag_byte}
@@ -44,8 +46,7 @@ abbrev pub IsUnknownKind : ℕ → Type 0
 IsUnknownKind kind = (kind < 64) × ¬ IsListedKind kind
 
 -- Which messages have a spelling: their parts have one, numbers lie within their widths, the
--- payload
--- has at most 65,535 bytes, and a message of any payload is of a kind that isn't listed.
+-- payload has at most 65,535 bytes, and a message of any payload is of a kind that isn't listed.
 abbrev pub HasSpelling : Msg → Type 0
 HasSpelling (msg.Control m) = ControlHasSpelling m
 HasSpelling (msg.Meta m) = MetaHasSpelling m
@@ -61,3 +62,16 @@ pub record Spells (number : ℕ) (bytes : List ℕ) (m : Msg) : Type 0 where
   pub kind : number ≡ kind_of m
   pub payload : bytes ≡ payload_of m
   pub spelled : HasSpelling m
+
+-- the frame of an entry: the sender as its context id, the message's kind and the bytes of its
+-- fields
+abbrev pub frame_of : Entry → FrameParts
+frame_of entry = record {
+  kind = kind_of entry.msg;
+  user = entry.user;
+  body = payload_of entry.msg;
+}
+
+-- the bytes of that frame; they are read again where the message has a spelling
+abbrev pub entry_bytes : Entry → List ℕ
+entry_bytes entry = spelling (frame_of entry)

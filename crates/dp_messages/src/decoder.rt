@@ -1,14 +1,17 @@
-//! Frames as entries.
+//! Frames as entries, and payloads as messages.
+//!
+//! The rule: docs/protocol.md, "Messages".
 
-ghost use Rattle.std.specs.Prelude.{◌≡◌, ◌<◌, ◌≤◌, ◌^◌, ◌⊎◌, ◌↔◌, length, IfOk, IfErr, IsTrue};
+ghost use Rattle.std.specs.Prelude.{◌≡◌, ◌⊎◌, IfOk, IfErr};
 ghost use Rattle.dp_msg_draw.specs.Limits.{IsDrawKind};
 ghost use Rattle.dp_msg_meta.specs.Payloads.{IsControlKind, IsMetaKind};
 ghost use Rattle.dp_messages.specs.declared.message.Entry.{Entry as Item};
+ghost use Rattle.dp_messages.specs.declared.message.Msg.{Msg as Message};
 ghost use Rattle.dp_messages.specs.declared.decoder.DecodeError.{DecodeError as Refusal};
-ghost use Rattle.dp_messages.specs.Messages.{IsListedKind, IsOpaqueKind};
+ghost use Rattle.dp_messages.specs.Messages.{IsListedKind, Spells};
 ghost use Rattle.dp_messages.specs.Decoded.{Carries, IsRefused, Answers};
 
-use crate::laws::one_answer;
+use crate::laws::{one_answer, one_message};
 use crate::{Entry, Msg};
 use dp_frame::{Frame, Octets};
 use dp_msg_draw::{Draw, PayloadError, is_listed, one_draw, read_draw};
@@ -25,12 +28,26 @@ pub enum DecodeError {
     /// No message of the kind has the payload.
     #[error("the payload is no message of type {0}")]
     Malformed(u8),
-    /// out of memory.
     #[error("out of memory")]
     Memory,
 }
 
-/// The entry that the frame carries. The rule: docs/protocol.md, "Messages".
+/// The kind of a part of a reset.
+pub(crate) const PART_KIND: u8 = 6;
+
+/// The kind of an undo point.
+pub(crate) const POINT_KIND: u8 = 128;
+
+/// The kind of an undo or a redo.
+pub(crate) const UNDO_KIND: u8 = 255;
+
+/// The least kind of a message with any payload.
+const LEAST_OPAQUE_KIND: u8 = 64;
+
+/// The most bytes of a payload.
+pub(crate) const PAYLOAD_LIMIT: usize = 65_535;
+
+/// The entry that the frame carries.
 ///
 /// # Errors
 ///
@@ -48,19 +65,36 @@ pub fn decode(alloc: Global, frame: &Frame) -> Result<Entry, DecodeError>
         → (result ≡ Err why) ⊎ (result ≡ Err DecodeError.Memory) }
 {
     one_answer();
-    let msg = match read_msg(alloc, frame.kind(), frame.body().as_slice()) {
-        Ok(msg) => msg,
-        Err(error) => return Err(error),
-    };
+    let msg = read_message(alloc, frame.kind(), frame.body().as_slice())?;
     Ok(Entry {
         user: frame.user(),
         msg,
     })
 }
 
-/// The message that a payload of this kind spells.
-fn read_msg(alloc: Global, kind: u8, payload: &[u8]) -> Result<Msg, DecodeError>
-    requires { length payload.now ≤ 65535 }
+/// The message that a payload of this kind spells. No message has a payload of more than 65,535
+/// bytes.
+///
+/// # Errors
+///
+/// As those of `decode`.
+pub fn read_message(alloc: Global, kind: u8, payload: &[u8]) -> Result<Msg, DecodeError>
+    ensures found { IfOk result (Spells kind payload.now) }
+    ensures refused { IfErr result (λ why.
+        (why ≡ DecodeError.Memory) ⊎ IsRefused kind payload.now why) }
+
+    // The message, or why there is none, is answered, unless memory runs out.
+    ensures only { (m : Message) → Spells kind payload.now m
+        → (result ≡ Ok m) ⊎ (result ≡ Err DecodeError.Memory) }
+    ensures due { (why : Refusal) → IsRefused kind payload.now why
+        → (result ≡ Err why) ⊎ (result ≡ Err DecodeError.Memory) }
+{
+    one_message();
+    one_answer();
+    read_by_kind(alloc, kind, payload)
+}
+
+fn read_by_kind(alloc: Global, kind: u8, payload: &[u8]) -> Result<Msg, DecodeError>
     ensures { Answers kind payload.now result }
 {
     if is_control_kind(kind) {
@@ -71,9 +105,9 @@ fn read_msg(alloc: Global, kind: u8, payload: &[u8]) -> Result<Msg, DecodeError>
         read_command(alloc, kind, payload)
     } else {
         match kind {
-            6 => read_part(alloc, payload),
-            128 => read_point(payload),
-            255 => read_undo(payload),
+            PART_KIND => read_part(alloc, payload),
+            POINT_KIND => read_point(payload),
+            UNDO_KIND => read_undo(payload),
             _ => read_unlisted(alloc, kind, payload),
         }
     }
@@ -114,17 +148,18 @@ fn read_command(alloc: Global, kind: u8, payload: &[u8]) -> Result<Msg, DecodeEr
 
 /// A part of a reset: the kind of a command, and then its payload.
 fn read_part(alloc: Global, payload: &[u8]) -> Result<Msg, DecodeError>
-    requires { length payload.now ≤ 65535 }
     ensures { Answers 6 payload.now result }
 {
     one_draw();
     match payload {
-        [kind, rest @ ..] if is_listed(*kind) => match read_draw(alloc, *kind, rest) {
-            Ok(command) => Ok(Msg::Part(command)),
-            Err(PayloadError::Malformed) => Err(DecodeError::Malformed(6)),
-            Err(PayloadError::Memory) => Err(DecodeError::Memory),
-        },
-        _ => Err(DecodeError::Malformed(6)),
+        [kind, rest @ ..] if is_listed(*kind) && rest.len() < PAYLOAD_LIMIT => {
+            match read_draw(alloc, *kind, rest) {
+                Ok(command) => Ok(Msg::Part(command)),
+                Err(PayloadError::Malformed) => Err(DecodeError::Malformed(PART_KIND)),
+                Err(PayloadError::Memory) => Err(DecodeError::Memory),
+            }
+        }
+        _ => Err(DecodeError::Malformed(PART_KIND)),
     }
 }
 
@@ -134,7 +169,7 @@ fn read_point(payload: &[u8]) -> Result<Msg, DecodeError>
     if payload.is_empty() {
         Ok(Msg::Point)
     } else {
-        Err(DecodeError::Malformed(128))
+        Err(DecodeError::Malformed(POINT_KIND))
     }
 }
 
@@ -150,18 +185,21 @@ fn read_undo(payload: &[u8]) -> Result<Msg, DecodeError>
             target: *target,
             redo: true,
         }),
-        _ => Err(DecodeError::Malformed(255)),
+        _ => Err(DecodeError::Malformed(UNDO_KIND)),
     }
 }
 
 /// A message of a kind that isn't listed: any payload from 64 on, none below.
 fn read_unlisted(alloc: Global, kind: u8, payload: &[u8]) -> Result<Msg, DecodeError>
-    requires unlisted { ¬ IsListedKind kind }
-    requires short { length payload.now ≤ 65535 }
+    requires { ¬ IsListedKind kind }
     ensures { Answers kind payload.now result }
 {
-    if kind < 64 {
+    one_message();
+    if kind < LEAST_OPAQUE_KIND {
         return Err(DecodeError::Unknown(kind));
+    }
+    if payload.len() > PAYLOAD_LIMIT {
+        return Err(DecodeError::Malformed(kind));
     }
     match Vec::from_slice(alloc, payload) {
         Ok(bytes) => Ok(Msg::Opaque {

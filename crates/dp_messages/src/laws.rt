@@ -1,11 +1,11 @@
 //! Laws of messages, each the contract of a function that does nothing.
 
 ghost use Rattle.std.specs.Prelude.{◌≡◌, ◌≤◌, ◌↔◌, ℕ, List, length, IsTrue};
-ghost use Rattle.dp_frame.specs.Frames.{FrameParts};
+ghost use Rattle.dp_frame.specs.Frames.{FrameParts, IsFrame};
 ghost use Rattle.dp_messages.specs.declared.message.Msg.{Msg as Message};
 ghost use Rattle.dp_messages.specs.declared.message.Entry.{Entry};
 ghost use Rattle.dp_messages.specs.declared.decoder.DecodeError.{DecodeError};
-ghost use Rattle.dp_messages.specs.Messages.{Spells};
+ghost use Rattle.dp_messages.specs.Messages.{Spells, HasSpelling, frame_of};
 ghost use Rattle.dp_messages.specs.Decoded.{Carries, IsRefused};
 ghost use Rattle.dp_messages.specs.Equality.{same_message};
 ghost use Rattle.dp_messages.specs.Heard.{Hears};
@@ -15,8 +15,7 @@ use dp_msg_draw::{one_draw, same_draw_is_equality};
 use dp_msg_meta::{control_equality, meta_equality, one_control, one_meta};
 
 /// A payload of a kind spells at most one message, and a message has one kind and one payload, of
-/// at
-/// most 65,535 bytes.
+/// at most 65,535 bytes.
 pub fn one_message()
     ensures message { (kind : ℕ) (payload : List ℕ) (m n : Message)
         → Spells kind payload m → Spells kind payload n → m ≡ n }
@@ -31,8 +30,7 @@ pub fn one_message()
 }
 
 /// A frame carries at most one entry. It is refused in at most one way, and only where it carries
-/// none:
-/// so what `decode` answers is one answer.
+/// none: so what `decode` answers is one answer.
 pub fn one_answer()
     ensures entry { (frame : FrameParts) (e f : Entry) → Carries frame e → Carries frame f → e ≡ f }
     ensures refusal { (kind : ℕ) (payload : List ℕ) (e f : DecodeError)
@@ -43,7 +41,15 @@ pub fn one_answer()
     one_message();
 }
 
-/// The test of two messages tells exactly whether they are equal.
+/// The frame of an entry whose message has a spelling is a frame, and carries the entry.
+pub fn entries_are_read_again()
+    ensures frame { (e : Entry) → HasSpelling e.msg → IsFrame (frame_of e) }
+    ensures carries { (e : Entry) → HasSpelling e.msg → Carries (frame_of e) e }
+{
+    one_message();
+}
+
+/// The test of two messages says exactly whether they are equal.
 pub fn one_equality()
     ensures { (m n : Message) → IsTrue (same_message m n) ↔ (m ≡ n) }
 {

@@ -7,10 +7,10 @@ mod equality;
 mod laws;
 mod message;
 
-pub use decoder::{DecodeError, decode};
-pub use encoder::encode;
+pub use decoder::{DecodeError, decode, read_message};
+pub use encoder::{encode, put_entry, put_payload};
 pub use equality::same;
-pub use laws::{one_answer, one_equality, one_hearing, one_message};
+pub use laws::{entries_are_read_again, one_answer, one_equality, one_hearing, one_message};
 pub use message::{Entry, Msg};
 
 #[cfg(test)]

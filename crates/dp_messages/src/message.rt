@@ -1,7 +1,12 @@
 //! A message, and the entry that it makes with its sender.
+//!
+//! The rule: docs/protocol.md, "Messages".
 
-ghost use Rattle.std.specs.Prelude.{◌≡◌, ◌≤◌, IfOk};
+ghost use Rattle.std.specs.Prelude.{◌≡◌, IfOk};
+ghost use Rattle.std.specs.Option.{option_copied};
 ghost use Rattle.dp_messages.specs.Messages.{kind_of};
+ghost use Rattle.dp_messages.specs.Properties.{is_disconnect, is_reset_mark, marked, carried_by};
+ghost use Rattle.dp_messages.specs.Properties.{is_filtered, command_of};
 
 use dp_frame::Octets;
 use dp_msg_draw::{Draw, kind_of_draw};
@@ -11,7 +16,6 @@ use std::alloc::AllocError;
 /// A message of the session.
 ///
 /// Not every value has a spelling (`HasSpelling`): what `decode` gives has one.
-/// The rule: docs/protocol.md, "Messages".
 #[derive(Debug, Drop)]
 pub enum Msg {
     /// A message of the link between a client and its server.
@@ -51,6 +55,57 @@ impl Msg {
             Msg::Undo { .. } => 255,
             Msg::Draw(command) => kind_of_draw(command),
             Msg::Opaque { kind, .. } => *kind,
+        }
+    }
+
+    /// Whether the message ends what a connection says.
+    pub fn is_disconnect(&self) -> bool
+        ensures { result ≡ is_disconnect self.now }
+    {
+        matches!(self, Msg::Control(Control::Disconnect { .. }))
+    }
+
+    /// Whether the message is the mark that heads an epoch.
+    pub fn is_reset_mark(&self) -> bool
+        ensures { result ≡ is_reset_mark self.now }
+    {
+        matches!(self, Msg::Meta(Meta::ResetMark { .. }))
+    }
+
+    /// The epoch that a mark opens.
+    pub fn marked(&self) -> Option<u32>
+        ensures { result ≡ marked self.now }
+    {
+        match self {
+            Msg::Meta(Meta::ResetMark { epoch, .. }) => Some(*epoch),
+            _ => None,
+        }
+    }
+
+    /// How many entries after its mark an epoch carried; 0 for any other message.
+    pub fn carried_by(&self) -> u32
+        ensures { result ≡ carried_by self.now }
+    {
+        match self {
+            Msg::Meta(Meta::ResetMark { carried, .. }) => *carried,
+            _ => 0,
+        }
+    }
+
+    /// Whether the message stands in place of one that was not permitted.
+    pub fn is_filtered(&self) -> bool
+        ensures { result ≡ is_filtered self.now }
+    {
+        matches!(self, Msg::Meta(Meta::Filtered { .. }))
+    }
+
+    /// The drawing command, if the message is one. A part of a reset is none.
+    pub fn command(&self) -> Option<&Draw>
+        ensures { option_copied result ≡ command_of self.now }
+    {
+        match self {
+            Msg::Draw(command) => Some(command),
+            _ => None,
         }
     }
 

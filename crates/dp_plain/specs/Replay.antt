@@ -2,10 +2,10 @@
 use Rattle.std.specs.Prelude.{ℕ, ◌==◌, Bool, true, false, List, map, if◌then◌else◌}
 use Rattle.std.specs.List.{after_last}
 use Rattle.dp_msg_draw.specs.declared.draw.Draw.{Draw}
-use Rattle.dp_msg_meta.specs.declared.message.Meta.TheVariants.{ResetMark}
 use Rattle.dp_messages.specs.declared.message.Msg.{Msg}
 use Rattle.dp_messages.specs.declared.message.Msg.TheVariants as msg
 use Rattle.dp_messages.specs.declared.message.Entry.{Entry}
+use Rattle.dp_messages.specs.Properties.{is_reset_mark}
 use Rattle.dp_board.specs.declared.act.Act.{Act}
 use Rattle.dp_board.specs.declared.act.Act.TheVariants as act
 use Rattle.dp_board.specs.declared.act.UserAct.{UserAct}
@@ -49,12 +49,8 @@ abbrev pub replay : List Entry → Board
 replay = replay_on draw empty_board
 
 -- the entry is a mark, which begins an epoch
-abbrev pub is_mark_message : Msg → Bool
-is_mark_message (msg.Meta (ResetMark epoch carried)) = true
-is_mark_message m = false
-
 abbrev pub is_mark : Entry → Bool
-is_mark entry = is_mark_message entry.msg
+is_mark entry = is_reset_mark entry.msg
 
 -- what a history shows on a board of any kind: the replay of its entries after the last mark, of
 -- all

@@ -11,7 +11,6 @@ use crate::plain::PlainBoard;
 use dp_board::{Act, Board, UserAct, commands_do_not_count, drawn_flags, each_act_has_a_flag};
 use dp_messages::{Entry, Msg};
 use dp_msg_draw::Draw;
-use dp_msg_meta::Meta;
 use dp_steps::Steps;
 use std::alloc::{AllocError, Global};
 use std::sync::ledger::Ledger;
@@ -82,17 +81,10 @@ fn epoch_start(entries: &[Entry]) -> usize
     ensures behind { drop result entries.now ≡ after_last is_mark entries.now }
 {
     let mut start = entries.len();
-    while start > 0 && !is_mark(&entries[start - 1]) {
+    while start > 0 && !entries[start - 1].msg.is_reset_mark() {
         start -= 1;
     }
     start
-}
-
-/// Whether an entry is the mark of a reset.
-fn is_mark(entry: &Entry) -> bool
-    ensures { result ≡ is_mark entry.now }
-{
-    matches!(&entry.msg, Msg::Meta(Meta::ResetMark { .. }))
 }
 
 /// The commands of the entries but for the undone ones, drawn in their order on the board. It draws

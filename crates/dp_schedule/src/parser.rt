@@ -13,9 +13,9 @@ ghost use Rattle.dp_schedule.specs.LineGrammar.{instruction_word, join_word, can
 ghost use Rattle.dp_schedule.specs.WordGrammar.{WordsParse};
 
 use crate::action::{Action, CanvasKind, Instruction};
-use dp_frame::{Frame, Octets};
+use dp_frame::Octets;
 use dp_lines::{hex_of, number};
-use dp_messages::{DecodeError, Msg, decode, one_message};
+use dp_messages::{DecodeError, Msg, read_message};
 use std::alloc::{AllocError, Global};
 
 /// The byte that separates two words.
@@ -23,9 +23,6 @@ const SPACE: u8 = b' ';
 
 /// The least kind of a message that may be said.
 const LEAST_KIND: u8 = 32;
-
-/// The most bytes of a payload.
-const PAYLOAD_LIMIT: usize = 65_535;
 
 /// What the line asks for; `None` where it asks for nothing.
 ///
@@ -181,13 +178,8 @@ fn spelled(alloc: Global, kind: u8, payload: &[u8]) -> Result<Option<Msg>, Alloc
     ensures none { IfOk result (λ found. IfNone found
         ((m : Message) → ¬ Spells kind payload.now m)) }
 {
-    one_message();
-    if payload.len() > PAYLOAD_LIMIT {
-        return Ok(None);
-    }
-    let body = Octets::from_vec(Vec::from_slice(alloc, payload)?);
-    match decode(alloc, &Frame::new(kind, 0, body)) {
-        Ok(entry) => Ok(Some(entry.msg)),
+    match read_message(alloc, kind, payload) {
+        Ok(msg) => Ok(Some(msg)),
         Err(DecodeError::Memory) => Err(AllocError),
         Err(_) => Ok(None),
     }

@@ -9,7 +9,7 @@ use Rattle.std.specs.Prelude.{slice_set, not, ◌&&◌, ◌==◌}
 use Rattle.std.specs.List.{find, list_any}
 use Rattle.std.proofs.Math.ListN.{length-set}
 use Rattle.std.proofs.lemmas.Bool.{cond_both, cases_eq}
-use Rattle.dp_client.specs.Client.{marked}
+use Rattle.dp_messages.specs.Properties.{marked}
 use Rattle.dp_msg_meta.specs.declared.message.Control.TheVariants as control
 use Rattle.dp_msg_meta.specs.declared.message.Meta.TheVariants as meta
 use Rattle.dp_messages.specs.declared.message.Msg.{Msg}

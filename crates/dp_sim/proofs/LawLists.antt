@@ -7,7 +7,7 @@ use Rattle.std.specs.Prelude.{slice_set, IfSome}
 use Rattle.std.specs.List.{slice_get}
 use Rattle.std.specs.Option.{option_map_or}
 use Rattle.std.proofs.lemmas.Bool.{eqb-false, ne_eqb, cases_Bool}
-use Rattle.dp_client.specs.Client.{marked}
+use Rattle.dp_messages.specs.Properties.{marked}
 use Rattle.dp_messages.specs.declared.message.Entry.{Entry}
 use Rattle.dp_session.specs.declared.connection.Connection.{Connection}
 use Rattle.dp_session.specs.State.{connection_in, where_open, open_in, is_open}

@@ -14,9 +14,8 @@ use Rattle.std.proofs.lemmas.List.{take-append-le}
 use Rattle.std.proofs.lemmas.Option.{slice_get_within}
 use Rattle.dp_messages.specs.declared.message.Msg.{Msg}
 use Rattle.dp_messages.specs.declared.message.Entry.{Entry}
-use Rattle.dp_messages.specs.Heard.{is_disconnect}
+use Rattle.dp_messages.specs.Properties.{command_of, is_disconnect, marked}
 use Rattle.dp_client.specs.Client as client
-use Rattle.dp_client.specs.Client.{marked}
 use Rattle.dp_session.specs.declared.event.Event.{Event}
 use Rattle.dp_session.specs.declared.event.Event.TheVariants as event
 use Rattle.dp_session.specs.declared.event.Reply.{Reply}
@@ -530,7 +529,7 @@ shows-front s number participant ended h =
       count = length c.taken;
       taken = front;
       confirmed = ap replay front;
-      view = ap (λ board. draw_all board (filter_map client.command_of c.fork)) (ap replay front);
+      view = ap (λ board. draw_all board (filter_map command_of c.fork)) (ap replay front);
     }
 
 pub all-show : ((w : World) (action : Action) → IsWorld w → IsWorld (after w action))

@@ -5,7 +5,7 @@ use Rattle.dp_msg_meta.specs.declared.message.Control.TheVariants.{Disconnect, A
 use Rattle.dp_messages.specs.declared.message.Msg.{Msg}
 use Rattle.dp_messages.specs.declared.message.Msg.TheVariants as msg
 use Rattle.dp_messages.specs.declared.message.Entry.{Entry}
-use Rattle.dp_messages.specs.Heard.{is_disconnect}
+use Rattle.dp_messages.specs.Properties.{is_disconnect}
 use Rattle.dp_client.specs.Client as client
 use Rattle.dp_client.specs.declared.client.Taken.{Taken}
 use Rattle.dp_session.specs.declared.event.Event.TheVariants as event

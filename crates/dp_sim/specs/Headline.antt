@@ -4,6 +4,7 @@ use Rattle.std.specs.List.{filter_map}
 use Rattle.dp_messages.specs.declared.message.Entry.{Entry}
 use Rattle.dp_plain.specs.Commands.{draw_all}
 use Rattle.dp_plain.specs.Replay.{replay}
+use Rattle.dp_messages.specs.Properties.{command_of}
 use Rattle.dp_client.specs.Client as client
 use Rattle.dp_acl.specs.Permitted.{permitted}
 use Rattle.dp_messages.specs.declared.message.Msg.{Msg}
@@ -27,7 +28,7 @@ pub record ShowsPrefix (s : State) (c : client.State) : Type 0 where
   pub taken : c.taken ≡ take count (history_of s c.epoch)
   pub confirmed : client.confirmed c ≡ replay (take count (history_of s c.epoch))
   pub view : client.view c
-      ≡ draw_all (replay (take count (history_of s c.epoch))) (filter_map client.command_of c.fork)
+      ≡ draw_all (replay (take count (history_of s c.epoch))) (filter_map command_of c.fork)
 
 -- with entries after them or without, two histories show the same canvas and permit the same
 pub record ChangesNothing (before after : List Entry) : Type 0 where

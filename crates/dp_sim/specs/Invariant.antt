@@ -4,7 +4,7 @@ use Rattle.std.specs.Prelude.{None, Some, List, [], ◌∷◌, length, take}
 use Rattle.std.specs.List.{AllByRecursion}
 use Rattle.dp_messages.specs.Messages.{kind_of}
 use Rattle.dp_messages.specs.declared.message.Entry.{Entry}
-use Rattle.dp_client.specs.Client.{marked}
+use Rattle.dp_messages.specs.Properties.{marked}
 use Rattle.dp_session.specs.Rows.{event_limit}
 use Rattle.dp_session.specs.State.{State, open_connection}
 use Rattle.dp_session.specs.Past.{state_of}

@@ -4,7 +4,6 @@ ghost use Rattle.std.specs.Prelude.{◌≡◌, ◌≤◌, ◌<◌, ◌+◌, ◌-
 ghost use Rattle.dp_msg_meta.specs.declared.message.Control.TheVariants.{Disconnect};
 ghost use Rattle.dp_messages.specs.declared.message.Msg.TheVariants as msg;
 ghost use Rattle.dp_messages.specs.Messages.{kind_of};
-ghost use Rattle.dp_messages.specs.Heard.{is_disconnect};
 ghost use Rattle.dp_client.specs.Client.{said, taken_of};
 ghost use Rattle.dp_session.specs.declared.event.Event.TheVariants as event;
 ghost use Rattle.dp_session.specs.Past.{sure_answer, sure_step};
@@ -72,13 +71,6 @@ impl Model for Participant {
       uplink = p.uplink.items;
       link = p.link;
     } };
-}
-
-/// Whether the message ends what a connection says.
-fn is_disconnect(msg: &Msg) -> bool
-    ensures { result ≡ is_disconnect msg.now }
-{
-    matches!(msg, Msg::Control(Control::Disconnect { .. }))
 }
 
 /// The session takes an event.
@@ -160,7 +152,7 @@ impl Participant {
         let Some(msg) = self.uplink.pop_front() else {
             return Ok(ReportLine::Empty);
         };
-        let ends = is_disconnect(&msg);
+        let ends = msg.is_disconnect();
         let conn = self.conn;
         let reply = serve(session, Event::Say { conn, msg })?;
         if ends {

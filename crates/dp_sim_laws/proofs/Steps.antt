@@ -8,9 +8,9 @@ use Rattle.std.proofs.lemmas.Bool.{cond_both, cases_eq, eq-eqb, ne_eqb}
 use Rattle.std.proofs.lemmas.List.Sums.{fold-append}
 use Rattle.dp_messages.specs.declared.message.Msg.{Msg}
 use Rattle.dp_messages.specs.declared.message.Entry.{Entry}
-use Rattle.dp_messages.specs.Heard.{is_disconnect}
+use Rattle.dp_messages.specs.Properties.{is_disconnect, marked}
 use Rattle.dp_client.specs.Client as client
-use Rattle.dp_client.specs.Client.{Step, Said, Took, marked, is_first_mark, after_step, after_steps}
+use Rattle.dp_client.specs.Client.{Step, Said, Took, is_first_mark, after_step, after_steps}
 use Rattle.dp_session.specs.declared.event.Event.TheVariants as event
 use Rattle.dp_session.specs.declared.event.Reply.{Reply}
 use Rattle.dp_session.specs.declared.event.Reply.TheVariants as reply

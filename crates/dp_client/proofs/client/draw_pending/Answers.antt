@@ -1,7 +1,7 @@
 use Rattle.std.proofs.Common.{◌≡◌, ℕ, suc, ◌+◌, ◌<◌, rules, arith, length, take, sym, subst}
 use Rattle.std.specs.List.{filter_map}
 use Rattle.dp_plain.specs.Commands.{draw_all}
-use Rattle.dp_client.specs.Client.{command_of}
+use Rattle.dp_messages.specs.Properties.{command_of}
 use Rattle.dp_client.proofs.Forks.{drawn_more}
 use Rattle.dp_client.proofs.client.draw_pending.Goals as goal
 

@@ -1,7 +1,7 @@
 use Rattle.std.proofs.Common.{◌≡◌, take}
 use Rattle.std.specs.List.{filter_map}
 use Rattle.dp_plain.specs.Commands.{draw_all}
-use Rattle.dp_client.specs.Client.{command_of}
+use Rattle.dp_messages.specs.Properties.{command_of}
 use Rattle.dp_client.proofs.client.draw_pending.Given as goal
 
 -- the messages before k are drawn

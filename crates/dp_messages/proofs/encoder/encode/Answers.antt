@@ -1,7 +1,6 @@
 use Rattle.std.proofs.Common.{◌≡◌, ◌∙◌, ℕ, List, ◌++◌, true, false, refl, sym, ap, length}
 use Rattle.std.proofs.Common.{length-append, arith, inl, inr}
 use Rattle.dp_frame.specs.Frames.{FrameParts}
-use Rattle.dp_messages.specs.declared.message.Msg.{Msg}
 use Rattle.dp_messages.specs.declared.message.Entry.{Entry}
 use Rattle.dp_messages.specs.Messages.{kind_of, payload_of, HasSpelling}
 use Rattle.dp_messages.specs.Decoded.{Carries}
@@ -24,15 +23,15 @@ carried frame entry kind body is k b spelled =
       };
     }
 
-pub returns-then-len-gt65535-clause-spelled : goal.returns-then-len-gt65535-clause-spelled
-returns-then-len-gt65535-clause-spelled c = λ spelled.
+pub returns-then-len-gt-PAYLOAD_LIMIT-clause-spelled : goal.returns-then-len-gt-PAYLOAD_LIMIT-clause-spelled
+returns-then-len-gt-PAYLOAD_LIMIT-clause-spelled c = λ spelled.
     let m = c.args.entry.now.msg in
     let short = c.one_message.ensures.short (kind_of m) (payload_of m) m
     (record { kind = refl; payload = refl; spelled = spelled }) in
     absurd (omega (
       arith,
       short,
-      ap length c.in_ok-write_payload.ensures,
+      ap length c.in_ok-put_payload.ensures.ok,
       ap length
           c.new-payload.ensures.items,
       length-append {A = ℕ},
@@ -41,7 +40,7 @@ returns-then-len-gt65535-clause-spelled c = λ spelled.
 pub returns-in-Ok-clause-spelled : goal.returns-in-Ok-clause-spelled
 returns-in-Ok-clause-spelled c = λ spelled.
     let m = c.args.entry.now.msg in
-    let written = c.from_vec.ensures ∙ c.in_ok-write_payload.ensures
+    let written = c.from_vec.ensures ∙ c.in_ok-put_payload.ensures.ok
     ∙ ap (λ (xs : List ℕ). xs ++ payload_of m) c.new-payload.ensures.items in
     let carries = carried c.new-frame.result c.args.entry.now c.kind.result c.from_vec.result
     c.new-frame.ensures c.kind.ensures written spelled in

@@ -1,4 +1,4 @@
-use Rattle.dp_messages.proofs.OneMessage.{PartLaws, one_message, short}
+use Rattle.dp_messages.proofs.OneMessage.{one_message, short}
 use Rattle.dp_messages.proofs.laws.one_message.Goals as goal
 
 pub returns-clause-message : goal.returns-clause-message

@@ -20,10 +20,10 @@ start_is entries start d within none mark =
     (arith, count, within) in
     ap (λ (n : ℕ). drop n entries) (sym at)
 
-pub returns-else-not-is_mark-clause-behind : goal.returns-else-not-is_mark-clause-behind
-returns-else-not-is_mark-clause-behind c =
-    let found : is_mark c.index-entries-start.result ≡ true = sym c.is_mark.ensures
-    ∙ c.if-not-is_mark.false in
+pub returns-else-not-is_reset_mark-clause-behind : goal.returns-else-not-is_reset_mark-clause-behind
+returns-else-not-is_reset_mark-clause-behind c =
+    let found : is_mark c.index-entries-start.result ≡ true = sym c.is_reset_mark.ensures
+    ∙ c.if-not-is_reset_mark.false in
     start_is c.args.entries.now c.loop-start.start c.index-entries-start.result
     c.loop-start.invariant.within
     (λ k from below. c.loop-start.invariant.none k _ from below)
