@@ -5,7 +5,7 @@ use Rattle.std.proofs.lemmas.List.{take_at, drop_at, take-append-drop, length-ta
 use Rattle.byteorder.specs.Endian.{big_number}
 use Rattle.dp_frame.specs.Frames.{FrameParts, IsFrame, spelling, HoldsNoFrame}
 
--- two joined lists are one, and so are their front parts of one length
+-- where two joined lists are equal and their first parts have one length, the parts are equal
 append_same : (fs gs xs ys : List ℕ) → length fs ≡ length gs → fs ++ xs ≡ gs ++ ys
     → (fs ≡ gs) × (xs ≡ ys)
 append_same fs gs xs ys lengths whole =
@@ -24,7 +24,7 @@ same_frame f g kinds users bodies =
     ∙ ap (λ (b : List ℕ). let r : FrameParts = record { kind = g.kind; user = g.user; body = b } in
     r) bodies
 
--- bytes begin with one frame at most
+-- bytes begin with at most one frame
 pub one_front : (f g : FrameParts) (xs ys : List ℕ) → IsFrame f → IsFrame g
     → spelling f ++ xs ≡ spelling g ++ ys → (f ≡ g) × (xs ≡ ys)
 one_front f g xs ys fits_f fits_g whole =
@@ -87,7 +87,7 @@ holds_frame (a ∷ b ∷ c ∷ d ∷ tail) small long enough none =
     let found = frame_in_front a b c d tail (small 0) (small 1) (omega arith) in
     none found.0 found.1 found.2 found.3
 
--- what is taken from the front is a frame, and the rest is after it
+-- what is taken first is a frame, and the rest is after it
 pub frame_and_rest : (held rest : List ℕ) (len : ℕ) (f : FrameParts) → take len held ≡ spelling f
     → rest ≡ drop len held → held ≡ spelling f ++ rest
 frame_and_rest held rest len f front back =

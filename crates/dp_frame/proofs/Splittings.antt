@@ -9,7 +9,7 @@ use Rattle.std.specs.List.{All, AllByRecursion, flat_map}
 use Rattle.dp_frame.specs.Frames.{FrameParts, IsFrame, spelling, HoldsNoFrame, Splits}
 use Rattle.dp_frame.proofs.Spellings.{one_front, no_frame_short, no_frame_partial, frame_in_front}
 
--- frames and a rest are told apart by their bytes
+-- the bytes of frames and a rest say which they are
 same_splitting : (fs gs : List FrameParts) (r s : List ℕ) → AllByRecursion IsFrame fs
     → AllByRecursion IsFrame gs → HoldsNoFrame r → HoldsNoFrame s
     → flat_map spelling fs ++ r ≡ flat_map spelling gs ++ s → (fs ≡ gs) × (r ≡ s)
@@ -48,7 +48,7 @@ first_of (a ∷ b ∷ c ∷ d ∷ tail) small =
       | inr enough ↦ inr (frame_in_front a b c d tail small.0 small.1.0 enough)
     ]
 
--- a frame in front of a splitting is one frame more
+-- a frame before a splitting is one frame more
 pub frame_before : (f : FrameParts) (bytes : List ℕ) (fs : List FrameParts) (rest : List ℕ)
     → IsFrame f → Splits bytes fs rest → Splits (spelling f ++ bytes) (f ∷ fs) rest
 frame_before f bytes fs rest fits p = record {
@@ -106,7 +106,7 @@ some_splitting bytes small =
     splitting_up_to (length bytes) bytes (omega arith) (recursion_from_All (λ b. b < 256) bytes
     small)
 
--- a frame in front is the first frame of a splitting
+-- a frame that begins the bytes is the first of their frames
 pub frame_behind : (f : FrameParts) (bytes : List ℕ) (gs : List FrameParts) (rest : List ℕ)
     → IsFrame f → Splits (spelling f ++ bytes) gs rest → (fs : List FrameParts) × (gs ≡ f ∷ fs)
     × Splits bytes fs rest

@@ -18,7 +18,7 @@ IsFrame f = length f.body < 2 ^ 16
 abbrev pub spelling : FrameParts → List ℕ
 spelling f = to_be_bytes w16 (length f.body) ++ f.kind ∷ f.user ∷ f.body
 
--- no front of the bytes spells a frame
+-- no prefix of the bytes spells a frame
 abbrev pub HoldsNoFrame : List ℕ → Type 0
 HoldsNoFrame bytes = (f : FrameParts) (more : List ℕ) → IsFrame f → bytes ≡ spelling f ++ more → ⊥
 
@@ -28,8 +28,8 @@ pub record Splits (bytes : List ℕ) (frames : List FrameParts) (rest : List ℕ
   pub each : AllByRecursion IsFrame frames
   pub partial : HoldsNoFrame rest
 
--- a header stands in front of the bytes, and it has this many bytes together with the payload that
--- it announces, all of them there
+-- the bytes begin with a header, which has this many bytes together with the payload that it
+-- announces, all of them there
 pub record IsFrameLength (bytes : List ℕ) (len : ℕ) : Type 0 where
   pub header : 4 ≤ len
   pub present : len ≤ length bytes

@@ -38,7 +38,7 @@ impl Frame {
         Frame { kind, user, body }
     }
 
-    /// The type byte, which tells the kind of the message.
+    /// The type byte, the kind of the message.
     pub fn kind(&self) -> u8
         ensures value { result ≡ self.now.kind }
         ensures fits { IsFrame self.now }
@@ -63,8 +63,11 @@ impl Frame {
     }
 }
 
-/// Adds the bytes of the frame at the end: four of the header, and the payload. An error, want of
-/// memory, changes nothing.
+/// Adds the bytes of the frame at the end: four of the header, and the payload.
+///
+/// # Errors
+///
+/// Where memory runs out. `out` is then as it was.
 pub fn write_frame(frame: &Frame, out: &mut Octets) -> Result<(), AllocError>
     ensures ok { OnOk result (out.new ≡ out.old ++ spelling frame.now) }
     ensures err { OnErr result (out.new ≡ out.old) }

@@ -27,16 +27,17 @@ pub fn every_splitting()
         → (frames : List FrameParts) × (rest : List ℕ) × Splits bytes frames rest }
 {}
 
-/// Bytes that hold no frame are no frames and themselves as the rest.
+/// Bytes that hold no frame are their own rest.
 pub fn no_frames()
     ensures { (bytes : List ℕ) → HoldsNoFrame bytes → Splits bytes [] bytes }
 {}
 
-/// A frame stands in front of bytes exactly where it is the first of the frames: the bytes after
-/// it have the other frames and the same rest.
+/// A frame begins the bytes exactly where it is the first of their frames: the bytes after it have
+/// the other frames and the same rest.
 pub fn first_frame()
     ensures put { (f : FrameParts) (bytes : List ℕ) (frames : List FrameParts) (rest : List ℕ)
-        → IsFrame f → Splits bytes frames rest → Splits (spelling f ++ bytes) (f ∷ frames) rest }
+        → IsFrame f → Splits bytes frames rest
+        → Splits (spelling f ++ bytes) (f ∷ frames) rest }
     ensures taken { (f : FrameParts) (bytes : List ℕ) (frames : List FrameParts) (rest : List ℕ)
         → IsFrame f → Splits (spelling f ++ bytes) frames rest
         → (others : List FrameParts) × (frames ≡ f ∷ others) × Splits bytes others rest }

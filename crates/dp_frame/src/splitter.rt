@@ -1,4 +1,6 @@
 //! Bytes that come in pieces, taken as frames.
+//!
+//! The rule: docs/protocol.md, "Frames".
 
 ghost use Rattle.std.specs.Prelude.{◌≡◌, ◌+◌, ◌<◌, ◌^◌, ◌++◌, [], length};
 ghost use Rattle.std.specs.Prelude.{IfSome, IfNone, OnSome, IfOk, OnOk, OnErr};
@@ -13,9 +15,7 @@ use std::marker::Model;
 /// The bytes of a header: the length in two, the type byte and the context byte.
 const HEADER_LEN: usize = 4;
 
-/// Bytes that come in pieces, given back as frames, in whatever pieces they came.
-///
-/// The rule: docs/protocol.md, "Frames".
+/// Bytes that come in pieces, given back as frames.
 #[derive(Drop, Debug)]
 pub struct Splitter {
     buffer: BytesMut,
@@ -45,7 +45,11 @@ impl Splitter {
         }
     }
 
-    /// Adds the bytes after those that are held. After an error nothing has changed.
+    /// Adds the bytes after those that are held.
+    ///
+    /// # Errors
+    ///
+    /// Where memory runs out. Nothing has changed then.
     pub fn feed(&mut self, bytes: &[u8]) -> Result<(), AllocError>
         requires { self.old.at + length self.old.held + length bytes.now < 2 ^ 64 }
         ensures ok { OnOk result (self.new.held ≡ self.old.held ++ bytes.now) }
@@ -55,9 +59,13 @@ impl Splitter {
         self.buffer.extend_from_slice(bytes)
     }
 
-    /// Takes the first frame, if a whole one is held. After an error nothing has changed.
+    /// Takes the first frame, if a whole one is held.
+    ///
+    /// # Errors
+    ///
+    /// Where memory runs out. Nothing has changed then.
     pub fn take_frame(&mut self) -> Result<Option<Frame>, AllocError>
-        // The frame is the prefix of what was held, and the rest is kept.
+        // What was held begins with the frame, and the rest is kept.
         ensures front { IfOk result (λ taken. IfSome taken
             (λ f. self.old.held ≡ spelling f ++ self.new.held)) }
         ensures fits { IfOk result (λ taken. IfSome taken IsFrame) }
@@ -102,7 +110,7 @@ impl Splitter {
     }
 }
 
-/// How many bytes the frame has that stands in front, header and payload, if it is whole.
+/// How many bytes the first frame has, header and payload, if it is whole.
 fn whole_len(bytes: &[u8]) -> Option<usize>
     ensures whole { IfSome result (λ len. IsFrameLength bytes.now len) }
     ensures some { OnSome result (¬ HoldsNoFrame bytes.now) }

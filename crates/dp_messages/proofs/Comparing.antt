@@ -1,4 +1,4 @@
--- The test of two messages tells exactly whether they are equal.
+-- The test of two messages says exactly whether they are equal.
 use Rattle.std.proofs.Common.{◌≡◌, ℕ, Bool, true, List, refl, ap, subst, ◌∙◌}
 use Rattle.std.specs.Prelude.{◌↔◌, bytes_eq}
 use Rattle.std.specs.Bool.{Decides, ◌==◌, beq}
@@ -49,8 +49,8 @@ message_is t (msg.Opaque kind body) (msg.Opaque kind' body') e =
     ∙ ap (λ (b : List ℕ). msg.Opaque kind' b) ((bytes_eq-Decides body body').0 both.1)
 message_is t m n e = absurd (false≢true e)
 
-pub same_message_told : PartTests → (m n : Msg) → Decides (same_message m n) (m ≡ n)
-same_message_told t m n = (
+pub same_message_decides : PartTests → (m n : Msg) → Decides (same_message m n) (m ≡ n)
+same_message_decides t m n = (
   message_is t m n,
   λ e. subst (λ (k : Msg). same_message m k ≡ true) e
       (message_again t m),

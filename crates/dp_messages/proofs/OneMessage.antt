@@ -4,7 +4,7 @@ use Rattle.std.proofs.Common.{false, refl, sym, ◌∙◌, ap, subst, arith, len
 use Rattle.std.specs.Prelude.{MatchBool}
 use Rattle.dp_frame.specs.Frames.{FrameParts, Splits}
 use Rattle.dp_msg_draw.specs.declared.draw.Draw.{Draw}
-use Rattle.dp_msg_draw.specs.Fields.{one_byte, flag_byte}
+use Rattle.dp_fields.specs.Fields.{one_byte, flag_byte}
 use Rattle.dp_msg_draw.specs.Payloads.{draw_kind, draw_payload, SpellsDraw}
 use Rattle.dp_msg_meta.specs.declared.message.Control.{Control}
 use Rattle.dp_msg_meta.specs.declared.message.Meta.{Meta}

@@ -4,7 +4,7 @@ use Rattle.dp_frame.specs.Frames.{FrameParts, spelling}
 use Rattle.dp_messages.specs.declared.message.Entry.{Entry}
 use Rattle.dp_messages.specs.declared.message.Msg.{Msg}
 use Rattle.dp_messages.specs.declared.message.Msg.TheVariants as msg
-use Rattle.dp_msg_draw.specs.Fields.{one_byte, flag_byte}
+use Rattle.dp_fields.specs.Fields.{one_byte, flag_byte}
 use Rattle.dp_msg_draw.specs.Limits.{IsDrawKind}
 use Rattle.dp_msg_draw.specs.Payloads.{draw_kind, draw_payload, DrawHasSpelling}
 use Rattle.dp_msg_meta.specs.Payloads.{control_kind, control_payload, ControlHasSpelling}

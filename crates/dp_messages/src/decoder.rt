@@ -13,8 +13,9 @@ ghost use Rattle.dp_messages.specs.Decoded.{Carries, IsRefused, Answers};
 
 use crate::laws::{one_answer, one_message};
 use crate::{Entry, Msg};
+use dp_fields::PayloadError;
 use dp_frame::{Frame, Octets};
-use dp_msg_draw::{Draw, PayloadError, is_listed, one_draw, read_draw};
+use dp_msg_draw::{is_listed, one_draw, read_draw};
 use dp_msg_meta::{is_control_kind, is_meta_kind, read_control, read_meta};
 use std::alloc::Global;
 use thiserror::Error;
@@ -113,37 +114,36 @@ fn read_by_kind(alloc: Global, kind: u8, payload: &[u8]) -> Result<Msg, DecodeEr
     }
 }
 
+/// What a reader's answer to a payload of this kind says, with the message made by this variant.
+macro_rules! answer_of {
+    ($read:expr, $kind:expr, $variant:ident) => {
+        match $read {
+            Ok(fields) => Ok(Msg::$variant(fields)),
+            Err(PayloadError::Malformed) => Err(DecodeError::Malformed($kind)),
+            Err(PayloadError::Memory) => Err(DecodeError::Memory),
+        }
+    };
+}
+
 fn read_control_msg(alloc: Global, kind: u8, payload: &[u8]) -> Result<Msg, DecodeError>
     requires { IsControlKind kind }
     ensures { Answers kind payload.now result }
 {
-    match read_control(alloc, kind, payload) {
-        Ok(control) => Ok(Msg::Control(control)),
-        Err(dp_msg_meta::PayloadError::Malformed) => Err(DecodeError::Malformed(kind)),
-        Err(dp_msg_meta::PayloadError::Memory) => Err(DecodeError::Memory),
-    }
+    answer_of!(read_control(alloc, kind, payload), kind, Control)
 }
 
 fn read_meta_msg(alloc: Global, kind: u8, payload: &[u8]) -> Result<Msg, DecodeError>
     requires { IsMetaKind kind }
     ensures { Answers kind payload.now result }
 {
-    match read_meta(alloc, kind, payload) {
-        Ok(meta) => Ok(Msg::Meta(meta)),
-        Err(dp_msg_meta::PayloadError::Malformed) => Err(DecodeError::Malformed(kind)),
-        Err(dp_msg_meta::PayloadError::Memory) => Err(DecodeError::Memory),
-    }
+    answer_of!(read_meta(alloc, kind, payload), kind, Meta)
 }
 
 fn read_command(alloc: Global, kind: u8, payload: &[u8]) -> Result<Msg, DecodeError>
     requires { IsDrawKind kind }
     ensures { Answers kind payload.now result }
 {
-    match read_draw(alloc, kind, payload) {
-        Ok(command) => Ok(Msg::Draw(command)),
-        Err(PayloadError::Malformed) => Err(DecodeError::Malformed(kind)),
-        Err(PayloadError::Memory) => Err(DecodeError::Memory),
-    }
+    answer_of!(read_draw(alloc, kind, payload), kind, Draw)
 }
 
 /// A part of a reset: the kind of a command, and then its payload.
@@ -153,11 +153,7 @@ fn read_part(alloc: Global, payload: &[u8]) -> Result<Msg, DecodeError>
     one_draw();
     match payload {
         [kind, rest @ ..] if is_listed(*kind) && rest.len() < PAYLOAD_LIMIT => {
-            match read_draw(alloc, *kind, rest) {
-                Ok(command) => Ok(Msg::Part(command)),
-                Err(PayloadError::Malformed) => Err(DecodeError::Malformed(PART_KIND)),
-                Err(PayloadError::Memory) => Err(DecodeError::Memory),
-            }
+            answer_of!(read_draw(alloc, *kind, rest), PART_KIND, Part)
         }
         _ => Err(DecodeError::Malformed(PART_KIND)),
     }

@@ -3,7 +3,7 @@
 //! The rule: docs/protocol.md, "Messages".
 
 ghost use Rattle.std.specs.Prelude.{◌≡◌, ◌++◌, IfOk, OnOk, OnErr};
-ghost use Rattle.dp_msg_draw.specs.Fields.{one_byte};
+ghost use Rattle.dp_fields.specs.Fields.{one_byte};
 ghost use Rattle.dp_msg_draw.specs.Payloads.{draw_kind, draw_payload};
 ghost use Rattle.dp_messages.specs.declared.message.Entry.{Entry as Item};
 ghost use Rattle.dp_messages.specs.Messages.{HasSpelling, payload_of, entry_bytes};

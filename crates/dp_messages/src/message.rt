@@ -8,6 +8,7 @@ ghost use Rattle.dp_messages.specs.Messages.{kind_of};
 ghost use Rattle.dp_messages.specs.Properties.{is_disconnect, is_reset_mark, marked, carried_by};
 ghost use Rattle.dp_messages.specs.Properties.{is_filtered, command_of};
 
+use crate::decoder::{PART_KIND, POINT_KIND, UNDO_KIND};
 use dp_frame::Octets;
 use dp_msg_draw::{Draw, kind_of_draw};
 use dp_msg_meta::{Control, Meta, kind_of_control, kind_of_meta};
@@ -50,9 +51,9 @@ impl Msg {
         match self {
             Msg::Control(control) => kind_of_control(control),
             Msg::Meta(meta) => kind_of_meta(meta),
-            Msg::Part(_) => 6,
-            Msg::Point => 128,
-            Msg::Undo { .. } => 255,
+            Msg::Part(_) => PART_KIND,
+            Msg::Point => POINT_KIND,
+            Msg::Undo { .. } => UNDO_KIND,
             Msg::Draw(command) => kind_of_draw(command),
             Msg::Opaque { kind, .. } => *kind,
         }

@@ -24,8 +24,7 @@ fn frame_of(rt: &impl Abort, alloc: Global, kind: u8, payload: &[u8]) -> Result<
 }
 
 /// What reading the payload answers. What is read is written back with this type and these bytes,
-/// and so is
-/// its copy, which is the same.
+/// and so is its copy, which is equal.
 fn answer_to(rt: &impl Abort, alloc: Global, kind: u8, payload: &[u8]) -> Result<Answer, Fail> {
     let frame = frame_of(rt, alloc, kind, payload)?;
     let (answer, refused) = match decode(alloc, &frame) {
@@ -170,8 +169,8 @@ fn messages_without_a_spelling(rt: HostRuntime) -> Result<(), Fail> {
     });
     for msg in [chat, long, mode] {
         let frame = encode(alloc, &Entry { user: 7, msg })?;
-        assert_eq!(rt; (frame.kind(), frame.user(), frame.body().len()), (8, 7, 0));
-        assert_eq!(rt; decode(alloc, &frame).err(), Some(DecodeError::Unknown(8)));
+        assert_eq!(rt; (frame.kind(), frame.user(), frame.body().len()), (9, 7, 0));
+        assert_eq!(rt; decode(alloc, &frame).err(), Some(DecodeError::Unknown(9)));
     }
     Ok(())
 }

@@ -1,13 +1,12 @@
 -- The parts that a message of each kind is made of: no other message has the kind, and the parts'
 -- bytes are its payload.
-use Rattle.std.proofs.Common.{◌≡◌, ℕ, ◌==◌, ◌*◌, ◌^◌, ◌<◌, ◌≤◌, Bool, true, false, List, ◌∷◌, ◌++◌}
+use Rattle.std.proofs.Common.{◌≡◌, ℕ, ◌==◌, ◌*◌, ◌^◌, ◌<◌, ◌≤◌, false, List, ◌∷◌, ◌++◌}
 use Rattle.std.proofs.Common.{length, drop, All, refl, sym, ap, subst, ◌∙◌, arith, Result, Ok, Err}
 use Rattle.std.proofs.Common.{◌⊎◌, inl, inr}
 use Rattle.std.proofs.lemmas.Bool.{false≢true, eq-eqb}
 use Rattle.std.specs.List.{flat_map}
-use Rattle.dp_msg_draw.specs.declared.error.PayloadError.{PayloadError}
-use Rattle.dp_msg_draw.specs.declared.error.PayloadError.TheVariants.{Malformed, Memory}
-use Rattle.dp_msg_draw.specs.declared.lists.Dab.{Dab}
+use Rattle.dp_fields.specs.declared.error.PayloadError.{PayloadError}
+use Rattle.dp_fields.specs.declared.error.PayloadError.TheVariants.{Malformed, Memory}
 use Rattle.dp_msg_draw.specs.declared.lists.TilePixel.{TilePixel}
 use Rattle.dp_msg_draw.specs.declared.draw.TileContent.{TileContent}
 use Rattle.dp_msg_draw.specs.declared.draw.TileContent.TheVariants.{Solid, Pixels}
@@ -17,18 +16,20 @@ use Rattle.dp_msg_draw.specs.declared.draw.Draw.TheVariants.{LayerTitle, LayerMo
 use Rattle.dp_msg_draw.specs.declared.draw.Draw.TheVariants.{PutImage, FillRect, PutTile}
 use Rattle.dp_msg_draw.specs.declared.draw.Draw.TheVariants.{Background, DabsRound, DabsSquare}
 use Rattle.dp_msg_draw.specs.declared.draw.Draw.TheVariants.{MoveRect}
-use Rattle.dp_msg_draw.specs.declared.part.Mode.{Mode}
+use Rattle.dp_msg_draw.specs.declared.mode.Mode.{Mode}
 use Rattle.dp_msg_draw.specs.declared.tails.Image.{Image}
-use Rattle.dp_msg_draw.specs.Fields.{two_bytes, four_bytes, four_signed}
+use Rattle.dp_fields.specs.Fields.{four_bytes}
 use Rattle.dp_msg_draw.specs.Limits.{IsTitle}
 use Rattle.dp_msg_draw.specs.Payloads.{draw_kind, draw_payload, DrawHasSpelling, SpellsDraw}
-use Rattle.dp_msg_draw.specs.Payloads.{dab_bytes, IsDab, AreDabs, pixel_bytes, IsPixel, IsTile}
+use Rattle.dp_msg_draw.specs.Payloads.{dab_bytes, AreDabs, pixel_bytes, IsTile}
 use Rattle.dp_msg_draw.specs.Payloads.{content_bytes, IsContent, IsImage}
-use Rattle.dp_msg_draw.specs.Parts.{IsPart, byte_part, two_part, four_part, signed_part, flag_part}
-use Rattle.dp_msg_draw.specs.Parts.{mode_part, pair_part, dab_part, pixel_part}
-use Rattle.dp_msg_draw.specs.Reading.{Answers, Begins, Spells}
-use Rattle.dp_msg_draw.proofs.Takes.{IsWhole, whole, both, whole_if, same_error}
-use Rattle.dp_msg_draw.proofs.Sequences.{items, length_of_colors, length_of_dabs, length_of_pixels}
+use Rattle.dp_fields.specs.FieldLaws.{byte_field, two_field, four_field, signed_field}
+use Rattle.dp_fields.specs.FieldLaws.{flag_field, pair_field}
+use Rattle.dp_msg_draw.specs.FieldLaws.{mode_field, dab_field, pixel_field}
+use Rattle.dp_fields.specs.Reading.{Answers, Begins, Spells}
+use Rattle.dp_fields.specs.Wholes.{IsWhole, whole, both, whole_if, same_error}
+use Rattle.dp_fields.specs.Sequences.{items}
+use Rattle.dp_msg_draw.proofs.Lengths.{length_of_colors, length_of_dabs, length_of_pixels}
 
 -- A message of this kind that has a spelling is made of valid parts, whose bytes are its payload.
 pub record Form (kind : ℕ) {X : Type 0} {spelling : X → List ℕ} {valid : X → Type 0}
@@ -83,7 +84,7 @@ pub title_whole : IsWhole (λ (title : List ℕ). title) IsTitle
 title_whole = record { one = λ x y v w e. e }
 
 pub dabs_whole : IsWhole (flat_map dab_bytes) AreDabs
-dabs_whole = whole_if (items dab_part (λ x. omega arith)) (λ dabs are. are.0)
+dabs_whole = whole_if (items dab_field (λ x. omega arith)) (λ dabs are. are.0)
 
 abbrev made_image : ℕ → ℕ → List ℕ → Image
 made_image w h colors = record { w = w; h = h; colors = colors }
@@ -95,7 +96,7 @@ one_image : (x y : Image) → IsWholeImage x → IsWholeImage y
     → four_bytes x.w ++ four_bytes x.h ++ flat_map four_bytes x.colors
     ≡ four_bytes y.w ++ four_bytes y.h ++ flat_map four_bytes y.colors → x ≡ y
 one_image x y v w e =
-    let colors = both (pair_part four_part four_part) (items four_part (λ c. omega arith)) in
+    let colors = both (pair_field four_field four_field) (items four_field (λ c. omega arith)) in
     let parts = colors.one ((x.w, x.h), x.colors) ((y.w, y.h), y.colors) ((v.0, v.1), v.2.0)
     ((w.0, w.1), w.2.0) e in
     ap (λ (p : (ℕ × ℕ) × List ℕ). made_image p.0.0 p.0.1 p.1) parts
@@ -116,13 +117,13 @@ image_fails w h area {bytes = bytes} {rest = rest} b some_w some_h is most =
     same_error _ _
     (λ i s.
     let v = s.is_valid in
-    let front = (pair_part four_part four_part).one (w, h) (i.w, i.h) rest
+    let sides = (pair_field four_field four_field).one (w, h) (i.w, i.h) rest
     (flat_map four_bytes i.colors) b.is_valid (v.0, v.1) (sym b.bytes_are ∙ s.bytes_are) in
-    let ws : w ≡ i.w = ap (λ (p : ℕ × ℕ). p.0) front.0 in
-    let hs : h ≡ i.h = ap (λ (p : ℕ × ℕ). p.1) front.0 in
+    let ws : w ≡ i.w = ap (λ (p : ℕ × ℕ). p.0) sides.0 in
+    let hs : h ≡ i.h = ap (λ (p : ℕ × ℕ). p.1) sides.0 in
     let count : length i.colors ≡ area = v.2.3 ∙ ap (λ (n : ℕ). n * i.h) (sym ws)
     ∙ ap (λ (n : ℕ). w * n) (sym hs) ∙ sym is in
-    (i.colors, record { bytes_are = front.1; is_valid = (v.2.0, omega arith, omega arith) }))
+    (i.colors, record { bytes_are = sides.1; is_valid = (v.2.0, omega arith, omega arith) }))
     (λ colors s.
     let v = s.is_valid in
     let count : length colors ≡ area = omega arith in (
@@ -137,10 +138,10 @@ image_fails w h area {bytes = bytes} {rest = rest} b some_w some_h is most =
 
 one_content : (x y : TileContent) → IsContent x → IsContent y → content_bytes x ≡ content_bytes y
     → x ≡ y
-one_content (Solid p) (Solid q) v w e = ap Solid ((whole pixel_part).one p q v w (cc))
+one_content (Solid p) (Solid q) v w e = ap Solid ((whole pixel_field).one p q v w (cc))
 one_content (Solid p) (Pixels qs) v w e = absurd (cc)
 one_content (Pixels ps) (Solid q) v w e = absurd (cc)
-one_content (Pixels ps) (Pixels qs) v w e = ap Pixels ((items pixel_part (λ p. omega arith)).one ps
+one_content (Pixels ps) (Pixels qs) v w e = ap Pixels ((items pixel_field (λ p. omega arith)).one ps
     qs v.0 w.0 (cc))
 
 pub content_whole : IsWhole content_bytes IsContent
@@ -178,8 +179,8 @@ content_fails e = same_error _ _ (content_back e) (λ pixels s. (
 abbrev mode_of : ℕ → Mode
 mode_of n = record { 0 = n }
 
-pub canvas_resize : Form 129 (whole (pair_part (pair_part signed_part signed_part)
-    (pair_part signed_part signed_part))) (λ x. CanvasResize x.0.0 x.0.1 x.1.0 x.1.1)
+pub canvas_resize : Form 129 (whole (pair_field (pair_field signed_field signed_field)
+    (pair_field signed_field signed_field))) (λ x. CanvasResize x.0.0 x.0.1 x.1.0 x.1.1)
 canvas_resize = record {
   of = elim [
     | CanvasResize top right bottom left ↦ λ e h.
@@ -188,7 +189,7 @@ canvas_resize = record {
   ];
 }
 
-pub layer_create : Form 130 (both (pair_part two_part (pair_part two_part flag_part)) title_whole)
+pub layer_create : Form 130 (both (pair_field two_field (pair_field two_field flag_field)) title_whole)
     (λ x. LayerCreate x.0.0 x.0.1.0 x.0.1.1 x.1)
 layer_create = record {
   of = elim [
@@ -198,8 +199,8 @@ layer_create = record {
   ];
 }
 
-pub layer_attr : Form 131 (whole (pair_part (pair_part two_part byte_part)
-    (pair_part mode_part flag_part))) (λ x. LayerAttr x.0.0 x.0.1 x.1.0.0 x.1.1)
+pub layer_attr : Form 131 (whole (pair_field (pair_field two_field byte_field)
+    (pair_field mode_field flag_field))) (λ x. LayerAttr x.0.0 x.0.1 x.1.0.0 x.1.1)
 layer_attr = record {
   of = elim [
     | LayerAttr id opacity mode hidden ↦ λ e h.
@@ -209,7 +210,7 @@ layer_attr = record {
   ];
 }
 
-pub layer_title : Form 132 (both two_part title_whole) (λ x. LayerTitle x.0 x.1)
+pub layer_title : Form 132 (both two_field title_whole) (λ x. LayerTitle x.0 x.1)
 layer_title = record {
   of = elim [
     | LayerTitle id title ↦ λ e h.
@@ -218,7 +219,7 @@ layer_title = record {
   ];
 }
 
-pub layer_move : Form 133 (whole (pair_part two_part (pair_part two_part two_part)))
+pub layer_move : Form 133 (whole (pair_field two_field (pair_field two_field two_field)))
     (λ x. LayerMove x.0 x.1.0 x.1.1)
 layer_move = record {
   of = elim [
@@ -228,7 +229,7 @@ layer_move = record {
   ];
 }
 
-pub layer_delete : Form 134 (whole two_part) (λ x. LayerDelete x)
+pub layer_delete : Form 134 (whole two_field) (λ x. LayerDelete x)
 layer_delete = record {
   of = elim [
     | LayerDelete id ↦ λ e h. (id, refl, refl, h)
@@ -237,8 +238,8 @@ layer_delete = record {
   ];
 }
 
-pub put_image : Form 136 (both (pair_part (pair_part two_part mode_part)
-    (pair_part four_part four_part)) image_whole) (λ x. PutImage x.0.0.0 x.0.0.1.0 x.0.1.0 x.0.1.1
+pub put_image : Form 136 (both (pair_field (pair_field two_field mode_field)
+    (pair_field four_field four_field)) image_whole) (λ x. PutImage x.0.0.0 x.0.0.1.0 x.0.1.0 x.0.1.1
     x.1.w x.1.h x.1.colors)
 put_image = record {
   of = elim [
@@ -252,9 +253,9 @@ put_image = record {
   ];
 }
 
-pub fill_rect : Form 137 (whole (pair_part (pair_part two_part mode_part)
-    (pair_part (pair_part (pair_part four_part four_part) (pair_part four_part four_part))
-    four_part))) (λ x. FillRect x.0.0 x.0.1.0 x.1.0.0.0 x.1.0.0.1 x.1.0.1.0 x.1.0.1.1 x.1.1)
+pub fill_rect : Form 137 (whole (pair_field (pair_field two_field mode_field)
+    (pair_field (pair_field (pair_field four_field four_field) (pair_field four_field four_field))
+    four_field))) (λ x. FillRect x.0.0 x.0.1.0 x.1.0.0.0 x.1.0.0.1 x.1.0.1.0 x.1.0.1.1 x.1.1)
 fill_rect = record {
   of = elim [
     | FillRect layer mode x y w h' color ↦ λ e h. (
@@ -267,8 +268,8 @@ fill_rect = record {
   ];
 }
 
-pub put_tile : Form 146 (both (pair_part (pair_part two_part (pair_part two_part two_part))
-    two_part) content_whole) (λ x. PutTile x.0.0.0 x.0.0.1.0 x.0.0.1.1 x.0.1 x.1)
+pub put_tile : Form 146 (both (pair_field (pair_field two_field (pair_field two_field two_field))
+    two_field) content_whole) (λ x. PutTile x.0.0.0 x.0.0.1.0 x.0.0.1.1 x.0.1 x.1)
 put_tile = record {
   of = elim [
     | PutTile layer col row repeat content ↦ λ e h.
@@ -278,7 +279,7 @@ put_tile = record {
   ];
 }
 
-pub background : Form 147 (whole four_part) (λ x. Background x)
+pub background : Form 147 (whole four_field) (λ x. Background x)
 background = record {
   of = elim [
     | Background color ↦ λ e h. (color, refl, refl, h)
@@ -287,8 +288,8 @@ background = record {
   ];
 }
 
-pub dabs_round : Form 149 (both (pair_part (pair_part two_part (pair_part signed_part signed_part))
-    (pair_part (pair_part byte_part (pair_part byte_part byte_part)) mode_part)) dabs_whole)
+pub dabs_round : Form 149 (both (pair_field (pair_field two_field (pair_field signed_field signed_field))
+    (pair_field (pair_field byte_field (pair_field byte_field byte_field)) mode_field)) dabs_whole)
     (λ x. DabsRound x.0.0.0 x.0.0.1.0 x.0.0.1.1 x.0.1.0.0 x.0.1.0.1.0 x.0.1.0.1.1 x.0.1.1.0 x.1)
 dabs_round = record {
   of = elim [
@@ -302,8 +303,8 @@ dabs_round = record {
   ];
 }
 
-pub dabs_square : Form 150 (both (pair_part (pair_part two_part (pair_part signed_part signed_part))
-    (pair_part (pair_part byte_part (pair_part byte_part byte_part)) mode_part)) dabs_whole)
+pub dabs_square : Form 150 (both (pair_field (pair_field two_field (pair_field signed_field signed_field))
+    (pair_field (pair_field byte_field (pair_field byte_field byte_field)) mode_field)) dabs_whole)
     (λ x. DabsSquare x.0.0.0 x.0.0.1.0 x.0.0.1.1 x.0.1.0.0 x.0.1.0.1.0 x.0.1.0.1.1 x.0.1.1.0 x.1)
 dabs_square = record {
   of = elim [
@@ -317,9 +318,9 @@ dabs_square = record {
   ];
 }
 
-pub move_rect : Form 152 (whole (pair_part two_part (pair_part
-    (pair_part (pair_part four_part four_part) (pair_part four_part four_part))
-    (pair_part signed_part signed_part)))) (λ x. MoveRect x.0 x.1.0.0.0 x.1.0.0.1 x.1.0.1.0
+pub move_rect : Form 152 (whole (pair_field two_field (pair_field
+    (pair_field (pair_field four_field four_field) (pair_field four_field four_field))
+    (pair_field signed_field signed_field)))) (λ x. MoveRect x.0 x.1.0.0.0 x.1.0.0.1 x.1.0.1.0
     x.1.0.1.1 x.1.1.0 x.1.1.1)
 move_rect = record {
   of = elim [

@@ -1,5 +1,4 @@
-mod Takes
-mod Sequences
+mod Lengths
 mod Pixels
 mod Forms
 mod Comparing

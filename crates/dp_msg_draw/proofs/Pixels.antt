@@ -1,6 +1,6 @@
 -- Pixels are all equal where the bytes after the first one are a prefix of all the bytes.
 use Rattle.std.proofs.Common.{◌≡◌, ℕ, ◌*◌, ◌-◌, ◌≤◌, Bool, true, false, List, [], ◌∷◌, ◌++◌, length}
-use Rattle.std.proofs.Common.{drop, take, refl, sym, ap, subst, ◌∙◌, append_assoc, arith, All}
+use Rattle.std.proofs.Common.{drop, take, refl, sym, ap, subst, ◌∙◌, arith, All}
 use Rattle.std.proofs.Common.{nat_eq}
 use Rattle.std.specs.List.{flat_map}
 use Rattle.std.specs.Cmp.Lexicographic.{pointwise}
@@ -11,15 +11,15 @@ use Rattle.std.proofs.lemmas.List.Elements.{All-nil, All-cons, All-head, All-tai
 use Rattle.std.proofs.lemmas.Slice.Eq.{starts_is}
 use Rattle.dp_msg_draw.specs.declared.lists.TilePixel.{TilePixel}
 use Rattle.dp_msg_draw.specs.Payloads.{pixel_bytes, IsPixel, AreAllEqual, IsTile}
-use Rattle.dp_msg_draw.specs.Parts.{pixel_part}
-use Rattle.dp_msg_draw.specs.Reading.{Spells}
-use Rattle.dp_msg_draw.proofs.Sequences.{length_of_pixels}
+use Rattle.dp_msg_draw.specs.FieldLaws.{pixel_field}
+use Rattle.dp_fields.specs.Reading.{Spells}
+use Rattle.dp_msg_draw.proofs.Lengths.{length_of_pixels}
 
 equal_if_repeats : (p : TilePixel) (ps : List TilePixel) (t : List ℕ) → IsPixel p → All IsPixel ps
     → pixel_bytes p ++ flat_map pixel_bytes ps ≡ flat_map pixel_bytes ps ++ t → All (λ q. q ≡ p) ps
 equal_if_repeats p [] t v w e = All-nil (λ (q : TilePixel). q ≡ p)
 equal_if_repeats p (q ∷ qs) t v w e =
-    let first = pixel_part.one p q (flat_map pixel_bytes (q ∷ qs)) (flat_map pixel_bytes qs ++ t) v
+    let first = pixel_field.one p q (flat_map pixel_bytes (q ∷ qs)) (flat_map pixel_bytes qs ++ t) v
     (All-head IsPixel q qs w) e in
     let others = equal_if_repeats q qs t (All-head IsPixel q qs w) (All-tail IsPixel q qs w) first.1
     in
@@ -39,15 +39,15 @@ repeats_if_equal p (q ∷ qs) all =
     )
 
 -- whether the bytes after the first pixel are a prefix of all the bytes
-abbrev behind : List ℕ → List ℕ
-behind bytes = take (length bytes - 8) (drop 8 bytes)
+abbrev after_first : List ℕ → List ℕ
+after_first bytes = take (length bytes - 8) (drop 8 bytes)
 
 abbrev pub repeats : List ℕ → Bool
-repeats bytes = pointwise nat_eq (behind bytes) (take (length (behind bytes)) bytes)
+repeats bytes = pointwise nat_eq (after_first bytes) (take (length (after_first bytes)) bytes)
 
-behind_is : {bytes : List ℕ} (p : TilePixel) (ps : List TilePixel)
-    → bytes ≡ pixel_bytes p ++ flat_map pixel_bytes ps → behind bytes ≡ flat_map pixel_bytes ps
-behind_is {bytes = bytes} p ps e = take_rest bytes 8 ∙ ap (drop 8) e
+after_first_is : {bytes : List ℕ} (p : TilePixel) (ps : List TilePixel)
+    → bytes ≡ pixel_bytes p ++ flat_map pixel_bytes ps → after_first bytes ≡ flat_map pixel_bytes ps
+after_first_is {bytes = bytes} p ps e = take_rest bytes 8 ∙ ap (drop 8) e
 
 abbrev pub ArePixels : ℕ → List TilePixel → Type 0
 ArePixels n pixels = All IsPixel pixels × (n ≤ length pixels) × (length pixels ≤ n)
@@ -61,11 +61,11 @@ pub all_equal : {bytes : List ℕ} (pixels : List TilePixel)
     → AreAllEqual pixels
 all_equal [] s t = (record { r = 0; g = 0; b = 0; a = 0 }, All-nil _)
 all_equal {bytes = bytes} (p ∷ ps) s t =
-    let tail = drop (length (behind bytes)) bytes in
-    let front = (starts_is Decides-eqb bytes (behind bytes) (repeats bytes) refl).0 t in
+    let tail = drop (length (after_first bytes)) bytes in
+    let begins = (starts_is Decides-eqb bytes (after_first bytes) (repeats bytes) refl).0 t in
     let again : pixel_bytes p ++ flat_map pixel_bytes ps
-    ≡ flat_map pixel_bytes ps ++ tail = sym s.bytes_are ∙ front
-    ∙ ap (λ (b : List ℕ). b ++ tail) (behind_is p ps s.bytes_are) in (
+    ≡ flat_map pixel_bytes ps ++ tail = sym s.bytes_are ∙ begins
+    ∙ ap (λ (b : List ℕ). b ++ tail) (after_first_is p ps s.bytes_are) in (
       p,
       All-cons (λ (q : TilePixel). q ≡ p) p ps refl (equal_if_repeats p ps _
           (All-head IsPixel p ps s.is_valid) (All-tail IsPixel p ps s.is_valid) again),
@@ -80,9 +80,9 @@ not_all_equal {bytes = bytes} (p ∷ ps) some e f all =
     let others : All (Is p) ps = subst (λ (r : TilePixel). All (Is r) ps) (sym first)
     (All-tail (Is all.0) p ps all.1) in
     let again = repeats_if_equal p ps others in
-    let whole : bytes ≡ behind bytes ++ again.0 = e ∙ again.1
-    ∙ ap (λ (b : List ℕ). b ++ again.0) (sym (behind_is p ps e)) in
-    false≢true (sym f ∙ (starts_is Decides-eqb bytes (behind bytes) (repeats bytes) refl).1 again.0
+    let whole : bytes ≡ after_first bytes ++ again.0 = e ∙ again.1
+    ∙ ap (λ (b : List ℕ). b ++ again.0) (sym (after_first_is p ps e)) in
+    false≢true (sym f ∙ (starts_is Decides-eqb bytes (after_first bytes) (repeats bytes) refl).1 again.0
     whole)
 
 -- bytes that are 4096 pixels and don't repeat are a tile's

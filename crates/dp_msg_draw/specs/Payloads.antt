@@ -23,8 +23,8 @@ use Rattle.dp_msg_draw.specs.declared.draw.Draw.TheVariants.{
   DabsSquare,
   MoveRect,
 }
-use Rattle.dp_msg_draw.specs.Fields.{one_byte, two_bytes, four_bytes, signed_byte, four_signed}
-use Rattle.dp_msg_draw.specs.Fields.{flag_byte}
+use Rattle.dp_fields.specs.Fields.{one_byte, two_bytes, four_bytes, signed_byte, four_signed}
+use Rattle.dp_fields.specs.Fields.{flag_byte}
 use Rattle.dp_msg_draw.specs.Limits.{IsTitle, IsListedMode}
 
 -- the number of a message's kind

@@ -1,9 +1,12 @@
 //! The drawing messages.
+//!
+//! The rule: docs/protocol.md, "Drawing messages".
 
-ghost use Rattle.std.specs.Prelude.{◌≡◌, ◌↔◌, IsTrue, IfOk, OnErr};
-ghost use Rattle.dp_msg_draw.specs.Limits.{IsDrawKind, IsListedMode, TakesMemory};
+ghost use Rattle.std.specs.Prelude.{◌≡◌, IfOk, OnErr};
+ghost use Rattle.dp_msg_draw.specs.Limits.{TakesMemory};
 ghost use Rattle.dp_msg_draw.specs.Payloads.{draw_kind};
 
+use crate::kinds::kind_of_draw;
 use crate::lists::{Colors, Dabs, TilePixel, TilePixels, Title};
 use std::alloc::AllocError;
 use std::fmt;
@@ -18,7 +21,6 @@ pub enum TileContent {
 }
 
 /// A drawing message. Each is relayed to everybody and drawn by each client.
-/// The rule: docs/protocol.md, "Drawing messages".
 #[derive(Drop, PartialEq)]
 pub enum Draw {
     /// The canvas grows by this many pixels on each side, or shrinks where a number is negative.
@@ -147,8 +149,7 @@ macro_rules! copied {
 }
 
 impl Draw {
-    /// An equal message. The only error is out of memory, which titles, colours, pixels and dabs
-    /// take.
+    /// An equal message. Only titles, colours, pixels and dabs take memory.
     pub fn copy(&self) -> Result<Draw, AllocError>
         ensures same { IfOk result (λ m. m ≡ self.now) }
         ensures memory { OnErr result (TakesMemory (draw_kind self.now)) }
@@ -168,41 +169,5 @@ impl Draw {
             DabsSquare { layer x y r g b mode; dabs }
             MoveRect { layer sx sy w h tx ty }
         })
-    }
-}
-
-/// Whether a kind is one of the drawing messages.
-pub fn is_listed(kind: u8) -> bool
-    ensures { IsTrue result ↔ IsDrawKind kind }
-{
-    matches!(kind, 129..=134 | 136 | 137 | 146 | 147 | 149 | 150 | 152)
-}
-
-/// Whether a number is that of a blend mode.
-pub(crate) fn is_listed_mode(mode: u8) -> bool
-    ensures { IsTrue result ↔ IsListedMode mode }
-{
-    matches!(mode, 0 | 1 | 2 | 9 | 10 | 255)
-}
-
-/// The number of a message's kind, the type byte of its frame.
-pub fn kind_of_draw(m: &Draw) -> u8
-    ensures kind { result ≡ draw_kind m.now }
-    ensures listed { IsDrawKind result }
-{
-    match m {
-        Draw::CanvasResize { .. } => 129,
-        Draw::LayerCreate { .. } => 130,
-        Draw::LayerAttr { .. } => 131,
-        Draw::LayerTitle { .. } => 132,
-        Draw::LayerMove { .. } => 133,
-        Draw::LayerDelete { .. } => 134,
-        Draw::PutImage { .. } => 136,
-        Draw::FillRect { .. } => 137,
-        Draw::PutTile { .. } => 146,
-        Draw::Background { .. } => 147,
-        Draw::DabsRound { .. } => 149,
-        Draw::DabsSquare { .. } => 150,
-        Draw::MoveRect { .. } => 152,
     }
 }

@@ -18,7 +18,7 @@ pub fn one_draw()
         → SpellsDraw kind payload m → length payload ≤ 65535 }
 {}
 
-/// `same_draw` tells equal messages, and no others.
+/// `same_draw` is true of equal messages, and of no others.
 pub fn same_draw_is_equality()
     ensures { (a b : Message) → (same_draw a b ≡ true) ↔ (a ≡ b) }
 {}

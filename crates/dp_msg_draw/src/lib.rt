@@ -3,19 +3,19 @@
 
 mod draw;
 mod equality;
-mod error;
 mod items;
+mod kinds;
 mod laws;
 mod lists;
-mod part;
+mod mode;
 mod reader;
-mod rest;
 mod tails;
 mod writer;
 
-pub use draw::{Draw, TileContent, is_listed, kind_of_draw};
+pub use dp_fields::PayloadError;
+pub use draw::{Draw, TileContent};
 pub use equality::same_draw;
-pub use error::PayloadError;
+pub use kinds::{is_listed, kind_of_draw};
 pub use laws::{one_draw, same_draw_is_equality};
 pub use lists::{Colors, Dab, Dabs, TilePixel, TilePixels, Title};
 pub use reader::read_draw;

@@ -1,16 +1,18 @@
 //! Messages from payloads.
+//!
+//! The rule: docs/protocol.md, "Drawing messages".
 
 ghost use Rattle.std.specs.Prelude.{◌≡◌, ◌⊎◌, ◌↔◌, IfOk, IsErrOf};
 ghost use Rattle.dp_msg_draw.specs.declared.draw.Draw.{Draw as Message};
 ghost use Rattle.dp_msg_draw.specs.Limits.{IsDrawKind, TakesMemory};
 ghost use Rattle.dp_msg_draw.specs.Payloads.{SpellsDraw};
-ghost use Rattle.dp_msg_draw.specs.Reading.{Answers, Finds};
+ghost use Rattle.dp_fields.specs.Reading.{Answers, Finds};
 
 use crate::draw::Draw;
-use crate::error::PayloadError;
-use crate::part::{Mode, all};
-use crate::rest::read_both;
+use crate::kinds::*;
+use crate::mode::Mode;
 use crate::tails::Image;
+use dp_fields::{PayloadError, all, read_both};
 use std::alloc::Global;
 
 /// The message that a payload spells, of a kind that takes no memory.
@@ -21,27 +23,29 @@ fn read_plain(kind: u8, payload: &[u8]) -> Option<Draw>
     ensures { Finds (SpellsDraw kind payload.now) result }
 {
     match kind {
-        129 => {
+        CANVAS_RESIZE => {
             let Some(((top, right), (bottom, left))) = all(payload) else { return None };
             Some(Draw::CanvasResize { top, right, bottom, left })
         }
-        131 => {
+        LAYER_ATTR => {
             let Some(((id, opacity), (Mode(mode), hidden))) = all(payload) else { return None };
             Some(Draw::LayerAttr { id, opacity, mode, hidden })
         }
-        133 => {
+        LAYER_MOVE => {
             let Some((id, (parent, above))) = all(payload) else { return None };
             Some(Draw::LayerMove { id, parent, above })
         }
-        134 => {
+        LAYER_DELETE => {
             let Some(id) = all(payload) else { return None };
             Some(Draw::LayerDelete { id })
         }
-        137 => {
-            let Some(((layer, Mode(mode)), (((x, y), (w, h)), color))) = all(payload) else { return None };
+        FILL_RECT => {
+            let Some(((layer, Mode(mode)), (((x, y), (w, h)), color))) = all(payload) else {
+                return None;
+            };
             Some(Draw::FillRect { layer, mode, x, y, w, h, color })
         }
-        147 => {
+        BACKGROUND => {
             let Some(color) = all(payload) else { return None };
             Some(Draw::Background { color })
         }
@@ -59,23 +63,24 @@ fn read_listed(alloc: Global, kind: u8, payload: &[u8]) -> Result<Draw, PayloadE
     ensures { Answers (SpellsDraw kind payload.now) result }
 {
     match kind {
-        130 => {
+        LAYER_CREATE => {
             let ((id, (parent, group)), title) = read_both(alloc, payload)?;
             Ok(Draw::LayerCreate { id, parent, group, title })
         }
-        132 => {
+        LAYER_TITLE => {
             let (id, title) = read_both(alloc, payload)?;
             Ok(Draw::LayerTitle { id, title })
         }
-        136 => {
-            let (((layer, Mode(mode)), (x, y)), Image { w, h, colors }) = read_both(alloc, payload)?;
+        PUT_IMAGE => {
+            let (((layer, Mode(mode)), (x, y)), Image { w, h, colors }) =
+                read_both(alloc, payload)?;
             Ok(Draw::PutImage { layer, mode, x, y, w, h, colors })
         }
-        146 => {
+        PUT_TILE => {
             let (((layer, (col, row)), repeat), content) = read_both(alloc, payload)?;
             Ok(Draw::PutTile { layer, col, row, repeat, content })
         }
-        149 => {
+        DABS_ROUND => {
             let (((layer, (x, y)), ((r, (g, b)), Mode(mode))), dabs) = read_both(alloc, payload)?;
             Ok(Draw::DabsRound { layer, x, y, r, g, b, mode, dabs })
         }
@@ -93,14 +98,15 @@ fn message_at(alloc: Global, kind: u8, payload: &[u8]) -> Result<Draw, PayloadEr
     ensures memory { IsErrOf result PayloadError.Memory → TakesMemory kind }
 {
     match kind {
-        130 | 132 | 136 | 146 | 149 | 150 => read_listed(alloc, kind, payload),
+        LAYER_CREATE | LAYER_TITLE | PUT_IMAGE | PUT_TILE | DABS_ROUND | DABS_SQUARE => {
+            read_listed(alloc, kind, payload)
+        }
         _ => read_plain(kind, payload).ok_or(PayloadError::Malformed),
     }
 }
 
 /// The message that a payload of a drawing kind spells. `Malformed` comes exactly where it spells
-/// none, and `Memory` where memory runs out for the title, colours, pixels or dabs of one.
-/// The rule: docs/protocol.md, "Drawing messages".
+/// none, and `Memory` where memory runs out for a title, colours, pixels or dabs.
 pub fn read_draw(alloc: Global, kind: u8, payload: &[u8]) -> Result<Draw, PayloadError>
     requires { IsDrawKind kind }
     ensures found { IfOk result (SpellsDraw kind payload.now) }

@@ -2,21 +2,18 @@
 
 ghost use Rattle.std.specs.Prelude.{◌≡◌, ◌<◌, ◌≤◌, ◌^◌, ◌*◌, ◌++◌, length, IfSome, IfNone, OnOk};
 ghost use Rattle.std.specs.List.{flat_map};
-ghost use Rattle.dp_msg_draw.specs.Fields.{four_bytes};
+ghost use Rattle.dp_fields.specs.Fields.{four_bytes};
 ghost use Rattle.dp_msg_draw.specs.Limits.{IsTitle};
 ghost use Rattle.dp_msg_draw.specs.Payloads.{dab_bytes, AreDabs, IsImage};
 ghost use Rattle.dp_msg_draw.specs.Payloads.{pixel_bytes, IsTile, content_bytes, IsContent};
-ghost use Rattle.dp_msg_draw.specs.Reading.{Answers, Spells};
+ghost use Rattle.dp_fields.specs.Reading.{Answers, Spells};
 
 use crate::draw::TileContent;
-use crate::error::PayloadError;
-use crate::items::{put_items, read_items};
 use crate::lists::{Colors, Dabs, TilePixels, Title, is_title};
-use crate::part::{Part, all};
-use crate::rest::Rest;
+use dp_fields::{Field, PayloadError, Tail, all, put_items, read_items};
 use std::alloc::{AllocError, Global};
 
-impl Rest for Title {
+impl Tail for Title {
     ghost spelling = { λ title. title };
 
     ghost valid = { IsTitle };
@@ -29,20 +26,21 @@ impl Rest for Title {
     }
 }
 
-pub(crate) fn put_title<P: Part>(
-    part: &P,
+pub(crate) fn put_title<F: Field>(
+    field: &F,
     title: &Title,
     out: &mut Vec<u8>,
 ) -> Result<(), AllocError>
-    ensures spelled { OnOk result (out.new.items ≡ out.old.items ++ (P.spelling part.now ++ title.now)) }
+    ensures spelled { OnOk result (out.new.items
+        ≡ out.old.items ++ (F.spelling field.now ++ title.now)) }
     ensures short { length title.now ≤ 255 }
 {
     let title = title.as_slice();
-    part.put(out)?;
+    field.put(out)?;
     out.extend_from_slice(title)
 }
 
-impl Rest for Dabs {
+impl Tail for Dabs {
     ghost spelling = { flat_map dab_bytes };
 
     ghost valid = { AreDabs };
@@ -53,14 +51,18 @@ impl Rest for Dabs {
     }
 }
 
-#[tactic(auto, using(crate::proofs::Sequences::length_of_dabs))]
-pub(crate) fn put_dabs<P: Part>(part: &P, dabs: &Dabs, out: &mut Vec<u8>) -> Result<(), AllocError>
+#[tactic(auto, using(crate::proofs::Lengths::length_of_dabs))]
+pub(crate) fn put_dabs<F: Field>(
+    field: &F,
+    dabs: &Dabs,
+    out: &mut Vec<u8>,
+) -> Result<(), AllocError>
     ensures spelled { OnOk result (out.new.items
-        ≡ out.old.items ++ (P.spelling part.now ++ flat_map dab_bytes dabs.now)) }
+        ≡ out.old.items ++ (F.spelling field.now ++ flat_map dab_bytes dabs.now)) }
     ensures short { length (flat_map dab_bytes dabs.now) ≤ 65520 }
 {
     let dabs = dabs.as_slice();
-    part.put(out)?;
+    field.put(out)?;
     put_items(dabs, out)
 }
 
@@ -85,13 +87,13 @@ fn area(w: u32, h: u32) -> Option<usize>
     }
 }
 
-impl Rest for Image {
+impl Tail for Image {
     ghost spelling = { λ i. four_bytes i.w ++ four_bytes i.h ++ flat_map four_bytes i.colors };
 
     ghost valid = { λ i. (i.w < 2 ^ 32) × (i.h < 2 ^ 32) × IsImage i.w i.h i.colors };
 
     fn read(alloc: Global, bytes: &[u8]) -> Result<Image, PayloadError> {
-        let Some(((w, h), rest)) = Part::take(bytes) else {
+        let Some(((w, h), rest)) = Field::take(bytes) else {
             return Err(PayloadError::Malformed);
         };
         let Some(area) = area(w, h) else {
@@ -114,7 +116,7 @@ fn read_pixels(alloc: Global, bytes: &[u8]) -> Result<TilePixels, PayloadError>
     Ok(TilePixels::from_vec(pixels))
 }
 
-impl Rest for TileContent {
+impl Tail for TileContent {
     ghost spelling = { content_bytes };
 
     ghost valid = { IsContent };
@@ -131,22 +133,22 @@ impl Rest for TileContent {
     }
 }
 
-#[tactic(auto, using(crate::proofs::Sequences::length_of_colors))]
-pub(crate) fn put_colors<P: Part>(
-    part: &P,
+#[tactic(auto, using(crate::proofs::Lengths::length_of_colors))]
+pub(crate) fn put_colors<F: Field>(
+    field: &F,
     colors: &Colors,
     out: &mut Vec<u8>,
 ) -> Result<(), AllocError>
     ensures spelled { OnOk result (out.new.items
-        ≡ out.old.items ++ (P.spelling part.now ++ flat_map four_bytes colors.now)) }
+        ≡ out.old.items ++ (F.spelling field.now ++ flat_map four_bytes colors.now)) }
     ensures short { length (flat_map four_bytes colors.now) ≤ 65516 }
 {
     let colors = colors.as_slice();
-    part.put(out)?;
+    field.put(out)?;
     put_items(colors, out)
 }
 
-#[tactic(auto, using(crate::proofs::Sequences::length_of_pixels))]
+#[tactic(auto, using(crate::proofs::Lengths::length_of_pixels))]
 fn put_pixels(pixels: &TilePixels, out: &mut Vec<u8>) -> Result<(), AllocError>
     ensures spelled { OnOk result (out.new.items
         ≡ out.old.items ++ flat_map pixel_bytes pixels.now) }
@@ -155,17 +157,17 @@ fn put_pixels(pixels: &TilePixels, out: &mut Vec<u8>) -> Result<(), AllocError>
     put_items(pixels.as_slice(), out)
 }
 
-/// A part, and what a tile is filled with.
-pub(crate) fn put_content<P: Part>(
-    part: &P,
+/// A field, and then what a tile is filled with.
+pub(crate) fn put_content<F: Field>(
+    field: &F,
     content: &TileContent,
     out: &mut Vec<u8>,
 ) -> Result<(), AllocError>
     ensures spelled { OnOk result (out.new.items
-        ≡ out.old.items ++ (P.spelling part.now ++ content_bytes content.now)) }
+        ≡ out.old.items ++ (F.spelling field.now ++ content_bytes content.now)) }
     ensures short { OnOk result (length (content_bytes content.now) ≤ 32769) }
 {
-    part.put(out)?;
+    field.put(out)?;
     match content {
         TileContent::Solid(pixel) => (0u8, *pixel).put(out),
         TileContent::Pixels(pixels) => {

@@ -1,11 +1,13 @@
 //! Messages as payloads.
+//!
+//! The rule: docs/protocol.md, "Drawing messages".
 
 ghost use Rattle.std.specs.Prelude.{◌≡◌, ◌≤◌, ◌+◌, ◌++◌, length, OnOk, OnErr};
 ghost use Rattle.dp_msg_draw.specs.Payloads.{draw_payload};
 
 use crate::draw::Draw;
-use crate::part::Part;
 use crate::tails::{put_colors, put_content, put_dabs, put_title};
+use dp_fields::Field;
 use std::alloc::AllocError;
 
 /// Puts a message's fields at the end. Where memory runs out, some of their bytes may stand there.
@@ -16,7 +18,9 @@ fn put_draw(m: &Draw, out: &mut Vec<u8>) -> Result<(), AllocError>
 {
     match *m {
         Draw::CanvasResize { top, right, bottom, left } => ((top, right), (bottom, left)).put(out),
-        Draw::LayerCreate { id, parent, group, ref title } => put_title(&(id, (parent, group)), title, out),
+        Draw::LayerCreate { id, parent, group, ref title } => {
+            put_title(&(id, (parent, group)), title, out)
+        }
         Draw::LayerAttr { id, opacity, mode, hidden } => ((id, opacity), (mode, hidden)).put(out),
         Draw::LayerTitle { id, ref title } => put_title(&id, title, out),
         Draw::LayerMove { id, parent, above } => (id, (parent, above)).put(out),
@@ -43,9 +47,11 @@ fn put_draw(m: &Draw, out: &mut Vec<u8>) -> Result<(), AllocError>
     }
 }
 
-/// Adds a message's payload at the end of `out`, whether the message has a spelling or not. Where
-/// memory runs out, `out` is as it was.
-/// The rule: docs/protocol.md, "Drawing messages".
+/// Adds a message's payload at the end, whether the message has a spelling or not.
+///
+/// # Errors
+///
+/// Where memory runs out. `out` is then as it was.
 pub fn write_draw(m: &Draw, out: &mut Vec<u8>) -> Result<(), AllocError>
     ensures appends { OnOk result (out.new.items ≡ out.old.items ++ draw_payload m.now) }
     ensures short { length out.new.items ≤ length out.old.items + 65535 }

@@ -1,3 +1,3 @@
 pub mod FieldLaws
-pub mod Spelled
+pub mod Forms
 pub mod Comparing

@@ -1,4 +1,4 @@
 pub mod Fields
 pub mod Payloads
 pub mod Equality
-pub mod Reading
+pub mod FieldLaws

@@ -2,6 +2,7 @@
 use Rattle.std.specs.Prelude.{◌≡◌, ℕ, ◌<◌, ◌≤◌, ◌^◌, ◌⊎◌, List, [], ◌∷◌, ◌++◌, FitsSigned}
 use Rattle.std.specs.Int.{w32}
 use Rattle.std.specs.Str.{IsUtf8}
+use Rattle.dp_fields.specs.Fields.{one_byte, two_bytes, four_bytes, four_signed, flag_byte}
 use Rattle.dp_msg_meta.specs.declared.message.Control.{Control}
 use Rattle.dp_msg_meta.specs.declared.message.Control.TheVariants.{Hello, Disconnect, Ping, Ack}
 use Rattle.dp_msg_meta.specs.declared.message.Control.TheVariants.{Welcome, ResetBegin, ResetEnd}
@@ -11,7 +12,6 @@ use Rattle.dp_msg_meta.specs.declared.message.Meta.TheVariants.{ResetMark, Laser
 use Rattle.dp_msg_meta.specs.declared.message.Meta.TheVariants.{UserAcl, LayerAcl, FeatureTiers}
 use Rattle.dp_msg_meta.specs.declared.message.Meta.TheVariants.{Filtered}
 use Rattle.dp_msg_meta.specs.declared.message.Tiers.{Tiers}
-use Rattle.dp_msg_meta.specs.Fields.{one_byte, two_bytes, four_bytes, four_signed, flag_byte}
 use Rattle.dp_msg_meta.specs.Fields.{RiseFrom, IsName, IsText}
 
 -- the number of a control message's kind

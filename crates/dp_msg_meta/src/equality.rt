@@ -1,21 +1,23 @@
-//! Whether two messages are the same.
+//! Whether two messages are equal.
 
 ghost use Rattle.std.specs.Prelude.{◌≡◌, ◌↔◌, IsTrue};
-ghost use Rattle.dp_msg_meta.specs.Equality.{same_control as control_eq, same_meta as meta_eq};
+ghost use Rattle.dp_msg_meta.specs.Equality.{same_control, same_meta};
 
 use crate::message::{Control, Meta};
 
-/// Whether two control messages are the same, field by field. It takes no memory.
+/// Whether two control messages are equal, field by field. It takes no memory.
+#[tactic(auto, using(crate::proofs::Comparing::controls_compare))]
 pub fn same_control(control: &Control, other: &Control) -> bool
-    ensures value { result ≡ control_eq control.now other.now }
+    ensures value { result ≡ same_control control.now other.now }
     ensures equal { IsTrue result ↔ (control.now ≡ other.now) }
 {
     control == other
 }
 
-/// Whether two meta messages are the same, field by field. It takes no memory.
+/// Whether two meta messages are equal, field by field. It takes no memory.
+#[tactic(auto, using(crate::proofs::Comparing::metas_compare))]
 pub fn same_meta(meta: &Meta, other: &Meta) -> bool
-    ensures value { result ≡ meta_eq meta.now other.now }
+    ensures value { result ≡ same_meta meta.now other.now }
     ensures equal { IsTrue result ↔ (meta.now ≡ other.now) }
 {
     meta == other

@@ -1,4 +1,6 @@
-//! The kinds of messages, and messages again.
+//! The kinds of messages, and copies of messages.
+//!
+//! The rule: docs/protocol.md, "Control and meta messages".
 
 ghost use Rattle.std.specs.Prelude.{◌≡◌, ◌↔◌, IfOk, OnErr, IsTrue};
 ghost use Rattle.dp_msg_meta.specs.Payloads.{control_kind, meta_kind, IsControlKind, IsMetaKind};
@@ -7,21 +9,39 @@ ghost use Rattle.dp_msg_meta.specs.Payloads.{TakesMemory};
 use crate::message::{Control, Meta};
 use std::alloc::AllocError;
 
+pub(crate) const HELLO: u8 = 0;
+pub(crate) const DISCONNECT: u8 = 1;
+pub(crate) const PING: u8 = 2;
+pub(crate) const ACK: u8 = 3;
+pub(crate) const WELCOME: u8 = 4;
+pub(crate) const RESET_BEGIN: u8 = 5;
+pub(crate) const RESET_END: u8 = 7;
+pub(crate) const JOIN: u8 = 32;
+pub(crate) const LEAVE: u8 = 33;
+pub(crate) const OWNERS: u8 = 34;
+pub(crate) const CHAT: u8 = 35;
+pub(crate) const TRUSTED: u8 = 36;
+pub(crate) const RESET_MARK: u8 = 37;
+pub(crate) const LASER: u8 = 64;
+pub(crate) const MOVE_POINTER: u8 = 65;
+pub(crate) const USER_ACL: u8 = 66;
+pub(crate) const LAYER_ACL: u8 = 67;
+pub(crate) const FEATURE_TIERS: u8 = 68;
+pub(crate) const FILTERED: u8 = 69;
+
 /// The kind of a control message, the type byte of its frame.
-///
-/// The rule: docs/protocol.md, "Control and meta messages".
 pub fn kind_of_control(m: &Control) -> u8
     ensures value { result ≡ control_kind m.now }
     ensures control { IsControlKind result }
 {
     match m {
-        Control::Hello { .. } => 0,
-        Control::Disconnect { .. } => 1,
-        Control::Ping { .. } => 2,
-        Control::Ack { .. } => 3,
-        Control::Welcome { .. } => 4,
-        Control::ResetBegin => 5,
-        Control::ResetEnd => 7,
+        Control::Hello { .. } => HELLO,
+        Control::Disconnect { .. } => DISCONNECT,
+        Control::Ping { .. } => PING,
+        Control::Ack { .. } => ACK,
+        Control::Welcome { .. } => WELCOME,
+        Control::ResetBegin => RESET_BEGIN,
+        Control::ResetEnd => RESET_END,
     }
 }
 
@@ -31,37 +51,37 @@ pub fn kind_of_meta(m: &Meta) -> u8
     ensures meta { IsMetaKind result }
 {
     match m {
-        Meta::Join { .. } => 32,
-        Meta::Leave => 33,
-        Meta::Owners { .. } => 34,
-        Meta::Chat { .. } => 35,
-        Meta::Trusted { .. } => 36,
-        Meta::ResetMark { .. } => 37,
-        Meta::Laser { .. } => 64,
-        Meta::MovePointer { .. } => 65,
-        Meta::UserAcl { .. } => 66,
-        Meta::LayerAcl { .. } => 67,
-        Meta::FeatureTiers { .. } => 68,
-        Meta::Filtered { .. } => 69,
+        Meta::Join { .. } => JOIN,
+        Meta::Leave => LEAVE,
+        Meta::Owners { .. } => OWNERS,
+        Meta::Chat { .. } => CHAT,
+        Meta::Trusted { .. } => TRUSTED,
+        Meta::ResetMark { .. } => RESET_MARK,
+        Meta::Laser { .. } => LASER,
+        Meta::MovePointer { .. } => MOVE_POINTER,
+        Meta::UserAcl { .. } => USER_ACL,
+        Meta::LayerAcl { .. } => LAYER_ACL,
+        Meta::FeatureTiers { .. } => FEATURE_TIERS,
+        Meta::Filtered { .. } => FILTERED,
     }
 }
 
-/// Tests that control messages are of this kind: 0 to 5, and 7.
+/// Whether control messages are of this kind.
 pub fn is_control_kind(kind: u8) -> bool
     ensures { IsTrue result ↔ IsControlKind kind }
 {
-    matches!(kind, 0..=5 | 7)
+    matches!(kind, HELLO..=RESET_BEGIN | RESET_END)
 }
 
-/// Tests that meta messages are of this kind: 32 to 37, and 64 to 69.
+/// Whether meta messages are of this kind.
 pub fn is_meta_kind(kind: u8) -> bool
     ensures { IsTrue result ↔ IsMetaKind kind }
 {
-    matches!(kind, 32..=37 | 64..=69)
+    matches!(kind, JOIN..=RESET_MARK | LASER..=FILTERED)
 }
 
 impl Control {
-    /// The same message again. The only error is out of memory, which a name takes.
+    /// An equal message. Only a name takes memory.
     pub fn copy(&self) -> Result<Control, AllocError>
         ensures same { IfOk result (λ m. m ≡ self.now) }
         ensures memory { OnErr result (TakesMemory (control_kind self.now)) }
@@ -89,7 +109,7 @@ impl Control {
 }
 
 impl Meta {
-    /// The same message again. The only error is out of memory, which a name, a text and ids take.
+    /// An equal message. Only a name, a text and ids take memory.
     pub fn copy(&self) -> Result<Meta, AllocError>
         ensures same { IfOk result (λ m. m ≡ self.now) }
         ensures memory { OnErr result (TakesMemory (meta_kind self.now)) }

@@ -35,14 +35,14 @@ pub fn one_meta()
         → SpellsMeta kind payload m → length payload ≤ 65535 }
 {}
 
-/// The test of two control messages tells exactly whether they are equal.
-#[tactic(auto, using(crate::proofs::Comparing::same_control_told))]
+/// The test of two control messages says exactly whether they are equal.
+#[tactic(auto, using(crate::proofs::Comparing::controls_compare))]
 pub fn control_equality()
     ensures { (m n : Control) → IsTrue (same_control m n) ↔ (m ≡ n) }
 {}
 
-/// The test of two meta messages tells exactly whether they are equal.
-#[tactic(auto, using(crate::proofs::Comparing::same_meta_told))]
+/// The test of two meta messages says exactly whether they are equal.
+#[tactic(auto, using(crate::proofs::Comparing::metas_compare))]
 pub fn meta_equality()
     ensures { (m n : Meta) → IsTrue (same_meta m n) ↔ (m ≡ n) }
 {}

@@ -1,23 +1,18 @@
-//! The messages that draw nothing, and their payloads: reading and writing.
+//! The control and meta messages of the protocol: what each is, and its one spelling as a payload.
 #![tactic(auto)]
 
-mod control_reader;
-mod control_writer;
 mod equality;
-mod error;
 mod fields;
 mod kinds;
 mod laws;
 mod lists;
 mod message;
-mod meta_reader;
-mod meta_writer;
-mod output;
 mod reader;
+mod tails;
 mod writer;
 
+pub use dp_fields::PayloadError;
 pub use equality::{same_control, same_meta};
-pub use error::PayloadError;
 pub use kinds::{is_control_kind, is_meta_kind, kind_of_control, kind_of_meta};
 pub use laws::{control_equality, meta_equality, one_control, one_meta};
 pub use lists::{Ids, NameBytes, Text};

@@ -2,7 +2,7 @@
 use Rattle.std.specs.Prelude.{ℕ, ◌+◌, ◌^◌, ◌&&◌, Bool, nat_lt, nat_le}
 use Rattle.std.specs.Prelude.{List, ◌++◌, length}
 use Rattle.std.specs.List.{sum_by}
-use Rattle.dp_msg_meta.specs.Fields.{one_byte, four_bytes, flag_byte}
+use Rattle.dp_fields.specs.Fields.{one_byte, four_bytes, flag_byte}
 use Rattle.dp_messages.specs.Messages.{kind_of, payload_of}
 use Rattle.dp_session.specs.declared.event.Event.{Event}
 use Rattle.dp_session.specs.declared.event.Event.TheVariants.{Open, Say, Close}

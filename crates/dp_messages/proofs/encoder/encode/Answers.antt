@@ -44,10 +44,10 @@ returns-in-Ok-clause-spelled c = λ spelled.
     ∙ ap (λ (xs : List ℕ). xs ++ payload_of m) c.new-payload.ensures.items in
     let carries = carried c.new-frame.result c.args.entry.now c.kind.result c.from_vec.result
     c.new-frame.ensures c.kind.ensures written spelled in
-    let told : c.same.result ≡ true =
+    let equal : c.same.result ≡ true =
     elim (c.in-Ok.ensures.only c.args.entry.now carries) as (λ _. c.same.result ≡ true) [
       | inl e ↦ let again : c.in-Ok.again ≡ c.args.entry.now = cc in c.same.ensures.equal.1
           (ap (λ (entry : Entry). entry.msg) again)
       | inr e ↦ absurd (cc)
     ] in
-    absurd (let never : true ≡ false = sym told ∙ c.if-same.false in cc)
+    absurd (let never : true ≡ false = sym equal ∙ c.if-same.false in cc)

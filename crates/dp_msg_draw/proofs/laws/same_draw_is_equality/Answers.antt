@@ -1,5 +1,5 @@
-use Rattle.dp_msg_draw.proofs.Comparing.{draws_told}
+use Rattle.dp_msg_draw.proofs.Comparing.{draws_compare}
 use Rattle.dp_msg_draw.proofs.laws.same_draw_is_equality.Goals as goal
 
 pub returns : goal.returns
-returns c = draws_told
+returns c = draws_compare

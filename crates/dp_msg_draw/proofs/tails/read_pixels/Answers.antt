@@ -1,7 +1,7 @@
-use Rattle.std.proofs.Common.{arith, sym, ◌∙◌, ◌≡◌, false, true}
+use Rattle.std.proofs.Common.{arith, sym, ◌∙◌, ◌≡◌, false}
 use Rattle.std.proofs.lemmas.Result.{err_from_is_err_and}
 use Rattle.dp_msg_draw.proofs.Pixels.{repeats, all_equal, tile_from, tile_to, length_of_tile}
-use Rattle.dp_msg_draw.proofs.Takes.{same_error}
+use Rattle.dp_fields.specs.Wholes.{same_error}
 use Rattle.dp_msg_draw.proofs.tails.read_pixels.Goals as goal
 use Rattle.dp_msg_draw.proofs.tails.read_pixels.Goals.{then-bytes-ne32768-via-then-bytes-ne32768}
 use Rattle.dp_msg_draw.proofs.tails.read_pixels.Goals.{then-bytes-ne32768-via-else-bytes-ne32768+then-starts_with}

@@ -1,7 +1,0 @@
-use Rattle.std.proofs.Common.{◌≡◌, ◌++◌, take}
-use Rattle.std.specs.List.{flat_map}
-use Rattle.dp_msg_draw.proofs.items.put_items.Given as goal
-
-abbrev pub invariant-loop-item : goal.invariant-loop-item
-invariant-loop-item g l = l.out.items ≡ l.fn.out.items ++ flat_map g.T.Part.spelling
-    (take l.item-index l.items)
