@@ -1,5 +1,5 @@
 -- Values that are spelled by all the bytes, and what follows where a field begins the bytes.
-use Rattle.std.proofs.Common.{◌≡◌, ℕ, ◌≤◌, List, [], ◌++◌, length, refl, sym, ap, ◌∙◌, append_assoc}
+use Rattle.std.proofs.Common.{◌≡◌, ℕ, ◌≤◌, List, [], ◌++◌, length, sym, ap, ◌∙◌}
 use Rattle.std.proofs.Common.{arith, Err}
 use Rattle.std.proofs.lemmas.List.{append-nil}
 use Rattle.dp_fields.specs.declared.error.PayloadError.{PayloadError}
