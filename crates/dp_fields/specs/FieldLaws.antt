@@ -1,6 +1,6 @@
--- The bytes of a valid field say which it is, whatever follows: a number, a flag, or one field after
--- another.
-use Rattle.std.proofs.Common.{◌≡◌, ℕ, ℤ, ◌^◌, ◌<◌, Bool, true, false, List, ◌∷◌, ◌++◌}
+-- The bytes of a valid field say which it is, whatever follows: a number, a flag, or one field
+-- after another.
+use Rattle.std.proofs.Common.{◌≡◌, ℕ, ℤ, ◌^◌, ◌<◌, Bool, true, false, List, ◌++◌}
 use Rattle.std.proofs.Common.{drop, refl, sym, ap, ◌∙◌, append_assoc, arith}
 use Rattle.std.specs.Int.{w32, cast_unsigned, cast_signed}
 use Rattle.std.specs.Int.RustNames.{FitsSigned}
@@ -70,7 +70,8 @@ one_pair {X = X} {Y = Y} spell valid spell' valid' f g p q s t fp fq e =
 
 pub pair_field : {X Y : Type 0} {spell : X → List ℕ} {valid : X → Type 0} {spell' : Y → List ℕ}
     {valid' : Y → Type 0}
-    → IsField spell valid → IsField spell' valid' → IsField {X = X × Y} (λ p. spell p.0 ++ spell' p.1)
+    → IsField spell valid → IsField spell' valid'
+    → IsField {X = X × Y} (λ p. spell p.0 ++ spell' p.1)
     (λ p. valid p.0 × valid' p.1)
 pair_field {spell = spell} {valid = valid} {spell' = spell'} {valid' = valid'} f g = record
     { one = one_pair spell valid spell' valid' f g }

@@ -38,7 +38,8 @@ rest_after : {X : Type 0} {spelling : X → List ℕ} {valid : X → Type 0} →
     × (length zs ≡ 1 + length ys)
 rest_after field b short [] s = absurd (omega (arith, ap length s.bytes_are))
 rest_after {spelling = spelling} {valid = valid} field {after = after} {x = x} b short (z ∷ zs) s =
-    let same = field.one x z after (flat_map spelling zs) b.is_valid (All-head valid z zs s.is_valid)
+    let same = field.one x z after (flat_map spelling zs) b.is_valid
+    (All-head valid z zs s.is_valid)
     (sym b.bytes_are ∙ s.bytes_are) in
     (zs, record { bytes_are = same.1; is_valid = All-tail valid z zs s.is_valid }, omega arith)
 

@@ -1,5 +1,5 @@
 -- Values that are spelled by all the bytes, and what follows where a field begins the bytes.
-use Rattle.std.proofs.Common.{◌≡◌, ℕ, ◌≤◌, List, [], ◌++◌, length, refl, sym, ap, ◌∙◌, append_assoc}
+use Rattle.std.proofs.Common.{◌≡◌, ℕ, ◌≤◌, List, [], ◌++◌, length, sym, ap, ◌∙◌}
 use Rattle.std.proofs.Common.{arith, Err}
 use Rattle.std.proofs.lemmas.List.{append-nil}
 use Rattle.dp_fields.specs.declared.error.PayloadError.{PayloadError}
@@ -17,8 +17,9 @@ begins_all {spelling = spelling} {x = x} s = record {
 }
 
 -- where bytes follow a field, the whole is no field
-pub more_follows : {X : Type 0} {spelling : X → List ℕ} {valid : X → Type 0} → IsField spelling valid
-    → {bytes rest : List ℕ} {x : X} → Begins spelling valid bytes x rest → 1 ≤ length rest
+pub more_follows : {X : Type 0} {spelling : X → List ℕ} {valid : X → Type 0}
+    → IsField spelling valid → {bytes rest : List ℕ} {x : X}
+    → Begins spelling valid bytes x rest → 1 ≤ length rest
     → (y : X) → Spells spelling valid bytes y → ⊥
 more_follows field {rest = rest} {x = x} b long y s =
     let all = begins_all s in

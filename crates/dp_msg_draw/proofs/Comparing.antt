@@ -42,7 +42,8 @@ draws_compare (CanvasResize top right bottom left) (CanvasResize top' right' bot
     (arith, Decides-int_eq)
 draws_compare (LayerCreate id parent group title) (LayerCreate id' parent' group' title') =
     grind (arith, bytes_eq-Decides title title')
-draws_compare (LayerAttr id opacity mode hidden) (LayerAttr id' opacity' mode' hidden') = grind arith
+draws_compare (LayerAttr id opacity mode hidden) (LayerAttr id' opacity' mode' hidden') =
+    grind arith
 draws_compare (LayerTitle id title) (LayerTitle id' title') = grind
     (arith, bytes_eq-Decides title title')
 draws_compare (LayerMove id parent above) (LayerMove id' parent' above') = grind arith

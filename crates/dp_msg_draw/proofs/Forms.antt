@@ -189,7 +189,8 @@ canvas_resize = record {
   ];
 }
 
-pub layer_create : Form 130 (both (pair_field two_field (pair_field two_field flag_field)) title_whole)
+pub layer_create : Form 130 (both (pair_field two_field (pair_field two_field flag_field))
+    title_whole)
     (λ x. LayerCreate x.0.0 x.0.1.0 x.0.1.1 x.1)
 layer_create = record {
   of = elim [
@@ -239,8 +240,8 @@ layer_delete = record {
 }
 
 pub put_image : Form 136 (both (pair_field (pair_field two_field mode_field)
-    (pair_field four_field four_field)) image_whole) (λ x. PutImage x.0.0.0 x.0.0.1.0 x.0.1.0 x.0.1.1
-    x.1.w x.1.h x.1.colors)
+    (pair_field four_field four_field)) image_whole)
+    (λ x. PutImage x.0.0.0 x.0.0.1.0 x.0.1.0 x.0.1.1 x.1.w x.1.h x.1.colors)
 put_image = record {
   of = elim [
     | PutImage layer mode x y w h' colors ↦ λ e h. (
@@ -288,7 +289,8 @@ background = record {
   ];
 }
 
-pub dabs_round : Form 149 (both (pair_field (pair_field two_field (pair_field signed_field signed_field))
+pub dabs_round : Form 149 (both (pair_field
+    (pair_field two_field (pair_field signed_field signed_field))
     (pair_field (pair_field byte_field (pair_field byte_field byte_field)) mode_field)) dabs_whole)
     (λ x. DabsRound x.0.0.0 x.0.0.1.0 x.0.0.1.1 x.0.1.0.0 x.0.1.0.1.0 x.0.1.0.1.1 x.0.1.1.0 x.1)
 dabs_round = record {
@@ -303,7 +305,8 @@ dabs_round = record {
   ];
 }
 
-pub dabs_square : Form 150 (both (pair_field (pair_field two_field (pair_field signed_field signed_field))
+pub dabs_square : Form 150 (both (pair_field
+    (pair_field two_field (pair_field signed_field signed_field))
     (pair_field (pair_field byte_field (pair_field byte_field byte_field)) mode_field)) dabs_whole)
     (λ x. DabsSquare x.0.0.0 x.0.0.1.0 x.0.0.1.1 x.0.1.0.0 x.0.1.0.1.0 x.0.1.0.1.1 x.0.1.1.0 x.1)
 dabs_square = record {

@@ -9,17 +9,29 @@ ghost use Rattle.dp_msg_draw.specs.Payloads.{draw_kind};
 use crate::draw::Draw;
 
 pub(crate) const CANVAS_RESIZE: u8 = 129;
+
 pub(crate) const LAYER_CREATE: u8 = 130;
+
 pub(crate) const LAYER_ATTR: u8 = 131;
+
 pub(crate) const LAYER_TITLE: u8 = 132;
+
 pub(crate) const LAYER_MOVE: u8 = 133;
+
 pub(crate) const LAYER_DELETE: u8 = 134;
+
 pub(crate) const PUT_IMAGE: u8 = 136;
+
 pub(crate) const FILL_RECT: u8 = 137;
+
 pub(crate) const PUT_TILE: u8 = 146;
+
 pub(crate) const BACKGROUND: u8 = 147;
+
 pub(crate) const DABS_ROUND: u8 = 149;
+
 pub(crate) const DABS_SQUARE: u8 = 150;
+
 pub(crate) const MOVE_RECT: u8 = 152;
 
 /// Whether a kind is one of the drawing messages.

@@ -26,7 +26,8 @@ Refuses {X = X} {spelling = spelling} {valid = valid} field bytes = (x : X)
 
 -- ---- where no fields are read, no message is
 
-pub no_welcome : {k : ℕ} {bytes : List ℕ} → k ≡ 4 → Refuses (pair_field (pair_field two_field byte_field)
+pub no_welcome : {k : ℕ} {bytes : List ℕ} → k ≡ 4
+    → Refuses (pair_field (pair_field two_field byte_field)
     (pair_field four_field four_field)) bytes
     → (m : Control) → SpellsControl k bytes m → ⊥
 no_welcome is none (Welcome version user epoch at) s =
@@ -35,19 +36,22 @@ no_welcome is none (Welcome version user epoch at) s =
     (record { bytes_are = s.payload; is_valid = ((v.0, v.1), (v.2, v.3)) })
 no_welcome is none m s = absurd (omega (arith, is, s.kind))
 
-pub no_reset_mark : {k : ℕ} {bytes : List ℕ} → k ≡ 37 → Refuses (pair_field four_field four_field) bytes
+pub no_reset_mark : {k : ℕ} {bytes : List ℕ} → k ≡ 37
+    → Refuses (pair_field four_field four_field) bytes
     → (m : Meta) → SpellsMeta k bytes m → ⊥
 no_reset_mark is none (ResetMark epoch carried) s = none (epoch, carried)
     (record { bytes_are = s.payload; is_valid = s.spelled })
 no_reset_mark is none m s = absurd (omega (arith, is, s.kind))
 
-pub no_laser : {k : ℕ} {bytes : List ℕ} → k ≡ 64 → Refuses (pair_field signed_field signed_field) bytes
+pub no_laser : {k : ℕ} {bytes : List ℕ} → k ≡ 64
+    → Refuses (pair_field signed_field signed_field) bytes
     → (m : Meta) → SpellsMeta k bytes m → ⊥
 no_laser is none (Laser x y) s = none (x, y)
     (record { bytes_are = s.payload; is_valid = s.spelled })
 no_laser is none m s = absurd (omega (arith, is, s.kind))
 
-pub no_move_pointer : {k : ℕ} {bytes : List ℕ} → k ≡ 65 → Refuses (pair_field signed_field signed_field) bytes
+pub no_move_pointer : {k : ℕ} {bytes : List ℕ} → k ≡ 65
+    → Refuses (pair_field signed_field signed_field) bytes
     → (m : Meta) → SpellsMeta k bytes m → ⊥
 no_move_pointer is none (MovePointer x y) s = none (x, y)
     (record { bytes_are = s.payload; is_valid = s.spelled })

@@ -32,9 +32,9 @@ one_tiers : (x y : Tiers) (s t : List ℕ) → AreTiers x → AreTiers y
     → tier_bytes x ++ s ≡ tier_bytes y ++ t → (x ≡ y) × (s ≡ t)
 one_tiers x y s t fx fy e =
     let made : made_tiers x.image x.move_ x.resize x.background x.edit_layers x.own_layers x.laser
-        x.undo
-        ≡ made_tiers y.image y.move_ y.resize y.background y.edit_layers y.own_layers y.laser
-        y.undo = cc in
+    x.undo
+    ≡ made_tiers y.image y.move_ y.resize y.background y.edit_layers y.own_layers y.laser
+    y.undo = cc in
     (made, cc)
 
 pub tiers_field : IsField tier_bytes AreTiers

@@ -41,7 +41,9 @@ impl Field for Tiers {
 
     #[rattlefmt::skip]
     fn take(bytes: &[u8]) -> Option<(Tiers, &[u8])> {
-        let [image, move_, resize, background, edit_layers, own_layers, laser, undo, rest @ ..] = bytes else {
+        let [image, move_, resize, background, edit_layers, own_layers, laser, undo, rest @ ..] =
+            bytes
+        else {
             return None;
         };
         let tiers = Tiers {

@@ -10,23 +10,41 @@ use crate::message::{Control, Meta};
 use std::alloc::AllocError;
 
 pub(crate) const HELLO: u8 = 0;
+
 pub(crate) const DISCONNECT: u8 = 1;
+
 pub(crate) const PING: u8 = 2;
+
 pub(crate) const ACK: u8 = 3;
+
 pub(crate) const WELCOME: u8 = 4;
+
 pub(crate) const RESET_BEGIN: u8 = 5;
+
 pub(crate) const RESET_END: u8 = 7;
+
 pub(crate) const JOIN: u8 = 32;
+
 pub(crate) const LEAVE: u8 = 33;
+
 pub(crate) const OWNERS: u8 = 34;
+
 pub(crate) const CHAT: u8 = 35;
+
 pub(crate) const TRUSTED: u8 = 36;
+
 pub(crate) const RESET_MARK: u8 = 37;
+
 pub(crate) const LASER: u8 = 64;
+
 pub(crate) const MOVE_POINTER: u8 = 65;
+
 pub(crate) const USER_ACL: u8 = 66;
+
 pub(crate) const LAYER_ACL: u8 = 67;
+
 pub(crate) const FEATURE_TIERS: u8 = 68;
+
 pub(crate) const FILTERED: u8 = 69;
 
 /// The kind of a control message, the type byte of its frame.

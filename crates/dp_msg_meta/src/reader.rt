@@ -167,7 +167,8 @@ pub fn read_meta(alloc: Global, kind: u8, payload: &[u8]) -> Result<Meta, Payloa
     ensures malformed { IsErrOf result PayloadError.Malformed
         ↔ ((m : Meta) → SpellsMeta kind payload.now m → ⊥) }
     ensures memory { IsErrOf result PayloadError.Memory → TakesMemory kind }
-    ensures spelled { IsErrOf result PayloadError.Memory → (m : Meta) × SpellsMeta kind payload.now m }
+    ensures spelled { IsErrOf result PayloadError.Memory
+        → (m : Meta) × SpellsMeta kind payload.now m }
 {
     meta_at(alloc, kind, payload)
 }
