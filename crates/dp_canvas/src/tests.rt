@@ -98,8 +98,10 @@ fn on_both_boards<D: Ledger, T: Ledger>(
     draw_blank: Blank,
     tile_blank: Blank,
 ) -> Result<(), Fail>
-    requires draws { (draw_blank.name ≡ D.name) × (draw_blank.parts ≡ D.parts) × (0 < draw_blank.parts) }
-    requires tiles { (tile_blank.name ≡ T.name) × (tile_blank.parts ≡ T.parts) × (0 < tile_blank.parts) }
+    requires draws {
+        (draw_blank.name ≡ D.name) × (draw_blank.parts ≡ D.parts) × (0 < draw_blank.parts) }
+    requires tiles {
+        (tile_blank.name ≡ T.name) × (tile_blank.parts ≡ T.parts) × (0 < tile_blank.parts) }
 {
     let mut drawn = Steps::<D>::new(draw_blank);
     let mut made = Steps::<T>::new(tile_blank);

@@ -104,8 +104,7 @@ impl<X: Drop> Tree<X> {
     }
 
     /// LayerCreate: puts a new row last, which holds x, where it is no group. True exactly where
-    /// the
-    /// command has an effect. The rule: docs/protocol.md, "The layers".
+    /// the command has an effect. The rule: docs/protocol.md, "The layers".
     ///
     /// # Errors
     ///

@@ -70,13 +70,6 @@ pub record IsLast (left top : ℤ) (dabs : List Dab) (k : ℕ) (last : Place) : 
   pub y : last.y ≡ top +ℤ int_sum (map (λ (dab : Dab). dab.dy) (take k dabs))
   pub near : IsNear (2 ^ 32 + 128 * k) last
 
-pub last_none : (at : Place) (dabs : List Dab) → IsNear (2 ^ 32) at → IsLast at.x at.y dabs 0 at
-last_none at dabs near = record {
-  x = omega (arith, ints);
-  y = omega (arith, ints);
-  near = record { x = omega (arith, near.x); y = omega (arith, near.y) };
-}
-
 -- the dab after the last one is the last of one dab more
 pub last_more : (left top : ℤ) (dabs : List Dab) (k : ℕ) (last : Place) (placed : PlacedDab)
     → k < length dabs
@@ -158,17 +151,11 @@ next_is left top dabs k last placed within is near_x near_y before = record {
   is = placed_is left top dabs k last placed placed within is before;
 }
 
--- a region on which the same dabs are drawn, by other names
-pub stroke_as : (region : Region) (stride mode : ℕ) (color as_color : Channels)
-    (shape as_shape : Shape) (dabs as_dabs : List PlacedDab) (old new : List Channels)
-    → color ≡ as_color → shape ≡ as_shape → dabs ≡ as_dabs
-    → IsPainted region stride (on_canvas region (stroked mode color shape dabs)) old new
-    → IsPainted region stride (on_canvas region (stroked mode as_color as_shape as_dabs)) old new
-stroke_as region stride mode color as_color shape as_shape dabs as_dabs old new colors shapes lists
-    painted =
-    subst (λ (p : Channels). IsPainted region stride (on_canvas region
-    (stroked mode p as_shape as_dabs)) old new) colors
-    (subst (λ (s : Shape). IsPainted region stride (on_canvas region (stroked mode color s as_dabs))
-    old new) shapes
-    (subst (λ (l : List PlacedDab). IsPainted region stride
-    (on_canvas region (stroked mode color shape l)) old new) lists painted))
+-- dabs of the same colour, shape and list
+pub stroked-same : (mode : ℕ) (color as_color : Channels) (shape as_shape : Shape)
+    (dabs as_dabs : List PlacedDab) → color ≡ as_color → shape ≡ as_shape → dabs ≡ as_dabs
+    → stroked mode color shape dabs ≡ stroked mode as_color as_shape as_dabs
+stroked-same mode color as_color shape as_shape dabs as_dabs colors shapes lists =
+    ap (λ (p : Channels). stroked mode p shape dabs) colors
+    ∙ ap (λ (s : Shape). stroked mode as_color s dabs) shapes
+    ∙ ap (λ (l : List PlacedDab). stroked mode as_color as_shape l) lists

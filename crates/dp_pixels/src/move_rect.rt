@@ -1,10 +1,11 @@
 //! Rectangles that move.
 
-ghost use Rattle.std.specs.Prelude.{◌≡◌, ◌≤◌, ◌<◌, ◌+◌, ◌*◌, ℕ, length, slice_index_or, IfOk, OnErr, OnOk};
+ghost use Rattle.std.specs.Prelude.{◌≡◌, ◌≤◌, ◌<◌, ◌+◌, ◌*◌, ℕ, length, slice_index_or};
+ghost use Rattle.std.specs.Prelude.{IfOk, OnErr, OnOk};
 ghost use Rattle.dp_blend.specs.Color.{Channels};
 ghost use Rattle.dp_pixels.specs.Commands.{pixels_moved};
 
-use crate::canvas::{canvas_law, whole};
+use crate::layer::{canvas_law, whole};
 use crate::fill::Fill;
 use crate::paint::paint_region;
 use crate::patch::Patch;

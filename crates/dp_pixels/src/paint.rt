@@ -1,6 +1,7 @@
 //! What a command or a dab does to the rows of a region.
 
-ghost use Rattle.std.specs.Prelude.{◌≡◌, ◌≤◌, ◌<◌, ◌*◌, ℕ, ℤ, pos, ◌+ℤ◌, false, length, slice_index_or};
+ghost use Rattle.std.specs.Prelude.{◌≡◌, ◌≤◌, ◌<◌, ◌*◌, ℕ, ℤ, pos, ◌+ℤ◌, false, length};
+ghost use Rattle.std.specs.Prelude.{slice_index_or};
 ghost use Rattle.dp_blend.specs.Color.{Channels};
 ghost use Rattle.dp_pixels.specs.declared.rect.Rect.{Rect as Area};
 ghost use Rattle.dp_pixels.specs.Rectangles.{is_in};
@@ -39,7 +40,8 @@ pub(crate) fn paint_region<P: Paint>(
 )
     requires wide { region.now.width ≤ stride }
     requires long { region.now.height * stride ≤ length pixels.old }
-    ensures { IsPainted region.now stride (on_canvas region.now (P.change paint.now)) pixels.old pixels.new }
+    ensures { IsPainted region.now stride (on_canvas region.now (P.change paint.now))
+        pixels.old pixels.new }
 {
     let clip = region.clip(paint.bounds());
     if clip.left >= clip.right {

@@ -28,8 +28,10 @@ impl Patch<'_> {
 
     /// The index of the first pixel of a row of so many.
     fn start(&self, place: Place, len: usize) -> usize
-        requires { IsRowIn (rect_at self.now.corner.x self.now.corner.y self.now.w self.now.h) place len }
-        ensures value { result ≡ image_index self.now.corner.x self.now.corner.y self.now.w place.x place.y }
+        requires { IsRowIn
+            (rect_at self.now.corner.x self.now.corner.y self.now.w self.now.h) place len }
+        ensures value { result
+            ≡ image_index self.now.corner.x self.now.corner.y self.now.w place.x place.y }
         ensures within { result + len ≤ length self.now.pixels.now }
     {
         let (w, h) = (self.w, self.h);

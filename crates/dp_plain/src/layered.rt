@@ -4,7 +4,8 @@ ghost use Rattle.std.specs.Prelude.{◌≡◌, ◌+◌, ◌*◌, ◌≤◌, fals
 ghost use Rattle.dp_layers.specs.Layers.{row_limit};
 ghost use Rattle.dp_layers.specs.Changes.{IsCreate};
 ghost use Rattle.dp_plain.specs.Board.{empty_board, IsBoard};
-ghost use Rattle.dp_plain.specs.Commands.{draw, resized, arranged, painted, painted_layer, IsArranging};
+ghost use Rattle.dp_plain.specs.Commands.{draw, resized, arranged, painted, painted_layer};
+ghost use Rattle.dp_plain.specs.Commands.{IsArranging, is_accepted};
 ghost use Rattle.dp_plain.specs.Weights.{board_weight};
 
 use crate::geometry::{Resize, new_side};

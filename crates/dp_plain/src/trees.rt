@@ -1,8 +1,8 @@
 //! Trees of contents: changed by a command, or made anew on a canvas of other sides or as a second
 //! one.
 
-ghost use Rattle.std.specs.Prelude.{◌≡◌, ◌+◌, ◌*◌, ◌≤◌, None, Some, if◌then◌else◌, false, IsTrue, is_some};
-ghost use Rattle.std.specs.Prelude.{map, option_map, All, IfOk, OnOk, OnErr};
+ghost use Rattle.std.specs.Prelude.{◌≡◌, ◌+◌, ◌*◌, ◌≤◌, None, Some, if◌then◌else◌, true, false};
+ghost use Rattle.std.specs.Prelude.{IsTrue, is_some, map, option_map, All, IfOk, OnOk, OnErr};
 ghost use Rattle.std.specs.Option.{ForSome};
 ghost use Rattle.dp_blend.specs.Color.{clear};
 ghost use Rattle.dp_blend.specs.Canvas.{canvas_of};

@@ -1,6 +1,6 @@
 use Rattle.std.proofs.Common.{◌∙◌, sym}
 use Rattle.dp_blend.specs.Canvas.{canvas_of}
-use Rattle.dp_pixels.proofs.canvas.canvas_law.Goals as goal
+use Rattle.dp_pixels.proofs.layer.canvas_law.Goals as goal
 
 pub returns : goal.returns
 returns c = λ width height f pixels len same.
