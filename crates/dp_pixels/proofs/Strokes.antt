@@ -3,7 +3,7 @@ use Rattle.std.proofs.Common.{◌≡◌, ℕ, ◌+◌, ◌*◌, ◌^◌, ◌<◌
 use Rattle.std.proofs.Common.{take, map, fold, cond, Bool, true, false, refl, arith, ap, ◌∙◌, sym}
 use Rattle.std.proofs.Common.{subst}
 use Rattle.std.specs.Prelude.{ℤ, pos, ◌+ℤ◌, ◌-ℤ◌, ◌≤ℤ◌, ◌<ℤ◌, unsigned_abs}
-use Rattle.std.specs.List.{enumerate_from}
+use Rattle.std.specs.List.{enumerate_from, list_any}
 use Rattle.std.proofs.lemmas.Int.{ints}
 use Rattle.std.proofs.lemmas.List.{map_more, get_or-map, length-map, take_more}
 use Rattle.std.proofs.lemmas.List.FromFn.{length-enumerate_from, get_or-enumerate_from}
@@ -16,11 +16,14 @@ use Rattle.dp_pixels.specs.declared.dabs.PlacedDab.{PlacedDab}
 use Rattle.dp_pixels.specs.declared.dabs.Shape.{Shape}
 use Rattle.dp_pixels.specs.declared.region.Region.{Region}
 use Rattle.dp_pixels.specs.Rectangles.{is_in, canvas_rect}
-use Rattle.dp_pixels.specs.Commands.{dab_blended, dabs_blended, stroked}
+use Rattle.dp_msg_draw.specs.declared.draw.Draw.{Draw}
+use Rattle.dp_msg_draw.specs.declared.draw.Draw.TheVariants.{DabsRound, DabsSquare}
+use Rattle.dp_pixels.specs.Commands.{IsDabs, dab_blended, dabs_blended, pixel_after, pixel_drawn}
+use Rattle.dp_pixels.specs.Commands.{stroked}
 use Rattle.dp_pixels.specs.Regions.{IsPainted, on_canvas}
 use Rattle.dp_pixels.proofs.Regions.{painted_same, painted_then}
 use Rattle.dp_pixels.specs.Near.{IsNear}
-use Rattle.dp_pixels.specs.Dabs.{int_sum, placed_dabs}
+use Rattle.dp_pixels.specs.Dabs.{dab_covers, int_sum, placed_dabs}
 
 -- the sum of the numbers of the first dabs
 abbrev sum_of : (Dab → ℤ) → List Dab → ℕ → ℤ
@@ -150,6 +153,25 @@ next_is left top dabs k last placed within is near_x near_y before = record {
   within = omega (arith, length-placed_dabs left top dabs);
   is = placed_is left top dabs k last placed placed within is before;
 }
+
+-- a place is covered by one of the dabs
+abbrev pub one_covers : Shape → List PlacedDab → ℤ → ℤ → Bool
+one_covers shape dabs x y = list_any (λ (dab : PlacedDab). dab_covers shape dab x y) dabs
+
+-- dabs of the same shape and list cover the same places
+pub covered-same : (shape as_shape : Shape) (dabs as_dabs : List PlacedDab) → shape ≡ as_shape
+    → dabs ≡ as_dabs → one_covers shape dabs ≡ one_covers as_shape as_dabs
+covered-same shape as_shape dabs as_dabs shapes lists =
+    ap (λ (s : Shape). one_covers s dabs) shapes
+    ∙ ap (λ (l : List PlacedDab). one_covers as_shape l) lists
+
+-- dabs are drawn on a canvas as at each place
+pub drawn_dabs : (region : Region) (command : Draw) → IsDabs command
+    → pixel_drawn region.canvas_width region.canvas_height command
+    ≡ on_canvas region (pixel_after command)
+drawn_dabs region (DabsRound layer x y r g b mode dabs) is = refl
+drawn_dabs region (DabsSquare layer x y r g b mode dabs) is = refl
+drawn_dabs region _ is = absurd is
 
 -- dabs of the same colour, shape and list
 pub stroked-same : (mode : ℕ) (color as_color : Channels) (shape as_shape : Shape)

@@ -59,6 +59,7 @@ fn dab_run_of(shape: Shape, x: i32, y: i32, dabs: &Dabs) -> DabRun<'_>
 }
 
 /// The dabs of a message, and how they are drawn.
+#[derive(Clone, Copy)]
 pub(crate) struct ColoredDabs<'a> {
     /// The number of their mode.
     pub mode: u8,
