@@ -1,6 +1,6 @@
 //! Commands that are drawn on a region.
 
-ghost use Rattle.std.specs.Prelude.{◌≡◌, ◌≤◌, ◌*◌, ◌^◌, pos, length};
+ghost use Rattle.std.specs.Prelude.{◌≤◌, ◌*◌, ◌^◌, pos, length};
 ghost use Rattle.dp_pixels.specs.Near.{IsNear};
 ghost use Rattle.dp_pixels.specs.Dabs.{placed_dabs};
 ghost use Rattle.dp_pixels.specs.Tiles.{tile_changed};
@@ -147,8 +147,6 @@ fn tile_region(
 /// Draws a command other than MoveRect on a region, in a list of pixels whose rows are `stride`
 /// long. The pixels of the region that are on the canvas change, and all others stay; a command
 /// that is no pixel command, and MoveRect, changes none. It takes no memory.
-///
-/// The rule: docs/protocol.md, "Pixel commands".
 pub fn draw_region(command: &Draw, region: &Region, stride: usize, pixels: &mut [Pixel])
     requires wide { region.now.width ≤ stride }
     requires long { region.now.height * stride ≤ length pixels.old }

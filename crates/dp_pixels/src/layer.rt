@@ -61,7 +61,7 @@ fn draw_whole(command: &Draw, width: u32, height: u32, pixels: &mut [Pixel])
 ///
 /// # Errors
 ///
-/// The pixels are as they were. Only MoveRect takes memory.
+/// The pixels are as they were. MoveRect alone takes memory.
 pub fn draw_pixels(
     alloc: Global,
     command: &Draw,

@@ -63,7 +63,7 @@ fn copy_source(
 ///
 /// # Errors
 ///
-/// Where memory runs out. The pixels are then as they were.
+/// The pixels are as they were.
 pub(crate) fn move_pixels(
     alloc: Global,
     movement: Move,

@@ -26,7 +26,7 @@ pub(crate) struct Patch<'a> {
 impl Patch<'_> {
     ghost use Rattle.dp_pixels.specs.Regions.{IsRowIn};
 
-    /// The index of the first pixel of a row of so many.
+    /// The index of the first pixel of a row of `len` pixels.
     fn start(&self, place: Place, len: usize) -> usize
         requires { IsRowIn
             (rect_at self.now.corner.x self.now.corner.y self.now.w self.now.h) place len }

@@ -1,8 +1,8 @@
 //! One place, and what a command makes of the pixel there.
 
-ghost use Rattle.std.specs.Prelude.{◌≡◌, ℤ, pos, IsTrue};
+ghost use Rattle.std.specs.Prelude.{◌≡◌, pos, IsTrue};
 ghost use Rattle.std.specs.List.{list_any};
-ghost use Rattle.dp_blend.specs.Color.{Channels, premultiplied};
+ghost use Rattle.dp_blend.specs.Color.{premultiplied};
 ghost use Rattle.dp_pixels.specs.Rectangles.{rect_at};
 ghost use Rattle.dp_pixels.specs.Dabs.{dab_covers, placed_dabs};
 ghost use Rattle.dp_pixels.specs.Commands.{
@@ -109,9 +109,7 @@ pub(crate) fn dabs_of(command: &Draw) -> ColoredDabs<'_>
     }
 }
 
-/// Whether a fill or an image covers a place, or one of the dabs of a stroke. It takes no memory.
-///
-/// The rule: docs/protocol.md, "Pixel commands".
+/// Whether a fill or an image covers a place, or one of the dabs of a message. It takes no memory.
 pub fn covers(command: &Draw, x: i64, y: i64) -> bool
     requires { IsTrue (is_stamp command.now) }
     ensures { result ≡ covers command.now x y }

@@ -6,7 +6,6 @@ ghost use Rattle.dp_pixels.specs.Commands.{is_stamp};
 use crate::{Region, covers, draw_pixels, draw_region, pixel_after};
 use dp_blend::{Pixel, of_argb};
 use dp_msg_draw::{Colors, Dab, Dabs, Draw, TileContent, TilePixel, TilePixels};
-use std::alloc::Global;
 use std::process::Abort;
 use std::test::Fail;
 

@@ -1,6 +1,6 @@
 //! Tiles that are put on a canvas.
 
-ghost use Rattle.std.specs.Prelude.{◌≡◌, ◌≤◌, ◌<◌, ◌+◌, ◌*◌, ◌%◌, ◌/◌, ◌^◌, ◌↔◌, ℕ, pos};
+ghost use Rattle.std.specs.Prelude.{◌≡◌, ◌≤◌, ◌<◌, ◌+◌, ◌*◌, ◌%◌, ◌/◌, ◌^◌, ◌↔◌, ℕ};
 ghost use Rattle.std.specs.Prelude.{length, slice_index_or, Some, None, if◌then◌else◌};
 ghost use Rattle.std.specs.Option.{option_map_or};
 ghost use Rattle.dp_blend.specs.Color.{Channels};
