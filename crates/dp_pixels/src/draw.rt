@@ -164,7 +164,8 @@ pub fn draw_region(command: &Draw, region: &Region, stride: usize, pixels: &mut 
             color,
             ..
         } => {
-            fill_region(*mode, rect_of(*x, *y, *w, *h), *color, region, stride, pixels);
+            let area = rect_of(*x, *y, *w, *h);
+            fill_region(*mode, area, *color, region, stride, pixels);
         }
         Draw::PutImage {
             mode,
@@ -184,9 +185,7 @@ pub fn draw_region(command: &Draw, region: &Region, stride: usize, pixels: &mut 
             repeat,
             content,
             ..
-        } => {
-            tile_region(*col, *row, *repeat, content, region, stride, pixels);
-        }
+        } => tile_region(*col, *row, *repeat, content, region, stride, pixels),
         Draw::DabsRound { .. } | Draw::DabsSquare { .. } => {
             let dabs = dabs_of(command);
             dab_run_region(dabs.mode, dabs.color, dabs.run, region, stride, pixels);

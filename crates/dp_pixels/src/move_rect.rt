@@ -5,8 +5,8 @@ ghost use Rattle.std.specs.Prelude.{IfOk, OnErr, OnOk};
 ghost use Rattle.dp_blend.specs.Color.{Channels};
 ghost use Rattle.dp_pixels.specs.Commands.{pixels_moved};
 
-use crate::layer::{canvas_law, whole};
 use crate::fill::Fill;
+use crate::layer::{canvas_law, whole};
 use crate::paint::paint_region;
 use crate::patch::Patch;
 use crate::place::rect_of;

@@ -25,8 +25,10 @@ side_bounds (negsuc n) is = absurd (false≢true is)
 pub both_sides : (width height : ℤ) (m n : ℕ) → Some m ≡ side_if width → Some n ≡ side_if height
     → (is_side width && is_side height) ≡ true
 both_sides width height m n wide high =
-    rw ((cond_some (is_side width) (side width) m (sym wide)).0,
-    (cond_some (is_side height) (side height) n (sym high)).0) refl
+    rw (
+      (cond_some (is_side width) (side width) m (sym wide)).0,
+      (cond_some (is_side height) (side height) n (sym high)).0,
+    ) refl
 
 not_side : (n : ℤ) → None ≡ side_if n → is_side n ≡ false
 not_side n h = false_from_ne_true (is_side n)
