@@ -1,6 +1,5 @@
 -- Numbers and premultiplied colours. A channel or an alpha is a number from 0 to 32768, which
--- stands
--- for one.
+-- stands for one.
 use Rattle.std.specs.Prelude.{ℕ, ◌+◌, ◌*◌, ◌/◌, ◌%◌, ◌≤◌}
 
 -- a premultiplied colour: its channels and its alpha, where 32768 is one

@@ -2,8 +2,8 @@
 //!
 //! The rule: docs/protocol.md, "Numbers and blending".
 
-ghost use Rattle.std.specs.Prelude.{◌≡◌, ◌≤◌, ◌↔◌, IsSome, IfSome};
-ghost use Rattle.dp_blend.specs.Color.{IsPixel, clear, mul, from8, to8, fade, of_argb};
+ghost use Rattle.std.specs.Prelude.{◌≡◌, ◌≤◌, ◌↔◌, [], ◌∷◌, IsSome, IfSome};
+ghost use Rattle.dp_blend.specs.Color.{IsPixel, clear, white, mul, from8, to8, fade, of_argb};
 
 use std::marker::Model;
 
@@ -49,9 +49,15 @@ impl Pixel {
         a: ONE,
     };
 
+    /// `CLEAR` and `WHITE`: a law of the constants, which a clause can't name.
+    pub fn constants() -> [Pixel; 2]
+        ensures { result ≡ clear ∷ white ∷ [] }
+    {
+        [Pixel::CLEAR, Pixel::WHITE]
+    }
+
     /// The pixel with these channels and this alpha. `None` exactly where a channel is above alpha,
-    /// or
-    /// alpha above 32768.
+    /// or alpha above 32768.
     pub fn new(r: u16, g: u16, b: u16, a: u16) -> Option<Pixel>
         ensures valid { IsSome result ↔ IsPixel (record { r = r; g = g; b = b; a = a }) }
         ensures value { IfSome result (λ p. p ≡ record { r = r; g = g; b = b; a = a }) }

@@ -2,6 +2,7 @@
 //!
 //! In a product the factor is what a row has throughout, where there is such a number: so what
 //! depends on it alone is worked out once for the row.
+//!
 //! The rule: docs/protocol.md, "Numbers and blending".
 
 ghost use Rattle.std.specs.Prelude.{◌≡◌, ◌≤◌};

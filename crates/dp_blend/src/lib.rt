@@ -1,6 +1,7 @@
 //! Pixels with premultiplied alpha, the six ways to blend them, and rows of them.
 //!
 //! A channel or an alpha is a number from 0 to 32768, which stands for one.
+//!
 //! The rule: docs/protocol.md, "Numbers and blending".
 #![tactic(auto)]
 

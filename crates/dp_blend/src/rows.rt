@@ -1,6 +1,7 @@
 //! Rows of pixels: one source for each pixel, one through a mask, and a source at each place.
 //!
 //! Two pixels are blended at a time, and the last of an odd row by itself.
+//!
 //! The rule: docs/protocol.md, "Numbers and blending".
 
 ghost use Rattle.std.specs.Prelude.{◌≡◌, ◌<◌, ◌≤◌, ℕ, length, slice_index, slice_index_or, All};
@@ -15,8 +16,7 @@ use crate::kernels::{
 use crate::modes::Mode;
 
 /// Blends the source with each pixel of the row, faded by the mask at its place: 32768 blends all
-/// of
-/// it, and where the mask is 0 the pixel stays.
+/// of it, and where the mask is 0 the pixel stays.
 pub fn row_blend(mode: Mode, src: Pixel, mask: &[u16], row: &mut [Pixel])
     requires same_length { length mask.now ≡ length row.old }
     requires within { All (λ m. m ≤ 32768) mask.now }

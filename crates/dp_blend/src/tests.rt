@@ -176,8 +176,7 @@ fn fills_rows_as_the_plain_loop_does(rt: HostRuntime) {
 }
 
 /// Blends the prefix of a row through a mask, and a copy of it by the plain loop. The mask is one
-/// of
-/// six numbers throughout, or each of them six times in turn.
+/// of six numbers throughout, or each of them six times in turn.
 fn blend_both(rt: &impl Abort, mode: Mode, kind: usize, len: usize)
     requires { len ≤ 70 }
 {

@@ -2,11 +2,12 @@
 use Rattle.std.proofs.Common.{◌≡◌, ◌≢◌, ℕ, ◌<◌, ◌≤◌, Bool, true, false, cond, List, [], ◌∷◌, ◌++◌}
 use Rattle.std.proofs.Common.{length, get_or, Some, None, refl, ap, sym, ◌∙◌, arith, suc, zero}
 use Rattle.std.proofs.Common.{eq-eqb}
-use Rattle.std.specs.List.{find, position, position_or_len, remove, slice_get}
+use Rattle.std.specs.List.{find, position, position_or_len, remove}
 use Rattle.std.specs.Prelude.{nat_lt}
 use borrow.Author.Tests.{ltb-false}
 use Rattle.std.proofs.lemmas.List.Folds.{find_at}
 use Rattle.std.proofs.lemmas.List.Quantifiers.{position-Some}
+use Rattle.std.proofs.lemmas.Option.{slice_get_past}
 use Rattle.std.proofs.lemmas.Bool.{ne_eqb}
 use Rattle.std.proofs.lemmas.List.{get_or_default}
 use Rattle.dp_board.specs.Strokes.{Groups, without, redo}
@@ -15,12 +16,6 @@ use Rattle.dp_board.specs.Strokes.{Groups, without, redo}
 differ : (test : ℕ → Bool) (x y : ℕ) → test x ≡ false → test y ≡ true → x ≢ y
 differ test x y fails passes same = let e : true ≡ false = sym passes ∙ ap test (sym same)
     ∙ fails in cc
-
--- nothing stands past the end
-slice_get-past : (xs : List ℕ) (i : ℕ) → length xs ≤ i → slice_get xs i ≡ None
-slice_get-past [] i past = refl
-slice_get-past (x ∷ xs) zero past = absurd (omega arith)
-slice_get-past (x ∷ xs) (suc i) past = slice_get-past xs i (omega arith)
 
 -- the first that passes is found
 find-first : (test : ℕ → Bool) (xs : List ℕ) (i : ℕ) → i < length xs → test (get_or xs i 0) ≡ true
@@ -73,4 +68,4 @@ pub redo-None : (test : ℕ → Bool) (g : Groups) → position test g.undone �
     → g ≡ redo (find test g.undone) g
 redo-None test g none =
     sym (ap (λ group. redo group g) (find_at test g.undone
-    ∙ slice_get-past g.undone (position_or_len test g.undone) (past test g.undone none)))
+    ∙ slice_get_past g.undone (position_or_len test g.undone) (past test g.undone none)))

@@ -12,7 +12,7 @@ pub record Window : Type 0 where
   pub points : List ℕ
 
 -- a user's groups, each named by the position of its Point in the history, from 0: the done ones in
--- order, the undone ones with the latest undone in front
+-- order, the undone ones from the latest undone on
 pub record Groups : Type 0 where
   pub done : List ℕ
   pub undone : List ℕ
@@ -93,7 +93,7 @@ moved s (Undo who) = undoable s.window s.groups
 moved s (Redo who) = redoable s.window s.groups
 moved s act = None
 
--- an Undo that moves a group puts it, the last done one, in front of the undone ones
+-- an Undo that moves a group puts it, the last done one, before the undone ones
 abbrev pub undo : Option ℕ → Groups → Groups
 undo None g = g
 undo (Some group) g = record g { done = without_last g.done; undone = group ∷ g.undone }

@@ -18,7 +18,7 @@ pub trait Board: Sized + Drop {
     /// The board after an operation.
     ghost drawn: { Self → Self.Op → Self };
 
-    /// A draw of the operation makes at most so many tiles.
+    /// The most tiles that a draw of the operation makes.
     ghost weight: { Self.Op → ℕ };
 
     /// The two operations touch nothing in common.
@@ -32,8 +32,7 @@ pub trait Board: Sized + Drop {
     ///
     /// # Errors
     ///
-    /// Where memory runs out. The board is then as it was, and no draw is counted, but tiles that
-    /// were made are.
+    /// The board is as it was, and no draw is counted, but tiles that were made are.
     fn draw<D: Ledger, T: Ledger>(
         &mut self,
         op: &Self::Op,

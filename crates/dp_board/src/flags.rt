@@ -36,8 +36,7 @@ fn flags_of(alloc: Global, done: &[SortedGroups], joins: &[Join]) -> Result<Vec<
 /// For each act whether it is a command that is drawn at the end: one of group 0, or of a group
 /// that is done then. A group is in reach of undo and redo while its point is among the last
 /// `depth` points of all users. At one depth the time is in proportion to the number of acts, but
-/// for the sorting of each user's groups. The rule: docs/protocol.md, "Strokes, undo and redo".
-///
+/// for the sorting of each user's groups.
 pub fn drawn_flags<Op>(
     alloc: Global,
     depth: u32,

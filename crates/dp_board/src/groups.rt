@@ -9,8 +9,8 @@ use crate::window::PointWindow;
 use std::alloc::{AllocError, Global};
 use std::marker::Model;
 
-/// The groups of a user, each named by the position of its point: the done ones in order, the
-/// undone ones with the latest undone in front.
+/// The groups of a user, each named by the position of its point: the done ones in order, and the
+/// undone ones from the latest undone on.
 #[derive(Drop)]
 pub(crate) struct UserGroups {
     done: Vec<usize>,

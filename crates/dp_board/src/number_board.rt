@@ -31,7 +31,7 @@ impl Model for NumberBoard {
 }
 
 impl NumberBoard {
-    /// A row of so many zeros.
+    /// A row of `len` zeros.
     pub fn new(alloc: Global, len: usize) -> Result<NumberBoard, AllocError>
         ensures { IfOk result (λ board. board ≡ replicate len 0) }
     {

@@ -16,8 +16,7 @@ use std::marker::Model;
 use std::sync::ledger::Ledger;
 
 /// The board that is drawn on. It is seen as a `Board` of the definitions, and hands out no pixels
-/// but
-/// copies of them. So far its layers are plain lists of pixels, and no tile is made.
+/// but copies of them. So far its layers are plain lists of pixels, and no tile is made.
 #[derive(Drop)]
 pub struct Canvas {
     board: LayeredBoard<PlainPixels>,

@@ -8,7 +8,7 @@ use dp_board::Board;
 use dp_msg_draw::{Draw, read_draw};
 use dp_plain::{BoardView, PlainBoard};
 use dp_steps::Steps;
-use std::alloc::{AllocError, Global};
+use std::alloc::Global;
 use std::marker::Brand;
 use std::process::Abort;
 use std::sync::ledger::{Blank, Ledger};
@@ -69,9 +69,9 @@ fn draws<B: Board<Op = Draw> + BoardView, D: Ledger, T: Ledger>(
     tiles: &mut Steps<T>,
 ) -> Result<(), Fail> {
     for bytes in case.commands {
-        let op = command(alloc, bytes)?;
-        board.draw(&B::copy_op(alloc, &op)?, draws, tiles)?;
-        assert!(rt; !B::apart(&op, &op));
+        let command = command(alloc, bytes)?;
+        board.draw(&B::copy_op(alloc, &command)?, draws, tiles)?;
+        assert!(rt; !B::apart(&command, &command));
     }
     looks_so(rt, &board.share(draws, tiles)?, case);
     Ok(())
@@ -98,8 +98,10 @@ fn on_both_boards<D: Ledger, T: Ledger>(
     draw_blank: Blank,
     tile_blank: Blank,
 ) -> Result<(), Fail>
-    requires draws { (draw_blank.name ≡ D.name) × (draw_blank.parts ≡ D.parts) × (0 < draw_blank.parts) }
-    requires tiles { (tile_blank.name ≡ T.name) × (tile_blank.parts ≡ T.parts) × (0 < tile_blank.parts) }
+    requires draws { (draw_blank.name ≡ D.name) × (draw_blank.parts ≡ D.parts)
+        × (0 < draw_blank.parts) }
+    requires tiles { (tile_blank.name ≡ T.name) × (tile_blank.parts ≡ T.parts)
+        × (0 < tile_blank.parts) }
 {
     let mut drawn = Steps::<D>::new(draw_blank);
     let mut made = Steps::<T>::new(tile_blank);

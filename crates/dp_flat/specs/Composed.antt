@@ -8,8 +8,7 @@ use Rattle.dp_plain.specs.Board.{Board}
 use Rattle.dp_plain.specs.Picture.{compose, row_pixel, seen}
 
 -- what a row of the list shows at a place: its pixel, or what its own rows make from clear, going
--- down
--- into groups so deep
+-- down into groups so deep
 abbrev pub shown : Board → ℕ → LayerRow → ℕ → ℕ → Channels
 shown board depth row x y =
     if row.group

@@ -17,8 +17,7 @@ use dp_plain::BoardView;
 pub(crate) const LEVELS: usize = 16;
 
 /// How many rows of pixels the drawing of the picture's rows takes: one for the root's rows, and
-/// one
-/// for each level of groups.
+/// one for each level of groups.
 pub(crate) const ROWS: usize = LEVELS + 1;
 
 /// Leaves the row y of the picture in the first row of this memory.

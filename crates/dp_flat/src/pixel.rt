@@ -24,8 +24,7 @@ pub fn flatten<V: BoardView>(board: &V, x: u32, y: u32) -> Pixel
 }
 
 /// The pixel after the rows of the parent that aren't hidden, laid at the place on `start`, going
-/// down
-/// into groups so deep.
+/// down into groups so deep.
 #[cycle(composing)]
 fn compose_pixel<V: BoardView>(
     board: &V,

@@ -17,7 +17,8 @@ use Rattle.dp_layers.specs.Inside.{joined, IsJoined, filling}
 use Rattle.dp_layers.proofs.Finding.{AreDistinct, AreDistinct-none, AreDistinct-tail, cond-ap}
 use Rattle.dp_layers.proofs.Places.{IsAt, absent-rest, first_differs, IsAt-tail}
 use Rattle.dp_layers.proofs.Trees.{All-itself}
-use Rattle.dp_layers.proofs.Joining.{map-map, map-same, fill-absent}
+use Rattle.std.proofs.lemmas.Simd.{map-map}
+use Rattle.dp_layers.proofs.Joining.{map-same, fill-absent}
 use Rattle.dp_layers.proofs.Effects.{HoldsByKind}
 
 -- the tree without rows
@@ -50,9 +51,6 @@ filter_map-agree {A} g h (x ∷ xs) each =
     ∙ ap (cons_option (h x)) (filter_map-agree g h xs (All-tail P x xs each))
 
 module _ {X : Type 0} where
-  has_row_id : ℕ → Row X → Bool
-  has_row_id id row = row.layer.id == id
-
   pub content-absent : (rows : List (Row X)) (id : ℕ) → row_of (layers_of rows) id ≡ None
       → content_of rows id ≡ None
   content-absent [] id absent = refl
@@ -116,7 +114,7 @@ module _ {X : Type 0} where
   pub layers_of-filled : (rows : List (Row X)) (id : ℕ) (x : X)
       → layers_of (with_content rows id x) ≡ layers_of rows
   layers_of-filled rows id x =
-      map-map (fill_row id x) (λ (r : Row X). r.layer) rows
+      map-map (λ (r : Row X). r.layer) (fill_row id x) rows
       ∙ map-same (λ r. (fill_row id x r).layer) (λ (r : Row X). r.layer)
       (λ r. cond_both (r.layer.id == id) (record r { content = Some x }) r
       (λ (q : Row X). q.layer ≡ r.layer) (λ _. refl) (λ _. refl)) rows
@@ -134,15 +132,15 @@ module _ {X : Type 0} where
 
   module _ {Y : Type 0} (f : X → Y) where
     pub layers_of-mapped : (rows : List (Row X)) → layers_of (map_contents f rows) ≡ layers_of rows
-    layers_of-mapped rows = map-map (map_content f) (λ (r : Row Y). r.layer) rows
+    layers_of-mapped rows = map-map (λ (r : Row Y). r.layer) (map_content f) rows
 
     pub filled-mapped : (rows : List (Row X)) (id : ℕ) (x : X)
         → map_contents f (with_content rows id x) ≡ with_content (map_contents f rows) id (f x)
     filled-mapped rows id x =
-        map-map (fill_row id x) (map_content f) rows
+        map-map (map_content f) (fill_row id x) rows
         ∙ map-same (λ r. map_content f (fill_row id x r)) (λ r. fill_row id (f x) (map_content f r))
         (λ r. cond-ap (map_content f) (r.layer.id == id) (record r { content = Some x }) r) rows
-        ∙ sym (map-map (map_content f) (fill_row id (f x)) rows)
+        ∙ sym (map-map (fill_row id (f x)) (map_content f) rows)
 
     pub content-mapped : (rows : List (Row X)) (id : ℕ)
         → content_of (map_contents f rows) id ≡ option_map f (content_of rows id)

@@ -10,6 +10,8 @@ use Rattle.std.proofs.lemmas.Bool.{or_cases, ltb-true}
 use Rattle.std.proofs.lemmas.List.{map-append}
 use Rattle.std.proofs.lemmas.List.Elements.{All-push, All-map, All-filter}
 use Rattle.std.proofs.lemmas.List.Sums.{AllPass-from_list_all}
+use Rattle.std.proofs.Common.{Ok, Err}
+use Rattle.std.specs.Prelude.{Result, OnErr}
 use Rattle.dp_msg_draw.specs.Limits.{IsListedMode}
 use Rattle.dp_msg_draw.specs.declared.draw.Draw.{Draw}
 use Rattle.dp_msg_draw.specs.declared.draw.Draw.TheVariants.{LayerCreate, LayerAttr, LayerTitle}
@@ -57,6 +59,13 @@ listed_back mode (inr (inr (inl e))) = rw e refl
 listed_back mode (inr (inr (inr (inl e)))) = rw e refl
 listed_back mode (inr (inr (inr (inr (inl e))))) = rw e refl
 listed_back mode (inr (inr (inr (inr (inr e))))) = rw e refl
+
+-- ---- an error
+
+-- what holds, holds where an error comes
+pub at_error : {T E P : Type 0} (r : Result T E) → P → OnErr r P
+at_error (Ok x) holds = tt
+at_error (Err e) holds = holds
 
 -- ---- each command
 

@@ -5,6 +5,7 @@ use Rattle.std.proofs.Common.{⊎_elim, eq-eqb, ◌<◌, arith}
 use Rattle.std.specs.List.{filter, items_where_true}
 use Rattle.std.proofs.lemmas.Bool.{cases_Bool}
 use Rattle.std.proofs.lemmas.List.{map-append, length-map}
+use Rattle.std.proofs.lemmas.Simd.{map-map}
 use Rattle.dp_layers.specs.declared.row.LayerRow.{LayerRow}
 use Rattle.dp_layers.specs.Layers.{has_id, row_of, is_in}
 use Rattle.dp_layers.specs.Rows.{Row, layers_of, fill_row, with_content}
@@ -15,11 +16,6 @@ use Rattle.dp_layers.specs.Inside.{joined, carried, stay_flags}
 use Rattle.dp_layers.proofs.Finding.{AreDistinct, AreDistinct-tail}
 use Rattle.dp_layers.proofs.Placing.{filter-map, placed-map}
 use Rattle.dp_layers.proofs.Places.{IsAt, IsAt-tail, absent-rest, first_differs, carried-map}
-
-pub map-map : {A B C : Type 0} (f : A → B) (g : B → C) (xs : List A)
-    → map g (map f xs) ≡ map (λ x. g (f x)) xs
-map-map f g [] = refl
-map-map f g (x ∷ xs) = ap (λ ys. g (f x) ∷ ys) (map-map f g xs)
 
 pub map-same : {A B : Type 0} (f g : A → B) → ((x : A) → f x ≡ g x) → (xs : List A)
     → map f xs ≡ map g xs
@@ -74,8 +70,8 @@ module _ {X : Type 0} where
   pub layers_of-changed : (rows : List (Row X)) (id : ℕ) (change : LayerRow → LayerRow)
       → layers_of (rows_changed rows id change) ≡ map (change_row id change) (layers_of rows)
   layers_of-changed rows id change =
-      map-map (λ (r : Row X). with_layer r (change_row id change r.layer)) (λ r. r.layer) rows
-      ∙ sym (map-map (λ (r : Row X). r.layer) (change_row id change) rows)
+      map-map (λ (r : Row X). r.layer) (λ (r : Row X). with_layer r (change_row id change r.layer)) rows
+      ∙ sym (map-map (change_row id change) (λ (r : Row X). r.layer) rows)
 
   pub layers_of-deleted : (rows : List (Row X)) (id : ℕ)
       → layers_of (deleted rows id) ≡ filter (λ row. not (is_in (layers_of rows) row.id id))
@@ -115,8 +111,9 @@ module _ {X : Type 0} where
     parts-changed id change = record {
       left = ap (map (change_row id change)) (sym (layers_of-joined layers contents same))
           ∙ sym (layers_of-changed (joined layers contents) id change);
-      right = sym (map-map (λ (r : Row X). with_layer r (change_row id change r.layer))
-          (λ r. r.content) (joined layers contents) ∙ holdings_of-joined layers contents same);
+      right = sym (map-map (λ (r : Row X). r.content)
+          (λ (r : Row X). with_layer r (change_row id change r.layer)) (joined layers contents)
+          ∙ holdings_of-joined layers contents same);
     }
 
     pub parts-carried : (from to : ℕ)
@@ -137,7 +134,7 @@ module _ {X : Type 0} where
         let is_layers : layers_of rows ≡ layers = layers_of-joined layers contents same in
         let keep : LayerRow → Bool = λ l. not (is_in layers l.id id) in
         let flags : stay_flags layers id ≡ map (λ r. keep r.layer) rows =
-        ap (map keep) (sym is_layers) ∙ map-map (λ (r : Row X). r.layer) keep rows in
+        ap (map keep) (sym is_layers) ∙ map-map keep (λ (r : Row X). r.layer) rows in
         let gone : filter (λ r. keep r.layer) rows ≡ deleted rows id =
         ap (λ ls. filter (λ (r : Row X). not (is_in ls r.layer.id id)) rows) (sym is_layers) in
         record {

@@ -14,15 +14,15 @@ use Rattle.dp_layers.specs.Changes.{set_title, set_parent, placed, deleted, has_
 use Rattle.dp_layers.specs.Changes.{rows_after}
 use Rattle.dp_layers.proofs.Finding.{cond-ap}
 use Rattle.dp_layers.proofs.Placing.{filter-map, placed-map}
-use Rattle.dp_layers.proofs.Joining.{map-map}
+use Rattle.std.proofs.lemmas.Simd.{map-map}
 use Rattle.dp_layers.proofs.Contents.{layers_of-mapped}
 
 module _ {X Y : Type 0} (f : X → Y) (rows : List (Row X)) where
   changed-mapped : (id : ℕ) (change : LayerRow → LayerRow)
       → map_contents f (rows_changed rows id change) ≡ rows_changed (map_contents f rows) id change
   changed-mapped id change =
-      map-map (λ (r : Row X). with_layer r (change_row id change r.layer)) (map_content f) rows
-      ∙ sym (map-map (map_content f) (λ (r : Row Y). with_layer r (change_row id change r.layer))
+      map-map (map_content f) (λ (r : Row X). with_layer r (change_row id change r.layer)) rows
+      ∙ sym (map-map (λ (r : Row Y). with_layer r (change_row id change r.layer)) (map_content f)
       rows)
 
   deleted-mapped : (id : ℕ) → map_contents f (deleted rows id) ≡ deleted (map_contents f rows) id

@@ -85,10 +85,3 @@ module _ {X : Type 0} (flags : List Bool) (xs ys : List X) (k i : ℕ)
         behind = omega (arith, h.behind);
         long = long ∙ h.long;
       }
-
-pub sifted : {X : Type 0} (flags : List Bool) (xs ys : List X) (k i : ℕ)
-    → SiftsInPlace flags xs ys k i → length flags ≤ i → length xs ≤ i
-    → take k ys ≡ items_where_true flags xs
-sifted flags xs ys k i h short within =
-    h.front ∙ ap (λ fs. items_where_true fs (take i xs)) (take_all i flags short)
-    ∙ ap (items_where_true flags) (take_all i xs within)

@@ -85,7 +85,7 @@ behind test taken (row ∷ rows) =
     if test row then row ∷ (taken ++ rows) else row ∷ behind test taken rows
 
 -- The row of the id is taken out and stands directly after the row `above`, or first where that is
--- 0. Rows below it stay in their places. (`has` tells whether a row has an id.)
+-- 0. Rows below it stay in their places. (`has` says whether a row has an id.)
 abbrev pub placed : {R : Type 0} → (ℕ → R → Bool) → List R → ℕ → ℕ → List R
 placed has rows id above =
     let taken = filter (has id) rows in

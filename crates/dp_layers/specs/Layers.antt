@@ -10,7 +10,7 @@ use Rattle.dp_layers.specs.declared.row.LayerRow.{LayerRow}
 abbrev pub nesting_limit : ℕ
 nesting_limit = 16
 
--- so many rows may stand in the list
+-- the most rows of a list
 abbrev pub row_limit : ℕ
 row_limit = 256
 

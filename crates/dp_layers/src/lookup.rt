@@ -1,6 +1,6 @@
 //! Looking up rows, and going up from a row to its parents.
 
-ghost use Rattle.std.specs.Prelude.{◌≡◌, ◌≢◌, ◌<◌, true, length, position, option_copied, IfOk};
+ghost use Rattle.std.specs.Prelude.{◌≡◌, ◌<◌, true, position, option_copied, IfOk};
 ghost use Rattle.dp_layers.specs.Layers.{
   has_id,
   row_of,
@@ -8,7 +8,6 @@ ghost use Rattle.dp_layers.specs.Layers.{
   is_root_or_group,
   parent_of,
   is_within,
-  is_below,
   is_in,
   are_within,
   is_listed_mode,
@@ -22,7 +21,7 @@ use std::alloc::{AllocError, Global};
 /// Groups are nested at most this deep.
 const NESTING_LIMIT: usize = 16;
 
-/// So many rows may stand in the list.
+/// The most rows of a list.
 const ROW_LIMIT: usize = 256;
 
 /// The place of the row of the id.

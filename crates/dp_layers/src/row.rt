@@ -10,7 +10,7 @@ use std::alloc::AllocError;
 pub struct LayerRow {
     /// Its id, which is not 0.
     pub id: u16,
-    /// The id of the group that it stands in, or 0 for the root.
+    /// The id of the group that it is in, or 0 for the root.
     pub parent: u16,
     pub group: bool,
     pub title: Title,

@@ -1,4 +1,6 @@
 //! The tree of layers.
+//!
+//! The rule: docs/protocol.md, "The layers".
 
 ghost use Rattle.std.specs.Prelude.{
   ◌≡◌,
@@ -12,6 +14,7 @@ ghost use Rattle.std.specs.Prelude.{
   OnErr,
   is_some,
   option_copied,
+  true,
 };
 ghost use Rattle.dp_layers.specs.Layers.{is_paint_row};
 ghost use Rattle.dp_layers.specs.Rows.{layers_of, contents_of, content_of, with_content};
@@ -103,26 +106,37 @@ impl<X: Drop> Tree<X> {
         }
     }
 
+    /// Whether a LayerCreate has an effect. It takes no memory.
+    pub fn accepts(&self, command: &Draw) -> bool
+        requires kind { IsCreate command.now }
+        ensures { result ≡ has_effect (layers_of self.now) command.now }
+    {
+        match command {
+            Draw::LayerCreate { id, parent, .. } => can_create(self.rows(), *id, *parent),
+            _ => unreachable!(),
+        }
+    }
+
     /// LayerCreate: puts a new row last, which holds x, where it is no group. True exactly where
-    /// the
-    /// command has an effect. The rule: docs/protocol.md, "The layers".
+    /// the command has an effect.
     ///
     /// # Errors
     ///
-    /// Where memory runs out. The rows are then as they were.
-    pub fn create(&mut self, op: &Draw, x: Option<X>) -> Result<bool, AllocError>
-        requires kind { IsCreate op.now }
-        requires content { is_some x ≡ makes_paint_row op.now }
-        ensures effect { IfOk result (λ effect. effect ≡ has_effect (layers_of self.old) op.now) }
-        ensures ok { OnOk result (self.new ≡ rows_after self.old op.now x) }
+    /// The rows are as they were.
+    pub fn create(&mut self, command: &Draw, x: Option<X>) -> Result<bool, AllocError>
+        requires kind { IsCreate command.now }
+        requires content { is_some x ≡ makes_paint_row command.now }
+        ensures effect { IfOk result (λ effect. effect ≡ has_effect (layers_of self.old) command.now) }
+        ensures ok { OnOk result (self.new ≡ rows_after self.old command.now x) }
         ensures err { OnErr result (self.new ≡ self.old) }
+        ensures memory { OnErr result (has_effect (layers_of self.old) command.now ≡ true) }
     {
         let Draw::LayerCreate {
             id,
             parent,
             group,
             title,
-        } = op
+        } = command
         else {
             unreachable!()
         };
@@ -147,18 +161,18 @@ impl<X: Drop> Tree<X> {
     ///
     /// # Errors
     ///
-    /// None comes: it takes no memory.
-    pub fn attr(&mut self, op: &Draw) -> Result<bool, AllocError>
-        requires { IsAttr op.now }
-        ensures effect { result ≡ Ok (has_effect (layers_of self.old) op.now) }
-        ensures rows { self.new ≡ rows_after self.old op.now None }
+    /// None comes.
+    pub fn attr(&mut self, command: &Draw) -> Result<bool, AllocError>
+        requires { IsAttr command.now }
+        ensures effect { result ≡ Ok (has_effect (layers_of self.old) command.now) }
+        ensures rows { self.new ≡ rows_after self.old command.now None }
     {
         let Draw::LayerAttr {
             id,
             opacity,
             mode,
             hidden,
-        } = op
+        } = command
         else {
             unreachable!()
         };
@@ -180,14 +194,15 @@ impl<X: Drop> Tree<X> {
     ///
     /// # Errors
     ///
-    /// Where memory runs out. The rows are then as they were.
-    pub fn title(&mut self, op: &Draw) -> Result<bool, AllocError>
-        requires { IsTitleChange op.now }
-        ensures effect { IfOk result (λ effect. effect ≡ has_effect (layers_of self.old) op.now) }
-        ensures ok { OnOk result (self.new ≡ rows_after self.old op.now None) }
+    /// The rows are as they were.
+    pub fn title(&mut self, command: &Draw) -> Result<bool, AllocError>
+        requires { IsTitleChange command.now }
+        ensures effect { IfOk result (λ effect. effect ≡ has_effect (layers_of self.old) command.now) }
+        ensures ok { OnOk result (self.new ≡ rows_after self.old command.now None) }
         ensures err { OnErr result (self.new ≡ self.old) }
+        ensures memory { OnErr result (has_effect (layers_of self.old) command.now ≡ true) }
     {
-        let Draw::LayerTitle { id, title } = op else {
+        let Draw::LayerTitle { id, title } = command else {
             unreachable!()
         };
         let Some(at) = place_of(&self.layers, *id) else {
@@ -202,13 +217,13 @@ impl<X: Drop> Tree<X> {
     ///
     /// # Errors
     ///
-    /// None comes: it takes no memory.
-    pub fn shift(&mut self, op: &Draw) -> Result<bool, AllocError>
-        requires { IsMove op.now }
-        ensures effect { result ≡ Ok (has_effect (layers_of self.old) op.now) }
-        ensures rows { self.new ≡ rows_after self.old op.now None }
+    /// None comes.
+    pub fn shift(&mut self, command: &Draw) -> Result<bool, AllocError>
+        requires { IsMove command.now }
+        ensures effect { result ≡ Ok (has_effect (layers_of self.old) command.now) }
+        ensures rows { self.new ≡ rows_after self.old command.now None }
     {
-        let Draw::LayerMove { id, parent, above } = op else {
+        let Draw::LayerMove { id, parent, above } = command else {
             unreachable!()
         };
         let Some(from) = place_of(&self.layers, *id) else {
@@ -231,14 +246,15 @@ impl<X: Drop> Tree<X> {
     ///
     /// # Errors
     ///
-    /// Where memory runs out. The rows are then as they were.
-    pub fn delete(&mut self, op: &Draw) -> Result<bool, AllocError>
-        requires { IsDelete op.now }
-        ensures effect { IfOk result (λ effect. effect ≡ has_effect (layers_of self.old) op.now) }
-        ensures ok { OnOk result (self.new ≡ rows_after self.old op.now None) }
+    /// The rows are as they were.
+    pub fn delete(&mut self, command: &Draw) -> Result<bool, AllocError>
+        requires { IsDelete command.now }
+        ensures effect { IfOk result (λ effect. effect ≡ has_effect (layers_of self.old) command.now) }
+        ensures ok { OnOk result (self.new ≡ rows_after self.old command.now None) }
         ensures err { OnErr result (self.new ≡ self.old) }
+        ensures memory { OnErr result (has_effect (layers_of self.old) command.now ≡ true) }
     {
-        let Draw::LayerDelete { id } = op else {
+        let Draw::LayerDelete { id } = command else {
             unreachable!()
         };
         if !has_row(&self.layers, *id) {

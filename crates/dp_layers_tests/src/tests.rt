@@ -55,15 +55,15 @@ fn command(alloc: Global, order: Order) -> Draw {
 }
 
 /// Takes the command, and answers whether it had effect; a new paint row holds its own id.
-fn take_command(tree: &mut Tree<u16>, op: &Draw) -> Result<bool, AllocError> {
-    match op {
+fn take_command(tree: &mut Tree<u16>, command: &Draw) -> Result<bool, AllocError> {
+    match command {
         Draw::LayerCreate { id, group, .. } => {
-            tree.create(op, if *group { None } else { Some(*id) })
+            tree.create(command, if *group { None } else { Some(*id) })
         }
-        Draw::LayerAttr { .. } => tree.attr(op),
-        Draw::LayerTitle { .. } => tree.title(op),
-        Draw::LayerMove { .. } => tree.shift(op),
-        Draw::LayerDelete { .. } => tree.delete(op),
+        Draw::LayerAttr { .. } => tree.attr(command),
+        Draw::LayerTitle { .. } => tree.title(command),
+        Draw::LayerMove { .. } => tree.shift(command),
+        Draw::LayerDelete { .. } => tree.delete(command),
         _ => Ok(false),
     }
 }
@@ -86,7 +86,7 @@ fn expect(rt: &impl Abort, tree: &Tree<u16>, rows: &[(u16, u16)]) {
     }
 }
 
-/// So many groups, each in the one before, from id 1 on.
+/// Groups from id 1 on, each in the one before.
 fn nested(rt: &impl Abort, alloc: Global, count: u16) -> Result<Tree<u16>, Fail> {
     let mut tree = Tree::new(alloc);
     for id in 1..=count {
@@ -98,7 +98,7 @@ fn nested(rt: &impl Abort, alloc: Global, count: u16) -> Result<Tree<u16>, Fail>
 /// Group 10 with paint row 11 and group 12, which has paint row 13; paint row 20 and group 30.
 fn forest(rt: &impl Abort, alloc: Global) -> Result<Tree<u16>, Fail> {
     let mut tree = Tree::new(alloc);
-    let ops = [
+    let orders = [
         Group(10, 0),
         Paint(11, 10),
         Group(12, 10),
@@ -106,8 +106,8 @@ fn forest(rt: &impl Abort, alloc: Global) -> Result<Tree<u16>, Fail> {
         Paint(20, 0),
         Group(30, 0),
     ];
-    for op in &ops {
-        assert!(rt; take(alloc, &mut tree, *op)?);
+    for order in &orders {
+        assert!(rt; take(alloc, &mut tree, *order)?);
     }
     expect(rt, &tree, &FOREST);
     Ok(tree)
@@ -163,7 +163,7 @@ fn there_are_256_rows(rt: HostRuntime) -> Result<(), Fail> {
 #[test]
 fn moves(rt: HostRuntime) -> Result<(), Fail> {
     let rows: [(Order, [(u16, u16); 6]); 11] = [
-        // to the front, where it is already and from elsewhere
+        // to the first place, where it is already and from elsewhere
         (To(10, 0, 0), FOREST),
         (
             To(20, 0, 0),
@@ -206,9 +206,9 @@ fn moves(rt: HostRuntime) -> Result<(), Fail> {
             [(10, 0), (13, 10), (11, 10), (12, 10), (20, 0), (30, 0)],
         ),
     ];
-    for (op, after) in &rows {
+    for (order, after) in &rows {
         let mut tree = forest(&rt, rt.alloc())?;
-        assert!(rt; take(rt.alloc(), &mut tree, *op)?, "{op:?}");
+        assert!(rt; take(rt.alloc(), &mut tree, *order)?, "{order:?}");
         expect(&rt, &tree, after);
     }
     Ok(())
@@ -232,7 +232,7 @@ fn deletes(rt: HostRuntime) -> Result<(), Fail> {
 
 #[test]
 fn refusals_leave_the_rows(rt: HostRuntime) -> Result<(), Fail> {
-    let ops = [
+    let orders = [
         Paint(0, 0),
         Paint(20, 0),
         Group(10, 0),
@@ -252,8 +252,8 @@ fn refusals_leave_the_rows(rt: HostRuntime) -> Result<(), Fail> {
         Delete(0),
     ];
     let mut tree = forest(&rt, rt.alloc())?;
-    for op in &ops {
-        assert!(rt; !take(rt.alloc(), &mut tree, *op)?, "{op:?}");
+    for order in &orders {
+        assert!(rt; !take(rt.alloc(), &mut tree, *order)?, "{order:?}");
         expect(&rt, &tree, &FOREST);
     }
     assert!(rt;

@@ -3,7 +3,7 @@ use Rattle.std.proofs.Common.{◌≡◌, ℕ, ◌+◌, ◌*◌, ◌^◌, ◌<◌
 use Rattle.std.proofs.Common.{take, map, fold, cond, Bool, true, false, refl, arith, ap, ◌∙◌, sym}
 use Rattle.std.proofs.Common.{subst}
 use Rattle.std.specs.Prelude.{ℤ, pos, ◌+ℤ◌, ◌-ℤ◌, ◌≤ℤ◌, ◌<ℤ◌, unsigned_abs}
-use Rattle.std.specs.List.{enumerate_from}
+use Rattle.std.specs.List.{enumerate_from, list_any}
 use Rattle.std.proofs.lemmas.Int.{ints}
 use Rattle.std.proofs.lemmas.List.{map_more, get_or-map, length-map, take_more}
 use Rattle.std.proofs.lemmas.List.FromFn.{length-enumerate_from, get_or-enumerate_from}
@@ -16,11 +16,14 @@ use Rattle.dp_pixels.specs.declared.dabs.PlacedDab.{PlacedDab}
 use Rattle.dp_pixels.specs.declared.dabs.Shape.{Shape}
 use Rattle.dp_pixels.specs.declared.region.Region.{Region}
 use Rattle.dp_pixels.specs.Rectangles.{is_in, canvas_rect}
-use Rattle.dp_pixels.specs.Commands.{dab_blended, dabs_blended, stroked}
+use Rattle.dp_msg_draw.specs.declared.draw.Draw.{Draw}
+use Rattle.dp_msg_draw.specs.declared.draw.Draw.TheVariants.{DabsRound, DabsSquare}
+use Rattle.dp_pixels.specs.Commands.{IsDabs, dab_blended, dabs_blended, pixel_after, pixel_drawn}
+use Rattle.dp_pixels.specs.Commands.{stroked}
 use Rattle.dp_pixels.specs.Regions.{IsPainted, on_canvas}
 use Rattle.dp_pixels.proofs.Regions.{painted_same, painted_then}
 use Rattle.dp_pixels.specs.Near.{IsNear}
-use Rattle.dp_pixels.specs.Dabs.{int_sum, placed_dabs}
+use Rattle.dp_pixels.specs.Dabs.{dab_covers, int_sum, placed_dabs}
 
 -- the sum of the numbers of the first dabs
 abbrev sum_of : (Dab → ℤ) → List Dab → ℕ → ℤ
@@ -69,13 +72,6 @@ pub record IsLast (left top : ℤ) (dabs : List Dab) (k : ℕ) (last : Place) : 
   pub x : last.x ≡ left +ℤ int_sum (map (λ (dab : Dab). dab.dx) (take k dabs))
   pub y : last.y ≡ top +ℤ int_sum (map (λ (dab : Dab). dab.dy) (take k dabs))
   pub near : IsNear (2 ^ 32 + 128 * k) last
-
-pub last_none : (at : Place) (dabs : List Dab) → IsNear (2 ^ 32) at → IsLast at.x at.y dabs 0 at
-last_none at dabs near = record {
-  x = omega (arith, ints);
-  y = omega (arith, ints);
-  near = record { x = omega (arith, near.x); y = omega (arith, near.y) };
-}
 
 -- the dab after the last one is the last of one dab more
 pub last_more : (left top : ℤ) (dabs : List Dab) (k : ℕ) (last : Place) (placed : PlacedDab)
@@ -158,17 +154,30 @@ next_is left top dabs k last placed within is near_x near_y before = record {
   is = placed_is left top dabs k last placed placed within is before;
 }
 
--- a region on which the same dabs are drawn, by other names
-pub stroke_as : (region : Region) (stride mode : ℕ) (color as_color : Channels)
-    (shape as_shape : Shape) (dabs as_dabs : List PlacedDab) (old new : List Channels)
-    → color ≡ as_color → shape ≡ as_shape → dabs ≡ as_dabs
-    → IsPainted region stride (on_canvas region (stroked mode color shape dabs)) old new
-    → IsPainted region stride (on_canvas region (stroked mode as_color as_shape as_dabs)) old new
-stroke_as region stride mode color as_color shape as_shape dabs as_dabs old new colors shapes lists
-    painted =
-    subst (λ (p : Channels). IsPainted region stride (on_canvas region
-    (stroked mode p as_shape as_dabs)) old new) colors
-    (subst (λ (s : Shape). IsPainted region stride (on_canvas region (stroked mode color s as_dabs))
-    old new) shapes
-    (subst (λ (l : List PlacedDab). IsPainted region stride
-    (on_canvas region (stroked mode color shape l)) old new) lists painted))
+-- a place is covered by one of the dabs
+abbrev pub one_covers : Shape → List PlacedDab → ℤ → ℤ → Bool
+one_covers shape dabs x y = list_any (λ (dab : PlacedDab). dab_covers shape dab x y) dabs
+
+-- dabs of the same shape and list cover the same places
+pub covered-same : (shape as_shape : Shape) (dabs as_dabs : List PlacedDab) → shape ≡ as_shape
+    → dabs ≡ as_dabs → one_covers shape dabs ≡ one_covers as_shape as_dabs
+covered-same shape as_shape dabs as_dabs shapes lists =
+    ap (λ (s : Shape). one_covers s dabs) shapes
+    ∙ ap (λ (l : List PlacedDab). one_covers as_shape l) lists
+
+-- dabs are drawn on a canvas as at each place
+pub drawn_dabs : (region : Region) (command : Draw) → IsDabs command
+    → pixel_drawn region.canvas_width region.canvas_height command
+    ≡ on_canvas region (pixel_after command)
+drawn_dabs region (DabsRound layer x y r g b mode dabs) is = refl
+drawn_dabs region (DabsSquare layer x y r g b mode dabs) is = refl
+drawn_dabs region _ is = absurd is
+
+-- dabs of the same colour, shape and list
+pub stroked-same : (mode : ℕ) (color as_color : Channels) (shape as_shape : Shape)
+    (dabs as_dabs : List PlacedDab) → color ≡ as_color → shape ≡ as_shape → dabs ≡ as_dabs
+    → stroked mode color shape dabs ≡ stroked mode as_color as_shape as_dabs
+stroked-same mode color as_color shape as_shape dabs as_dabs colors shapes lists =
+    ap (λ (p : Channels). stroked mode p shape dabs) colors
+    ∙ ap (λ (s : Shape). stroked mode as_color s dabs) shapes
+    ∙ ap (λ (l : List PlacedDab). stroked mode as_color as_shape l) lists

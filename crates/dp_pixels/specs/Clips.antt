@@ -1,4 +1,4 @@
--- The part of a region that a rectangle has.
+-- The part of a region that is in a rectangle.
 use Rattle.std.specs.Prelude.{ℕ, ◌+◌, ◌<◌, ◌≤◌, ◌↔◌, ℤ, pos, ◌<ℤ◌}
 use Rattle.dp_pixels.specs.declared.rect.Rect.{Rect}
 use Rattle.dp_pixels.specs.declared.region.Region.{Region}

@@ -83,6 +83,12 @@ is_stamp (DabsRound layer x y r g b mode dabs) = true
 is_stamp (DabsSquare layer x y r g b mode dabs) = true
 is_stamp _ = false
 
+-- a command of dabs
+abbrev pub IsDabs : Draw → Type 0
+IsDabs (DabsRound layer x y r g b mode dabs) = Unit {0}
+IsDabs (DabsSquare layer x y r g b mode dabs) = Unit {0}
+IsDabs _ = ⊥
+
 -- a place is covered by the fill, by the image or by one of the dabs
 abbrev pub covers : Draw → ℤ → ℤ → Bool
 covers (FillRect layer mode x y w h color) px py = is_in (rect_at (pos x) (pos y) w h) px py

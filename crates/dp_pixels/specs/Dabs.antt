@@ -14,8 +14,7 @@ abbrev pub int_sum : List ℤ → ℤ
 int_sum numbers = fold ◌+ℤ◌ (pos 0) numbers
 
 -- the dabs of a message at a place: dab k, counted from 0, stands at that place plus the sums of
--- the
--- differences of the dabs up to it, its own included
+-- the differences of the dabs up to it, its own included
 abbrev pub placed_dabs : ℤ → ℤ → List Dab → List PlacedDab
 placed_dabs x y dabs =
     map

@@ -14,8 +14,7 @@ abbrev pub tiles_along : ℕ → ℕ
 tiles_along side = (side + 63) / 64
 
 -- the number of the tile at a column and a row of a canvas of this width: tiles are numbered from
--- 0,
--- row by row
+-- 0, row by row
 abbrev pub tile_number : ℕ → ℕ → ℕ → ℕ
 tile_number width col row = row * tiles_along width + col
 

@@ -1,12 +1,11 @@
 //! Round dabs.
 
-ghost use Rattle.std.specs.Prelude.{◌≤◌, ◌<◌, ◌^◌, ◌↔◌, ℕ, pos, ◌-ℤ◌, if◌then◌else◌, IsTrue};
+ghost use Rattle.std.specs.Prelude.{◌≤◌, ◌<◌, ◌^◌, ◌↔◌, ℕ, pos, if◌then◌else◌, IsTrue};
 ghost use Rattle.dp_blend.specs.Blending.{blend};
 ghost use Rattle.dp_pixels.specs.declared.dabs.Shape.{Shape as DabShape};
 ghost use Rattle.dp_pixels.specs.Near.{IsNear};
 ghost use Rattle.dp_pixels.specs.Dabs.{dab_covers, dab_rect, is_in_disc};
 ghost use Rattle.dp_pixels.specs.Spans.{IsInSpan};
-ghost use Rattle.dp_pixels.specs.Rectangles.{is_in};
 
 use crate::dabs::PlacedDab;
 use crate::paint::Paint;

@@ -1,6 +1,6 @@
 //! Commands that are drawn on a region.
 
-ghost use Rattle.std.specs.Prelude.{◌≡◌, ◌≤◌, ◌*◌, ◌^◌, pos, length};
+ghost use Rattle.std.specs.Prelude.{◌≤◌, ◌*◌, ◌^◌, pos, length};
 ghost use Rattle.dp_pixels.specs.Near.{IsNear};
 ghost use Rattle.dp_pixels.specs.Dabs.{placed_dabs};
 ghost use Rattle.dp_pixels.specs.Tiles.{tile_changed};
@@ -12,7 +12,7 @@ use crate::disc::Disc;
 use crate::fill::Fill;
 use crate::image::{Image, ImageFill};
 use crate::paint::paint_region;
-use crate::place::{dab_run_of, opaque, rect_of};
+use crate::place::{dabs_of, rect_of};
 use crate::rect::Rect;
 use crate::region::Region;
 use crate::tiles::{TileRun, tiles_along};
@@ -41,7 +41,7 @@ fn fill_region(
 }
 
 /// Puts an image, by the number of the mode.
-fn image_window(mode: u8, image: Image, region: &Region, stride: usize, pixels: &mut [Pixel])
+fn image_region(mode: u8, image: Image, region: &Region, stride: usize, pixels: &mut [Pixel])
     requires wide { region.now.width ≤ stride }
     requires long { region.now.height * stride ≤ length pixels.old }
     ensures { IsPainted region.now stride
@@ -114,7 +114,7 @@ fn dab_run_region(
 }
 
 /// Puts tiles, as far as they are on the canvas.
-fn tile_window(
+fn tile_region(
     col: u16,
     row: u16,
     repeat: u16,
@@ -145,20 +145,16 @@ fn tile_window(
 }
 
 /// Draws a command other than MoveRect on a region, in a list of pixels whose rows are `stride`
-/// long.
-/// The pixels of the region that are on the canvas change, and all others stay; a command that is
-/// no
-/// pixel command, and MoveRect, changes none. It takes no memory.
-///
-/// The rule: docs/protocol.md, "Pixel commands".
-pub fn draw_region(op: &Draw, region: &Region, stride: usize, pixels: &mut [Pixel])
+/// long. The pixels of the region that are on the canvas change, and all others stay; a command
+/// that is no pixel command, and MoveRect, changes none. It takes no memory.
+pub fn draw_region(command: &Draw, region: &Region, stride: usize, pixels: &mut [Pixel])
     requires wide { region.now.width ≤ stride }
     requires long { region.now.height * stride ≤ length pixels.old }
     ensures { IsPainted region.now stride
-        (pixel_drawn region.now.canvas_width region.now.canvas_height op.now)
+        (pixel_drawn region.now.canvas_width region.now.canvas_height command.now)
         pixels.old pixels.new }
 {
-    match op {
+    match command {
         Draw::FillRect {
             mode,
             x,
@@ -180,14 +176,8 @@ pub fn draw_region(op: &Draw, region: &Region, stride: usize, pixels: &mut [Pixe
             colors,
             ..
         } => {
-            let image = Image {
-                x: *x,
-                y: *y,
-                w: *w,
-                h: *h,
-                colors: colors.as_slice(),
-            };
-            image_window(*mode, image, region, stride, pixels);
+            let image = Image::new(*x, *y, *w, *h, colors.as_slice());
+            image_region(*mode, image, region, stride, pixels);
         }
         Draw::PutTile {
             col,
@@ -195,34 +185,10 @@ pub fn draw_region(op: &Draw, region: &Region, stride: usize, pixels: &mut [Pixe
             repeat,
             content,
             ..
-        } => {
-            tile_window(*col, *row, *repeat, content, region, stride, pixels);
-        }
-        Draw::DabsRound {
-            x,
-            y,
-            r,
-            g,
-            b,
-            mode,
-            dabs,
-            ..
-        } => {
-            let run = dab_run_of(Shape::Round, *x, *y, dabs);
-            dab_run_region(*mode, opaque(*r, *g, *b), run, region, stride, pixels);
-        }
-        Draw::DabsSquare {
-            x,
-            y,
-            r,
-            g,
-            b,
-            mode,
-            dabs,
-            ..
-        } => {
-            let run = dab_run_of(Shape::Square, *x, *y, dabs);
-            dab_run_region(*mode, opaque(*r, *g, *b), run, region, stride, pixels);
+        } => tile_region(*col, *row, *repeat, content, region, stride, pixels),
+        Draw::DabsRound { .. } | Draw::DabsSquare { .. } => {
+            let dabs = dabs_of(command);
+            dab_run_region(dabs.mode, dabs.color, dabs.run, region, stride, pixels);
         }
         _ => {}
     }

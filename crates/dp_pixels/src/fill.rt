@@ -1,6 +1,6 @@
 //! Rectangles that are filled.
 
-ghost use Rattle.std.specs.Prelude.{◌≡◌, pos, if◌then◌else◌};
+ghost use Rattle.std.specs.Prelude.{if◌then◌else◌};
 ghost use Rattle.dp_blend.specs.Blending.{blend};
 ghost use Rattle.dp_pixels.specs.Rectangles.{is_in};
 

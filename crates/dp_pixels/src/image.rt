@@ -1,12 +1,12 @@
 //! Images of colours.
 
-ghost use Rattle.std.specs.Prelude.{◌≡◌, ℕ, ◌<◌, pos, length, slice_get, slice_index};
-ghost use Rattle.std.specs.Prelude.{slice_index_or, None, IsTrue};
+ghost use Rattle.std.specs.Prelude.{◌≡◌, ℕ, ◌<◌, pos, length, None, IsTrue};
+ghost use Rattle.std.specs.Prelude.{slice_get, slice_index, slice_index_or};
 ghost use Rattle.std.specs.Option.{option_map_or};
 ghost use Rattle.dp_blend.specs.Color.{Channels, of_argb};
 ghost use Rattle.dp_blend.specs.Blending.{blend};
 ghost use Rattle.dp_pixels.specs.Rectangles.{is_in, rect_at};
-ghost use Rattle.dp_pixels.specs.Commands.{image_color, image_index};
+ghost use Rattle.dp_pixels.specs.Commands.{image_color, image_index, imaged};
 
 use crate::paint::Paint;
 use crate::rect::{Place, Rect};
@@ -20,6 +20,16 @@ pub(crate) struct Image<'a> {
     pub w: u32,
     pub h: u32,
     pub colors: &'a [u32],
+}
+
+impl<'a> Image<'a> {
+    /// An image of these colours.
+    pub(crate) fn new(x: u32, y: u32, w: u32, h: u32, colors: &'a [u32]) -> Image<'a>
+        ensures { (mode : ℕ) → imaged mode (pos result.x) (pos result.y) result.w result.h
+            result.colors.now ≡ imaged mode (pos x) (pos y) w h colors.now }
+    {
+        Image { x, y, w, h, colors }
+    }
 }
 
 impl Image<'_> {
@@ -36,8 +46,10 @@ impl Image<'_> {
 
     /// The index of the colour of a place.
     fn index(self, place: Place) -> usize
-        requires { IsTrue (is_in (rect_at (pos self.x) (pos self.y) self.w self.h) place.x place.y) }
-        ensures { result ≡ image_index (pos self.entry.x) (pos self.entry.y) self.entry.w place.x place.y }
+        requires { IsTrue
+            (is_in (rect_at (pos self.x) (pos self.y) self.w self.h) place.x place.y) }
+        ensures { result
+            ≡ image_index (pos self.entry.x) (pos self.entry.y) self.entry.w place.x place.y }
     {
         let row = (place.y - self.y as i64) as usize;
         let column = (place.x - self.x as i64) as usize;

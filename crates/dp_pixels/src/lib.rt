@@ -3,7 +3,6 @@
 //! The rule: docs/protocol.md, "Pixel commands".
 #![tactic(auto)]
 
-mod canvas;
 mod dabs;
 mod disc;
 mod draw;

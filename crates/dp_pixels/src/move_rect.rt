@@ -1,12 +1,12 @@
 //! Rectangles that move.
 
-ghost use Rattle.std.specs.Prelude.{◌≡◌, ◌≤◌, ◌<◌, ◌+◌, ◌*◌, ℕ, length, slice_index_or, IfOk};
-ghost use Rattle.std.specs.Prelude.{OnErr, OnOk};
+ghost use Rattle.std.specs.Prelude.{◌≡◌, ◌≤◌, ◌<◌, ◌+◌, ◌*◌, ℕ, length, slice_index_or};
+ghost use Rattle.std.specs.Prelude.{IfOk, OnErr, OnOk};
 ghost use Rattle.dp_blend.specs.Color.{Channels};
 ghost use Rattle.dp_pixels.specs.Commands.{pixels_moved};
 
-use crate::canvas::{canvas_law, whole};
 use crate::fill::Fill;
+use crate::layer::{canvas_law, whole};
 use crate::paint::paint_region;
 use crate::patch::Patch;
 use crate::place::rect_of;
@@ -63,7 +63,7 @@ fn copy_source(
 ///
 /// # Errors
 ///
-/// Where memory runs out. The pixels are then as they were.
+/// The pixels are as they were.
 pub(crate) fn move_pixels(
     alloc: Global,
     movement: Move,

@@ -40,7 +40,8 @@ pub(crate) fn paint_region<P: Paint>(
 )
     requires wide { region.now.width ≤ stride }
     requires long { region.now.height * stride ≤ length pixels.old }
-    ensures { IsPainted region.now stride (on_canvas region.now (P.change paint.now)) pixels.old pixels.new }
+    ensures { IsPainted region.now stride (on_canvas region.now (P.change paint.now))
+        pixels.old pixels.new }
 {
     let clip = region.clip(paint.bounds());
     if clip.left >= clip.right {

@@ -26,10 +26,12 @@ pub(crate) struct Patch<'a> {
 impl Patch<'_> {
     ghost use Rattle.dp_pixels.specs.Regions.{IsRowIn};
 
-    /// The index of the first pixel of a row of so many.
+    /// The index of the first pixel of a row of `len` pixels.
     fn start(&self, place: Place, len: usize) -> usize
-        requires { IsRowIn (rect_at self.now.corner.x self.now.corner.y self.now.w self.now.h) place len }
-        ensures value { result ≡ image_index self.now.corner.x self.now.corner.y self.now.w place.x place.y }
+        requires { IsRowIn
+            (rect_at self.now.corner.x self.now.corner.y self.now.w self.now.h) place len }
+        ensures value { result
+            ≡ image_index self.now.corner.x self.now.corner.y self.now.w place.x place.y }
         ensures within { result + len ≤ length self.now.pixels.now }
     {
         let (w, h) = (self.w, self.h);

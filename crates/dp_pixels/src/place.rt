@@ -1,10 +1,19 @@
 //! One place, and what a command makes of the pixel there.
 
 ghost use Rattle.std.specs.Prelude.{◌≡◌, pos, IsTrue};
+ghost use Rattle.std.specs.List.{list_any};
 ghost use Rattle.dp_blend.specs.Color.{premultiplied};
 ghost use Rattle.dp_pixels.specs.Rectangles.{rect_at};
-ghost use Rattle.dp_pixels.specs.Dabs.{placed_dabs};
-ghost use Rattle.dp_pixels.specs.Commands.{covers, filled, imaged, is_stamp, pixel_after, stroked};
+ghost use Rattle.dp_pixels.specs.Dabs.{dab_covers, placed_dabs};
+ghost use Rattle.dp_pixels.specs.Commands.{
+  IsDabs,
+  covers,
+  filled,
+  imaged,
+  is_stamp,
+  pixel_after,
+  stroked,
+};
 
 use crate::dabs::{DabRun, Shape};
 use crate::image::Image;
@@ -13,7 +22,7 @@ use dp_blend::{Mode, Pixel, blend, of_argb};
 use dp_msg_draw::{Dabs, Draw};
 
 /// The pixel of an opaque colour.
-pub(crate) fn opaque(r: u8, g: u8, b: u8) -> Pixel
+fn opaque(r: u8, g: u8, b: u8) -> Pixel
     ensures { result ≡ premultiplied r g b 255 }
 {
     of_argb(u32::from_be_bytes([255, r, g, b]))
@@ -31,12 +40,13 @@ pub(crate) fn rect_of(x: u32, y: u32, w: u32, h: u32) -> Rect
 }
 
 /// The dabs of a message.
-pub(crate) fn dab_run_of(shape: Shape, x: i32, y: i32, dabs: &Dabs) -> DabRun<'_>
+fn dab_run_of(shape: Shape, x: i32, y: i32, dabs: &Dabs) -> DabRun<'_>
     ensures shape { result.shape ≡ shape }
     ensures x { result.at.x ≡ x }
     ensures y { result.at.y ≡ y }
     ensures dabs { result.dabs.now ≡ dabs.now }
-    ensures placed { placed_dabs result.at.x result.at.y result.dabs.now ≡ placed_dabs x y dabs.now }
+    ensures placed { placed_dabs result.at.x result.at.y result.dabs.now
+        ≡ placed_dabs x y dabs.now }
 {
     DabRun {
         shape,
@@ -48,21 +58,67 @@ pub(crate) fn dab_run_of(shape: Shape, x: i32, y: i32, dabs: &Dabs) -> DabRun<'_
     }
 }
 
-/// Whether a fill or an image covers a place, or one of the dabs of a stroke. It takes no memory.
-///
-/// The rule: docs/protocol.md, "Pixel commands".
-pub fn covers(op: &Draw, x: i64, y: i64) -> bool
-    requires { IsTrue (is_stamp op.now) }
-    ensures { result ≡ covers op.now x y }
+/// The dabs of a message, and how they are drawn.
+#[derive(Clone, Copy)]
+pub(crate) struct ColoredDabs<'a> {
+    /// The number of their mode.
+    pub mode: u8,
+    pub color: Pixel,
+    pub run: DabRun<'a>,
+}
+
+/// The dabs of a command.
+pub(crate) fn dabs_of(command: &Draw) -> ColoredDabs<'_>
+    requires { IsDabs command.now }
+    ensures after { pixel_after command.now ≡ stroked result.mode result.color result.run.shape
+        (placed_dabs result.run.at.x result.run.at.y result.run.dabs.now) }
+    ensures covers { covers command.now ≡ (λ x y.
+        list_any (λ dab. dab_covers result.run.shape dab x y)
+        (placed_dabs result.run.at.x result.run.at.y result.run.dabs.now)) }
+{
+    match command {
+        Draw::DabsRound {
+            x,
+            y,
+            r,
+            g,
+            b,
+            mode,
+            dabs,
+            ..
+        } => ColoredDabs {
+            mode: *mode,
+            color: opaque(*r, *g, *b),
+            run: dab_run_of(Shape::Round, *x, *y, dabs),
+        },
+        Draw::DabsSquare {
+            x,
+            y,
+            r,
+            g,
+            b,
+            mode,
+            dabs,
+            ..
+        } => ColoredDabs {
+            mode: *mode,
+            color: opaque(*r, *g, *b),
+            run: dab_run_of(Shape::Square, *x, *y, dabs),
+        },
+        _ => unreachable!(),
+    }
+}
+
+/// Whether a fill or an image covers a place, or one of the dabs of a message. It takes no memory.
+pub fn covers(command: &Draw, x: i64, y: i64) -> bool
+    requires { IsTrue (is_stamp command.now) }
+    ensures { result ≡ covers command.now x y }
 {
     let place = Place { x, y };
-    match op {
+    match command {
         Draw::FillRect { x, y, w, h, .. } => rect_of(*x, *y, *w, *h).contains(place),
         Draw::PutImage { x, y, w, h, .. } => rect_of(*x, *y, *w, *h).contains(place),
-        Draw::DabsRound { x, y, dabs, .. } => dab_run_of(Shape::Round, *x, *y, dabs).covers(place),
-        Draw::DabsSquare { x, y, dabs, .. } => dab_run_of(Shape::Square, *x, *y, dabs).covers(
-            place,
-        ),
+        Draw::DabsRound { .. } | Draw::DabsSquare { .. } => dabs_of(command).run.covers(place),
         _ => false,
     }
 }
@@ -103,12 +159,12 @@ fn stroked(mode: u8, source: Pixel, run: DabRun, place: Place, old: Pixel) -> Pi
 }
 
 /// The pixel at a place after a fill, an image or dabs, of the old pixel there. It takes no memory.
-pub fn pixel_after(op: &Draw, x: i64, y: i64, old: Pixel) -> Pixel
-    requires { IsTrue (is_stamp op.now) }
-    ensures { result ≡ pixel_after op.now x y old }
+pub fn pixel_after(command: &Draw, x: i64, y: i64, old: Pixel) -> Pixel
+    requires { IsTrue (is_stamp command.now) }
+    ensures { result ≡ pixel_after command.now x y old }
 {
     let place = Place { x, y };
-    match op {
+    match command {
         Draw::FillRect {
             mode,
             x,
@@ -127,40 +183,12 @@ pub fn pixel_after(op: &Draw, x: i64, y: i64, old: Pixel) -> Pixel
             colors,
             ..
         } => {
-            let image = Image {
-                x: *x,
-                y: *y,
-                w: *w,
-                h: *h,
-                colors: colors.as_slice(),
-            };
+            let image = Image::new(*x, *y, *w, *h, colors.as_slice());
             imaged(*mode, image, place, old)
         }
-        Draw::DabsRound {
-            x,
-            y,
-            r,
-            g,
-            b,
-            mode,
-            dabs,
-            ..
-        } => {
-            let run = dab_run_of(Shape::Round, *x, *y, dabs);
-            stroked(*mode, opaque(*r, *g, *b), run, place, old)
-        }
-        Draw::DabsSquare {
-            x,
-            y,
-            r,
-            g,
-            b,
-            mode,
-            dabs,
-            ..
-        } => {
-            let run = dab_run_of(Shape::Square, *x, *y, dabs);
-            stroked(*mode, opaque(*r, *g, *b), run, place, old)
+        Draw::DabsRound { .. } | Draw::DabsSquare { .. } => {
+            let dabs = dabs_of(command);
+            stroked(dabs.mode, dabs.color, dabs.run, place, old)
         }
         _ => old,
     }

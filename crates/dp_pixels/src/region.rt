@@ -5,8 +5,7 @@ ghost use Rattle.dp_pixels.specs.Clips.{IsCountBelow, IsClip};
 use crate::rect::Rect;
 
 /// A region on a canvas: the place of its left upper corner, its sides, and the sides of the
-/// canvas.
-/// It may stick out of the canvas.
+/// canvas. It may stick out of the canvas.
 #[derive(Clone, Copy, Debug, PartialEq, Eq)]
 pub struct Region {
     pub x: u32,

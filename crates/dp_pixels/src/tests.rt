@@ -6,7 +6,6 @@ ghost use Rattle.dp_pixels.specs.Commands.{is_stamp};
 use crate::{Region, covers, draw_pixels, draw_region, pixel_after};
 use dp_blend::{Pixel, of_argb};
 use dp_msg_draw::{Colors, Dab, Dabs, Draw, TileContent, TilePixel, TilePixels};
-use std::alloc::Global;
 use std::process::Abort;
 use std::test::Fail;
 
@@ -85,13 +84,13 @@ fn round_dabs_cover_a_disc(rt: HostRuntime) -> Result<(), Fail> {
         (4, [red, red, red, CLEAR]),
     ] {
         let dabs = Dabs::from_vec(vec![in rt.alloc(); dab(0, 0, size, 255)]?);
-        let op = red_dabs(true, (0, 0), dabs);
+        let command = red_dabs(true, (0, 0), dabs);
         let mut pixels = [CLEAR; 4];
-        draw_pixels(rt.alloc(), &op, 2, 2, &mut pixels)?;
+        draw_pixels(rt.alloc(), &command, 2, 2, &mut pixels)?;
         assert_eq!(rt; pixels, want, "size {size}");
-        assert!(rt; covers(&op, 0, 0));
-        assert_eq!(rt; covers(&op, 1, 0), size > 2, "size {size}");
-        assert_eq!(rt; covers(&op, 1, 1), size == 3, "size {size}");
+        assert!(rt; covers(&command, 0, 0));
+        assert_eq!(rt; covers(&command, 1, 0), size > 2, "size {size}");
+        assert_eq!(rt; covers(&command, 1, 1), size == 3, "size {size}");
     }
     Ok(())
 }
@@ -135,9 +134,9 @@ fn dabs_of_the_greatest_size_are_clipped(rt: HostRuntime) -> Result<(), Fail> {
         (true, (i32::MAX, i32::MIN), (320, 0, 320, 0)),
     ] {
         let dabs = Dabs::from_vec(vec![in rt.alloc(); dab(0, 0, 255, 255)]?);
-        let op = red_dabs(round, (x, y), dabs);
+        let command = red_dabs(round, (x, y), dabs);
         let mut pixels = vec![in rt.alloc(); CLEAR; 102_400]?;
-        draw_pixels(rt.alloc(), &op, 320, 320, &mut pixels)?;
+        draw_pixels(rt.alloc(), &command, 320, 320, &mut pixels)?;
         assert_eq!(rt; painted(&pixels, 320), want, "round {round} at {x} {y}");
         if round && x == 160 {
             let (edge, inner) = ([false, true, true, true, false], [true; 5]);
@@ -158,9 +157,9 @@ fn dabs_stand_by_the_sums_of_their_differences(rt: HostRuntime) -> Result<(), Fa
         dab(-3, 0, 1, 255),
         dab(0, 0, 0, 255),
     ]?;
-    let op = red_dabs(false, (0, 0), Dabs::from_vec(list));
+    let command = red_dabs(false, (0, 0), Dabs::from_vec(list));
     let mut pixels = [CLEAR; 8];
-    draw_pixels(rt.alloc(), &op, 4, 2, &mut pixels)?;
+    draw_pixels(rt.alloc(), &command, 4, 2, &mut pixels)?;
     assert_eq!(rt; pixels, [CLEAR, red, CLEAR, CLEAR, red, CLEAR, CLEAR, half]);
     Ok(())
 }
@@ -177,7 +176,7 @@ fn moves_blend_on_what_they_leave_clear(rt: HostRuntime) -> Result<(), Fail> {
         (3, 1, (0, 0), [red, blue, CLEAR]),
         (1, 1, (i32::MIN, i32::MAX), [red, CLEAR, CLEAR]),
     ] {
-        let op = Draw::MoveRect {
+        let command = Draw::MoveRect {
             layer: 1,
             sx,
             sy: 0,
@@ -187,7 +186,7 @@ fn moves_blend_on_what_they_leave_clear(rt: HostRuntime) -> Result<(), Fail> {
             ty,
         };
         let mut pixels = [red, blue, CLEAR];
-        draw_pixels(rt.alloc(), &op, 3, 1, &mut pixels)?;
+        draw_pixels(rt.alloc(), &command, 3, 1, &mut pixels)?;
         assert_eq!(rt; pixels, want, "{w} from {sx} to {tx} {ty}");
     }
     Ok(())
@@ -212,7 +211,7 @@ fn tiles_are_put_row_by_row(rt: HostRuntime) -> Result<(), Fail> {
         (2, 0, 9, [false; 4]),
         (0, 2, 9, [false; 4]),
     ] {
-        let op = Draw::PutTile {
+        let command = Draw::PutTile {
             layer: 1,
             col,
             row,
@@ -220,7 +219,7 @@ fn tiles_are_put_row_by_row(rt: HostRuntime) -> Result<(), Fail> {
             content: TileContent::Solid(content),
         };
         let mut pixels = vec![in rt.alloc(); CLEAR; 8320]?;
-        draw_pixels(rt.alloc(), &op, 65, 128, &mut pixels)?;
+        draw_pixels(rt.alloc(), &command, 65, 128, &mut pixels)?;
         for (k, pixel) in pixels.iter().enumerate() {
             let tile = k / 4160 % 2 * 2 + k % 65 / 64;
             assert_eq!(rt; *pixel == put, want[tile], "{col} {row} {repeat} at {k}");
@@ -250,7 +249,7 @@ fn a_tile_of_pixels_is_put_again(rt: HostRuntime) -> Result<(), Fail> {
         b: 0,
         a: 4,
     };
-    let op = Draw::PutTile {
+    let command = Draw::PutTile {
         layer: 1,
         col: 0,
         row: 0,
@@ -258,7 +257,7 @@ fn a_tile_of_pixels_is_put_again(rt: HostRuntime) -> Result<(), Fail> {
         content: TileContent::Pixels(TilePixels::from_vec(tile)),
     };
     let mut pixels = vec![in rt.alloc(); of_argb(RED); 8192]?;
-    draw_pixels(rt.alloc(), &op, 128, 64, &mut pixels)?;
+    draw_pixels(rt.alloc(), &command, 128, 64, &mut pixels)?;
     let put = pixel(&rt, (1, 2, 3, 4));
     for (k, pixel) in pixels.iter().enumerate() {
         let want = match k {
@@ -285,7 +284,7 @@ fn fills_and_images_blend_where_they_cover(rt: HostRuntime) -> Result<(), Fail> 
         (fill(255, (2, 0, 1, 1), BLUE), [red; 4]),
     ] {
         let mut pixels = [red; 4];
-        draw_pixels(rt.alloc(), &op, 2, 2, &mut pixels)?;
+        draw_pixels(rt.alloc(), &command, 2, 2, &mut pixels)?;
         assert_eq!(rt; pixels, want, "{op:?}");
     }
     let image = Draw::PutImage {
@@ -305,7 +304,7 @@ fn fills_and_images_blend_where_they_cover(rt: HostRuntime) -> Result<(), Fail> 
 
 #[test]
 fn a_window_is_drawn_within_its_stride(rt: HostRuntime) {
-    let op = fill(1, (0, 2, 3, 9), RED);
+    let command = fill(1, (0, 2, 3, 9), RED);
     let red = of_argb(RED);
     let region = Region {
         x: 1,
@@ -316,12 +315,12 @@ fn a_window_is_drawn_within_its_stride(rt: HostRuntime) {
         canvas_height: 4,
     };
     let mut pixels = [CLEAR; 10];
-    draw_region(&op, &region, 4, &mut pixels);
+    draw_region(&command, &region, 4, &mut pixels);
     for (k, pixel) in pixels.iter().enumerate() {
         assert_eq!(rt; *pixel == red, k == 4 || k == 5, "at {k}");
     }
-    assert_eq!(rt; pixel_after(&op, 2, 2, CLEAR), red);
-    assert_eq!(rt; pixel_after(&op, 3, 2, CLEAR), CLEAR);
-    assert!(rt; covers(&op, 0, 10));
-    assert!(rt; !covers(&op, -1, 2));
+    assert_eq!(rt; pixel_after(&command, 2, 2, CLEAR), red);
+    assert_eq!(rt; pixel_after(&command, 3, 2, CLEAR), CLEAR);
+    assert!(rt; covers(&command, 0, 10));
+    assert!(rt; !covers(&command, -1, 2));
 }

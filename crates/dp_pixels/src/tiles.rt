@@ -1,7 +1,7 @@
 //! Tiles that are put on a canvas.
 
-ghost use Rattle.std.specs.Prelude.{◌≡◌, ◌≤◌, ◌<◌, ◌+◌, ◌*◌, ◌%◌, ◌/◌, ◌^◌, ◌↔◌, ℕ, pos, length};
-ghost use Rattle.std.specs.Prelude.{slice_index_or, Some, None, if◌then◌else◌};
+ghost use Rattle.std.specs.Prelude.{◌≡◌, ◌≤◌, ◌<◌, ◌+◌, ◌*◌, ◌%◌, ◌/◌, ◌^◌, ◌↔◌, ℕ};
+ghost use Rattle.std.specs.Prelude.{length, slice_index_or, Some, None, if◌then◌else◌};
 ghost use Rattle.std.specs.Option.{option_map_or};
 ghost use Rattle.dp_blend.specs.Color.{Channels};
 ghost use Rattle.dp_pixels.specs.Rectangles.{canvas_rect, clipped, is_in};
@@ -31,7 +31,8 @@ fn put_tile_row(pixels: &[TilePixel], x: usize, row: &mut [Pixel])
     requires near { x + length row.old < 2 ^ 64 }
     ensures { (k : ℕ) (d : Channels) → k < length row.old →
         slice_index_or row.new k d
-        ≡ replaced_by (slice_index_or pixels.now ((x + k) % 64) (record { r = 0; g = 0; b = 0; a = 0 }))
+        ≡ replaced_by
+        (slice_index_or pixels.now ((x + k) % 64) (record { r = 0; g = 0; b = 0; a = 0 }))
         (slice_index_or row.old k d) }
 {
     for k in 0..row.len() {
@@ -120,7 +121,8 @@ impl TileRun<'_> {
     fn columns(&self, tile_row: u64) -> Span
         requires { tile_row < 2 ^ 26 }
         ensures { (x : ℕ) → IsInSpan result x ↔
-            ((tile_number self.now.width self.now.col self.now.row ≤ tile_number self.now.width (x / 64) tile_row)
+            ((tile_number self.now.width self.now.col self.now.row
+            ≤ tile_number self.now.width (x / 64) tile_row)
             × (tile_number self.now.width (x / 64) tile_row
             ≤ tile_number self.now.width self.now.col self.now.row + self.now.repeat)) }
     {

@@ -101,14 +101,6 @@ is_canvas_of w h f ps ps_len same =
     same_canvas w h ps (canvas_of w h f) ps_len (length-canvas_of w h f)
     (λ x y in_x in_y. same x y in_x in_y ∙ sym (pixel_at-canvas_of w h f x y in_x in_y))
 
--- canvases whose pixels are the same at each place are equal
-pub canvas_of-same : (w h : ℕ) (f g : ℕ → ℕ → Channels) →
-    ((x y : ℕ) → x < w → y < h → f x y ≡ g x y)
-    → canvas_of w h f ≡ canvas_of w h g
-canvas_of-same w h f g same =
-    is_canvas_of w h g (canvas_of w h f) (length-canvas_of w h f)
-    (λ x y in_x in_y. pixel_at-canvas_of w h f x y in_x in_y ∙ same x y in_x in_y)
-
 -- a canvas of one more row
 pub canvas_of-more : (w h : ℕ) (f : ℕ → ℕ → Channels)
     → canvas_of w (h + 1) f ≡ canvas_of w h f ++ map (λ x. f x h) (below w)

@@ -192,15 +192,6 @@ board_of_held {C} fits pixels width height background rows covers held = record 
         ap length (sym (same_Some (pixels width height content) ps is))
         ∙ covers width height content (fit content refl)
 
--- ---- a command that makes no row
-
-pub arranging_makes_none : (op : Draw) → IsArranging op → makes_paint_row op ≡ false
-arranging_makes_none (draws.LayerAttr id opacity mode hidden) kind = refl
-arranging_makes_none (draws.LayerTitle id title) kind = refl
-arranging_makes_none (draws.LayerMove id parent above) kind = refl
-arranging_makes_none (draws.LayerDelete id) kind = refl
-arranging_makes_none _ kind = absurd kind
-
 -- ---- what is drawn on a board leaves a board
 
 changed_covers : (change : List Channels → List Channels) (count : ℕ)

@@ -6,3 +6,4 @@ pub mod Views
 pub mod Remaking
 pub mod Holds
 pub mod Replays
+pub mod Counts

@@ -1,6 +1,6 @@
 -- The board on new sides.
 use Rattle.std.proofs.Common.{◌≡◌, ℕ, ◌≤◌, cond, true, false, ◌&&◌, Some, None, Option, List}
-use Rattle.std.proofs.Common.{sym, ◌∙◌, ap, ◌⊎◌, ⊎_elim}
+use Rattle.std.proofs.Common.{refl, sym, ◌∙◌, ap, ◌⊎◌, ⊎_elim}
 use Rattle.std.specs.Prelude.{ℤ, pos, negsuc, ◌+ℤ◌, nat_le}
 use Rattle.std.proofs.lemmas.Bool.{and_left, and_right, and_parts, false_from_ne_true, cond-true}
 use Rattle.std.proofs.lemmas.Bool.{cond-false, leb-true, false≢true}
@@ -21,11 +21,14 @@ side_bounds (pos n) is =
     (leb-true 1 n bounds.0, leb-true n 4096 bounds.1)
 side_bounds (negsuc n) is = absurd (false≢true is)
 
-pub side_fits : (n : ℤ) (m : ℕ) → Some m ≡ side_if n → (1 ≤ m) × (m ≤ 4096)
-side_fits n m found =
-    let chosen = cond_some (is_side n) (side n) m (sym found) in
-    let fits : (1 ≤ side n) × (side n ≤ 4096) = side_bounds n chosen.0 in
-    rw chosen.1 at fits
+-- both whole numbers are sides
+pub both_sides : (width height : ℤ) (m n : ℕ) → Some m ≡ side_if width → Some n ≡ side_if height
+    → (is_side width && is_side height) ≡ true
+both_sides width height m n wide high =
+    rw (
+      (cond_some (is_side width) (side width) m (sym wide)).0,
+      (cond_some (is_side height) (side height) n (sym high)).0,
+    ) refl
 
 not_side : (n : ℤ) → None ≡ side_if n → is_side n ≡ false
 not_side n h = false_from_ne_true (is_side n)

@@ -9,6 +9,8 @@ use Rattle.std.proofs.lemmas.List.{length-map, get_or-map}
 use Rattle.std.proofs.lemmas.List.Elements.{All-nil, All-cons, All-head, All-tail, All-map}
 use Rattle.std.proofs.lemmas.List.Elements.{All-from_recursion}
 use Rattle.std.proofs.lemmas.Map.Keys.{IsDistinct-head, IsDistinct-tail}
+use Rattle.std.proofs.lemmas.List.Folds.{map_fixed}
+use Rattle.std.proofs.lemmas.Simd.{map-map}
 use Rattle.dp_blend.specs.Color.{Channels}
 use Rattle.dp_layers.specs.declared.row.LayerRow.{LayerRow}
 use Rattle.dp_layers.specs.Rows.{Row, layers_of, contents_of, content_of, fill_row, with_content}
@@ -18,11 +20,6 @@ use Rattle.dp_plain.specs.Commands.{with_change}
 
 -- ---- maps
 
-pub map-map : {A B C : Type 0} (f : A → B) (g : B → C) (xs : List A)
-    → map g (map f xs) ≡ map (λ x. g (f x)) xs
-map-map f g [] = refl
-map-map f g (x ∷ xs) = ap (λ ys. g (f x) ∷ ys) (map-map f g xs)
-
 pub map-each : {A B : Type 0} (f g : A → B) (xs : List A) → All (λ x. f x ≡ g x) xs
     → map f xs ≡ map g xs
 map-each f g [] each = refl
@@ -30,13 +27,6 @@ map-each {A} f g (x ∷ xs) each =
     let P : A → Type 0 = λ y. f y ≡ g y in
     ap (λ y. y ∷ map f xs) (All-head P x xs each)
     ∙ ap (λ ys. g x ∷ ys) (map-each f g xs (All-tail P x xs each))
-
-pub map-itself : {A : Type 0} (f : A → A) (xs : List A) → All (λ x. f x ≡ x) xs → map f xs ≡ xs
-map-itself f [] each = refl
-map-itself {A} f (x ∷ xs) each =
-    let P : A → Type 0 = λ y. f y ≡ y in
-    ap (λ y. y ∷ map f xs) (All-head P x xs each)
-    ∙ ap (λ ys. x ∷ ys) (map-itself f xs (All-tail P x xs each))
 
 cond-same : {A : Type 0} (b : Bool) (x y z : A) → (b ≡ true → x ≡ y) → cond b x z ≡ cond b y z
 cond-same true x y z same = same refl
@@ -114,7 +104,8 @@ content_itself {X} (row ∷ rows) distinct =
     (rw first refl)
     (λ k d in_list.
     let at : get_or ids k d.layer.id ≡ (get_or rows k d).layer.id =
-    ap (λ is. get_or is k d.layer.id) (map-map (λ (q : Row X). q.layer) (λ l. l.id) rows)
+    ap (λ is. get_or is k d.layer.id)
+    (map-map (λ (l : LayerRow). l.id) (λ (q : Row X). q.layer) rows)
     ∙ get_or-map (λ (q : Row X). q.layer.id) rows k d d.layer.id in_list in
     let count : length ids ≡ length rows = length-map (layers_of rows) (λ l. l.id)
     ∙ length-map rows (λ (q : Row X). q.layer) in
@@ -146,11 +137,11 @@ layers_of-filled rows id x = layers_of-map (fill_row id x) (fill-layer id x) row
 pub filled-mapped : {X Y : Type 0} (f : X → Y) (rows : List (Row X)) (id : ℕ) (x : X)
     → map_contents f (with_content rows id x) ≡ with_content (map_contents f rows) id (f x)
 filled-mapped {X} {Y} f rows id x =
-    map-map (fill_row id x) (map_content f) rows
+    map-map (map_content f) (fill_row id x) rows
     ∙ map-each (λ row. map_content f (fill_row id x row))
     (λ row. fill_row id (f x) (map_content f row))
     rows (λ k d in_list. one (get_or rows k d))
-    ∙ sym (map-map (map_content f) (fill_row id (f x)) rows)
+    ∙ sym (map-map (fill_row id (f x)) (map_content f) rows)
   where
     through : (b : Bool) (p q : Row X)
         → map_content f (cond b p q) ≡ cond b (map_content f p) (map_content f q)
@@ -164,7 +155,7 @@ filled-mapped {X} {Y} f rows id x =
 pub filled_twice : {X : Type 0} (rows : List (Row X)) (id : ℕ) (x y : X)
     → with_content (with_content rows id x) id y ≡ with_content rows id y
 filled_twice {X} rows id x y =
-    map-map (fill_row id x) (fill_row id y) rows
+    map-map (fill_row id y) (fill_row id x) rows
     ∙ map-each (λ row. fill_row id y (fill_row id x row)) (fill_row id y) rows
     (λ k d in_list. one (get_or rows k d))
   where
@@ -179,7 +170,7 @@ pub filled_same : {X : Type 0} (rows : List (Row X)) (id : ℕ) (x : X) → Have
     → content_of rows id ≡ Some x
     → with_content rows id x ≡ rows
 filled_same {X} rows id x distinct found =
-    map-itself (fill_row id x) rows
+    map_fixed (fill_row id x) rows
     (λ k d in_list. one (get_or rows k d) (held_at rows id (Some x) distinct found k d in_list))
   where
     one : (row : Row X) → ((row.layer.id == id) ≡ true → row.content ≡ Some x)
@@ -212,7 +203,7 @@ module _ (id : ℕ) (change : List Channels → List Channels) where
   pub changed_none : (rows : List (Row (List Channels))) → HaveIds rows → content_of rows id ≡ None
       → map (with_change id change) rows ≡ rows
   changed_none rows distinct none =
-      map-itself (with_change id change) rows
+      map_fixed (with_change id change) rows
       (λ k d in_list. one (get_or rows k d) (held_at rows id None distinct none k d in_list))
     where
       one : (row : Row (List Channels)) → ((row.layer.id == id) ≡ true → row.content ≡ None)

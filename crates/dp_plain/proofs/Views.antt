@@ -1,15 +1,19 @@
 -- What is read of a board whose contents are seen as their pixels.
 use Rattle.std.proofs.Common.{◌≡◌, ℕ, ◌<◌, Bool, true, false, cond, List, [], map, Option}
-use Rattle.std.proofs.Common.{None, Some, refl, ap, sym, ◌∙◌}
-use Rattle.std.specs.Prelude.{unwrap_or, option_map, nat_lt, ◌&&◌}
+use Rattle.std.proofs.Common.{None, Some, refl, ap, sym, subst, ◌∙◌}
+use Rattle.std.proofs.Common.{Ok, Err}
+use Rattle.std.specs.Prelude.{unwrap_or, option_map, nat_lt, ◌&&◌, Result, OnErr}
 use Rattle.std.proofs.lemmas.Bool.{lt-ltb}
 use Rattle.dp_blend.specs.Color.{Channels}
 use Rattle.dp_blend.specs.Canvas.{pixel_at}
+use Rattle.dp_msg_draw.specs.declared.draw.Draw.{Draw}
+use Rattle.dp_layers.specs.Changes.{has_effect}
+use Rattle.dp_layers.specs.Layers.{is_paint_row}
 use Rattle.dp_layers.specs.Rows.{Row, layers_of, content_of, with_content, map_content}
 use Rattle.dp_layers.specs.Rows.{map_contents}
 use Rattle.dp_layers.specs.Tree.{IsTree}
 use Rattle.dp_plain.specs.Board.{Board}
-use Rattle.dp_plain.specs.Commands.{with_change}
+use Rattle.dp_plain.specs.Commands.{arranged, with_change}
 use Rattle.dp_plain.specs.View.{pixel_in}
 use Rattle.dp_plain.proofs.Rows.{HaveIds, layers_of-map, content_of-mapped, tree_of_contents}
 use Rattle.dp_plain.proofs.Rows.{filled-mapped, changed_none, changed_some}
@@ -66,3 +70,39 @@ module _ {C : Type 0} (pixels : C → List Channels) (rows : List (Row C)) (tree
       ∙ sym
       (changed_some id change (map_contents pixels rows) (pixels old) ids
       (content_seen pixels rows id (Some old) found))
+
+-- what holds, holds where an error comes
+pub at_error : {T E P : Type 0} (r : Result T E) → P → OnErr r P
+at_error (Ok x) holds = tt
+at_error (Err e) holds = holds
+
+-- ---- what a command finds on the rows of a board, whatever these hold
+
+module _ {C : Type 0} (pixels : C → List Channels) (width height background : ℕ)
+    (rows : List (Row C)) where
+  abbrev viewed : Board
+  viewed = record {
+    width = width;
+    height = height;
+    background = background;
+    rows = map_contents pixels rows;
+  }
+
+  -- whether it has an effect
+  pub effect_viewed : (op : Draw) (b : Bool) (board : Board) → viewed ≡ board
+      → has_effect (layers_of rows) op ≡ b → has_effect (layers_of board.rows) op ≡ b
+  effect_viewed op b board view is =
+      subst (λ (w : Board). has_effect (layers_of w.rows) op ≡ b) view
+      (ap (λ ls. has_effect ls op) (layers_seen pixels rows) ∙ is)
+
+  -- whether a paint row has the id
+  pub paint_viewed : (id : ℕ) (board : Board) → viewed ≡ board
+      → is_paint_row (layers_of rows) id ≡ true → is_paint_row (layers_of board.rows) id ≡ true
+  paint_viewed id board view is =
+      subst (λ (w : Board). is_paint_row (layers_of w.rows) id ≡ true) view
+      (ap (λ ls. is_paint_row ls id) (layers_seen pixels rows) ∙ is)
+
+-- a command without an effect on the rows
+pub arranged_not : (board : Board) (op : Draw) → has_effect (layers_of board.rows) op ≡ false
+    → board ≡ arranged board op
+arranged_not board op none = rw none refl

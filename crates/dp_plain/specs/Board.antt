@@ -1,6 +1,5 @@
 -- The board that commands are drawn on: a canvas with its background and the rows of its layers,
--- each
--- paint row with its pixels.
+-- each paint row with its pixels.
 use Rattle.std.specs.Prelude.{◌≡◌, ◌↔◌, ℕ, ◌*◌, ◌≤◌, List, [], length, All}
 use Rattle.std.specs.Option.{ForSome}
 use Rattle.dp_blend.specs.Color.{Channels}
@@ -8,8 +7,7 @@ use Rattle.dp_layers.specs.Rows.{Row}
 use Rattle.dp_layers.specs.Tree.{IsTree}
 
 -- The sides in pixels, the background as an ARGB number, and the rows, the bottom one first. A
--- paint
--- row holds its pixels, row by row from the top, each from the left; a group holds none.
+-- paint row holds its pixels, row by row from the top, each from the left; a group holds none.
 pub record Board : Type 0 where
   pub width : ℕ
   pub height : ℕ
@@ -25,8 +23,7 @@ abbrev pub Covers : ℕ → ℕ → Row (List Channels) → Type 0
 Covers width height row = ForSome row.content (λ pixels. length pixels ≡ width * height)
 
 -- Both sides are 0, or both are from 1 to 4096 pixels; the rows are a tree of layers, and each
--- paint
--- row covers the canvas.
+-- paint row covers the canvas.
 pub record IsBoard (board : Board) : Type 0 where
   pub width : board.width ≤ 4096
   pub height : board.height ≤ 4096

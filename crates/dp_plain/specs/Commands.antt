@@ -1,6 +1,6 @@
 -- What each drawing command makes of the board. A command that isn't given an effect leaves it as
 -- it is.
-use Rattle.std.specs.Prelude.{ℕ, ℤ, pos, negsuc, ◌+ℤ◌, ◌-ℤ◌, Bool, false, ◌&&◌, ◌==◌}
+use Rattle.std.specs.Prelude.{ℕ, ℤ, pos, negsuc, ◌+ℤ◌, ◌-ℤ◌, Bool, true, false, ◌&&◌, ◌==◌}
 use Rattle.std.specs.Prelude.{nat_le, if◌then◌else◌, Option, None, Some, option_map}
 use Rattle.std.specs.Prelude.{List, map}
 use Rattle.std.specs.List.{fold}
@@ -9,8 +9,9 @@ use Rattle.dp_blend.specs.Color.{Channels, clear}
 use Rattle.dp_blend.specs.Canvas.{canvas_of}
 use Rattle.dp_msg_draw.specs.declared.draw.Draw.{Draw}
 use Rattle.dp_msg_draw.specs.declared.draw.Draw.TheVariants as draws
-use Rattle.dp_layers.specs.Rows.{Row, map_contents}
-use Rattle.dp_layers.specs.Changes.{makes_paint_row, rows_after}
+use Rattle.dp_layers.specs.Layers.{is_paint_row}
+use Rattle.dp_layers.specs.Rows.{Row, layers_of, map_contents}
+use Rattle.dp_layers.specs.Changes.{has_effect, makes_paint_row, rows_after}
 use Rattle.dp_pixels.specs.Commands.{pixel_of, pixels_after}
 use Rattle.dp_plain.specs.Board.{Board}
 
@@ -24,8 +25,8 @@ abbrev pub side : ℤ → ℕ
 side (pos n) = n
 side (negsuc n) = 0
 
--- the pixels on a canvas of the new sides, where each old pixel (x, y) stands at
--- (x + left, y + top)
+-- the pixels on a canvas of the new sides, where each old pixel (x, y) stands at (x + left, y +
+-- top)
 abbrev pub pixels_moved : ℕ → ℕ → List Channels → ℕ → ℕ → ℤ → ℤ → List Channels
 pixels_moved width height pixels new_width new_height left top =
     canvas_of new_width new_height
@@ -94,3 +95,13 @@ draw board op = option_map_or (painted board op) (painted_layer op) (arranged bo
 -- the commands drawn one after the other
 abbrev pub draw_all : Board → List Draw → Board
 draw_all board commands = fold draw board commands
+
+-- The board takes the command up: a resize to sides, a background, a command on layers that has an
+-- effect on the rows, or one on the pixels of a paint layer that is present.
+abbrev pub is_accepted : Board → Draw → Bool
+is_accepted board (draws.CanvasResize top right bottom left) =
+    is_side (pos board.width +ℤ left +ℤ right) && is_side (pos board.height +ℤ top +ℤ bottom)
+is_accepted board (draws.Background color) = true
+is_accepted board op =
+    option_map_or (is_paint_row (layers_of board.rows)) (painted_layer op)
+    (has_effect (layers_of board.rows) op)

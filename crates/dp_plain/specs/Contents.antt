@@ -9,8 +9,7 @@ abbrev pub ContentsFit : {C : Type 0} → (C → Type 0) → List (Row C) → Ty
 ContentsFit fits rows = All (λ row. ForSome row.content fits) rows
 
 -- Both sides are 0, or both are from 1 to 4096 pixels; the rows are a tree, and each content fits
--- the
--- sides.
+-- the sides.
 pub record IsHeld {C : Type 0} (fits : ℕ → ℕ → C → Type 0) (width height : ℕ) (rows : List (Row C))
     : Type 0 where
   pub wide : width ≤ 4096

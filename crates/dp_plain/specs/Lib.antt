@@ -8,3 +8,4 @@ pub mod View
 pub mod Picture
 pub mod Replay
 pub mod Kinds
+pub mod Counts

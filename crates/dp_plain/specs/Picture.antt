@@ -25,10 +25,8 @@ abbrev pub laid : LayerRow → Channels → Channels → Channels
 laid row shown under = blend (mode_of row) (fade shown (from8 row.opacity)) under
 
 -- The rows of a parent that aren't hidden, the bottom one first, each laid on what stands so far,
--- from
--- the pixel start. A paint row shows its pixel, and a group what its own rows make from clear;
--- groups
--- are gone down into so deep.
+-- from the pixel start. A paint row shows its pixel, and a group what its own rows make from clear;
+-- groups are gone down into so deep.
 unfoldable pub compose : ℕ → (LayerRow → Channels) → List LayerRow → ℕ → Channels → Channels
 compose zero pixel_of rows parent start = start
 compose (suc depth) pixel_of rows parent start =

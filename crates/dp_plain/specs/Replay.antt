@@ -53,8 +53,7 @@ abbrev pub is_mark : Entry → Bool
 is_mark entry = is_reset_mark entry.msg
 
 -- what a history shows on a board of any kind: the replay of its entries after the last mark, of
--- all
--- where there is none
+-- all where there is none
 abbrev pub shown_on : {B : Type 0} → (B → Draw → B) → B → List Entry → B
 shown_on draw blank entries = replay_on draw blank (after_last is_mark entries)
 

@@ -10,8 +10,7 @@ abbrev pub pixels_in_row : ℕ → List Channels → ℕ → List Channels
 pixels_in_row width pixels y = map (λ x. pixel_at width pixels x y) (below width)
 
 -- the pixel of the paint layer of the id at a place of the canvas; None where no paint layer has
--- the id
--- or the place is outside
+-- the id or the place is outside
 abbrev pub pixel_in : Board → ℕ → ℕ → ℕ → Option Channels
 pixel_in board id x y =
     if nat_lt x board.width && nat_lt y board.height

@@ -4,8 +4,7 @@ ghost use Rattle.std.specs.Prelude.{◌≡◌, ◌≤◌, pos, ◌+ℤ◌, Some,
 ghost use Rattle.dp_plain.specs.Commands.{is_side, side};
 
 /// How a canvas is resized: its sides, the new sides, all at most 4096 pixels, and where its left
-/// upper
-/// corner goes.
+/// upper corner goes.
 #[derive(Clone, Copy)]
 pub struct Resize {
     pub width: usize,

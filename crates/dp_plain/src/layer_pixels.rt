@@ -18,8 +18,7 @@ use std::alloc::{AllocError, Global};
 use std::sync::ledger::Ledger;
 
 /// The pixels of a layer, in whatever form, on a canvas of sides that its holder knows. The tiles
-/// that
-/// are made are counted.
+/// that are made are counted.
 pub trait LayerPixels: Sized + Drop {
     /// The pixels on a canvas of this width and height, row by row from the top.
     ghost pixels: { ℕ → ℕ → Self → List Channels };
@@ -27,13 +26,13 @@ pub trait LayerPixels: Sized + Drop {
     /// It belongs to a canvas of this width and height.
     ghost fits: { ℕ → ℕ → Self → Type 0 };
 
-    /// A draw of the command makes at most so many tiles.
+    /// The most tiles that a draw of the command makes.
     ghost weight: { Message → ℕ };
 
-    /// A resize makes at most so many tiles.
+    /// The most tiles that a resize makes.
     ghost resizing: { ℕ };
 
-    /// A content of no canvas, which takes no memory: it stands in for one that is taken out.
+    /// A content of no canvas, which takes no memory: it fills the place of one that is taken out.
     fn placeholder(alloc: Global) -> Self;
 
     /// The clear content of a canvas. It makes no tile.
@@ -54,31 +53,31 @@ pub trait LayerPixels: Sized + Drop {
     ///
     /// # Errors
     ///
-    /// Where memory runs out. The content is then as it was, and tiles that were made are counted.
+    /// The content is as it was, and tiles that were made are counted.
     fn paint<T: Ledger>(
         &mut self,
         alloc: Global,
         width: u32,
         height: u32,
-        op: &Draw,
+        command: &Draw,
         tiles: &mut Steps<T>,
     ) -> Result<(), AllocError>
         requires wide { width ≤ 4096 }
         requires high { height ≤ 4096 }
-        requires paints { IsTrue (is_some (painted_layer op.now)) }
+        requires paints { IsTrue (is_some (painted_layer command.now)) }
         requires fits { fits width height self.old }
         ensures fits { OnOk result (fits width height self.new) }
         ensures pixels { OnOk result (pixels width height self.new
-            ≡ pixels_after width height op.now (pixels width height self.old)) }
+            ≡ pixels_after width height command.now (pixels width height self.old)) }
         ensures err { OnErr result (self.new ≡ self.old) }
         ensures tiles_rise { tiles.old ≤ tiles.new }
-        ensures few_tiles { tiles.new ≤ tiles.old + weight op.now };
+        ensures few_tiles { tiles.new ≤ tiles.old + weight command.now };
 
     /// The content on a canvas of the new sides.
     ///
     /// # Errors
     ///
-    /// Where memory runs out. Tiles that were made are counted.
+    /// Tiles that were made are counted.
     fn resize<T: Ledger>(
         &self,
         alloc: Global,

@@ -1,11 +1,13 @@
 //! The board over contents of any kind: the dispatch of the commands.
 
-ghost use Rattle.std.specs.Prelude.{◌≡◌, ◌+◌, ◌*◌, ◌≤◌, false, Some, OnOk, OnErr};
-ghost use Rattle.dp_layers.specs.Layers.{row_limit};
-ghost use Rattle.dp_layers.specs.Changes.{IsCreate};
+ghost use Rattle.std.specs.Prelude.{◌≡◌, ◌+◌, ◌*◌, ◌≤◌, pos, ◌+ℤ◌, ◌&&◌, true, false, Some};
+ghost use Rattle.std.specs.Prelude.{OnOk, OnErr};
+ghost use Rattle.dp_layers.specs.Layers.{is_paint_row, row_limit};
+ghost use Rattle.dp_layers.specs.Rows.{layers_of};
+ghost use Rattle.dp_layers.specs.Changes.{IsCreate, has_effect};
 ghost use Rattle.dp_plain.specs.Board.{empty_board, IsBoard};
 ghost use Rattle.dp_plain.specs.Commands.{draw, resized, arranged, painted, painted_layer};
-ghost use Rattle.dp_plain.specs.Commands.{IsArranging};
+ghost use Rattle.dp_plain.specs.Commands.{IsArranging, is_accepted, is_side};
 ghost use Rattle.dp_plain.specs.Weights.{board_weight};
 
 use crate::geometry::{Resize, new_side};
@@ -23,8 +25,7 @@ use std::marker::Model;
 use std::sync::ledger::Ledger;
 
 /// A board whose paint layers hold contents of one kind. It is seen as a `Board` of the
-/// definitions,
-/// with the pixels of each content.
+/// definitions, with the pixels of each content.
 #[derive(Drop)]
 pub struct LayeredBoard<C: LayerPixels> {
     width: u32,
@@ -66,13 +67,14 @@ impl<C: LayerPixels> LayeredBoard<C> {
     }
 
     /// Draws the command, as `draw` of the trait does, without counting a draw.
-    fn apply<T: Ledger>(&mut self, op: &Draw, tiles: &mut Steps<T>) -> Result<(), AllocError>
-        ensures ok { OnOk result (self.new ≡ draw self.old op.now) }
+    fn apply<T: Ledger>(&mut self, command: &Draw, tiles: &mut Steps<T>) -> Result<(), AllocError>
+        ensures ok { OnOk result (self.new ≡ draw self.old command.now) }
         ensures err { OnErr result (self.new ≡ self.old) }
+        ensures memory { OnErr result (is_accepted self.old command.now ≡ true) }
         ensures tiles_rise { tiles.old ≤ tiles.new }
-        ensures few_tiles { tiles.new ≤ tiles.old + board_weight C.resizing C.weight op.now }
+        ensures few_tiles { tiles.new ≤ tiles.old + board_weight C.resizing C.weight command.now }
     {
-        match op {
+        match command {
             Draw::CanvasResize {
                 top,
                 right,
@@ -83,17 +85,17 @@ impl<C: LayerPixels> LayeredBoard<C> {
                 self.background = *color;
                 Ok(())
             }
-            Draw::LayerCreate { .. } => self.create(op, tiles),
+            Draw::LayerCreate { .. } => self.create(command, tiles),
             Draw::LayerAttr { .. }
             | Draw::LayerTitle { .. }
             | Draw::LayerMove { .. }
-            | Draw::LayerDelete { .. } => self.arrange(op),
+            | Draw::LayerDelete { .. } => self.arrange(command),
             Draw::PutImage { layer, .. }
             | Draw::FillRect { layer, .. }
             | Draw::PutTile { layer, .. }
             | Draw::DabsRound { layer, .. }
             | Draw::DabsSquare { layer, .. }
-            | Draw::MoveRect { layer, .. } => self.paint(*layer, op, tiles),
+            | Draw::MoveRect { layer, .. } => self.paint(*layer, command, tiles),
         }
     }
 
@@ -108,6 +110,8 @@ impl<C: LayerPixels> LayeredBoard<C> {
     ) -> Result<(), AllocError>
         ensures ok { OnOk result (self.new ≡ resized self.old top right bottom left) }
         ensures err { OnErr result (self.new ≡ self.old) }
+        ensures memory { OnErr result ((is_side (pos self.old.width +ℤ left +ℤ right)
+            && is_side (pos self.old.height +ℤ top +ℤ bottom)) ≡ true) }
         ensures tiles_rise { tiles.old ≤ tiles.new }
         ensures few_tiles { tiles.new ≤ tiles.old + row_limit * C.resizing }
     {
@@ -132,28 +136,35 @@ impl<C: LayerPixels> LayeredBoard<C> {
     }
 
     /// Creates a row: a group, or a paint row with clear pixels.
-    fn create<T: Ledger>(&mut self, op: &Draw, tiles: &mut Steps<T>) -> Result<(), AllocError>
-        requires { IsCreate op.now }
-        ensures ok { OnOk result (self.new ≡ arranged self.old op.now) }
+    fn create<T: Ledger>(&mut self, command: &Draw, tiles: &mut Steps<T>) -> Result<(), AllocError>
+        requires { IsCreate command.now }
+        ensures ok { OnOk result (self.new ≡ arranged self.old command.now) }
         ensures err { OnErr result (self.new ≡ self.old) }
+        ensures memory { OnErr result
+            (has_effect (layers_of self.old.rows) command.now ≡ true) }
         ensures no_tile { tiles.new ≡ tiles.old }
     {
         contents_ride_along::<C, PlainPixels>();
         trees_stay_trees::<C>();
-        let content = new_content(self.alloc, op, self.width, self.height, tiles)?;
-        let _effect = self.tree.create(op, content)?;
+        if !self.tree.accepts(command) {
+            return Ok(());
+        }
+        let content = new_content(self.alloc, command, self.width, self.height, tiles)?;
+        let _effect = self.tree.create(command, content)?;
         Ok(())
     }
 
     /// Changes the rows by a command that makes none.
-    fn arrange(&mut self, op: &Draw) -> Result<(), AllocError>
-        requires { IsArranging op.now }
-        ensures ok { OnOk result (self.new ≡ arranged self.old op.now) }
+    fn arrange(&mut self, command: &Draw) -> Result<(), AllocError>
+        requires { IsArranging command.now }
+        ensures ok { OnOk result (self.new ≡ arranged self.old command.now) }
         ensures err { OnErr result (self.new ≡ self.old) }
+        ensures memory { OnErr result
+            (has_effect (layers_of self.old.rows) command.now ≡ true) }
     {
         contents_ride_along::<C, PlainPixels>();
         trees_stay_trees::<C>();
-        arrange_rows(&mut self.tree, op)?;
+        arrange_rows(&mut self.tree, command)?;
         Ok(())
     }
 
@@ -161,14 +172,15 @@ impl<C: LayerPixels> LayeredBoard<C> {
     fn paint<T: Ledger>(
         &mut self,
         id: u16,
-        op: &Draw,
+        command: &Draw,
         tiles: &mut Steps<T>,
     ) -> Result<(), AllocError>
-        requires { painted_layer op.now ≡ Some id }
-        ensures ok { OnOk result (self.new ≡ painted self.old op.now id) }
+        requires { painted_layer command.now ≡ Some id }
+        ensures ok { OnOk result (self.new ≡ painted self.old command.now id) }
         ensures err { OnErr result (self.new ≡ self.old) }
+        ensures memory { OnErr result (is_paint_row (layers_of self.old.rows) id ≡ true) }
         ensures tiles_rise { tiles.old ≤ tiles.new }
-        ensures few_tiles { tiles.new ≤ tiles.old + C.weight op.now }
+        ensures few_tiles { tiles.new ≤ tiles.old + C.weight command.now }
     {
         paint_content(
             &mut self.tree,
@@ -176,7 +188,7 @@ impl<C: LayerPixels> LayeredBoard<C> {
             self.width,
             self.height,
             id,
-            op,
+            command,
             tiles,
         )?;
         Ok(())
@@ -204,7 +216,15 @@ impl<C: LayerPixels> Board for LayeredBoard<C> {
         op: &Draw,
         draws: &mut Steps<D>,
         tiles: &mut Steps<T>,
-    ) -> Result<(), AllocError> {
+    ) -> Result<(), AllocError>
+        ensures board { OnOk result (self.new ≡ draw self.old op.now) }
+        ensures one_draw { OnOk result (draws.new ≡ draws.old + 1) }
+        ensures err_board { OnErr result (self.new ≡ self.old) }
+        ensures err_draws { OnErr result (draws.new ≡ draws.old) }
+        ensures memory { OnErr result (is_accepted self.old op.now ≡ true) }
+        ensures tiles_rise { tiles.old ≤ tiles.new }
+        ensures few_tiles { tiles.new ≤ tiles.old + board_weight C.resizing C.weight op.now }
+    {
         self.apply(op, tiles)?;
         draws.tick();
         Ok(())

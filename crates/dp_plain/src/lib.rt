@@ -1,9 +1,8 @@
 //! The board of a session, and the replay of a history on it.
 //!
 //! What a layer holds is a `LayerPixels`; a `LayeredBoard` draws every command on contents of one
-//! kind. The
-//! boards over plain lists of pixels (`PlainBoard`) are the slow ones with which others are
-//! compared.
+//! kind. The boards over plain lists of pixels (`PlainBoard`) are the slow ones with which others
+//! are compared.
 #![tactic(auto)]
 
 mod geometry;

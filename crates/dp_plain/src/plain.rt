@@ -65,10 +65,10 @@ impl LayerPixels for PlainPixels {
         alloc: Global,
         width: u32,
         height: u32,
-        op: &Draw,
+        command: &Draw,
         _tiles: &mut Steps<T>,
     ) -> Result<(), AllocError> {
-        draw_pixels(alloc, op, width, height, &mut self.pixels)
+        draw_pixels(alloc, command, width, height, &mut self.pixels)
     }
 
     fn resize<T: Ledger>(

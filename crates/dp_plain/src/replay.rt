@@ -1,8 +1,11 @@
 //! The replay of a history.
+//!
+//! The rule: docs/protocol.md, "Strokes, undo and redo".
 
-ghost use Rattle.std.specs.Prelude.{◌≡◌, ◌+◌, ◌≤◌, length, drop, map, IfOk, OnOk, OnErr};
+ghost use Rattle.std.specs.Prelude.{◌≡◌, ◌+◌, ◌≤◌, length, drop, map, IfOk, OnOk};
 ghost use Rattle.std.specs.List.{after_last, fold};
 ghost use Rattle.dp_board.specs.Commands.{command_of, commands, drawn_commands};
+ghost use Rattle.dp_plain.specs.Counts.{CountsFew};
 ghost use Rattle.dp_plain.specs.Kinds.{kind_of_entry};
 ghost use Rattle.dp_plain.specs.Replay.{act_of, user_act_of, is_command, is_mark, moved_user};
 ghost use Rattle.dp_plain.specs.Replay.{undo_depth, shown, shown_on, replay_on};
@@ -15,11 +18,10 @@ use dp_steps::Steps;
 use std::alloc::{AllocError, Global};
 use std::sync::ledger::Ledger;
 
-/// A group of strokes can be undone and redone while its point is among this many last ones.
+/// A group of strokes can be undone and redone while its point is among as many last ones.
 const UNDO_DEPTH: u32 = 30;
 
 /// What an entry does to strokes, with a copy of its command.
-/// The rule: docs/protocol.md, "Strokes, undo and redo".
 pub fn act_of(entry: &Entry) -> Result<Act<Draw>, AllocError>
     ensures { IfOk result (λ act. act ≡ act_of entry.now) }
 {
@@ -49,18 +51,32 @@ pub fn is_command(msg: &Msg) -> bool
 
 /// The board that the history shows: its commands after the last mark of a reset but for the undone
 /// ones, drawn in its order on a plain board.
+///
+/// # Errors
+///
+/// Some of the commands were drawn, each once.
 pub fn plain_replay<D: Ledger, T: Ledger>(
     alloc: Global,
     entries: &[Entry],
     draws: &mut Steps<D>,
     tiles: &mut Steps<T>,
 ) -> Result<PlainBoard, AllocError>
-    ensures { IfOk result (λ board. board ≡ shown entries.now) }
+    ensures board { IfOk result (λ board. board ≡ shown entries.now) }
+    ensures draws { OnOk result (draws.new ≡ draws.old
+        + length (drawn_commands undo_depth (map user_act_of (after_last is_mark entries.now)))) }
+    ensures draws_rise { draws.old ≤ draws.new }
+    ensures few_draws { draws.new ≤ draws.old
+        + length (drawn_commands undo_depth (map user_act_of (after_last is_mark entries.now))) }
+    ensures no_tile { tiles.new ≡ tiles.old }
 {
     show_on(alloc, PlainBoard::new(alloc), entries, draws, tiles)
 }
 
-/// The same on any board, from the board `blank`. It draws each of these commands once.
+/// The same on any board, from the board `blank`. Each of these commands is drawn once.
+///
+/// # Errors
+///
+/// Some of the commands were drawn, each once, and their tiles are counted.
 pub fn show_on<B: Board<Op = Draw>, D: Ledger, T: Ledger>(
     alloc: Global,
     blank: B,
@@ -71,6 +87,9 @@ pub fn show_on<B: Board<Op = Draw>, D: Ledger, T: Ledger>(
     ensures board { IfOk result (λ board. board ≡ shown_on B.drawn blank entries.now) }
     ensures draws { OnOk result (draws.new ≡ draws.old
         + length (drawn_commands undo_depth (map user_act_of (after_last is_mark entries.now)))) }
+    ensures counts { CountsFew B.weight
+        (drawn_commands undo_depth (map user_act_of (after_last is_mark entries.now)))
+        draws.old draws.new tiles.old tiles.new }
 {
     replay_on(alloc, blank, &entries[epoch_start(entries)..], draws, tiles)
 }
@@ -87,9 +106,12 @@ fn epoch_start(entries: &[Entry]) -> usize
     start
 }
 
-/// The commands of the entries but for the undone ones, drawn in their order on the board. It draws
-/// each
-/// of them once.
+/// The commands of the entries but for the undone ones, drawn in their order on the board, each
+/// once.
+///
+/// # Errors
+///
+/// Some of the commands were drawn, each once, and their tiles are counted.
 pub fn replay_on<B: Board<Op = Draw>, D: Ledger, T: Ledger>(
     alloc: Global,
     mut board: B,
@@ -100,6 +122,8 @@ pub fn replay_on<B: Board<Op = Draw>, D: Ledger, T: Ledger>(
     ensures board { IfOk result (λ drawn. drawn ≡ replay_on B.drawn board entries.now) }
     ensures draws { OnOk result (draws.new ≡ draws.old
         + length (drawn_commands undo_depth (map user_act_of entries.now))) }
+    ensures counts { CountsFew B.weight (drawn_commands undo_depth (map user_act_of entries.now))
+        draws.old draws.new tiles.old tiles.new }
 {
     commands_do_not_count::<Draw, ()>();
     each_act_has_a_flag::<Draw>();
@@ -163,6 +187,8 @@ fn draw_flagged<B: Board<Op = Draw>, D: Ledger, T: Ledger>(
         ≡ fold B.drawn board.old (commands (map user_act_of entries.now) flags.now)) }
     ensures draws { OnOk result (draws.new
         ≡ draws.old + length (commands (map user_act_of entries.now) flags.now)) }
+    ensures counts { CountsFew B.weight (commands (map user_act_of entries.now) flags.now)
+        draws.old draws.new tiles.old tiles.new }
 {
     for (k, entry) in entries.iter().enumerate() {
         draw_entry(board, entry, flags[k], draws, tiles)?;
@@ -182,6 +208,8 @@ fn draw_entry<B: Board<Op = Draw>, D: Ledger, T: Ledger>(
         (board.new ≡ fold B.drawn board.old (command_of (act_of entry.now) is_drawn)) }
     ensures draws { OnOk result
         (draws.new ≡ draws.old + length (command_of (act_of entry.now) is_drawn)) }
+    ensures counts { CountsFew B.weight (command_of (act_of entry.now) is_drawn)
+        draws.old draws.new tiles.old tiles.new }
 {
     match &entry.msg {
         Msg::Draw(command) if is_drawn => board.draw(command, draws, tiles),

@@ -1,15 +1,14 @@
 //! Trees of contents: changed by a command, or made anew on a canvas of other sides or as a second
 //! one.
 
-ghost use Rattle.std.specs.Prelude.{◌≡◌, ◌+◌, ◌*◌, ◌≤◌, None, Some, if◌then◌else◌, false, IsTrue};
-ghost use Rattle.std.specs.Prelude.{is_some};
-ghost use Rattle.std.specs.Prelude.{map, option_map, All, IfOk, OnOk, OnErr};
+ghost use Rattle.std.specs.Prelude.{◌≡◌, ◌+◌, ◌*◌, ◌≤◌, None, Some, if◌then◌else◌, true, false};
+ghost use Rattle.std.specs.Prelude.{IsTrue, is_some, map, option_map, All, IfOk, OnOk, OnErr};
 ghost use Rattle.std.specs.Option.{ForSome};
 ghost use Rattle.dp_blend.specs.Color.{clear};
 ghost use Rattle.dp_blend.specs.Canvas.{canvas_of};
-ghost use Rattle.dp_layers.specs.Changes.{IsCreate, makes_paint_row, rows_after};
-ghost use Rattle.dp_layers.specs.Layers.{row_limit};
-ghost use Rattle.dp_layers.specs.Rows.{map_contents, contents_of};
+ghost use Rattle.dp_layers.specs.Changes.{IsCreate, has_effect, makes_paint_row, rows_after};
+ghost use Rattle.dp_layers.specs.Layers.{is_paint_row, row_limit};
+ghost use Rattle.dp_layers.specs.Rows.{layers_of, map_contents, contents_of};
 ghost use Rattle.dp_layers.specs.Tree.{IsTree};
 ghost use Rattle.dp_pixels.specs.Commands.{pixels_after};
 ghost use Rattle.dp_plain.specs.Commands.{painted_layer, with_change, IsArranging};
@@ -19,7 +18,7 @@ ghost use Rattle.dp_plain.specs.Contents.{ContentsFit, IsHeld};
 use crate::geometry::Resize;
 use crate::layer_pixels::LayerPixels;
 use crate::plain::PlainPixels;
-use dp_layers::{Tree, contents_in_order, contents_ride_along, one_tree, trees_stay_trees};
+use dp_layers::{Tree, contents_in_order, one_tree, trees_stay_trees};
 use dp_msg_draw::Draw;
 use dp_steps::Steps;
 use std::alloc::{AllocError, Global};
@@ -28,38 +27,40 @@ use std::sync::ledger::Ledger;
 /// What a new row holds: a clear content, if it is a paint row.
 pub(crate) fn new_content<C: LayerPixels, T: Ledger>(
     alloc: Global,
-    op: &Draw,
+    command: &Draw,
     width: u32,
     height: u32,
     tiles: &mut Steps<T>,
 ) -> Result<Option<C>, AllocError>
-    requires create { IsCreate op.now }
+    requires create { IsCreate command.now }
     requires wide { width ≤ 4096 }
     requires high { height ≤ 4096 }
-    ensures kind { IfOk result (λ content. is_some content ≡ makes_paint_row op.now) }
+    ensures kind { IfOk result (λ content. is_some content ≡ makes_paint_row command.now) }
     ensures fit { IfOk result (λ content. ForSome content (C.fits width height)) }
     ensures pixels { IfOk result (λ content. option_map (C.pixels width height) content
-        ≡ (if makes_paint_row op.now then Some (canvas_of width height (λ x y. clear)) else None)) }
+        ≡ (if makes_paint_row command.now then Some (canvas_of width height (λ x y. clear))
+        else None)) }
     ensures no_tile { tiles.new ≡ tiles.old }
 {
-    match op {
+    match command {
         Draw::LayerCreate { group: true, .. } => Ok(None),
         _ => Ok(Some(C::clear(alloc, width, height, tiles)?)),
     }
 }
 
 /// Changes the rows by a command that makes none.
-pub(crate) fn arrange_rows<X: Drop>(tree: &mut Tree<X>, op: &Draw) -> Result<(), AllocError>
-    requires { IsArranging op.now }
-    ensures kind { makes_paint_row op.now ≡ false }
-    ensures ok { OnOk result (tree.new ≡ rows_after tree.old op.now None) }
+pub(crate) fn arrange_rows<X: Drop>(tree: &mut Tree<X>, command: &Draw) -> Result<(), AllocError>
+    requires { IsArranging command.now }
+    ensures kind { makes_paint_row command.now ≡ false }
+    ensures ok { OnOk result (tree.new ≡ rows_after tree.old command.now None) }
     ensures err { OnErr result (tree.new ≡ tree.old) }
+    ensures memory { OnErr result (has_effect (layers_of tree.old) command.now ≡ true) }
 {
-    let _effect = match op {
-        Draw::LayerAttr { .. } => tree.attr(op)?,
-        Draw::LayerTitle { .. } => tree.title(op)?,
-        Draw::LayerMove { .. } => tree.shift(op)?,
-        _ => tree.delete(op)?,
+    let _effect = match command {
+        Draw::LayerAttr { .. } => tree.attr(command)?,
+        Draw::LayerTitle { .. } => tree.title(command)?,
+        Draw::LayerMove { .. } => tree.shift(command)?,
+        _ => tree.delete(command)?,
     };
     Ok(())
 }
@@ -71,26 +72,27 @@ pub(crate) fn paint_content<C: LayerPixels, T: Ledger>(
     width: u32,
     height: u32,
     id: u16,
-    op: &Draw,
+    command: &Draw,
     tiles: &mut Steps<T>,
 ) -> Result<(), AllocError>
-    requires paints { IsTrue (is_some (painted_layer op.now)) }
+    requires paints { IsTrue (is_some (painted_layer command.now)) }
     requires held { IsHeld C.fits width height tree.old }
     ensures held { IsHeld C.fits width height tree.new }
     ensures ok { OnOk result (map_contents (C.pixels width height) tree.new
-        ≡ map (with_change id (pixels_after width height op.now))
+        ≡ map (with_change id (pixels_after width height command.now))
         (map_contents (C.pixels width height) tree.old)) }
     ensures err { OnErr result (tree.new ≡ tree.old) }
+    ensures memory { OnErr result (is_paint_row (layers_of tree.old) id ≡ true) }
     ensures tiles_rise { tiles.old ≤ tiles.new }
-    ensures few_tiles { tiles.new ≤ tiles.old + C.weight op.now }
+    ensures few_tiles { tiles.new ≤ tiles.old + C.weight command.now }
 {
     trees_stay_trees::<C>();
     if tree.content(id).is_none() {
         return Ok(());
     }
     let mut content = tree.put_content(id, C::placeholder(alloc));
-    let painted = content.paint(alloc, width, height, op, tiles);
-    let _stand_in = tree.put_content(id, content);
+    let painted = content.paint(alloc, width, height, command, tiles);
+    let _placeholder = tree.put_content(id, content);
     painted
 }
 

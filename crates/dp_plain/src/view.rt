@@ -43,8 +43,7 @@ pub trait BoardView {
             ≡ pixels_in_row (board self.now).width (pixels_of (board self.now) id) y };
 
     /// The pixel of the paint layer of the id at a place, or `None` where no paint layer has the id
-    /// or
-    /// the place is outside.
+    /// or the place is outside.
     fn pixel(&self, id: u16, x: u32, y: u32) -> Option<Pixel>
         ensures { result ≡ pixel_in (board self.now) id x y };
 }

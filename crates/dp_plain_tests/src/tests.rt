@@ -363,7 +363,7 @@ fn push_entries(rt: &impl Abort, entries: &mut Vec<Entry>, words: &str) -> Resul
     Ok(())
 }
 
-/// A history: the words of the front, then user 1 makes a canvas of 3 by 1 pixels with a layer, and
+/// A history: these words first, then user 1 makes a canvas of 3 by 1 pixels with a layer, and
 /// then the other words.
 fn history_of(
     rt: &impl Abort,

@@ -15,7 +15,7 @@ returns-in-MoveRect-clause-ok c =
     let tx : SFits w32 m.tx = search rules in
     let ty : SFits w32 m.ty = search rules in
     OnOk-map c.move_pixels.result _ (c.move_pixels.new.pixels
-    ≡ pixels_after width height c.args.op.now old) (λ is.
+    ≡ pixels_after width height c.args.command.now old) (λ is.
     is
     ∙ (ap (λ (z : ℤ). pixels_moved width height m.sx m.sy m.w m.h z (to_z w32 (of_z w32 m.ty)) old)
     (to_z-of_z w32 m.tx tx)
@@ -28,7 +28,7 @@ returns-in-MoveRect-clause-ok c =
 pub returns-in_default : goal.returns-in_default
 returns-in_default c = record {
   ok = c.draw_whole.ensures ∙ after_other c.equal_canvases.ensures c.args.width c.args.height
-      c.args.op.now c.args.pixels.now c.in_default.not-MoveRect;
+      c.args.command.now c.args.pixels.now c.in_default.not-MoveRect;
   err = tt;
   memory = λ other. refl;
 }

@@ -14,11 +14,11 @@ use Rattle.dp_pixels.proofs.paint.paint_region.Given.{Over}
 use borrow.Rule.Slice.PartMut.{mid_of}
 use Rattle.dp_pixels.proofs.paint.paint_region.Goals as goal
 
-pub returns-then-part : goal.returns-then-part
-returns-then-part g c =
+pub returns-then-clip : goal.returns-then-clip
+returns-then-clip g c =
     part_empty c.args.region.now c.bounds.result c.clip-clip.result c.clip-clip.ensures
     (g.P.Paint.change c.args.paint.now)
-    c.bounds.ensures.stays c.args.stride c.args.pixels.now c.if-part.true
+    c.bounds.ensures.stays c.args.stride c.args.pixels.now c.if-clip.true
 
 pub loop-j-init : goal.loop-j-init
 loop-j-init g c =
@@ -47,10 +47,10 @@ paint_row-requires g c =
     let row_len : length row ≡ p.right - p.left =
     length-row c.loop-j.pixels w.width w.height c.args.stride c.loop-j.j p.left p.right
     c.requires.wide (omega (arith, c.requires.long, c.loop-j.auto.pixels))
-    (omega (arith, c.if-part.false)) in_width
+    (omega (arith, c.if-clip.false)) in_width
     (omega (arith, c.loop-j-test.true)) in
     subst (λ (bounds : Rect). IsRowIn bounds place (length row)) c.bounds.ensures.value
-    (part_row w c.bounds.result p c.clip-clip.ensures c.loop-j.j place (length row) c.if-part.false
+    (part_row w c.bounds.result p c.clip-clip.ensures c.loop-j.j place (length row) c.if-clip.false
     c.loop-j.auto.j c.loop-j-test.true row_len
     (row_start w.x p.left (omega arith) (omega arith)) (row_start w.y c.loop-j.j (omega arith)
     (omega arith)))
@@ -61,7 +61,7 @@ loop-j-preserved g c =
     let p = c.clip-clip.result in
     let k = c.loop-j.j in
     let size = k * c.args.stride + p.right - (k * c.args.stride + p.left) in
-    let some = c.if-part.false in
+    let some = c.if-clip.false in
     let in_width = c.clip-clip.ensures.right.within in
     let in_height = c.clip-clip.ensures.bottom.within in
     let row = mid_of (k * c.args.stride + p.left) size c.loop-j.pixels in

@@ -1,6 +1,7 @@
-use Rattle.std.proofs.Common.{◌∙◌, ◌+◌, ap, length, map, Bool, List}
+use Rattle.std.proofs.Common.{◌∙◌, ◌+◌, ap, subst, length, map, Bool, List}
 use Rattle.std.specs.List.{fold}
 use Rattle.dp_board.specs.Commands.{commands}
+use Rattle.dp_plain.specs.Counts.{CountsFew}
 use Rattle.dp_plain.specs.Replay.{user_act_of}
 use Rattle.dp_plain.proofs.Replays.{flags_of_acts, flags_fit}
 use Rattle.dp_plain.proofs.replay.replay_on.Goals as goal
@@ -34,3 +35,23 @@ returns-clause-draws g c =
     c.deref-2.result.now
     (c.deref.ensures.value ∙ c.in_ok-kinds.ensures) (c.deref-2.ensures.value
     ∙ c.in_ok-flags.ensures))
+
+pub returns-in_err-draw_flagged-clause-counts : goal.returns-in_err-draw_flagged-clause-counts
+returns-in_err-draw_flagged-clause-counts g c =
+    subst (λ (flags : List Bool). CountsFew g.B.Board.weight
+    (commands (map user_act_of c.args.entries.now) flags) c.args.draws.now
+    c.draw_flagged.new.draws c.args.tiles.now c.draw_flagged.new.tiles)
+    (flags_of_acts c.commands_do_not_count.ensures 30 c.args.entries.now c.deref.result.now
+    c.deref-2.result.now
+    (c.deref.ensures.value ∙ c.in_ok-kinds.ensures) (c.deref-2.ensures.value
+    ∙ c.in_ok-flags.ensures)) c.draw_flagged.ensures.counts
+
+pub returns-clause-counts : goal.returns-clause-counts
+returns-clause-counts g c =
+    subst (λ (flags : List Bool). CountsFew g.B.Board.weight
+    (commands (map user_act_of c.args.entries.now) flags) c.args.draws.now
+    c.draw_flagged.new.draws c.args.tiles.now c.draw_flagged.new.tiles)
+    (flags_of_acts c.commands_do_not_count.ensures 30 c.args.entries.now c.deref.result.now
+    c.deref-2.result.now
+    (c.deref.ensures.value ∙ c.in_ok-kinds.ensures) (c.deref-2.ensures.value
+    ∙ c.in_ok-flags.ensures)) c.draw_flagged.ensures.counts

@@ -24,7 +24,7 @@ returns-then-is_none-clause-ok g c =
     let rows = c.args.tree.now in
     painted_none (g.C.LayerPixels.pixels c.args.width c.args.height) rows c.requires.held.tree
     c.args.id
-    (pixels_after c.args.width c.args.height c.args.op.now)
+    (pixels_after c.args.width c.args.height c.args.command.now)
     (sym c.content.ensures.value
     ∙ none_copied c.content.result (c.is_none.ensures ∙ ap not c.if-is_none.true))
 
@@ -66,7 +66,7 @@ pub returns-clause-ok : goal.returns-clause-ok
 returns-clause-ok g c =
     let rows = c.args.tree.now in
     let pixels = g.C.LayerPixels.pixels c.args.width c.args.height in
-    let change = pixels_after c.args.width c.args.height c.args.op.now in
+    let change = pixels_after c.args.width c.args.height c.args.command.now in
     let old = c.put_content-content.result in
     let new = c.paint-painted.new.self in
     on_ok_weaker c.paint-painted.result
@@ -89,3 +89,9 @@ returns-clause-err g c =
     ∙ filled_same rows c.args.id old c.requires.held.tree.layers.distinct
     c.put_content-content.ensures.old)
     c.paint-painted.ensures.err
+
+pub returns-clause-memory : goal.returns-clause-memory
+returns-clause-memory g c =
+    let paint : is_paint_row (layers_of c.args.tree.now) c.args.id ≡ true =
+    sym c.content.ensures.paint ∙ c.is_none.ensures ∙ ap not c.if-is_none.false in
+    on_err_weaker c.paint-painted.result (λ same. paint) c.paint-painted.ensures.err

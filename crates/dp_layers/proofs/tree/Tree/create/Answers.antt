@@ -2,7 +2,8 @@ use Rattle.std.proofs.Common.{◌≡◌, ap, sym, ◌∙◌, true, false, List, 
 use Rattle.dp_layers.specs.Changes.{can_create, new_row, created}
 use Rattle.dp_layers.specs.Inside.{joined}
 use Rattle.dp_layers.proofs.Joining.{AreParts}
-use Rattle.dp_layers.proofs.Effects.{refused, stays_refused, taken, changed_rows, changed_inside}
+use Rattle.dp_layers.proofs.Effects.{at_error, refused, stays_refused, taken, changed_rows}
+use Rattle.dp_layers.proofs.Effects.{changed_inside}
 use Rattle.dp_layers.proofs.Methods.{parts-pushed}
 use Rattle.dp_layers.proofs.tree.Tree.create.Goals as goal
 use Rattle.dp_layers.proofs.tree.Tree.create.Goals.{Joined-x, In_ok-push_both}
@@ -65,3 +66,23 @@ invariant_of-self-2 g c =
     changed_inside c.self.inside.layers.items c.self.inside.contents.items c.args.self.now
     c.self.invariant c.self.view_is _ _ c.in-LayerCreate.is _ _ c.args.x (can g c) (parts g c)
     c.requires.content
+
+pub returns-in_err-copy-clause-memory : goal.returns-in_err-copy-clause-memory
+returns-in_err-copy-clause-memory g c =
+    let can : can_create c.self.inside.layers.items c.in-LayerCreate.id c.in-LayerCreate.parent
+    ≡ true =
+    ap (λ ls. can_create ls c.in-LayerCreate.id c.in-LayerCreate.parent) (sym c.deref.ensures.value)
+    ∙ sym c.can_create.ensures ∙ c.if-not-can_create.false in
+    at_error c.from_residual.result
+    (sym (taken c.self.inside.layers.items c.self.inside.contents.items c.args.self.now
+    c.self.invariant c.self.view_is _ _ c.in-LayerCreate.is can))
+
+pub returns-in_err-push_both-clause-memory : goal.returns-in_err-push_both-clause-memory
+returns-in_err-push_both-clause-memory g c =
+    let can : can_create c.self.inside.layers.items c.in-LayerCreate.id c.in-LayerCreate.parent
+    ≡ true =
+    ap (λ ls. can_create ls c.in-LayerCreate.id c.in-LayerCreate.parent) (sym c.deref.ensures.value)
+    ∙ sym c.can_create.ensures ∙ c.if-not-can_create.false in
+    at_error c.from_residual-in_err-push_both.result
+    (sym (taken c.self.inside.layers.items c.self.inside.contents.items c.args.self.now
+    c.self.invariant c.self.view_is _ _ c.in-LayerCreate.is can))

@@ -4,7 +4,8 @@ use Rattle.dp_layers.specs.Layers.{has_row}
 use Rattle.dp_layers.specs.Changes.{deleted}
 use Rattle.dp_layers.specs.Inside.{joined, stay_flags}
 use Rattle.dp_layers.proofs.Joining.{AreParts}
-use Rattle.dp_layers.proofs.Effects.{refused, stays_refused, taken, changed_rows, changed_inside}
+use Rattle.dp_layers.proofs.Effects.{at_error, refused, stays_refused, taken, changed_rows}
+use Rattle.dp_layers.proofs.Effects.{changed_inside}
 use Rattle.dp_layers.proofs.Methods.{parts-kept}
 use Rattle.dp_layers.proofs.tree.Tree.delete.Goals as goal
 use Rattle.dp_layers.proofs.tree.Tree.delete.Goals.{Then-not-has_row, After-drop-flags}
@@ -61,3 +62,12 @@ invariant_of-self g c =
     changed_inside c.self.inside.layers.items c.self.inside.contents.items c.args.self.now
     c.self.invariant c.self.view_is _ _ c.in-LayerDelete.is _ _ None (present g c) (parts g c)
     (rw c.in-LayerDelete.is refl)
+
+pub returns-in_err-flags-clause-memory : goal.returns-in_err-flags-clause-memory
+returns-in_err-flags-clause-memory g c =
+    let there : has_row c.self.inside.layers.items c.in-LayerDelete.id ≡ true =
+    ap (λ ls. has_row ls c.in-LayerDelete.id) (sym c.deref.ensures.value) ∙ sym c.has_row.ensures
+    ∙ c.if-not-has_row.false in
+    at_error c.from_residual.result
+    (sym (taken c.self.inside.layers.items c.self.inside.contents.items c.args.self.now
+    c.self.invariant c.self.view_is _ _ c.in-LayerDelete.is there))

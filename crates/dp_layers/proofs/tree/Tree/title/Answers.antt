@@ -1,10 +1,12 @@
-use Rattle.std.proofs.Common.{◌≡◌, refl, set, sym, true, false, List, ℕ, None, subst}
+use Rattle.std.proofs.Common.{◌≡◌, refl, set, sym, true, false, List, [], ℕ, None, subst}
+use Rattle.dp_layers.specs.declared.row.LayerRow.{LayerRow}
 use Rattle.dp_layers.specs.Layers.{has_row}
 use Rattle.dp_layers.specs.Changes.{set_title, rows_changed}
 use Rattle.dp_layers.specs.Inside.{joined}
 use Rattle.dp_layers.proofs.Places.{IsAt}
 use Rattle.dp_layers.proofs.Joining.{AreParts}
-use Rattle.dp_layers.proofs.Effects.{refused, stays_refused, taken, changed_rows, changed_inside}
+use Rattle.dp_layers.proofs.Effects.{at_error, refused, stays_refused, taken, changed_rows}
+use Rattle.dp_layers.proofs.Effects.{changed_inside}
 use Rattle.dp_layers.proofs.Methods.{absent_inside, place_inside, present_inside, parts-written}
 use Rattle.dp_layers.proofs.tree.Tree.title.Goals as goal
 use Rattle.dp_layers.proofs.tree.Tree.title.Goals.{In_default-place_of, After-drop-index_mut}
@@ -71,3 +73,23 @@ invariant_of-self g c =
     changed_inside c.self.inside.layers.items c.self.inside.contents.items c.args.self.now
     c.self.invariant c.self.view_is _ _ c.in-LayerTitle.is _ _ None (present g c) (parts g c)
     (rw c.in-LayerTitle.is refl)
+
+pub returns-in_err-self-inside-clause-memory : goal.returns-in_err-self-inside-clause-memory
+returns-in_err-self-inside-clause-memory g c =
+    let any : LayerRow = record {
+      id = 0;
+      parent = 0;
+      group = false;
+      title = [];
+      opacity = 0;
+      mode = 0;
+      hidden = false;
+    } in
+    let at = place_inside c.self.inside.layers.items c.self.inside.contents.items c.self.invariant
+    c.deref.result.now c.in-LayerTitle.id c.in-Some.at c.place_of.result c.deref.ensures.value
+    c.place_of.ensures c.in-Some.is in
+    at_error c.from_residual.result
+    (sym (taken c.self.inside.layers.items c.self.inside.contents.items c.args.self.now
+    c.self.invariant c.self.view_is _ _ c.in-LayerTitle.is
+    (present_inside c.self.inside.layers.items c.self.inside.contents.items c.self.invariant
+    c.in-LayerTitle.id c.in-Some.at any at)))

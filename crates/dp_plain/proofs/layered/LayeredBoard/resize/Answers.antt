@@ -1,10 +1,11 @@
-use Rattle.std.proofs.Common.{◌≡◌, ◌∙◌, sym, subst, inl, inr, arith, w32}
-use Rattle.std.specs.Prelude.{FitsSigned}
+use Rattle.std.proofs.Common.{◌≡◌, ◌∙◌, ◌&&◌, true, sym, subst, inl, inr, arith, w32}
+use Rattle.std.specs.Prelude.{pos, ◌+ℤ◌, FitsSigned}
 use Rattle.std.proofs.lemmas.Int.{to_z-of_z}
 use Rattle.dp_layers.specs.Rows.{map_contents}
 use Rattle.dp_plain.specs.Board.{Board}
-use Rattle.dp_plain.specs.Commands.{resized}
-use Rattle.dp_plain.proofs.Resizes.{resized_to, resized_not}
+use Rattle.dp_plain.specs.Commands.{is_side, resized}
+use Rattle.dp_plain.proofs.Resizes.{both_sides, resized_to, resized_not}
+use Rattle.dp_plain.proofs.Views.{at_error}
 use Rattle.dp_plain.proofs.layered.LayeredBoard.resize.Goals as goal
 use Rattle.dp_plain.proofs.layered.LayeredBoard.resize.Goals.{in_default-via-in-Some+in_default}
 use Rattle.dp_plain.proofs.layered.LayeredBoard.resize.Goals.{in_default-via-in_default}
@@ -74,3 +75,18 @@ returns-clause-ok g c =
     c.self.view_is
     (resized_to view c.args.top c.args.right c.args.bottom c.args.left c.in-Some-Some.new_width
     c.in-Some-Some.new_height rows width height is)
+
+pub returns-in_err-self-inside-clause-memory : goal.returns-in_err-self-inside-clause-memory
+returns-in_err-self-inside-clause-memory g c =
+    let top : FitsSigned w32 c.args.top = c.ranges.top in
+    let right : FitsSigned w32 c.args.right = c.ranges.right in
+    let bottom : FitsSigned w32 c.args.bottom = c.ranges.bottom in
+    let left : FitsSigned w32 c.args.left = c.ranges.left in
+    let width = simp to_z-of_z at c.in-Some-Some.ensures.value in
+    let height = simp to_z-of_z at c.in-Some-Some.ensures'.value in
+    at_error c.from_residual.result
+    (subst (λ (b : Board). (is_side (pos b.width +ℤ c.args.left +ℤ c.args.right)
+    && is_side (pos b.height +ℤ c.args.top +ℤ c.args.bottom)) ≡ true) c.self.view_is
+    (both_sides (pos c.self.inside.width +ℤ c.args.left +ℤ c.args.right)
+    (pos c.self.inside.height +ℤ c.args.top +ℤ c.args.bottom) c.in-Some-Some.new_width
+    c.in-Some-Some.new_height width height))

@@ -2,7 +2,7 @@ use Rattle.std.proofs.Common.{◌∙◌, ◌+◌, ◌*◌, ◌-◌, ap, take, dr
 use Rattle.std.proofs.lemmas.Nat.{mul-le}
 use Rattle.dp_blend.specs.Color.{Channels}
 use Rattle.dp_plain.proofs.Canvas.{row_of_pixels}
-use Rattle.dp_plain.proofs.plain.PlainPixelsContent.copy_row.Goals as goal
+use Rattle.dp_plain.proofs.plain.PlainPixelsLayerPixels.copy_row.Goals as goal
 
 pub returns : goal.returns
 returns c =

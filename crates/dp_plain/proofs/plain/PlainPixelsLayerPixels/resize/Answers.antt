@@ -1,7 +1,7 @@
 use Rattle.std.proofs.Common.{◌∙◌, ap, length, List}
 use Rattle.dp_blend.specs.Color.{Channels}
 use Rattle.dp_plain.proofs.Canvas.{length-canvas_of}
-use Rattle.dp_plain.proofs.plain.PlainPixelsContent.resize.Goals as goal
+use Rattle.dp_plain.proofs.plain.PlainPixelsLayerPixels.resize.Goals as goal
 
 pub returns-clause-fits : goal.returns-clause-fits
 returns-clause-fits g c =
