@@ -42,10 +42,6 @@ grows_after a b c xs ys first (n, within, some) = (
       some),
 )
 
--- nothing was appended
-pub grows_not : (a b : Option (List ℕ)) (xs : List ℕ) → Appends a b [] → GrowsByPrefix a b xs
-grows_not a b xs none = (0, omega arith, none)
-
 -- ---- a text that was appended but for a piece at its end
 
 -- nothing is appended yet
@@ -108,11 +104,6 @@ pub record GrowsToward (old new : Option (List ℕ)) (piece rest text : List ℕ
   pub before : GrowsBefore old new piece done
   pub left : done ++ rest ≡ text
 
--- all is still to come
-pub toward_none : (a : Option (List ℕ)) (piece rest : List ℕ)
-    → GrowsToward a a piece rest (piece ++ rest)
-toward_none a piece rest = record { done = piece; before = before_none a piece; left = refl }
-
 -- the piece was written, and more of the text was put into the next one
 pub toward_more : (a b c : Option (List ℕ)) (piece room now more rest others text : List ℕ)
     → GrowsToward a b piece rest text
@@ -134,12 +125,6 @@ pub toward_failed : (a b c : Option (List ℕ)) (piece rest text : List ℕ)
 toward_failed a b c piece rest text before some =
     subst (GrowsByPrefix a c) before.left
     (grows_within a c before.done rest (before_cut a b c piece before.done before.before some))
-
--- nothing is still to come
-pub toward_all : (a b : Option (List ℕ)) (piece text : List ℕ) → GrowsToward a b piece [] text
-    → GrowsBefore a b piece text
-toward_all a b piece text before = subst (GrowsBefore a b piece)
-    (sym (append-nil before.done) ∙ before.left) before.before
 
 -- the last piece was written, where the call says so
 pub last_written : {T E : Type 0} (a b c : Option (List ℕ)) (piece last text : List ℕ)

@@ -1,4 +1,6 @@
 //! The picture of a board as the bytes of a P6 file and of a P3 file.
+//!
+//! The rule: docs/protocol.md, "The picture".
 
 ghost use Rattle.std.specs.Prelude.{◌≡◌, ◌+◌, ◌*◌, ◌≤◌, ◌++◌, length, IsErrOf, OnOk, OnErr};
 ghost use Rattle.std.specs.List.{flat_map};
@@ -50,13 +52,10 @@ impl From<AllocError> for PictureEnd {
 
 /// Writes the picture of the board as a P6 file, a piece of at most 12288 bytes at a time.
 ///
-/// The rule: docs/protocol.md, "The picture".
-///
 /// # Errors
 ///
 /// `Memory` where memory for 17 rows of pixels is refused: nothing was written. `Failed` where the
-/// sink
-/// failed: a prefix of the file was written.
+/// sink failed: a prefix of the file was written.
 pub fn write_p6<V: BoardView, S: Sink>(
     alloc: Global,
     board: &V,
@@ -78,8 +77,7 @@ pub fn write_p6<V: BoardView, S: Sink>(
 /// # Errors
 ///
 /// `Memory` where memory for 17 rows of pixels is refused: nothing was written. `Failed` where the
-/// sink
-/// failed: a prefix of the file was written.
+/// sink failed: a prefix of the file was written.
 pub fn write_p3<V: BoardView, S: Sink>(
     alloc: Global,
     board: &V,

@@ -1,4 +1,6 @@
 //! One pixel of the picture.
+//!
+//! The rule: docs/protocol.md, "The picture".
 
 ghost use Rattle.std.specs.Prelude.{◌≡◌, ◌<◌};
 ghost use Rattle.dp_layers.specs.Rows.{layers_of};
@@ -12,8 +14,6 @@ use dp_plain::BoardView;
 
 /// The pixel of the picture at a place of the canvas, x pixels from the left and y from the top. It
 /// takes no memory.
-///
-/// The rule: docs/protocol.md, "The picture".
 pub fn flatten<V: BoardView>(board: &V, x: u32, y: u32) -> Pixel
     requires inside { (x < (V.board board.now).width) × (y < (V.board board.now).height) }
     ensures { result ≡ seen (V.board board.now) x y }

@@ -1,6 +1,6 @@
 //! Worked pictures, with the bytes that they have to give.
 
-ghost use Rattle.std.specs.Prelude.{◌≡◌, ◌≤◌};
+ghost use Rattle.std.specs.Prelude.{◌≤◌};
 
 use crate::{PictureEnd, flatten, write_p3, write_p6};
 use dp_blend::{Mode, Pixel, length_of_canvas, of_argb, pixel_of_canvas, row_fill, to8};
@@ -9,7 +9,6 @@ use dp_layers::{LayerRow, Tree, contents_ride_along};
 use dp_msg_draw::{Draw, Title};
 use dp_plain::BoardView;
 use std::alloc::Global;
-use std::process::Abort;
 use std::test::Fail;
 
 /// A board of which each paint layer has one colour everywhere.
@@ -83,25 +82,25 @@ fn create(
     parent: u16,
     color: Option<Pixel>,
 ) -> Result<(), Fail> {
-    let op = Draw::LayerCreate {
+    let command = Draw::LayerCreate {
         id,
         parent,
         group: color.is_none(),
         title: Title::new(alloc),
     };
-    tree.create(&op, color)?;
+    tree.create(&command, color)?;
     Ok(())
 }
 
 /// Gives the row of the id an opacity and a mode, and hides it or not.
 fn set(tree: &mut Tree<Pixel>, id: u16, opacity: u8, mode: u8, hidden: bool) -> Result<(), Fail> {
-    let op = Draw::LayerAttr {
+    let command = Draw::LayerAttr {
         id,
         opacity,
         mode,
         hidden,
     };
-    tree.attr(&op)?;
+    tree.attr(&command)?;
     Ok(())
 }
 

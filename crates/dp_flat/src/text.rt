@@ -16,7 +16,7 @@ pub(crate) const STRETCH: usize = 256;
 /// The most bytes of a pixel: those of the line `255 255 255`.
 const PIXEL_BYTES: usize = 12;
 
-/// The most bytes of so many pixels.
+/// The most bytes of `STRETCH` pixels.
 pub(crate) const STRETCH_BYTES: usize = STRETCH * PIXEL_BYTES;
 
 /// The most bytes that are written at once.

@@ -126,7 +126,8 @@ impl<X: Drop> Tree<X> {
     pub fn create(&mut self, command: &Draw, x: Option<X>) -> Result<bool, AllocError>
         requires kind { IsCreate command.now }
         requires content { is_some x ≡ makes_paint_row command.now }
-        ensures effect { IfOk result (λ effect. effect ≡ has_effect (layers_of self.old) command.now) }
+        ensures effect { IfOk result
+            (λ effect. effect ≡ has_effect (layers_of self.old) command.now) }
         ensures ok { OnOk result (self.new ≡ rows_after self.old command.now x) }
         ensures err { OnErr result (self.new ≡ self.old) }
         ensures memory { OnErr result (has_effect (layers_of self.old) command.now ≡ true) }
@@ -197,7 +198,8 @@ impl<X: Drop> Tree<X> {
     /// The rows are as they were.
     pub fn title(&mut self, command: &Draw) -> Result<bool, AllocError>
         requires { IsTitleChange command.now }
-        ensures effect { IfOk result (λ effect. effect ≡ has_effect (layers_of self.old) command.now) }
+        ensures effect { IfOk result
+            (λ effect. effect ≡ has_effect (layers_of self.old) command.now) }
         ensures ok { OnOk result (self.new ≡ rows_after self.old command.now None) }
         ensures err { OnErr result (self.new ≡ self.old) }
         ensures memory { OnErr result (has_effect (layers_of self.old) command.now ≡ true) }
@@ -249,7 +251,8 @@ impl<X: Drop> Tree<X> {
     /// The rows are as they were.
     pub fn delete(&mut self, command: &Draw) -> Result<bool, AllocError>
         requires { IsDelete command.now }
-        ensures effect { IfOk result (λ effect. effect ≡ has_effect (layers_of self.old) command.now) }
+        ensures effect { IfOk result
+            (λ effect. effect ≡ has_effect (layers_of self.old) command.now) }
         ensures ok { OnOk result (self.new ≡ rows_after self.old command.now None) }
         ensures err { OnErr result (self.new ≡ self.old) }
         ensures memory { OnErr result (has_effect (layers_of self.old) command.now ≡ true) }
