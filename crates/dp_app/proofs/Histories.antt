@@ -88,22 +88,6 @@ refused_stops f n Memory refused = tt
 refused_stops f n (BadMessage m) refused = tt
 refused_stops f n _ refused = absurd refused
 
--- the splitter is given more bytes
-pub follows_fed : (read bytes : List ℕ) (entries : List Entry) (old new : Stream) →
-    new.held ≡ old.held ++ bytes → new.at ≡ old.at → Follows read entries old
-    → Follows (read ++ bytes) entries new
-follows_fed read bytes entries old new held at h =
-    record {
-      frames = h.frames;
-      each = h.each;
-      stand = h.stand;
-      whole =
-          ap (λ (xs : List ℕ). xs ++ bytes) h.whole ∙ append_assoc (flat_map spelling h.frames)
-          old.held bytes
-          ∙ ap (λ (xs : List ℕ). flat_map spelling h.frames ++ xs) (sym held);
-      at = at ∙ h.at;
-    }
-
 -- where the splitter holds no whole frame, the bytes carry the entries
 pub follows_tells : (read : List ℕ) (entries : List Entry) (stream : Stream)
     → HoldsNoFrame stream.held → Follows read entries stream

@@ -80,32 +80,3 @@ shown_blames old new input input_now output output_now entries end result b r
     (inr (inr (e, keeps, kept))) =
     subst (λ (x : RunEnd). Blames input input_now output output_now x) (sym e)
     (kept_to_end input input_now end b r, kept)
-
--- reading that ended before the input's end blames no output
-pub read_blames : (input input_now output : ℕ) (end : RunEnd) → BlamesReading input input_now end
-    → Blames input input_now output output end
-read_blames input input_now output ReadFault b = (b, refl)
-read_blames input input_now output Done b = (b, refl)
-read_blames input input_now output Memory b = (b, refl)
-read_blames input input_now output Long b = (b, refl)
-read_blames input input_now output (Truncated n) b = (b, refl)
-read_blames input input_now output (BadMessage n) b = (b, refl)
-read_blames input input_now output _ b = absurd b
-
--- nothing is written
-pub nothing_leaves : (told left old : Option (List ℕ)) (input input_now : ℕ) (entries : List Entry)
-    (end : RunEnd) →
-    IfSome told (λ input. EndsReading input left entries end) → BlamesReading input input_now end
-    → (ReadsToEnd end → ⊥) →
-    Leaves told left old old end
-nothing_leaves told left old input input_now entries Done h b r = absurd (r tt)
-nothing_leaves told left old input input_now entries ReadFault h b r = (keeps_same old, h)
-nothing_leaves told left old input input_now entries Memory h b r = keeps_same old
-nothing_leaves None left old input input_now entries Long h b r = (keeps_same old, tt)
-nothing_leaves (Some bytes) left old input input_now entries Long h b r =
-    (keeps_same old, ((entries, h.0), h.1))
-nothing_leaves told left old input input_now entries (Truncated n) h b r = absurd (r tt)
-nothing_leaves None left old input input_now entries (BadMessage n) h b r = (keeps_same old, tt)
-nothing_leaves (Some bytes) left old input input_now entries (BadMessage n) h b r =
-    (keeps_same old, ((entries, h.0), h.1))
-nothing_leaves told left old input input_now entries _ h b r = absurd b

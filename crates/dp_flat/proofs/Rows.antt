@@ -13,7 +13,7 @@ use Rattle.dp_plain.specs.Picture.{picture, seen}
 use Rattle.dp_io.specs.Streams.{GrowsByPrefix}
 use Rattle.dp_flat.specs.Composed.{seen_row}
 use Rattle.dp_flat.specs.Texts.{GrowsBefore}
-use Rattle.dp_flat.proofs.Prefixes.{grows_within}
+use Rattle.dp_io.proofs.Prefixes.{grows_within}
 
 range_split : (a m n : ℕ) → range_with_len a (m + n) ≡ range_with_len a m
     ++ range_with_len (a + m) n

@@ -37,10 +37,6 @@ one_front f g xs ys fits_f fits_g whole =
     let parts = append_same f.body g.body xs ys lengths bodies in
     (same_frame f g kinds users parts.0, parts.1)
 
--- a frame's spelling has four bytes more than its payload
-pub length-spelling : (f : FrameParts) → length (spelling f) ≡ length f.body + 4
-length-spelling f = omega arith
-
 -- fewer bytes than a header hold no frame
 pub no_frame_short : (bytes : List ℕ) → length bytes < 4 → HoldsNoFrame bytes
 no_frame_short bytes short f more fits whole =

@@ -1,2 +1,3 @@
 pub mod ReadEnds
 pub mod WriteRuns
+pub mod Prefixes

@@ -56,20 +56,6 @@ left_behind_feed all more done old new left bytes count fed =
       fed = omega (arith, fed, left.fed, length-append all more);
     }
 
--- ended lines are given
-pub left_behind_lines : (all : List ℕ) (done front : List Line) (old new : Held)
-    → IsLeft all done old → ended_from old ≡ front ++ ended_from new
-    → new.count + length (ended new.bytes) ≡ old.count + length (ended old.bytes)
-    → open_rest new.bytes ≡ open_rest old.bytes → new.fed ≡ old.fed → IsLeft all (done ++ front) new
-left_behind_lines all done front old new left taken count rest fed = record {
-  whole =
-      left.whole ∙ ap (λ (ls : List Line). done ++ ls) taken
-      ∙ sym (append_assoc done front (ended_from new));
-  rest = left.rest ∙ sym rest;
-  count = left.count ∙ sym count;
-  fed = fed ∙ left.fed;
-}
-
 -- nothing more is fed
 pub left_at_end : (all : List ℕ) (done : List Line) (held : Held) → IsLeft all done held
     → numbered 0 (lines all) ≡ done ++ lines_from held

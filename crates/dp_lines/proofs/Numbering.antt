@@ -60,10 +60,6 @@ rest_behind bytes len end =
     ap open_rest (around_end bytes len end) ∙ rest_at (take len bytes) (drop (len + 1) bytes)
     end.before
 
--- nothing was taken
-pub keeps_itself : (held : Held) → Keeps held held
-keeps_itself held = record { lines = refl; count = refl; rest = refl; fed = refl }
-
 -- more was taken that is passed over
 pub keeps_further : (old held new : Held) → Keeps old held → Keeps held new → Keeps old new
 keeps_further old held new first second = record {

@@ -274,7 +274,7 @@ fn a_tile_of_pixels_is_put_again(rt: HostRuntime) -> Result<(), Fail> {
 fn fills_and_images_blend_where_they_cover(rt: HostRuntime) -> Result<(), Fail> {
     let (red, blue) = (of_argb(RED), of_argb(BLUE));
     let half = pixel(&rt, (16320, 0, 0, 16320));
-    for (op, want) in [
+    for (command, want) in [
         (fill(0, (1, 0, 1, 9), 0x8012_3456), [red, half, red, half]),
         (
             fill(1, (0, 1, 4_294_967_295, 4_294_967_295), BLUE),
@@ -285,7 +285,7 @@ fn fills_and_images_blend_where_they_cover(rt: HostRuntime) -> Result<(), Fail> 
     ] {
         let mut pixels = [red; 4];
         draw_pixels(rt.alloc(), &command, 2, 2, &mut pixels)?;
-        assert_eq!(rt; pixels, want, "{op:?}");
+        assert_eq!(rt; pixels, want, "{command:?}");
     }
     let image = Draw::PutImage {
         layer: 1,

@@ -28,7 +28,7 @@ use Rattle.dp_plain.specs.Commands.{is_side, side, with_sides, resized, new_cont
 use Rattle.dp_plain.specs.Commands.{with_change, painted, draw}
 use Rattle.dp_plain.specs.Commands.{IsArranging, pixels_moved}
 use Rattle.dp_plain.specs.Contents.{ContentsFit, IsHeld}
-use Rattle.dp_plain.proofs.Canvas.{length-canvas_of}
+use Rattle.dp_blend.proofs.Canvas.{length-canvas_of}
 use Rattle.dp_plain.proofs.Resizes.{side_bounds}
 use Rattle.dp_plain.proofs.Rows.{tree_of_contents, tree_changed}
 

@@ -13,7 +13,8 @@ use Rattle.dp_blend.specs.Canvas.{below, canvas_of}
 use Rattle.dp_pixels.specs.Commands.{pixel_of}
 use Rattle.dp_plain.specs.Commands.{is_side, side, pixels_moved}
 use Rattle.dp_plain.specs.Moves.{pixel_in, row_moved}
-use Rattle.dp_plain.proofs.Canvas.{is_canvas_of, canvas_of-more, row_more}
+use Rattle.dp_blend.proofs.Canvas.{is_canvas_of}
+use Rattle.dp_plain.proofs.Canvas.{canvas_of-more, row_more}
 
 -- ---- sides
 

@@ -118,20 +118,6 @@ module _ (s : State) (journal : List Event) (cs : List Connection) (live : List 
       find_user-same (λ user. not (is_present s user)) (λ user. not (mark present user))
       (λ k small. ap not (marked k small))
 
-  -- a name that is none
-  pub plan-refused : (name : List ℕ) (registered : Bool) → is_name name ≡ false
-      → IsPlan s (event.Open name registered)
-      (record {
-        reply = reply.NameRefused;
-        change = Stays;
-        placing = Server
-            (event.Open name registered) None None;
-      })
-  plan-refused name registered no_name =
-      plan-still s (event.Open name registered) reply.NameRefused
-      (ap (λ b. if b then opened_as s registered name (free_id s) else stays s reply.NameRefused)
-      no_name)
-
   opens : (name : List ℕ) (registered : Bool) (o : Option ℕ) → is_name name ≡ true
       → o ≡ find (λ user. not (mark present user)) user_ids
       → acted s (event.Open name registered) ≡ opened_as s registered name o
@@ -228,19 +214,6 @@ module _ (s : State) (journal : List Event) (cs : List Connection) (live : List 
       (plan-joins name registered user second named found next)))
 
   -- ---- closing
-
-  -- a Close of a connection that isn't open
-  pub plan-closed_none : (conn : ℕ) → None ≡ open_in cs conn
-      → IsPlan s (event.Close conn)
-      (record {
-        reply = reply.Ignored;
-        change = Stays;
-        placing = Server (event.Close conn) None None;
-      })
-  plan-closed_none conn none =
-      plan-still s (event.Close conn) reply.Ignored
-      (ap (λ o. option_map_or (closed_by s conn) o (stays s reply.Ignored))
-      (ap (λ c. open_in c conn) (sym are.table) ∙ sym none))
 
   if_owner : (b : Bool) (o : Option ℕ) → (if b then next_owner o else [])
       ≡ next_owner (if b then o else None)
@@ -347,21 +320,7 @@ module _ (s : State) (journal : List Event) (cs : List Connection) (live : List 
       plan-leave place second place_is next =
           subst (λ p. IsPlan s (event.Close conn) (close_plan p second)) (sym place_is)
           (plan-leaves second next)
-
-  -- ---- saying
-
-  -- a Say of a connection that isn't open
-  pub plan-said_none : (conn : ℕ) (m : Msg) → None ≡ open_in cs conn
-      → IsPlan s (event.Say conn m)
-      (record {
-        reply = reply.Ignored;
-        change = Stays;
-        placing = Server (event.Say conn m) None None;
-      })
-  plan-said_none conn m none =
-      plan-still s (event.Say conn m) reply.Ignored
-      (ap (λ o. option_map_or (says_by s conn m) o (stays s reply.Ignored))
-      (ap (λ c. open_in c conn) (sym are.table) ∙ sym none))
+      -- ---- saying
 
 -- ---- what is said
 

@@ -9,7 +9,7 @@ use Rattle.dp_sim.specs.Report.{printed, along, report}
 use Rattle.dp_sim.specs.World.{world_after}
 use Rattle.dp_world.specs.Schedule.{AskFor, IsStep, world_limit, WorldComesTo}
 use Rattle.dp_world.specs.Progress.{HasBegunOf}
-use Rattle.dp_world.proofs.Prefixes.{grows_within}
+use Rattle.dp_io.proofs.Prefixes.{grows_within}
 use Rattle.dp_world.proofs.Called.{OneAction}
 use Rattle.dp_world.proofs.Reports.{asked_front, report-append}
 

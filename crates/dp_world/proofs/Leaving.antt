@@ -46,11 +46,6 @@ read_first input held world start reading = record {
   reading = reading;
 }
 
--- memory is refused before the first line
-pub refused_leaves : (input left old : Option (List ℕ)) → WorldLeaves input left old old Memory
-refused_leaves None left old = tt
-refused_leaves (Some bytes) left old = λ done actions end comes. (0, omega arith, Appends-nil old)
-
 -- ---- a piece more
 
 -- the first bytes of a buffer, in two parts

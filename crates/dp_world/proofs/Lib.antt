@@ -1,6 +1,5 @@
 pub mod Called
 pub mod Reports
-pub mod Prefixes
 pub mod Shown
 pub mod Lines
 pub mod Fronts

@@ -15,7 +15,7 @@ use Rattle.dp_sim.specs.Report.{printed, report}
 use Rattle.dp_sim.specs.World.{World, after, world_after}
 use Rattle.dp_world.specs.Schedule.{IsPossible, IsStep}
 use Rattle.dp_world.specs.Progress.{IsRefused, HasDone, HasPrinted, HasBegun, StopsBehind}
-use Rattle.dp_world.proofs.Prefixes.{grows_after, grows_kept}
+use Rattle.dp_io.proofs.Prefixes.{grows_after, grows_kept}
 use Rattle.dp_world.proofs.Called.{OneAction, FurtherStep}
 use Rattle.dp_world.proofs.Reports.{asked_more, asked_same, report_more, world_more}
 

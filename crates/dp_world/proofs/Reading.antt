@@ -68,21 +68,6 @@ reading_further law all held later line world after start old now lines count re
       has = does start reading.done reading.has;
     }
 
--- no line is given
-pub reading_on : LeftGiven → (all : List ℕ) (held later : Held) (world : World)
-    (start now : Option (List ℕ))
-    → ended_from held ≡ ended_from later
-    → later.count + length (ended later.bytes) ≡ held.count + length (ended held.bytes)
-    → open_rest later.bytes ≡ open_rest held.bytes → later.fed ≡ held.fed
-    → IsReading all held world start now → IsReading all later world start now
-reading_on law all held later world start now lines count rest fed reading = record {
-  done = reading.done;
-  left =
-      subst (λ (ls : List Line). IsLeft all ls later) (append-nil reading.done)
-      (law all reading.done [] held later reading.left lines count rest fed);
-  has = reading.has;
-}
-
 -- a line is given, and stops the run
 pub reading_stops : LeftGiven → SeenGiven → (all more : List ℕ) (held later : Held) (line : Line)
     (world : World) (start old now : Option (List ℕ)) (end : RunEnd)

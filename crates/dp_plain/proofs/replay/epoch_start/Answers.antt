@@ -1,5 +1,5 @@
 use Rattle.std.proofs.Common.{◌≡◌, ℕ, ◌-◌, ◌<◌, ◌≤◌, List, length, drop, get_or, not, true, false}
-use Rattle.std.proofs.Common.{sym, ap, ◌∙◌, subst, arith}
+use Rattle.std.proofs.Common.{sym, ap, ◌∙◌, arith}
 use Rattle.std.specs.List.{after_last, suffix_len}
 use Rattle.std.proofs.lemmas.List.Sums.{suffix_len_is}
 use Rattle.dp_messages.specs.declared.message.Msg.TheVariants.{Point}
@@ -22,12 +22,13 @@ start_is entries start d within none mark =
 
 pub returns-else-not-is_reset_mark-clause-behind : goal.returns-else-not-is_reset_mark-clause-behind
 returns-else-not-is_reset_mark-clause-behind c =
-    let found : is_mark c.index-entries-start.result ≡ true = sym c.is_reset_mark.ensures
-    ∙ c.if-not-is_reset_mark.false in
+    let found : is_mark (get_or c.args.entries.now (c.loop-start.start - 1)
+    c.index-entries-start.result) ≡ true =
+    sym c.is_reset_mark.ensures ∙ c.if-not-is_reset_mark.false in
     start_is c.args.entries.now c.loop-start.start c.index-entries-start.result
     c.loop-start.invariant.within
     (λ k from below. c.loop-start.invariant.none k _ from below)
-    (λ some. subst (λ (e : Entry). is_mark e ≡ true) c.index-entries-start.is found)
+    (λ some. found)
 
 pub returns-after-loop-start-clause-behind : goal.returns-after-loop-start-clause-behind
 returns-after-loop-start-clause-behind c =

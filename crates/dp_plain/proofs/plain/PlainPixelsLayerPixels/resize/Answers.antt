@@ -1,6 +1,6 @@
 use Rattle.std.proofs.Common.{◌∙◌, ap, length, List}
 use Rattle.dp_blend.specs.Color.{Channels}
-use Rattle.dp_plain.proofs.Canvas.{length-canvas_of}
+use Rattle.dp_blend.proofs.Canvas.{length-canvas_of}
 use Rattle.dp_plain.proofs.plain.PlainPixelsLayerPixels.resize.Goals as goal
 
 pub returns-clause-fits : goal.returns-clause-fits

@@ -1,4 +1,4 @@
--- What a sink holds after a text and a part of another.
+-- Bytes of which a prefix was appended.
 use Rattle.std.proofs.Common.{ℕ, ◌+◌, List, ◌++◌, length, take, subst, sym, arith, length-append}
 use Rattle.std.specs.Prelude.{Option}
 use Rattle.std.proofs.lemmas.List.{take-append-le}
