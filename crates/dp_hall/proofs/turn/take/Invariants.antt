@@ -1,0 +1,6 @@
+use Rattle.std.proofs.Common.{◌≡◌}
+use Rattle.dp_hall.proofs.turn.take.Given as goal
+
+abbrev pub invariant-loop : goal.invariant-loop
+invariant-loop g l = (l.token.table_id ≡ l.initial.token.table_id)
+    × (l.token.me.0 ≡ l.initial.token.me.0) × (l.token.me.1 ≡ l.initial.token.me.1)

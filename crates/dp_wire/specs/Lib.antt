@@ -1,0 +1,4 @@
+pub mod Links
+pub mod Causes
+pub mod Memory
+pub mod Sockets
