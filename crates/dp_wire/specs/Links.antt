@@ -1,4 +1,4 @@
--- Links, and what the calls of a wire do with them, where they are told.
+-- Links, and what the calls of a wire do with them, where they are known.
 use Rattle.std.specs.Prelude.{◌≡◌, List, [], ◌∷◌, ◌++◌, Option, None, Some, Result, Ok, Err, ⊤}
 
 -- The links of a wire: those to come, those handed out as they were then, and those handed back as
@@ -22,22 +22,22 @@ module _ {R T E : Type 0} where
   HandsOutNext old (Ok None) new = (old.to_come ≡ []) × (new ≡ old)
   HandsOutNext old (Err e) new = new ≡ old
 
--- Links that are told go on being told, and this is what becomes of them.
-abbrev pub WhereTold : {A : Type 0} → Option A → (A → A → Type 0) → Option A → Type 0
-WhereTold None P new = ⊤
-WhereTold (Some old) P None = ⊥
-WhereTold (Some old) P (Some new) = P old new
+-- Links that are known stay known, and this is what becomes of them.
+abbrev pub WhereKnown : {A : Type 0} → Option A → (A → A → Type 0) → Option A → Type 0
+WhereKnown None P new = ⊤
+WhereKnown (Some old) P None = ⊥
+WhereKnown (Some old) P (Some new) = P old new
 
 module _ {R T E : Type 0} where
   -- what accept does: it hands out the next link, if there is one
   abbrev pub Accepts : Option (Links R T) → Result (Option (R × T)) E → Option (Links R T) → Type 0
-  Accepts old result new = WhereTold old (λ a b. HandsOutNext a result b) new
+  Accepts old result new = WhereKnown old (λ a b. HandsOutNext a result b) new
 
   -- what dial does: it hands out the next link, or leaves all
   abbrev pub Dials : Option (Links R T) → Result (R × T) E → Option (Links R T) → Type 0
-  Dials old (Ok link) new = WhereTold old (λ a b. HandsOut a link b) new
-  Dials old (Err e) new = WhereTold old (λ a b. b ≡ a) new
+  Dials old (Ok link) new = WhereKnown old (λ a b. HandsOut a link b) new
+  Dials old (Err e) new = WhereKnown old (λ a b. b ≡ a) new
 
--- what done does: the link stands behind those that came back before
+-- what done does: the link stands after those that came back before
 abbrev pub GivesBack : {R T : Type 0} → Option (Links R T) → R → T → Option (Links R T) → Type 0
-GivesBack old rx tx new = WhereTold old (λ a b. b ≡ record a { back = a.back ++ (rx, tx) ∷ [] }) new
+GivesBack old rx tx new = WhereKnown old (λ a b. b ≡ record a { back = a.back ++ (rx, tx) ∷ [] }) new

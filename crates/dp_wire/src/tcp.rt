@@ -27,7 +27,7 @@ enum Place {
 }
 
 /// A wire over TCP. It listens at an address and accepts the links that peers open, or it dials an
-/// address. It tells no links.
+/// address. Its links are not known to contracts.
 #[derive(Drop)]
 pub struct TcpWire<N> {
     net: N,
@@ -88,7 +88,7 @@ impl<N: Net<Listener = TcpListener, Stream = TcpStream> + Copy> TcpWire<N> {
         Ok(TcpWire::at(*net, Place::Dialing(addr)))
     }
 
-    /// The port that it listens at. `None` where it dials, or where the system doesn't tell.
+    /// The port that it listens at. `None` where it dials, or where the system does not say.
     pub fn port(&self) -> Option<u16>
         ensures { IsFalse self.now.is_listening → result ≡ None }
     {

@@ -36,7 +36,7 @@ pub trait Wire {
 
     type Tx: Sink + Send + Drop;
 
-    /// The links, where they are told.
+    /// The links, where they are known.
     ghost links: { Self → Option (Links Self.Rx Self.Tx) };
 
     /// How often the wire has failed; the count stops at the greatest `u64`.

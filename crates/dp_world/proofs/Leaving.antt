@@ -84,8 +84,8 @@ taken_length input left held world start now read = sym read.reading.left.fed
 -- of an input whose bytes are known
 told_of_stop : OneAction → (bytes : List ℕ) (left start now : Option (List ℕ)) (end : RunEnd)
     → StopsIn (seen world_limit bytes) start now end → WorldLeaves (Some bytes) left start now end
-told_of_stop one bytes left start now (BadLine n) (done, stops, line) =
-    (done, line.actions, (stops, line.asked), line.text)
+told_of_stop one bytes left start now (BadLine n) (done, stops, printed) =
+    (done, printed.actions, (stops, printed.asked), printed.text)
 told_of_stop one bytes left start now WriteFault begun = begun_due one bytes start now begun
 told_of_stop one bytes left start now Memory begun = begun_due one bytes start now begun
 told_of_stop one bytes left start now _ stops = absurd stops
@@ -271,7 +271,7 @@ done_leaves law (Some bytes) left rest none held world start old now is consumes
       taken_length (Some bytes) left held
           world start old read,
     ) in
-    let line = does start (seen world_limit read.taken) (ending_of law read.taken held world start
+    let printed = does start (seen world_limit read.taken) (ending_of law read.taken held world start
     old short read.reading) in
     let same : seen world_limit read.taken ≡ seen world_limit bytes = ap (seen world_limit)
     (sym all) in
@@ -279,9 +279,9 @@ done_leaves law (Some bytes) left rest none held world start old now is consumes
       end,
       (
         seen world_limit read.taken,
-        line.actions,
-        ((within, same, line.steps), line.asked),
-        line.text,
+        printed.actions,
+        ((within, same, printed.steps), printed.asked),
+        printed.text,
       ),
     )
 

@@ -23,10 +23,10 @@ stops_in : (lines done behind : List Line) (line : Line) (start now : Option (Li
     (end : RunEnd)
     → lines ≡ done ++ line ∷ behind → AreSteps IsStep done → StopsBehind done line start now end
     → StopsIn lines start now end
-stops_in lines done behind line start now (BadLine n) whole steps (number, bad, line) = (
+stops_in lines done behind line start now (BadLine n) whole steps (number, bad, printed) = (
   done,
   record { line = line; behind = behind; next = whole; number = number; steps = steps; bad = bad },
-  line,
+  printed,
 )
 stops_in lines done behind line start now WriteFault whole steps begun = record {
   done = done ++ line ∷ [];
