@@ -80,7 +80,7 @@ module _ {E O M : Type 0} where
       right_lives : Lives after (length ts) w
       right_lives = (at_last (set ts id l) w (length ts) (length-set ts id l), refl)
 
-      -- where a name of the seats behind the split was before it: with the same seat, or nowhere
+      -- where a name of the seats after the split was before it: with the same seat, or nowhere
       Was : ℕ → List ℕ → Type 0
       Was j x = ((t : Tag E O M) × Lives ts j t × IsIn x (names_of t)) ⊎ ((x ≡ n) × (j ≡ length ts))
 
@@ -106,15 +106,15 @@ module _ {E O M : Type 0} where
           single (inl e) = e
           single (inr h) = absurd h
 
-      -- a live seat before the split, behind it
+      -- a live seat before the split, after it
       moved : (P : Tag E O M → Type 0) → (P v → P l) → (k : ℕ) (u : Tag E O M) → Lives ts k u → P u
           → (i : ℕ) × (t : Tag E O M) × Lives after i t × P t
       moved P on k u there h = dite (ℕ_discrete k id)
           (λ e. (id, l, left_lives, on (subst P (same_tag ts k id u v there at e) h)))
           (λ other. (k, u, still k u other there, h))
 
-      -- where a name in a `made` behind the split was before it: with the same seat, or it is the new
-      -- one
+      -- where a name in a `made` after the split was before it: with the same seat, or it is the
+      -- new one
       made_was : (j : ℕ) (s : Tag E O M) (x : List ℕ) → Lives after j s → IsIn x s.made
           → ((t : Tag E O M) × Lives ts j t × IsIn x t.made) ⊎ ((x ≡ n) × (j ≡ id))
       made_was j s x here p = ⊎_elim
@@ -123,7 +123,8 @@ module _ {E O M : Type 0} where
           (λ (e : x ≡ n). inr (e, a.0))
           (in_more x n v.made (subst (λ (z : Tag E O M). IsIn x z.made) a.1 p)))
           (λ (b : ((j ≡ length ts) × (s ≡ w)) ⊎ ((j ≢ id) × Lives ts j s)). ⊎_elim
-          (λ (c : (j ≡ length ts) × (s ≡ w)). absurd (subst (λ (z : Tag E O M). IsIn x z.made) c.1 p))
+          (λ (c : (j ≡ length ts) × (s ≡ w)).
+          absurd (subst (λ (z : Tag E O M). IsIn x z.made) c.1 p))
           (λ (c : (j ≢ id) × Lives ts j s). inl (s, c.1, p)) b)
           (where_is j s here)
 
@@ -145,8 +146,8 @@ module _ {E O M : Type 0} where
             (λ (b : (x ≡ n) × (j ≡ length ts)). a.1 ∙ sym b.1) (was j t x there q))
             (was i s x here p);
         distinct = λ i s here. ⊎_elim
-            (λ (a : (i ≡ id) × (s ≡ l)). subst (λ (z : Tag E O M). AreDistinct (names_of z)) (sym a.1)
-            (r.distinct id v at))
+            (λ (a : (i ≡ id) × (s ≡ l)). subst (λ (z : Tag E O M). AreDistinct (names_of z))
+            (sym a.1) (r.distinct id v at))
             (λ (b : ((i ≡ length ts) × (s ≡ w)) ⊎ ((i ≢ id) × Lives ts i s)). ⊎_elim
             (λ (c : (i ≡ length ts) × (s ≡ w)). subst (λ (z : Tag E O M). AreDistinct (names_of z))
             (sym c.1) ((λ h. h), tt))
@@ -184,8 +185,8 @@ module _ {E O M : Type 0} where
             (made_was i s x here p);
         once = λ i j s t x here there p q. ⊎_elim
             (λ (a : (u : Tag E O M) × Lives ts i u × IsIn x u.made). ⊎_elim
-            (λ (b : (u : Tag E O M) × Lives ts j u × IsIn x u.made). r.once i j a.0 b.0 x a.1 b.1 a.2
-            b.2)
+            (λ (b : (u : Tag E O M) × Lives ts j u × IsIn x u.made).
+            r.once i j a.0 b.0 x a.1 b.1 a.2 b.2)
             (λ (b : (x ≡ n) × (j ≡ id)). absurd (unmade i a.0 a.1
             (subst (λ (z : List ℕ). IsIn z a.0.made) b.0 a.2)))
             (made_was j t x there q))
@@ -196,8 +197,8 @@ module _ {E O M : Type 0} where
             (made_was j t x there q))
             (made_was i s x here p);
         counted = λ i s here. ⊎_elim
-            (λ (a : (i ≡ id) × (s ≡ l)). subst (λ (z : Tag E O M). z.splits ≡ children z.name z.made)
-            (sym a.1)
+            (λ (a : (i ≡ id) × (s ≡ l)).
+            subst (λ (z : Tag E O M). z.splits ≡ children z.name z.made) (sym a.1)
             (ap (λ c. c + 1) (r.counted id v at) ∙ sym (children-one v.name v.made v.splits)))
             (λ (b : ((i ≡ length ts) × (s ≡ w)) ⊎ ((i ≢ id) × Lives ts i s)). ⊎_elim
             (λ (c : (i ≡ length ts) × (s ≡ w)). subst (λ (z : Tag E O M). z.splits
@@ -205,8 +206,8 @@ module _ {E O M : Type 0} where
             (λ (c : (i ≢ id) × Lives ts i s). r.counted i s c.1) b)
             (where_is i s here);
         fresh = λ i j s t k more here there p. ⊎_elim
-            (λ (a : (u : Tag E O M) × Lives ts j u × IsIn (s.name ++ k ∷ more) (names_of u)). old_next
-            i j s a.0 k more here a.1 a.2)
+            (λ (a : (u : Tag E O M) × Lives ts j u × IsIn (s.name ++ k ∷ more) (names_of u)).
+            old_next i j s a.0 k more here a.1 a.2)
             (λ (a : (s.name ++ k ∷ more ≡ n) × (j ≡ length ts)). new_next i s k more here a.0)
             (was j t (s.name ++ k ∷ more) there p);
       }
@@ -249,14 +250,15 @@ module _ {E O M : Type 0} where
               (λ (c : (i ≢ id) × Lives ts i s). ⊎_elim
               (λ (same : s.name ≡ v.name). absurd (c.0 (r.apart i id s v s.name c.1 at (inl refl)
               (inl same))))
-              (λ (cut : (init : List ℕ) × (v.name ≡ s.name ++ k ∷ init)). r.fresh i id s v k cut.0 c.1
-              at (inl (sym cut.1)))
+              (λ (cut : (init : List ℕ) × (v.name ≡ s.name ++ k ∷ init)).
+              r.fresh i id s v k cut.0 c.1 at (inl (sym cut.1)))
               (snoc_cut s.name v.name more k v.splits e)) b)
               (where_is i s here)
 
       pub logged_split : (log : List (Entry E O M)) → Logged ts log → Logged after log
       logged_split log g = record {
-        by = λ e p. let q = g.by e p in moved (λ z. IsIn e.by (names_of z)) (λ h. h) q.0 q.1 q.2 q.3;
+        by = λ e p. let q = g.by e p in
+            moved (λ z. IsIn e.by (names_of z)) (λ h. h) q.0 q.1 q.2 q.3;
         olds = λ i s o here p. ⊎_elim
             (λ (a : (i ≡ id) × (s ≡ l)). g.olds id v o at (subst (λ (z : Tag E O M). IsIn o z.olds)
             a.1 p))
@@ -327,8 +329,8 @@ module _ {E O M : Type 0} where
       Came f j x = (i : ℕ) × (t : Tag E O M) × Lives ts i t × IsIn x (f t)
           × (((i ≢ o) × (j ≡ i)) ⊎ ((i ≡ o) × (j ≡ id)))
 
-      came : (f : Tag E O M → List (List ℕ)) → f b ≡ f v ++ f w → (j : ℕ) (s : Tag E O M) (x : List ℕ)
-          → Lives joined_tags j s → IsIn x (f s)
+      came : (f : Tag E O M → List (List ℕ)) → f b ≡ f v ++ f w
+          → (j : ℕ) (s : Tag E O M) (x : List ℕ) → Lives joined_tags j s → IsIn x (f s)
           → (i : ℕ) × (t : Tag E O M) × Lives ts i t × IsIn x (f t)
           × (((i ≢ o) × (j ≡ i)) ⊎ ((i ≡ o) × (j ≡ id)))
       came f both j s x here p = ⊎_elim
@@ -363,7 +365,7 @@ module _ {E O M : Type 0} where
           let same : c.0 ≡ v.name = snoc_same c.0 v.name c.1 q.0 (sym c.2 ∙ q.1) in
           other (r.apart o id w v c.0 there at c.3 (inl same)))
 
-      -- a fact of a live seat before the join is one of a live seat behind it
+      -- a fact of a live seat before the join is one of a live seat after it
       kept_by : (P : Tag E O M → Type 0) → (P v → P b) → (P w → P b) → (k : ℕ) (u : Tag E O M)
           → Lives ts k u → P u → (i : ℕ) × (t : Tag E O M) × Lives joined_tags i t × P t
       kept_by P one two k u here h = dite (ℕ_discrete k id)
@@ -390,13 +392,14 @@ module _ {E O M : Type 0} where
         given = λ i s x here p. let a = came (λ z. z.made) refl i s x here p in let g = r.given a.0
             a.1 x a.2 a.3 in kept_names x g.0 g.1 g.2 g.3;
         counted = λ i s here. ⊎_elim
-            (λ (a : (i ≡ id) × (s ≡ b)). subst (λ (z : Tag E O M). z.splits ≡ children z.name z.made)
-            (sym a.1) (r.counted id v at ∙ sym (children-none v.name v.made w.made not_mine)))
+            (λ (a : (i ≡ id) × (s ≡ b)).
+            subst (λ (z : Tag E O M). z.splits ≡ children z.name z.made) (sym a.1)
+            (r.counted id v at ∙ sym (children-none v.name v.made w.made not_mine)))
             (λ (a : (i ≢ id) × (i ≢ o) × Lives ts i s). r.counted i s a.2)
             (where_j i s here);
         distinct = λ i s here. ⊎_elim
-            (λ (a : (i ≡ id) × (s ≡ b)). subst (λ (z : Tag E O M). AreDistinct (names_of z)) (sym a.1)
-            (subst AreDistinct (sym names_b)
+            (λ (a : (i ≡ id) × (s ≡ b)). subst (λ (z : Tag E O M). AreDistinct (names_of z))
+            (sym a.1) (subst AreDistinct (sym names_b)
             (distinct_both (names_of v) (names_of w) (r.distinct id v at) (r.distinct o w there)
             (λ x p q. other (r.apart o id w v x there at q p)))))
             (λ (a : (i ≢ id) × (i ≢ o) × Lives ts i s). r.distinct i s a.2)
@@ -427,8 +430,8 @@ module _ {E O M : Type 0} where
             (kept_by (λ z. IsIn x z.made) (λ h. in_left x v.made w.made h)
             (λ h. in_right x v.made w.made h) m.0 m.1 m.2 m.3))
             (r.maker a.0 a.1 x a.2 a.3);
-        fresh = λ i j s t k more here there' p. let c = came names_of names_b j t (s.name ++ k ∷ more)
-            there' p in ⊎_elim
+        fresh = λ i j s t k more here there' p. let c = came names_of names_b j t
+            (s.name ++ k ∷ more) there' p in ⊎_elim
             (λ (a : (i ≡ id) × (s ≡ b)). subst (λ (z : Tag E O M). k < z.splits) (sym a.1)
             (r.fresh id c.0 v c.1 k more at c.2 (subst
             (λ (z : Tag E O M). IsIn (z.name ++ k ∷ more) (names_of c.1)) a.1 c.3)))
@@ -444,8 +447,8 @@ module _ {E O M : Type 0} where
             (λ (a : (i ≡ id) × (s ≡ b)). ⊎_elim
             (λ (h : IsIn x v.olds). g.olds id v x at h)
             (λ (h : IsIn x ((w.name, mine) ∷ w.olds)). of_other log g own x h)
-            (in_both x v.olds ((w.name, mine) ∷ w.olds) (subst (λ (z : Tag E O M). IsIn x z.olds) a.1
-            p)))
+            (in_both x v.olds ((w.name, mine) ∷ w.olds) (subst
+            (λ (z : Tag E O M). IsIn x z.olds) a.1 p)))
             (λ (a : (i ≢ id) × (i ≢ o) × Lives ts i s). g.olds i s x a.2 p)
             (where_j i s here);
       }
@@ -453,6 +456,6 @@ module _ {E O M : Type 0} where
           of_other : (log : List (Entry E O M)) → Logged ts log → entries_by w.name log ≡ mine
               → (x : (List ℕ × List (Entry E O M))) → IsIn x ((w.name, mine) ∷ w.olds)
               → entries_by x.0 log ≡ x.1
-          of_other log g own x (inl e) = subst (λ (z : (List ℕ × List (Entry E O M))). entries_by z.0
-              log ≡ z.1) (sym e) own
+          of_other log g own x (inl e) =
+              subst (λ (z : (List ℕ × List (Entry E O M))). entries_by z.0 log ≡ z.1) (sym e) own
           of_other log g own x (inr h) = g.olds o w x there h

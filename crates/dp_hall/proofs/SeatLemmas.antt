@@ -40,11 +40,11 @@ module _ {E O M : Type 0} (may : M → E → O → M → Type 0) (start : M) whe
 
   -- ---- a split
 
-  -- a fact of all views behind a split
-  behind_split : (P : ℕ → V → Type 0) (vs : List V) (id : ℕ) (l w : V) → P id l → P (length vs) w
+  -- a fact of all views after a split
+  after_split : (P : ℕ → V → Type 0) (vs : List V) (id : ℕ) (l w : V) → P id l → P (length vs) w
       → ((j : ℕ) (u : V) → j ≢ id → get_elem? vs j ≡ some u → P j u)
       → (j : ℕ) (u : V) → get_elem? (set vs id l ++ w ∷ []) j ≡ some u → P j u
-  behind_split P vs id l w one two others j u e = ⊎_elim
+  after_split P vs id l w one two others j u e = ⊎_elim
       (λ (h : get_elem? (set vs id l) j ≡ some u). views_stay may start P vs id l one others j u h)
       (λ (h : (j ≡ length (set vs id l)) × (w ≡ u)). subst (λ (x : ℕ × V). P x.0 x.1)
       (λ i. (sym (h.0 ∙ length-set vs id l) i, h.1 i)) two)
@@ -68,7 +68,7 @@ module _ {E O M : Type 0} (may : M → E → O → M → Type 0) (start : M) whe
           wide = r.turn.wide;
           count = r.turn.count;
           home = r.turn.home;
-          nobody = λ z. behind_split (λ _ u. u.holds ≡ false) vs id l w (r.turn.nobody z id v at)
+          nobody = λ z. after_split (λ _ u. u.holds ≡ false) vs id l w (r.turn.nobody z id v at)
               refl (λ j u _ h. r.turn.nobody z j u h);
           somebody = λ n. let t = r.turn.somebody n in let q = some_stays may start vs id v l at
               (λ h. h) t.0 t.1 t.2 t.3 in (q.0, q.1, longer_at (set vs id l) w q.0 q.1 q.2, q.3);
@@ -76,7 +76,7 @@ module _ {E O M : Type 0} (may : M → E → O → M → Type 0) (start : M) whe
               let a = held p' vs id l w i x p hx at in let b = held p' vs id l w j y q hy at in
               r.turn.one i j a.0 b.0 a.1 b.1 a.2 b.2;
         };
-        each = behind_split (λ _ u. FitsLog start r.log u) vs id l w
+        each = after_split (λ _ u. FitsLog start r.log u) vs id l w
             record {
               begins = f.begins;
               seen_prefix = f.seen_prefix;
@@ -115,12 +115,12 @@ module _ {E O M : Type 0} (may : M → E → O → M → Type 0) (start : M) whe
           → get_elem? (xs ++ a ∷ []) i ≡ some b
       longer_at xs a i b e = Rattle.atomic_table.proofs.Lists.at_longer xs (a ∷ []) i b e
 
-      -- who holds behind the split held before
+      -- who holds after the split held before
       held : Unit {0} → (vs : List V) (id : ℕ) (l w : V) (i : ℕ) (x : V)
           → get_elem? (set vs id (split_left v) ++ split_right v ∷ []) i ≡ some x → x.holds ≡ true
           → get_elem? vs id ≡ some v
           → (y : V) × (get_elem? vs i ≡ some y) × (y.holds ≡ true)
-      held _ vs id l w i x p hx at = behind_split (λ i x. x.holds ≡ true
+      held _ vs id l w i x p hx at = after_split (λ i x. x.holds ≡ true
           → (y : V) × (get_elem? vs i ≡ some y) × (y.holds ≡ true)) vs id (split_left v)
           (split_right v)
           (λ h. (v, at, h)) (λ h. absurd (true≢false (sym h))) (λ j u _ here h. (u, here, h)) i x p

@@ -87,7 +87,8 @@ module _ {E O M : Type 0} (may : M → E → O → M → Type 0) (start : M) whe
       → x.holds ≡ true
       → (j : ℕ) × (y : V) × (get_elem? (set vs me w) j ≡ some y) × (y.holds ≡ true)
   some_stays vs me v w at on i x here h = dite (ℕ_discrete i me)
-      (λ e. let is : x ≡ v = some_is x v (get_elem? vs me) (ap (get_elem? vs) (sym e) ∙ here) at in (
+      (λ e. let is : x ≡ v = some_is x v (get_elem? vs me)
+      (ap (get_elem? vs) (sym e) ∙ here) at in (
         me,
         w,
         set_here vs me w (at_inside vs me v at),
@@ -431,17 +432,18 @@ module _ {E O M : Type 0} (may : M → E → O → M → Type 0) (start : M) whe
       one = λ i j v w here there _ _. (only (first_view start) v i here).0
           ∙ sym (only (first_view start) w j there).0;
     };
-    each = λ i v at. subst (λ (z : V). FitsLog start [] z) (only (first_view start) v i at).1 record {
-      begins = λ _. refl;
-      seen_prefix = ([], refl);
-      other_prefix = ([], refl);
-      known_log = le_refl 0;
-      seen_known = le_refl 0;
-      mine = λ _. refl;
-      mine_seen = λ _. refl;
-      held = λ h. absurd (true≢false (sym h));
-      idle = λ _. refl;
-    };
+    each = λ i v at. subst (λ (z : V). FitsLog start [] z)
+        (only (first_view start) v i at).1 record {
+          begins = λ _. refl;
+          seen_prefix = ([], refl);
+          other_prefix = ([], refl);
+          known_log = le_refl 0;
+          seen_known = le_refl 0;
+          mine = λ _. refl;
+          mine_seen = λ _. refl;
+          held = λ h. absurd (true≢false (sym h));
+          idle = λ _. refl;
+        };
     named = record {
       apart = λ i j s t n here there _ _. (only (tag (first_view start)) s i here.0).0
           ∙ sym (only (tag (first_view start)) t j there.0).0;

@@ -33,7 +33,8 @@ give-requires-clause-hand g c =
     let s = c.step-stored.ensures in
     let t = has_turn g.M.Machine.may_step _ _ _ _ c.count.result c.requires.idle.1
     c.take-machine.ensures.view (c.put.ensures.view ∙ c.count.ensures.view) in
-    let last = c.fetch_add.ensures.2 c.step-stored.result.0 s.ev s.out c.put.ensures.hand s.last in (
+    let last = c.fetch_add.ensures.2 c.step-stored.result.0 s.ev s.out c.put.ensures.hand
+    s.last in (
       c.step-stored.result.0,
       last.1 ∙ c.put.ensures.hand,
       counted_turn g.M.Machine.may_step
