@@ -13,7 +13,7 @@ use dp_io::{Failed, Source};
 use dp_lines::{Lines, further_step, lines_seen, still_left};
 use std::alloc::Global;
 
-/// Reads the lines of the input, of which so many bytes count, and has the machine do them one
+/// Reads the lines of the input, of which `limit` bytes count, and has the machine do them one
 /// after the other. All lines that are whole in a piece are done before the next piece is read; a
 /// piece has at most 4096 bytes.
 ///
