@@ -1,0 +1,4 @@
+pub mod Called
+pub mod Lines
+pub mod Reading
+pub mod Leaving

@@ -1,0 +1,219 @@
+use Rattle.std.proofs.Common.{◌≡◌, ◌≢◌, ◌<◌, ◌≤◌, ◌+◌, ◌∙◌, ℕ, [], length, take, drop, refl, ap}
+use Rattle.std.proofs.Common.{arith}
+use Rattle.std.proofs.lemmas.List.{length-take, length-drop}
+use Rattle.dp_lines.specs.Held.{Held}
+use Rattle.dp_script.specs.Moments.{moment}
+use Rattle.dp_script.proofs.Leaving.{read_first, none_ended, none_long, read_further, two_parts}
+use Rattle.dp_script.proofs.Leaving.{piece_stops, long_leaves, fault_leaves, done_leaves}
+use Rattle.dp_script.proofs.Leaving.{rest_stops, took_chunk, took_fault, stop_blames}
+use Rattle.dp_script.proofs.run.run_lines.Goals as goal
+
+pub reads-init : goal.reads-init
+reads-init g c = record {
+  read =
+      read_first c.still_left.ensures.at_first c.further_step.ensures.none
+      (g.I.Source.left c.args.input.now) c.new-lines.result
+      (moment c.args.machine.now c.args.output.now c.args.draws.now c.args.tiles.now)
+      c.new-lines.ensures c.requires.first;
+  drained = none_ended c.new-lines.result c.new-lines.ensures;
+  short = none_long c.new-lines.result c.new-lines.ensures;
+  ready = c.requires.ready;
+  room = omega (arith, ap (λ (held : Held). held.fed) c.new-lines.ensures);
+  kept = refl;
+}
+
+pub returns-in-Err-clause-leaves : goal.returns-in-Err-clause-leaves
+returns-in-Err-clause-leaves g c =
+    let few : c.reads.lines.fed ≤ c.args.limit = omega (arith, c.reads.invariant.room) in
+    fault_leaves g.M.Steps.is_step g.M.LineMachine.has_done
+    g.M.LineMachine.has_ended
+    c.args.limit (g.I.Source.left c.args.input.now) (g.I.Source.left c.reads.input)
+    (g.I.Source.left c.read.new.self)
+    c.reads.lines
+    (moment c.args.machine.now c.args.output.now c.args.draws.now c.args.tiles.now)
+    (moment c.reads.machine c.reads.output c.reads.draws c.reads.tiles)
+    few c.reads.invariant.drained c.reads.invariant.short c.in-Err.ensures.bytes
+    c.reads.invariant.read
+
+pub returns-in-Err-clause-took : goal.returns-in-Err-clause-took
+returns-in-Err-clause-took g c =
+    let few : c.reads.lines.fed ≤ c.args.limit = omega (arith, c.reads.invariant.room) in
+    took_fault c.args.limit (g.I.Source.left c.args.input.now) (g.I.Source.left c.reads.input)
+    (g.I.Source.left c.read.new.self)
+    few c.reads.invariant.drained c.reads.invariant.short c.in-Err.ensures.bytes
+    c.reads.invariant.read
+
+pub returns-in-Err-do_rest-clause-leaves : goal.returns-in-Err-do_rest-clause-leaves
+returns-in-Err-do_rest-clause-leaves g c =
+    let buffer = c.read.new.buf in
+    let some : 0 < length buffer = omega arith in
+    let none : take c.in-Ok.count buffer ≡ [] = ap (λ (n : ℕ). take n buffer)
+    c.if-count-eq0.true in
+    let few : c.reads.lines.fed ≤ c.args.limit = omega (arith, c.reads.invariant.room) in
+    let bytes = c.in-Ok.ensures.bytes in
+    rest_stops g.M.Steps.is_step g.M.LineMachine.has_done
+    g.M.LineMachine.has_ended
+    c.lines_seen.ensures.whole c.args.limit (g.I.Source.left c.args.input.now)
+    (g.I.Source.left c.reads.input)
+    (g.I.Source.left c.read.new.self)
+    (take c.in-Ok.count buffer) c.reads.lines
+    (moment c.args.machine.now c.args.output.now c.args.draws.now c.args.tiles.now)
+    (moment c.reads.machine c.reads.output c.reads.draws c.reads.tiles)
+    (moment c.do_rest.new.machine c.do_rest.new.output c.do_rest.new.draws
+    c.do_rest.new.tiles)
+    c.in-Err-do_rest.end none bytes.0 (bytes.1 c.if-count-eq0.true some) few
+    c.in-Err-do_rest.ensures.err c.reads.invariant.read
+
+pub returns-in-Err-do_rest-clause-took : goal.returns-in-Err-do_rest-clause-took
+returns-in-Err-do_rest-clause-took g c =
+    let few : c.reads.lines.fed ≤ c.args.limit = omega (arith, c.reads.invariant.room) in
+    let bound : length (take c.in-Ok.count c.read.new.buf) ≤ 4096 =
+    omega (arith, length-take c.in-Ok.count c.read.new.buf, c.in-Ok.ensures.bound) in
+    took_chunk c.args.limit (g.I.Source.left c.args.input.now) (g.I.Source.left c.reads.input)
+    (g.I.Source.left c.read.new.self)
+    (take c.in-Ok.count c.read.new.buf)
+    few c.reads.invariant.drained c.reads.invariant.short c.in-Ok.ensures.bytes.0 bound
+    c.reads.invariant.read
+
+pub returns-in-Err-do_rest-clause-blames : goal.returns-in-Err-do_rest-clause-blames
+returns-in-Err-do_rest-clause-blames g c =
+    stop_blames _ _ c.in-Err-do_rest.end c.in-Err-do_rest.ensures.of_lines
+    (c.in-Ok.ensures.cause.kept ∙ c.reads.invariant.kept)
+
+pub returns-then-count-eq0-clause-leaves : goal.returns-then-count-eq0-clause-leaves
+returns-then-count-eq0-clause-leaves g c =
+    let buffer = c.read.new.buf in
+    let some : 0 < length buffer = omega arith in
+    let none : take c.in-Ok.count buffer ≡ [] = ap (λ (n : ℕ). take n buffer)
+    c.if-count-eq0.true in
+    let few : c.reads.lines.fed ≤ c.args.limit = omega (arith, c.reads.invariant.room) in
+    let bytes = c.in-Ok.ensures.bytes in
+    done_leaves g.M.Steps.is_step g.M.LineMachine.has_done
+    g.M.LineMachine.has_ended
+    c.lines_seen.ensures.whole c.args.limit (g.I.Source.left c.args.input.now)
+    (g.I.Source.left c.reads.input)
+    (g.I.Source.left c.read.new.self)
+    (take c.in-Ok.count buffer) c.reads.lines
+    (moment c.args.machine.now c.args.output.now c.args.draws.now c.args.tiles.now)
+    (moment c.reads.machine c.reads.output c.reads.draws c.reads.tiles)
+    (moment c.do_rest.new.machine c.do_rest.new.output c.do_rest.new.draws
+    c.do_rest.new.tiles)
+    none bytes.0 (bytes.1 c.if-count-eq0.true some) few c.in_default.ensures.ok
+    c.reads.invariant.read
+
+pub returns-then-count-eq0-clause-took : goal.returns-then-count-eq0-clause-took
+returns-then-count-eq0-clause-took g c =
+    let few : c.reads.lines.fed ≤ c.args.limit = omega (arith, c.reads.invariant.room) in
+    let bound : length (take c.in-Ok.count c.read.new.buf) ≤ 4096 =
+    omega (arith, length-take c.in-Ok.count c.read.new.buf, c.in-Ok.ensures.bound) in
+    took_chunk c.args.limit (g.I.Source.left c.args.input.now) (g.I.Source.left c.reads.input)
+    (g.I.Source.left c.read.new.self)
+    (take c.in-Ok.count c.read.new.buf)
+    few c.reads.invariant.drained c.reads.invariant.short c.in-Ok.ensures.bytes.0 bound
+    c.reads.invariant.read
+
+pub returns-in-Err-do_piece-clause-leaves : goal.returns-in-Err-do_piece-clause-leaves
+returns-in-Err-do_piece-clause-leaves g c =
+    let buffer = c.read.new.buf in
+    let count = c.in-Ok.count in
+    let counted = c.min-counted.result in
+    let least : counted ≤ count = omega arith in
+    let few : c.reads.lines.fed + length (take counted buffer) ≤ c.args.limit =
+    omega (arith, length-take counted buffer, c.in-Ok.ensures.bound, c.reads.invariant.room) in
+    piece_stops g.M.Steps.is_step g.M.LineMachine.has_done
+    g.M.LineMachine.has_ended
+    c.args.limit (g.I.Source.left c.args.input.now) (g.I.Source.left c.reads.input)
+    (g.I.Source.left c.read.new.self)
+    (g.I.Source.left c.read.new.self)
+    (take count buffer) (take counted buffer) (drop counted (take count buffer))
+    c.reads.lines
+    (moment c.args.machine.now c.args.output.now c.args.draws.now c.args.tiles.now)
+    (moment c.reads.machine c.reads.output c.reads.draws c.reads.tiles)
+    (moment c.do_piece.new.machine c.do_piece.new.output c.do_piece.new.draws
+    c.do_piece.new.tiles)
+    c.in-Err-do_piece.end c.in-Ok.ensures.bytes.0 (two_parts counted count buffer least) few
+    c.in-Err-do_piece.ensures.err c.reads.invariant.read
+
+pub returns-in-Err-do_piece-clause-took : goal.returns-in-Err-do_piece-clause-took
+returns-in-Err-do_piece-clause-took g c =
+    let few : c.reads.lines.fed ≤ c.args.limit = omega (arith, c.reads.invariant.room) in
+    let bound : length (take c.in-Ok.count c.read.new.buf) ≤ 4096 =
+    omega (arith, length-take c.in-Ok.count c.read.new.buf, c.in-Ok.ensures.bound) in
+    took_chunk c.args.limit (g.I.Source.left c.args.input.now) (g.I.Source.left c.reads.input)
+    (g.I.Source.left c.read.new.self)
+    (take c.in-Ok.count c.read.new.buf)
+    few c.reads.invariant.drained c.reads.invariant.short c.in-Ok.ensures.bytes.0 bound
+    c.reads.invariant.read
+
+pub returns-in-Err-do_piece-clause-blames : goal.returns-in-Err-do_piece-clause-blames
+returns-in-Err-do_piece-clause-blames g c =
+    stop_blames _ _ c.in-Err-do_piece.end c.in-Err-do_piece.ensures.of_lines
+    (c.in-Ok.ensures.cause.kept ∙ c.reads.invariant.kept)
+
+pub returns-then-counted-count-clause-leaves : goal.returns-then-counted-count-clause-leaves
+returns-then-counted-count-clause-leaves g c =
+    let buffer = c.read.new.buf in
+    let count = c.in-Ok.count in
+    let counted = c.min-counted.result in
+    let least : counted ≤ count = omega arith in
+    let full : c.reads.lines.fed + length (take counted buffer) ≡ c.args.limit =
+    omega (arith, length-take counted buffer, c.in-Ok.ensures.bound, c.reads.invariant.room) in
+    let behind : drop counted (take count buffer) ≢ [] = λ none.
+    omega (
+      arith,
+      ap length none,
+      length-drop counted (take count buffer),
+      length-take count buffer,
+      c.in-Ok.ensures.bound,
+    ) in
+    let e = c.in_default-do_piece.ensures in
+    long_leaves g.M.Steps.is_step g.M.LineMachine.has_done
+    g.M.LineMachine.has_ended
+    c.lines_seen.ensures.cut c.args.limit (g.I.Source.left c.args.input.now)
+    (g.I.Source.left c.reads.input)
+    (g.I.Source.left c.read.new.self)
+    (g.I.Source.left c.read.new.self)
+    (take count buffer) (take counted buffer) (drop counted (take count buffer))
+    c.reads.lines c.do_piece.new.lines
+    (moment c.args.machine.now c.args.output.now c.args.draws.now c.args.tiles.now)
+    (moment c.reads.machine c.reads.output c.reads.draws c.reads.tiles)
+    (moment c.do_piece.new.machine c.do_piece.new.output c.do_piece.new.draws
+    c.do_piece.new.tiles)
+    c.in-Ok.ensures.bytes.0 (two_parts counted count buffer least) behind full e.drained
+    e.short e.ok c.reads.invariant.read
+
+pub returns-then-counted-count-clause-took : goal.returns-then-counted-count-clause-took
+returns-then-counted-count-clause-took g c =
+    let few : c.reads.lines.fed ≤ c.args.limit = omega (arith, c.reads.invariant.room) in
+    let bound : length (take c.in-Ok.count c.read.new.buf) ≤ 4096 =
+    omega (arith, length-take c.in-Ok.count c.read.new.buf, c.in-Ok.ensures.bound) in
+    took_chunk c.args.limit (g.I.Source.left c.args.input.now) (g.I.Source.left c.reads.input)
+    (g.I.Source.left c.read.new.self)
+    (take c.in-Ok.count c.read.new.buf)
+    few c.reads.invariant.drained c.reads.invariant.short c.in-Ok.ensures.bytes.0 bound
+    c.reads.invariant.read
+
+pub reads-preserved : goal.reads-preserved
+reads-preserved g c =
+    let buffer = c.read.new.buf in
+    let count = c.in-Ok.count in
+    let all : c.min-counted.result ≡ count = omega arith in
+    let e = c.in_default-do_piece.ensures in record {
+      read =
+          read_further
+          (g.I.Source.left c.args.input.now) (g.I.Source.left c.reads.input)
+          (g.I.Source.left c.read.new.self) (take count buffer)
+          c.reads.lines c.do_piece.new.lines
+          c.in-Ok.ensures.bytes.0 (rw (← all) e.ok) c.reads.invariant.read;
+      drained = e.drained;
+      short = e.short;
+      ready = e.ready;
+      room = omega (
+        arith,
+        e.fed,
+        length-take c.min-counted.result buffer,
+        c.in-Ok.ensures.bound,
+        c.reads.invariant.room,
+      );
+      kept = c.in-Ok.ensures.cause.kept ∙ c.reads.invariant.kept;
+    }

@@ -1,0 +1,5 @@
+pub mod TakenParts
+pub mod Moments
+pub mod Ends
+pub mod Progress
+pub mod Leaves

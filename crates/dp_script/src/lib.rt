@@ -1,0 +1,10 @@
+//! A run over the lines of a source: each line is done by a machine of lines, one after the other.
+#![tactic(auto)]
+
+mod held;
+mod machine;
+mod rest;
+mod run;
+
+pub use machine::{LineMachine, ScriptEnd, Undone};
+pub use run::run_lines;
