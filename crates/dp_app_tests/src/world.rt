@@ -65,23 +65,28 @@ static ROWS: [(&str, &[&str]); 24] = [
             "say 1 RED01|said 3\nsay 2 BLUE1|said 1\nup 2|placed 0:6\nup 1|placed 0:7\nview 1|[2R]",
             "takes 1 0 5\nconf 1|[2W]\nview 1|[2R]\ntake 1|took 0:6\nconf 1|[1W1B]\nview 1|[2R]",
             "take 1|took 0:7\nconf 1|[2R]\nview 1|[2R]\ntake 1|nothing",
-            "takes 2 0 5\nconf 2|[2W]\nview 2|[1W1B]\ntake 2|took 0:6\nview 2|[1W1B]\ntake 2|took 0:7\nview 2|[2R]\nconf 2|[2R]",
+            "takes 2 0 5\nconf 2|[2W]\nview 2|[1W1B]\ntake 2|took 0:6\nview 2|[1W1B]",
+            "take 2|took 0:7\nview 2|[2R]\nconf 2|[2R]",
         ],
     ),
     (
         "",
         &[
             WIDE2,
-            "say 1 RED63|said 3\nsay 2 BLUE64|said 1\nup 2|placed 0:6\nup 1|placed 0:7\nview 1|[63W1R64W]",
-            "takes 1 0 7\nview 1|[63W1R1B63W]\ntakes 2 0 5\nview 2|[64W1B63W]\ntakes 2 6 7\nview 2|[63W1R1B63W]",
+            "say 1 RED63|said 3\nsay 2 BLUE64|said 1\nup 2|placed 0:6\nup 1|placed 0:7",
+            "view 1|[63W1R64W]",
+            "takes 1 0 7\nview 1|[63W1R1B63W]\ntakes 2 0 5\nview 2|[64W1B63W]\ntakes 2 6 7",
+            "view 2|[63W1R1B63W]",
         ],
     ),
     (
         "",
         &[
             START,
-            "say 1 POINT|said 3\nup 1|placed 0:5\nsay 1 RED0|said 4\nup 1|placed 0:6\nsay 1 UNDO|said 5\nup 1|placed 0:7",
-            "say 1 BLUE1|said 6\ntakes 1 0 6\nconf 1|[1R1W]\nview 1|[1R1B]\ntake 1|took 0:7\nconf 1|[2W]\nview 1|[1W1B]",
+            "say 1 POINT|said 3\nup 1|placed 0:5\nsay 1 RED0|said 4\nup 1|placed 0:6",
+            "say 1 UNDO|said 5\nup 1|placed 0:7",
+            "say 1 BLUE1|said 6\ntakes 1 0 6\nconf 1|[1R1W]\nview 1|[1R1B]\ntake 1|took 0:7",
+            "conf 1|[2W]\nview 1|[1W1B]",
             "up 1|placed 0:8\ntake 1|took 0:8\nconf 1|[1W1B]\nview 1|[1W1B]",
         ],
     ),
@@ -89,17 +94,22 @@ static ROWS: [(&str, &[&str]); 24] = [
         "",
         &[
             START,
-            "say 1 POINT|said 3\nup 1|placed 0:5\ntakes 1 0 5\nsay 1 RED0|said 1\nup 1|placed 0:6\ntake 1|took 0:6\nconf 1|[1R1W]",
-            "say 1 UNDO|said 1\nup 1|placed 0:7\ntake 1|took 0:7\nconf 1|[2W]\nsay 1 REDO|said 1\nup 1|placed 0:8\ntake 1|took 0:8\nconf 1|[1R1W]",
-            "say 1 REDO|said 1\nup 1|placed 0:9\ntake 1|took 0:9\nconf 1|[1R1W]\nsay 1 UNDO|said 1\nup 1|placed 0:10\ntake 1|took 0:10\nconf 1|[2W]",
-            "say 1 BLUE1|said 1\nup 1|placed 0:11\ntake 1|took 0:11\nconf 1|[1W1B]\nsay 1 REDO|said 1\nup 1|placed 0:12\ntake 1|took 0:12\nconf 1|[1W1B]",
+            "say 1 POINT|said 3\nup 1|placed 0:5\ntakes 1 0 5\nsay 1 RED0|said 1\nup 1|placed 0:6",
+            "take 1|took 0:6\nconf 1|[1R1W]",
+            "say 1 UNDO|said 1\nup 1|placed 0:7\ntake 1|took 0:7\nconf 1|[2W]\nsay 1 REDO|said 1",
+            "up 1|placed 0:8\ntake 1|took 0:8\nconf 1|[1R1W]",
+            "say 1 REDO|said 1\nup 1|placed 0:9\ntake 1|took 0:9\nconf 1|[1R1W]\nsay 1 UNDO|said 1",
+            "up 1|placed 0:10\ntake 1|took 0:10\nconf 1|[2W]",
+            "say 1 BLUE1|said 1\nup 1|placed 0:11\ntake 1|took 0:11\nconf 1|[1W1B]",
+            "say 1 REDO|said 1\nup 1|placed 0:12\ntake 1|took 0:12\nconf 1|[1W1B]",
         ],
     ),
     (
         "",
         &[
             START2,
-            "say 1 POINT|said 3\nup 1|placed 0:6\nsay 1 RED0|said 4\nup 1|placed 0:7\npoints 29 8\nsay 1 UNDO|said 5\nup 1|placed 0:37",
+            "say 1 POINT|said 3\nup 1|placed 0:6\nsay 1 RED0|said 4\nup 1|placed 0:7\npoints 29 8",
+            "say 1 UNDO|said 5\nup 1|placed 0:37",
             "takes 1 0 36\nconf 1|[1R1W]\ntake 1|took 0:37\nconf 1|[2W]\nview 1|[2W]",
         ],
     ),
@@ -107,7 +117,8 @@ static ROWS: [(&str, &[&str]); 24] = [
         "",
         &[
             START2,
-            "say 1 POINT|said 3\nup 1|placed 0:6\nsay 1 RED0|said 4\nup 1|placed 0:7\npoints 30 8\nsay 1 UNDO|said 5\nup 1|placed 0:38",
+            "say 1 POINT|said 3\nup 1|placed 0:6\nsay 1 RED0|said 4\nup 1|placed 0:7\npoints 30 8",
+            "say 1 UNDO|said 5\nup 1|placed 0:38",
             "takes 1 0 38\nconf 1|[1R1W]\nview 1|[1R1W]",
         ],
     ),
@@ -115,16 +126,20 @@ static ROWS: [(&str, &[&str]); 24] = [
         "",
         &[
             START2,
-            "say 2 SIZE|said 1\nup 2|filtered 0:6\nview 2|[2W]\ntakes 2 0 5\nview 2|[4W/4W]\nconf 2|[2W]\ntake 2|took 0:6\nview 2|[2W]",
+            "say 2 SIZE|said 1\nup 2|filtered 0:6\nview 2|[2W]\ntakes 2 0 5\nview 2|[4W/4W]",
+            "conf 2|[2W]\ntake 2|took 0:6\nview 2|[2W]",
         ],
     ),
     (
         "",
         &[
             START2,
-            "say 1 POINT|said 3\nup 1|placed 0:6\nsay 1 RED0|said 4\nup 1|placed 0:7\nleave 1|leaving\nleave 1|gone\ntake 1|took 0:0",
-            "up 1|left 0:8\njoin cat|joined 3 user 1 at 0:10\nsay 3 UNDO|said 1\nup 3|placed 0:11\ntakes 3 0 10\nconf 3|[1R1W]\ntake 3|took 0:11\nconf 3|[2W]",
-            "say 3 SIZE|said 1\nup 3|filtered 0:12\nsay 1 POINT|gone\nup 1|gone\ntake 1|gone\nleave 1|gone\ncut 1|gone\nconf 1|[]\nview 1|[1R1W]",
+            "say 1 POINT|said 3\nup 1|placed 0:6\nsay 1 RED0|said 4\nup 1|placed 0:7",
+            "leave 1|leaving\nleave 1|gone\ntake 1|took 0:0",
+            "up 1|left 0:8\njoin cat|joined 3 user 1 at 0:10\nsay 3 UNDO|said 1\nup 3|placed 0:11",
+            "takes 3 0 10\nconf 3|[1R1W]\ntake 3|took 0:11\nconf 3|[2W]",
+            "say 3 SIZE|said 1\nup 3|filtered 0:12\nsay 1 POINT|gone\nup 1|gone\ntake 1|gone",
+            "leave 1|gone\ncut 1|gone\nconf 1|[]\nview 1|[1R1W]",
         ],
     ),
     (
@@ -149,34 +164,39 @@ static ROWS: [(&str, &[&str]); 24] = [
         "",
         &[
             START2,
-            "say 1 ALL|said 3\nup 1|placed 0:6\nsay 2 RED0|said 1\nup 2|filtered 0:7\nsay 1 RED0|said 4\nup 1|placed 0:8",
+            "say 1 ALL|said 3\nup 1|placed 0:6\nsay 2 RED0|said 1\nup 2|filtered 0:7",
+            "say 1 RED0|said 4\nup 1|placed 0:8",
         ],
     ),
     (
         "",
         &[
-            "join abcdefghijklmnopqrstuvwxyz0123456|name refused\njoin |name refused\njoin abcdefghijklmnopqrstuvwxyz012345|joined 1 user 1 at 0:1",
-        ],
-    ),
-    (
-        "",
-        &[
-            START,
-            "say 1 RED0|said 3\nsay 1 BLUE1|said 4\ncut 1|cut 0:5\nup 1|gone\ncut 1|gone\nsay 1 POINT|gone\njoin bob|joined 2 user 1 at 0:6",
-        ],
-    ),
-    (
-        "",
-        &[
-            START,
-            "say 1 CHAT|said 3\nsay 1 c8|said 4\nup 1|placed 0:5\nup 1|placed 0:6\nup 1|empty\ntakes 1 0 6\nview 1|[2W]",
+            "join abcdefghijklmnopqrstuvwxyz0123456|name refused\njoin |name refused",
+            "join abcdefghijklmnopqrstuvwxyz012345|joined 1 user 1 at 0:1",
         ],
     ),
     (
         "",
         &[
             START,
-            "say 1 RED0|said 3\nleave 1|leaving\nsay 1 POINT|gone\nup 1|placed 0:5\nup 1|left 0:6\ntake 1|gone\njoin ann|joined 2 user 1 at 0:7\ntakes 2 0 8\nconf 2|[1R1W]",
+            "say 1 RED0|said 3\nsay 1 BLUE1|said 4\ncut 1|cut 0:5\nup 1|gone\ncut 1|gone",
+            "say 1 POINT|gone\njoin bob|joined 2 user 1 at 0:6",
+        ],
+    ),
+    (
+        "",
+        &[
+            START,
+            "say 1 CHAT|said 3\nsay 1 c8|said 4\nup 1|placed 0:5\nup 1|placed 0:6\nup 1|empty",
+            "takes 1 0 6\nview 1|[2W]",
+        ],
+    ),
+    (
+        "",
+        &[
+            START,
+            "say 1 RED0|said 3\nleave 1|leaving\nsay 1 POINT|gone\nup 1|placed 0:5\nup 1|left 0:6",
+            "take 1|gone\njoin ann|joined 2 user 1 at 0:7\ntakes 2 0 8\nconf 2|[1R1W]",
         ],
     ),
     ("bad line 3", &["join ann|joined 1 user 1 at 0:1\n\nup 2"]),
