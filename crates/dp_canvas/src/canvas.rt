@@ -107,8 +107,12 @@ impl BoardView for Canvas {
         self.board.rows()
     }
 
-    fn copy_row(&self, id: u16, y: u32, row: &mut [Pixel]) {
-        self.board.copy_row(id, y, row);
+    fn known_pixels(&self) {
+        self.board.known_pixels();
+    }
+
+    fn copy_part(&self, id: u16, x: u32, y: u32, part: &mut [Pixel]) {
+        self.board.copy_part(id, x, y, part);
     }
 
     fn pixel(&self, id: u16, x: u32, y: u32) -> Option<Pixel> {

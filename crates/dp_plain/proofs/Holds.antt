@@ -26,7 +26,7 @@ use Rattle.dp_pixels.specs.Commands.{pixels_after}
 use Rattle.dp_plain.specs.Board.{Board, Covers, IsBoard}
 use Rattle.dp_plain.specs.Commands.{is_side, side, with_sides, resized, new_content, arranged}
 use Rattle.dp_plain.specs.Commands.{with_change, painted, draw}
-use Rattle.dp_plain.specs.Commands.{IsArranging, pixels_moved}
+use Rattle.dp_plain.specs.Commands.{pixels_moved}
 use Rattle.dp_plain.specs.Contents.{ContentsFit, IsHeld}
 use Rattle.dp_blend.proofs.Canvas.{length-canvas_of}
 use Rattle.dp_plain.proofs.Resizes.{side_bounds}

@@ -7,3 +7,4 @@ pub mod Remaking
 pub mod Holds
 pub mod Replays
 pub mod Counts
+pub mod Pixels

@@ -2,7 +2,7 @@
 -- each paint row with its pixels.
 use Rattle.std.specs.Prelude.{◌≡◌, ◌↔◌, ℕ, ◌*◌, ◌≤◌, List, [], length, All}
 use Rattle.std.specs.Option.{ForSome}
-use Rattle.dp_blend.specs.Color.{Channels}
+use Rattle.dp_blend.specs.Color.{Channels, IsPixel}
 use Rattle.dp_layers.specs.Rows.{Row}
 use Rattle.dp_layers.specs.Tree.{IsTree}
 
@@ -30,3 +30,7 @@ pub record IsBoard (board : Board) : Type 0 where
   pub both : (board.width ≡ 0) ↔ (board.height ≡ 0)
   pub tree : IsTree board.rows
   pub each : All (Covers board.width board.height) board.rows
+
+-- each paint row holds pixels: no channel is above alpha, and alpha is at most one
+abbrev pub HasPixels : Board → Type 0
+HasPixels board = All (λ row. ForSome row.content (All IsPixel)) board.rows

@@ -1,14 +1,14 @@
 //! What a paint layer holds.
 
-ghost use Rattle.std.specs.Prelude.{◌≡◌, ℕ, ◌+◌, ◌*◌, ◌<◌, ◌≤◌, List, length, is_some, IsTrue};
+ghost use Rattle.std.specs.Prelude.{◌≡◌, ℕ, ◌+◌, ◌*◌, ◌<◌, ◌≤◌, List, length, is_some, All, IsTrue};
 ghost use Rattle.std.specs.Prelude.{IfOk, OnOk, OnErr};
-ghost use Rattle.dp_blend.specs.Color.{Channels, clear};
+ghost use Rattle.dp_blend.specs.Color.{Channels, IsPixel, clear};
 ghost use Rattle.dp_blend.specs.Canvas.{canvas_of, pixel_at};
 ghost use Rattle.dp_msg_draw.specs.declared.draw.Draw.{Draw as Message};
 ghost use Rattle.dp_pixels.specs.Commands.{pixels_after};
 ghost use Rattle.dp_plain.specs.Commands.{painted_layer};
 ghost use Rattle.dp_plain.specs.Resizes.{pixels_resized};
-ghost use Rattle.dp_plain.specs.View.{pixels_in_row};
+ghost use Rattle.dp_plain.specs.View.{pixels_in_part};
 
 use crate::geometry::Resize;
 use dp_blend::Pixel;
@@ -97,12 +97,13 @@ pub trait LayerPixels: Sized + Drop {
         ensures same { IfOk result (λ other. other ≡ self.now) }
         ensures no_tile { tiles.new ≡ tiles.old };
 
-    /// Copies the row y of the pixels.
-    fn copy_row(&self, width: u32, height: u32, y: u32, row: &mut [Pixel])
+    /// Copies a part of the row y of the pixels, from x on.
+    fn copy_part(&self, width: u32, height: u32, x: u32, y: u32, part: &mut [Pixel])
         requires fits { fits width height self.now }
         requires inside { y < height }
-        requires long { length row.old ≡ width }
-        ensures { row.new ≡ pixels_in_row width (pixels width height self.now) y };
+        requires within { x + length part.old ≤ width }
+        ensures { part.new
+            ≡ pixels_in_part width (pixels width height self.now) x y (length part.old) };
 
     /// The pixel at a place.
     fn pixel(&self, width: u32, height: u32, x: u32, y: u32) -> Pixel
@@ -110,8 +111,10 @@ pub trait LayerPixels: Sized + Drop {
         requires inside { (x < width) × (y < height) }
         ensures { result ≡ pixel_at width (pixels width height self.now) x y };
 
-    /// A law: a content has a pixel for each place of a canvas that it fits.
+    /// Laws: a content has a pixel for each place of a canvas that it fits.
     fn laws()
         ensures covers { (width height : ℕ) (content : Self) → fits width height content
-            → length (pixels width height content) ≡ width * height };
+            → length (pixels width height content) ≡ width * height }
+        ensures pixels { (width height : ℕ) (content : Self) → fits width height content
+            → All IsPixel (pixels width height content) };
 }

@@ -278,9 +278,14 @@ impl<C: LayerPixels> BoardView for LayeredBoard<C> {
         self.tree.rows()
     }
 
-    fn copy_row(&self, id: u16, y: u32, row: &mut [Pixel]) {
+    fn known_pixels(&self) {
+        C::laws();
+        let _rows = self.tree.rows();
+    }
+
+    fn copy_part(&self, id: u16, x: u32, y: u32, part: &mut [Pixel]) {
         if let Some(content) = self.tree.content(id) {
-            content.copy_row(self.width, self.height, y, row);
+            content.copy_part(self.width, self.height, x, y, part);
         }
     }
 

@@ -5,7 +5,9 @@
 //! are compared.
 #![tactic(auto)]
 
+mod colors;
 mod geometry;
+mod laws;
 mod layer_pixels;
 mod layered;
 mod plain;
@@ -15,6 +17,7 @@ mod trees;
 mod view;
 
 pub use geometry::Resize;
+pub use laws::spelled_commands_keep_pixels;
 pub use layer_pixels::LayerPixels;
 pub use layered::LayeredBoard;
 pub use plain::{PlainBoard, PlainPixels};

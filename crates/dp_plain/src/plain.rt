@@ -1,14 +1,16 @@
 //! Plain lists of pixels.
 
-ghost use Rattle.std.specs.Prelude.{◌≡◌, ◌*◌, length};
+ghost use Rattle.std.specs.Prelude.{◌≡◌, ◌*◌, length, All};
+ghost use Rattle.dp_blend.specs.Color.{IsPixel};
 
+use crate::colors::known_colors;
 use crate::geometry::Resize;
 use crate::layer_pixels::LayerPixels;
 use crate::layered::LayeredBoard;
 use crate::resize::moved_pixels;
 use dp_blend::Pixel;
 use dp_msg_draw::Draw;
-use dp_pixels::draw_pixels;
+use dp_pixels::{draw_pixels, pixels_stay_pixels};
 use dp_steps::Steps;
 use std::alloc::{AllocError, Global};
 use std::marker::Model;
@@ -36,7 +38,8 @@ impl Model for PlainPixels {
 impl LayerPixels for PlainPixels {
     ghost pixels = { λ width height pixels. pixels };
 
-    ghost fits = { λ width height pixels. length pixels ≡ width * height };
+    ghost fits = { λ width height pixels.
+        (length pixels ≡ width * height) × All IsPixel pixels };
 
     ghost weight = { λ _. 0 };
 
@@ -68,6 +71,8 @@ impl LayerPixels for PlainPixels {
         command: &Draw,
         _tiles: &mut Steps<T>,
     ) -> Result<(), AllocError> {
+        pixels_stay_pixels();
+        known_colors(command);
         draw_pixels(alloc, command, width, height, &mut self.pixels)
     }
 
@@ -88,9 +93,9 @@ impl LayerPixels for PlainPixels {
         })
     }
 
-    fn copy_row(&self, width: u32, _height: u32, y: u32, row: &mut [Pixel]) {
-        let start = y as usize * width as usize;
-        row.copy_from_slice(&self.pixels[start..start + width as usize]);
+    fn copy_part(&self, width: u32, _height: u32, x: u32, y: u32, part: &mut [Pixel]) {
+        let start = y as usize * width as usize + x as usize;
+        part.copy_from_slice(&self.pixels[start..start + part.len()]);
     }
 
     fn pixel(&self, width: u32, _height: u32, x: u32, y: u32) -> Pixel {

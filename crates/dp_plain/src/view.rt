@@ -1,11 +1,11 @@
 //! What is read of a board.
 
-ghost use Rattle.std.specs.Prelude.{◌≡◌, ◌<◌, length, IsTrue};
+ghost use Rattle.std.specs.Prelude.{◌≡◌, ◌+◌, ◌<◌, ◌≤◌, length, IsTrue};
 ghost use Rattle.dp_layers.specs.Layers.{is_paint_row};
 ghost use Rattle.dp_layers.specs.Rows.{layers_of};
-ghost use Rattle.dp_plain.specs.Board.{Board, IsBoard};
+ghost use Rattle.dp_plain.specs.Board.{Board, HasPixels, IsBoard};
 ghost use Rattle.dp_plain.specs.Picture.{pixels_of};
-ghost use Rattle.dp_plain.specs.View.{pixel_in, pixels_in_row};
+ghost use Rattle.dp_plain.specs.View.{pixel_in, pixels_in_part, pixels_in_row};
 
 use dp_blend::Pixel;
 use dp_layers::LayerRow;
@@ -34,13 +34,28 @@ pub trait BoardView {
     fn rows(&self) -> &[LayerRow]
         ensures { result.now ≡ layers_of (board self.now).rows };
 
+    /// Its layers hold pixels, whatever was drawn on it. The call does nothing.
+    fn known_pixels(&self)
+        ensures { HasPixels (board self.now) };
+
+    /// Copies a part of the row y of the pixels of the paint layer of the id, from x on.
+    fn copy_part(&self, id: u16, x: u32, y: u32, part: &mut [Pixel])
+        requires paint { IsTrue (is_paint_row (layers_of (board self.now).rows) id) }
+        requires inside { y < (board self.now).height }
+        requires within { x + length part.old ≤ (board self.now).width }
+        ensures { part.new ≡ pixels_in_part (board self.now).width
+            (pixels_of (board self.now) id) x y (length part.old) };
+
     /// Copies the row y of the pixels of the paint layer of the id.
     fn copy_row(&self, id: u16, y: u32, row: &mut [Pixel])
         requires paint { IsTrue (is_paint_row (layers_of (board self.now).rows) id) }
         requires inside { y < (board self.now).height }
         requires long { length row.old ≡ (board self.now).width }
         ensures { row.new
-            ≡ pixels_in_row (board self.now).width (pixels_of (board self.now) id) y };
+            ≡ pixels_in_row (board self.now).width (pixels_of (board self.now) id) y }
+    {
+        self.copy_part(id, 0, y, row);
+    }
 
     /// The pixel of the paint layer of the id at a place, or `None` where no paint layer has the id
     /// or the place is outside.

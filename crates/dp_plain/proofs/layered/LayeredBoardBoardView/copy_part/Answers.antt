@@ -1,16 +1,16 @@
-use Rattle.std.proofs.Common.{◌≡◌, ◌∙◌, ap, sym, subst, true}
+use Rattle.std.proofs.Common.{◌≡◌, ◌∙◌, ap, sym, subst, true, length}
 use Rattle.std.proofs.lemmas.Bool.{false≢true}
 use Rattle.dp_layers.specs.Layers.{is_paint_row}
 use Rattle.dp_layers.specs.Rows.{layers_of}
 use Rattle.dp_plain.specs.Board.{Board}
 use Rattle.dp_plain.specs.Picture.{pixels_of}
-use Rattle.dp_plain.specs.View.{pixels_in_row}
+use Rattle.dp_plain.specs.View.{pixels_in_part}
 use Rattle.dp_plain.proofs.Holds.{fit_found}
 use Rattle.dp_plain.proofs.Views.{layers_seen, pixels_seen}
-use Rattle.dp_plain.proofs.layered.LayeredBoardBoardView.copy_row.Goals as goal
+use Rattle.dp_plain.proofs.layered.LayeredBoardBoardView.copy_part.Goals as goal
 
-pub copy_row-requires-clause-fits : goal.copy_row-requires-clause-fits
-copy_row-requires-clause-fits g c =
+pub copy_part-requires-clause-fits : goal.copy_part-requires-clause-fits
+copy_part-requires-clause-fits g c =
     let inside = c.self.inside in
     fit_found (g.C.LayerPixels.fits inside.width inside.height) inside.tree c.args.id
     c.in-Some.content.now
@@ -20,9 +20,10 @@ pub returns-in-Some : goal.returns-in-Some
 returns-in-Some g c =
     let inside = c.self.inside in
     subst
-    (λ (board : Board). c.copy_row.new.row ≡ pixels_in_row board.width
-    (pixels_of board c.args.id) c.args.y) c.self.view_is
-    (c.copy_row.ensures ∙ ap (λ pixels. pixels_in_row inside.width pixels c.args.y)
+    (λ (board : Board). c.copy_part.new.part ≡ pixels_in_part board.width
+    (pixels_of board c.args.id) c.args.x c.args.y (length c.args.part.now)) c.self.view_is
+    (c.copy_part.ensures ∙ ap (λ pixels. pixels_in_part inside.width pixels c.args.x c.args.y
+    (length c.args.part.now))
     (sym
     (pixels_seen (g.C.LayerPixels.pixels inside.width inside.height) inside.tree c.args.id
     c.in-Some.content.now (sym c.in-Some.ensures.value))))
