@@ -1,6 +1,7 @@
 //! Worked pictures, with the bytes that they have to give.
 
-ghost use Rattle.std.specs.Prelude.{◌≤◌};
+ghost use Rattle.std.specs.Prelude.{◌≡◌, ◌≤◌, if◌then◌else◌};
+ghost use Rattle.dp_blend.specs.Color.{of_argb};
 
 use crate::{PictureEnd, flatten, write_p3, write_p6};
 use dp_blend::{Mode, Pixel, length_of_canvas, of_argb, pixel_of_canvas, row_fill, to8};
@@ -11,20 +12,27 @@ use dp_plain::BoardView;
 use std::alloc::Global;
 use std::test::Fail;
 
-/// A board of which each paint layer has one colour everywhere.
+/// The colours of layers.
+const RED: u32 = 0xffff_0000;
+
+const BLUE: u32 = 0xff00_00ff;
+
+/// A board of which each paint layer is red or blue everywhere, red where its content is true.
 #[derive(Drop)]
-struct PlainColors {
+struct RedAndBlue {
     width: u32,
     height: u32,
     background: u32,
-    tree: Tree<Pixel>,
+    tree: Tree<bool>,
     ghost wide: { width ≤ 4096 },
     ghost some_wide: { 1 ≤ width },
     ghost high: { height ≤ 4096 },
     ghost some_high: { 1 ≤ height },
 }
 
-impl BoardView for PlainColors {
+impl BoardView for RedAndBlue {
+    ghost use Rattle.std.specs.Prelude.{if◌then◌else◌};
+    ghost use Rattle.dp_blend.specs.Color.{of_argb};
     ghost use Rattle.dp_blend.specs.Canvas.{canvas_of};
     ghost use Rattle.dp_layers.specs.Rows.{map_contents};
 
@@ -32,11 +40,12 @@ impl BoardView for PlainColors {
       width = b.width;
       height = b.height;
       background = b.background;
-      rows = map_contents (λ color. canvas_of b.width b.height (λ x y. color)) b.tree;
+      rows = map_contents (λ is_red. canvas_of b.width b.height
+          (λ x y. of_argb (if is_red then 4294901760 else 4278190335))) b.tree;
     } };
 
     fn width(&self) -> u32 {
-        contents_ride_along::<Pixel, [Pixel; 1]>();
+        contents_ride_along::<bool, [Pixel; 1]>();
         length_of_canvas();
         let _rows = self.tree.rows();
         self.width
@@ -52,48 +61,57 @@ impl BoardView for PlainColors {
     }
 
     fn rows(&self) -> &[LayerRow] {
-        contents_ride_along::<Pixel, [Pixel; 1]>();
+        contents_ride_along::<bool, [Pixel; 1]>();
         self.tree.rows()
     }
 
-    fn copy_row(&self, id: u16, _y: u32, row: &mut [Pixel]) {
-        contents_ride_along::<Pixel, [Pixel; 1]>();
+    fn known_pixels(&self) {}
+
+    fn copy_part(&self, id: u16, _x: u32, _y: u32, part: &mut [Pixel]) {
+        contents_ride_along::<bool, [Pixel; 1]>();
         pixel_of_canvas();
-        let color = self.tree.content(id).copied().unwrap_or(Pixel::CLEAR);
-        row_fill(Mode::Replace, color, row);
+        let is_red = self.tree.content(id).copied().unwrap_or(false);
+        row_fill(Mode::Replace, color_of(is_red), part);
     }
 
     fn pixel(&self, id: u16, x: u32, y: u32) -> Option<Pixel> {
-        contents_ride_along::<Pixel, [Pixel; 1]>();
+        contents_ride_along::<bool, [Pixel; 1]>();
         pixel_of_canvas();
         if x < self.width && y < self.height {
-            self.tree.content(id).copied()
+            Some(color_of(*self.tree.content(id)?))
         } else {
             None
         }
     }
 }
 
-/// Makes a row of the list: a layer of this colour, or a group.
+/// The colour of a layer.
+fn color_of(is_red: bool) -> Pixel
+    ensures { result ≡ of_argb (if is_red then 4294901760 else 4278190335) }
+{
+    of_argb(if is_red { RED } else { BLUE })
+}
+
+/// Makes a row of the list: a layer, red or blue, or a group.
 fn create(
     alloc: Global,
-    tree: &mut Tree<Pixel>,
+    tree: &mut Tree<bool>,
     id: u16,
     parent: u16,
-    color: Option<Pixel>,
+    is_red: Option<bool>,
 ) -> Result<(), Fail> {
     let command = Draw::LayerCreate {
         id,
         parent,
-        group: color.is_none(),
+        group: is_red.is_none(),
         title: Title::new(alloc),
     };
-    tree.create(&command, color)?;
+    tree.create(&command, is_red)?;
     Ok(())
 }
 
 /// Gives the row of the id an opacity and a mode, and hides it or not.
-fn set(tree: &mut Tree<Pixel>, id: u16, opacity: u8, mode: u8, hidden: bool) -> Result<(), Fail> {
+fn set(tree: &mut Tree<bool>, id: u16, opacity: u8, mode: u8, hidden: bool) -> Result<(), Fail> {
     let command = Draw::LayerAttr {
         id,
         opacity,
@@ -105,16 +123,11 @@ fn set(tree: &mut Tree<Pixel>, id: u16, opacity: u8, mode: u8, hidden: bool) -> 
 }
 
 /// A group 1 with a red layer 2 and a blue layer 3 in it, and of these opacities and modes.
-fn group(
-    alloc: Global,
-    opacity: [u8; 3],
-    mode: [u8; 3],
-    hidden: bool,
-) -> Result<Tree<Pixel>, Fail> {
+fn group(alloc: Global, opacity: [u8; 3], mode: [u8; 3], hidden: bool) -> Result<Tree<bool>, Fail> {
     let mut tree = Tree::new(alloc);
     create(alloc, &mut tree, 1, 0, None)?;
-    create(alloc, &mut tree, 2, 1, Some(of_argb(0xffff_0000)))?;
-    create(alloc, &mut tree, 3, 1, Some(of_argb(0xff00_00ff)))?;
+    create(alloc, &mut tree, 2, 1, Some(true))?;
+    create(alloc, &mut tree, 3, 1, Some(false))?;
     set(&mut tree, 1, opacity[0], mode[0], hidden)?;
     set(&mut tree, 2, opacity[1], mode[1], false)?;
     set(&mut tree, 3, opacity[2], mode[2], false)?;
@@ -133,7 +146,7 @@ fn shows_groups(rt: HostRuntime) -> Result<(), Fail> {
         ([0, 255, 255], [255, 1, 1], false, [255, 255, 255]),
     ];
     for (opacity, mode, hidden, want) in cases {
-        let board = PlainColors {
+        let board = RedAndBlue {
             width: 1,
             height: 1,
             background: 0xff00_ff00,
@@ -152,7 +165,7 @@ fn shows_groups(rt: HostRuntime) -> Result<(), Fail> {
 #[test]
 fn writes_lines(rt: HostRuntime) -> Result<(), Fail> {
     let alloc = rt.alloc();
-    let board = PlainColors {
+    let board = RedAndBlue {
         width: 2,
         height: 1,
         background: 0x80ff_0000,
@@ -171,7 +184,7 @@ fn writes_lines(rt: HostRuntime) -> Result<(), Fail> {
 #[test]
 fn a_failing_sink_holds_a_prefix(rt: HostRuntime) -> Result<(), Fail> {
     let alloc = rt.alloc();
-    let board = PlainColors {
+    let board = RedAndBlue {
         width: 1,
         height: 4096,
         background: 0xff01_0203,
