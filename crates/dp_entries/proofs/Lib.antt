@@ -1,0 +1,4 @@
+pub mod Frames
+pub mod OneReading
+pub mod Reading
+pub mod Refused

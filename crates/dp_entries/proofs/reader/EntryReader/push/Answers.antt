@@ -1,0 +1,15 @@
+use Rattle.dp_entries.proofs.Reading.{reads_piece, piece_falls}
+use Rattle.dp_entries.proofs.reader.EntryReader.push.Goals as goal
+
+pub returns-in-Ok-clause-read : goal.returns-in-Ok-clause-read
+returns-in-Ok-clause-read g c = λ input untaken entries few h.
+    let e = c.feed.ensures in
+    reads_piece g.S.Standing.may_stand input untaken entries c.args.self.now c.feed.new.self
+    c.args.bytes.now e.before c.requires.none c.requires.not_over few
+    c.in-Ok.ensures.held e.at e.count e.first e.limit c.in-Ok.ensures.over h
+
+pub returns-in-Ok-clause-further : goal.returns-in-Ok-clause-further
+returns-in-Ok-clause-further g c = λ some.
+    let e = c.feed.ensures in
+    piece_falls c.args.self.now c.feed.new.self c.args.bytes.now c.requires.not_over e.before
+    c.in-Ok.ensures.held e.at e.first e.limit c.in-Ok.ensures.over some

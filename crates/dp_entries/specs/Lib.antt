@@ -1,0 +1,5 @@
+pub mod Anywhere
+pub mod Ends
+pub mod Input
+pub mod Reader
+pub mod Reading

@@ -1,0 +1,388 @@
+//! The entries of a source, pulled one at a time.
+
+ghost use Rattle.std.specs.Prelude.{◌≡◌, ◌≢◌, ◌↔◌, ℕ, ◌+◌, ◌-◌, ◌^◌, ◌<◌, ◌≤◌, IsTrue, Err};
+ghost use Rattle.std.specs.Prelude.{List, [], ◌∷◌, ◌++◌, length, take, Some, OnOk, OnErr};
+ghost use Rattle.std.specs.Prelude.{IfOk, IfErr, IfSome, IfNone, None, IsOkAnd, OnSome};
+ghost use Rattle.std.specs.declared.option.Option.{Option};
+ghost use Rattle.std.specs.Io.KnownBytes.{IsAtEnd, Keeps};
+ghost use Rattle.dp_io.specs.Faults.{Rose};
+ghost use Rattle.dp_frame.specs.Frames.{HoldsNoFrame};
+ghost use Rattle.dp_messages.specs.declared.message.Entry.{Entry as Item};
+ghost use Rattle.dp_lines.specs.declared.run_end.RunEnd.TheVariants as run;
+ghost use Rattle.dp_entries.specs.Input.{ComesTo};
+ghost use Rattle.dp_entries.specs.Ends.{IfCause, IsRefusal, stop_end};
+ghost use Rattle.dp_entries.specs.Reader.{HasRead, measure_of, room_of};
+ghost use Rattle.dp_entries.specs.Reading.{Blames, EndsReading, EndsWithInput, TakesBad};
+ghost use Rattle.dp_entries.specs.Reading.{TakesEntry};
+
+use crate::taking::{Stop, take_entry};
+use crate::{ReadEnd, Refusal, Standing};
+use dp_frame::Splitter;
+use dp_io::{Failed, Source};
+use dp_messages::Entry;
+use std::alloc::{AllocError, Global};
+use std::marker::{Model, PhantomData};
+
+/// The entries of a source, pulled one at a time. It holds the bytes that were read and not yet
+/// given as entries, and no entry.
+#[derive(Drop)]
+pub struct EntryReader<S: Standing> {
+    splitter: Splitter,
+    first: u64,
+    limit: u64,
+    count: u64,
+    over: bool,
+    ended: bool,
+    standing: PhantomData<S>,
+}
+
+impl<S: Standing> Model for EntryReader<S> {
+    ghost use Rattle.std.specs.Prelude.{◌+◌, ◌≤◌, length};
+    ghost use Rattle.dp_entries.specs.Reader.{Reader};
+
+    ghost Value = { Reader };
+
+    ghost view = { λ r. record {
+      first = r.first;
+      limit = r.limit;
+      stream = r.splitter;
+      count = r.count;
+      over = r.over;
+      ended = r.ended;
+    } };
+
+    ghost invariant = { λ r. (r.first + r.splitter.at + length r.splitter.held ≤ r.limit)
+        × (r.count ≤ r.splitter.at) };
+}
+
+impl<S: Standing> EntryReader<S> {
+    /// A reader of a source of which so many bytes were taken: there its first frame begins. Of the
+    /// whole source so many bytes count.
+    pub fn new(alloc: Global, first: u64, limit: u64) -> Self
+        requires { first ≤ limit }
+        ensures first { result.first ≡ first }
+        ensures limit { result.limit ≡ limit }
+        ensures none { HoldsNoFrame result.stream.held }
+        ensures not_over { ¬ IsTrue result.over }
+        ensures open { ¬ IsTrue result.ended }
+        ensures begun { (bytes head untaken : List ℕ)
+            → bytes ≡ head ++ untaken → length head ≡ first
+            → HasRead S.may_stand bytes (Some untaken) [] result }
+    {
+        let splitter = Splitter::new(alloc);
+        EntryReader {
+            splitter,
+            first,
+            limit,
+            count: 0,
+            over: false,
+            ended: false,
+            standing: PhantomData,
+        }
+    }
+
+    /// Gives the next entry; `None` where the input ends after a whole frame. It reads pieces of at
+    /// most 4096 bytes, and only where no whole frame is held. After `None` and after an error it
+    /// has ended: it gives `None` from then on, and reads nothing.
+    ///
+    /// # Errors
+    ///
+    /// `ReadFault` where the input failed, `Truncated` where it ends inside a frame, `BadMessage` at
+    /// the first frame that may not stand, `Long` where more bytes than count were taken, and
+    /// `Memory` where memory ran out.
+    pub fn next<I: Source>(
+        &mut self,
+        alloc: Global,
+        input: &mut I,
+    ) -> Result<Option<Entry>, ReadEnd<S::Cause>>
+        // What was read goes on by the entry that is given.
+        ensures given { IfOk result (λ next. IfSome next (λ entry.
+            (bytes : List ℕ) (entries : List Item)
+            → HasRead S.may_stand bytes (I.left input.old) entries self.old
+            → HasRead S.may_stand bytes (I.left input.new) (entries ++ entry ∷ []) self.new)) }
+        ensures further { IfOk result (λ next. IfSome next (λ _.
+            self.old.stream.at < self.new.stream.at)) }
+        ensures within { self.new.first + self.new.stream.at + length self.new.stream.held
+            ≤ self.new.limit }
+        ensures first { self.new.first ≡ self.old.first }
+        ensures limit { self.new.limit ≡ self.old.limit }
+
+        // Where there is none, the input came to its end, or reading it ended so.
+        ensures at_end { ¬ IsTrue self.old.ended → IfOk result (λ next.
+            IfNone next (IsAtEnd (I.left input.new))) }
+        ensures done { ¬ IsTrue self.old.ended → IfOk result (λ next. IfNone next
+            ((bytes : List ℕ) (entries : List Item)
+            → HasRead S.may_stand bytes (I.left input.old) entries self.old
+            → ComesTo S.may_stand self.old.first self.old.limit bytes entries run.Done)) }
+        ensures ends { IfErr result (λ end. (bytes : List ℕ) (entries : List Item)
+            → HasRead S.may_stand bytes (I.left input.old) entries self.old
+            → EndsReading S.may_stand S.is_cause self.old.first self.old.limit bytes
+            (I.left input.new) entries end) }
+        ensures inside { IfErr result (EndsWithInput (I.left input.new)) }
+
+        // It has ended then, and stays so.
+        ensures open { IfOk result (λ next. OnSome next (¬ IsTrue self.new.ended)) }
+        ensures ended { OnErr result (IsTrue self.new.ended) }
+        ensures fused { IsTrue self.old.ended → IsOkAnd result (λ next. (next ≡ None)
+            × (self.new ≡ self.old) × (I.left input.new ≡ I.left input.old)) }
+
+        // A fault is answered where the count of the input's faults rose, and else it stays.
+        ensures kept { OnOk result (I.faults input.new ≡ I.faults input.old) }
+        ensures blames { IfErr result (Blames (I.faults input.old) (I.faults input.new)) }
+        ensures later { I.faults input.old ≤ I.faults input.new }
+    {
+        if self.ended {
+            return Ok(None);
+        }
+        match self.pull(alloc, input) {
+            Ok(Some(entry)) => Ok(Some(entry)),
+            Ok(None) => {
+                self.ended = true;
+                Ok(None)
+            }
+            Err(end) => {
+                self.ended = true;
+                Err(end)
+            }
+        }
+    }
+
+    /// Takes bytes that were read of the source already, the next ones. Those that count are held.
+    /// After an error nothing has changed.
+    pub fn push(&mut self, bytes: &[u8]) -> Result<(), AllocError>
+        requires not_over { ¬ IsTrue self.old.over }
+        requires none { HoldsNoFrame self.old.stream.held }
+        ensures read { OnOk result ((input untaken : List ℕ) (entries : List Item)
+            → length bytes.now ≤ 4096
+            → HasRead S.may_stand input (Some (bytes.now ++ untaken)) entries self.old
+            → HasRead S.may_stand input (Some untaken) entries self.new) }
+        ensures further { OnOk result (0 < length bytes.now
+            → measure_of self.new < measure_of self.old) }
+        ensures first { self.new.first ≡ self.old.first }
+        ensures limit { self.new.limit ≡ self.old.limit }
+        ensures at { self.new.stream.at ≡ self.old.stream.at }
+        ensures ended { self.new.ended ≡ self.old.ended }
+        ensures within { self.new.first + self.new.stream.at + length self.new.stream.held
+            ≤ self.new.limit }
+        ensures err { OnErr result (self.new ≡ self.old) }
+    {
+        match self.feed(bytes) {
+            Ok(()) => Ok(()),
+            Err(AllocError) => Err(AllocError),
+        }
+    }
+
+    /// Gives the next entry of a reader that has not ended.
+    fn pull<I: Source>(
+        &mut self,
+        alloc: Global,
+        input: &mut I,
+    ) -> Result<Option<Entry>, ReadEnd<S::Cause>>
+        ensures given { IfOk result (λ next. IfSome next (λ entry.
+            (bytes : List ℕ) (entries : List Item)
+            → HasRead S.may_stand bytes (I.left input.old) entries self.old
+            → HasRead S.may_stand bytes (I.left input.new) (entries ++ entry ∷ []) self.new)) }
+        ensures further { IfOk result (λ next. IfSome next (λ _.
+            self.old.stream.at < self.new.stream.at)) }
+        ensures within { self.new.first + self.new.stream.at + length self.new.stream.held
+            ≤ self.new.limit }
+        ensures first { self.new.first ≡ self.old.first }
+        ensures limit { self.new.limit ≡ self.old.limit }
+        ensures same_ended { self.new.ended ≡ self.old.ended }
+        ensures at_end { IfOk result (λ next. IfNone next (IsAtEnd (I.left input.new))) }
+        ensures done { IfOk result (λ next. IfNone next ((bytes : List ℕ) (entries : List Item)
+            → HasRead S.may_stand bytes (I.left input.old) entries self.old
+            → ComesTo S.may_stand self.old.first self.old.limit bytes entries run.Done)) }
+        ensures ends { IfErr result (λ end. (bytes : List ℕ) (entries : List Item)
+            → HasRead S.may_stand bytes (I.left input.old) entries self.old
+            → EndsReading S.may_stand S.is_cause self.old.first self.old.limit bytes
+            (I.left input.new) entries end) }
+        ensures inside { IfErr result (EndsWithInput (I.left input.new)) }
+        ensures kept { OnOk result (I.faults input.new ≡ I.faults input.old) }
+        ensures blames { IfErr result (Blames (I.faults input.old) (I.faults input.new)) }
+        ensures later { I.faults input.old ≤ I.faults input.new }
+    {
+        'pieces: loop {
+            match self.take_held(alloc)? {
+                Some(entry) => return Ok(Some(entry)),
+                None => {
+                    if !self.read_piece(input)? {
+                        self.check_end()?;
+                        return Ok(None);
+                    }
+                }
+            }
+        }
+    }
+
+    /// Gives the entry of the first frame that is held.
+    fn take_held(&mut self, alloc: Global) -> Result<Option<Entry>, ReadEnd<S::Cause>>
+        ensures given { IfOk result (λ next. IfSome next (λ entry.
+            (bytes : List ℕ) (left : Option (List ℕ)) (entries : List Item)
+            → HasRead S.may_stand bytes left entries self.old
+            → HasRead S.may_stand bytes left (entries ++ entry ∷ []) self.new)) }
+        ensures further { IfOk result (λ next. IfSome next (λ _.
+            self.old.stream.at < self.new.stream.at)) }
+        ensures none { IfOk result (λ next. IfNone next (HoldsNoFrame self.old.stream.held)) }
+        ensures same { IfOk result (λ next. IfNone next (self.new ≡ self.old)) }
+        ensures first { self.new.first ≡ self.old.first }
+        ensures limit { self.new.limit ≡ self.old.limit }
+        ensures ended { self.new.ended ≡ self.old.ended }
+        ensures within { self.new.first + self.new.stream.at + length self.new.stream.held
+            ≤ self.new.limit }
+        ensures fits { self.new.limit < 2 ^ 64 }
+        ensures ends { IfErr result (λ end.
+            (bytes : List ℕ) (left : Option (List ℕ)) (entries : List Item)
+            → HasRead S.may_stand bytes left entries self.old
+            → EndsReading S.may_stand S.is_cause self.old.first self.old.limit bytes left entries
+            end) }
+        ensures refused { IfErr result IsRefusal }
+    {
+        S::one_standing();
+        match self.take_next(alloc) {
+            Ok(Some(entry)) => Ok(Some(entry)),
+            Ok(None) => Ok(None),
+            Err(stop) => Err(self.end_at(stop)),
+        }
+    }
+
+    /// Reads a piece, and takes it. Whether there was any byte.
+    fn read_piece<I: Source>(&mut self, input: &mut I) -> Result<bool, ReadEnd<S::Cause>>
+        requires none { HoldsNoFrame self.old.stream.held }
+        requires within { self.old.first + self.old.stream.at + length self.old.stream.held
+            ≤ self.old.limit }
+        ensures read { OnOk result ((bytes : List ℕ) (entries : List Item)
+            → HasRead S.may_stand bytes (I.left input.old) entries self.old
+            → HasRead S.may_stand bytes (I.left input.new) entries self.new) }
+        ensures further { IfOk result (λ more. IsTrue more
+            → measure_of self.new < measure_of self.old) }
+        ensures same { IfOk result (λ more. ¬ IsTrue more → self.new ≡ self.old) }
+        ensures at_end { IfOk result (λ more. ¬ IsTrue more → IsAtEnd (I.left input.new)) }
+        ensures not_over { OnOk result (¬ IsTrue self.old.over) }
+        ensures within { self.new.first + self.new.stream.at + length self.new.stream.held
+            ≤ self.new.limit }
+        ensures first { self.new.first ≡ self.old.first }
+        ensures limit { self.new.limit ≡ self.old.limit }
+        ensures ended { self.new.ended ≡ self.old.ended }
+        ensures at { self.new.stream.at ≡ self.old.stream.at }
+        ensures ends { IfErr result (λ end. (bytes : List ℕ) (entries : List Item)
+            → HasRead S.may_stand bytes (I.left input.old) entries self.old
+            → EndsReading S.may_stand S.is_cause self.old.first self.old.limit bytes
+            (I.left input.new) entries end) }
+        ensures at_input { IfErr result (EndsWithInput (I.left input.new)) }
+        ensures kept { OnOk result (I.faults input.new ≡ I.faults input.old) }
+        ensures blames { IfErr result (Blames (I.faults input.old) (I.faults input.new)) }
+        ensures later { I.faults input.old ≤ I.faults input.new }
+    {
+        if self.over {
+            return Err(ReadEnd::Long);
+        }
+        let mut buffer = [0; 4096];
+        let count = match input.read(&mut buffer) {
+            Ok(count) => count,
+            Err(Failed) => return Err(ReadEnd::ReadFault),
+        };
+        if count == 0 {
+            return Ok(false);
+        }
+        match self.push(&buffer[..count]) {
+            Ok(()) => Ok(true),
+            Err(AllocError) => Err(ReadEnd::Memory),
+        }
+    }
+
+    /// Takes the first frame that is held, and counts it.
+    fn take_next(&mut self, alloc: Global) -> Result<Option<Entry>, Stop<S::Cause>>
+        ensures taken { IfOk result (λ next. IfSome next
+            (TakesEntry S.may_stand self.old.count self.old.stream self.new.stream)) }
+        ensures counted { IfOk result (λ next. IfSome next (λ _.
+            self.new.count ≡ self.old.count + 1)) }
+        ensures none { IfOk result (λ next. IfNone next (HoldsNoFrame self.old.stream.held)) }
+        ensures same { IfOk result (λ next. IfNone next (self.new ≡ self.old)) }
+        ensures refused { IfErr result (λ stop. IfCause
+            (TakesBad S.is_cause self.old.count self.old.stream self.new.stream) stop.why) }
+        ensures place { IfErr result (λ stop. stop.at ≡ self.old.stream.at) }
+        ensures first { self.new.first ≡ self.old.first }
+        ensures limit { self.new.limit ≡ self.old.limit }
+        ensures ended { self.new.ended ≡ self.old.ended }
+        ensures over { self.new.over ≡ self.old.over }
+        ensures before { self.old.first + self.old.stream.at + length self.old.stream.held
+            ≤ self.old.limit }
+        ensures within { self.new.first + self.new.stream.at + length self.new.stream.held
+            ≤ self.new.limit }
+        ensures fits { self.new.limit < 2 ^ 64 }
+    {
+        let next = take_entry::<S>(alloc, &mut self.splitter, self.count)?;
+        if next.is_some() {
+            self.count += 1;
+        }
+        Ok(next)
+    }
+
+    /// Holds the bytes that count of those that are next.
+    fn feed(&mut self, bytes: &[u8]) -> Result<(), AllocError>
+        ensures held { OnOk result (self.new.stream.held
+            ≡ self.old.stream.held ++ take (room_of self.old) bytes.now) }
+        ensures over { OnOk result (IsTrue self.new.over ↔ (room_of self.old < length bytes.now)) }
+        ensures at { self.new.stream.at ≡ self.old.stream.at }
+        ensures count { self.new.count ≡ self.old.count }
+        ensures first { self.new.first ≡ self.old.first }
+        ensures limit { self.new.limit ≡ self.old.limit }
+        ensures ended { self.new.ended ≡ self.old.ended }
+        ensures before { self.old.first + self.old.stream.at + length self.old.stream.held
+            ≤ self.old.limit }
+        ensures within { self.new.first + self.new.stream.at + length self.new.stream.held
+            ≤ self.new.limit }
+        ensures err { OnErr result (self.new ≡ self.old) }
+    {
+        let counted = bytes.len().min(self.room());
+        self.splitter.feed(&bytes[..counted])?;
+        self.over = counted < bytes.len();
+        Ok(())
+    }
+
+    /// How many bytes more count.
+    fn room(&self) -> usize
+        ensures { result ≡ room_of self.now }
+    {
+        (self.limit - self.first - self.splitter.at()) as usize - self.splitter.rest_len()
+    }
+
+    /// Where nothing is left of the input and no whole frame is held, no byte is held.
+    fn check_end(&self) -> Result<(), ReadEnd<S::Cause>>
+        requires none { HoldsNoFrame self.now.stream.held }
+        requires not_over { ¬ IsTrue self.now.over }
+        requires within { self.now.first + self.now.stream.at + length self.now.stream.held
+            ≤ self.now.limit }
+        requires fits { self.now.limit < 2 ^ 64 }
+        ensures done { OnOk result ((bytes : List ℕ) (left : Option (List ℕ))
+            (entries : List Item) → IsAtEnd left
+            → HasRead S.may_stand bytes left entries self.now
+            → ComesTo S.may_stand self.now.first self.now.limit bytes entries run.Done) }
+        ensures ends { IfErr result (λ end. (bytes : List ℕ) (left : Option (List ℕ))
+            (entries : List Item) → IsAtEnd left
+            → HasRead S.may_stand bytes left entries self.now
+            → EndsReading S.may_stand S.is_cause self.now.first self.now.limit bytes left entries
+            end) }
+        ensures inside { IfErr result (λ end. (left : Option (List ℕ)) → IsAtEnd left
+            → EndsWithInput left end × ((count : ℕ) → Blames count count end)) }
+    {
+        if self.splitter.rest_len() == 0 {
+            Ok(())
+        } else {
+            Err(ReadEnd::Truncated(self.first + self.splitter.at()))
+        }
+    }
+
+    /// How reading ends where a frame stops it so.
+    fn end_at(&self, stop: Stop<S::Cause>) -> ReadEnd<S::Cause>
+        requires { self.now.first + stop.at < 2 ^ 64 }
+        ensures { result ≡ stop_end self.now.first stop }
+    {
+        let Stop { at, why } = stop;
+        match why {
+            Refusal::Cause(cause) => ReadEnd::BadMessage(self.first + at, cause),
+            Refusal::Memory => ReadEnd::Memory,
+        }
+    }
+}

@@ -1,0 +1,3 @@
+pub mod CommandLines
+pub mod Program
+pub mod Wanted

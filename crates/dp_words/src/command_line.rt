@@ -1,0 +1,17 @@
+//! Command lines.
+
+use crate::address::Address;
+use dp_msg_meta::Text;
+
+/// What the program is asked for.
+#[derive(Debug, Drop)]
+pub enum CommandLine {
+    /// Frames on the input, a picture on the output.
+    Replay,
+    /// A schedule on the input, its report on the output.
+    World,
+    /// A recording on the input, a picture on the output: of its first `at` entries, or of all.
+    Play { at: Option<u32> },
+    /// A script on the input, for a client of this name at the server at `addr`.
+    Join { addr: Address, name: Text },
+}

@@ -1,0 +1,36 @@
+//! Laws of command lines. Each function does nothing: its contract is the law.
+
+ghost use Rattle.std.specs.Prelude.{◌≡◌, List, [], ◌∷◌, Some, None, codes};
+ghost use Rattle.clap.specs.Walk.{Text};
+ghost use Rattle.dp_words.specs.declared.command_line.CommandLine.{CommandLine};
+ghost use Rattle.dp_words.specs.declared.command_line.CommandLine.TheVariants.{Replay, World, Play};
+ghost use Rattle.dp_words.specs.declared.command_line.CommandLine.TheVariants.{Join};
+ghost use Rattle.dp_words.specs.CommandLines.{AsksFor, IsCommandLine};
+
+use dp_lines::one_number;
+
+/// Words ask for at most one thing.
+pub fn one_command_line()
+    ensures { (words : List Text) (line other : CommandLine)
+        → AsksFor words line → AsksFor words other → line ≡ other }
+{
+    one_number();
+}
+
+/// Words of each kind ask for what they should, and others for nothing.
+pub fn some_command_lines()
+    ensures replay { AsksFor (codes "replay" ∷ []) Replay }
+    ensures world { AsksFor (codes "world" ∷ []) World }
+    ensures play { AsksFor (codes "play" ∷ []) (Play None) }
+    ensures play_at { AsksFor (codes "play" ∷ codes "--at" ∷ codes "30" ∷ []) (Play (Some 30)) }
+    ensures play_at_one_word { AsksFor (codes "play" ∷ codes "--at=30" ∷ []) (Play (Some 30)) }
+    ensures join { AsksFor (codes "join" ∷ codes "localhost:7" ∷ codes "ann" ∷ [])
+        (Join (codes "localhost:7") (codes "ann")) }
+    ensures no_word { ¬ IsCommandLine [] }
+    ensures another_word { ¬ IsCommandLine (codes "paint" ∷ []) }
+    ensures a_word_too_many { ¬ IsCommandLine (codes "replay" ∷ codes "replay" ∷ []) }
+    ensures help { ¬ IsCommandLine (codes "--help" ∷ []) }
+    ensures signed { ¬ IsCommandLine (codes "play" ∷ codes "--at=+3" ∷ []) }
+    ensures no_number { ¬ IsCommandLine (codes "play" ∷ codes "--at" ∷ []) }
+    ensures no_name { ¬ IsCommandLine (codes "join" ∷ codes "localhost:7" ∷ []) }
+{}
