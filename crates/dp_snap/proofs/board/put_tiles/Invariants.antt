@@ -1,0 +1,17 @@
+use Rattle.std.proofs.Common.{◌≡◌, ◌++◌, length}
+use Rattle.std.specs.List.{flat_map}
+use Rattle.dp_blend.specs.Canvas.{below}
+use Rattle.dp_plain.specs.Picture.{pixels_of}
+use Rattle.dp_snap.specs.Snapshot.{put_of}
+use Rattle.dp_snap.proofs.board.put_tiles.Given as goal
+
+-- the tiles before the column
+abbrev pub invariant-loop-col : goal.invariant-loop-col
+invariant-loop-col g l =
+    let board = g.V.BoardView.board l.canvas in
+    record {
+      whole : length l.tile ≡ 4096;
+      puts : l.commands ≡ l.initial.commands
+          ++ flat_map (put_of board.width board.height l.id (pixels_of board l.id) l.row)
+          (below l.col);
+    }
