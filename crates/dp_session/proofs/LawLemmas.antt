@@ -1,43 +1,31 @@
 -- The laws of sessions.
-use Rattle.std.proofs.Common.{◌≡◌, ℕ, suc, ◌+◌, ◌*◌, ◌≤◌, ◌==◌, ◌&&◌, not, Bool, true, false}
+use Rattle.std.proofs.Common.{◌≡◌, ℕ, suc, ◌+◌, ◌*◌, ◌≤◌, ◌==◌, Bool, true, false}
 use Rattle.std.proofs.Common.{if◌then◌else◌, List, [], ◌∷◌, ◌++◌, length}
 use Rattle.std.proofs.Common.{map, fold, All, Option, None, Some, Result, Ok, Err}
-use Rattle.std.proofs.Common.{refl, sym, ap, subst, ◌∙◌, arith, append-nil, append_assoc}
+use Rattle.std.proofs.Common.{refl, sym, ap, subst, ◌∙◌, arith}
 use Rattle.std.proofs.Common.{length-append}
 use Rattle.std.specs.List.{filter}
 use Rattle.std.specs.Option.{option_map_or}
 use Rattle.std.specs.declared.alloc.AllocError.{AllocError}
-use Rattle.dp_msg_meta.specs.declared.message.Meta.TheVariants.{Join, Leave, Owners}
 use Rattle.dp_messages.specs.declared.message.Msg.{Msg}
-use Rattle.dp_messages.specs.declared.message.Msg.TheVariants as msg
-use Rattle.dp_messages.specs.declared.message.Entry.{Entry}
-use Rattle.dp_acl.specs.Rights.{is_operator}
 use Rattle.dp_session.specs.declared.connection.Connection.{Connection}
 use Rattle.dp_session.specs.declared.connection.Ending.TheVariants as ending
 use Rattle.dp_session.specs.declared.event.Event.{Event}
 use Rattle.dp_session.specs.declared.event.Event.TheVariants as event
 use Rattle.dp_session.specs.declared.event.Reply.{Reply}
-use Rattle.dp_session.specs.declared.event.Reply.TheVariants as reply
 use Rattle.dp_session.specs.declared.event.ShutAt.{ShutAt}
-use Rattle.dp_session.specs.declared.plan.Decision.{Decision}
-use Rattle.dp_session.specs.declared.plan.Decision.TheVariants as decision
-use Rattle.dp_session.specs.State.{State, Acted, first_state, acted, stays, opened_as, free_id}
-use Rattle.dp_session.specs.State.{is_name, join_entries}
-use Rattle.dp_session.specs.State.{closed_by, left, owners_behind, next_owner, server_entry}
-use Rattle.dp_session.specs.State.{entry_of, open_connection, with_connection}
-use Rattle.dp_session.specs.State.{is_present, present_users, user_ids}
-use Rattle.dp_session.specs.State.{says_by, after_shut}
+use Rattle.dp_session.specs.State.{State, first_state, acted, history_of, open_connection}
+use Rattle.dp_session.specs.State.{with_connection, after_shut}
+use Rattle.dp_session.specs.Effects.{entries_of}
 use Rattle.dp_session.specs.Past.{Past, LogItem, Journalled, RefusedClose, shut_at, interleaved}
 use Rattle.dp_session.specs.Past.{after_item, state_after, state_of}
 use Rattle.dp_session.specs.Past.{Serves, Step, refused, kept, shut_with, sure_step}
 use Rattle.dp_session.specs.Rows.{has_room}
-use Rattle.std.specs.List.{list_any, find}
 use Rattle.std.proofs.lemmas.List.Elements.{All-weaker, All-push}
-use Rattle.dp_session.specs.Plans.{decided}
 use Rattle.dp_session.specs.Laws.{Continues, Outcome, IsRun, IsFault, AreFaults, ShutBefore}
 use Rattle.dp_session.specs.Laws.{shut_by}
 use Rattle.dp_session.proofs.Interleaving.{state-came, state-shut}
-use Rattle.dp_session.proofs.PlanLemmas.{acted_by, says-decided}
+use Rattle.dp_session.proofs.EffectLemmas.{has-effect, entries-few, history-goes_on}
 
 -- ---- answers
 
@@ -97,93 +85,15 @@ answered-once past =
 
 -- ---- growing
 
--- a history is another with at most two entries more
-Grows : List Entry → List Entry → Type 0
-Grows before after = (more : List Entry) × (after ≡ before ++ more) × (length more ≤ 2)
-
-if-grows : (s : State) (b : Bool) (x y : Acted) → Grows s.live x.state.live
-    → Grows s.live y.state.live
-    → Grows s.live (if b then x else y).state.live
-if-grows s true x y hx hy = hx
-if-grows s false x y hx hy = hy
-
-option-grows : (s : State) (f : Connection → Acted) (o : Option Connection) (x : Acted)
-    → ((c : Connection) → Grows s.live (f c).state.live) → Grows s.live x.state.live
-    → Grows s.live (option_map_or f o x).state.live
-option-grows s f None x hf hx = hx
-option-grows s f (Some c) x hf hx = hf c
-
-same-grows : (s : State) → Grows s.live s.live
-unfolding Grows
-same-grows s = ([], sym (append-nil s.live), omega arith)
-
-joins-few : (b : Bool) (join owners : Entry) → length (join ∷ (if b then [] else owners ∷ [])) ≤ 2
-joins-few true join owners = omega arith
-joins-few false join owners = omega arith
-
-opened-grows : (s : State) (registered : Bool) (name : List ℕ) (o : Option ℕ)
-    → Grows s.live (opened_as s registered name o).state.live
-unfolding Grows
-opened-grows s registered name None = same-grows s
-opened-grows s registered name (Some user) = (
-  join_entries s user registered name,
-  refl,
-  joins-few (list_any (is_present s) user_ids) (entry_of user (msg.Meta (Join registered name)))
-      (server_entry (Owners (user ∷ []))),
-)
-
-owner-few : (b : Bool) (o : Option ℕ) → length (if b then next_owner o else []) ≤ 1
-owner-few true None = omega arith
-owner-few true (Some user) = omega arith
-owner-few false o = omega arith
-
-closed-grows : (s : State) (conn : ℕ) (c : Connection) → Grows s.live
-    (closed_by s conn c).state.live
-unfolding Grows
-closed-grows s conn c =
-    let gone = left s conn c in
-    let owners = owners_behind (is_operator s.live c.user) gone in
-    let leave = entry_of c.user (msg.Meta Leave) in (
-      leave ∷ owners,
-      append_assoc s.live (leave ∷ []) owners,
-      omega (
-        arith,
-        owner-few (is_operator s.live c.user && not (list_any (is_operator gone.live)
-            (present_users gone)))
-            (find (is_present gone) user_ids),
-      ),
-    )
-
-decided-grows : (s : State) (conn : ℕ) (c : Connection) (m : Msg) (d : Decision)
-    → Grows s.live (acted_by s conn c m d).state.live
-unfolding Grows
-decided-grows s conn c m decision.Ignore = same-grows s
-decided-grows s conn c m decision.Acknowledge = same-grows s
-decided-grows s conn c m decision.Place = (_, refl, omega arith)
-decided-grows s conn c m decision.Filter = (_, refl, omega arith)
-
--- an event adds entries after the live history
-acted-grows : (s : State) (e : Event) → Grows s.live (acted s e).state.live
-acted-grows s (event.Open name registered) =
-    if-grows s (is_name name) (opened_as s registered name (free_id s)) (stays s reply.NameRefused)
-    (opened-grows s registered name (free_id s)) (same-grows s)
-acted-grows s (event.Say conn m) =
-    option-grows s (says_by s conn m) (open_connection s conn) (stays s reply.Ignored)
-    (λ c. subst (λ a. Grows s.live a.state.live) (sym (says-decided s conn c m))
-    (decided-grows s conn c m (decided s c m))) (same-grows s)
-acted-grows s (event.Close conn) =
-    option-grows s (closed_by s conn) (open_connection s conn) (stays s reply.Ignored)
-    (closed-grows s conn) (same-grows s)
-
--- a history goes on after one more event
-pub history-grows : (journal : List Event) (shut : List ShutAt) (e : Event)
+-- the history of each epoch goes on after one more event
+pub history-grows : (journal : List Event) (shut : List ShutAt) (e : Event) (epoch : ℕ)
     → All (λ s. s.n ≤ length journal) shut
-    → Continues (state_after journal shut).live (state_after (journal ++ e ∷ []) shut).live
-unfolding Grows
-history-grows journal shut e before =
-    subst (λ s. Continues (state_after journal shut).live s.live)
+    → Continues (history_of (state_after journal shut) epoch)
+    (history_of (state_after (journal ++ e ∷ []) shut) epoch)
+history-grows journal shut e epoch before =
+    subst (λ s. Continues (history_of (state_after journal shut) epoch) (history_of s epoch))
     (sym (state-came journal shut e before))
-    (let g = acted-grows (state_after journal shut) e in (g.0, g.1))
+    (history-goes_on (state_after journal shut) e epoch)
 
 shut-live : (s : State) (conn : ℕ) (o : Option Connection)
     → (option_map_or (λ c. with_connection s conn (record c { ending = ending.Shut })) o s).live
@@ -193,17 +103,16 @@ shut-live s conn (Some c) = refl
 
 live-run : (s : State) (hs : List LogItem) → length (fold after_item s hs).live ≤ length s.live
     + 2 * came_in hs
-unfolding came_in Grows
+unfolding came_in
 live-run s [] = omega arith
 live-run s (Journalled e ∷ more) =
-    let g = acted-grows s e in
+    let h = has-effect s e in
     omega (
       arith,
       live-run (after_item s (Journalled e)) more,
-      ap length g.1,
-      length-append s.live
-          g.0,
-      g.2,
+      ap (λ a. length a.state.live) h.made,
+      length-append s.live (entries_of h.effect),
+      entries-few h.effect,
     )
 live-run s (RefusedClose conn ∷ more) =
     omega (

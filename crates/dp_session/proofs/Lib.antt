@@ -1,6 +1,7 @@
 pub mod Ranges
 pub mod Holders
 pub mod Interleaving
+pub mod EffectLemmas
 pub mod TableLemmas
 pub mod PlanLemmas
 pub mod QuietLemmas

@@ -11,14 +11,12 @@ use Rattle.std.proofs.lemmas.Str.{IsUtf8-from_is_utf8, is_utf8-from_IsUtf8}
 use Rattle.std.proofs.Math.ListN.{length-set}
 use Rattle.std.specs.Str.{IsUtf8, is_utf8}
 use Rattle.dp_msg_meta.specs.Fields.{IsText}
-use Rattle.dp_msg_meta.specs.declared.message.Control.TheVariants as control
-use Rattle.dp_msg_meta.specs.declared.message.Meta.TheVariants.{Join, Leave, Owners, Filtered}
+use Rattle.dp_msg_meta.specs.declared.message.Meta.TheVariants.{Join, Leave, Filtered}
 use Rattle.dp_messages.specs.declared.message.Msg.{Msg}
 use Rattle.dp_messages.specs.declared.message.Msg.TheVariants as msg
 use Rattle.dp_messages.specs.declared.message.Entry.{Entry}
 use Rattle.dp_messages.specs.Messages.{kind_of}
 use Rattle.dp_acl.specs.Rights.{is_operator}
-use Rattle.dp_acl.specs.Permitted.{permitted}
 use Rattle.dp_acl.specs.Table.{Kept}
 use Rattle.dp_acl.specs.Laws.{OperatorsStay}
 use Rattle.dp_session.specs.declared.connection.Place.{Place}
@@ -31,26 +29,25 @@ use Rattle.dp_session.specs.declared.event.Reply.TheVariants as reply
 use Rattle.dp_session.specs.declared.history_item.HistoryItem.{HistoryItem}
 use Rattle.dp_session.specs.declared.plan.Change.TheVariants.{Stays, Adds, Becomes}
 use Rattle.dp_session.specs.declared.plan.Placing.TheVariants.{Said, Server}
-use Rattle.dp_session.specs.declared.plan.Decision.{Decision}
-use Rattle.dp_session.specs.declared.plan.Decision.TheVariants as decision
+use Rattle.dp_session.specs.declared.decision.Decision.{Decision}
+use Rattle.dp_session.specs.declared.decision.Decision.TheVariants as decision
 use Rattle.dp_session.specs.declared.plan.Plan.{Plan}
 use Rattle.dp_session.specs.State.{State, Stream, Acted, acted, stays, here, epoch_of, entry_of}
-use Rattle.dp_session.specs.State.{server_entry, is_name}
+use Rattle.dp_session.specs.State.{is_name}
 use Rattle.dp_session.specs.State.{is_open, is_present, free_id, user_ids, opened_as}
 use Rattle.dp_session.specs.State.{new_connection}
 use Rattle.dp_session.specs.State.{connection_in, where_open, open_in, with_connection, left}
-use Rattle.dp_session.specs.State.{closed_by, owners_behind, next_owner, present_users}
-use Rattle.dp_session.specs.State.{stream_without}
-use Rattle.dp_session.specs.State.{says_by, said, filtered}
+use Rattle.dp_session.specs.State.{closed_by, owner_on_join, owner_on_leave, next_owner}
+use Rattle.dp_session.specs.State.{present_users, stream_without, says_by, acted_by, decided}
 use Rattle.dp_session.specs.Tables.{mark, is_holder, AreOf}
 use Rattle.dp_session.specs.Plans.{IsChange, IsPlan, first_operator, next_operator}
-use Rattle.dp_session.specs.Plans.{decided}
 use Rattle.dp_session.proofs.Ranges.{find_user-same, find_user-passes, any_user-same}
 use Rattle.dp_session.proofs.Ranges.{list_any-filter, list_any-find}
 use Rattle.dp_session.proofs.Holders.{any-marked, marks-changed}
 use Rattle.dp_session.specs.declared.tables.Tables.{Tables}
 use Rattle.dp_session.specs.Tables.{state_in, AreTables}
 use Rattle.dp_session.proofs.TableLemmas.{present-marked, IsLeftOut, tables-left}
+use Rattle.dp_session.proofs.EffectLemmas.{found-open}
 
 -- an event that changes nothing
 pub plan-still : (s : State) (e : Event) (r : Reply) → acted s e ≡ stays s r
@@ -68,23 +65,11 @@ not_true false h = refl
 
 -- ---- an open connection
 
-found-by : (found : Option Connection) (c : Connection) → where_open found ≡ Some c
-    → (found ≡ Some c) × (is_open c ≡ true)
-found-by None c h = cc
-found-by (Some x) c h =
-    ⊎_elim (λ (up : is_open x ≡ true).
-    let e : Some x ≡ Some c = sym (ap (λ b. if b then Some x else None) up) ∙ h in
-    let same : x ≡ c = cc in
-    (e, subst (λ y. is_open y ≡ true) same up))
-    (λ (shut : is_open x ≡ false).
-    let e : None ≡ Some c = sym (ap (λ b. if b then Some x else None) shut) ∙ h in cc)
-    (cases_Bool (is_open x))
-
 -- a connection that was found open has a number above 0, and stands there
 pub open-found : (cs : List Connection) (conn : ℕ) (c : Connection) → open_in cs conn ≡ Some c
     → (0 < conn) × (slice_get cs (conn - 1) ≡ Some c) × (is_open c ≡ true)
 open-found cs conn c h =
-    let f = found-by (connection_in cs conn) c h in
+    let f = found-open (connection_in cs conn) c h in
     ⊎_elim (λ (zero_is : conn ≡ 0).
     let e : None ≡ Some c = sym (ap (λ b. if b then None else slice_get cs (conn - 1))
     (eq-eqb conn 0 zero_is)) ∙ f.0 in cc)
@@ -144,7 +129,7 @@ module _ (s : State) (journal : List Event) (cs : List Connection) (live : List 
     reply = reply.Opened (n + 1) user place.epoch place.index;
     change = Adds (record {
       user = user;
-      acknowledged = true;
+      acknowledged = place.epoch;
       joined = place;
       ending =
           ending.Running;
@@ -152,12 +137,6 @@ module _ (s : State) (journal : List Event) (cs : List Connection) (live : List 
     placing = Server (event.Open name registered) (Some (record
         { user = user; msg = msg.Meta (Join registered text) })) second;
   }
-
-  if_next : (b : Bool) (user : ℕ)
-      → (if b then [] else server_entry (Owners (user ∷ [])) ∷ [])
-      ≡ next_owner (if b then None else Some user)
-  if_next true user = refl
-  if_next false user = refl
 
   plan-joins : (name : List ℕ) (registered : Bool) (user : ℕ) (second : Option Entry)
       → is_name name ≡ true → Some user ≡ find (λ id. not (mark present id)) user_ids
@@ -167,11 +146,10 @@ module _ (s : State) (journal : List Event) (cs : List Connection) (live : List 
   unfolding join_plan
   plan-joins name registered user second named found next =
       let free = find_user-passes (λ id. not (is_present s id)) user (free-marked ∙ sym found) in
-      let behind : (if list_any (is_present s) user_ids then []
-      else server_entry (Owners (user ∷ [])) ∷ []) ≡ option_to_list second =
-      ap (λ b. if b then [] else server_entry (Owners (user ∷ [])) ∷ [])
+      let behind : next_owner (owner_on_join s user) ≡ option_to_list second =
+      ap (λ b. next_owner (if b then None else Some user))
       (any_user-same (is_present s) (mark present) marked)
-      ∙ if_next (list_any (mark present) user_ids) user ∙ sym next in
+      ∙ sym next in
       record {
         event = refl;
         acted = opens name registered (Some user) named found
@@ -195,7 +173,7 @@ module _ (s : State) (journal : List Event) (cs : List Connection) (live : List 
         reply = reply.Opened (n + 1) user place.epoch place.index;
         change = Adds (record {
           user = user;
-          acknowledged = true;
+          acknowledged = place.epoch;
           joined = place;
           ending =
               ending.Running;
@@ -214,11 +192,6 @@ module _ (s : State) (journal : List Event) (cs : List Connection) (live : List 
       (plan-joins name registered user second named found next)))
 
   -- ---- closing
-
-  if_owner : (b : Bool) (o : Option ℕ) → (if b then next_owner o else [])
-      ≡ next_owner (if b then o else None)
-  if_owner true o = refl
-  if_owner false o = refl
 
   stays_none : (conn : ℕ) (o : Option Stream) → o ≡ None → stream_without conn o ≡ o
   stays_none conn None h = refl
@@ -249,7 +222,8 @@ module _ (s : State) (journal : List Event) (cs : List Connection) (live : List 
       owners-planned : (second : Option Entry)
           → option_to_list second ≡ next_owner (next_operator (is_operator s.live)
           (set present c.user false) c.user)
-          → owners_behind (is_operator s.live c.user) (left s conn c) ≡ option_to_list second
+          → next_owner (owner_on_leave (is_operator s.live c.user) (left s conn c))
+          ≡ option_to_list second
       owners-planned second next =
           let gone = left s conn c in
           let any_is : list_any (is_operator gone.live) (present_users gone)
@@ -260,15 +234,12 @@ module _ (s : State) (journal : List Event) (cs : List Connection) (live : List 
           (λ user. mark (set present c.user false) user && is_operator s.live user)
           (λ k small. ap (λ b. b && is_operator gone.live k) (left-marked k small)
           ∙ ap (λ b. mark (set present c.user false) k && b) (left-operator k)) in
-          ap (λ b. if is_operator s.live c.user && not b then next_owner
-          (find (is_present gone) user_ids) else []) any_is
-          ∙ ap (λ o. if is_operator s.live c.user && not (list_any
+          ap (λ b. next_owner (if is_operator s.live c.user && not b
+          then find (is_present gone) user_ids else None)) any_is
+          ∙ ap (λ o. next_owner (if is_operator s.live c.user && not (list_any
           (λ user. mark (set present c.user false) user && is_operator s.live user) user_ids)
-          then next_owner o else [])
+          then o else None))
           (find_user-same (is_present gone) (mark (set present c.user false)) left-marked)
-          ∙ if_owner (is_operator s.live c.user && not (list_any
-          (λ user. mark (set present c.user false) user && is_operator s.live user) user_ids))
-          (find (mark (set present c.user false)) user_ids)
           ∙ sym next
 
       close_plan : Place → Option Entry → Plan
@@ -298,8 +269,8 @@ module _ (s : State) (journal : List Event) (cs : List Connection) (live : List 
             event = refl;
             acted = ap (λ o. option_map_or (closed_by s conn) o (stays s reply.Ignored)) found_here
                 ∙ ap (λ live. made live (stream_without conn s.stream))
-                (append_assoc s.live (leave ∷ []) (owners_behind (is_operator s.live c.user)
-                (left s conn c))
+                (append_assoc s.live (leave ∷ []) (next_owner (owner_on_leave
+                (is_operator s.live c.user) (left s conn c)))
                 ∙ ap (λ o. s.live ++ (leave ∷ o)) (owners-planned second next))
                 ∙ ap (λ stream. made (s.live ++ (leave ∷ option_to_list second)) stream)
                 (stays_none conn s.stream are.stream);
@@ -320,149 +291,101 @@ module _ (s : State) (journal : List Event) (cs : List Connection) (live : List 
       plan-leave place second place_is next =
           subst (λ p. IsPlan s (event.Close conn) (close_plan p second)) (sym place_is)
           (plan-leaves second next)
-      -- ---- saying
 
 -- ---- what is said
 
-module _ (s : State) (conn : ℕ) (c : Connection) where
-  -- what a decision makes of the state
-  abbrev pub acted_by : Msg → Decision → Acted
-  acted_by m decision.Ignore = stays s reply.Ignored
-  acted_by m decision.Acknowledge = record {
-    state = with_connection s conn (record c { acknowledged = true });
+module _ (s : State) (conn : ℕ) (c : Connection) (found : open_in s.connections conn ≡ Some c)
+    (m : Msg) where
+  say-acted : (d : Decision) → d ≡ decided s conn c m
+      → acted s (event.Say conn m) ≡ acted_by s conn c m d
+  say-acted d is =
+      ap (λ o. option_map_or (says_by s conn m) o (stays s reply.Ignored)) found
+      ∙ ap (acted_by s conn c m) (sym is)
+
+  -- a message that means nothing
+  pub plan-ignored : decision.Ignore ≡ decided s conn c m → IsPlan s (event.Say conn m)
+      (record {
+        reply = reply.Ignored;
+        change = Stays;
+        placing = Server (event.Say conn m) None
+            None;
+      })
+  plan-ignored is = plan-still s (event.Say conn m) reply.Ignored (say-acted decision.Ignore is)
+
+  acknowledged_plan : ℕ → Plan
+  acknowledged_plan epoch = record {
     reply = reply.Noted;
+    change = Becomes conn (record c { acknowledged = epoch });
+    placing = Server (event.Say conn m) None None;
   }
-  acted_by m decision.Place = said s c.user m
-  acted_by m decision.Filter = filtered s c.user m
 
-  heard-by : (m : Msg) (b : Bool) (x : Acted) (d : Decision) → x ≡ acted_by m d
-      → (if b then x else stays s reply.Ignored) ≡ acted_by m (if b then d else decision.Ignore)
-  heard-by m true x d h = h
-  heard-by m false x d h = refl
+  -- an epoch is taken up
+  pub plan-acknowledged : (epoch : ℕ) → epoch ≡ epoch_of s
+      → decision.Acknowledge ≡ decided s conn c m
+      → IsPlan s (event.Say conn m) (record {
+        reply = reply.Noted;
+        change = Becomes conn (record c { acknowledged = epoch });
+        placing = Server (event.Say conn m) None None;
+      })
+  unfolding acknowledged_plan
+  plan-acknowledged epoch epoch_is is =
+      let d : Connection = record c { acknowledged = epoch_of s } in
+      subst (λ k. IsPlan s (event.Say conn m) (acknowledged_plan k)) (sym epoch_is) (record {
+        event = refl;
+        acted = say-acted decision.Acknowledge is
+            ∙ ap (λ live. record {
+              state = record s {
+                live = live;
+                connections = set s.connections (conn - 1) d;
+              };
+              reply = reply.Noted;
+            }) (sym (append-nil s.live));
+        change = may-become s.connections conn c d found refl;
+      })
 
-  judged-by : (m : Msg) (b : Bool)
-      → (if b then said s c.user m else filtered s c.user m)
-      ≡ acted_by m (if b then decision.Place else decision.Filter)
-  judged-by m true = refl
-  judged-by m false = refl
+  placed_plan : Place → Plan
+  placed_plan place = record {
+    reply = reply.Placed place.epoch place.index;
+    change = Stays;
+    placing = Said conn (record { user = c.user; msg = m });
+  }
 
-  acknowledged-by : (m : Msg) (b : Bool)
-      → (if b then record {
-        state = with_connection s conn (record c { acknowledged = true });
-        reply
-            = reply.Noted;
-      } else stays s reply.Ignored)
-      ≡ acted_by m (if b then decision.Acknowledge else decision.Ignore)
-  acknowledged-by m true = refl
-  acknowledged-by m false = refl
+  -- a message is placed
+  pub plan-placed : (place : Place) → place ≡ here s → decision.Place ≡ decided s conn c m
+      → IsPlan s (event.Say conn m) (record {
+        reply = reply.Placed place.epoch place.index;
+        change = Stays;
+        placing = Said conn (record { user = c.user; msg = m });
+      })
+  unfolding placed_plan
+  plan-placed place place_is is =
+      subst (λ p. IsPlan s (event.Say conn m) (placed_plan p)) (sym place_is)
+      (record { event = refl; acted = say-acted decision.Place is; change = tt })
 
-  -- the decision says what a Say makes of the state
-  pub says-decided : (m : Msg) → says_by s conn m c ≡ acted_by m (decided s c m)
-  says-decided (msg.Control (control.Hello name)) =
-      heard-by _ c.acknowledged _ _
-      (judged-by (msg.Control (control.Hello name)) (permitted s.live c.user
-      (msg.Control (control.Hello name))))
-  says-decided (msg.Control (control.Disconnect reason)) = refl
-  says-decided (msg.Control (control.Ping pong)) = refl
-  says-decided (msg.Control (control.Ack epoch)) = acknowledged-by _
-      (epoch == epoch_of s && not c.acknowledged)
-  says-decided (msg.Control (control.Welcome version user epoch at)) =
-      heard-by _ c.acknowledged _ _ (judged-by (msg.Control (control.Welcome version user epoch at))
-      (permitted s.live c.user (msg.Control (control.Welcome version user epoch at))))
-  says-decided (msg.Control control.ResetBegin) = heard-by _ c.acknowledged _ decision.Filter refl
-  says-decided (msg.Control control.ResetEnd) = heard-by _ c.acknowledged _ decision.Filter refl
-  says-decided (msg.Meta m) =
-      heard-by _ c.acknowledged _ _ (judged-by _ (permitted s.live c.user (msg.Meta m)))
-  says-decided (msg.Part command) = heard-by _ c.acknowledged _ decision.Filter refl
-  says-decided msg.Point =
-      heard-by _ c.acknowledged _ _ (judged-by _ (permitted s.live c.user msg.Point))
-  says-decided (msg.Undo target redo) =
-      heard-by _ c.acknowledged _ _ (judged-by _ (permitted s.live c.user (msg.Undo target redo)))
-  says-decided (msg.Draw command) =
-      heard-by _ c.acknowledged _ _ (judged-by _ (permitted s.live c.user (msg.Draw command)))
-  says-decided (msg.Opaque kind body) =
-      heard-by _ c.acknowledged _ _ (judged-by _ (permitted s.live c.user (msg.Opaque kind body)))
+  filtered_plan : Place → ℕ → Plan
+  filtered_plan place kind = record {
+    reply = reply.Filtered place.epoch place.index;
+    change = Stays;
+    placing = Server (event.Say conn m) (Some (record {
+      user = c.user;
+      msg = msg.Meta
+          (Filtered kind);
+    })) None;
+  }
 
-  module _ (found : open_in s.connections conn ≡ Some c) (m : Msg) where
-    say-acted : (d : Decision) → d ≡ decided s c m → acted s (event.Say conn m) ≡ acted_by m d
-    say-acted d is =
-        ap (λ o. option_map_or (says_by s conn m) o (stays s reply.Ignored)) found
-        ∙ says-decided m ∙ ap (acted_by m) (sym is)
-
-    -- a message that means nothing
-    pub plan-ignored : decision.Ignore ≡ decided s c m → IsPlan s (event.Say conn m)
-        (record {
-          reply = reply.Ignored;
-          change = Stays;
-          placing = Server (event.Say conn m) None
-              None;
-        })
-    plan-ignored is = plan-still s (event.Say conn m) reply.Ignored (say-acted decision.Ignore is)
-
-    -- an epoch is taken up
-    pub plan-acknowledged : decision.Acknowledge ≡ decided s c m
-        → IsPlan s (event.Say conn m) (record {
-          reply = reply.Noted;
-          change = Becomes conn (record c { acknowledged = true });
-          placing = Server (event.Say conn m) None None;
-        })
-    plan-acknowledged is = record {
-      event = refl;
-      acted = say-acted decision.Acknowledge is
-          ∙ ap (λ live. record {
-            state = record s {
-              live = live;
-              connections = set s.connections (conn - 1)
-                  (record c { acknowledged = true });
-            };
-            reply = reply.Noted;
-          }) (sym (append-nil s.live));
-      change = may-become s.connections conn c (record c { acknowledged = true }) found refl;
-    }
-
-    placed_plan : Place → Plan
-    placed_plan place = record {
-      reply = reply.Placed place.epoch place.index;
-      change = Stays;
-      placing = Said conn (record { user = c.user; msg = m });
-    }
-
-    -- a message is placed
-    pub plan-placed : (place : Place) → place ≡ here s → decision.Place ≡ decided s c m
-        → IsPlan s (event.Say conn m) (record {
-          reply = reply.Placed place.epoch place.index;
-          change = Stays;
-          placing = Said conn (record { user = c.user; msg = m });
-        })
-    unfolding placed_plan
-    plan-placed place place_is is =
-        subst (λ p. IsPlan s (event.Say conn m) (placed_plan p)) (sym place_is)
-        (record { event = refl; acted = say-acted decision.Place is; change = tt })
-
-    filtered_plan : Place → ℕ → Plan
-    filtered_plan place kind = record {
-      reply = reply.Filtered place.epoch place.index;
-      change = Stays;
-      placing = Server (event.Say conn m) (Some (record {
-        user = c.user;
-        msg = msg.Meta
-            (Filtered kind);
-      })) None;
-    }
-
-    -- another entry is placed
-    pub plan-filtered : (place : Place) (kind : ℕ) → place ≡ here s → kind ≡ kind_of m
-        → decision.Filter ≡ decided s c m → IsPlan s (event.Say conn m) (record {
-          reply = reply.Filtered place.epoch place.index;
-          change = Stays;
-          placing = Server (event.Say conn m) (Some (record
-              { user = c.user; msg = msg.Meta (Filtered kind) })) None;
-        })
-    unfolding filtered_plan
-    plan-filtered place kind place_is kind_is is =
-        subst (λ p. IsPlan s (event.Say conn m) (filtered_plan p kind)) (sym place_is)
-        (subst (λ k. IsPlan s (event.Say conn m) (filtered_plan (here s) k)) (sym kind_is)
-        (record { event = refl; acted = say-acted decision.Filter is; change = tt }))
+  -- another entry is placed
+  pub plan-filtered : (place : Place) (kind : ℕ) → place ≡ here s → kind ≡ kind_of m
+      → decision.Filter ≡ decided s conn c m → IsPlan s (event.Say conn m) (record {
+        reply = reply.Filtered place.epoch place.index;
+        change = Stays;
+        placing = Server (event.Say conn m) (Some (record
+            { user = c.user; msg = msg.Meta (Filtered kind) })) None;
+      })
+  unfolding filtered_plan
+  plan-filtered place kind place_is kind_is is =
+      subst (λ p. IsPlan s (event.Say conn m) (filtered_plan p kind)) (sym place_is)
+      (subst (λ k. IsPlan s (event.Say conn m) (filtered_plan (here s) k)) (sym kind_is)
+      (record { event = refl; acted = say-acted decision.Filter is; change = tt }))
 
 -- ---- operators
 

@@ -1,5 +1,6 @@
 pub mod Rows
 pub mod State
+pub mod Effects
 pub mod Past
 pub mod Pull
 pub mod Tables

@@ -1,14 +1,9 @@
 -- What is ready to be kept of an event, and when it is what the event makes.
-use Rattle.std.specs.Prelude.{◌≡◌, ℕ, ◌-◌, ◌<◌, Bool, true, false, not, ◌&&◌, ◌==◌, if◌then◌else◌}
+use Rattle.std.specs.Prelude.{◌≡◌, ℕ, ◌-◌, ◌<◌, Bool, true, false, not, ◌&&◌, if◌then◌else◌}
 use Rattle.std.specs.Prelude.{Option, None, Some, option_to_list, MatchOption}
 use Rattle.std.specs.Prelude.{List, [], ◌∷◌, ◌++◌, map, slice_get, slice_set}
 use Rattle.std.specs.List.{find, list_any}
-use Rattle.dp_msg_meta.specs.declared.message.Control.TheVariants.{Ping, Disconnect, Ack}
-use Rattle.dp_msg_meta.specs.declared.message.Control.TheVariants.{ResetBegin, ResetEnd}
-use Rattle.dp_messages.specs.declared.message.Msg.{Msg}
-use Rattle.dp_messages.specs.declared.message.Msg.TheVariants as msg
 use Rattle.dp_messages.specs.declared.message.Entry.{Entry}
-use Rattle.dp_acl.specs.Permitted.{permitted}
 use Rattle.dp_session.specs.declared.connection.Connection.{Connection}
 use Rattle.dp_session.specs.declared.event.Event.{Event}
 use Rattle.dp_session.specs.declared.event.Event.TheVariants as event
@@ -19,9 +14,7 @@ use Rattle.dp_session.specs.declared.plan.Change.TheVariants.{Stays, Adds, Becom
 use Rattle.dp_session.specs.declared.plan.Placing.{Placing}
 use Rattle.dp_session.specs.declared.plan.Placing.TheVariants.{Said, Server}
 use Rattle.dp_session.specs.declared.plan.Plan.{Plan}
-use Rattle.dp_session.specs.declared.plan.Decision.{Decision}
-use Rattle.dp_session.specs.declared.plan.Decision.TheVariants.{Ignore, Acknowledge, Place, Filter}
-use Rattle.dp_session.specs.State.{State, is_open, acted, user_ids, epoch_of}
+use Rattle.dp_session.specs.State.{State, is_open, acted, user_ids}
 use Rattle.dp_session.specs.Tables.{mark, is_holder}
 
 -- the event
@@ -94,24 +87,3 @@ next_operator is_operator present user =
     user_ids)
     then find (mark present) user_ids
     else None
-
--- ---- what is said
-
--- what becomes of a message by the rights; resets are filtered so far
-abbrev pub said_as : State → Connection → Msg → Decision
-said_as s connection (msg.Control ResetBegin) = Filter
-said_as s connection (msg.Control ResetEnd) = Filter
-said_as s connection (msg.Part command) = Filter
-said_as s connection m = if permitted s.live connection.user m then Place else Filter
-
--- nothing is heard of a connection that hasn't acknowledged the live epoch
-abbrev pub heard_as : State → Connection → Msg → Decision
-heard_as s connection m = if connection.acknowledged then said_as s connection m else Ignore
-
--- what becomes of a message of an open connection
-abbrev pub decided : State → Connection → Msg → Decision
-decided s connection (msg.Control (Ping pong)) = Ignore
-decided s connection (msg.Control (Disconnect reason)) = Ignore
-decided s connection (msg.Control (Ack epoch)) =
-    if epoch == epoch_of s && not connection.acknowledged then Acknowledge else Ignore
-decided s connection m = heard_as s connection m

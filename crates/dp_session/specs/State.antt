@@ -1,7 +1,7 @@
 -- The state of a session, and what one event makes of it.
 use Rattle.std.specs.Prelude.{ℕ, ◌+◌, ◌-◌, Bool, true, false, not, ◌&&◌, ◌==◌, nat_le}
 use Rattle.std.specs.Prelude.{if◌then◌else◌, Option, None, Some, is_some}
-use Rattle.std.specs.Prelude.{List, [], ◌∷◌, ◌++◌, length, slice_get, slice_set}
+use Rattle.std.specs.Prelude.{List, [], ◌∷◌, ◌++◌, length, slice_get, slice_set, slice_index_or}
 use Rattle.std.specs.List.{filter, find, list_any, range_with_len}
 use Rattle.std.specs.Option.{option_map_or}
 use Rattle.std.specs.Str.{is_utf8}
@@ -26,11 +26,15 @@ use Rattle.dp_session.specs.declared.connection.Place.{Place}
 use Rattle.dp_session.specs.declared.connection.Ending.{Ending}
 use Rattle.dp_session.specs.declared.connection.Ending.TheVariants as ending
 use Rattle.dp_session.specs.declared.connection.Connection.{Connection}
+use Rattle.dp_session.specs.declared.decision.Decision.{Decision}
+use Rattle.dp_session.specs.declared.decision.Decision.TheVariants as decision
 
--- a reset that is being sent: the connection that sends it, and the commands so far
+-- A reset that is being sent: the connection that sends it, the commands so far, and the place of
+-- the live history behind which entries are to be kept, if it names one. None does so far.
 pub record Stream : Type 0 where
   pub owner : ℕ
   pub commands : List Draw
+  pub place : Option ℕ
 
 -- The histories of the epochs before, the live history, the connections in the order of their
 -- Opened (the first has number 1), the reset that is being sent, and the answer to each event so
@@ -63,6 +67,14 @@ first_state = record {
 -- the number of the live epoch
 abbrev pub epoch_of : State → ℕ
 epoch_of s = length s.ended
+
+-- the histories of all epochs, the live one last
+abbrev pub histories : State → List (List Entry)
+histories s = s.ended ++ s.live ∷ []
+
+-- the history of an epoch; nothing, where there is no such epoch yet
+abbrev pub history_of : State → ℕ → List Entry
+history_of s epoch = slice_index_or (histories s) epoch []
 
 -- where the next entry stands
 abbrev pub here : State → Place
@@ -111,6 +123,10 @@ next_open connections after =
     find (λ conn. is_some (open_in connections conn))
     (range_with_len (after + 1) (length connections - after))
 
+-- the connection has taken up the live epoch
+abbrev pub has_acknowledged : State → Connection → Bool
+has_acknowledged s connection = connection.acknowledged == epoch_of s
+
 -- the state with another connection of the number
 abbrev pub with_connection : State → ℕ → Connection → State
 with_connection s conn connection =
@@ -139,16 +155,24 @@ free_id s = find (λ user. not (is_present s user)) user_ids
 abbrev pub is_name : List ℕ → Bool
 is_name name = nat_le 1 (length name) && nat_le (length name) 32 && is_utf8 name
 
+-- the user becomes the only operator, if there is one
+abbrev pub next_owner : Option ℕ → List Entry
+next_owner None = []
+next_owner (Some user) = server_entry (Owners (user ∷ [])) ∷ []
+
+-- who becomes operator when the user joins: the user, where nobody is present
+abbrev pub owner_on_join : State → ℕ → Option ℕ
+owner_on_join s user = if list_any (is_present s) user_ids then None else Some user
+
 -- the entries that a user who joins makes: the Join, and after it the first user is operator
 abbrev pub join_entries : State → ℕ → Bool → List ℕ → List Entry
 join_entries s user registered name =
-    let join = entry_of user (msg.Meta (Join registered name)) in
-    join ∷ (if list_any (is_present s) user_ids then [] else server_entry (Owners (user ∷ [])) ∷ [])
+    entry_of user (msg.Meta (Join registered name)) ∷ next_owner (owner_on_join s user)
 
 -- a new connection of the user, who joins here
 abbrev pub new_connection : State → ℕ → Connection
 new_connection s user =
-    record { user = user; acknowledged = true; joined = here s; ending = ending.Running }
+    record { user = user; acknowledged = epoch_of s; joined = here s; ending = ending.Running }
 
 -- the state after the user has joined
 abbrev pub joined : State → ℕ → Bool → List ℕ → State
@@ -194,25 +218,21 @@ left s conn connection =
       stream = stream_without conn s.stream;
     }
 
--- the user becomes the only operator, if there is one
-abbrev pub next_owner : Option ℕ → List Entry
-next_owner None = []
-next_owner (Some user) = server_entry (Owners (user ∷ [])) ∷ []
-
--- The entries after the Leave of a user who was operator or not: where no operator is present any
--- more, but somebody is, the lowest present id is the next one.
-abbrev pub owners_behind : Bool → State → List Entry
-owners_behind was_operator s =
+-- Who becomes operator after the Leave of a user who was operator or not: where no operator is
+-- present any more, but somebody is, the lowest present id.
+abbrev pub owner_on_leave : Bool → State → Option ℕ
+owner_on_leave was_operator s =
     if was_operator && not (list_any (is_operator s.live) (present_users s))
-    then next_owner (find (is_present s) user_ids)
-    else []
+    then find (is_present s) user_ids
+    else None
 
 -- a Close of an open connection
 abbrev pub closed_by : State → ℕ → Connection → Acted
 closed_by s conn connection =
     let gone = left s conn connection in
     record {
-      state = placed gone (owners_behind (is_operator s.live connection.user) gone);
+      state = placed gone (next_owner
+          (owner_on_leave (is_operator s.live connection.user) gone));
       reply = reply.Placed (epoch_of s) (length s.live);
     }
 
@@ -222,6 +242,30 @@ closed s conn = option_map_or (closed_by s conn) (open_connection s conn) (stays
 
 -- ---- saying
 
+-- what becomes of a message that is the user's own affair: it is placed where it is permitted
+abbrev pub judged : State → Connection → Msg → Decision
+judged s connection m =
+    if permitted s.live connection.user m then decision.Place else decision.Filter
+
+-- what becomes of a message of a connection that has taken up the live epoch; resets are filtered
+-- so far
+abbrev pub heard : State → ℕ → Connection → Msg → Decision
+heard s conn connection (msg.Control ResetBegin) = decision.Filter
+heard s conn connection (msg.Control ResetEnd) = decision.Filter
+heard s conn connection (msg.Part command) = decision.Filter
+heard s conn connection m = judged s connection m
+
+-- What becomes of a message that the open connection of this number says. An Ack of the epoch
+-- counts where the epoch is the live one and the connection hasn't taken it up.
+abbrev pub decided : State → ℕ → Connection → Msg → Decision
+decided s conn connection (msg.Control (Ping pong)) = decision.Ignore
+decided s conn connection (msg.Control (Disconnect reason)) = decision.Ignore
+decided s conn connection (msg.Control (Ack epoch)) =
+    if epoch == epoch_of s && not (has_acknowledged s connection)
+    then decision.Acknowledge else decision.Ignore
+decided s conn connection m =
+    if has_acknowledged s connection then heard s conn connection m else decision.Ignore
+
 -- the message is placed, with its user
 abbrev pub said : State → ℕ → Msg → Acted
 said s user m = record {
@@ -229,47 +273,30 @@ said s user m = record {
   reply = reply.Placed (epoch_of s) (length s.live);
 }
 
+-- the entry in place of a message
+abbrev pub filtered_entry : ℕ → Msg → Entry
+filtered_entry user m = entry_of user (msg.Meta (Filtered (kind_of m)))
+
 -- an entry in place of the message is placed
 abbrev pub filtered : State → ℕ → Msg → Acted
 filtered s user m = record {
-  state = placed s (entry_of user (msg.Meta (Filtered (kind_of m))) ∷ []);
+  state = placed s (filtered_entry user m ∷ []);
   reply = reply.Filtered (epoch_of s) (length s.live);
 }
 
--- a message that is the user's own affair: it is placed where it is permitted
-abbrev pub judged : State → ℕ → Msg → Acted
-judged s user m = if permitted s.live user m then said s user m else filtered s user m
-
--- an Ack of the epoch counts where the epoch is the live one and the connection hasn't acknowledged
--- it
-abbrev pub acknowledged_by : State → ℕ → Connection → ℕ → Acted
-acknowledged_by s conn connection epoch =
-    if epoch == epoch_of s && not connection.acknowledged
-    then record {
-      state = with_connection s conn (record connection { acknowledged = true });
-      reply = reply.Noted;
-    }
-    else stays s reply.Ignored
-
--- what a connection says that has acknowledged the live epoch; resets are filtered so far
-abbrev pub said_by : State → Connection → Msg → Acted
-said_by s connection (msg.Control ResetBegin) =
-    filtered s connection.user (msg.Control ResetBegin)
-said_by s connection (msg.Control ResetEnd) = filtered s connection.user (msg.Control ResetEnd)
-said_by s connection (msg.Part command) = filtered s connection.user (msg.Part command)
-said_by s connection m = judged s connection.user m
-
--- where the connection has acknowledged the live epoch, it says so
-abbrev pub heard : State → Connection → Msg → Acted
-heard s connection m =
-    if connection.acknowledged then said_by s connection m else stays s reply.Ignored
+-- what a decision on a message makes of the state
+abbrev pub acted_by : State → ℕ → Connection → Msg → Decision → Acted
+acted_by s conn connection m decision.Ignore = stays s reply.Ignored
+acted_by s conn connection m decision.Acknowledge = record {
+  state = with_connection s conn (record connection { acknowledged = epoch_of s });
+  reply = reply.Noted;
+}
+acted_by s conn connection m decision.Place = said s connection.user m
+acted_by s conn connection m decision.Filter = filtered s connection.user m
 
 -- a Say of an open connection
 abbrev pub says_by : State → ℕ → Msg → Connection → Acted
-says_by s conn (msg.Control (Ping pong)) connection = stays s reply.Ignored
-says_by s conn (msg.Control (Disconnect reason)) connection = stays s reply.Ignored
-says_by s conn (msg.Control (Ack epoch)) connection = acknowledged_by s conn connection epoch
-says_by s conn m connection = heard s connection m
+says_by s conn m connection = acted_by s conn connection m (decided s conn connection m)
 
 -- a Say
 abbrev pub says : State → ℕ → Msg → Acted
@@ -283,9 +310,13 @@ acted s (event.Open name registered) = opened s name registered
 acted s (event.Say conn m) = says s conn m
 acted s (event.Close conn) = closed s conn
 
+-- the state that is left, with the answer after those so far
+abbrev pub noted : State → Acted → State
+noted s a = record a.state { answers = s.answers ++ a.reply ∷ [] }
+
 -- the state after an event that is journalled, with its answer
 abbrev pub after_event : State → Event → State
-after_event s e = let a = acted s e in record a.state { answers = s.answers ++ a.reply ∷ [] }
+after_event s e = noted s (acted s e)
 
 -- the state after a connection was closed without a Leave
 abbrev pub after_shut : State → ℕ → State

@@ -26,8 +26,9 @@ pub enum Ending {
 #[derive(Clone, Copy, Debug, PartialEq, Eq)]
 pub struct Connection {
     pub user: u8,
-    /// The user has taken up the live epoch.
-    pub acknowledged: bool,
+    /// The epoch that the user has taken up last. What a connection says counts where this is the
+    /// live one.
+    pub acknowledged: u32,
     /// Where the user's Join stands.
     pub joined: Place,
     pub ending: Ending,

@@ -4,7 +4,8 @@ ghost use Rattle.std.specs.Prelude.{◌≡◌, ◌≤◌, ◌+◌, ◌*◌, ◌�
 ghost use Rattle.dp_session.specs.declared.event.Event.{Event as Kept};
 ghost use Rattle.dp_session.specs.declared.event.ShutAt.{ShutAt};
 ghost use Rattle.dp_session.specs.Past.{Past, state_after, state_of, kept, refused, sure_step};
-ghost use Rattle.dp_session.specs.State.{after_event};
+ghost use Rattle.dp_session.specs.State.{after_event, history_of};
+ghost use Rattle.dp_session.specs.Effects.{EventsHaveEffects, ConnectionsStay};
 ghost use Rattle.dp_session.specs.Laws.{Continues, Outcome, IsRun, AreFaults, ShutBefore, shut_by};
 
 use crate::session::Session;
@@ -15,11 +16,24 @@ pub fn one_answer_each()
     ensures { (past : Past) → length (state_of past).answers ≡ length past.journal }
 {}
 
-/// A history only grows: what stands in it stands there after one more event.
+/// What an event does to a session is one of a few effects: which entries it places, at most two,
+/// which connection it adds or changes, and what is answered.
+pub fn events_have_effects()
+    ensures { EventsHaveEffects }
+{}
+
+/// The history of each epoch only grows: what stands in it stands there after one more event.
 pub fn histories_grow()
-    ensures { (journal : List Kept) (shut : List ShutAt) (e : Kept)
+    ensures { (journal : List Kept) (shut : List ShutAt) (e : Kept) (epoch : ℕ)
         → All (λ s. s.n ≤ length journal) shut
-        → Continues (state_after journal shut).live (state_after (journal ++ e ∷ []) shut).live }
+        → Continues (history_of (state_after journal shut) epoch)
+        (history_of (state_after (journal ++ e ∷ []) shut) epoch) }
+{}
+
+/// A connection that was given out stays its user's, with its Join where it stands, and if it has
+/// ended it stays so.
+pub fn connections_stay()
+    ensures { ConnectionsStay }
 {}
 
 /// Once a put has failed, every outcome is that fault, or out of memory.

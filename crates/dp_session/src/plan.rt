@@ -16,19 +16,6 @@ pub(crate) enum Change {
     Becomes { conn: u32, connection: Connection },
 }
 
-/// What becomes of a message.
-#[derive(Clone, Copy, Debug)]
-pub(crate) enum Decision {
-    /// Nothing.
-    Ignore,
-    /// Its connection has acknowledged the live epoch.
-    Acknowledge,
-    /// It is placed.
-    Place,
-    /// An entry is placed that says of what kind it was.
-    Filter,
-}
-
 /// An event, and the entries that it places.
 #[derive(Debug, Drop)]
 pub(crate) enum Placing {

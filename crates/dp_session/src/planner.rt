@@ -2,15 +2,17 @@
 
 ghost use Rattle.std.specs.Prelude.{◌≡◌, Some, None, length, is_some, option_to_list};
 ghost use Rattle.std.specs.Prelude.{true, false, IfOk, IfSome, MatchOption};
-ghost use Rattle.dp_session.specs.State.{is_name, open_in, next_owner};
+ghost use Rattle.dp_session.specs.State.{is_name, open_in, next_owner, decided, heard};
+ghost use Rattle.dp_session.specs.State.{has_acknowledged};
 ghost use Rattle.dp_session.specs.Tables.{state_in, AreTables};
 ghost use Rattle.dp_session.specs.Rows.{has_room};
 ghost use Rattle.dp_session.specs.Puts.{IsReady};
-ghost use Rattle.dp_session.specs.Plans.{IsPlan, heard_as, decided};
+ghost use Rattle.dp_session.specs.Plans.{IsPlan};
 
 use crate::connection::{Connection, Ending};
+use crate::decision::Decision;
 use crate::event::{Event, Reply};
-use crate::plan::{Change, Decision, Placing, Plan, Ready};
+use crate::plan::{Change, Placing, Plan, Ready};
 use crate::presence::{first_operator, free_id, next_operator};
 use crate::row::make_row;
 use crate::tables::{EPOCH, Tables, open_connection};
@@ -79,10 +81,10 @@ fn refused_open(name: Octets, registered: bool, reply: Reply) -> Plan
 }
 
 /// The plan of an Ack by which the connection takes up the live epoch.
-fn acknowledged(conn: u32, connection: &Connection, msg: Msg) -> Plan
+fn acknowledged(conn: u32, connection: &Connection, epoch: u32, msg: Msg) -> Plan
     ensures { result ≡ record {
       reply = Reply.Noted;
-      change = Change.Becomes conn (record connection.now { acknowledged = true });
+      change = Change.Becomes conn (record connection.now { acknowledged = epoch });
       placing = Placing.Server (Event.Say conn msg) None None;
     } }
 {
@@ -91,7 +93,7 @@ fn acknowledged(conn: u32, connection: &Connection, msg: Msg) -> Plan
         change: Change::Becomes {
             conn,
             connection: Connection {
-                acknowledged: true,
+                acknowledged: epoch,
                 ..*connection
             },
         },
@@ -139,7 +141,7 @@ impl Tables {
             },
             change: Change::Adds(Connection {
                 user,
-                acknowledged: true,
+                acknowledged: here.epoch,
                 joined: here,
                 ending: Ending::Running,
             }),
@@ -194,33 +196,45 @@ impl Tables {
         })
     }
 
-    /// What becomes of a message of an open connection. It takes no memory.
-    fn decide(&self, connection: &Connection, msg: &Msg) -> Decision
+    /// Whether the connection has taken up the live epoch.
+    fn has_acknowledged(&self, connection: &Connection) -> bool
         requires { AreTables self.now }
-        ensures { result ≡ decided (state_in self.now) connection.now msg.now }
+        ensures { result ≡ has_acknowledged (state_in self.now) connection.now }
+    {
+        connection.acknowledged == self.here().epoch
+    }
+
+    /// What becomes of a message of the open connection of this number. It takes no memory.
+    fn decide(&self, conn: u32, connection: &Connection, msg: &Msg) -> Decision
+        requires { AreTables self.now }
+        ensures { result ≡ decided (state_in self.now) conn connection.now msg.now }
     {
         match msg {
             Msg::Control(Control::Ping { .. }) => Decision::Ignore,
             Msg::Control(Control::Disconnect { .. }) => Decision::Ignore,
             Msg::Control(Control::Ack { epoch }) => {
-                if *epoch == EPOCH && !connection.acknowledged {
+                if *epoch == self.here().epoch && !self.has_acknowledged(connection) {
                     Decision::Acknowledge
                 } else {
                     Decision::Ignore
                 }
             }
-            _ => self.hear(connection, msg),
+            _ => {
+                if self.has_acknowledged(connection) {
+                    self.hear(conn, connection, msg)
+                } else {
+                    Decision::Ignore
+                }
+            }
         }
     }
 
-    /// What becomes of a message that is no affair of the link. It takes no memory.
-    fn hear(&self, connection: &Connection, msg: &Msg) -> Decision
+    /// What becomes of a message of a connection that has taken up the live epoch. It takes no
+    /// memory.
+    fn hear(&self, conn: u32, connection: &Connection, msg: &Msg) -> Decision
         requires { AreTables self.now }
-        ensures { result ≡ heard_as (state_in self.now) connection.now msg.now }
+        ensures { result ≡ heard (state_in self.now) conn connection.now msg.now }
     {
-        if !connection.acknowledged {
-            return Decision::Ignore;
-        }
         match msg {
             Msg::Control(Control::ResetBegin) => Decision::Filter,
             Msg::Control(Control::ResetEnd) => Decision::Filter,
@@ -243,9 +257,9 @@ impl Tables {
     {
         let here = self.here();
         let user = connection.user;
-        match self.decide(connection, &msg) {
+        match self.decide(conn, connection, &msg) {
             Decision::Ignore => still(Event::Say { conn, msg }, Reply::Ignored),
-            Decision::Acknowledge => acknowledged(conn, connection, msg),
+            Decision::Acknowledge => acknowledged(conn, connection, here.epoch, msg),
             Decision::Place => Plan {
                 reply: Reply::Placed {
                     epoch: here.epoch,

@@ -4,18 +4,14 @@ use Rattle.std.proofs.Common.{◌≡◌, ℕ, ◌+◌, ◌-◌, Bool, true, fals
 use Rattle.std.proofs.Common.{◌++◌, length}
 use Rattle.std.proofs.Common.{Option, None, Some, is_some, refl, sym, ap, subst, ◌∙◌, ⊎_elim}
 use Rattle.std.proofs.Common.{append-nil, append_assoc, length-append}
-use Rattle.std.specs.Prelude.{slice_set, not, ◌&&◌, ◌==◌}
-use Rattle.std.specs.List.{find, list_any}
+use Rattle.std.specs.Prelude.{slice_set}
 use Rattle.std.proofs.Math.ListN.{length-set}
 use Rattle.std.proofs.lemmas.Bool.{cond_both, cases_eq}
 use Rattle.dp_messages.specs.Properties.{marked}
-use Rattle.dp_msg_meta.specs.declared.message.Control.TheVariants as control
 use Rattle.dp_msg_meta.specs.declared.message.Meta.TheVariants as meta
 use Rattle.dp_messages.specs.declared.message.Msg.{Msg}
 use Rattle.dp_messages.specs.declared.message.Msg.TheVariants as msg
 use Rattle.dp_messages.specs.declared.message.Entry.{Entry}
-use Rattle.dp_messages.specs.Messages.{kind_of}
-use Rattle.dp_acl.specs.Rights.{is_operator}
 use Rattle.dp_acl.specs.Permitted.{permitted}
 use Rattle.dp_session.specs.declared.connection.Connection.{Connection}
 use Rattle.dp_session.specs.declared.connection.Ending.TheVariants as ending
@@ -23,14 +19,12 @@ use Rattle.dp_session.specs.declared.event.Event.{Event}
 use Rattle.dp_session.specs.declared.event.Event.TheVariants as event
 use Rattle.dp_session.specs.declared.event.Reply.{Reply}
 use Rattle.dp_session.specs.declared.event.Reply.TheVariants as reply
-use Rattle.dp_session.specs.State.{State, acted, stays, after_event, after_shut, placed, entry_of}
-use Rattle.dp_session.specs.State.{server_entry, epoch_of, here}
-use Rattle.dp_session.specs.State.{is_present, present_users, user_ids, free_id, is_name}
-use Rattle.dp_session.specs.State.{join_entries, new_connection, opened_as, opened}
-use Rattle.dp_session.specs.State.{is_open, open_in, open_connection, with_connection, left}
-use Rattle.dp_session.specs.State.{next_owner, owners_behind, closed_by, closed}
-use Rattle.dp_session.specs.State.{said, filtered, judged, acknowledged_by, said_by, heard, says_by}
-use Rattle.dp_session.specs.State.{says}
+use Rattle.dp_session.specs.State.{State, acted, noted, after_event, after_shut, epoch_of, here}
+use Rattle.dp_session.specs.State.{is_open, open_in, open_connection, with_connection}
+use Rattle.dp_session.specs.State.{new_connection, next_owner}
+use Rattle.dp_session.specs.Effects.{Effect, Nothing, TakesUp, Placed, Filtered, Joined, Left, made}
+use Rattle.dp_session.specs.Effects.{entries_of, connections_after, answer_of, IsStill, IsEffect}
+use Rattle.dp_session.specs.Effects.{EventsHaveEffects}
 use Rattle.dp_session.specs.Rows.{has_room}
 use Rattle.dp_session.specs.Past.{Past, state_of, kept, refused, answer_to, sure_step, sure_answer}
 use Rattle.dp_session.specs.Laws.{ShutBefore, shut_by}
@@ -93,15 +87,6 @@ keeps-both s t u Stays h k = record {
   stay = λ n stays up. k.stay n stays (h.stay n stays up);
 }
 
--- entries are placed
-keeps-placed : (s : State) (Stays : ℕ → Type 0) (entries : List Entry) → HasNoMark entries
-    → Keeps s Stays (placed s entries)
-keeps-placed s Stays entries clean = record {
-  grows = record { ended = refl; more = entries; live = refl; clean = clean };
-  count = refl;
-  stay = λ n stays h. h;
-}
-
 -- a connection that was found open becomes another: the others stay open
 open-others : (cs : List Connection) (conn : ℕ) (c d : Connection) (n : ℕ)
     → open_in cs conn ≡ Some c → (n ≡ conn → ⊥)
@@ -124,7 +109,13 @@ open-all cs conn c d n found high up =
     (λ (ne : n ≡ conn → ⊥). open-others cs conn c d n found ne up)
     (cases_eq n conn)
 
--- ---- saying
+open-more : (cs : List Connection) (d : Connection) (n : ℕ) → is_some (open_in cs n) ≡ true
+    → is_some (open_in (cs ++ d ∷ []) n) ≡ true
+open-more cs d n up =
+    let o = open_some (numbered cs n) up in
+    some_open o.0 (numbered (cs ++ d ∷ []) n) (numbered-old cs (d ∷ []) n o.0 o.1) o.2
+
+-- ---- effects
 
 unmarked-permitted : (h : List Entry) (user : ℕ) (m : Msg) → permitted h user m ≡ true
     → marked m ≡ None
@@ -147,96 +138,91 @@ unmarked-permitted h user (msg.Undo target redo) may = refl
 unmarked-permitted h user (msg.Draw command) may = refl
 unmarked-permitted h user (msg.Opaque kind body) may = refl
 
-keeps-filtered : (s : State) (user : ℕ) (m : Msg) → Keeps s AllStay (filtered s user m).state
-keeps-filtered s user m = keeps-placed s AllStay (entry_of user
-    (msg.Meta (meta.Filtered (kind_of m))) ∷ []) (refl, tt)
+unmarked-owner : (o : Option ℕ) → HasNoMark (next_owner o)
+unmarked-owner None = tt
+unmarked-owner (Some user) = (refl, tt)
 
-keeps-judged : (s : State) (user : ℕ) (m : Msg) → Keeps s AllStay (judged s user m).state
-keeps-judged s user m =
-    cond_both (permitted s.live user m) (said s user m) (filtered s user m)
-    (λ a. Keeps s AllStay a.state)
-    (λ may. keeps-placed s AllStay (entry_of user m ∷ [])
-    (unmarked-permitted s.live user m may, tt))
-    (λ no. keeps-filtered s user m)
+-- no entry that an event places is a mark
+entries-unmarked : (s : State) (e : Event) (effect : Effect) → IsEffect s e effect
+    → HasNoMark (entries_of effect)
+entries-unmarked s e (Nothing answer) cause = tt
+entries-unmarked s e (TakesUp conn c) cause = tt
+entries-unmarked s e (Placed conn c m) cause =
+    (unmarked-permitted s.live c.user m cause.2, tt)
+entries-unmarked s e (Filtered conn c m) cause = (refl, tt)
+entries-unmarked s e (Joined user registered name next) cause = (refl, unmarked-owner next)
+entries-unmarked s e (Left conn c next) cause = (refl, unmarked-owner next)
 
-keeps-said_by : (s : State) (c : Connection) (m : Msg) → Keeps s AllStay (said_by s c m).state
-keeps-said_by s c (msg.Control control.ResetBegin) = keeps-filtered s c.user
-    (msg.Control control.ResetBegin)
-keeps-said_by s c (msg.Control control.ResetEnd) = keeps-filtered s c.user
-    (msg.Control control.ResetEnd)
-keeps-said_by s c (msg.Part command) = keeps-filtered s c.user (msg.Part command)
-keeps-said_by s c m = keeps-judged s c.user m
+grows-effect : (s : State) (e : Event) (effect : Effect) → IsEffect s e effect
+    → Grows s (noted s (made s effect))
+grows-effect s e effect cause = record {
+  ended = refl;
+  more = entries_of effect;
+  live = refl;
+  clean = entries-unmarked s e effect cause;
+}
 
-keeps-heard : (s : State) (c : Connection) (m : Msg) → Keeps s AllStay (heard s c m).state
-keeps-heard s c m =
-    cond_both c.acknowledged (said_by s c m) (stays s reply.Ignored) (λ a. Keeps s AllStay a.state)
-    (λ yes. keeps-said_by s c m) (λ no. keeps-all s AllStay)
+-- connections stay open, but for the one that the event closes
+open-stay : (s : State) (e : Event) (effect : Effect) → IsEffect s e effect → (n : ℕ)
+    → (e ≡ event.Close n → ⊥) → is_some (open_in s.connections n) ≡ true
+    → is_some (open_in (connections_after s effect) n) ≡ true
+open-stay s e (Nothing answer) cause n other up = up
+open-stay s e (TakesUp conn c) cause n other up =
+    open-all s.connections conn c (record c { acknowledged = epoch_of s }) n cause.1.at.found
+    cause.1.at.running up
+open-stay s e (Placed conn c m) cause n other up = up
+open-stay s e (Filtered conn c m) cause n other up = up
+open-stay s e (Joined user registered name next) cause n other up =
+    open-more s.connections (new_connection s user) n up
+open-stay s e (Left conn c next) cause n other up =
+    open-others s.connections conn c (record c { ending = ending.Left (here s) }) n cause.at.found
+    (λ same. other (cause.came ∙ ap (λ k. event.Close k) (sym same))) up
 
-keeps-acknowledged : (s : State) (conn : ℕ) (c : Connection) (epoch : ℕ)
-    → open_connection s conn ≡ Some c
-    → Keeps s AllStay (acknowledged_by s conn c epoch).state
-keeps-acknowledged s conn c epoch found =
-    let d : Connection = record c { acknowledged = true } in
-    cond_both (epoch == epoch_of s && not c.acknowledged)
-    (record { state = with_connection s conn d; reply = reply.Noted }) (stays s reply.Ignored)
-    (λ a. Keeps s AllStay a.state)
-    (λ yes. record {
-      grows = record { ended = refl; more = []; live = sym (append-nil s.live); clean = tt };
-      count = length-set s.connections (conn - 1) d;
-      stay = λ n stays up. open-all s.connections conn c d n found
-          (open_found s.connections conn c found).1 up;
-    })
-    (λ no. keeps-all s AllStay)
+-- what an Open's answer says of the connections: one more, which is open, or as many as before
+abbrev pub Answers : State → List Connection → Reply → Type 0
+Answers s connections (reply.Opened conn user epoch at) =
+    (length connections ≡ length s.connections + 1) × (conn ≡ length s.connections + 1)
+    × (epoch ≡ length s.ended)
+    × (is_some (open_in connections conn) ≡ true)
+Answers s connections other = length connections ≡ length s.connections
 
-keeps-says_by : (s : State) (conn : ℕ) (m : Msg) (c : Connection) → open_connection s conn ≡ Some c
-    → Keeps s AllStay (says_by s conn m c).state
-keeps-says_by s conn (msg.Control (control.Ping pong)) c found = keeps-all s AllStay
-keeps-says_by s conn (msg.Control (control.Disconnect reason)) c found = keeps-all s AllStay
-keeps-says_by s conn (msg.Control (control.Ack epoch)) c found = keeps-acknowledged s conn c epoch
-    found
-keeps-says_by s conn m c found = keeps-heard s c m
+answers-still : (s : State) (r : Reply) → IsStill r → Answers s s.connections r
+answers-still s (reply.Opened conn user epoch at) still = absurd still
+answers-still s r still = refl
 
-keeps-says : (s : State) (conn : ℕ) (m : Msg) → Keeps s AllStay (says s conn m).state
-keeps-says s conn m =
-    option_both (says_by s conn m) (open_connection s conn) (stays s reply.Ignored)
-    (λ a. Keeps s AllStay a.state)
-    (λ c found. keeps-says_by s conn m c found) (keeps-all s AllStay)
+effect-answers : (s : State) (e : Event) (effect : Effect) → IsEffect s e effect
+    → Answers s (connections_after s effect) (answer_of s effect)
+effect-answers s e (Nothing answer) cause = answers-still s answer cause
+effect-answers s e (TakesUp conn c) cause =
+    length-set s.connections (conn - 1) (record c { acknowledged = epoch_of s })
+effect-answers s e (Placed conn c m) cause = refl
+effect-answers s e (Filtered conn c m) cause = refl
+effect-answers s e (Joined user registered name next) cause =
+    let d = new_connection s user in (
+      length-append s.connections (d ∷ []),
+      refl,
+      refl,
+      some_open d (numbered (s.connections ++ d ∷ []) (length s.connections + 1))
+          (numbered-new s.connections d) refl,
+    )
+effect-answers s e (Left conn c next) cause =
+    length-set s.connections (conn - 1) (record c { ending = ending.Left (here s) })
 
--- ---- closing
+-- no user asks to join by the event
+abbrev IsNoOpen : Event → Type 0
+IsNoOpen e = (name : List ℕ) (registered : Bool) → e ≡ event.Open name registered → ⊥
 
-unmarked-owner : (b : Bool) (o : Option ℕ) → HasNoMark (if b then next_owner o else [])
-unmarked-owner true None = tt
-unmarked-owner true (Some user) = (refl, tt)
-unmarked-owner false o = tt
-
-keeps-closed_by : (s : State) (conn : ℕ) (c : Connection) → open_connection s conn ≡ Some c
-    → Keeps s (OthersStay conn) (closed_by s conn c).state
-keeps-closed_by s conn c found =
-    let gone = left s conn c in
-    let owners = owners_behind (is_operator s.live c.user) gone in
-    let leave = entry_of c.user (msg.Meta meta.Leave) in
-    let d : Connection = record c { ending = ending.Left (here s) } in
-    record {
-      grows = record {
-        ended = refl;
-        more = leave ∷ owners;
-        live = append_assoc s.live (leave ∷ []) owners;
-        clean = (
-          refl,
-          unmarked-owner (is_operator s.live c.user && not
-              (list_any (is_operator gone.live) (present_users gone)))
-              (find (is_present gone) user_ids),
-        );
-      };
-      count = length-set s.connections (conn - 1) d;
-      stay = λ n other up. open-others s.connections conn c d n found other up;
-    }
-
-keeps-closed : (s : State) (conn : ℕ) → Keeps s (OthersStay conn) (closed s conn).state
-keeps-closed s conn =
-    option_both (closed_by s conn) (open_connection s conn) (stays s reply.Ignored)
-    (λ a. Keeps s (OthersStay conn) a.state)
-    (λ c found. keeps-closed_by s conn c found) (keeps-all s (OthersStay conn))
+effect-count : (s : State) (e : Event) (effect : Effect) → IsEffect s e effect → IsNoOpen e
+    → length (connections_after s effect) ≡ length s.connections
+effect-count s e (Nothing answer) cause closed = refl
+effect-count s e (TakesUp conn c) cause closed =
+    length-set s.connections (conn - 1) (record c { acknowledged = epoch_of s })
+effect-count s e (Placed conn c m) cause closed = refl
+effect-count s e (Filtered conn c m) cause closed = refl
+effect-count s e (Joined user registered name next) cause closed =
+    absurd (closed name registered cause.came)
+effect-count s e (Left conn c next) cause closed =
+    length-set s.connections (conn - 1) (record c { ending = ending.Left (here s) })
 
 keeps-shut : (s : State) (conn : ℕ) → Keeps s (OthersStay conn) (after_shut s conn)
 keeps-shut s conn =
@@ -250,64 +236,12 @@ keeps-shut s conn =
     })
     (keeps-all s (OthersStay conn))
 
--- ---- opening
-
--- what an Open's answer says of the connections: one more, which is open, or as many as before
-abbrev pub Answers : State → List Connection → Reply → Type 0
-Answers s connections (reply.Opened conn user epoch at) =
-    (length connections ≡ length s.connections + 1) × (conn ≡ length s.connections + 1)
-    × (epoch ≡ length s.ended)
-    × (is_some (open_in connections conn) ≡ true)
-Answers s connections other = length connections ≡ length s.connections
+-- ---- joining
 
 pub record Joins (s : State) (r : Reply) (t : State) : Type 0 where
   pub grows : Grows s t
   pub stay : (n : ℕ) → IsOpen s n → IsOpen t n
   pub answer : Answers s t.connections r
-
-joins-not : (s : State) (r : Reply) → Answers s s.connections r → Joins s r s
-joins-not s r answer = record { grows = grows-not s; stay = λ n h. h; answer = answer }
-
-unmarked-join : (b : Bool) (join owner : Entry) → marked join.msg ≡ None → marked owner.msg ≡ None
-    → HasNoMark (join ∷ (if b then [] else owner ∷ []))
-unmarked-join true join owner hj ho = (hj, tt)
-unmarked-join false join owner hj ho = (hj, (ho, tt))
-
-open-more : (cs : List Connection) (d : Connection) (n : ℕ) → is_some (open_in cs n) ≡ true
-    → is_some (open_in (cs ++ d ∷ []) n) ≡ true
-open-more cs d n up =
-    let o = open_some (numbered cs n) up in
-    some_open o.0 (numbered (cs ++ d ∷ []) n) (numbered-old cs (d ∷ []) n o.0 o.1) o.2
-
-joins-opened_as : (s : State) (registered : Bool) (name : List ℕ) (o : Option ℕ)
-    → Joins s (opened_as s registered name o).reply (opened_as s registered name o).state
-joins-opened_as s registered name None = joins-not s reply.Full refl
-joins-opened_as s registered name (Some user) = record {
-  grows = record {
-    ended = refl;
-    more = join_entries s user registered name;
-    live = refl;
-    clean = unmarked-join (list_any (is_present s) user_ids)
-        (entry_of user (msg.Meta (meta.Join registered name)))
-        (server_entry (meta.Owners (user ∷ []))) refl refl;
-  };
-  stay = λ n up. open-more s.connections (new_connection s user) n up;
-  answer = (
-    length-append s.connections (new_connection s user ∷ []),
-    refl,
-    refl,
-    some_open (new_connection s user) (numbered (s.connections ++ new_connection s user ∷ [])
-        (length s.connections + 1))
-        (numbered-new s.connections (new_connection s user)) refl,
-  );
-}
-
-joins-opened : (s : State) (name : List ℕ) (registered : Bool)
-    → Joins s (opened s name registered).reply (opened s name registered).state
-joins-opened s name registered =
-    cond_both (is_name name) (opened_as s registered name (free_id s)) (stays s reply.NameRefused)
-    (λ a. Joins s a.reply a.state) (λ yes. joins-opened_as s registered name (free_id s))
-    (λ no. joins-not s reply.NameRefused refl)
 
 -- ---- where one more event leads
 
@@ -317,58 +251,51 @@ pub record Leading : Type 0 where
       → state_of (kept past e) ≡ after_event (state_of past) e
   pub on_refused : (past : Past) (e : Event) → state_of (refused past e) ≡ shut_by (state_of past) e
   pub before : (past : Past) (e : Event) → ShutBefore past → ShutBefore (sure_step past e)
+  pub effects : EventsHaveEffects
 
-keeps-answered : (s : State) (Stays : ℕ → Type 0) (e : Event) → Keeps s Stays (acted s e).state
-    → Keeps s Stays (after_event s e)
-keeps-answered s Stays e h = record {
-  grows = record {
-    ended = h.grows.ended;
-    more = h.grows.more;
-    live = h.grows.live;
-    clean =
-        h.grows.clean;
-  };
-  count = h.count;
-  stay = h.stay;
-}
+keeps-acted : Leading → (s : State) (e : Event) (Stays : ℕ → Type 0) → IsNoOpen e
+    → ((n : ℕ) → Stays n → e ≡ event.Close n → ⊥) → Keeps s Stays (after_event s e)
+keeps-acted laws s e Stays closed far =
+    let h = laws.effects s e in
+    subst (λ a. Keeps s Stays (noted s a)) (sym h.made) (record {
+      grows = grows-effect s e h.effect h.cause;
+      count = effect-count s e h.effect h.cause closed;
+      stay = λ n stays up. open-stay s e h.effect h.cause n (far n stays) up;
+    })
 
 keeps-step : Leading → (past : Past) (e : Event) (Stays : ℕ → Type 0) → ShutBefore past
-    → Keeps (state_of past) Stays (acted (state_of past) e).state
+    → IsNoOpen e → ((n : ℕ) → Stays n → e ≡ event.Close n → ⊥)
     → Keeps (state_of past) Stays (shut_by (state_of past) e)
     → Keeps (state_of past) Stays (state_of (sure_step past e))
-keeps-step laws past e Stays before taken shut =
+keeps-step laws past e Stays before closed far shut =
     cond_both (has_room past.journal e) (kept past e) (refused past e)
     (λ p. Keeps (state_of past) Stays (state_of p))
-    (λ yes. subst (Keeps (state_of past) Stays) (sym (laws.on_kept past e before))
-    (keeps-answered (state_of past) Stays e taken))
-    (λ no. subst (Keeps (state_of past) Stays) (sym (laws.on_refused past e)) shut)
+    (λ fits. subst (Keeps (state_of past) Stays) (sym (laws.on_kept past e before))
+    (keeps-acted laws (state_of past) e Stays closed far))
+    (λ full. subst (Keeps (state_of past) Stays) (sym (laws.on_refused past e)) shut)
 
 pub keeps-say : Leading → (past : Past) (conn : ℕ) (m : Msg) → ShutBefore past
     → Keeps (state_of past) AllStay (state_of (sure_step past (event.Say conn m)))
 keeps-say laws past conn m before =
-    keeps-step laws past (event.Say conn m) AllStay before (keeps-says (state_of past) conn m)
-    (keeps-all (state_of past) AllStay)
+    keeps-step laws past (event.Say conn m) AllStay before (λ name registered is. cc)
+    (λ n stays is. cc) (keeps-all (state_of past) AllStay)
 
 pub keeps-close : Leading → (past : Past) (conn : ℕ) → ShutBefore past
     → Keeps (state_of past) (OthersStay conn) (state_of (sure_step past (event.Close conn)))
 keeps-close laws past conn before =
-    keeps-step laws past (event.Close conn) (OthersStay conn) before
-    (keeps-closed (state_of past) conn)
+    keeps-step laws past (event.Close conn) (OthersStay conn) before (λ name registered is. cc)
+    (λ n other is. let same : conn ≡ n = cc in other (sym same))
     (keeps-shut (state_of past) conn)
 
-joins-answered : (s : State) (e : Event) → Joins s (acted s e).reply (acted s e).state
+joins-acted : Leading → (s : State) (e : Event) → ((n : ℕ) → e ≡ event.Close n → ⊥)
     → Joins s (acted s e).reply (after_event s e)
-joins-answered s e h = record {
-  grows = record {
-    ended = h.grows.ended;
-    more = h.grows.more;
-    live = h.grows.live;
-    clean =
-        h.grows.clean;
-  };
-  stay = h.stay;
-  answer = h.answer;
-}
+joins-acted laws s e closed =
+    let h = laws.effects s e in
+    subst (λ a. Joins s a.reply (noted s a)) (sym h.made) (record {
+      grows = grows-effect s e h.effect h.cause;
+      stay = λ n up. open-stay s e h.effect h.cause n (closed n) up;
+      answer = effect-answers s e h.effect h.cause;
+    })
 
 pub joins-open : Leading → (past : Past) (name : List ℕ) (registered : Bool) → ShutBefore past
     → Joins (state_of past) (sure_answer past (event.Open name registered))
@@ -383,9 +310,12 @@ joins-open laws past name registered before = by_room (has_room past.journal
     by_room true =
         subst (Joins (state_of past) (answer_to past (event.Open name registered)))
         (sym (laws.on_kept past (event.Open name registered) before))
-        (joins-answered (state_of past) (event.Open name registered)
-        (joins-opened (state_of past) name registered))
+        (joins-acted laws (state_of past) (event.Open name registered) (λ n is. cc))
     by_room false =
         subst (Joins (state_of past) reply.Ended) (sym (laws.on_refused past
         (event.Open name registered)))
-        (joins-not (state_of past) reply.Ended refl)
+        (record {
+          grows = grows-not (state_of past);
+          stay = λ n up. up;
+          answer = refl;
+        })

@@ -21,7 +21,7 @@ use Rattle.dp_session.specs.declared.event.Event.TheVariants as event
 use Rattle.dp_session.specs.declared.event.Reply.{Reply}
 use Rattle.dp_session.specs.declared.event.Reply.TheVariants as reply
 use Rattle.dp_session.specs.Rows.{event_limit, row_bytes, byte_limit, row_of, has_room}
-use Rattle.dp_session.specs.State.{State, epoch_of}
+use Rattle.dp_session.specs.State.{State, epoch_of, history_of}
 use Rattle.dp_session.specs.Past.{Past, state_of, kept, refused, sure_step, sure_answer}
 use Rattle.dp_session.specs.Laws.{ShutBefore}
 use Rattle.dp_schedule.specs.declared.action.Instruction.{Instruction}
@@ -35,7 +35,7 @@ use Rattle.dp_sim.specs.Exchanges.{next_entry, took_next, done, exchanged}
 use Rattle.dp_sim.specs.World.{World, participant_of, new_participant, with_joined, joined}
 use Rattle.dp_sim.specs.World.{with_exchange, acted, after, first_world, world_after}
 use Rattle.dp_sim.specs.Invariant.{IsHistory, is_closed, IsParticipant, IsWorld}
-use Rattle.dp_sim.specs.Headline.{history_of, ShowsPrefix}
+use Rattle.dp_sim.specs.Headline.{ShowsPrefix}
 use Rattle.dp_lists.specs.Numbered.{numbered}
 use Rattle.dp_lists.proofs.Options.{option_both, at_some, if_some}
 use Rattle.dp_lists.proofs.Numbered.{number-found, numbered-other, numbered-same, numbered-either}

@@ -1,5 +1,5 @@
 -- What every screen shows.
-use Rattle.std.specs.Prelude.{◌≡◌, ℕ, IfSome, List, [], ◌∷◌, ◌++◌, take, slice_index_or}
+use Rattle.std.specs.Prelude.{◌≡◌, ℕ, IfSome, List, ◌++◌, take}
 use Rattle.std.specs.List.{filter_map}
 use Rattle.dp_messages.specs.declared.message.Entry.{Entry}
 use Rattle.dp_plain.specs.Commands.{draw_all}
@@ -10,13 +10,9 @@ use Rattle.dp_acl.specs.Permitted.{permitted}
 use Rattle.dp_messages.specs.declared.message.Msg.{Msg}
 use Rattle.dp_session.specs.declared.event.Event.TheVariants.{Say}
 use Rattle.dp_session.specs.declared.event.Reply.TheVariants.{Filtered}
-use Rattle.dp_session.specs.State.{State, acted}
+use Rattle.dp_session.specs.State.{State, acted, history_of}
 use Rattle.dp_session.specs.Past.{state_of}
 use Rattle.dp_sim.specs.World.{World, participant_of}
-
--- the history of an epoch
-abbrev pub history_of : State → ℕ → List Entry
-history_of s epoch = slice_index_or (s.ended ++ s.live ∷ []) epoch []
 
 -- What a client shows: it has taken the first `count` entries of the history of its epoch, its
 -- confirmed canvas is these replayed from scratch without undone strokes, and its view the same

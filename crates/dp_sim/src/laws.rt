@@ -8,7 +8,7 @@ ghost use Rattle.dp_sim.specs.Headline.{Headline, ForbiddenChangesNothing};
 ghost use Rattle.dp_session.specs.State.{State};
 
 use dp_acl::forbidden_changes_no_right;
-use dp_session::steps_lead_on;
+use dp_session::{events_have_effects, steps_lead_on};
 
 /// What is true of every world: of the first one, and of the one after any action.
 pub fn worlds_stay_worlds()
@@ -17,6 +17,7 @@ pub fn worlds_stay_worlds()
         → IsWorld (after world action) }
 {
     steps_lead_on();
+    events_have_effects();
 }
 
 /// In every state of a session a message that is answered Filtered changes no canvas and no right,
@@ -25,6 +26,7 @@ pub fn forbidden_changes_nothing()
     ensures { (state : State) → ForbiddenChangesNothing state }
 {
     forbidden_changes_no_right();
+    events_have_effects();
 }
 
 /// After every schedule each client has taken a prefix of the history of its epoch; its confirmed

@@ -40,7 +40,7 @@ use Rattle.dp_sim_laws.proofs.Answering.{last_false, answers_from, answers-same,
 use Rattle.dp_sim_laws.proofs.Answering.{answers-push, answers-at, NoAnswers}
 use Rattle.dp_sim_laws.proofs.Answering.{AnswersTo, Answer, answer-push, Front, front-of, split-at}
 use Rattle.dp_sim_laws.proofs.Answering.{drop-front}
-use Rattle.dp_sim_laws.proofs.Events.{ArePeople, Passes, NotThis, passes-not, passes-both}
+use Rattle.dp_sim_laws.proofs.Events.{HasPeople, Passes, NotThis, passes-not, passes-both}
 use Rattle.dp_sim_laws.proofs.Events.{Leading, NotEnded, passes-say, passes-close, answered-say}
 
 -- no reply is Ended
@@ -119,7 +119,7 @@ holds-passes s u Others number p t passes other h =
 -- ---- the events of an exchange
 
 up-passes : Leading → (t : Exchange) (uplink : List Msg) → ShutBefore t.past
-    → ArePeople (state_of t.past).connections
+    → HasPeople (state_of t.past)
     → NeverEnds (up_replies t uplink)
     → Passes (state_of t.past) (NotThis t.participant.conn) (state_of (uplink_sent t uplink).past)
 up-passes laws t [] before people goes = passes-not (state_of t.past) (NotThis t.participant.conn)
@@ -147,7 +147,7 @@ next-past t None = refl
 next-past t (Some entry) = refl
 
 done-passes : Leading → (t : Exchange) (instruction : Instruction) → ShutBefore t.past
-    → ArePeople (state_of t.past).connections
+    → HasPeople (state_of t.past)
     → NeverEnds (deed_replies t instruction)
     → Passes (state_of t.past) (NotThis t.participant.conn) (state_of (done t instruction).past)
 done-passes laws t (Say m) before people goes = passes-not (state_of t.past)
@@ -163,7 +163,7 @@ done-passes laws t Cut before people goes = passes-close laws t.past t.participa
     goes.0 people
 
 pub exchange-passes : Leading → (t : Exchange) (instruction : Instruction) → ShutBefore t.past
-    → ArePeople (state_of t.past).connections
+    → HasPeople (state_of t.past)
     → NeverEnds (turn_replies t instruction)
     → Passes (state_of t.past) (NotThis t.participant.conn)
     (state_of (exchanged t instruction).past)
@@ -530,7 +530,7 @@ first-of m rest (w ∷ waits) now other is =
 
 live-heard : Leading → (number : ℕ) (t : Exchange) (m : Msg) (rest : List Msg) (tally : Tally)
     → ShutBefore t.past
-    → ArePeople (state_of t.past).connections → IsParticipant (state_of t.past) number t.participant
+    → HasPeople (state_of t.past) → IsParticipant (state_of t.past) number t.participant
     → NotEnded t.past (event.Say t.participant.conn m) → t.participant.uplink ≡ m ∷ rest
     → is_disconnect m ≡ false
     → Live (state_of t.past) number t.participant tally
@@ -543,8 +543,7 @@ live-heard laws number t m rest tally before people hp goes up other h =
     let high = subst (AllByRecursion (λ n. 32 ≤ kind_of n)) first.waits h.sayable in
     let there : open_connection s t.participant.conn ≡ Some h.connection = ap (open_connection s)
     hp.conn ∙ h.found in
-    let ready = people.ready number h.connection h.found in
-    let a = answered-say laws t.past t.participant.conn m h.connection before goes there ready
+    let a = answered-say laws t.past t.participant.conn m h.connection before goes people there
     high.0 in
     let live : u.live ≡ s.live ++ entry_of c.user a.answer ∷ [] =
     a.live ∙ ap (λ user. s.live ++ entry_of user a.answer ∷ []) h.user in
@@ -571,7 +570,7 @@ live-heard laws number t m rest tally before people hp goes up other h =
 
 holds-up : Leading → (number : ℕ) (t : Exchange) (uplink : List Msg) (tally : Tally)
     → ShutBefore t.past
-    → ArePeople (state_of t.past).connections → IsParticipant (state_of t.past) number t.participant
+    → HasPeople (state_of t.past) → IsParticipant (state_of t.past) number t.participant
     → t.participant.uplink ≡ uplink
     → NeverEnds (up_replies t uplink) → Holds (state_of t.past) number t.participant tally
     → Holds (state_of (uplink_sent t uplink).past) number (uplink_sent t uplink).participant tally
@@ -595,7 +594,7 @@ holds-up laws number t (m ∷ rest) tally before people hp up goes h = by_leave 
 
 holds-done : Leading → (number : ℕ) (t : Exchange) (instruction : Instruction) (tally : Tally)
     → ShutBefore t.past
-    → ArePeople (state_of t.past).connections → IsHistory 0 (state_of t.past).live
+    → HasPeople (state_of t.past) → IsHistory 0 (state_of t.past).live
     → (state_of t.past).ended ≡ []
     → IsParticipant (state_of t.past) number t.participant
     → is_gone t.participant.link instruction ≡ false → IsSayable instruction
@@ -619,7 +618,7 @@ holds-done laws number t Cut tally before people history ended hp there may goes
 -- what holds of a client holds of it after its exchange
 pub holds-exchanged : Leading → (number : ℕ) (t : Exchange) (instruction : Instruction)
     (tally : Tally) → ShutBefore t.past
-    → ArePeople (state_of t.past).connections → IsHistory 0 (state_of t.past).live
+    → HasPeople (state_of t.past) → IsHistory 0 (state_of t.past).live
     → (state_of t.past).ended ≡ []
     → IsParticipant (state_of t.past) number t.participant → IsSayable instruction
     → NeverEnds (turn_replies t instruction)

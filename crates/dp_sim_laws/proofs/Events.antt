@@ -7,7 +7,8 @@ use Rattle.std.proofs.Common.{refl, sym, ap, subst, ◌∙◌, ⊎_elim, inl, in
 use Rattle.std.proofs.Common.{append_assoc, length-append}
 use Rattle.std.specs.Prelude.{slice_set}
 use Rattle.std.specs.List.{find, list_any, range_with_len, slice_get}
-use Rattle.std.proofs.lemmas.Bool.{cond_both, cases_eq, cases_Bool, eq-eqb, or_parts, le-leb}
+use Rattle.std.specs.Option.{option_map_or}
+use Rattle.std.proofs.lemmas.Bool.{cases_eq, cases_Bool, eq-eqb, or_parts, le-leb}
 use Rattle.std.proofs.lemmas.Bool.{not-true}
 use Rattle.dp_client.specs.Client.{may_answer}
 use Rattle.dp_msg_meta.specs.declared.message.Control.TheVariants as control
@@ -17,27 +18,27 @@ use Rattle.dp_messages.specs.declared.message.Msg.TheVariants as msg
 use Rattle.dp_messages.specs.declared.message.Entry.{Entry}
 use Rattle.dp_messages.specs.Messages.{kind_of}
 use Rattle.dp_messages.specs.Equality.{same_message}
-use Rattle.dp_acl.specs.Rights.{is_operator}
 use Rattle.dp_acl.specs.Permitted.{permitted}
 use Rattle.dp_session.specs.declared.connection.Connection.{Connection}
 use Rattle.dp_session.specs.declared.connection.Ending.TheVariants as ending
+use Rattle.dp_session.specs.declared.decision.Decision.{Decision}
+use Rattle.dp_session.specs.declared.decision.Decision.TheVariants as decision
 use Rattle.dp_session.specs.declared.event.Event.{Event}
 use Rattle.dp_session.specs.declared.event.Event.TheVariants as event
 use Rattle.dp_session.specs.declared.event.Reply.{Reply}
 use Rattle.dp_session.specs.declared.event.Reply.TheVariants as reply
-use Rattle.dp_session.specs.State.{State, acted, stays, after_event, placed, entry_of, server_entry}
-use Rattle.dp_session.specs.State.{epoch_of, here}
-use Rattle.dp_session.specs.State.{is_present, present_users, user_ids, free_id, is_name}
-use Rattle.dp_session.specs.State.{join_entries, new_connection, opened_as, opened}
-use Rattle.dp_session.specs.State.{is_open, where_open, open_in, open_connection, with_connection}
-use Rattle.dp_session.specs.State.{left, next_owner, owners_behind, closed_by, closed}
-use Rattle.dp_session.specs.State.{said, filtered, judged, acknowledged_by, said_by, heard, says_by}
-use Rattle.dp_session.specs.State.{says}
+use Rattle.dp_session.specs.State.{State, acted, stays, noted, after_event, epoch_of, here}
+use Rattle.dp_session.specs.State.{entry_of, server_entry, filtered_entry}
+use Rattle.dp_session.specs.State.{is_present, user_ids, free_id, new_connection, next_owner}
+use Rattle.dp_session.specs.State.{is_open, where_open, open_in, open_connection}
+use Rattle.dp_session.specs.State.{has_acknowledged, judged, heard, decided, acted_by, says_by}
+use Rattle.dp_session.specs.Effects.{Effect, Nothing, TakesUp, Placed, Filtered, Joined, Left, made}
+use Rattle.dp_session.specs.Effects.{entries_of, connections_after, answer_of, IsStill, IsSaid}
+use Rattle.dp_session.specs.Effects.{IsEffect, EventsHaveEffects}
 use Rattle.dp_session.specs.Rows.{has_room}
 use Rattle.dp_session.specs.Past.{Past, state_of, kept, refused, answer_to, sure_step, sure_answer}
 use Rattle.dp_session.specs.Laws.{ShutBefore}
 use Rattle.dp_lists.specs.Numbered.{numbered}
-use Rattle.dp_lists.proofs.Options.{option_either}
 use Rattle.dp_lists.proofs.Numbered.{number-found, numbered-other, numbered-same, numbered-old}
 use Rattle.dp_lists.proofs.Numbered.{numbered-either, numbered-new}
 use Rattle.dp_sim_laws.proofs.Answering.{answers_from, NoAnswers, answers-same, answers-before}
@@ -96,11 +97,10 @@ open-back cs conn c d n x found shut is =
 
 -- ---- people
 
--- The users of open connections are above 0 and differ, and each connection has acknowledged its
--- epoch.
-pub record ArePeople (cs : List Connection) : Type 0 where
+-- the users of open connections are above 0 and differ, and each has taken up the epoch
+pub record ArePeople (epoch : ℕ) (cs : List Connection) : Type 0 where
   pub users : (n : ℕ) (c : Connection) → open_in cs n ≡ Some c → 1 ≤ c.user
-  pub ready : (n : ℕ) (c : Connection) → open_in cs n ≡ Some c → c.acknowledged ≡ true
+  pub ready : (n : ℕ) (c : Connection) → open_in cs n ≡ Some c → c.acknowledged ≡ epoch
   pub apart : (n m : ℕ) (c d : Connection) → open_in cs n ≡ Some c → open_in cs m ≡ Some d
       → c.user ≡ d.user → n ≡ m
 
@@ -110,17 +110,17 @@ none-open n c is =
     ≡ Some c = found.1 in cc
 
 -- where there are no connections
-pub no-people : ArePeople []
+pub no-people : ArePeople 0 []
 no-people = record {
   users = λ n c is. absurd (none-open n c is);
   ready = λ n c is. absurd (none-open n c is);
   apart = λ n m c d is it same. absurd (none-open n c is);
 }
 
-people-fewer : (cs ds : List Connection) → ((n : ℕ) (x : Connection) → open_in ds n ≡ Some x
+people-fewer : (epoch : ℕ) (cs ds : List Connection) → ((n : ℕ) (x : Connection) → open_in ds n ≡ Some x
     → open_in cs n ≡ Some x)
-    → ArePeople cs → ArePeople ds
-people-fewer cs ds back h = record {
+    → ArePeople epoch cs → ArePeople epoch ds
+people-fewer epoch cs ds back h = record {
   users = λ n c is. h.users n c (back n c is);
   ready = λ n c is. h.ready n c (back n c is);
   apart = λ n m c d is it same. h.apart n m c d (back n c is) (back m d it) same;
@@ -137,10 +137,11 @@ open-either cs d n x is =
     (numbered-either cs d n x h.0)
 
 -- one more, of a user whom no open connection has
-people-more : (cs : List Connection) (d : Connection) → 1 ≤ d.user → d.acknowledged ≡ true
-    → ((n : ℕ) (x : Connection) → open_in cs n ≡ Some x → x.user ≡ d.user → ⊥) → ArePeople cs
-    → ArePeople (cs ++ d ∷ [])
-people-more cs d user ready fresh h = record {
+people-more : (epoch : ℕ) (cs : List Connection) (d : Connection) → 1 ≤ d.user
+    → d.acknowledged ≡ epoch
+    → ((n : ℕ) (x : Connection) → open_in cs n ≡ Some x → x.user ≡ d.user → ⊥)
+    → ArePeople epoch cs → ArePeople epoch (cs ++ d ∷ [])
+people-more epoch cs d user ready fresh h = record {
   users = λ n c is.
       ⊎_elim (λ (old : open_in cs n ≡ Some c). h.users n c old)
       (λ (new : (n ≡ length cs + 1) × (c ≡ d)). subst (λ x. 1 ≤ x.user) (sym new.1) user)
@@ -163,12 +164,16 @@ people-more cs d user ready fresh h = record {
       (open-either cs d n c is);
 }
 
+-- those of a state
+abbrev pub HasPeople : State → Type 0
+HasPeople s = ArePeople (epoch_of s) s.connections
+
 -- ---- events
 
 -- The users are people after it, these connections stay, and no entry that is placed answers their
 -- users.
 pub record Passes (s : State) (Others : ℕ → Type 0) (t : State) : Type 0 where
-  pub people : ArePeople t.connections
+  pub people : HasPeople t
   pub more : List Entry
   pub live : t.live ≡ s.live ++ more
   pub stay : (n : ℕ) (c : Connection) → Others n → open_connection s n ≡ Some c
@@ -183,7 +188,7 @@ Everyone n = Unit {0}
 abbrev pub NotThis : ℕ → ℕ → Type 0
 NotThis conn n = n ≡ conn → ⊥
 
-pub passes-not : (s : State) (Others : ℕ → Type 0) → ArePeople s.connections → Passes s Others s
+pub passes-not : (s : State) (Others : ℕ → Type 0) → HasPeople s → Passes s Others s
 passes-not s Others h = record {
   people = h;
   more = [];
@@ -202,77 +207,6 @@ passes-both s t u Others h k = record {
   strange = λ n c other is. none-append c.user h.more k.more (h.strange n c other is)
       (k.strange n c other (h.stay n c other is));
 }
-
--- ---- saying
-
--- an entry of the connection's user is placed, or nothing
-abbrev IsSaid : State → ℕ → State → Type 0
-IsSaid s user t = (t ≡ s) ⊎ ((m : Msg) × (t ≡ placed s (entry_of user m ∷ [])))
-
-said-judged : (s : State) (user : ℕ) (m : Msg) → IsSaid s user (judged s user m).state
-said-judged s user m =
-    cond_both (permitted s.live user m) (said s user m) (filtered s user m)
-    (λ a. IsSaid s user a.state)
-    (λ may. inr (m, refl)) (λ no. inr (msg.Meta (meta.Filtered (kind_of m)), refl))
-
-said-said_by : (s : State) (c : Connection) (m : Msg) → IsSaid s c.user (said_by s c m).state
-said-said_by s c (msg.Control control.ResetBegin) = inr (msg.Meta (meta.Filtered 5), refl)
-said-said_by s c (msg.Control control.ResetEnd) = inr (msg.Meta (meta.Filtered 7), refl)
-said-said_by s c (msg.Part command) = inr (msg.Meta (meta.Filtered 6), refl)
-said-said_by s c m = said-judged s c.user m
-
-said-heard : (s : State) (c : Connection) (m : Msg) → IsSaid s c.user (heard s c m).state
-said-heard s c m =
-    cond_both c.acknowledged (said_by s c m) (stays s reply.Ignored) (λ a. IsSaid s c.user a.state)
-    (λ yes. said-said_by s c m) (λ no. inl refl)
-
-not_both : (a b : Bool) → b ≡ true → (a && not b) ≡ false
-not_both true true h = refl
-not_both true false h = cc
-not_both false b h = refl
-
-said-acknowledged : (s : State) (conn : ℕ) (c : Connection) (epoch : ℕ) → c.acknowledged ≡ true
-    → IsSaid s c.user (acknowledged_by s conn c epoch).state
-said-acknowledged s conn c epoch ready =
-    inl (ap (λ b. (if b then record {
-      state = with_connection s conn (record c { acknowledged = true });
-      reply = reply.Noted;
-    } else stays s reply.Ignored).state) (not_both (epoch == epoch_of s) c.acknowledged ready))
-
-said-says_by : (s : State) (conn : ℕ) (m : Msg) (c : Connection) → c.acknowledged ≡ true
-    → IsSaid s c.user (says_by s conn m c).state
-said-says_by s conn (msg.Control (control.Ping pong)) c ready = inl refl
-said-says_by s conn (msg.Control (control.Disconnect reason)) c ready = inl refl
-said-says_by s conn (msg.Control (control.Ack epoch)) c ready = said-acknowledged s conn c epoch
-    ready
-said-says_by s conn m c ready = said-heard s c m
-
-passes-said : (s t : State) (conn : ℕ) (c : Connection) → ArePeople s.connections
-    → open_connection s conn ≡ Some c
-    → IsSaid s c.user t → Passes s (NotThis conn) t
-passes-said s t conn c h found is =
-    ⊎_elim (λ (same : t ≡ s). subst (Passes s (NotThis conn)) (sym same)
-    (passes-not s (NotThis conn) h))
-    (λ (one : (m : Msg) × (t ≡ placed s (entry_of c.user m ∷ []))).
-    subst (Passes s (NotThis conn)) (sym one.1) (record {
-      people = h;
-      more = entry_of c.user one.0 ∷ [];
-      live = refl;
-      stay = λ n x other there. there;
-      strange = λ n x other there.
-          none-other x.user (entry_of c.user one.0) [] (λ same. other
-          (h.apart n conn x c there found (sym same))) tt;
-    }))
-    is
-
-passes-says : (s : State) (conn : ℕ) (m : Msg) → ArePeople s.connections
-    → Passes s (NotThis conn) (says s conn m).state
-passes-says s conn m h =
-    option_either (says_by s conn m) (open_connection s conn) (stays s reply.Ignored)
-    (λ a. Passes s (NotThis conn) a.state)
-    (λ c found. passes-said s (says_by s conn m c).state conn c h found
-    (said-says_by s conn m c (h.ready conn c found)))
-    (λ none. passes-not s (NotThis conn) h)
 
 -- ---- a message that isn't a control message has one answer
 
@@ -305,98 +239,49 @@ may-permitted h user (msg.Undo target redo) may = refl
 may-permitted h user (msg.Draw command) may = refl
 may-permitted h user (msg.Opaque kind body) may = refl
 
-answered-judged : (s : State) (user : ℕ) (m : Msg) → 32 ≤ kind_of m
-    → Answered s user m (judged s user m).state
-answered-judged s user m high =
-    cond_both (permitted s.live user m) (said s user m) (filtered s user m)
-    (λ a. Answered s user m a.state)
-    (λ may. record {
-      answer = m;
-      connections = refl;
-      live = refl;
-      may = may-permitted s.live user m
-          may;
-      answers = inr refl;
-    })
-    (λ no. record {
-      answer = msg.Meta (meta.Filtered (kind_of m));
-      connections = refl;
-      live = refl;
-      may = le-leb 32 (kind_of m) high;
-      answers = inl refl;
-    })
+-- where the live epoch is taken up, what becomes of such a message goes by what is permitted
+decided-judged : (s : State) (conn : ℕ) (c : Connection) (m : Msg) → has_acknowledged s c ≡ true
+    → 32 ≤ kind_of m → decided s conn c m ≡ judged s c m
+decided-judged s conn c (msg.Control (control.Ping pong)) ready high = absurd (omega arith)
+decided-judged s conn c (msg.Control (control.Disconnect reason)) ready high =
+    absurd (omega arith)
+decided-judged s conn c (msg.Control (control.Ack epoch)) ready high = absurd (omega arith)
+decided-judged s conn c (msg.Control control.ResetBegin) ready high = absurd (omega arith)
+decided-judged s conn c (msg.Control control.ResetEnd) ready high = absurd (omega arith)
+decided-judged s conn c (msg.Part command) ready high = absurd (omega arith)
+decided-judged s conn c m ready high =
+    ap (λ b. if b then heard s conn c m else decision.Ignore) ready
 
-answered-said_by : (s : State) (c : Connection) (m : Msg) → 32 ≤ kind_of m
-    → Answered s c.user m (said_by s c m).state
-answered-said_by s c (msg.Control control.ResetBegin) high = absurd (omega arith)
-answered-said_by s c (msg.Control control.ResetEnd) high = absurd (omega arith)
-answered-said_by s c (msg.Part command) high = absurd (omega arith)
-answered-said_by s c m high = answered-judged s c.user m high
+answered-judged : (s : State) (conn : ℕ) (c : Connection) (m : Msg) (b : Bool)
+    → permitted s.live c.user m ≡ b → 32 ≤ kind_of m
+    → Answered s c.user m
+    (noted s (acted_by s conn c m (if b then decision.Place else decision.Filter)))
+answered-judged s conn c m true may high = record {
+  answer = m;
+  connections = refl;
+  live = refl;
+  may = may-permitted s.live c.user m may;
+  answers = inr refl;
+}
+answered-judged s conn c m false refused high = record {
+  answer = msg.Meta (meta.Filtered (kind_of m));
+  connections = refl;
+  live = refl;
+  may = le-leb 32 (kind_of m) high;
+  answers = inl refl;
+}
 
-answered-heard : (s : State) (c : Connection) (m : Msg) → c.acknowledged ≡ true → 32 ≤ kind_of m
-    → Answered s c.user m (heard s c m).state
-answered-heard s c m ready high =
-    subst (λ b. Answered s c.user m (if b then said_by s c m else stays s reply.Ignored).state)
-    (sym ready)
-    (answered-said_by s c m high)
+answered-event : (s : State) (conn : ℕ) (c : Connection) (m : Msg)
+    → open_connection s conn ≡ Some c → has_acknowledged s c ≡ true → 32 ≤ kind_of m
+    → Answered s c.user m (after_event s (event.Say conn m))
+answered-event s conn c m found ready high =
+    let is : acted s (event.Say conn m) ≡ acted_by s conn c m (judged s c m) =
+    ap (λ o. option_map_or (says_by s conn m) o (stays s reply.Ignored)) found
+    ∙ ap (acted_by s conn c m) (decided-judged s conn c m ready high) in
+    subst (λ a. Answered s c.user m (noted s a)) (sym is)
+    (answered-judged s conn c m (permitted s.live c.user m) refl high)
 
-answered-says_by : (s : State) (conn : ℕ) (m : Msg) (c : Connection) → c.acknowledged ≡ true
-    → 32 ≤ kind_of m
-    → Answered s c.user m (says_by s conn m c).state
-answered-says_by s conn (msg.Control (control.Ping pong)) c ready high = absurd (omega arith)
-answered-says_by s conn (msg.Control (control.Disconnect reason)) c ready high = absurd
-    (omega arith)
-answered-says_by s conn (msg.Control (control.Ack epoch)) c ready high = absurd (omega arith)
-answered-says_by s conn m c ready high = answered-heard s c m ready high
-
-answered-says : (s : State) (conn : ℕ) (m : Msg) (c : Connection) → open_connection s conn ≡ Some c
-    → c.acknowledged ≡ true → 32 ≤ kind_of m → Answered s c.user m (says s conn m).state
-answered-says s conn m c found ready high =
-    option_either (says_by s conn m) (open_connection s conn) (stays s reply.Ignored)
-    (λ a. Answered s c.user m a.state)
-    (λ x is. let e : Some c ≡ Some x = sym found ∙ is in let same : c ≡ x = cc in
-    subst (λ y. Answered s c.user m (says_by s conn m y).state) same
-    (answered-says_by s conn m c ready high))
-    (λ none. let e : None ≡ Some c = sym none ∙ found in cc)
-
--- ---- closing
-
-none-owner : (user : ℕ) (b : Bool) (o : Option ℕ) → 1 ≤ user
-    → NoAnswers user (if b then next_owner o else [])
-none-owner user true None above = tt
-none-owner user true (Some owner) above =
-    none-other user (server_entry (meta.Owners (owner ∷ []))) [] (λ same. omega arith) tt
-none-owner user false o above = tt
-
-passes-closed_by : (s : State) (conn : ℕ) (c : Connection) → ArePeople s.connections
-    → open_connection s conn ≡ Some c
-    → Passes s (NotThis conn) (closed_by s conn c).state
-passes-closed_by s conn c h found =
-    let gone = left s conn c in
-    let owners = owners_behind (is_operator s.live c.user) gone in
-    let leave = entry_of c.user (msg.Meta meta.Leave) in
-    let d : Connection = record c { ending = ending.Left (here s) } in
-    record {
-      people = people-fewer s.connections (slice_set s.connections (conn - 1) d)
-          (λ n x is. open-back s.connections conn c d n x found refl is) h;
-      more = leave ∷ owners;
-      live = append_assoc s.live (leave ∷ []) owners;
-      stay = λ n x other is. open-other s.connections conn c d n x found other is;
-      strange = λ n x other is.
-          none-mute x.user leave owners refl
-          (none-owner x.user
-          (is_operator s.live c.user && not (list_any (is_operator gone.live) (present_users gone)))
-          (find (is_present gone) user_ids) (h.users n x is));
-    }
-
-passes-closed : (s : State) (conn : ℕ) → ArePeople s.connections
-    → Passes s (NotThis conn) (closed s conn).state
-passes-closed s conn h =
-    option_either (closed_by s conn) (open_connection s conn) (stays s reply.Ignored)
-    (λ a. Passes s (NotThis conn) a.state)
-    (λ c found. passes-closed_by s conn c h found) (λ none. passes-not s (NotThis conn) h)
-
--- ---- opening
+-- ---- ids
 
 -- what is found among numbers is among them, and passes
 find-passes : (p : ℕ → Bool) (low n k : ℕ) → find p (range_with_len low n) ≡ Some k
@@ -440,6 +325,97 @@ fresh-id s user none n x is same =
     let e : true ≡ false = sym (ap (λ b. b && x.user == user) h.1 ∙ eq-eqb x.user user same)
     ∙ no in cc
 
+-- ---- effects
+
+-- the connections that an event is none of
+abbrev pub Spares : Event → ℕ → Type 0
+Spares (event.Open name registered) n = Unit {0}
+Spares (event.Say conn m) n = n ≡ conn → ⊥
+Spares (event.Close conn) n = n ≡ conn → ⊥
+
+people-ready : (s : State) (conn : ℕ) (c : Connection) → HasPeople s
+    → open_connection s conn ≡ Some c → has_acknowledged s c ≡ true
+people-ready s conn c h found = eq-eqb c.acknowledged (epoch_of s) (h.ready conn c found)
+
+-- nobody takes up an epoch any more
+none-late : (s : State) (conn : ℕ) (c : Connection) → HasPeople s
+    → open_connection s conn ≡ Some c → has_acknowledged s c ≡ false → ⊥
+none-late s conn c h found late =
+    let no : true ≡ false = sym (people-ready s conn c h found) ∙ late in cc
+
+effect-people : (s : State) (e : Event) (effect : Effect) → IsEffect s e effect → HasPeople s
+    → ArePeople (epoch_of s) (connections_after s effect)
+effect-people s e (Nothing answer) cause h = h
+effect-people s e (TakesUp conn c) cause h =
+    absurd (none-late s conn c h cause.1.at.found cause.2)
+effect-people s e (Placed conn c m) cause h = h
+effect-people s e (Filtered conn c m) cause h = h
+effect-people s e (Joined user registered name next) cause h =
+    let free = free-id s user cause.free in
+    people-more (epoch_of s) s.connections (new_connection s user) free.0 refl
+    (fresh-id s user free.1) h
+effect-people s e (Left conn c next) cause h =
+    let d : Connection = record c { ending = ending.Left (here s) } in
+    people-fewer (epoch_of s) s.connections (slice_set s.connections (conn - 1) d)
+    (λ n x is. open-back s.connections conn c d n x cause.at.found refl is) h
+
+effect-stay : (s : State) (e : Event) (effect : Effect) → IsEffect s e effect → HasPeople s
+    → (n : ℕ) (x : Connection) → Spares e n → open_connection s n ≡ Some x
+    → open_in (connections_after s effect) n ≡ Some x
+effect-stay s e (Nothing answer) cause h n x other is = is
+effect-stay s e (TakesUp conn c) cause h n x other is =
+    absurd (none-late s conn c h cause.1.at.found cause.2)
+effect-stay s e (Placed conn c m) cause h n x other is = is
+effect-stay s e (Filtered conn c m) cause h n x other is = is
+effect-stay s e (Joined user registered name next) cause h n x other is =
+    let d = new_connection s user in
+    let f = open-found s.connections n x is in
+    open-from (s.connections ++ d ∷ []) n x (numbered-old s.connections (d ∷ []) n x f.0) f.1
+effect-stay s e (Left conn c next) cause h n x other is =
+    open-other s.connections conn c (record c { ending = ending.Left (here s) }) n x
+    cause.at.found (subst (λ k. Spares k n) cause.came other) is
+
+none-owner : (user : ℕ) (o : Option ℕ) → 1 ≤ user → NoAnswers user (next_owner o)
+none-owner user None above = tt
+none-owner user (Some owner) above =
+    none-other user (server_entry (meta.Owners (owner ∷ []))) [] (λ same. omega arith) tt
+
+-- what a user says is no answer of another's
+none-said : (s : State) (e : Event) (conn : ℕ) (c : Connection) (m : Msg) (d : Decision)
+    (entry : Entry) → IsSaid s e conn c m d → entry.user ≡ c.user → HasPeople s
+    → (n : ℕ) (x : Connection) → Spares e n → open_connection s n ≡ Some x
+    → NoAnswers x.user (entry ∷ [])
+none-said s e conn c m d entry said whose h n x other is =
+    let far : n ≡ conn → ⊥ = subst (λ k. Spares k n) said.came other in
+    none-other x.user entry []
+    (λ same. far (h.apart n conn x c is said.at.found (sym same ∙ whose))) tt
+
+effect-strange : (s : State) (e : Event) (effect : Effect) → IsEffect s e effect → HasPeople s
+    → (n : ℕ) (x : Connection) → Spares e n → open_connection s n ≡ Some x
+    → NoAnswers x.user (entries_of effect)
+effect-strange s e (Nothing answer) cause h n x other is = tt
+effect-strange s e (TakesUp conn c) cause h n x other is = tt
+effect-strange s e (Placed conn c m) cause h n x other is =
+    none-said s e conn c m decision.Place (entry_of c.user m) cause.0 refl h n x other is
+effect-strange s e (Filtered conn c m) cause h n x other is =
+    none-said s e conn c m decision.Filter (filtered_entry c.user m) cause.0 refl h n x other is
+effect-strange s e (Joined user registered name next) cause h n x other is =
+    none-mute x.user (entry_of user (msg.Meta (meta.Join registered name))) (next_owner next) refl
+    (none-owner x.user next (h.users n x is))
+effect-strange s e (Left conn c next) cause h n x other is =
+    none-mute x.user (entry_of c.user (msg.Meta meta.Leave)) (next_owner next) refl
+    (none-owner x.user next (h.users n x is))
+
+passes-effect : (s : State) (e : Event) (effect : Effect) → IsEffect s e effect → HasPeople s
+    → Passes s (Spares e) (noted s (made s effect))
+passes-effect s e effect cause h = record {
+  people = effect-people s e effect cause h;
+  more = entries_of effect;
+  live = refl;
+  stay = effect-stay s e effect cause h;
+  strange = effect-strange s e effect cause h;
+}
+
 -- what the answer to an Open says: its connection is open and of the user, and no answer of the
 -- user's stands after the place of the Join
 abbrev pub Tells : State → State → Reply → Type 0
@@ -452,59 +428,32 @@ pub record Opens (s : State) (r : Reply) (t : State) : Type 0 where
   pub passes : Passes s Everyone t
   pub tells : Tells s t r
 
-opens-not : (s : State) (r : Reply) → ArePeople s.connections → Tells s s r → Opens s r s
-opens-not s r h tells = record { passes = passes-not s Everyone h; tells = tells }
+still-tells : (s t : State) (r : Reply) → IsStill r → Tells s t r
+still-tells s t (reply.Opened conn user epoch at) still = absurd still
+still-tells s t r still = tt
 
-none-join : (user : ℕ) (b : Bool) (join owner : Entry) → may_answer join.msg ≡ false
-    → (owner.user ≡ user → ⊥)
-    → NoAnswers user (join ∷ (if b then [] else owner ∷ []))
-none-join user true join owner mute other = none-mute user join [] mute tt
-none-join user false join owner mute other =
-    none-mute user join (owner ∷ []) mute (none-other user owner [] other tt)
-
-opens-as : (s : State) (registered : Bool) (name : List ℕ) (o : Option ℕ) → free_id s ≡ o
-    → ArePeople s.connections
-    → Opens s (opened_as s registered name o).reply (opened_as s registered name o).state
-opens-as s registered name None is h = opens-not s reply.Full h tt
-opens-as s registered name (Some user) is h =
-    let free = free-id s user is in
-    let more = join_entries s user registered name in
+effect-tells : (s : State) (e : Event) (effect : Effect) → IsEffect s e effect → HasPeople s
+    → Tells s (noted s (made s effect)) (answer_of s effect)
+effect-tells s e (Nothing answer) cause h =
+    still-tells s (noted s (made s (Nothing answer))) answer cause
+effect-tells s e (TakesUp conn c) cause h = tt
+effect-tells s e (Placed conn c m) cause h = tt
+effect-tells s e (Filtered conn c m) cause h = tt
+effect-tells s e (Joined user registered name next) cause h =
+    let join = entry_of user (msg.Meta (meta.Join registered name)) in
+    let more : List Entry = join ∷ next_owner next in
     let d = new_connection s user in
-    let strange : (k : ℕ) → 1 ≤ k → NoAnswers k more =
-    λ k above. none-join k (list_any (is_present s) user_ids)
-    (entry_of user (msg.Meta (meta.Join registered name)))
-    (server_entry (meta.Owners (user ∷ []))) refl (λ same. omega arith) in
-    let at_end : numbered (s.connections ++ d ∷ []) (length s.connections + 1)
-    ≡ Some d = numbered-new s.connections d in
-    record {
-      passes = record {
-        people = people-more s.connections d free.0 refl (fresh-id s user free.1) h;
-        more = more;
-        live = refl;
-        stay = λ n c other is. let f = open-found s.connections n c is in
-            open-from (s.connections ++ d ∷ []) n c (numbered-old s.connections (d ∷ []) n c f.0)
-            f.1;
-        strange = λ n c other is. strange c.user (h.users n c is);
-      };
-      tells = (
-        d,
-        open-from (s.connections ++ d ∷ []) (length s.connections + 1) d at_end refl,
-        refl,
-        omega (arith, length-append s.live more, positive (list_any (is_present s) user_ids)),
-        answers-same user (length s.live) s.live more (strange user free.0)
-            ∙ answers-before user (length s.live) 0 s.live (omega arith),
-      );
-    }
-  where
-    positive : (b : Bool) → 0 < length (join_entries s user registered name)
-    positive b = omega arith
-
-opens-opened : (s : State) (name : List ℕ) (registered : Bool) → ArePeople s.connections
-    → Opens s (opened s name registered).reply (opened s name registered).state
-opens-opened s name registered h =
-    cond_both (is_name name) (opened_as s registered name (free_id s)) (stays s reply.NameRefused)
-    (λ a. Opens s a.reply a.state) (λ yes. opens-as s registered name (free_id s) refl h)
-    (λ no. opens-not s reply.NameRefused h tt)
+    let above = (free-id s user cause.free).0 in (
+      d,
+      open-from (s.connections ++ d ∷ []) (length s.connections + 1) d
+          (numbered-new s.connections d) refl,
+      refl,
+      omega (arith, length-append s.live more),
+      answers-same user (length s.live) s.live more
+          (none-mute user join (next_owner next) refl (none-owner user next above))
+          ∙ answers-before user (length s.live) 0 s.live (omega arith),
+    )
+effect-tells s e (Left conn c next) cause h = tt
 
 -- ---- where one more event leads
 
@@ -513,6 +462,7 @@ pub record Leading : Type 0 where
   pub on_kept : (past : Past) (e : Event) → ShutBefore past
       → state_of (kept past e) ≡ after_event (state_of past) e
   pub before : (past : Past) (e : Event) → ShutBefore past → ShutBefore (sure_step past e)
+  pub effects : EventsHaveEffects
   pub same : (m : Msg) → same_message m m ≡ true
 
 -- the event was not answered Ended
@@ -532,72 +482,50 @@ step-kept laws past e before goes =
     ap (λ b. state_of (if b then kept past e else refused past e)) (step-room past e goes)
     ∙ laws.on_kept past e before
 
-passes-step : Leading → (past : Past) (e : Event) (Others : ℕ → Type 0) → ShutBefore past
-    → NotEnded past e
-    → Passes (state_of past) Others (acted (state_of past) e).state
-    → Passes (state_of past) Others (state_of (sure_step past e))
-passes-step laws past e Others before goes h =
-    subst (Passes (state_of past) Others) (sym (step-kept laws past e before goes))
-    (record { people = h.people; more = h.more; live = h.live; stay = h.stay; strange = h.strange })
+passes-step : Leading → (past : Past) (e : Event) → ShutBefore past → NotEnded past e
+    → HasPeople (state_of past)
+    → Passes (state_of past) (Spares e) (state_of (sure_step past e))
+passes-step laws past e before goes people =
+    let s = state_of past in
+    let h = laws.effects s e in
+    subst (Passes s (Spares e)) (sym (step-kept laws past e before goes))
+    (subst (λ a. Passes s (Spares e) (noted s a)) (sym h.made)
+    (passes-effect s e h.effect h.cause people))
 
 pub passes-say : Leading → (past : Past) (conn : ℕ) (m : Msg) → ShutBefore past
-    → NotEnded past (event.Say conn m)
-    → ArePeople (state_of past).connections
+    → NotEnded past (event.Say conn m) → HasPeople (state_of past)
     → Passes (state_of past) (NotThis conn) (state_of (sure_step past (event.Say conn m)))
-passes-say laws past conn m before goes h =
-    passes-step laws past (event.Say conn m) (NotThis conn) before goes
-    (passes-says (state_of past) conn m h)
+passes-say laws past conn m before goes people =
+    passes-step laws past (event.Say conn m) before goes people
 
 pub passes-close : Leading → (past : Past) (conn : ℕ) → ShutBefore past
-    → NotEnded past (event.Close conn)
-    → ArePeople (state_of past).connections
+    → NotEnded past (event.Close conn) → HasPeople (state_of past)
     → Passes (state_of past) (NotThis conn) (state_of (sure_step past (event.Close conn)))
-passes-close laws past conn before goes h =
-    passes-step laws past (event.Close conn) (NotThis conn) before goes
-    (passes-closed (state_of past) conn h)
+passes-close laws past conn before goes people =
+    passes-step laws past (event.Close conn) before goes people
 
 pub answered-say : Leading → (past : Past) (conn : ℕ) (m : Msg) (c : Connection) → ShutBefore past
-    → NotEnded past (event.Say conn m) → open_connection (state_of past) conn ≡ Some c
-    → c.acknowledged ≡ true → 32 ≤ kind_of m
+    → NotEnded past (event.Say conn m) → HasPeople (state_of past)
+    → open_connection (state_of past) conn ≡ Some c → 32 ≤ kind_of m
     → Answered (state_of past) c.user m (state_of (sure_step past (event.Say conn m)))
-answered-say laws past conn m c before goes found ready high =
-    let h = answered-says (state_of past) conn m c found ready high in
-    subst (Answered (state_of past) c.user m) (sym (step-kept laws past (event.Say conn m) before
-    goes))
-    (record {
-      answer = h.answer;
-      connections = h.connections;
-      live = h.live;
-      may = h.may;
-      answers =
-          h.answers;
-    })
-
-tells-answered : (s t : State) (r : Reply) (answers : List Reply) → Tells s t r
-    → Tells s (record t { answers = answers }) r
-tells-answered s t (reply.Opened conn user epoch at) answers h = h
-tells-answered s t r answers h = tt
+answered-say laws past conn m c before goes people found high =
+    let s = state_of past in
+    subst (Answered s c.user m) (sym (step-kept laws past (event.Say conn m) before goes))
+    (answered-event s conn c m found (people-ready s conn c people found) high)
 
 pub opens-open : Leading → (past : Past) (name : List ℕ) (registered : Bool) → ShutBefore past
-    → NotEnded past (event.Open name registered) → ArePeople (state_of past).connections
+    → NotEnded past (event.Open name registered) → HasPeople (state_of past)
     → Opens (state_of past) (sure_answer past (event.Open name registered))
     (state_of (sure_step past (event.Open name registered)))
-opens-open laws past name registered before goes h =
+opens-open laws past name registered before goes people =
     let e = event.Open name registered in
     let s = state_of past in
-    let o = opens-opened s name registered h in
-    let room = step-room past e goes in
+    let h = laws.effects s e in
     let answer : answer_to past e ≡ sure_answer past e =
-    sym (ap (λ b. if b then answer_to past e else reply.Ended) room) in
+    sym (ap (λ b. if b then answer_to past e else reply.Ended) (step-room past e goes)) in
     subst (λ r. Opens s r (state_of (sure_step past e))) answer
-    (subst (Opens s (answer_to past e)) (sym (step-kept laws past e before goes)) (record {
-      passes = record {
-        people = o.passes.people;
-        more = o.passes.more;
-        live = o.passes.live;
-        stay = o.passes.stay;
-        strange = o.passes.strange;
-      };
-      tells = tells-answered s (acted s e).state (answer_to past e)
-          (s.answers ++ (acted s e).reply ∷ []) o.tells;
-    }))
+    (subst (Opens s (answer_to past e)) (sym (step-kept laws past e before goes))
+    (subst (λ a. Opens s a.reply (noted s a)) (sym h.made) (record {
+      passes = passes-effect s e h.effect h.cause people;
+      tells = effect-tells s e h.effect h.cause people;
+    })))

@@ -20,6 +20,7 @@ use Rattle.dp_session.specs.declared.event.Reply.{Reply}
 use Rattle.dp_session.specs.declared.event.Reply.TheVariants as reply
 use Rattle.dp_session.specs.State.{open_connection, after_event}
 use Rattle.dp_session.specs.Past.{Past, state_of, kept, sure_step, sure_answer}
+use Rattle.dp_session.specs.Effects.{EventsHaveEffects}
 use Rattle.dp_session.specs.Laws.{ShutBefore}
 use Rattle.dp_schedule.specs.declared.action.Instruction.{Instruction}
 use Rattle.dp_schedule.specs.declared.action.Instruction.TheVariants.{Take}
@@ -41,7 +42,7 @@ use Rattle.dp_lists.proofs.Numbered.{numbered-past}
 use Rattle.dp_sim_laws.proofs.Steps.{none-if, Goes, goes-after, goes-first, welcome-steps}
 use Rattle.dp_sim_laws.proofs.Steps.{exchange-steps}
 use Rattle.dp_sim_laws.proofs.Answering.{answers_from, Answer}
-use Rattle.dp_sim_laws.proofs.Events.{ArePeople, no-people, Everyone, NotThis, Passes, Opens}
+use Rattle.dp_sim_laws.proofs.Events.{HasPeople, no-people, Everyone, NotThis, Passes, Opens}
 use Rattle.dp_sim_laws.proofs.Events.{Leading, opens-open}
 use Rattle.dp_sim_laws.proofs.Clients.{NeverEnds, Holds, holds-passes, exchange-passes}
 use Rattle.dp_sim_laws.proofs.Clients.{holds-exchanged, not-gone, next-is, next-kept}
@@ -68,14 +69,14 @@ tally-more c d steps more goes is =
 -- what is true of a world and the client of a number, which did these steps
 pub record Good (w : World) (number : ℕ) (steps : List Step) : Type 0 where
   pub world : IsWorld w
-  pub people : ArePeople (state_of w.past).connections
+  pub people : HasPeople (state_of w.past)
   pub goes : Goes w number steps
   pub holds : (p : Participant) → participant_of w number ≡ Some p
       → Holds (state_of w.past) number p (tally_of p.state steps)
 
 -- an action leaves this of it
 record Leaves (v : World) (number : ℕ) (steps : List Step) : Type 0 where
-  pub people : ArePeople (state_of v.past).connections
+  pub people : HasPeople (state_of v.past)
   pub holds : (p : Participant) → participant_of v number ≡ Some p
       → Holds (state_of v.past) number p (tally_of p.state steps)
 
@@ -256,10 +257,16 @@ pub record Staying : Type 0 where
 pub staying : ((past : Past) (e : Event) → ShutBefore past
     → state_of (kept past e) ≡ after_event (state_of past) e)
     → ((past : Past) (e : Event) → ShutBefore past → ShutBefore (sure_step past e))
+    → EventsHaveEffects
     → ((m n : Msg) → IsTrue (same_message m n) ↔ (m ≡ n)) → IsWorld first_world
     → ((w : World) (action : Action) → IsWorld w → IsWorld (after w action)) → Staying
-staying on_kept before equality first stays = record {
-  leading = record { on_kept = on_kept; before = before; same = λ m. (equality m m).1 refl };
+staying on_kept before effects equality first stays = record {
+  leading = record {
+    on_kept = on_kept;
+    before = before;
+    effects = effects;
+    same = λ m. (equality m m).1 refl;
+  };
   first = first;
   stays = stays;
 }

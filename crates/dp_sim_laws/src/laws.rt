@@ -9,7 +9,7 @@ ghost use Rattle.dp_sim_laws.specs.OwnSteps.{own_steps, GoesBy, next_of};
 ghost use Rattle.dp_sim_laws.specs.Tally.{IsUnended, tally_of};
 
 use dp_messages::one_equality;
-use dp_session::steps_lead_on;
+use dp_session::{events_have_effects, steps_lead_on};
 use dp_sim::worlds_stay_worlds;
 
 /// After every schedule each client is where its own steps since its Welcome lead.
@@ -33,6 +33,7 @@ pub fn forks_are_plain()
 {
     worlds_stay_worlds();
     steps_lead_on();
+    events_have_effects();
     one_equality();
 }
 
@@ -45,5 +46,6 @@ pub fn no_fork_is_lost()
 {
     worlds_stay_worlds();
     steps_lead_on();
+    events_have_effects();
     one_equality();
 }

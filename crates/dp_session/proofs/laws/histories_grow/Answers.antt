@@ -2,4 +2,4 @@ use Rattle.dp_session.proofs.LawLemmas.{history-grows}
 use Rattle.dp_session.proofs.laws.histories_grow.Goals as goal
 
 pub returns : goal.returns
-returns c journal shut e before = history-grows journal shut e before
+returns c journal shut e epoch before = history-grows journal shut e epoch before

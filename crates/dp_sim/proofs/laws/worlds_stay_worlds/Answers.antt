@@ -7,4 +7,5 @@ returns-clause-stays c =
       on_kept = c.steps_lead_on.ensures.kept;
       on_refused = c.steps_lead_on.ensures.refused;
       before = c.steps_lead_on.ensures.before;
+      effects = c.events_have_effects.ensures;
     })

@@ -19,8 +19,8 @@ returns-in-Acknowledge c =
     let found : open_in s.connections c.args.conn ≡ Some c.args.connection.now =
     ap (λ cs. open_in cs c.args.conn) (sym c.requires.tables.of.table) ∙ c.requires.found in
     rw c.acknowledged.ensures
-    (plan-acknowledged s c.args.conn c.args.connection.now found c.args.msg
-    c.in-Acknowledge.ensures)
+    (plan-acknowledged s c.args.conn c.args.connection.now found c.args.msg c.here-here.result.epoch
+    (ap (λ place. place.epoch) c.here-here.ensures) c.in-Acknowledge.ensures)
 
 pub returns-in-Place : goal.returns-in-Place
 returns-in-Place c =
