@@ -70,7 +70,7 @@ fault_of (Some bytes) left done has took = record {
   parts =
       took.whole
       ∙ ap (λ (xs : List ℕ). took.taken ++ (xs ++ took.untaken)) (nil_from_length took.behind
-          (omega (arith, took.few)));
+      (omega (arith, took.few)));
   left_is = took.left_is;
   quiet = took.meets.quiet;
   actions = has.actions;

@@ -43,7 +43,15 @@ pub fn run_world<I: Source, O: Sink, D: Ledger, T: Ledger>(
     let Ok(mut machine) = WorldRun::new(alloc) else {
         return RunEnd::Memory;
     };
-    run_end(run_lines(alloc, WORLD_LIMIT, input, &mut machine, output, draws, tiles))
+    run_end(run_lines(
+        alloc,
+        WORLD_LIMIT,
+        input,
+        &mut machine,
+        output,
+        draws,
+        tiles,
+    ))
 }
 
 /// How the run ends where that of its lines ends so.
