@@ -1,10 +1,1 @@
-pub mod Ranges
-pub mod Holders
-pub mod Interleaving
-pub mod EffectLemmas
-pub mod TableLemmas
-pub mod PlanLemmas
-pub mod QuietLemmas
-pub mod LawLemmas
-pub mod ReadLemmas
 pub mod SessionLemmas

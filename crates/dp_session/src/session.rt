@@ -1,18 +1,17 @@
 //! A session over any store of rows.
 
-ghost use Rattle.std.specs.Prelude.{◌≡◌, [], None, IfOk, OnErr};
+ghost use Rattle.std.specs.Prelude.{◌≡◌, [], None, true, IfOk, OnErr, IsOk, MatchResult};
 ghost use Rattle.dp_keeper.specs.Store.{Puts, Counts};
-ghost use Rattle.dp_session.specs.Past.{Refuses, Serves, Step, state_of};
-ghost use Rattle.dp_session.specs.Tables.{AreTables};
-ghost use Rattle.dp_session.specs.Puts.{IsReady, IsPut};
-ghost use Rattle.dp_session.specs.Pull.{answered};
-ghost use Rattle.dp_session.specs.State.{next_open};
+ghost use Rattle.dp_epochs.specs.Past.{Refuses, Serves, Step, state_of};
+ghost use Rattle.dp_epochs.specs.Pull.{answered};
+ghost use Rattle.dp_epochs.specs.State.{next_open};
+ghost use Rattle.dp_tables.specs.Plans.{IsReady};
+ghost use Rattle.dp_session.specs.Puts.{IsPut};
 
-use crate::event::{Answer, Event, Journal, Query, Reply, Shut};
-use crate::plan::Ready;
-use crate::tables::{Tables, next_open};
+use dp_events::{Answer, Event, Journal, Query, Reply, Shut};
 use dp_keeper::{KeepError, Keeper};
 use dp_machine::Machine;
+use dp_tables::{Ready, Tables};
 use std::alloc::{AllocError, Global};
 use std::marker::Model;
 
@@ -28,15 +27,38 @@ pub struct Session<K: Keeper> {
 }
 
 impl<K: Keeper> Model for Session<K> {
-    ghost use Rattle.dp_session.specs.Past.{Past};
-    ghost use Rattle.dp_session.specs.Tables.{AreTables};
+    ghost use Rattle.dp_epochs.specs.Past.{Past};
     ghost use Rattle.dp_session.specs.Puts.{past_of};
 
     ghost Value = { Past };
 
     ghost view = { λ s. past_of s.tables s.first_fault (K.held s.keeper) (K.faults s.keeper) };
+}
 
-    ghost invariant = { λ s. AreTables s.tables };
+/// Does what became of the row of an event that is ready.
+fn finish(
+    tables: &mut Tables,
+    event: &Event,
+    ready: Ready,
+    outcome: Result<(), KeepError>,
+) -> Result<Reply, KeepError>
+    requires room { tables.old.room ≡ true }
+    requires ready { IsReady tables.old event.now ready }
+    ensures same { MatchResult outcome (λ done. IsOk result) (λ error. result ≡ Err error) }
+    ensures put { IsPut tables.old event.now result tables.new }
+{
+    match outcome {
+        Ok(()) => Ok(tables.keep(ready)),
+        Err(KeepError::Memory) => {
+            drop(ready);
+            Err(KeepError::Memory)
+        }
+        Err(KeepError::Failed) => {
+            drop(ready);
+            tables.leave_out(event);
+            Err(KeepError::Failed)
+        }
+    }
 }
 
 /// Keeps an event that is ready, if its row is put. If the store fails, the event is left out, and
@@ -47,11 +69,9 @@ fn put<K: Keeper>(
     event: &Event,
     ready: Ready,
 ) -> Result<Reply, KeepError>
-    requires tables { AreTables tables.old }
-    requires ready { IsReady tables.old event.now ready }
+    requires { IsReady tables.old event.now ready }
     ensures rows { Puts (K.held keeper.old) ready.row result (K.held keeper.new) }
     ensures count { Counts (K.faults keeper.old) result (K.faults keeper.new) }
-    ensures tables { AreTables tables.new }
     ensures outcome { IsPut tables.old event.now result tables.new }
 {
     let Ok(()) = tables.make_room() else {
@@ -59,7 +79,7 @@ fn put<K: Keeper>(
         return Err(KeepError::Memory);
     };
     let outcome = keeper.put(&ready.row);
-    tables.finish(event, ready, outcome)
+    finish(tables, event, ready, outcome)
 }
 
 impl<K: Keeper + Drop> Session<K> {
@@ -88,7 +108,7 @@ impl<K: Keeper> Session<K> {
     pub fn conns(&self, after: u32) -> Option<u32>
         ensures { result ≡ next_open (state_of self.now).connections after }
     {
-        next_open(&self.tables.connections, after)
+        self.tables.next_open(after)
     }
 
     /// The store, the events that were kept, and the closings that were refused.
@@ -160,7 +180,9 @@ impl<K: Keeper> Machine for Session<K> {
         match self.serve(event) {
             Ok(reply) => Ok(reply),
             Err(error) => {
-                self.tables.quieten(event);
+                if let Event::Close { conn } = event {
+                    self.tables.quieten(*conn);
+                }
                 Err(error)
             }
         }

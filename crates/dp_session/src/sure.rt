@@ -1,10 +1,10 @@
 //! Sessions over a store that never fails.
 
 ghost use Rattle.std.specs.Prelude.{◌≡◌, None, IfOk, OnOk, OnErr};
-ghost use Rattle.dp_session.specs.Past.{quieted, sure_answer, sure_step};
+ghost use Rattle.dp_epochs.specs.Past.{quieted, sure_answer, sure_step};
 
-use crate::event::{Event, Reply};
 use crate::session::Session;
+use dp_events::{Event, Reply};
 use dp_keeper::{Keeper, SureKeeper};
 use dp_machine::Machine;
 use std::alloc::AllocError;

@@ -2,12 +2,13 @@
 
 ghost use Rattle.std.specs.Prelude.{None};
 
+use dp_events::{Answer, Event, Query, Reply, ShutAt};
 use dp_frame::Octets;
 use dp_keeper::{KeepError, Keeper, MemKeeper, Row, Rows, SureKeeper};
 use dp_machine::Machine;
 use dp_messages::Msg;
 use dp_msg_meta::{Control, Ids, Meta};
-use dp_session::{Answer, Event, Query, Reply, Session, ShutAt};
+use dp_session::Session;
 use std::alloc::{AllocError, Global};
 use std::process::Abort;
 use std::test::Fail;

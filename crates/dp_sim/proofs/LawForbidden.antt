@@ -12,12 +12,12 @@ use Rattle.dp_plain.specs.Replay.{replay, user_act_of, undo_depth}
 use Rattle.dp_acl.specs.Laws.{ForbiddenChangesNoRight}
 use Rattle.dp_acl.specs.Laws as acl
 use Rattle.dp_acl.specs.Permitted.{permitted}
-use Rattle.dp_session.specs.declared.event.Event.{Event}
-use Rattle.dp_session.specs.declared.event.Event.TheVariants as event
-use Rattle.dp_session.specs.declared.event.Reply.TheVariants as reply
-use Rattle.dp_session.specs.State.{State}
-use Rattle.dp_session.specs.Effects.{Effect, Nothing, TakesUp, Placed, Filtered, Joined, Left}
-use Rattle.dp_session.specs.Effects.{entries_of, answer_of, IsStill, IsEffect, EventsHaveEffects}
+use Rattle.dp_events.specs.declared.event.Event.{Event}
+use Rattle.dp_events.specs.declared.event.Event.TheVariants as event
+use Rattle.dp_events.specs.declared.event.Reply.TheVariants as reply
+use Rattle.dp_epochs.specs.State.{State}
+use Rattle.dp_epochs.specs.Effects.{Effect, Nothing, TakesUp, Placed, Filtered, Joined, Left}
+use Rattle.dp_epochs.specs.Effects.{entries_of, answer_of, IsStill, IsEffect, EventsHaveEffects}
 use Rattle.dp_sim.specs.Headline.{ChangesNothing, ForbiddenChangesNothing}
 use Rattle.dp_sim.proofs.LawStrokes.{drawn-other}
 

@@ -13,21 +13,22 @@ use Rattle.dp_messages.specs.declared.message.Msg.{Msg}
 use Rattle.dp_messages.specs.declared.message.Msg.TheVariants as msg
 use Rattle.dp_messages.specs.declared.message.Entry.{Entry}
 use Rattle.dp_acl.specs.Permitted.{permitted}
-use Rattle.dp_session.specs.declared.connection.Connection.{Connection}
-use Rattle.dp_session.specs.declared.connection.Ending.TheVariants as ending
-use Rattle.dp_session.specs.declared.event.Event.{Event}
-use Rattle.dp_session.specs.declared.event.Event.TheVariants as event
-use Rattle.dp_session.specs.declared.event.Reply.{Reply}
-use Rattle.dp_session.specs.declared.event.Reply.TheVariants as reply
-use Rattle.dp_session.specs.State.{State, acted, noted, after_event, after_shut, epoch_of, here}
-use Rattle.dp_session.specs.State.{is_open, open_in, open_connection, with_connection}
-use Rattle.dp_session.specs.State.{new_connection, next_owner}
-use Rattle.dp_session.specs.Effects.{Effect, Nothing, TakesUp, Placed, Filtered, Joined, Left, made}
-use Rattle.dp_session.specs.Effects.{entries_of, connections_after, answer_of, IsStill, IsEffect}
-use Rattle.dp_session.specs.Effects.{EventsHaveEffects}
-use Rattle.dp_session.specs.Rows.{has_room}
-use Rattle.dp_session.specs.Past.{Past, state_of, kept, refused, answer_to, sure_step, sure_answer}
-use Rattle.dp_session.specs.Laws.{ShutBefore, shut_by}
+use Rattle.dp_events.specs.declared.connection.Connection.{Connection}
+use Rattle.dp_events.specs.declared.connection.Ending.TheVariants as ending
+use Rattle.dp_events.specs.declared.event.Event.{Event}
+use Rattle.dp_events.specs.declared.event.Event.TheVariants as event
+use Rattle.dp_events.specs.declared.event.Reply.{Reply}
+use Rattle.dp_events.specs.declared.event.Reply.TheVariants as reply
+use Rattle.dp_epochs.specs.State.{State, acted, noted, after_event, after_shut, epoch_of, here}
+use Rattle.dp_events.specs.Connections.{is_open}
+use Rattle.dp_epochs.specs.State.{open_in, open_connection, with_connection}
+use Rattle.dp_epochs.specs.State.{new_connection, next_owner}
+use Rattle.dp_epochs.specs.Effects.{Effect, Nothing, TakesUp, Placed, Filtered, Joined, Left, made}
+use Rattle.dp_epochs.specs.Effects.{entries_of, connections_after, answer_of, IsStill, IsEffect}
+use Rattle.dp_epochs.specs.Effects.{EventsHaveEffects}
+use Rattle.dp_events.specs.Rows.{has_room}
+use Rattle.dp_epochs.specs.Past.{Past, state_of, kept, refused, answer_to, sure_step, sure_answer}
+use Rattle.dp_epochs.specs.Laws.{ShutBefore, shut_by}
 use Rattle.dp_sim.specs.Invariant.{HasNoMark}
 use Rattle.dp_lists.specs.Numbered.{numbered}
 use Rattle.dp_lists.proofs.Options.{option_both}

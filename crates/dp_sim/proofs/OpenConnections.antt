@@ -7,8 +7,9 @@ use Rattle.std.proofs.lemmas.Bool.{cases_Bool}
 use Rattle.dp_lists.specs.Numbered.{numbered}
 use Rattle.dp_messages.specs.Properties.{marked}
 use Rattle.dp_messages.specs.declared.message.Entry.{Entry}
-use Rattle.dp_session.specs.declared.connection.Connection.{Connection}
-use Rattle.dp_session.specs.State.{connection_in, where_open, open_in, is_open}
+use Rattle.dp_events.specs.declared.connection.Connection.{Connection}
+use Rattle.dp_events.specs.Connections.{is_open}
+use Rattle.dp_epochs.specs.State.{connection_in, where_open, open_in}
 use Rattle.dp_sim.specs.Invariant.{HasNoMark, IsHistory}
 
 -- ---- open connections

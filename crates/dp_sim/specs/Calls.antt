@@ -2,8 +2,8 @@
 use Rattle.std.specs.Prelude.{◌≡◌, ◌<◌, ◌-◌, ◌^◌, true, is_some, MatchBool, None, [], ◌++◌, length}
 use Rattle.dp_messages.specs.declared.message.Entry.{Entry}
 use Rattle.dp_client.specs.Client as client
-use Rattle.dp_session.specs.State.{open_connection}
-use Rattle.dp_session.specs.Past.{Past, state_of}
+use Rattle.dp_epochs.specs.State.{open_connection}
+use Rattle.dp_epochs.specs.Past.{Past, state_of}
 use Rattle.dp_sim.specs.Exchanges.{Participant, Exchange, acks}
 use Rattle.dp_sim.specs.Invariant.{is_closed}
 

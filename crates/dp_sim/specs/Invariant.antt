@@ -5,10 +5,10 @@ use Rattle.std.specs.List.{AllByRecursion}
 use Rattle.dp_messages.specs.Messages.{kind_of}
 use Rattle.dp_messages.specs.declared.message.Entry.{Entry}
 use Rattle.dp_messages.specs.Properties.{marked}
-use Rattle.dp_session.specs.Rows.{event_limit}
-use Rattle.dp_session.specs.State.{State, open_connection}
-use Rattle.dp_session.specs.Past.{state_of}
-use Rattle.dp_session.specs.Laws.{ShutBefore}
+use Rattle.dp_events.specs.Rows.{event_limit}
+use Rattle.dp_epochs.specs.State.{State, open_connection}
+use Rattle.dp_epochs.specs.Past.{state_of}
+use Rattle.dp_epochs.specs.Laws.{ShutBefore}
 use Rattle.dp_schedule.specs.declared.action.Action.{Action}
 use Rattle.dp_schedule.specs.declared.action.Action.TheVariants.{Join, Act, Show}
 use Rattle.dp_schedule.specs.declared.action.Instruction.{Instruction}

@@ -4,8 +4,8 @@ use Rattle.std.specs.Option.{option_map_or}
 use Rattle.dp_client.specs.Client.{State, confirmed, view}
 use Rattle.dp_plain.specs.Board.{Board}
 use Rattle.dp_plain.specs.Picture.{p3}
-use Rattle.dp_session.specs.declared.event.Event.TheVariants.{Open}
-use Rattle.dp_session.specs.Past.{sure_answer}
+use Rattle.dp_events.specs.declared.event.Event.TheVariants.{Open}
+use Rattle.dp_epochs.specs.Past.{sure_answer}
 use Rattle.dp_schedule.specs.declared.action.CanvasKind.{CanvasKind}
 use Rattle.dp_schedule.specs.declared.action.CanvasKind.TheVariants.{View, Confirmed}
 use Rattle.dp_schedule.specs.declared.action.Action.{Action}

@@ -5,10 +5,10 @@ use Rattle.std.specs.List.{fold}
 use Rattle.std.specs.Option.{option_map_or}
 use Rattle.dp_lists.specs.Numbered.{numbered}
 use Rattle.dp_client.specs.Client as client
-use Rattle.dp_session.specs.declared.event.Event.TheVariants.{Open}
-use Rattle.dp_session.specs.declared.event.Reply.{Reply}
-use Rattle.dp_session.specs.declared.event.Reply.TheVariants as reply
-use Rattle.dp_session.specs.Past.{Past, sure_answer, sure_step}
+use Rattle.dp_events.specs.declared.event.Event.TheVariants.{Open}
+use Rattle.dp_events.specs.declared.event.Reply.{Reply}
+use Rattle.dp_events.specs.declared.event.Reply.TheVariants as reply
+use Rattle.dp_epochs.specs.Past.{Past, sure_answer, sure_step}
 use Rattle.dp_schedule.specs.declared.action.Instruction.{Instruction}
 use Rattle.dp_schedule.specs.declared.action.Action.{Action}
 use Rattle.dp_schedule.specs.declared.action.Action.TheVariants.{Join, Act, Show}

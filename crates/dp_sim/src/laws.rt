@@ -5,10 +5,10 @@ ghost use Rattle.dp_schedule.specs.declared.action.Action.{Action};
 ghost use Rattle.dp_sim.specs.World.{World, first_world, after, world_after};
 ghost use Rattle.dp_sim.specs.Invariant.{IsWorld};
 ghost use Rattle.dp_sim.specs.Headline.{Headline, ForbiddenChangesNothing};
-ghost use Rattle.dp_session.specs.State.{State};
+ghost use Rattle.dp_epochs.specs.State.{State};
 
 use dp_acl::forbidden_changes_no_right;
-use dp_session::{events_have_effects, steps_lead_on};
+use dp_epochs::{events_have_effects, steps_lead_on};
 
 /// What is true of every world: of the first one, and of the one after any action.
 pub fn worlds_stay_worlds()

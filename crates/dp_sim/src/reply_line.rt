@@ -3,8 +3,8 @@
 ghost use Rattle.std.specs.Prelude.{◌≡◌};
 ghost use Rattle.dp_sim.specs.Exchanges.{said_line, left_line, cut_line};
 
+use dp_events::Reply;
 use dp_schedule::ReportLine;
-use dp_session::Reply;
 
 /// What the report says of the answer to a message.
 pub(crate) fn said_line(reply: Reply) -> ReportLine

@@ -2,8 +2,8 @@
 
 ghost use Rattle.std.specs.Prelude.{◌≡◌, is_some, IsSome, IfSome, IfOk, OnOk};
 ghost use Rattle.dp_schedule.specs.declared.action.Action.TheVariants.{Join, Act};
-ghost use Rattle.dp_session.specs.declared.event.Event.TheVariants.{Open};
-ghost use Rattle.dp_session.specs.Past.{sure_answer};
+ghost use Rattle.dp_events.specs.declared.event.Event.TheVariants.{Open};
+ghost use Rattle.dp_epochs.specs.Past.{sure_answer};
 ghost use Rattle.dp_client.specs.Client.{confirmed, view};
 ghost use Rattle.dp_sim.specs.World.{first_world, after, participant_of, join_line, acted_line};
 ghost use Rattle.dp_sim.specs.World.{length_of};
@@ -11,11 +11,13 @@ ghost use Rattle.dp_sim.specs.Invariant.{IsWorld, IsSayable};
 
 use crate::laws::worlds_stay_worlds;
 use crate::participant::{Participant, serve};
+use dp_epochs::histories_are_short;
+use dp_events::{Event, Reply};
 use dp_frame::Octets;
 use dp_keeper::{Rows, SureKeeper};
 use dp_plain::PlainBoard;
 use dp_schedule::{Instruction, ReportLine};
-use dp_session::{Event, Reply, Session, histories_are_short};
+use dp_session::Session;
 use dp_steps::Steps;
 use std::alloc::{AllocError, Global};
 use std::marker::Model;

@@ -10,7 +10,7 @@ use Rattle.dp_messages.specs.declared.message.Msg.{Msg}
 use Rattle.dp_messages.specs.declared.message.Entry.{Entry}
 use Rattle.dp_messages.specs.Properties.{is_filtered}
 use Rattle.dp_client.specs.Client.{may_answer}
-use Rattle.dp_session.specs.State.{entry_of}
+use Rattle.dp_epochs.specs.State.{entry_of}
 
 -- the answers of a user whose Join stands there, in a list of which the first is the entry of this
 -- index

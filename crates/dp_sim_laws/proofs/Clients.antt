@@ -19,13 +19,13 @@ use Rattle.dp_client.specs.Client as client
 use Rattle.dp_client.specs.Client.{Took, is_first_mark, last_before, is_own_answer}
 use Rattle.dp_client.specs.Client.{may_answer, answered, own_of, fork_after}
 use Rattle.dp_client.specs.declared.own.Own.TheVariants.{Stranger, Echo, Dropped, Lost}
-use Rattle.dp_session.specs.declared.connection.Connection.{Connection}
-use Rattle.dp_session.specs.declared.event.Event.TheVariants as event
-use Rattle.dp_session.specs.declared.event.Reply.{Reply}
-use Rattle.dp_session.specs.declared.event.Reply.TheVariants as reply
-use Rattle.dp_session.specs.State.{State, open_connection, open_in, entry_of, epoch_of}
-use Rattle.dp_session.specs.Past.{state_of, sure_answer}
-use Rattle.dp_session.specs.Laws.{ShutBefore}
+use Rattle.dp_events.specs.declared.connection.Connection.{Connection}
+use Rattle.dp_events.specs.declared.event.Event.TheVariants as event
+use Rattle.dp_events.specs.declared.event.Reply.{Reply}
+use Rattle.dp_events.specs.declared.event.Reply.TheVariants as reply
+use Rattle.dp_epochs.specs.State.{State, open_connection, open_in, entry_of, epoch_of}
+use Rattle.dp_epochs.specs.Past.{state_of, sure_answer}
+use Rattle.dp_epochs.specs.Laws.{ShutBefore}
 use Rattle.dp_schedule.specs.declared.action.Instruction.{Instruction}
 use Rattle.dp_schedule.specs.declared.action.Instruction.TheVariants.{Say, Up, Take, Leave, Cut}
 use Rattle.dp_sim.specs.declared.participant.LinkState.{LinkState}

@@ -19,25 +19,26 @@ use Rattle.dp_messages.specs.declared.message.Entry.{Entry}
 use Rattle.dp_messages.specs.Messages.{kind_of}
 use Rattle.dp_messages.specs.Equality.{same_message}
 use Rattle.dp_acl.specs.Permitted.{permitted}
-use Rattle.dp_session.specs.declared.connection.Connection.{Connection}
-use Rattle.dp_session.specs.declared.connection.Ending.TheVariants as ending
-use Rattle.dp_session.specs.declared.decision.Decision.{Decision}
-use Rattle.dp_session.specs.declared.decision.Decision.TheVariants as decision
-use Rattle.dp_session.specs.declared.event.Event.{Event}
-use Rattle.dp_session.specs.declared.event.Event.TheVariants as event
-use Rattle.dp_session.specs.declared.event.Reply.{Reply}
-use Rattle.dp_session.specs.declared.event.Reply.TheVariants as reply
-use Rattle.dp_session.specs.State.{State, acted, stays, noted, after_event, epoch_of, here}
-use Rattle.dp_session.specs.State.{entry_of, server_entry, filtered_entry}
-use Rattle.dp_session.specs.State.{is_present, user_ids, free_id, new_connection, next_owner}
-use Rattle.dp_session.specs.State.{is_open, where_open, open_in, open_connection}
-use Rattle.dp_session.specs.State.{has_acknowledged, judged, heard, decided, acted_by, says_by}
-use Rattle.dp_session.specs.Effects.{Effect, Nothing, TakesUp, Placed, Filtered, Joined, Left, made}
-use Rattle.dp_session.specs.Effects.{entries_of, connections_after, answer_of, IsStill, IsSaid}
-use Rattle.dp_session.specs.Effects.{IsEffect, EventsHaveEffects}
-use Rattle.dp_session.specs.Rows.{has_room}
-use Rattle.dp_session.specs.Past.{Past, state_of, kept, refused, answer_to, sure_step, sure_answer}
-use Rattle.dp_session.specs.Laws.{ShutBefore}
+use Rattle.dp_events.specs.declared.connection.Connection.{Connection}
+use Rattle.dp_events.specs.declared.connection.Ending.TheVariants as ending
+use Rattle.dp_events.specs.declared.decision.Decision.{Decision}
+use Rattle.dp_events.specs.declared.decision.Decision.TheVariants as decision
+use Rattle.dp_events.specs.declared.event.Event.{Event}
+use Rattle.dp_events.specs.declared.event.Event.TheVariants as event
+use Rattle.dp_events.specs.declared.event.Reply.{Reply}
+use Rattle.dp_events.specs.declared.event.Reply.TheVariants as reply
+use Rattle.dp_epochs.specs.State.{State, acted, stays, noted, after_event, epoch_of, here}
+use Rattle.dp_epochs.specs.State.{entry_of, server_entry, filtered_entry}
+use Rattle.dp_epochs.specs.State.{is_present, user_ids, free_id, new_connection, next_owner}
+use Rattle.dp_events.specs.Connections.{is_open}
+use Rattle.dp_epochs.specs.State.{where_open, open_in, open_connection}
+use Rattle.dp_epochs.specs.State.{has_acknowledged, judged, heard, decided, acted_by, says_by}
+use Rattle.dp_epochs.specs.Effects.{Effect, Nothing, TakesUp, Placed, Filtered, Joined, Left, made}
+use Rattle.dp_epochs.specs.Effects.{entries_of, connections_after, answer_of, IsStill, IsSaid}
+use Rattle.dp_epochs.specs.Effects.{IsEffect, EventsHaveEffects}
+use Rattle.dp_events.specs.Rows.{has_room}
+use Rattle.dp_epochs.specs.Past.{Past, state_of, kept, refused, answer_to, sure_step, sure_answer}
+use Rattle.dp_epochs.specs.Laws.{ShutBefore}
 use Rattle.dp_lists.specs.Numbered.{numbered}
 use Rattle.dp_lists.proofs.Numbered.{number-found, numbered-other, numbered-same, numbered-old}
 use Rattle.dp_lists.proofs.Numbered.{numbered-either, numbered-new}
@@ -117,8 +118,8 @@ no-people = record {
   apart = λ n m c d is it same. absurd (none-open n c is);
 }
 
-people-fewer : (epoch : ℕ) (cs ds : List Connection) → ((n : ℕ) (x : Connection) → open_in ds n ≡ Some x
-    → open_in cs n ≡ Some x)
+people-fewer : (epoch : ℕ) (cs ds : List Connection)
+    → ((n : ℕ) (x : Connection) → open_in ds n ≡ Some x → open_in cs n ≡ Some x)
     → ArePeople epoch cs → ArePeople epoch ds
 people-fewer epoch cs ds back h = record {
   users = λ n c is. h.users n c (back n c is);

@@ -13,15 +13,15 @@ use Rattle.dp_messages.specs.Equality.{same_message}
 use Rattle.dp_client.specs.Client as client
 use Rattle.dp_client.specs.Client.{Step, Said, Took, after_step, after_steps, own_of}
 use Rattle.dp_client.specs.declared.own.Own.TheVariants.{Lost}
-use Rattle.dp_session.specs.declared.connection.Connection.{Connection}
-use Rattle.dp_session.specs.declared.event.Event.{Event}
-use Rattle.dp_session.specs.declared.event.Event.TheVariants as event
-use Rattle.dp_session.specs.declared.event.Reply.{Reply}
-use Rattle.dp_session.specs.declared.event.Reply.TheVariants as reply
-use Rattle.dp_session.specs.State.{open_connection, after_event}
-use Rattle.dp_session.specs.Past.{Past, state_of, kept, sure_step, sure_answer}
-use Rattle.dp_session.specs.Effects.{EventsHaveEffects}
-use Rattle.dp_session.specs.Laws.{ShutBefore}
+use Rattle.dp_events.specs.declared.connection.Connection.{Connection}
+use Rattle.dp_events.specs.declared.event.Event.{Event}
+use Rattle.dp_events.specs.declared.event.Event.TheVariants as event
+use Rattle.dp_events.specs.declared.event.Reply.{Reply}
+use Rattle.dp_events.specs.declared.event.Reply.TheVariants as reply
+use Rattle.dp_epochs.specs.State.{open_connection, after_event}
+use Rattle.dp_epochs.specs.Past.{Past, state_of, kept, sure_step, sure_answer}
+use Rattle.dp_epochs.specs.Effects.{EventsHaveEffects}
+use Rattle.dp_epochs.specs.Laws.{ShutBefore}
 use Rattle.dp_schedule.specs.declared.action.Instruction.{Instruction}
 use Rattle.dp_schedule.specs.declared.action.Instruction.TheVariants.{Take}
 use Rattle.dp_schedule.specs.declared.action.Action.{Action}

@@ -8,8 +8,8 @@ ghost use Rattle.dp_sim.specs.World.{world_after, participant_of};
 ghost use Rattle.dp_sim_laws.specs.OwnSteps.{own_steps, GoesBy, next_of};
 ghost use Rattle.dp_sim_laws.specs.Tally.{IsUnended, tally_of};
 
+use dp_epochs::{events_have_effects, steps_lead_on};
 use dp_messages::one_equality;
-use dp_session::{events_have_effects, steps_lead_on};
 use dp_sim::worlds_stay_worlds;
 
 /// After every schedule each client is where its own steps since its Welcome lead.

@@ -1,12 +1,10 @@
-use Rattle.dp_session.proofs.SessionLemmas.{same-ready, same-put, same-undone, puts-follow}
-use Rattle.dp_session.proofs.SessionLemmas.{counts-follow}
+use Rattle.dp_session.proofs.SessionLemmas.{ready-later, put-later, puts-follow, counts-follow}
 use Rattle.dp_session.proofs.session.put.Goals as goal
 
 pub finish-requires-clause-ready : goal.finish-requires-clause-ready
 finish-requires-clause-ready g c =
-    same-ready c.args.tables.now c.make_room.new.self c.args.event.now c.args.ready
-    c.make_room.ensures.same
-    c.requires.ready
+    ready-later c.args.tables.now c.make_room.new.self _ c.args.event.now c.args.ready
+    c.make_room.ensures.same c.requires
 
 pub returns-clause-rows : goal.returns-clause-rows
 returns-clause-rows g c =
@@ -20,10 +18,5 @@ returns-clause-count g c =
 
 pub returns-clause-outcome : goal.returns-clause-outcome
 returns-clause-outcome g c =
-    same-put c.args.tables.now c.make_room.new.self c.finish.new.self c.args.event.now
-    c.finish.result
-    c.make_room.ensures.same c.finish.ensures.put
-
-pub returns-in_default-clause-outcome : goal.returns-in_default-clause-outcome
-returns-in_default-clause-outcome g c =
-    same-undone c.args.tables.now c.make_room.new.self c.make_room.ensures.same
+    put-later c.args.tables.now c.make_room.new.self c.finish.new.tables _ c.args.event.now
+    c.finish.result c.make_room.ensures.same c.finish.ensures.put

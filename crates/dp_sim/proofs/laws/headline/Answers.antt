@@ -1,4 +1,4 @@
-use Rattle.dp_session.specs.Past.{state_of}
+use Rattle.dp_epochs.specs.Past.{state_of}
 use Rattle.dp_sim.specs.World.{world_after}
 use Rattle.dp_sim.proofs.LawWorlds.{all-show}
 use Rattle.dp_sim.proofs.laws.headline.Goals as goal

@@ -1,4 +1,4 @@
-use Rattle.std.proofs.Common.{refl}
+use Rattle.std.proofs.Common.{refl, ap, sym, ◌∙◌}
 use Rattle.dp_session.proofs.SessionLemmas.{past-kept, past-failed, past-undone, past-ended}
 use Rattle.dp_session.proofs.SessionLemmas.{past-broken, none-of, on-err}
 use Rattle.dp_session.proofs.session.Session.serve.Goals as goal
@@ -14,62 +14,42 @@ same-self-in_default-2 g c = refl
 
 pub returns-in-Some-clause-served : goal.returns-in-Some-clause-served
 returns-in-Some-clause-served g c =
-    past-broken c.args.self.now c.refuse.new.self c.self.inside.tables c.args.event.now
-    c.refuse.result
-    c.self.inside.first_fault _ _ c.in-Some.count c.self.view_is c.in-Some.is
-    c.refuse.ensures.refused
+    past-broken c.args.self.now c.refuse.new.self c.args.event.now c.refuse.result c.in-Some.count
+    (ap (λ p. p.first_fault) (sym c.self.view_is) ∙ c.in-Some.is) c.refuse.ensures.refused
 
 pub returns-in-Some-clause-err : goal.returns-in-Some-clause-err
 returns-in-Some-clause-err g c = c.refuse.ensures.err
-
-pub prepare-requires : goal.prepare-requires
-prepare-requires g c = c.self.invariant
 
 pub returns-in_err-ready-clause-err : goal.returns-in_err-ready-clause-err
 returns-in_err-ready-clause-err g c = on-err c.from_residual.result _ refl
 
 pub returns-in_default-2-clause-served : goal.returns-in_default-2-clause-served
 returns-in_default-2-clause-served g c =
-    past-ended c.args.self.now c.refuse-in_default-2.new.self c.self.inside.tables c.args.event.now
-    c.refuse-in_default-2.result c.self.inside.first_fault _ _ c.self.view_is c.in_default.not-Some
+    past-ended c.args.self.now c.self.inside.tables c.args.event.now c.self.inside.first_fault _ _
+    c.self.view_is c.in_default.not-Some c.refuse-in_default-2.new.self c.refuse-in_default-2.result
     (none-of c.in_ok-ready.field-0 _ _ c.in_default-2.not-Some c.in_ok-ready.ensures)
     c.refuse-in_default-2.ensures.refused
 
 pub returns-in_default-2-clause-err : goal.returns-in_default-2-clause-err
 returns-in_default-2-clause-err g c = c.refuse-in_default-2.ensures.err
 
-pub put-requires-clause-tables : goal.put-requires-clause-tables
-put-requires-clause-tables g c = c.self.invariant
-
-pub put-requires-clause-ready : goal.put-requires-clause-ready
-put-requires-clause-ready g c = rw c.in-Some-2.is at c.in_ok-ready.ensures
-
-pub invariant_of-self : goal.invariant_of-self
-invariant_of-self g c = c.put.ensures.tables
-
-pub invariant_of-self-in-Err-Memory : goal.invariant_of-self-in-Err-Memory
-invariant_of-self-in-Err-Memory g c = c.put.ensures.tables
-
-pub invariant_of-self-in-Err-Failed : goal.invariant_of-self-in-Err-Failed
-invariant_of-self-in-Err-Failed g c = c.put.ensures.tables
+pub put-requires : goal.put-requires
+put-requires g c = rw c.in-Some-2.is at c.in_ok-ready.ensures
 
 pub returns-in-Ok-clause-served : goal.returns-in-Ok-clause-served
 returns-in-Ok-clause-served g c =
     let ready = rw c.in-Some-2.is at c.in_ok-ready.ensures in
-    past-kept c.args.self.now c.self.inside.tables c.put.new.tables c.args.event.now c.in-Ok.reply
-    c.self.inside.first_fault
-    _ _ _ _ c.in-Some-2.ready.row c.self.view_is c.in_default.not-Some ready.room ready.row
-    c.in-Ok.ensures.outcome
-    c.in-Ok.ensures.rows c.in-Ok.ensures.count
+    past-kept c.args.self.now c.self.inside.tables c.args.event.now c.self.inside.first_fault _ _
+    c.self.view_is c.in_default.not-Some c.put.new.tables _ _ c.in-Some-2.ready ready
+    c.in-Ok.reply c.in-Ok.ensures.outcome c.in-Ok.ensures.rows c.in-Ok.ensures.count
 
 pub returns-in-Err-Memory-clause-err : goal.returns-in-Err-Memory-clause-err
 returns-in-Err-Memory-clause-err g c =
     let undone = rw c.in-Err-Memory.field-0-is at c.in-Err-Memory.ensures.outcome in
     let rows = rw c.in-Err-Memory.field-0-is at c.in-Err-Memory.ensures.rows in
     let counts = rw c.in-Err-Memory.field-0-is at c.in-Err-Memory.ensures.count in
-    past-undone c.args.self.now c.self.inside.tables c.put.new.tables c.self.inside.first_fault _ _
-    _ _ c.self.view_is
-    undone rows counts
+    past-undone c.args.self.now c.self.inside.tables c.put.new.tables c.args.event.now
+    c.self.inside.first_fault _ _ _ _ c.self.view_is undone rows counts
 
 pub returns-in-Err-Failed-clause-served : goal.returns-in-Err-Failed-clause-served
 returns-in-Err-Failed-clause-served g c =
@@ -77,8 +57,6 @@ returns-in-Err-Failed-clause-served g c =
     let out = rw c.in-Err-Failed.field-0-is at c.in-Err-Failed.ensures.outcome in
     let rows = rw c.in-Err-Failed.field-0-is at c.in-Err-Failed.ensures.rows in
     let rose = rw c.in-Err-Failed.field-0-is at c.in-Err-Failed.ensures.count in
-    past-failed c.args.self.now c.self.inside.tables c.put.new.tables c.args.event.now
-    c.self.inside.first_fault _ _ _ _
-    c.count-count.result c.in-Some-2.ready.row c.self.view_is c.in_default.not-Some ready.room
-    ready.row out rows rose
-    c.count-count.ensures
+    past-failed c.args.self.now c.self.inside.tables c.args.event.now c.self.inside.first_fault _ _
+    c.self.view_is c.in_default.not-Some c.put.new.tables _ _ c.in-Some-2.ready ready
+    c.count-count.result out rows rose c.count-count.ensures

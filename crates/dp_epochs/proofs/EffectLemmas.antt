@@ -1,0 +1,265 @@
+-- What an event does is one of the effects, and what they all leave as it was.
+use Rattle.std.proofs.Common.{◌≡◌, ℕ, zero, suc, ◌-◌, ◌≤◌, ◌==◌, ◌&&◌, not, Bool, true, false}
+use Rattle.std.proofs.Common.{if◌then◌else◌, List, [], ◌∷◌, ◌++◌, length, Option, None, Some}
+use Rattle.std.proofs.Common.{refl, sym, ap, subst, ◌∙◌, ⊎_elim, arith, append-nil, append_assoc}
+use Rattle.std.specs.Prelude.{slice_set, slice_index_or}
+use Rattle.std.proofs.lemmas.Bool.{cond_both, cases_Bool, cases_eq, and_parts, not-true}
+use Rattle.dp_msg_meta.specs.declared.message.Control.TheVariants as control
+use Rattle.dp_msg_meta.specs.declared.message.Meta.TheVariants.{Leave}
+use Rattle.dp_messages.specs.declared.message.Msg.{Msg}
+use Rattle.dp_messages.specs.declared.message.Msg.TheVariants as msg
+use Rattle.dp_messages.specs.declared.message.Entry.{Entry}
+use Rattle.dp_acl.specs.Rights.{is_operator}
+use Rattle.dp_acl.specs.Permitted.{permitted}
+use Rattle.dp_lists.specs.Numbered.{numbered}
+use Rattle.dp_lists.proofs.Options.{option_both}
+use Rattle.dp_lists.proofs.Numbered.{number-found, numbered-other, numbered-same, numbered-old}
+use Rattle.dp_events.specs.declared.connection.Connection.{Connection}
+use Rattle.dp_events.specs.declared.connection.Ending.TheVariants as ending
+use Rattle.dp_events.specs.declared.decision.Decision.{Decision}
+use Rattle.dp_events.specs.declared.decision.Decision.TheVariants as decision
+use Rattle.dp_events.specs.declared.event.Event.{Event}
+use Rattle.dp_events.specs.declared.event.Event.TheVariants as event
+use Rattle.dp_events.specs.declared.event.Reply.{Reply}
+use Rattle.dp_events.specs.declared.event.Reply.TheVariants as reply
+use Rattle.dp_epochs.specs.State.{State, acted, stays, noted, after_event, epoch_of, here, entry_of}
+use Rattle.dp_events.specs.Connections.{is_open}
+use Rattle.dp_epochs.specs.State.{history_of, connection_of, open_connection, where_open}
+use Rattle.dp_epochs.specs.State.{has_acknowledged, is_name, free_id, opened_as, owner_on_join}
+use Rattle.dp_epochs.specs.State.{new_connection, left, next_owner, owner_on_leave, closed_by}
+use Rattle.dp_epochs.specs.State.{stream_without, judged, heard, decided, acted_by, says_by}
+use Rattle.dp_epochs.specs.Effects.{Effect, Nothing, TakesUp, Placed, Filtered, Joined, Left, made}
+use Rattle.dp_epochs.specs.Effects.{entries_of, connections_after, IsStill, IsOpenAt, IsEffect}
+use Rattle.dp_epochs.specs.Effects.{HasEffect, IsLater}
+use Rattle.dp_epochs.specs.Laws.{Continues}
+
+-- ---- open connections
+
+-- a connection that was found open is there, and open
+pub found-open : (found : Option Connection) (c : Connection) → where_open found ≡ Some c
+    → (found ≡ Some c) × (is_open c ≡ true)
+found-open None c h = cc
+found-open (Some x) c h =
+    ⊎_elim (λ (up : is_open x ≡ true).
+    let e : Some x ≡ Some c = sym (ap (λ b. if b then Some x else None) up) ∙ h in
+    let same : x ≡ c = cc in
+    (e, subst (λ y. is_open y ≡ true) same up))
+    (λ (shut : is_open x ≡ false).
+    let e : None ≡ Some c = sym (ap (λ b. if b then Some x else None) shut) ∙ h in cc)
+    (cases_Bool (is_open x))
+
+open-at : (s : State) (conn : ℕ) (c : Connection) → open_connection s conn ≡ Some c
+    → IsOpenAt s conn c
+open-at s conn c found =
+    let f = found-open (connection_of s conn) c found in
+    record { given = f.0; running = f.1; found = found }
+
+-- ---- decisions
+
+-- why that becomes of a message
+abbrev Reason : State → Connection → Msg → Decision → Type 0
+Reason s c m decision.Ignore = Unit {0}
+Reason s c m decision.Acknowledge = has_acknowledged s c ≡ false
+Reason s c m decision.Place =
+    (has_acknowledged s c ≡ true) × (permitted s.live c.user m ≡ true)
+Reason s c m decision.Filter = has_acknowledged s c ≡ true
+
+judged-reason : (s : State) (c : Connection) (m : Msg) → has_acknowledged s c ≡ true
+    → Reason s c m (judged s c m)
+judged-reason s c m ready =
+    cond_both (permitted s.live c.user m) decision.Place decision.Filter (Reason s c m)
+    (λ may. (ready, may)) (λ no. ready)
+
+heard-reason : (s : State) (conn : ℕ) (c : Connection) (m : Msg) → has_acknowledged s c ≡ true
+    → Reason s c m (heard s conn c m)
+heard-reason s conn c (msg.Control control.ResetBegin) ready = ready
+heard-reason s conn c (msg.Control control.ResetEnd) ready = ready
+heard-reason s conn c (msg.Part command) ready = ready
+heard-reason s conn c m ready = judged-reason s c m ready
+
+asked-reason : (s : State) (conn : ℕ) (c : Connection) (m : Msg)
+    → Reason s c m (if has_acknowledged s c then heard s conn c m else decision.Ignore)
+asked-reason s conn c m =
+    cond_both (has_acknowledged s c) (heard s conn c m) decision.Ignore (Reason s c m)
+    (λ ready. heard-reason s conn c m ready) (λ no. tt)
+
+decided-reason : (s : State) (conn : ℕ) (c : Connection) (m : Msg)
+    → Reason s c m (decided s conn c m)
+decided-reason s conn c (msg.Control (control.Ping pong)) = tt
+decided-reason s conn c (msg.Control (control.Disconnect reason)) = tt
+decided-reason s conn c (msg.Control (control.Ack epoch)) =
+    cond_both (epoch == epoch_of s && not (has_acknowledged s c)) decision.Acknowledge
+    decision.Ignore (Reason s c (msg.Control (control.Ack epoch)))
+    (λ both. not-true (has_acknowledged s c)
+    (and_parts (epoch == epoch_of s) (not (has_acknowledged s c)) both).1)
+    (λ no. tt)
+decided-reason s conn c m = asked-reason s conn c m
+
+-- ---- effects
+
+nothing-made : (s : State) (r : Reply) → stays s r ≡ made s (Nothing r)
+nothing-made s r =
+    ap (λ live. record { state = record s { live = live }; reply = r }) (sym (append-nil s.live))
+
+nothing-done : (s : State) (e : Event) (r : Reply) → IsStill r → HasEffect s e (stays s r)
+nothing-done s e r still =
+    record { effect = Nothing r; cause = still; made = nothing-made s r }
+
+open-effect : (s : State) (name : List ℕ) (registered : Bool) (o : Option ℕ) → free_id s ≡ o
+    → is_name name ≡ true
+    → HasEffect s (event.Open name registered) (opened_as s registered name o)
+open-effect s name registered None is named =
+    nothing-done s (event.Open name registered) reply.Full tt
+open-effect s name registered (Some user) is named = record {
+  effect = Joined user registered name (owner_on_join s user);
+  cause = record { came = refl; named = named; free = is; owner = refl };
+  made = refl;
+}
+
+say-effect : (s : State) (conn : ℕ) (c : Connection) (m : Msg) → IsOpenAt s conn c
+    → (d : Decision) → decided s conn c m ≡ d → Reason s c m d
+    → HasEffect s (event.Say conn m) (acted_by s conn c m d)
+say-effect s conn c m at decision.Ignore is why =
+    nothing-done s (event.Say conn m) reply.Ignored tt
+say-effect s conn c m at decision.Acknowledge is why = record {
+  effect = TakesUp conn c;
+  cause = (m, record { came = refl; at = at; decided = is }, why);
+  made = ap (λ live. record {
+    state = record s {
+      live = live;
+      connections = slice_set s.connections (conn - 1)
+          (record c { acknowledged = epoch_of s });
+    };
+    reply = reply.Noted;
+  }) (sym (append-nil s.live));
+}
+say-effect s conn c m at decision.Place is why = record {
+  effect = Placed conn c m;
+  cause = (record { came = refl; at = at; decided = is }, why.0, why.1);
+  made = refl;
+}
+say-effect s conn c m at decision.Filter is why = record {
+  effect = Filtered conn c m;
+  cause = (record { came = refl; at = at; decided = is }, why);
+  made = refl;
+}
+
+close-effect : (s : State) (conn : ℕ) (c : Connection) → IsOpenAt s conn c
+    → HasEffect s (event.Close conn) (closed_by s conn c)
+close-effect s conn c at =
+    let next = owner_on_leave (is_operator s.live c.user) (left s conn c) in
+    record {
+      effect = Left conn c next;
+      cause = record { came = refl; at = at; owner = refl };
+      made = ap (λ live. record {
+        state = record s {
+          live = live;
+          connections = slice_set s.connections (conn - 1)
+              (record c { ending = ending.Left (here s) });
+          stream = stream_without conn s.stream;
+        };
+        reply = reply.Placed (epoch_of s) (length s.live);
+      }) (append_assoc s.live (entry_of c.user (msg.Meta Leave) ∷ []) (next_owner next));
+    }
+
+-- what an event does is one of the effects
+pub has-effect : (s : State) (e : Event) → HasEffect s e (acted s e)
+has-effect s (event.Open name registered) =
+    cond_both (is_name name) (opened_as s registered name (free_id s)) (stays s reply.NameRefused)
+    (HasEffect s (event.Open name registered))
+    (λ named. open-effect s name registered (free_id s) refl named)
+    (λ no. nothing-done s (event.Open name registered) reply.NameRefused tt)
+has-effect s (event.Say conn m) =
+    option_both (says_by s conn m) (open_connection s conn) (stays s reply.Ignored)
+    (HasEffect s (event.Say conn m))
+    (λ c found. say-effect s conn c m (open-at s conn c found) (decided s conn c m) refl
+    (decided-reason s conn c m))
+    (nothing-done s (event.Say conn m) reply.Ignored tt)
+has-effect s (event.Close conn) =
+    option_both (closed_by s conn) (open_connection s conn) (stays s reply.Ignored)
+    (HasEffect s (event.Close conn))
+    (λ c found. close-effect s conn c (open-at s conn c found))
+    (nothing-done s (event.Close conn) reply.Ignored tt)
+
+-- ---- what they leave
+
+owner-few : (o : Option ℕ) → length (next_owner o) ≤ 1
+owner-few None = omega arith
+owner-few (Some user) = omega arith
+
+-- at most two entries are placed
+pub entries-few : (effect : Effect) → length (entries_of effect) ≤ 2
+entries-few (Nothing answer) = omega arith
+entries-few (TakesUp conn c) = omega arith
+entries-few (Placed conn c m) = omega arith
+entries-few (Filtered conn c m) = omega arith
+entries-few (Joined user registered name next) = omega (arith, owner-few next)
+entries-few (Left conn c next) = omega (arith, owner-few next)
+
+last-grows : (ended : List (List Entry)) (live more : List Entry) (k : ℕ)
+    → Continues (slice_index_or (ended ++ live ∷ []) k [])
+    (slice_index_or (ended ++ (live ++ more) ∷ []) k [])
+last-grows [] live more zero = (more, refl)
+last-grows [] live more (suc k) = ([], refl)
+last-grows (history ∷ ended) live more zero = ([], sym (append-nil history))
+last-grows (history ∷ ended) live more (suc k) = last-grows ended live more k
+
+-- the history of each epoch goes on
+pub history-goes_on : (s : State) (e : Event) (epoch : ℕ)
+    → Continues (history_of s epoch) (history_of (after_event s e) epoch)
+history-goes_on s e epoch =
+    let h = has-effect s e in
+    subst (λ a. Continues (history_of s epoch) (history_of (noted s a) epoch)) (sym h.made)
+    (last-grows s.ended s.live (entries_of h.effect) epoch)
+
+-- a connection of the number is there after it, that is later this one
+abbrev StaysIn : List Connection → ℕ → Connection → Type 0
+StaysIn cs n old = (new : Connection) × (numbered cs n ≡ Some new) × IsLater old new
+
+same-later : (c : Connection) → IsLater c c
+same-later c = record { user = refl; joined = refl; ending = λ shut. refl }
+
+becomes-later : (cs : List Connection) (conn n : ℕ) (c d x : Connection)
+    → numbered cs conn ≡ Some c → IsLater c d → numbered cs n ≡ Some x
+    → StaysIn (slice_set cs (conn - 1) d) n x
+becomes-later cs conn n c d x there later is =
+    ⊎_elim (λ (same : n ≡ conn).
+    let both : Some c ≡ Some x = sym there ∙ ap (λ k. numbered cs k) (sym same) ∙ is in
+    let one : c ≡ x = cc in (
+      d,
+      ap (λ k. numbered (slice_set cs (conn - 1) d) k) same ∙ numbered-same cs conn c d there,
+      subst (λ y. IsLater y d) one later,
+    ))
+    (λ (ne : n ≡ conn → ⊥). (
+      x,
+      numbered-other cs conn n d (number-found cs conn c there).0 ne ∙ is,
+      same-later x,
+    ))
+    (cases_eq n conn)
+
+connections-stay : (s : State) (e : Event) (effect : Effect) → IsEffect s e effect
+    → (n : ℕ) (x : Connection) → connection_of s n ≡ Some x
+    → StaysIn (connections_after s effect) n x
+connections-stay s e (Nothing answer) cause n x is = (x, is, same-later x)
+connections-stay s e (TakesUp conn c) cause n x is =
+    becomes-later s.connections conn n c (record c { acknowledged = epoch_of s }) x
+    cause.1.at.given (record { user = refl; joined = refl; ending = λ shut. refl }) is
+connections-stay s e (Placed conn c m) cause n x is = (x, is, same-later x)
+connections-stay s e (Filtered conn c m) cause n x is = (x, is, same-later x)
+connections-stay s e (Joined user registered name next) cause n x is =
+    (x, numbered-old s.connections (new_connection s user ∷ []) n x is, same-later x)
+connections-stay s e (Left conn c next) cause n x is =
+    becomes-later s.connections conn n c (record c { ending = ending.Left (here s) }) x
+    cause.at.given (record {
+      user = refl;
+      joined = refl;
+      ending = λ shut. let no : true ≡ false = sym cause.at.running ∙ shut in cc;
+    }) is
+
+-- a connection stays its user's
+pub connection-stays : (s : State) (e : Event) (n : ℕ) (x : Connection)
+    → connection_of s n ≡ Some x → StaysIn (after_event s e).connections n x
+connection-stays s e n x is =
+    let h = has-effect s e in
+    subst (λ a. StaysIn (noted s a).connections n x) (sym h.made)
+    (connections-stay s e h.effect h.cause n x is)

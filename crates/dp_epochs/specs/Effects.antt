@@ -1,0 +1,174 @@
+-- What an event does to a session, by the kinds of outcome.
+use Rattle.std.specs.Prelude.{◌≡◌, ℕ, ◌+◌, ◌-◌, Bool, true, false, Option, Some}
+use Rattle.std.specs.Prelude.{List, [], ◌∷◌, ◌++◌, length, slice_set}
+use Rattle.dp_msg_meta.specs.declared.message.Meta.TheVariants.{Join, Leave}
+use Rattle.dp_messages.specs.declared.message.Msg.{Msg}
+use Rattle.dp_messages.specs.declared.message.Msg.TheVariants as msg
+use Rattle.dp_messages.specs.declared.message.Entry.{Entry}
+use Rattle.dp_acl.specs.Rights.{is_operator}
+use Rattle.dp_acl.specs.Permitted.{permitted}
+use Rattle.dp_events.specs.declared.connection.Connection.{Connection}
+use Rattle.dp_events.specs.declared.connection.Ending.TheVariants as ending
+use Rattle.dp_events.specs.declared.decision.Decision.{Decision}
+use Rattle.dp_events.specs.declared.decision.Decision.TheVariants as decision
+use Rattle.dp_events.specs.declared.event.Event.{Event}
+use Rattle.dp_events.specs.declared.event.Event.TheVariants as event
+use Rattle.dp_events.specs.declared.event.Reply.{Reply}
+use Rattle.dp_events.specs.declared.event.Reply.TheVariants as reply
+use Rattle.dp_epochs.specs.State.{State, Stream, Acted, epoch_of, here, entry_of, filtered_entry}
+use Rattle.dp_events.specs.Connections.{is_open}
+use Rattle.dp_epochs.specs.State.{connection_of, open_connection, has_acknowledged}
+use Rattle.dp_epochs.specs.State.{is_name, free_id, new_connection, next_owner, owner_on_join}
+use Rattle.dp_epochs.specs.State.{left, owner_on_leave, stream_without, decided, acted}
+use Rattle.dp_epochs.specs.State.{after_event}
+
+-- what becomes of an event
+pub data Effect : Type 0 where
+  -- it is answered so, and nothing else
+  Nothing : Reply → Effect
+  -- the connection of this number takes up the live epoch
+  TakesUp : ℕ → Connection → Effect
+  -- what the connection of this number says is placed
+  Placed : ℕ → Connection → Msg → Effect
+  -- Filtered is placed instead
+  Filtered : ℕ → Connection → Msg → Effect
+  -- the user joins, registered or not, by this name; one may become operator
+  Joined : ℕ → Bool → List ℕ → Option ℕ → Effect
+  -- the user of the connection of this number leaves; one may become operator
+  Left : ℕ → Connection → Option ℕ → Effect
+
+-- ---- what it makes of a state
+
+-- the entries that it places
+abbrev pub entries_of : Effect → List Entry
+entries_of (Nothing answer) = []
+entries_of (TakesUp conn connection) = []
+entries_of (Placed conn connection m) = entry_of connection.user m ∷ []
+entries_of (Filtered conn connection m) = filtered_entry connection.user m ∷ []
+entries_of (Joined user registered name next) =
+    entry_of user (msg.Meta (Join registered name)) ∷ next_owner next
+entries_of (Left conn connection next) =
+    entry_of connection.user (msg.Meta Leave) ∷ next_owner next
+
+-- the connections after it: at most one is added, or changed
+abbrev pub connections_after : State → Effect → List Connection
+connections_after s (Nothing answer) = s.connections
+connections_after s (TakesUp conn connection) =
+    slice_set s.connections (conn - 1) (record connection { acknowledged = epoch_of s })
+connections_after s (Placed conn connection m) = s.connections
+connections_after s (Filtered conn connection m) = s.connections
+connections_after s (Joined user registered name next) =
+    s.connections ++ new_connection s user ∷ []
+connections_after s (Left conn connection next) =
+    slice_set s.connections (conn - 1) (record connection { ending = ending.Left (here s) })
+
+-- the stream after it
+abbrev pub stream_after : Option Stream → Effect → Option Stream
+stream_after stream (Nothing answer) = stream
+stream_after stream (TakesUp conn connection) = stream
+stream_after stream (Placed conn connection m) = stream
+stream_after stream (Filtered conn connection m) = stream
+stream_after stream (Joined user registered name next) = stream
+stream_after stream (Left conn connection next) = stream_without conn stream
+
+-- what is answered
+abbrev pub answer_of : State → Effect → Reply
+answer_of s (Nothing answer) = answer
+answer_of s (TakesUp conn connection) = reply.Noted
+answer_of s (Placed conn connection m) = reply.Placed (epoch_of s) (length s.live)
+answer_of s (Filtered conn connection m) = reply.Filtered (epoch_of s) (length s.live)
+answer_of s (Joined user registered name next) =
+    reply.Opened (length s.connections + 1) user (epoch_of s) (length s.live)
+answer_of s (Left conn connection next) = reply.Placed (epoch_of s) (length s.live)
+
+-- the state after it, and the answer
+abbrev pub made : State → Effect → Acted
+made s effect = record {
+  state = record s {
+    live = s.live ++ entries_of effect;
+    connections = connections_after s effect;
+    stream = stream_after s.stream effect;
+  };
+  reply = answer_of s effect;
+}
+
+-- ---- when it is the event's
+
+-- the answer says that nothing was done
+abbrev pub IsStill : Reply → Type 0
+IsStill reply.Ignored = Unit {0}
+IsStill reply.NameRefused = Unit {0}
+IsStill reply.Full = Unit {0}
+IsStill other = ⊥
+
+-- the connection of this number was given out, and is open
+pub record IsOpenAt (s : State) (conn : ℕ) (connection : Connection) : Type 0 where
+  pub given : connection_of s conn ≡ Some connection
+  pub running : is_open connection ≡ true
+  pub found : open_connection s conn ≡ Some connection
+
+-- the event is a message of this connection, of which that becomes
+pub record IsSaid (s : State) (e : Event) (conn : ℕ) (connection : Connection) (m : Msg)
+    (d : Decision) : Type 0 where
+  pub came : e ≡ event.Say conn m
+  pub at : IsOpenAt s conn connection
+  pub decided : decided s conn connection m ≡ d
+
+-- the user joins by this event, under the lowest id that no one holds
+pub record IsJoin (s : State) (e : Event) (user : ℕ) (registered : Bool) (name : List ℕ)
+    (next : Option ℕ) : Type 0 where
+  pub came : e ≡ event.Open name registered
+  pub named : is_name name ≡ true
+  pub free : free_id s ≡ Some user
+  pub owner : next ≡ owner_on_join s user
+
+-- the user of the connection leaves by this event
+pub record IsLeave (s : State) (e : Event) (conn : ℕ) (connection : Connection) (next : Option ℕ)
+    : Type 0 where
+  pub came : e ≡ event.Close conn
+  pub at : IsOpenAt s conn connection
+  pub owner : next
+      ≡ owner_on_leave (is_operator s.live connection.user) (left s conn connection)
+
+-- the event has this effect on the state
+abbrev pub IsEffect : State → Event → Effect → Type 0
+IsEffect s e (Nothing answer) = IsStill answer
+IsEffect s e (TakesUp conn connection) =
+    (m : Msg)
+    × IsSaid s e conn connection m decision.Acknowledge
+    × (has_acknowledged s connection ≡ false)
+IsEffect s e (Placed conn connection m) =
+    IsSaid s e conn connection m decision.Place
+    × (has_acknowledged s connection ≡ true)
+    × (permitted s.live connection.user m ≡ true)
+IsEffect s e (Filtered conn connection m) =
+    IsSaid s e conn connection m decision.Filter
+    × (has_acknowledged s connection ≡ true)
+IsEffect s e (Joined user registered name next) = IsJoin s e user registered name next
+IsEffect s e (Left conn connection next) = IsLeave s e conn connection next
+
+-- what was made of the state by the event is one of these effects
+pub record HasEffect (s : State) (e : Event) (a : Acted) : Type 0 where
+  pub effect : Effect
+  pub cause : IsEffect s e effect
+  pub made : a ≡ made s effect
+
+-- what an event does is one of the effects
+abbrev pub EventsHaveEffects : Type 0
+EventsHaveEffects = (s : State) (e : Event) → HasEffect s e (acted s e)
+
+-- ---- connections
+
+-- a connection is later this one: its user and the place of the Join stay, and so does an ending
+pub record IsLater (old new : Connection) : Type 0 where
+  pub user : new.user ≡ old.user
+  pub joined : new.joined ≡ old.joined
+  pub ending : is_open old ≡ false → new.ending ≡ old.ending
+
+-- a connection that was given out is there after one more event, and is later the same
+abbrev pub ConnectionsStay : Type 0
+ConnectionsStay =
+    (s : State) (e : Event) (conn : ℕ) (old : Connection) → connection_of s conn ≡ Some old
+    → (new : Connection)
+    × (connection_of (after_event s e) conn ≡ Some new)
+    × IsLater old new

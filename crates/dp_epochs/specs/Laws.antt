@@ -1,0 +1,47 @@
+-- What laws of sessions speak of.
+use Rattle.std.specs.Prelude.{◌≡◌, ◌≤◌, ℕ, List, [], ◌∷◌, ◌++◌, length, Result, Ok, Err}
+use Rattle.std.specs.List.{All}
+use Rattle.std.specs.declared.alloc.AllocError.{AllocError}
+use Rattle.dp_messages.specs.declared.message.Entry.{Entry}
+use Rattle.dp_events.specs.declared.event.Event.{Event}
+use Rattle.dp_events.specs.declared.event.Reply.{Reply}
+use Rattle.dp_events.specs.declared.event.Reply.TheVariants.{StoreFault}
+use Rattle.dp_events.specs.declared.event.Event.TheVariants as event
+use Rattle.dp_epochs.specs.State.{State, after_shut}
+use Rattle.dp_epochs.specs.Past.{Past, Step}
+
+-- a history is another with more entries after it
+abbrev pub Continues : List Entry → List Entry → Type 0
+Continues before after = (more : List Entry) × (after ≡ before ++ more)
+
+-- an event, what came of it, and what it left
+pub record Outcome : Type 0 where
+  pub event : Event
+  pub answer : Result Reply AllocError
+  pub left : Past
+
+-- each step is one that a session may make, from what the one before left
+abbrev pub IsRun : Past → List Outcome → Type 0
+IsRun past [] = Unit {0}
+IsRun past (outcome ∷ log) =
+    Step past outcome.event outcome.answer outcome.left × IsRun outcome.left log
+
+-- the fault of this count was answered, or memory ran out
+abbrev pub IsFault : ℕ → Result Reply AllocError → Type 0
+IsFault first (Ok answer) = answer ≡ StoreFault first
+IsFault first (Err want) = Unit {0}
+
+-- that is so of each outcome
+abbrev pub AreFaults : ℕ → List Outcome → Type 0
+AreFaults first [] = Unit {0}
+AreFaults first (outcome ∷ log) = IsFault first outcome.answer × AreFaults first log
+
+-- each closing that was refused was so while no more events were kept than now
+abbrev pub ShutBefore : Past → Type 0
+ShutBefore past = All (λ s. s.n ≤ length past.journal) past.shut
+
+-- the state after an event that the limits refused: a Close closes its connection
+abbrev pub shut_by : State → Event → State
+shut_by s (event.Open name registered) = s
+shut_by s (event.Say conn m) = s
+shut_by s (event.Close conn) = after_shut s conn

@@ -1,0 +1,5 @@
+pub mod State
+pub mod Effects
+pub mod Past
+pub mod Pull
+pub mod Laws

@@ -1,0 +1,15 @@
+-- Whether a connection is open.
+use Rattle.std.specs.Prelude.{Bool, true, false, not}
+use Rattle.dp_events.specs.declared.connection.Ending.{Ending}
+use Rattle.dp_events.specs.declared.connection.Ending.TheVariants as ending
+use Rattle.dp_events.specs.declared.connection.Connection.{Connection}
+
+-- a connection that ended so has ended
+abbrev pub is_ended : Ending → Bool
+is_ended ending.Running = false
+is_ended (ending.Left place) = true
+is_ended ending.Shut = true
+
+-- the connection is open
+abbrev pub is_open : Connection → Bool
+is_open connection = not (is_ended connection.ending)

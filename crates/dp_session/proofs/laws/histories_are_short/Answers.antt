@@ -1,5 +1,0 @@
-use Rattle.dp_session.proofs.LawLemmas.{short-history}
-use Rattle.dp_session.proofs.laws.histories_are_short.Goals as goal
-
-pub returns : goal.returns
-returns c past = short-history past

@@ -1,5 +1,0 @@
-use Rattle.dp_session.proofs.LawLemmas.{history-grows}
-use Rattle.dp_session.proofs.laws.histories_grow.Goals as goal
-
-pub returns : goal.returns
-returns c journal shut e epoch before = history-grows journal shut e epoch before

@@ -1,0 +1,6 @@
+pub mod Ranges
+pub mod Holders
+pub mod TableLemmas
+pub mod PlanLemmas
+pub mod QuietLemmas
+pub mod ReadLemmas

@@ -1,0 +1,384 @@
+-- What an event makes of a state, as it is planned.
+use Rattle.std.proofs.Common.{◌≡◌, ℕ, ◌+◌, ◌-◌, ◌<◌, ◌≤◌, Bool, true, false, not, ◌&&◌}
+use Rattle.std.proofs.Common.{if◌then◌else◌, nat_le, IsSome}
+use Rattle.std.proofs.Common.{List, [], ◌∷◌, ◌++◌, length, set, Option, None, Some, is_some}
+use Rattle.std.proofs.Common.{refl, sym, ap, subst, ◌∙◌, ⊎_elim, arith, append-nil, append_assoc}
+use Rattle.std.specs.Prelude.{option_to_list}
+use Rattle.std.specs.List.{list_any, find, slice_get}
+use Rattle.std.specs.Option.{MatchOption, option_map_or}
+use Rattle.std.proofs.lemmas.Bool.{cases_Bool, le-leb}
+use Rattle.std.proofs.lemmas.Str.{IsUtf8-from_is_utf8, is_utf8-from_IsUtf8}
+use Rattle.std.proofs.Math.ListN.{length-set}
+use Rattle.std.specs.Str.{IsUtf8, is_utf8}
+use Rattle.dp_msg_meta.specs.Fields.{IsText}
+use Rattle.dp_msg_meta.specs.declared.message.Meta.TheVariants.{Join, Leave}
+use Rattle.dp_messages.specs.declared.message.Msg.{Msg}
+use Rattle.dp_messages.specs.declared.message.Msg.TheVariants as msg
+use Rattle.dp_messages.specs.declared.message.Entry.{Entry}
+use Rattle.dp_acl.specs.Rights.{is_operator}
+use Rattle.dp_lists.proofs.Numbered.{number-found}
+use Rattle.dp_acl.specs.Laws.{OperatorsStay}
+use Rattle.dp_events.specs.declared.connection.Place.{Place}
+use Rattle.dp_events.specs.declared.connection.Ending.TheVariants as ending
+use Rattle.dp_events.specs.declared.connection.Connection.{Connection}
+use Rattle.dp_events.specs.declared.event.Event.{Event}
+use Rattle.dp_events.specs.declared.event.Event.TheVariants as event
+use Rattle.dp_events.specs.declared.event.Reply.{Reply}
+use Rattle.dp_events.specs.declared.event.Reply.TheVariants as reply
+use Rattle.dp_tables.specs.declared.plan.Change.TheVariants.{Becomes}
+use Rattle.dp_events.specs.declared.decision.Decision.{Decision}
+use Rattle.dp_events.specs.declared.decision.Decision.TheVariants as decision
+use Rattle.dp_epochs.specs.State.{State, Stream, Acted, acted, stays, here, epoch_of, entry_of}
+use Rattle.dp_epochs.specs.State.{is_name}
+use Rattle.dp_events.specs.Connections.{is_open}
+use Rattle.dp_epochs.specs.State.{is_present, free_id, user_ids, opened_as}
+use Rattle.dp_epochs.specs.State.{new_connection}
+use Rattle.dp_epochs.specs.State.{connection_in, where_open, open_in, with_connection, left}
+use Rattle.dp_epochs.specs.State.{closed_by, owner_on_join, owner_on_leave, next_owner}
+use Rattle.dp_epochs.specs.State.{present_users, stream_without, says_by, acted_by, decided}
+use Rattle.dp_epochs.specs.State.{open_connection, after_shut}
+use Rattle.dp_epochs.specs.Past.{Past, state_of, refused}
+use Rattle.dp_epochs.specs.Laws.{shut_by}
+use Rattle.dp_tables.specs.declared.tables.Tables.TheInside.{Inside}
+use Rattle.dp_tables.specs.Ledger.{state_in}
+use Rattle.dp_tables.specs.Tables.{mark, is_holder, Seen, AreOf}
+use Rattle.dp_tables.specs.Inside.{ledger_of, AreTables}
+use Rattle.dp_tables.specs.Plans.{IsChange, IsPlan, first_operator, next_operator, changed}
+use Rattle.dp_tables.specs.Plans.{shut_change, still_plan, join_plan, leave_plan, ack_plan}
+use Rattle.dp_tables.specs.Plans.{placed_plan, filtered_plan}
+use Rattle.dp_tables.proofs.Ranges.{find_user-same, find_user-passes, any_user-same}
+use Rattle.dp_tables.proofs.Ranges.{list_any-filter, list_any-find}
+use Rattle.dp_tables.proofs.Holders.{any-marked, marks-changed}
+use Rattle.dp_tables.proofs.TableLemmas.{present-marked, IsLeftOut, tables-left}
+
+-- an event that changes nothing
+pub plan-still : (s : State) (e : Event) (r : Reply) → acted s e ≡ stays s r
+    → IsPlan s e (still_plan e r)
+plan-still s e r is = record {
+  event = refl;
+  acted = is ∙ ap (λ live. record { state = record s { live = live }; reply = r })
+      (sym (append-nil s.live));
+  change = tt;
+}
+
+not_true : (b : Bool) → not b ≡ true → b ≡ false
+not_true true h = cc
+not_true false h = refl
+
+-- ---- an open connection
+
+-- a connection that was found open is there, and open
+found-open : (found : Option Connection) (c : Connection) → where_open found ≡ Some c
+    → (found ≡ Some c) × (is_open c ≡ true)
+found-open None c h = cc
+found-open (Some x) c h =
+    ⊎_elim (λ (up : is_open x ≡ true).
+    let e : Some x ≡ Some c = sym (ap (λ b. if b then Some x else None) up) ∙ h in
+    let same : x ≡ c = cc in
+    (e, subst (λ y. is_open y ≡ true) same up))
+    (λ (shut : is_open x ≡ false).
+    let e : None ≡ Some c = sym (ap (λ b. if b then Some x else None) shut) ∙ h in cc)
+    (cases_Bool (is_open x))
+
+-- it has a number above 0, and stands there
+open-found : (cs : List Connection) (conn : ℕ) (c : Connection) → open_in cs conn ≡ Some c
+    → (0 < conn) × (slice_get cs (conn - 1) ≡ Some c) × (is_open c ≡ true)
+open-found cs conn c h =
+    let open_one = found-open (connection_in cs conn) c h in
+    let at = number-found cs conn c open_one.0 in
+    (at.0, at.1, open_one.1)
+
+-- such a connection may become another of its user
+pub may-become : (cs : List Connection) (conn : ℕ) (c d : Connection) → open_in cs conn ≡ Some c
+    → c.user ≡ d.user
+    → IsChange cs (Becomes conn d)
+may-become cs conn c d h same =
+    let f = open-found cs conn c h in (
+      f.0,
+      subst (λ o. MatchOption o ⊥ (λ old. (is_open old ≡ true) × (old.user ≡ d.user))) (sym f.1)
+          (f.2, same),
+    )
+
+module _ (s : State) (t : Seen) (are : AreOf s t) where
+  -- ---- opening
+
+  marked : (user : ℕ) → user < 256 → is_present s user ≡ mark t.present user
+  marked = present-marked s t are
+
+  free-marked : free_id s ≡ find (λ user. not (mark t.present user)) user_ids
+  free-marked =
+      find_user-same (λ user. not (is_present s user)) (λ user. not (mark t.present user))
+      (λ k small. ap not (marked k small))
+
+  opens : (name : List ℕ) (registered : Bool) (o : Option ℕ) → is_name name ≡ true
+      → o ≡ find (λ user. not (mark t.present user)) user_ids
+      → acted s (event.Open name registered) ≡ opened_as s registered name o
+  opens name registered o named found =
+      ap (λ b. if b then opened_as s registered name (free_id s) else stays s reply.NameRefused)
+      named
+      ∙ ap (opened_as s registered name) (free-marked ∙ sym found)
+
+  -- no id is free
+  pub plan-full : (name : List ℕ) (registered : Bool) → is_name name ≡ true
+      → None ≡ find (λ user. not (mark t.present user)) user_ids
+      → IsPlan s (event.Open name registered) (still_plan (event.Open name registered) reply.Full)
+  plan-full name registered named found =
+      plan-still s (event.Open name registered) reply.Full (opens name registered None named found)
+
+  plan-joins : (name : List ℕ) (registered : Bool) (user : ℕ) (second : Option Entry)
+      → is_name name ≡ true → Some user ≡ find (λ id. not (mark t.present id)) user_ids
+      → option_to_list second ≡ next_owner (first_operator t.present user)
+      → IsPlan s (event.Open name registered)
+      (join_plan name registered name user (length s.connections + 1) (here s) second)
+  plan-joins name registered user second named found next =
+      let free = find_user-passes (λ id. not (is_present s id)) user (free-marked ∙ sym found) in
+      let behind : next_owner (owner_on_join s user) ≡ option_to_list second =
+      ap (λ b. next_owner (if b then None else Some user))
+      (any_user-same (is_present s) (mark t.present) marked)
+      ∙ sym next in
+      record {
+        event = refl;
+        acted = opens name registered (Some user) named found
+            ∙ ap (λ tail. record {
+              state = record s {
+                live = s.live ++ (entry_of user (msg.Meta (Join registered name)) ∷ tail);
+                connections = s.connections ++ new_connection s user ∷ [];
+              };
+              reply = reply.Opened (length s.connections + 1) user (epoch_of s) (length s.live);
+            }) behind;
+        change = (refl, not_true (is_present s user) free.1);
+      }
+
+  -- a user joins
+  pub plan-join : (name text : List ℕ) (registered : Bool) (user n : ℕ) (place : Place)
+      (second : Option Entry)
+      → is_name name ≡ true → text ≡ name
+      → Some user ≡ find (λ id. not (mark t.present id)) user_ids
+      → n ≡ length t.connections → place ≡ here s
+      → option_to_list second ≡ next_owner (first_operator t.present user)
+      → IsPlan s (event.Open name registered)
+      (join_plan name registered text user (n + 1) place second)
+  plan-join name text registered user n place second named texts found count place_is next =
+      rw (texts, count ∙ ap length are.table, place_is)
+      (plan-joins name registered user second named found next)
+
+  -- ---- closing
+
+  stays_none : (conn : ℕ) (o : Option Stream) → o ≡ None → stream_without conn o ≡ o
+  stays_none conn None h = refl
+  stays_none conn (Some stream) h = cc
+
+  module _ (stay : OperatorsStay) (conn : ℕ) (c : Connection)
+      (found : open_connection s conn ≡ Some c) where
+    abbrev ended_one : Connection
+    ended_one = record c { ending = ending.Left (here s) }
+
+    -- who is present after the Leave
+    left-marked : (user : ℕ) → user < 256 → is_present (left s conn c) user
+        ≡ mark (set t.present c.user false) user
+    left-marked user small =
+        any-marked (is_holder user) (set s.connections (conn - 1) ended_one)
+        (mark (set t.present c.user false) user)
+        (marks-changed (Becomes conn ended_one) t.present s.connections are.ids are.marks
+        (may-become s.connections conn c ended_one found refl) user small)
+
+    -- who is operator after the Leave
+    left-operator : (user : ℕ) → is_operator (left s conn c).live user ≡ is_operator s.live user
+    left-operator user = stay s.live (entry_of c.user (msg.Meta Leave)) user refl refl
+
+    -- who becomes operator
+    owners-planned : (second : Option Entry)
+        → option_to_list second ≡ next_owner (next_operator (is_operator s.live)
+        (set t.present c.user false) c.user)
+        → next_owner (owner_on_leave (is_operator s.live c.user) (left s conn c))
+        ≡ option_to_list second
+    owners-planned second next =
+        let gone = left s conn c in
+        let any_is : list_any (is_operator gone.live) (present_users gone)
+        ≡ list_any (λ user. mark (set t.present c.user false) user && is_operator s.live user)
+        user_ids =
+        list_any-filter (is_operator gone.live) (is_present gone) user_ids
+        ∙ any_user-same (λ user. is_present gone user && is_operator gone.live user)
+        (λ user. mark (set t.present c.user false) user && is_operator s.live user)
+        (λ k small. ap (λ b. b && is_operator gone.live k) (left-marked k small)
+        ∙ ap (λ b. mark (set t.present c.user false) k && b) (left-operator k)) in
+        ap (λ b. next_owner (if is_operator s.live c.user && not b
+        then find (is_present gone) user_ids else None)) any_is
+        ∙ ap (λ o. next_owner (if is_operator s.live c.user && not (list_any
+        (λ user. mark (set t.present c.user false) user && is_operator s.live user) user_ids)
+        then o else None))
+        (find_user-same (is_present gone) (mark (set t.present c.user false)) left-marked)
+        ∙ sym next
+
+    plan-leaves : (second : Option Entry)
+        → option_to_list second ≡ next_owner (next_operator (is_operator s.live)
+        (set t.present c.user false) c.user)
+        → IsPlan s (event.Close conn) (leave_plan conn c (here s) second)
+    plan-leaves second next =
+        let made : List Entry → Option Stream → Acted = λ live stream. record {
+          state = record s {
+            live = live;
+            connections = set s.connections (conn - 1) ended_one;
+            stream = stream;
+          };
+          reply = reply.Placed (epoch_of s) (length s.live);
+        } in
+        let leave = entry_of c.user (msg.Meta Leave) in
+        record {
+          event = refl;
+          acted = ap (λ o. option_map_or (closed_by s conn) o (stays s reply.Ignored)) found
+              ∙ ap (λ live. made live (stream_without conn s.stream))
+              (append_assoc s.live (leave ∷ []) (next_owner (owner_on_leave
+              (is_operator s.live c.user) (left s conn c)))
+              ∙ ap (λ o. s.live ++ (leave ∷ o)) (owners-planned second next))
+              ∙ ap (λ stream. made (s.live ++ (leave ∷ option_to_list second)) stream)
+              (stays_none conn s.stream are.stream);
+          change = may-become s.connections conn c ended_one found refl;
+        }
+
+    -- a user leaves
+    pub plan-leave : (place : Place) (second : Option Entry) → place ≡ here s
+        → option_to_list second ≡ next_owner (next_operator (is_operator s.live)
+        (set t.present c.user false) c.user)
+        → IsPlan s (event.Close conn) (leave_plan conn c place second)
+    plan-leave place second place_is next =
+        subst (λ p. IsPlan s (event.Close conn) (leave_plan conn c p second)) (sym place_is)
+        (plan-leaves second next)
+
+-- ---- what is said
+
+module _ (s : State) (conn : ℕ) (c : Connection) (found : open_connection s conn ≡ Some c)
+    (m : Msg) where
+  say-acted : (d : Decision) → d ≡ decided s conn c m
+      → acted s (event.Say conn m) ≡ acted_by s conn c m d
+  say-acted d is =
+      ap (λ o. option_map_or (says_by s conn m) o (stays s reply.Ignored)) found
+      ∙ ap (acted_by s conn c m) (sym is)
+
+  -- a message that means nothing
+  pub plan-ignored : decision.Ignore ≡ decided s conn c m
+      → IsPlan s (event.Say conn m) (still_plan (event.Say conn m) reply.Ignored)
+  plan-ignored is = plan-still s (event.Say conn m) reply.Ignored (say-acted decision.Ignore is)
+
+  -- an epoch is taken up
+  pub plan-acknowledged : (epoch : ℕ) → epoch ≡ epoch_of s
+      → decision.Acknowledge ≡ decided s conn c m
+      → IsPlan s (event.Say conn m) (ack_plan conn c epoch m)
+  plan-acknowledged epoch epoch_is is =
+      let d : Connection = record c { acknowledged = epoch_of s } in
+      subst (λ k. IsPlan s (event.Say conn m) (ack_plan conn c k m)) (sym epoch_is) (record {
+        event = refl;
+        acted = say-acted decision.Acknowledge is
+            ∙ ap (λ live. record {
+              state = record s {
+                live = live;
+                connections = set s.connections (conn - 1) d;
+              };
+              reply = reply.Noted;
+            }) (sym (append-nil s.live));
+        change = may-become s.connections conn c d found refl;
+      })
+
+  -- a message is placed
+  pub plan-placed : (place : Place) → place ≡ here s → decision.Place ≡ decided s conn c m
+      → IsPlan s (event.Say conn m) (placed_plan conn c.user m place)
+  plan-placed place place_is is =
+      subst (λ p. IsPlan s (event.Say conn m) (placed_plan conn c.user m p)) (sym place_is)
+      (record { event = refl; acted = say-acted decision.Place is; change = tt })
+
+  -- another entry is placed
+  pub plan-filtered : (place : Place) → place ≡ here s → decision.Filter ≡ decided s conn c m
+      → IsPlan s (event.Say conn m) (filtered_plan conn c.user m place)
+  plan-filtered place place_is is =
+      subst (λ p. IsPlan s (event.Say conn m) (filtered_plan conn c.user m p)) (sym place_is)
+      (record { event = refl; acted = say-acted decision.Filter is; change = tt })
+
+-- ---- operators
+
+-- the user who becomes operator
+pub next-is : (operates : ℕ → Bool) (present : List Bool) (user : ℕ) (o p : Option ℕ)
+    → operates user ≡ true
+    → o ≡ find (λ other. mark present other && operates other) user_ids → is_some o ≡ false
+    → p ≡ find (mark present) user_ids → p ≡ next_operator operates present user
+next-is operates present user o p operating found none next =
+    next
+    ∙ sym (ap (λ b. if b && not (list_any (λ other. mark present other && operates other) user_ids)
+    then find (mark present) user_ids else None) operating
+    ∙ ap (λ b. if not b then find (mark present) user_ids else None)
+    (list_any-find (λ other. mark present other && operates other) user_ids ∙ ap is_some (sym found)
+    ∙ none))
+
+-- none does, where the user was no operator
+pub next-no_operator : (operates : ℕ → Bool) (present : List Bool) (user : ℕ)
+    → operates user ≡ false
+    → None ≡ next_operator operates present user
+next-no_operator operates present user no_one =
+    sym (ap (λ b. if b && not (list_any (λ other. mark present other && operates other) user_ids)
+    then find (mark present) user_ids else None) no_one)
+
+-- none does, where an operator stays
+pub next-operator_stays : (operates : ℕ → Bool) (present : List Bool) (user : ℕ) (o : Option ℕ)
+    → operates user ≡ true
+    → o ≡ find (λ other. mark present other && operates other) user_ids → is_some o ≡ true
+    → None ≡ next_operator operates present user
+next-operator_stays operates present user o operating found some =
+    sym (ap (λ b. if b && not (list_any (λ other. mark present other && operates other) user_ids)
+    then find (mark present) user_ids else None) operating
+    ∙ ap (λ b. if not b then find (mark present) user_ids else None)
+    (list_any-find (λ other. mark present other && operates other) user_ids ∙ ap is_some (sym found)
+    ∙ some))
+
+-- ---- a Close that was left out
+
+-- what closing a connection without a Leave changes
+shut-changes : (s : State) (conn : ℕ) (o : Option Connection) → open_connection s conn ≡ o
+    → IsChange s.connections (shut_change conn o)
+    × (length (changed (shut_change conn o) s.connections) ≡ length s.connections)
+    × (after_shut s conn ≡ record s { connections = changed (shut_change conn o) s.connections })
+shut-changes s conn None is = (
+  tt,
+  refl,
+  ap (λ o. option_map_or (λ d. with_connection s conn
+      (record d { ending = ending.Shut })) o s) is,
+)
+shut-changes s conn (Some c) is = (
+  may-become s.connections conn c (record c { ending = ending.Shut }) is refl,
+  length-set s.connections (conn - 1) (record c { ending = ending.Shut }),
+  ap (λ o. option_map_or (λ d. with_connection s conn (record d { ending = ending.Shut })) o s) is,
+)
+
+-- the tables after it
+pub tables-closed : (leads : (past : Past) (e : Event)
+    → state_of (refused past e) ≡ shut_by (state_of past) e) (old new : Inside) (conn : ℕ)
+    → AreTables old
+    → IsLeftOut old conn (shut_change conn (open_in old.connections.items conn)) new
+    → AreTables new
+tables-closed leads old new conn are left =
+    let s = state_in (ledger_of old) in
+    let o = open_in old.connections.items conn in
+    let h = shut-changes s conn o (ap (λ cs. open_in cs conn) (sym are.of.table)) in
+    tables-left leads old new conn (shut_change conn o) are left h.0
+    (omega (arith, h.1, are.of.opened)) h.2
+
+-- ---- names
+
+-- a name is tested by its length and as a text
+pub name-tested : (name bytes : List ℕ) (o : Option (List ℕ)) → bytes ≡ name → 1 ≤ length name
+    → length name ≤ 32
+    → (IsSome o → IsText bytes) → (IsText bytes → IsSome o) → is_some o ≡ is_name name
+name-tested name bytes o same above below is_text has =
+    by_text o is_text has
+    ∙ sym (ap (λ b. b && nat_le (length name) 32 && is_utf8 name) (le-leb 1 (length name) above)
+    ∙ ap (λ b. b && is_utf8 name) (le-leb (length name) 32 below)) where
+      by_text : (o : Option (List ℕ)) → (IsSome o → IsText bytes) → (IsText bytes → IsSome o)
+          → is_some o ≡ is_utf8 name
+      by_text (Some text) is_text has = sym (is_utf8-from_IsUtf8 name
+          (subst IsUtf8 same (is_text refl).0))
+      by_text None is_text has =
+          ⊎_elim (λ (utf8 : is_utf8 name ≡ true).
+          let wrong : false ≡ true = has (
+            subst IsUtf8 (sym same) (IsUtf8-from_is_utf8 name utf8),
+            omega (arith, ap length same),
+          ) in cc)
+          (λ (other : is_utf8 name ≡ false). sym other)
+          (cases_Bool (is_utf8 name))

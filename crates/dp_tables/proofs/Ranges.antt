@@ -1,0 +1,123 @@
+-- Tests of the numbers of a range.
+use Rattle.std.proofs.Common.{◌≡◌, ℕ, zero, suc, ◌+◌, ◌<◌, ◌≤◌, Bool, true, false, ◌&&◌, ◌||◌, cond}
+use Rattle.std.proofs.Common.{List, [], ◌∷◌, None, Some, is_some, refl, sym, ap, ◌∙◌, ⊎_elim, arith}
+use Rattle.std.specs.List.{find, filter, list_any, range_with_len}
+use Rattle.std.proofs.lemmas.Bool.{cases_lt, cases_Bool}
+use Rattle.dp_epochs.specs.State.{user_ids}
+
+-- the first number that passes is found
+pub find-first : (p : ℕ → Bool) (low n k : ℕ) → low ≤ k → k < low + n → p k ≡ true
+    → ((j : ℕ) → low ≤ j → j < k → p j ≡ false) → find p (range_with_len low n) ≡ Some k
+find-first p low zero k above below passes fails = absurd (omega arith)
+find-first p low (suc n) k above below passes fails =
+    ⊎_elim (λ (less : low < k).
+    ap (λ b. cond b (Some low) (find p (range_with_len (low + 1) n))) (fails low (omega arith) less)
+    ∙ find-first p (low + 1) n k (omega arith) (omega arith) passes
+    (λ j from to. fails j (omega arith) to))
+    (λ (same : k ≤ low).
+    let e : low ≡ k = omega arith in
+    ap (λ b. cond b (Some low) (find p (range_with_len (low + 1) n))) (ap p e ∙ passes) ∙ ap Some e)
+    (cases_lt low k)
+
+-- none is found where none passes
+pub find-none : (p : ℕ → Bool) (low n : ℕ) → ((j : ℕ) → low ≤ j → j < low + n → p j ≡ false)
+    → find p (range_with_len low n) ≡ None
+find-none p low zero fails = refl
+find-none p low (suc n) fails =
+    ap (λ b. cond b (Some low) (find p (range_with_len (low + 1) n)))
+    (fails low (omega arith) (omega arith))
+    ∙ find-none p (low + 1) n (λ j from to. fails j (omega arith) (omega arith))
+
+-- tests that agree within the range find the same
+pub find-same : (p q : ℕ → Bool) (low n : ℕ) → ((k : ℕ) → low ≤ k → k < low + n → p k ≡ q k)
+    → find p (range_with_len low n) ≡ find q (range_with_len low n)
+find-same p q low zero same = refl
+find-same p q low (suc n) same =
+    ap (λ b. cond b (Some low) (find p (range_with_len (low + 1) n)))
+    (same low (omega arith) (omega arith))
+    ∙ ap (λ o. cond (q low) (Some low) o)
+    (find-same p q (low + 1) n (λ k from to. same k (omega arith) (omega arith)))
+
+-- tests that agree within the range keep the same
+pub filter-range_same : (p q : ℕ → Bool) (low n : ℕ) → ((k : ℕ) → low ≤ k → k < low + n → p k ≡ q k)
+    → filter p (range_with_len low n) ≡ filter q (range_with_len low n)
+filter-range_same p q low zero same = refl
+filter-range_same p q low (suc n) same =
+    ap (λ b. cond b (low ∷ filter p (range_with_len (low + 1) n))
+    (filter p (range_with_len (low + 1) n)))
+    (same low (omega arith) (omega arith))
+    ∙ ap (λ xs. cond (q low) (low ∷ xs) xs)
+    (filter-range_same p q (low + 1) n (λ k from to. same k (omega arith) (omega arith)))
+
+some_is : (a b : ℕ) → Some a ≡ Some b → a ≡ b
+some_is a b e = cc
+
+-- what is found passes
+pub find-passes : (p : ℕ → Bool) (low n k : ℕ) → find p (range_with_len low n) ≡ Some k
+    → (k < low + n) × (p k ≡ true)
+find-passes p low zero k found = cc
+find-passes p low (suc n) k found =
+    ⊎_elim (λ (here : p low ≡ true).
+    let e : low ≡ k = some_is low k (sym (ap (λ b. cond b (Some low)
+    (find p (range_with_len (low + 1) n))) here) ∙ found) in
+    (omega arith, ap p (sym e) ∙ here))
+    (λ (other : p low ≡ false).
+    let h = find-passes p (low + 1) n k (sym (ap (λ b. cond b (Some low)
+    (find p (range_with_len (low + 1) n))) other) ∙ found) in
+    (omega (arith, h.0), h.1))
+    (cases_Bool (p low))
+
+-- some item passes exactly where one is found
+pub list_any-find : {X : Type 0} (p : X → Bool) (xs : List X) → list_any p xs ≡ is_some (find p xs)
+list_any-find p [] = refl
+list_any-find p (x ∷ xs) =
+    elim (p x) as (λ b. (b || list_any p xs) ≡ is_some (cond b (Some x) (find p xs))) [
+      | true ↦ refl
+      | false ↦ list_any-find p xs
+    ]
+
+-- some number among those kept by one test passes another
+pub list_any-filter : {X : Type 0} (p q : X → Bool) (xs : List X)
+    → list_any p (filter q xs) ≡ list_any (λ x. q x && p x) xs
+list_any-filter p q [] = refl
+list_any-filter p q (x ∷ xs) =
+    elim (q x) as (λ b. list_any p (cond b (x ∷ filter q xs) (filter q xs))
+    ≡ ((b && p x) || list_any (λ y. q y && p y) xs)) [
+      | true ↦ ap (λ b. p x || b) (list_any-filter p q xs)
+      | false ↦ list_any-filter p q xs
+    ]
+
+-- ---- the ids of users
+
+-- the first id that passes is found
+pub find_user-first : (p : ℕ → Bool) (k : ℕ) → 1 ≤ k → k < 255 → p k ≡ true
+    → ((j : ℕ) → 1 ≤ j → j < k → p j ≡ false) → find p user_ids ≡ Some k
+unfolding user_ids
+find_user-first p k above below passes fails = find-first p 1 254 k above (omega arith) passes fails
+
+-- none is found where none passes
+pub find_user-none : (p : ℕ → Bool) → ((j : ℕ) → 1 ≤ j → j < 255 → p j ≡ false)
+    → find p user_ids ≡ None
+unfolding user_ids
+find_user-none p fails = find-none p 1 254 (λ j from to. fails j from (omega arith))
+
+-- tests that agree on users find the same
+pub find_user-same : (p q : ℕ → Bool) → ((k : ℕ) → k < 256 → p k ≡ q k)
+    → find p user_ids ≡ find q user_ids
+unfolding user_ids
+find_user-same p q same = find-same p q 1 254 (λ k from to. same k (omega arith))
+
+-- a user that is found passes, and is a user
+pub find_user-passes : (p : ℕ → Bool) (k : ℕ) → find p user_ids ≡ Some k → (k < 256) × (p k ≡ true)
+unfolding user_ids
+find_user-passes p k found = let h = find-passes p 1 254 k found in (omega arith, h.1)
+
+-- tests that agree on users are passed alike
+pub any_user-same : (p q : ℕ → Bool) → ((k : ℕ) → k < 256 → p k ≡ q k)
+    → list_any p user_ids ≡ list_any q user_ids
+any_user-same p q same =
+    list_any-find p user_ids ∙ ap is_some (find_user-same p q same) ∙ sym (list_any-find q user_ids)
+
+-- both tests are passed
+pub both : {a b : Bool} → a ≡ true → b ≡ true → (a && b) ≡ true
+both {a} {b} x y = ap (λ t. t && b) x ∙ y

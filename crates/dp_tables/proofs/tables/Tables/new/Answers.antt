@@ -1,0 +1,15 @@
+use Rattle.std.proofs.Common.{[], ◌++◌, ◌∷◌, refl, ap, ◌∙◌}
+use Rattle.dp_msg_meta.specs.declared.message.Meta.TheVariants.{ResetMark}
+use Rattle.dp_epochs.specs.State.{server_entry}
+use Rattle.dp_tables.specs.declared.history_item.HistoryItem.TheVariants as item
+use Rattle.dp_tables.proofs.TableLemmas.{tables-first}
+use Rattle.dp_tables.proofs.tables.Tables.new.Goals as goal
+
+pub invariant_of-result : goal.invariant_of-result
+invariant_of-result c =
+    tables-first _ c.new.ensures.items c.new-2.ensures.items c.new-3.ensures.items
+    c.new-4.ensures.items
+    (c.in_ok-push.ensures.items
+    ∙ ap (λ items. items ++ item.Server (server_entry (ResetMark 0 0)) ∷ [])
+    c.new-live.ensures.items) refl
+    (c.in_ok-note.ensures.stands [] c.new-rights.ensures) c.no_marks.ensures

@@ -1,0 +1,4 @@
+pub mod Ledger
+pub mod Tables
+pub mod Plans
+pub mod Inside

@@ -1,0 +1,15 @@
+//! The tables of a session: what it keeps of the events that came, without a store.
+//!
+//! The rule: docs/protocol.md, "The session".
+#![tactic(auto)]
+
+mod commit;
+mod history_item;
+mod pages;
+mod plan;
+mod planner;
+mod presence;
+mod tables;
+
+pub use plan::Ready;
+pub use tables::Tables;

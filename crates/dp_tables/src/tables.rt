@@ -1,0 +1,267 @@
+//! What a session keeps.
+
+ghost use Rattle.std.specs.Prelude.{
+  ◌≡◌,
+  replicate,
+  false,
+  true,
+  ◌+◌,
+  ◌^◌,
+  ◌≤◌,
+  ◌<◌,
+  ◌&&◌,
+  [],
+  length,
+  nat_lt,
+  nat_le,
+  vec_len,
+  vec_capacity,
+  IfOk,
+  OnOk,
+  List,
+};
+ghost use Rattle.dp_messages.specs.declared.message.Entry.{Entry as Piece};
+ghost use Rattle.dp_acl.specs.Table.{StandsFor};
+ghost use Rattle.dp_acl.specs.Permitted.{permitted};
+ghost use Rattle.dp_events.specs.Rows.{row_bytes, event_limit, byte_limit};
+ghost use Rattle.dp_epochs.specs.State.{connection_in, connection_of, open_in, open_connection};
+ghost use Rattle.dp_epochs.specs.State.{next_open, here};
+ghost use Rattle.dp_tables.specs.Ledger.{state_in};
+
+use crate::history_item::HistoryItem;
+use dp_acl::Rights;
+use dp_events::{Connection, Ending, Event, Place, ShutAt};
+use dp_messages::{Entry, Msg};
+use dp_msg_meta::Meta;
+use std::alloc::{AllocError, Global};
+use std::marker::Model;
+
+/// The number of the live epoch.
+const EPOCH: u32 = 0;
+
+/// The most events of a journal.
+const EVENT_LIMIT: usize = 1 << 24;
+
+/// The most bytes of the rows of a journal.
+const BYTE_LIMIT: u64 = 1 << 30;
+
+/// The tables of a session: the state to which the events and closings led that came so far.
+/// Contracts see these, and whether memory is ready for one more event.
+#[derive(Drop)]
+pub struct Tables {
+    pub(crate) journal: Vec<Event>,
+    pub(crate) row_bytes: u64,
+    pub(crate) shut: Vec<ShutAt>,
+    pub(crate) connections: Vec<Connection>,
+    pub(crate) quiet: Vec<bool>,
+    pub(crate) live: Vec<HistoryItem>,
+    pub(crate) rights: Rights,
+    pub(crate) present: [bool; 256],
+}
+
+impl Model for Tables {
+    ghost use Rattle.dp_tables.specs.Ledger.{Ledger};
+
+    ghost Value = { Ledger };
+
+    ghost use Rattle.dp_tables.specs.Inside.{ledger_of, AreTables};
+
+    ghost view = { ledger_of };
+
+    ghost invariant = { AreTables };
+}
+
+/// The connection of a number, if it was given out.
+fn connection(connections: &[Connection], conn: u32) -> Option<Connection>
+    ensures { result ≡ connection_in connections.now conn }
+{
+    if conn == 0 {
+        return None;
+    }
+    connections.get(conn as usize - 1).copied()
+}
+
+/// The connection of a number, if it was given out and is open.
+pub(crate) fn open_connection(connections: &[Connection], conn: u32) -> Option<Connection>
+    ensures { result ≡ open_in connections.now conn }
+{
+    let found = connection(connections, conn)?;
+    match found.ending {
+        Ending::Running => Some(found),
+        Ending::Left(_) => None,
+        Ending::Shut => None,
+    }
+}
+
+/// The least number above this one of a connection that is open.
+fn next_open(connections: &[Connection], after: u32) -> Option<u32>
+    requires { length connections.now < 2 ^ 32 }
+    ensures { result ≡ next_open connections.now after }
+{
+    for index in after..connections.len() as u32 {
+        if connections[index as usize].is_open() {
+            return Some(index + 1);
+        }
+    }
+    None
+}
+
+/// No id is marked.
+fn no_marks() -> [bool; 256]
+    ensures { result ≡ replicate 256 false }
+{
+    [false; 256]
+}
+
+/// Makes the memory ready that any one event needs.
+fn reserve(
+    journal: &mut Vec<Event>,
+    shut: &mut Vec<ShutAt>,
+    connections: &mut Vec<Connection>,
+    quiet: &mut Vec<bool>,
+    live: &mut Vec<HistoryItem>,
+    rights: &mut Rights,
+) -> Result<(), AllocError>
+    ensures journal { journal.new.items ≡ journal.old.items }
+    ensures shut { shut.new.items ≡ shut.old.items }
+    ensures connections { connections.new.items ≡ connections.old.items }
+    ensures quiet { quiet.new.items ≡ quiet.old.items }
+    ensures live { live.new.items ≡ live.old.items }
+    ensures stands { (history : List Piece) → StandsFor rights.old history
+        → StandsFor rights.new history }
+    ensures journal_room { OnOk result (vec_len journal.new < vec_capacity journal.new) }
+    ensures shut_room { OnOk result (vec_len shut.new < vec_capacity shut.new) }
+    ensures connections_room { OnOk result (vec_len connections.new
+        < vec_capacity connections.new) }
+    ensures quiet_room { OnOk result (vec_len quiet.new < vec_capacity quiet.new) }
+    ensures live_room { OnOk result (vec_len live.new + 2 ≤ vec_capacity live.new) }
+    ensures rights_room { OnOk result (2 ≤ rights.new.room) }
+{
+    journal.reserve(1)?;
+    shut.reserve(1)?;
+    connections.reserve(1)?;
+    quiet.reserve(1)?;
+    live.reserve(2)?;
+    rights.reserve(2)
+}
+
+impl Tables {
+    /// The tables of a session to which nothing has come.
+    pub fn new(alloc: Global) -> Result<Tables, AllocError>
+        ensures journal { IfOk result (λ tables. tables.journal ≡ []) }
+        ensures shut { IfOk result (λ tables. tables.shut ≡ []) }
+        ensures quiet { IfOk result (λ tables. tables.quiet ≡ []) }
+    {
+        let mark = Entry {
+            user: 0,
+            msg: Msg::Meta(Meta::ResetMark {
+                epoch: EPOCH,
+                carried: 0,
+            }),
+        };
+        let mut rights = Rights::new(alloc);
+        rights.note(&mark)?;
+        let mut live = Vec::new(alloc);
+        live.push(HistoryItem::Server(mark))?;
+        Ok(Tables {
+            journal: Vec::new(alloc),
+            row_bytes: 0,
+            shut: Vec::new(alloc),
+            connections: Vec::new(alloc),
+            quiet: Vec::new(alloc),
+            live,
+            rights,
+            present: no_marks(),
+        })
+    }
+
+    /// The journal, and the closings that were refused.
+    pub fn into_parts(self) -> (Vec<Event>, Vec<ShutAt>)
+        ensures journal { result.0.items ≡ self.journal }
+        ensures shut { result.1.items ≡ self.shut }
+    {
+        let Tables {
+            journal,
+            row_bytes: _,
+            shut,
+            connections: _,
+            quiet: _,
+            live: _,
+            rights: _,
+            present: _,
+        } = self;
+        (journal, shut)
+    }
+
+    pub(crate) fn allocator(&self) -> Global {
+        *self.journal.allocator()
+    }
+
+    /// Where the next entry stands.
+    pub(crate) fn here(&self) -> Place
+        ensures { result ≡ here (state_in self.now) }
+    {
+        Place {
+            epoch: EPOCH,
+            index: self.live.len() as u32,
+        }
+    }
+
+    /// How many events were kept.
+    pub(crate) fn events(&self) -> u64
+        ensures { result ≡ length self.now.journal }
+    {
+        self.journal.len() as u64
+    }
+
+    /// Whether there is room for an event whose row has this length.
+    pub(crate) fn has_room(&self, row_length: usize) -> bool
+        ensures { result ≡ (nat_lt (length self.now.journal) event_limit
+            && nat_le (row_bytes self.now.journal + row_length) byte_limit) }
+    {
+        self.journal.len() < EVENT_LIMIT && row_length as u64 <= BYTE_LIMIT - self.row_bytes
+    }
+
+    /// The connection of a number, if it was given out.
+    pub(crate) fn connection(&self, conn: u32) -> Option<Connection>
+        ensures { result ≡ connection_of (state_in self.now) conn }
+    {
+        connection(&self.connections, conn)
+    }
+
+    /// The connection of a number, if it was given out and is open.
+    pub(crate) fn open_connection(&self, conn: u32) -> Option<Connection>
+        ensures { result ≡ open_connection (state_in self.now) conn }
+    {
+        open_connection(&self.connections, conn)
+    }
+
+    /// The least number above this one of a connection that is open. It takes no memory.
+    pub fn next_open(&self, after: u32) -> Option<u32>
+        ensures { result ≡ next_open (state_in self.now).connections after }
+    {
+        next_open(&self.connections, after)
+    }
+
+    /// Whether the user may say the message now.
+    pub(crate) fn permits(&self, user: u8, msg: &Msg) -> bool
+        ensures { result ≡ permitted (state_in self.now).live user msg.now }
+    {
+        self.rights.permits(user, msg)
+    }
+
+    /// Makes the memory ready that any one event needs.
+    pub fn make_room(&mut self) -> Result<(), AllocError>
+        ensures same { self.new ≡ record self.old { room = self.new.room } }
+        ensures room { OnOk result (self.new.room ≡ true) }
+    {
+        reserve(
+            &mut self.journal,
+            &mut self.shut,
+            &mut self.connections,
+            &mut self.quiet,
+            &mut self.live,
+            &mut self.rights,
+        )
+    }
+}
