@@ -18,11 +18,12 @@ use Rattle.dp_sim.specs.Report.{report}
 use Rattle.dp_world.specs.Schedule.{WorldComesTo}
 use Rattle.dp_world.specs.RunEnds.{Blames, WorldLeaves}
 use Rattle.dp_app.specs.Input.{ReplayComesTo}
-use Rattle.dp_app.specs.Answer.{Answer, IsCommand, IsReplay, IsWorld, IsDue, IsGiven, Leaves, Says}
+use Rattle.dp_app.specs.Answer.{Answer, CommandLeaves, DueOf, IsDue, IsGiven, Leaves, Says}
 use Rattle.dp_app.specs.Answer.{SaysUsage, status_of, line_of, replay_text, replay_answer}
-use Rattle.dp_app.specs.Answer.{usage_answer, world_answer, world_word, replay_word, run_end_of}
+use Rattle.dp_app.specs.Answer.{usage_answer, world_answer, run_end_of}
 use Rattle.dp_app.specs.Answer.{HasHeadline}
-use Rattle.dp_app.specs.Commands.{NamesCommand, CommandLeaves}
+use Rattle.dp_app.specs.Commands.{IsCommand, IsReplay, IsWorld, NamesCommand, world_word}
+use Rattle.dp_app.specs.Commands.{replay_word}
 use Rattle.dp_sim.specs.World.{world_after}
 use Rattle.dp_sim.specs.Headline.{Headline}
 use Rattle.dp_app.specs.declared.words.Command.{Command}
@@ -75,8 +76,9 @@ due_world bytes left old new Done h read write memory = (
   h.1.3,
 )
 due_world bytes left old new (BadLine n) h read write memory =
-    (h.0, h.1, ends.BadLine n, h.2, refl, h.3)
-due_world bytes left old new Long h read write memory = (h.0, h.1, ends.TooLong, h.2, refl, h.3)
+    (h.0.0, h.0.1, ends.BadLine n, h.0.2, refl, h.0.3)
+due_world bytes left old new Long h read write memory =
+    (h.0.0, h.0.1, ends.TooLong, h.0.2, refl, h.0.3)
 due_world bytes left old new ReadFault h read write memory = absurd (read refl)
 due_world bytes left old new WriteFault h read write memory = absurd (write refl)
 due_world bytes left old new Memory h read write memory = absurd (memory refl)
@@ -112,14 +114,14 @@ complete_told words bytes left old new dold dnew status Replay end names leaves 
     code line =
     let due = due_left bytes left old new end leaves read write memory in (
       replay_answer due.0 end,
-      inl (names, due.0, end, due.1, refl),
+      inl (Replay, names, (due.0, end, due.1, refl)),
       record { status = code; text = due.2; line = line },
     )
 complete_told words bytes left old new dold dnew status World end names leaves read write memory
     code line =
     let due = due_world bytes left old new end leaves read write memory in (
       world_answer due.1 due.2,
-      inr (inl (names, due.0, due.1, due.2, due.3, refl)),
+      inl (World, names, (due.0, due.1, due.2, due.3, refl)),
       record {
         status = code ∙ ap status_of due.4;
         text = due.5;
@@ -156,7 +158,7 @@ complete_usage words (Some bytes) old new dold dnew before now status other kept
     = absurd (kept failed.1)
 complete_usage words (Some bytes) old new dold dnew before now status other kept keeps (inl says) = (
   usage_answer,
-  inr (inr (other, refl)),
+  inr (other, refl),
   record {
     status = says.0;
     text = appends_nothing old new
@@ -181,27 +183,45 @@ OneSchedule = (input : List ℕ) (done others : List Line) (actions more : List 
 not_both : {A : Type 0} (words : List (String A)) → IsReplay words → IsWorld words → ⊥
 not_both words replay world = let e : replay_word ∷ [] ≡ world_word ∷ [] = sym replay ∙ world in cc
 
+one_command : {A : Type 0} (words : List (String A)) (command other : Command)
+    → NamesCommand words command → NamesCommand words other → command ≡ other
+one_command words Replay Replay names again = refl
+one_command words Replay World names again = absurd (not_both words names again)
+one_command words World Replay names again = absurd (not_both words again names)
+one_command words World World names again = refl
+
+-- words that name a command are one
+pub named : {A : Type 0} (words : List (String A)) (command : Command) → NamesCommand words command
+    → IsCommand words
+named words Replay names = inl names
+named words World names = inr names
+
+-- a command is due one answer
+one_of : OneReading → OneSchedule → (command : Command) (bytes : List ℕ) (a b : Answer)
+    → DueOf command bytes a → DueOf command bytes b → a ≡ b
+one_of law laws Replay bytes a b (entries, end, comes, is) (others, other, comes_too, is_too) =
+    let same = law bytes entries others end other comes comes_too in
+    is ∙ ap (λ (es : List Entry). replay_answer es end) same.0
+    ∙ ap (λ (e : RunEnd). replay_answer others e) same.1 ∙ sym is_too
+one_of law laws World bytes a b (done, actions, end, comes, is)
+    (others, more, last, comes_too, is_too) =
+    let same = laws bytes done others actions more end last comes comes_too in
+    is ∙ ap (λ (them : List Action). world_answer them end) same.0
+    ∙ ap (λ (e : LinesEnd). world_answer more e) same.1 ∙ sym is_too
+
 -- the words and the input's bytes are due one answer
 pub one_due : OneReading → OneSchedule → {A : Type 0} (words : List (String A)) (bytes : List ℕ)
     (a b : Answer)
     → IsDue words bytes a → IsDue words bytes b → a ≡ b
-one_due law laws words bytes a b (inl (replay, entries, end, comes, is))
-    (inl (again, others, other, comes_too, is_too)) =
-    let same = law bytes entries others end other comes comes_too in
-    is ∙ ap (λ (es : List Entry). replay_answer es end) same.0
-    ∙ ap (λ (e : RunEnd). replay_answer others e) same.1 ∙ sym is_too
-one_due law laws words bytes a b (inl h) (inr (inl k)) = absurd (not_both words h.0 k.0)
-one_due law laws words bytes a b (inl h) (inr (inr k)) = absurd (k.0 (inl h.0))
-one_due law laws words bytes a b (inr (inl h)) (inl k) = absurd (not_both words k.0 h.0)
-one_due law laws words bytes a b (inr (inl (world, done, actions, end, comes, is)))
-    (inr (inl (again, others, more, last, comes_too, is_too))) =
-    let same = laws bytes done others actions more end last comes comes_too in
-    is ∙ ap (λ (them : List Action). world_answer them end) same.0
-    ∙ ap (λ (e : LinesEnd). world_answer more e) same.1 ∙ sym is_too
-one_due law laws words bytes a b (inr (inl h)) (inr (inr k)) = absurd (k.0 (inr h.0))
-one_due law laws words bytes a b (inr (inr h)) (inl k) = absurd (h.0 (inl k.0))
-one_due law laws words bytes a b (inr (inr h)) (inr (inl k)) = absurd (h.0 (inr k.0))
-one_due law laws words bytes a b (inr (inr h)) (inr (inr k)) = h.1 ∙ sym k.1
+one_due law laws words bytes a b (inl (command, names, due)) (inl (other, again, due_too)) =
+    let same : other ≡ command = one_command words other command again names in
+    one_of law laws command bytes a b due
+    (subst (λ (c : Command). DueOf c bytes b) same due_too)
+one_due law laws words bytes a b (inl (command, names, due)) (inr k) =
+    absurd (k.0 (named words command names))
+one_due law laws words bytes a b (inr h) (inl (command, names, due)) =
+    absurd (h.0 (named words command names))
+one_due law laws words bytes a b (inr h) (inr k) = h.1 ∙ sym k.1
 
 -- what is due is given where what is given is due
 pub exact : OneReading → OneSchedule → {A : Type 0} (words : List (String A))
@@ -346,30 +366,16 @@ at_end told left old new dold dnew before now status command end l (inl says) (i
     command_at_end told left old new command end l (inr (sym says.0 ∙ h))
 
 -- what a run of the command that the words name leaves
-pub replay_left : {A : Type 0} (words : List (String A)) (told left old new : Option (List ℕ))
-    (command : Command) (end : RunEnd) →
-    NamesCommand words command → CommandLeaves command told left old new end → IsReplay words
-    → Leaves told left old new end
-replay_left words told left old new Replay end names leaves replay = leaves
-replay_left words told left old new World end names leaves replay = absurd
-    (not_both words replay names)
-
-pub world_left : {A : Type 0} (words : List (String A)) (told left old new : Option (List ℕ))
-    (command : Command) (end : RunEnd) →
-    NamesCommand words command → CommandLeaves command told left old new end → IsWorld words
-    → WorldLeaves told left old new end
-world_left words told left old new Replay end names leaves world = absurd
-    (not_both words names world)
-world_left words told left old new World end names leaves world = leaves
-
--- words that name a command are one
-pub named : {A : Type 0} (words : List (String A)) (command : Command) → NamesCommand words command
-    → IsCommand words
-named words Replay names = inl names
-named words World names = inr names
+pub command_left : {A : Type 0} (words : List (String A)) (told left old new : Option (List ℕ))
+    (command other : Command) (end : RunEnd) →
+    NamesCommand words command → NamesCommand words other
+    → CommandLeaves command told left old new end → CommandLeaves other told left old new end
+command_left words told left old new command other end names again leaves =
+    subst (λ (c : Command). CommandLeaves c told left old new end)
+    (one_command words command other names again) leaves
 
 -- the headline, of an input whose bytes are known
 pub headline_of : ((actions : List Action) → Headline (world_after actions))
     → (told : Option (List ℕ)) → IfSome told HasHeadline
 headline_of law None = tt
-headline_of law (Some bytes) = λ done actions end comes. law actions
+headline_of law (Some bytes) = λ done behind actions parts asked. law actions

@@ -3,7 +3,7 @@ use Rattle.std.proofs.Common.{◌≡◌, ℕ, ◌<◌, ◌≤◌, List, [], ◌�
 use Rattle.std.proofs.Common.{Bool, eqb}
 use Rattle.std.specs.Cmp.Lexicographic.{bytes_decides, pointwise}
 use Rattle.std.specs.Prelude.{String, string_bytes, IsTrue}
-use Rattle.dp_app.specs.Answer.{AreWord}
+use Rattle.dp_app.specs.Commands.{AreWord}
 
 -- a list of one word is the word exactly where a test of that word's bytes says so
 pub one_word : {A : Type 0} (words : List (String A)) (word : String A) (wanted : List ℕ)

@@ -1,5 +1,5 @@
 -- What a run leaves on the output.
-use Rattle.std.proofs.Common.{◌≡◌, ℕ, List, refl, sym, subst, inl, inr}
+use Rattle.std.proofs.Common.{◌≡◌, ℕ, List, sym, subst, inl, inr}
 use Rattle.std.specs.Prelude.{Option, Some, None, IfSome}
 use Rattle.std.specs.Io.KnownBytes.{Appends, IsAtEnd}
 use Rattle.dp_io.specs.Streams.{GrowsByPrefix}
@@ -7,13 +7,12 @@ use Rattle.dp_messages.specs.declared.message.Entry.{Entry}
 use Rattle.dp_plain.specs.Replay.{shown}
 use Rattle.dp_plain.specs.Picture.{p6}
 use Rattle.dp_lines.specs.declared.run_end.RunEnd.{RunEnd}
-use Rattle.dp_lines.specs.declared.run_end.RunEnd.TheVariants.{Done, ReadFault, Memory, Long}
-use Rattle.dp_lines.specs.declared.run_end.RunEnd.TheVariants.{Truncated, BadMessage}
+use Rattle.dp_lines.specs.declared.run_end.RunEnd.TheVariants.{Done}
+use Rattle.dp_lines.specs.declared.run_end.RunEnd.TheVariants.{Truncated}
 use Rattle.dp_app.specs.Read.{EndsReading, BlamesReading, ReadsToEnd}
 use Rattle.dp_world.specs.RunEnds.{Blames}
 use Rattle.dp_app.specs.Answer.{Leaves, ShowsPart}
 use Rattle.dp_app.specs.Shown.{WritesShown}
-use Rattle.dp_app.proofs.Completeness.{keeps_same}
 
 -- the picture is written whole
 whole_left : (told left old new : Option (List ℕ)) (entries : List Entry) (end : RunEnd) →

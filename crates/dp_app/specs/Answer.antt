@@ -1,5 +1,5 @@
 -- What the program answers: its status, what it writes, and the line that it says.
-use Rattle.std.specs.Prelude.{◌≡◌, ℕ, ◌⊎◌, List, [], ◌∷◌, ◌++◌, codes, decimal, map, string_bytes}
+use Rattle.std.specs.Prelude.{◌≡◌, ℕ, ◌⊎◌, List, [], ◌++◌, codes, decimal}
 use Rattle.std.specs.Prelude.{Option, IfSome}
 use Rattle.std.specs.declared.string.String.{String}
 use Rattle.std.specs.Io.KnownBytes.{Appends, Keeps, IsAtEnd}
@@ -14,37 +14,18 @@ use Rattle.dp_lines.specs.declared.run_end.RunEnd.TheVariants.{LinkFault}
 use Rattle.dp_lines.specs.declared.run_end.RunEnd.TheVariants.{Memory, Long, Truncated, BadMessage}
 use Rattle.dp_lines.specs.declared.run_end.RunEnd.TheVariants.{Closed, BadHeader}
 use Rattle.dp_lines.specs.declared.line.Line.{Line}
-use Rattle.dp_lines.specs.Ends.{LinesEnd}
+use Rattle.dp_lines.specs.Ends.{LinesEnd, seen}
 use Rattle.dp_lines.specs.Ends as ends
 use Rattle.dp_schedule.specs.declared.action.Action.{Action}
 use Rattle.dp_sim.specs.World.{world_after}
 use Rattle.dp_sim.specs.Report.{report}
 use Rattle.dp_sim.specs.Headline.{Headline}
-use Rattle.dp_world.specs.Schedule.{WorldComesTo}
+use Rattle.dp_world.specs.Schedule.{AskFor, WorldComesTo, world_limit}
+use Rattle.dp_world.specs.RunEnds.{WorldLeaves}
+use Rattle.dp_app.specs.declared.words.Command.{Command}
+use Rattle.dp_app.specs.declared.words.Command.TheVariants.{Replay, World}
+use Rattle.dp_app.specs.Commands.{IsCommand, NamesCommand}
 use Rattle.dp_app.specs.Input.{ReplayComesTo, ReplayTookWithin}
-
--- the words of the commands
-abbrev pub replay_word : List ℕ
-replay_word = codes "replay"
-
-abbrev pub world_word : List ℕ
-world_word = codes "world"
-
--- the words are this single one
-abbrev pub AreWord : {A : Type 0} → List ℕ → List (String A) → Type 0
-AreWord word words = map string_bytes words ≡ word ∷ []
-
--- the words are the single word `replay`
-abbrev pub IsReplay : {A : Type 0} → List (String A) → Type 0
-IsReplay words = AreWord replay_word words
-
--- the words are the single word `world`
-abbrev pub IsWorld : {A : Type 0} → List (String A) → Type 0
-IsWorld words = AreWord world_word words
-
--- the words are a command
-abbrev pub IsCommand : {A : Type 0} → List (String A) → Type 0
-IsCommand words = IsReplay words ⊎ IsWorld words
 
 -- the status of a run that ends so
 abbrev pub status_of : RunEnd → ℕ
@@ -83,7 +64,15 @@ usage_line = codes "usage: drawpile replay, world, play, join, serve or drill\n"
 abbrev pub replay_text : List Entry → RunEnd → List ℕ
 replay_text entries Done = p6 (shown entries)
 replay_text entries (Truncated n) = p6 (shown entries)
-replay_text entries _ = []
+replay_text entries (BadLine n) = []
+replay_text entries ReadFault = []
+replay_text entries WriteFault = []
+replay_text entries LinkFault = []
+replay_text entries Memory = []
+replay_text entries Long = []
+replay_text entries (BadMessage n) = []
+replay_text entries Closed = []
+replay_text entries BadHeader = []
 
 -- an answer: the status, the text on the output, and the line on diag
 pub record Answer : Type 0 where
@@ -114,14 +103,20 @@ world_answer actions end = record {
 abbrev pub usage_answer : Answer
 usage_answer = record { status = 1; text = []; line = usage_line }
 
--- The answer that the words and the input's bytes are due: for a command that of what the input
--- comes to, and the line about the words where they are none.
+-- the answer that the command is due for an input of these bytes: that of what the input comes to
+abbrev pub DueOf : Command → List ℕ → Answer → Type 0
+DueOf Replay input answer =
+    (entries : List Entry) × (end : RunEnd) × ReplayComesTo input entries end
+    × (answer ≡ replay_answer entries end)
+DueOf World input answer =
+    (done : List Line) × (actions : List Action) × (end : LinesEnd)
+    × WorldComesTo input done actions end × (answer ≡ world_answer actions end)
+
+-- The answer that the words and the input's bytes are due: that of the command which they name, and
+-- the line about the words where they name none.
 abbrev pub IsDue : {A : Type 0} → List (String A) → List ℕ → Answer → Type 0
 IsDue words input answer =
-    (IsReplay words × (entries : List Entry) × (end : RunEnd) × ReplayComesTo input entries end
-    × (answer ≡ replay_answer entries end))
-    ⊎ (IsWorld words × (done : List Line) × (actions : List Action) × (end : LinesEnd)
-    × WorldComesTo input done actions end × (answer ≡ world_answer actions end))
+    ((command : Command) × NamesCommand words command × DueOf command input answer)
     ⊎ (¬ IsCommand words × (answer ≡ usage_answer))
 
 -- the answer is given: the exit status is its own, the output grew by its text, and diag by its
@@ -165,7 +160,10 @@ Leaves input left old new ReadFault = Keeps old new × IfSome input
 Leaves input left old new Memory = Keeps old new
 Leaves input left old new Long = Keeps old new × StopsAtCause input left Long
 Leaves input left old new (BadMessage n) = Keeps old new × StopsAtCause input left (BadMessage n)
-Leaves input left old new _ = ⊥
+Leaves input left old new (BadLine n) = ⊥
+Leaves input left old new LinkFault = ⊥
+Leaves input left old new Closed = ⊥
+Leaves input left old new BadHeader = ⊥
 
 -- the line of the end is said, and the status is the end's; or diag failed after a prefix of the
 -- line, and it is 4
@@ -180,8 +178,16 @@ SaysUsage old new before now status =
     ((status ≡ 1) × Appends old new usage_line)
     ⊎ ((status ≡ 4) × Rose before now × GrowsByPrefix old new usage_line)
 
--- the headline holds of the world after the lines that an input of these bytes does
+-- what a run of the command leaves that ends so
+abbrev pub CommandLeaves : Command → Option (List ℕ) → Option (List ℕ) → Option (List ℕ)
+    → Option (List ℕ) → RunEnd → Type 0
+CommandLeaves Replay input left old new end = Leaves input left old new end
+CommandLeaves World input left old new end = WorldLeaves input left old new end
+
+-- the headline holds of the world after the first lines of an input of these bytes, however many:
+-- so of each world that is printed from
 abbrev pub HasHeadline : List ℕ → Type 0
 HasHeadline bytes =
-    (done : List Line) (actions : List Action) (end : LinesEnd)
-    → WorldComesTo bytes done actions end → Headline (world_after actions)
+    (done behind : List Line) (actions : List Action)
+    → seen world_limit bytes ≡ done ++ behind → AskFor done actions
+    → Headline (world_after actions)

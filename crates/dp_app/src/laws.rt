@@ -5,8 +5,7 @@ ghost use Rattle.dp_messages.specs.declared.message.Entry.{Entry};
 ghost use Rattle.dp_lines.specs.declared.run_end.RunEnd.{RunEnd};
 ghost use Rattle.dp_app.specs.Input.{ReplayComesTo};
 
-use dp_frame::{one_front, one_splitting};
-use dp_messages::one_answer;
+use dp_entries::Anywhere;
 
 /// For `replay` an input comes to at most one end, with one list of entries: so the answer that it
 /// is due is one.
@@ -16,7 +15,5 @@ pub fn one_reading()
     ensures end { (input : List ℕ) (entries others : List Entry) (end other : RunEnd)
         → ReplayComesTo input entries end → ReplayComesTo input others other → end ≡ other }
 {
-    one_front();
-    one_splitting();
-    one_answer();
+    dp_entries::one_reading::<Anywhere>();
 }

@@ -3,7 +3,6 @@
 
 mod diagnostics;
 mod entries;
-mod frame_reader;
 mod laws;
 mod program;
 mod replay;
@@ -14,3 +13,4 @@ pub use dp_lines::RunEnd;
 pub use laws::one_reading;
 pub use program::{Outcome, drawpile};
 pub use status::status_of;
+pub use words::Command;

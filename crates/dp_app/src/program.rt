@@ -4,10 +4,11 @@ ghost use Rattle.std.specs.Prelude.{◌≡◌, ◌≢◌, ◌⊎◌, ◌<◌, �
 ghost use Rattle.std.specs.Io.KnownBytes.{Keeps, IsAtEnd};
 ghost use Rattle.dp_io.specs.Faults.{Rose};
 ghost use Rattle.dp_lines.specs.declared.run_end.RunEnd.{RunEnd as run_end};
-ghost use Rattle.dp_world.specs.RunEnds.{Blames, WorldLeaves};
-ghost use Rattle.dp_app.specs.Answer.{Answer, IsCommand, IsReplay, IsWorld, IsDue, IsGiven};
-ghost use Rattle.dp_app.specs.Answer.{HasHeadline, Leaves, Says, SaysUsage};
-ghost use Rattle.dp_app.specs.Commands.{CommandLeaves};
+ghost use Rattle.dp_world.specs.RunEnds.{Blames};
+ghost use Rattle.dp_app.specs.declared.words.Command.{Command as Named};
+ghost use Rattle.dp_app.specs.Answer.{Answer, CommandLeaves, HasHeadline, IsDue, IsGiven};
+ghost use Rattle.dp_app.specs.Answer.{Says, SaysUsage};
+ghost use Rattle.dp_app.specs.Commands.{IsCommand, IsWorld, NamesCommand};
 
 use crate::diagnostics::{say, say_usage};
 use crate::laws::one_reading;
@@ -49,28 +50,21 @@ pub fn drawpile<I: Source, O: Sink, E: Sink>(
     ensures uncounted { ¬ IsCommand words.now
         → (I.faults input.new ≡ I.faults input.old) × (O.faults output.new ≡ O.faults output.old) }
 
-    // `replay` ends in one of the ways of a run: what the input comes to decides what is written,
+    // A command ends in one of the ways of a run: what the input comes to decides what is written,
     // the fault that ends it is the one that was counted, and the status and the line on diag
-    // report it.
-    ensures replay { IsReplay words.now → (end : run_end)
-        × Leaves (I.left input.old) (I.left input.new) (O.held output.old) (O.held output.new) end
+    // report it. Of `world` what is written is the report of the lines that are done.
+    ensures ends { (command : Named) → NamesCommand words.now command → (end : run_end)
+        × CommandLeaves command (I.left input.old) (I.left input.new)
+        (O.held output.old) (O.held output.new) end
         × Blames (I.faults input.old) (I.faults input.new)
         (O.faults output.old) (O.faults output.new) end
         × Says (E.held diag.old) (E.held diag.new) (E.faults diag.old) (E.faults diag.new)
         result.status end }
 
-    // So does `world`: what is written is the report of the lines that are done.
-    ensures world { IsWorld words.now → (end : run_end)
-        × WorldLeaves (I.left input.old) (I.left input.new) (O.held output.old) (O.held output.new)
-        end
-        × Blames (I.faults input.old) (I.faults input.new)
-        (O.faults output.old) (O.faults output.new) end
-        × Says (E.held diag.old) (E.held diag.new) (E.faults diag.old) (E.faults diag.new)
-        result.status end }
-
-    // And whatever the input comes to: after the lines that are done each client has taken a prefix
-    // of the history of its epoch, its confirmed canvas is that front replayed, its view the same
-    // with its unanswered sends drawn, and a message that is not permitted changes nothing.
+    // And whatever the input comes to: after its first lines, however many, each client has taken a
+    // prefix of the history of its epoch, its confirmed canvas is that prefix replayed, its view
+    // the same with its unanswered sends drawn, and a message that is not permitted changes
+    // nothing.
     ensures headline { IsWorld words.now → IfSome (I.left input.old) HasHeadline }
 
     // Of both: the input is read to its end, faults are reported, and none is passed over.

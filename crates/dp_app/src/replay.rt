@@ -32,9 +32,9 @@ pub(crate) fn run_replay<I: Source, O: Sink, D: Ledger, T: Ledger>(
     ensures input_later { I.faults input.old ≤ I.faults input.new }
     ensures output_later { O.faults output.old ≤ O.faults output.new }
 {
-    let Reading { history, end } = read_entries(alloc, input);
+    let Reading { entries, end } = read_entries(alloc, input);
     if reads_to_end(end) {
-        write_shown(alloc, &history.entries, output, end, draws, tiles)
+        write_shown(alloc, &entries, output, end, draws, tiles)
     } else {
         end
     }

@@ -1,12 +1,11 @@
 //! The program's words.
 
 ghost use Rattle.std.specs.Prelude.{◌≡◌, ◌↔◌, IsTrue, IfSome, IfNone, codes};
-ghost use Rattle.dp_app.specs.Answer.{AreWord, IsCommand};
-ghost use Rattle.dp_app.specs.Commands.{NamesCommand};
+ghost use Rattle.dp_app.specs.Commands.{AreWord, IsCommand, NamesCommand};
 
 /// What the program does.
 #[derive(Clone, Copy, Debug, PartialEq, Eq)]
-pub(crate) enum Command {
+pub enum Command {
     /// Frames on the input, a picture on the output.
     Replay,
     /// A schedule on the input, its report on the output.

@@ -1,12 +1,13 @@
 -- How reading goes on, and how it ends.
 use Rattle.std.proofs.Common.{◌≡◌, ℕ, ◌+◌, ◌<◌, ◌≤◌, List, [], ◌∷◌, ◌++◌, length, take, drop}
 use Rattle.std.proofs.Common.{refl, sym, ap, ◌∙◌, subst, append_assoc, length-append, arith}
-use Rattle.std.proofs.Common.{zero, suc, Bool, true, false, IsTrue, cond}
+use Rattle.std.proofs.Common.{Bool, true, false, IsTrue, cond}
 use Rattle.std.specs.Prelude.{Option, Some, None, ◌-◌, ◌↔◌}
 use Rattle.std.specs.List.{flat_map}
-use Rattle.std.proofs.Math.Seq.{take-append-add}
+use Rattle.std.proofs.Math.Seq.{take-append-add, drop-append_seam}
 use Rattle.std.proofs.lemmas.Bool.{false≢true}
-use Rattle.std.proofs.lemmas.List.{append-nil, length-drop, length-take, take-append-drop}
+use Rattle.std.proofs.lemmas.List.{append-nil, length-drop, length-take, nil_from_length}
+use Rattle.std.proofs.lemmas.List.{take-append-drop}
 use Rattle.std.specs.Io.KnownBytes.{Consumes, Keeps, IsAtEnd}
 use Rattle.dp_frame.specs.Frames.{FrameParts, spelling, HoldsNoFrame}
 use Rattle.dp_frame.specs.Stream.{Stream}
@@ -33,16 +34,7 @@ take_front xs ys m n e = ap (λ (k : ℕ). take k (xs ++ ys)) e ∙ take-append-
 
 -- what comes after the first bytes
 drop_front : (xs ys : List ℕ) (n : ℕ) → length xs ≡ n → drop n (xs ++ ys) ≡ ys
-drop_front [] ys zero e = refl
-drop_front [] ys (suc n) e = absurd (omega (arith, e))
-drop_front (x ∷ xs) ys zero e = absurd (omega (arith, e))
-drop_front (x ∷ xs) ys (suc n) e =
-    let less : length xs ≡ n = omega (arith, e) in
-    drop_front xs ys n less
-
-none_of_length : (xs : List ℕ) → length xs ≡ 0 → xs ≡ []
-none_of_length [] e = refl
-none_of_length (x ∷ xs) e = absurd (omega (arith, e))
+drop_front xs ys n e = ap (λ (k : ℕ). drop k (xs ++ ys)) (sym e) ∙ drop-append_seam xs ys
 
 -- ---- what was read
 
@@ -282,7 +274,7 @@ pub ends_fault : {C : Type 0} (M : ℕ → FrameParts → Entry → Type 0)
     → HasRead M input left entries r
     → EndsReading M IsCause r.first r.limit input new entries ReadFault
 ends_fault M IsCause input left new entries r within none not_over keeps h =
-    let cut : h.cut ≡ [] = none_of_length h.cut (h.all not_over) in record {
+    let cut : h.cut ≡ [] = nil_from_length h.cut (h.all not_over) in record {
       taken = h.head ++ (h.earlier ++ h.piece);
       behind = [];
       untaken = h.untaken;
@@ -314,7 +306,7 @@ reads_piece M input rest entries old later chunk within none not_over few held a
     let cut : List ℕ = drop (room_of old) chunk in
     let fed : List ℕ = h.earlier ++ h.piece in
     let front : List ℕ = h.head ++ fed in
-    let before : h.cut ≡ [] = none_of_length h.cut (h.all not_over) in
+    let before : h.cut ≡ [] = nil_from_length h.cut (h.all not_over) in
     let left : h.untaken ≡ chunk ++ rest = cc (h.left_is) in
     let parts : piece ++ cut ≡ chunk = take-append-drop (room_of old) chunk in
     let whole : h.cut ++ h.untaken ≡ piece ++ (cut ++ rest) =
@@ -428,7 +420,7 @@ all_fed : {M : ℕ → FrameParts → Entry → Type 0} {input : List ℕ} {left
     {entries : List Entry} {r : Reader} → (h : HasRead M input left entries r)
     → ¬ IsTrue r.over → IsAtEnd left → input ≡ h.head ++ (h.earlier ++ h.piece)
 all_fed {left = left} h not_over end =
-    let cut : h.cut ≡ [] = none_of_length h.cut (h.all not_over) in
+    let cut : h.cut ≡ [] = nil_from_length h.cut (h.all not_over) in
     let none : h.untaken ≡ [] = subst IsAtEnd h.left_is end in
     front_whole h
     ∙ ap (λ (xs : List ℕ). (h.head ++ (h.earlier ++ h.piece)) ++ (xs ++ h.untaken)) cut
@@ -450,7 +442,7 @@ pub ends_done : (M : ℕ → FrameParts → Entry → Type 0) (input : List ℕ)
     → HoldsNoFrame r.stream.held → ¬ IsTrue r.over → IsAtEnd left → length r.stream.held ≡ 0
     → HasRead M input left entries r → ComesTo M r.first r.limit input entries run.Done
 ends_done M input left entries r within none not_over end empty h =
-    let held : r.stream.held ≡ [] = none_of_length r.stream.held empty in (
+    let held : r.stream.held ≡ [] = nil_from_length r.stream.held empty in (
       subst (λ (xs : List ℕ). Tells M xs entries []) (sym (all_behind h not_over end))
           (subst (λ (xs : List ℕ). Tells M (h.earlier ++ h.piece) entries xs) held
           (follows_tells none h.follows)),

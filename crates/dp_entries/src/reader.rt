@@ -64,7 +64,7 @@ impl<S: Standing> EntryReader<S> {
         ensures limit { result.limit ≡ limit }
         ensures none { HoldsNoFrame result.stream.held }
         ensures not_over { ¬ IsTrue result.over }
-        ensures open { ¬ IsTrue result.ended }
+        ensures not_ended { ¬ IsTrue result.ended }
         ensures begun { (bytes head untaken : List ℕ)
             → bytes ≡ head ++ untaken → length head ≡ first
             → HasRead S.may_stand bytes (Some untaken) [] result }
@@ -121,7 +121,7 @@ impl<S: Standing> EntryReader<S> {
         ensures inside { IfErr result (EndsWithInput (I.left input.new)) }
 
         // It has ended then, and stays so.
-        ensures open { IfOk result (λ next. OnSome next (¬ IsTrue self.new.ended)) }
+        ensures not_ended { IfOk result (λ next. OnSome next (¬ IsTrue self.new.ended)) }
         ensures ended { OnErr result (IsTrue self.new.ended) }
         ensures fused { IsTrue self.old.ended → IsOkAnd result (λ next. (next ≡ None)
             × (self.new ≡ self.old) × (I.left input.new ≡ I.left input.old)) }

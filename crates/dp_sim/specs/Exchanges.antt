@@ -51,17 +51,35 @@ said_line (reply.Placed epoch at) = report.Placed epoch at
 said_line (reply.Filtered epoch at) = report.Filtered epoch at
 said_line reply.Noted = report.Noted
 said_line reply.Ignored = report.Ignored
-said_line other = report.Ended
+said_line (reply.Opened conn user epoch at) = report.Ended
+said_line reply.NameRefused = report.Ended
+said_line reply.Full = report.Ended
+said_line reply.Ended = report.Ended
+said_line (reply.StoreFault count) = report.Ended
 
 -- of the answer to a Close after a Disconnect
 abbrev pub left_line : Reply → ReportLine
 left_line (reply.Placed epoch at) = report.Left epoch at
-left_line other = report.Ended
+left_line (reply.Opened conn user epoch at) = report.Ended
+left_line (reply.Filtered epoch at) = report.Ended
+left_line reply.Noted = report.Ended
+left_line reply.Ignored = report.Ended
+left_line reply.NameRefused = report.Ended
+left_line reply.Full = report.Ended
+left_line reply.Ended = report.Ended
+left_line (reply.StoreFault count) = report.Ended
 
 -- of the answer to a Close where the uplink is lost
 abbrev pub cut_line : Reply → ReportLine
 cut_line (reply.Placed epoch at) = report.Cut epoch at
-cut_line other = report.Ended
+cut_line (reply.Opened conn user epoch at) = report.Ended
+cut_line (reply.Filtered epoch at) = report.Ended
+cut_line reply.Noted = report.Ended
+cut_line reply.Ignored = report.Ended
+cut_line reply.NameRefused = report.Ended
+cut_line reply.Full = report.Ended
+cut_line reply.Ended = report.Ended
+cut_line (reply.StoreFault count) = report.Ended
 
 -- of an entry that is taken
 abbrev pub took_line : Taken → ReportLine

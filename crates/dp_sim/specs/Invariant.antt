@@ -1,6 +1,6 @@
 -- What is true of every world.
 use Rattle.std.specs.Prelude.{◌≡◌, ℕ, ◌≤◌, Bool, true, false, is_some, MatchBool, IfSome}
-use Rattle.std.specs.Prelude.{None, Some, List, [], ◌∷◌, length, take}
+use Rattle.std.specs.Prelude.{None, Some, List, [], ◌∷◌, length, take, ⊤}
 use Rattle.std.specs.List.{AllByRecursion}
 use Rattle.dp_messages.specs.Messages.{kind_of}
 use Rattle.dp_messages.specs.declared.message.Entry.{Entry}
@@ -9,6 +9,8 @@ use Rattle.dp_session.specs.Rows.{event_limit}
 use Rattle.dp_session.specs.State.{State, open_connection}
 use Rattle.dp_session.specs.Past.{state_of}
 use Rattle.dp_session.specs.Laws.{ShutBefore}
+use Rattle.dp_schedule.specs.declared.action.Action.{Action}
+use Rattle.dp_schedule.specs.declared.action.Action.TheVariants.{Join, Act, Show}
 use Rattle.dp_schedule.specs.declared.action.Instruction.{Instruction}
 use Rattle.dp_schedule.specs.declared.action.Instruction.TheVariants.{Say, Up, Take, Leave, Cut}
 use Rattle.dp_sim.specs.declared.participant.LinkState.{LinkState}
@@ -23,6 +25,12 @@ IsSayable Up = Unit {0}
 IsSayable Take = Unit {0}
 IsSayable Leave = Unit {0}
 IsSayable Cut = Unit {0}
+
+-- what the action has a client say is no control message
+abbrev pub SaysNoControl : Action → Type 0
+SaysNoControl (Join name registered) = ⊤
+SaysNoControl (Act client instruction) = IsSayable instruction
+SaysNoControl (Show client kind) = ⊤
 
 -- the client is closed
 abbrev pub is_closed : LinkState → Bool

@@ -68,7 +68,12 @@ abbrev pub join_line : ℕ → Reply → ReportLine
 join_line clients (reply.Opened conn user epoch at) = report.Joined (clients + 1) user epoch at
 join_line clients reply.Full = report.Full
 join_line clients reply.NameRefused = report.NameRefused
-join_line clients other = report.Ended
+join_line clients (reply.Placed epoch at) = report.Ended
+join_line clients (reply.Filtered epoch at) = report.Ended
+join_line clients reply.Noted = report.Ended
+join_line clients reply.Ignored = report.Ended
+join_line clients reply.Ended = report.Ended
+join_line clients (reply.StoreFault count) = report.Ended
 
 -- ---- instructions
 

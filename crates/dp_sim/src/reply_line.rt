@@ -15,7 +15,11 @@ pub(crate) fn said_line(reply: Reply) -> ReportLine
         Reply::Filtered { epoch, at } => ReportLine::Filtered { epoch, at },
         Reply::Noted => ReportLine::Noted,
         Reply::Ignored => ReportLine::Ignored,
-        _ => ReportLine::Ended,
+        Reply::Opened { .. }
+        | Reply::NameRefused
+        | Reply::Full
+        | Reply::Ended
+        | Reply::StoreFault { .. } => ReportLine::Ended,
     }
 }
 
@@ -25,7 +29,14 @@ pub(crate) fn left_line(reply: Reply) -> ReportLine
 {
     match reply {
         Reply::Placed { epoch, at } => ReportLine::Left { epoch, at },
-        _ => ReportLine::Ended,
+        Reply::Opened { .. }
+        | Reply::Filtered { .. }
+        | Reply::Noted
+        | Reply::Ignored
+        | Reply::NameRefused
+        | Reply::Full
+        | Reply::Ended
+        | Reply::StoreFault { .. } => ReportLine::Ended,
     }
 }
 
@@ -35,6 +46,13 @@ pub(crate) fn cut_line(reply: Reply) -> ReportLine
 {
     match reply {
         Reply::Placed { epoch, at } => ReportLine::Cut { epoch, at },
-        _ => ReportLine::Ended,
+        Reply::Opened { .. }
+        | Reply::Filtered { .. }
+        | Reply::Noted
+        | Reply::Ignored
+        | Reply::NameRefused
+        | Reply::Full
+        | Reply::Ended
+        | Reply::StoreFault { .. } => ReportLine::Ended,
     }
 }

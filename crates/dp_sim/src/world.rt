@@ -87,7 +87,12 @@ impl World {
             }
             Reply::Full => ReportLine::Full,
             Reply::NameRefused => ReportLine::NameRefused,
-            _ => ReportLine::Ended,
+            Reply::Placed { .. }
+            | Reply::Filtered { .. }
+            | Reply::Noted
+            | Reply::Ignored
+            | Reply::Ended
+            | Reply::StoreFault { .. } => ReportLine::Ended,
         })
     }
 

@@ -29,11 +29,11 @@ use Rattle.dp_sim.specs.Exchanges.{Participant, Exchange, is_gone, exchanged, ne
 use Rattle.dp_sim.specs.World.{World, participant_of, new_participant, with_joined, joined}
 use Rattle.dp_sim.specs.World.{with_exchange, acted, after, first_world, world_after}
 use Rattle.dp_sim.specs.Report.{along}
-use Rattle.dp_sim.specs.Invariant.{IsWorld, IsParticipant, IsSayable}
+use Rattle.dp_sim.specs.Invariant.{IsWorld, IsParticipant, IsSayable, SaysNoControl}
 use Rattle.dp_sim_laws.specs.OwnSteps.{turn_of, next_of, steps_of_turn, own_step, own_steps}
 use Rattle.dp_sim_laws.specs.OwnSteps.{welcome_of, GoesBy}
 use Rattle.dp_sim_laws.specs.Tally.{Tally, no_sends, tally_step, tally_from, tally_of, turn_replies}
-use Rattle.dp_sim_laws.specs.Tally.{replies, SaysNoControl, IsUnended}
+use Rattle.dp_sim_laws.specs.Tally.{replies, IsUnended}
 use Rattle.dp_lists.specs.Numbered.{numbered}
 use Rattle.dp_lists.proofs.Options.{at_some, if_some}
 use Rattle.dp_lists.proofs.Numbered.{number-found, numbered-other, numbered-same, numbered-either}

@@ -16,7 +16,7 @@ use Rattle.dp_schedule.specs.declared.action.Action.TheVariants.{Join, Act, Show
 use Rattle.dp_sim.specs.Exchanges.{Exchange, is_gone, heard}
 use Rattle.dp_sim.specs.World.{World, first_world, participant_of}
 use Rattle.dp_sim.specs.Report.{along}
-use Rattle.dp_sim.specs.Invariant.{IsSayable}
+use Rattle.dp_sim.specs.Invariant.{SaysNoControl}
 use Rattle.dp_sim_laws.specs.OwnSteps.{turn_of, welcome_of}
 
 -- what was said since the Welcome, or since the last mark that was acknowledged, and how many own
@@ -73,12 +73,6 @@ replies w (Act client instruction) =
     option_map_or (λ participant. turn_replies (turn_of w participant) instruction)
     (participant_of w client) []
 replies w (Show client kind) = []
-
--- a message that the action says is no control message
-abbrev pub SaysNoControl : Action → Type 0
-SaysNoControl (Join name registered) = Unit {0}
-SaysNoControl (Act client instruction) = IsSayable instruction
-SaysNoControl (Show client kind) = Unit {0}
 
 -- a schedule that says no control message, and in which no event was answered Ended
 pub record IsUnended (actions : List Action) : Type 0 where

@@ -8,7 +8,7 @@ use Rattle.dp_schedule.specs.declared.action.Action.{Action}
 use Rattle.dp_sim.specs.Report.{printed, along, report}
 use Rattle.dp_sim.specs.World.{world_after}
 use Rattle.dp_world.specs.Schedule.{AskFor, IsStep, world_limit, WorldComesTo}
-use Rattle.dp_world.specs.Progress.{HasBegunOf}
+use Rattle.dp_world.specs.RunEnds.{HasBegunOf}
 use Rattle.dp_io.proofs.Prefixes.{grows_within}
 use Rattle.dp_world.proofs.Called.{OneAction}
 use Rattle.dp_world.proofs.Reports.{asked_front, report-append}
@@ -75,11 +75,11 @@ pub begun_due : OneAction → (bytes : List ℕ) (old now : Option (List ℕ))
     → WorldComesTo bytes done actions end
     → GrowsByPrefix old now (report actions)
 begun_due one bytes old now begun done actions end (comes, asked) =
-    let first = begun.begun in
-    let front = front_of_done bytes begun.done begun.behind done end begun.parts first.steps comes
+    let first = begun.has in
+    let front = front_of_done bytes begun.begun begun.behind done end begun.parts first.steps comes
     in
     let asked_whole = subst (λ (ls : List Line). AskFor ls actions) front.1 asked in
-    let begins = asked_front one begun.done front.0 first.actions actions first.asked asked_whole in
+    let begins = asked_front one begun.begun front.0 first.actions actions first.asked asked_whole in
     let reports : report actions ≡ report first.actions ++ along printed (world_after first.actions)
     begins.rest =
     ap report begins.whole ∙ report-append first.actions begins.rest in

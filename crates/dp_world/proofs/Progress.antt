@@ -1,116 +1,162 @@
--- How a run goes on by a line.
-use Rattle.std.proofs.Common.{◌≡◌, ℕ, List, [], ◌∷◌, ◌++◌, sym, ap, ◌∙◌, subst}
-use Rattle.std.specs.Prelude.{Option}
-use Rattle.std.specs.Io.KnownBytes.{Appends, Keeps}
-use Rattle.std.proofs.KnownBytes.{Appends-trans, Keeps-refl}
+-- How the machine goes on by a line.
+use Rattle.std.proofs.Common.{◌≡◌, ℕ, List, [], ◌∷◌, ◌++◌, refl, sym, ap, ◌∙◌, subst, arith, inl}
+use Rattle.std.proofs.Common.{inr}
+use Rattle.std.specs.Prelude.{Option, Err}
+use Rattle.std.specs.Io.KnownBytes.{Appends}
+use Rattle.std.proofs.KnownBytes.{Appends-trans}
+use Rattle.dp_flat.specs.declared.picture.PictureEnd.{PictureEnd}
+use Rattle.dp_flat.specs.declared.picture.PictureEnd.TheVariants.{Failed, Memory}
+use Rattle.dp_flat.specs.Ends.{is_sink_fault}
+use Rattle.dp_io.specs.Faults.{HasCause, Rose}
 use Rattle.dp_io.specs.Streams.{GrowsByPrefix}
 use Rattle.dp_lines.specs.declared.line.Line.{Line}
-use Rattle.dp_lines.specs.Ends.{IsDoable}
-use Rattle.dp_lines.specs.Held.{IsInLimit}
 use Rattle.dp_schedule.specs.declared.action.Action.{Action}
-use Rattle.dp_lines.specs.declared.run_end.RunEnd.{RunEnd}
-use Rattle.dp_lines.specs.declared.run_end.RunEnd.TheVariants.{BadLine, Memory}
 use Rattle.dp_schedule.specs.LineGrammar.{Parses}
+use Rattle.dp_script.specs.declared.machine.Undone.{Undone}
+use Rattle.dp_script.specs.declared.machine.Undone.TheVariants.{NoStep, Ended}
+use Rattle.dp_script.specs.Ends.{IfEnded, IfNoStep}
+use Rattle.dp_script.specs.Moments.{Moment}
 use Rattle.dp_sim.specs.Report.{printed, report}
 use Rattle.dp_sim.specs.World.{World, after, world_after}
 use Rattle.dp_world.specs.Schedule.{IsPossible, IsStep}
-use Rattle.dp_world.specs.Progress.{IsRefused, HasDone, HasPrinted, HasBegun, StopsBehind}
-use Rattle.dp_io.proofs.Prefixes.{grows_after, grows_kept}
-use Rattle.dp_world.proofs.Called.{OneAction, FurtherStep}
+use Rattle.dp_world.specs.Progress.{HasDone, HasEnded, IsRefused, Wrote}
+use Rattle.dp_io.proofs.Prefixes.{grows_after, grows_whole}
+use Rattle.dp_world.proofs.Called.{OneAction}
 use Rattle.dp_world.proofs.Reports.{asked_more, asked_same, report_more, world_more}
 
--- a line that asks for what may be done is doable
-doable : (done : List Line) (line : Line) (action : Action) (world : World)
-    (start old : Option (List ℕ))
-    → HasDone done world start old → IsInLimit line → Parses line.bytes action
-    → IsPossible world action
-    → IsDoable IsStep done line
-doable done line action world start old has fits asks possible = record {
-  fits = fits;
-  step = record {
-    actions = has.actions;
-    before = has.asked;
-    action = action;
-    asks = asks;
-    possible = subst (λ (w : World). IsPossible w action) has.behind possible;
-  };
+-- a line that asks for what may be done is a step
+pub is_step : {M O D T : Type 0} (world : M → World) (held : O → Option (List ℕ)) (faults : O → ℕ)
+    (start old : Moment M O D T) (done : List Line) (line : Line) (action : Action)
+    → Parses line.bytes action → IsPossible (world old.machine) action
+    → HasDone world held faults start done old → IsStep done line
+is_step world held faults start old done line action asks possible has = record {
+  actions = has.actions;
+  before = has.asked;
+  action = action;
+  asks = asks;
+  possible = subst (λ (w : World). IsPossible w action) has.behind possible;
 }
 
 -- the line is done
-pub done_further : FurtherStep → (done : List Line) (line : Line) (action : Action)
-    (world later : World) (start old now : Option (List ℕ))
-    → IsInLimit line → Parses line.bytes action → IsPossible world action
-    → later ≡ after world action
-    → Appends old now (printed world action) → HasDone done world start old
-    → HasDone (done ++ line ∷ []) later start now
-done_further further done line action world later start old now fits asks possible leads written has
-    = record {
-      actions = has.actions ++ action ∷ [];
-      asked = asked_more done has.actions line action has.asked asks;
-      steps = further done line has.steps (doable done line action world start old has fits asks
-          possible);
-      behind = leads ∙ ap (λ (w : World). after w action) has.behind
-          ∙ sym (world_more has.actions action);
-      text =
-          subst (Appends start now) (sym (report_more has.actions action))
-          (Appends-trans start old now (report has.actions)
-          (printed (world_after has.actions) action)
-          has.text
-          (subst (λ (w : World). Appends old now (printed w action)) has.behind written));
-    }
-
--- a part of its text was written
-pub begun_further : FurtherStep → (done : List Line) (line : Line) (action : Action) (world : World)
-    (start old now : Option (List ℕ))
-    → IsInLimit line → Parses line.bytes action → IsPossible world action
-    → GrowsByPrefix old now (printed world action)
-    → HasDone done world start old → HasBegun (done ++ line ∷ []) start now
-begun_further further done line action world start old now fits asks possible part has = record {
+pub done_further : {M O D T : Type 0} (world : M → World) (held : O → Option (List ℕ))
+    (faults : O → ℕ) (start old now : Moment M O D T) (done : List Line) (line : Line)
+    (action : Action)
+    → Parses line.bytes action → world now.machine ≡ after (world old.machine) action
+    → Appends (held old.output) (held now.output) (printed (world old.machine) action)
+    → faults now.output ≡ faults old.output
+    → HasDone world held faults start done old
+    → HasDone world held faults start (done ++ line ∷ []) now
+done_further world held faults start old now done line action asks leads written kept has = record {
   actions = has.actions ++ action ∷ [];
   asked = asked_more done has.actions line action has.asked asks;
-  steps = further done line has.steps (doable done line action world start old has fits asks
-      possible);
+  behind = leads ∙ ap (λ (w : World). after w action) has.behind
+      ∙ sym (world_more has.actions action);
   text =
-      subst (GrowsByPrefix start now) (sym (report_more has.actions action))
-      (grows_after start old now (report has.actions) (printed (world_after has.actions) action)
+      subst (Appends (held start.output) (held now.output)) (sym (report_more has.actions action))
+      (Appends-trans (held start.output) (held old.output) (held now.output) (report has.actions)
+      (printed (world_after has.actions) action)
       has.text
-      (subst (λ (w : World). GrowsByPrefix old now (printed w action)) has.behind part));
+      (subst (λ (w : World). Appends (held old.output) (held now.output) (printed w action))
+      has.behind written));
+  kept = kept ∙ has.kept;
+}
+
+-- a part of its text was written
+pub wrote_further : {M O D T : Type 0} (world : M → World) (held : O → Option (List ℕ))
+    (faults : O → ℕ) (start old now : Moment M O D T) (done : List Line) (line : Line)
+    (action : Action)
+    → Parses line.bytes action
+    → GrowsByPrefix (held old.output) (held now.output) (printed (world old.machine) action)
+    → HasDone world held faults start done old
+    → Wrote (done ++ line ∷ []) (held start.output) (held now.output)
+wrote_further world held faults start old now done line action asks part has = record {
+  actions = has.actions ++ action ∷ [];
+  asked = asked_more done has.actions line action has.asked asks;
+  text =
+      subst (GrowsByPrefix (held start.output) (held now.output))
+      (sym (report_more has.actions action))
+      (grows_after (held start.output) (held old.output) (held now.output) (report has.actions)
+      (printed (world_after has.actions) action) has.text
+      (subst (λ (w : World). GrowsByPrefix (held old.output) (held now.output) (printed w action))
+      has.behind part));
 }
 
 -- nothing more was written
-pub begun_kept : (done : List Line) (world : World) (start old now : Option (List ℕ))
-    → Keeps old now
-    → HasDone done world start old → HasBegun done start now
-begun_kept done world start old now kept has = record {
+pub wrote_done : {M O D T : Type 0} (world : M → World) (held : O → Option (List ℕ))
+    (faults : O → ℕ) (start now : Moment M O D T) (done : List Line)
+    → HasDone world held faults start done now
+    → Wrote done (held start.output) (held now.output)
+wrote_done world held faults start now done has = record {
   actions = has.actions;
   asked = has.asked;
-  steps = has.steps;
-  text = grows_kept start old now (report has.actions) has.text kept;
+  text = grows_whole (held start.output) (held now.output) (report has.actions) has.text;
 }
 
-pub told_of : (done : List Line) (world : World) (start now : Option (List ℕ))
-    → HasDone done world start now → HasPrinted done start now
-told_of done world start now has =
-    record { actions = has.actions; asked = has.asked; steps = has.steps; text = has.text }
-
 -- a line that asks for nothing that may be done is no step
-not_doable : OneAction → (done : List Line) (line : Line) (world : World)
-    (start old : Option (List ℕ))
-    → ((action : Action) → Parses line.bytes action → ¬ IsPossible world action)
-    → HasDone done world start old → ¬ IsDoable IsStep done line
-not_doable one done line world start old refused has = λ doable.
-    let step = doable.step in
+pub no_step : {M O D T : Type 0} → OneAction → (world : M → World) (held : O → Option (List ℕ))
+    (faults : O → ℕ) (start old : Moment M O D T) (done : List Line) (line : Line)
+    → ((action : Action) → Parses line.bytes action → ¬ IsPossible (world old.machine) action)
+    → HasDone world held faults start done old → ¬ IsStep done line
+no_step one world held faults start old done line refused has = λ step.
     let same : step.actions ≡ has.actions = asked_same one done step.actions has.actions step.before
     has.asked in
-    let here : world_after step.actions ≡ world = ap world_after same ∙ sym has.behind in
+    let here : world_after step.actions ≡ world old.machine = ap world_after same
+    ∙ sym has.behind in
     refused step.action step.asks (subst (λ (w : World). IsPossible w step.action) here
     step.possible)
 
-pub refused_stops : OneAction → (done : List Line) (line : Line) (world : World)
-    (start old : Option (List ℕ)) (end : RunEnd)
-    → IsRefused line world end → HasDone done world start old → StopsBehind done line start old end
-refused_stops one done line world start old (BadLine n) (number, refused) has =
-    (number, not_doable one done line world start old refused has, told_of done world start old has)
-refused_stops one done line world start old Memory refused has =
-    begun_kept done world start old old (Keeps-refl old) has
-refused_stops one done line world start old _ refused has = absurd refused
+-- ---- lines that aren't done
+
+-- a line that is refused, but because memory ran out, is no step
+pub refused_by : {M O D T : Type 0} → OneAction → (world : M → World) (held : O → Option (List ℕ))
+    (faults : O → ℕ) (old : Moment M O D T) (line : Line) (why : Undone PictureEnd)
+    → IsRefused line (world old.machine) why
+    → IfNoStep ((start : Moment M O D T) (done : List Line)
+    → HasDone world held faults start done old → ¬ IsStep done line) why
+refused_by one world held faults old line NoStep refused = λ start done has.
+    no_step one world held faults start old done line refused has
+refused_by one world held faults old line (Ended end) refused = tt
+
+pub kept_by : {M O D T : Type 0} (world : M → World) (held : O → Option (List ℕ))
+    (faults : O → ℕ) (old : Moment M O D T) (why : Undone PictureEnd)
+    → IfNoStep ((start : Moment M O D T) (done : List Line)
+    → HasDone world held faults start done old → HasDone world held faults start done old) why
+kept_by world held faults old NoStep = λ start done has. has
+kept_by world held faults old (Ended end) = tt
+
+pub ran_out_by : {M O D T : Type 0} (world : M → World) (held : O → Option (List ℕ))
+    (faults : O → ℕ) (old : Moment M O D T) (line : Line) (why : Undone PictureEnd)
+    → IsRefused line (world old.machine) why
+    → IfEnded (λ end. (start : Moment M O D T) (done : List Line)
+    → HasDone world held faults start done old → HasEnded held faults start done line old end) why
+ran_out_by world held faults old line NoStep refused = tt
+ran_out_by world held faults old line (Ended Memory) refused = λ start done has. record {
+  wrote = inl (wrote_done world held faults start old done has);
+  kept = has.kept;
+}
+ran_out_by world held faults old line (Ended Failed) refused = absurd refused
+
+-- the output failed in the text of a line, or memory ran out there
+pub ended_by : {M O D T : Type 0} (world : M → World) (held : O → Option (List ℕ))
+    (faults : O → ℕ) (start old now : Moment M O D T) (done : List Line) (line : Line)
+    (action : Action) (end : PictureEnd)
+    → Parses line.bytes action → IsPossible (world old.machine) action
+    → GrowsByPrefix (held old.output) (held now.output) (printed (world old.machine) action)
+    → HasCause {T = Unit {0}} is_sink_fault (faults old.output) (faults now.output) (Err end)
+    → (end ≡ Memory → faults now.output ≡ faults old.output)
+    → HasDone world held faults start done old → HasEnded held faults start done line now end
+ended_by world held faults start old now done line action Failed asks possible part cause kept has =
+    record {
+      step = is_step world held faults start old done line action asks possible has;
+      wrote = wrote_further world held faults start old now done line action asks part has;
+      rose = subst (λ (n : ℕ). Rose n (faults now.output)) has.kept cause.failed;
+      later = omega (arith, cause.later, has.kept);
+    }
+ended_by world held faults start old now done line action Memory asks possible part cause kept has =
+    record {
+      wrote = inr (
+        is_step world held faults start old done line action asks possible has,
+        wrote_further world held faults start old now done line action asks part has,
+      );
+      kept = kept refl ∙ has.kept;
+    }

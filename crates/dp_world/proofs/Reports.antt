@@ -1,11 +1,17 @@
 -- What lines ask for one after the other, and what the actions make and print.
-use Rattle.std.proofs.Common.{◌≡◌, ℕ, List, [], ◌∷◌, ◌++◌, refl, sym, ap, ◌∙◌, append_assoc}
-use Rattle.std.specs.List.{fold}
+use Rattle.std.proofs.Common.{◌≡◌, ℕ, ◌≤◌, List, [], ◌∷◌, ◌++◌, refl, sym, ap, ◌∙◌, append_assoc}
+use Rattle.std.specs.List.{All, fold}
 use Rattle.std.proofs.lemmas.List.{append-nil}
+use Rattle.std.proofs.lemmas.List.Elements.{All-nil, All-cons}
 use Rattle.std.proofs.lemmas.List.Sums.{fold_push}
 use Rattle.dp_lines.specs.declared.line.Line.{Line}
 use Rattle.dp_schedule.specs.declared.action.Action.{Action}
-use Rattle.dp_schedule.specs.LineGrammar.{Parses}
+use Rattle.dp_schedule.specs.declared.action.Action.TheVariants.{Join, Act, Show}
+use Rattle.dp_schedule.specs.declared.action.Instruction.TheVariants.{Say, Up, Take, Leave, Cut}
+use Rattle.dp_schedule.specs.LineGrammar.{MaySay, Parses}
+use Rattle.dp_messages.specs.declared.message.Msg.{Msg}
+use Rattle.dp_messages.specs.Messages.{kind_of}
+use Rattle.dp_sim.specs.Invariant.{SaysNoControl}
 use Rattle.dp_sim.specs.Report.{printed, along, report}
 use Rattle.dp_sim.specs.World.{World, first_world, after, world_after}
 use Rattle.dp_world.specs.Schedule.{AskFor}
@@ -78,3 +84,29 @@ report_more actions action =
 pub world_more : (actions : List Action) (action : Action)
     → world_after (actions ++ action ∷ []) ≡ after (world_after actions) action
 world_more actions action = fold_push after first_world actions action
+
+-- ---- what may be said
+
+-- what a line has said is no control message
+abbrev pub SaysHigh : Type 0
+SaysHigh = (bytes : List ℕ) (m : Msg) → MaySay bytes m → 32 ≤ kind_of m
+
+-- a line asks for no control message
+allowed : SaysHigh → (line : List ℕ) (action : Action) → Parses line action → SaysNoControl action
+allowed high line (Join name registered) asks = tt
+allowed high line (Act client (Say m)) (tail, names, (word, parts, spells)) =
+    high spells.bytes m spells.may
+allowed high line (Act client Up) asks = tt
+allowed high line (Act client Take) asks = tt
+allowed high line (Act client Leave) asks = tt
+allowed high line (Act client Cut) asks = tt
+allowed high line (Show client kind) asks = tt
+
+pub all_allowed : SaysHigh → (lines : List Line) (actions : List Action) → AskFor lines actions
+    → All SaysNoControl actions
+all_allowed high [] [] asked = All-nil SaysNoControl
+all_allowed high [] (action ∷ actions) asked = absurd asked
+all_allowed high (line ∷ lines) [] asked = absurd asked
+all_allowed high (line ∷ lines) (action ∷ actions) (asks, asked) =
+    All-cons SaysNoControl action actions (allowed high line.bytes action asks)
+    (all_allowed high lines actions asked)

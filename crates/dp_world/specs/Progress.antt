@@ -1,106 +1,65 @@
--- How far a run has come, and how it stops.
-use Rattle.std.specs.Prelude.{◌≡◌, ℕ, List, [], ◌∷◌, ◌++◌, Option}
-use Rattle.std.specs.Io.KnownBytes.{Appends, Consumes}
+-- How far the machine of a schedule has come, and how a line ends its run.
+use Rattle.std.specs.Prelude.{◌≡◌, ◌⊎◌, ℕ, ◌≤◌, List, [], ◌∷◌, ◌++◌, Option, ⊤}
+use Rattle.std.specs.Io.KnownBytes.{Appends}
 use Rattle.dp_io.specs.Faults.{Rose}
 use Rattle.dp_io.specs.Streams.{GrowsByPrefix}
+use Rattle.dp_flat.specs.declared.picture.PictureEnd.{PictureEnd}
+use Rattle.dp_flat.specs.declared.picture.PictureEnd.TheVariants.{Failed, Memory}
 use Rattle.dp_lines.specs.declared.line.Line.{Line}
-use Rattle.dp_lines.specs.declared.run_end.RunEnd.{RunEnd}
-use Rattle.dp_lines.specs.declared.run_end.RunEnd.TheVariants.{BadLine, WriteFault, Memory}
-use Rattle.dp_lines.specs.Ends.{AreSteps, IsDoable, StopsAt}
-use Rattle.dp_lines.specs.Held.{Held, IsLeft, lines_from}
 use Rattle.dp_schedule.specs.declared.action.Action.{Action}
-use Rattle.dp_schedule.specs.declared.action.Action.TheVariants.{Join, Act, Show}
 use Rattle.dp_schedule.specs.LineGrammar.{Parses}
-use Rattle.dp_sim.specs.Invariant.{IsSayable}
+use Rattle.dp_script.specs.declared.machine.Undone.{Undone}
+use Rattle.dp_script.specs.declared.machine.Undone.TheVariants.{NoStep, Ended}
+use Rattle.dp_script.specs.Moments.{Moment}
 use Rattle.dp_sim.specs.Report.{report}
 use Rattle.dp_sim.specs.World.{World, world_after}
 use Rattle.dp_world.specs.Schedule.{AskFor, IsPossible, IsStep}
 
--- what is said, if anything is, is no control message
-abbrev pub IsAllowed : Action → Type 0
-IsAllowed (Join name registered) = Unit {0}
-IsAllowed (Act client instruction) = IsSayable instruction
-IsAllowed (Show client kind) = Unit {0}
-
 -- why no action is had of a line: it asks for nothing that may be done in the world, or memory ran
 -- out
-abbrev pub IsRefused : Line → World → RunEnd → Type 0
-IsRefused line world (BadLine n) =
-    (line.number ≡ n) × ((action : Action) → Parses line.bytes action → ¬ IsPossible world action)
-IsRefused line world Memory = Unit {0}
-IsRefused line world _ = ⊥
+abbrev pub IsRefused : Line → World → Undone PictureEnd → Type 0
+IsRefused line world NoStep =
+    (action : Action) → Parses line.bytes action → ¬ IsPossible world action
+IsRefused line world (Ended Memory) = ⊤
+IsRefused line world (Ended Failed) = ⊥
 
--- these lines were done: they are steps, the world is the one after them, and the output grew by
--- their report
-pub record HasDone (done : List Line) (world : World) (old now : Option (List ℕ)) : Type 0 where
-  pub actions : List Action
-  pub asked : AskFor done actions
-  pub steps : AreSteps IsStep done
-  pub behind : world ≡ world_after actions
-  pub text : Appends old now (report actions)
+-- From the first moment to the second one these lines were done: the world is the one after them,
+-- the output grew by their report, and it didn't fail.
+pub record HasDone {M O D T : Type 0} (world : M → World) (held : O → Option (List ℕ))
+    (faults : O → ℕ) (start : Moment M O D T) (done : List Line) (now : Moment M O D T) : Type 0
+  where
+    pub actions : List Action
+    pub asked : AskFor done actions
+    pub behind : world now.machine ≡ world_after actions
+    pub text : Appends (held start.output) (held now.output) (report actions)
+    pub kept : faults now.output ≡ faults start.output
 
--- these lines are steps, and the output grew by their report
-pub record HasPrinted (done : List Line) (old now : Option (List ℕ)) : Type 0 where
+-- the output grew by a prefix of the report of these lines
+pub record Wrote (begun : List Line) (old now : Option (List ℕ)) : Type 0 where
   pub actions : List Action
-  pub asked : AskFor done actions
-  pub steps : AreSteps IsStep done
-  pub text : Appends old now (report actions)
-
--- these lines are steps, and the output grew by a prefix of their report
-pub record HasBegun (done : List Line) (old now : Option (List ℕ)) : Type 0 where
-  pub actions : List Action
-  pub asked : AskFor done actions
-  pub steps : AreSteps IsStep done
+  pub asked : AskFor begun actions
   pub text : GrowsByPrefix old now (report actions)
 
--- how a line after those that were done stops the run
-abbrev pub StopsBehind : List Line → Line → Option (List ℕ) → Option (List ℕ) → RunEnd → Type 0
-StopsBehind done line old now (BadLine n) =
-    (line.number ≡ n) × ¬ IsDoable IsStep done line × HasPrinted done old now
-StopsBehind done line old now WriteFault = HasBegun (done ++ line ∷ []) old now
-StopsBehind done line old now Memory = HasBegun done old now
-StopsBehind done line old now _ = ⊥
+-- The next line, which is a step, ended the run: the output failed in its text.
+pub record FailedAt (done : List Line) (line : Line) (old now : Option (List ℕ)) (before after : ℕ)
+    : Type 0 where
+  pub step : IsStep done line
+  pub wrote : Wrote (done ++ line ∷ []) old now
+  pub rose : Rose before after
+  pub later : before ≤ after
 
--- the output grew by a prefix of the report of the first of these lines
-pub record HasBegunOf (lines : List Line) (old now : Option (List ℕ)) : Type 0 where
-  pub done : List Line
-  pub behind : List Line
-  pub parts : lines ≡ done ++ behind
-  pub begun : HasBegun done old now
+-- Memory ran out before the next line, or in its text.
+pub record RanOutAt (done : List Line) (line : Line) (old now : Option (List ℕ)) (before after : ℕ)
+    : Type 0 where
+  pub wrote : Wrote done old now ⊎ (IsStep done line × Wrote (done ++ line ∷ []) old now)
+  pub kept : after ≡ before
 
--- how the run stops at one of these lines
-abbrev pub StopsIn : List Line → Option (List ℕ) → Option (List ℕ) → RunEnd → Type 0
-StopsIn lines old now (BadLine n) =
-    (done : List Line) × StopsAt IsStep lines done n × HasPrinted done old now
-StopsIn lines old now WriteFault = HasBegunOf lines old now
-StopsIn lines old now Memory = HasBegunOf lines old now
-StopsIn lines old now _ = ⊥
-
--- all of these bytes were fed, and the lines that aren't held any more were done
-pub record IsReading (all : List ℕ) (held : Held) (world : World) (old now : Option (List ℕ)) : Type
-    0 where
-  pub done : List Line
-  pub left : IsLeft all done held
-  pub has : HasDone done world old now
-
--- nothing more is fed: of these lines those were done that aren't to come
-pub record IsEnding (lines : List Line) (held : Held) (world : World) (old now : Option (List ℕ)) :
-    Type 0 where
-  pub done : List Line
-  pub whole : lines ≡ done ++ lines_from held
-  pub has : HasDone done world old now
-
--- of the bytes of the input these were taken and fed, where they are known
-pub record HasRead (input left : Option (List ℕ)) (held : Held) (world : World)
-    (old now : Option (List ℕ)) : Type 0 where
-  pub taken : List ℕ
-  pub consumed : Consumes input left taken
-  pub reading : IsReading taken held world old now
-
--- what the count of the output's faults does where a run stops so at a line, because memory ran out
--- or at a fault
-abbrev pub CountsTo : ℕ → ℕ → RunEnd → Type 0
-CountsTo before now (BadLine n) = now ≡ before
-CountsTo before now WriteFault = Rose before now
-CountsTo before now Memory = now ≡ before
-CountsTo before now _ = ⊥
+-- From the first moment these lines were done, and at the second one the next had ended the run so.
+abbrev pub HasEnded : {M O D T : Type 0} → (O → Option (List ℕ)) → (O → ℕ) → Moment M O D T
+    → List Line → Line → Moment M O D T → PictureEnd → Type 0
+HasEnded held faults start done line now Failed =
+    FailedAt done line (held start.output) (held now.output) (faults start.output)
+    (faults now.output)
+HasEnded held faults start done line now Memory =
+    RanOutAt done line (held start.output) (held now.output) (faults start.output)
+    (faults now.output)

@@ -5,9 +5,7 @@
 
 mod laws;
 mod line_run;
-mod piece_run;
 mod run;
-mod steps;
 
-pub use laws::one_schedule;
+pub use laws::{begun_lines_are_due, lines_say_no_control, one_schedule};
 pub use run::run_world;

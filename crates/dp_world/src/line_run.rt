@@ -1,104 +1,96 @@
 //! The lines of a schedule, done one at a time.
 
-ghost use Rattle.std.specs.Prelude.{◌≡◌, ◌≤◌, ◌∷◌, ◌++◌, [], ℕ, List};
+ghost use Rattle.std.specs.Prelude.{◌≡◌, ◌≤◌, ℕ, List};
 ghost use Rattle.std.specs.Prelude.{IsErrOf, IsTrue, IfOk, IfErr, IfSome, OnOk, IsSome, ◌↔◌};
-ghost use Rattle.std.specs.declared.option.Option.{Option};
-ghost use Rattle.std.specs.Io.KnownBytes.{Appends, Keeps};
+ghost use Rattle.std.specs.Io.KnownBytes.{Appends};
 ghost use Rattle.dp_io.specs.Faults.{HasCause};
 ghost use Rattle.dp_io.specs.Streams.{GrowsByPrefix};
 ghost use Rattle.dp_flat.specs.Ends.{is_sink_fault};
-ghost use Rattle.dp_lines.specs.declared.line.Line.{Line as Given};
-ghost use Rattle.dp_lines.specs.Held.{IsInLimit};
 ghost use Rattle.dp_schedule.specs.declared.action.Action.TheVariants.{Show as Shows};
 ghost use Rattle.dp_schedule.specs.LineGrammar.{Parses};
 ghost use Rattle.dp_schedule.specs.ReportText.{text_of};
-ghost use Rattle.dp_sim.specs.Invariant.{IsWorld};
+ghost use Rattle.dp_sim.specs.Invariant.{IsWorld, SaysNoControl};
 ghost use Rattle.dp_sim.specs.Report.{canvas_of, printed};
 ghost use Rattle.dp_sim.specs.World.{after, first_world, participant_of};
 ghost use Rattle.dp_world.specs.Schedule.{IsPossible};
-ghost use Rattle.dp_world.specs.Progress.{CountsTo, HasDone, IsAllowed, IsRefused, StopsBehind};
+ghost use Rattle.dp_world.specs.Progress.{IsRefused};
 
-use crate::steps::ScheduleSteps;
 use dp_flat::{PictureEnd, write_p3};
 use dp_io::{Sink, put_all};
-use dp_lines::{Line, Lines, RunEnd, further_step};
+use dp_lines::Line;
 use dp_plain::PlainBoard;
 use dp_schedule::{Action, CanvasKind, ReportLine, one_action, read_action};
+use dp_script::{LineMachine, Undone};
 use dp_sim::World;
 use dp_steps::Steps;
 use std::alloc::{AllocError, Global};
 use std::sync::ledger::Ledger;
 
-/// A run of a schedule: its world, and the lines that are to come.
+/// The machine of a schedule: it does a line in its world.
 #[derive(Drop)]
-pub(crate) struct Run {
+pub(crate) struct WorldRun {
     pub alloc: Global,
     pub world: World,
-    pub lines: Lines,
 }
 
-impl Run {
-    /// A run before the first line.
-    pub fn new(alloc: Global) -> Result<Run, AllocError>
-        ensures lines { IfOk result (λ run. run.lines ≡ record { count = 0; bytes = []; fed = 0 }) }
-        ensures first { IfOk result (λ run. run.world ≡ first_world) }
-        ensures world { IfOk result (λ run. IsWorld run.world) }
-    {
-        let world = World::new(alloc)?;
-        let lines = Lines::new(alloc);
-        Ok(Run {
-            alloc,
-            world,
-            lines,
-        })
-    }
+impl dp_lines::Steps for WorldRun {
+    ghost use Rattle.dp_world.specs.Schedule.{IsStep};
 
-    /// Does the line, and writes what it prints. An error where it is no step, or isn't done.
-    pub fn do_line<O: Sink, D: Ledger, T: Ledger>(
+    ghost is_step = { IsStep };
+}
+
+impl<O: Sink, D: Ledger, T: Ledger> LineMachine<O, Steps<D>, Steps<T>> for WorldRun {
+    ghost use Rattle.dp_sim.specs.Invariant.{IsWorld};
+    ghost use Rattle.dp_world.specs.Progress.{HasDone, HasEnded};
+
+    type End = PictureEnd;
+
+    ghost is_ready = { λ run. IsWorld run.world };
+
+    ghost has_done = { HasDone (λ run. run.world) O.held O.faults };
+
+    ghost has_ended = { HasEnded O.held O.faults };
+
+    fn do_line(
         &mut self,
         line: &Line,
         output: &mut O,
         draws: &mut Steps<D>,
         tiles: &mut Steps<T>,
-    ) -> Result<(), RunEnd>
-        requires world { IsWorld self.old.world }
-        requires fits { IsInLimit line.now }
-        ensures ok { OnOk result ((start : Option (List ℕ)) (done : List Given)
-            → HasDone done self.old.world start (O.held output.old)
-            → HasDone (done ++ line.now ∷ []) self.new.world start (O.held output.new)) }
-        ensures world { OnOk result (IsWorld self.new.world) }
-        ensures err { IfErr result (λ end. (start : Option (List ℕ)) (done : List Given)
-            → HasDone done self.old.world start (O.held output.old)
-            → StopsBehind done line.now start (O.held output.new) end) }
-        ensures lines { self.new.lines ≡ self.old.lines }
-        ensures kept { OnOk result (O.faults output.new ≡ O.faults output.old) }
-        ensures counted { IfErr result (CountsTo (O.faults output.old) (O.faults output.new)) }
-        ensures later { O.faults output.old ≤ O.faults output.new }
-    {
-        further_step::<ScheduleSteps>();
+    ) -> Result<(), Undone<PictureEnd>> {
         one_action();
         let action = self.action_of(line)?;
         match self.do_action(action, output, draws, tiles) {
             Ok(()) => Ok(()),
-            Err(PictureEnd::Failed) => Err(RunEnd::WriteFault),
-            Err(PictureEnd::Memory) => Err(RunEnd::Memory),
+            Err(end) => Err(Undone::Ended(end)),
         }
+    }
+}
+
+impl WorldRun {
+    /// A machine before the first line.
+    pub fn new(alloc: Global) -> Result<WorldRun, AllocError>
+        ensures first { IfOk result (λ run. run.world ≡ first_world) }
+        ensures world { IfOk result (λ run. IsWorld run.world) }
+    {
+        let world = World::new(alloc)?;
+        Ok(WorldRun { alloc, world })
     }
 
     /// What the line asks for. An error where it asks for nothing, or for what may not be done.
-    fn action_of(&self, line: &Line) -> Result<Action, RunEnd>
+    fn action_of(&self, line: &Line) -> Result<Action, Undone<PictureEnd>>
         ensures asks { IfOk result (Parses line.now.bytes) }
         ensures possible { IfOk result (IsPossible self.now.world) }
-        ensures allowed { IfOk result IsAllowed }
+        ensures allowed { IfOk result SaysNoControl }
         ensures refused { IfErr result (IsRefused line.now self.now.world) }
     {
         one_action();
         let Ok(asked) = read_action(self.alloc, line.bytes.as_slice()) else {
-            return Err(RunEnd::Memory);
+            return Err(Undone::Ended(PictureEnd::Memory));
         };
         match asked {
             Some(action) if self.may_do(&action) => Ok(action),
-            _ => Err(RunEnd::BadLine(line.number)),
+            _ => Err(Undone::NoStep),
         }
     }
 
@@ -122,17 +114,14 @@ impl Run {
     ) -> Result<(), PictureEnd>
         requires world { IsWorld self.old.world }
         requires possible { IsPossible self.old.world action }
-        requires allowed { IsAllowed action }
+        requires allowed { SaysNoControl action }
         ensures after { OnOk result (self.new.world ≡ after self.old.world action) }
         ensures world { OnOk result (IsWorld self.new.world) }
-        ensures lines { self.new.lines ≡ self.old.lines }
         ensures written { OnOk result
             (Appends (O.held output.old) (O.held output.new) (printed self.old.world action)) }
         ensures prefix { GrowsByPrefix (O.held output.old) (O.held output.new)
             (printed self.old.world action) }
-        ensures memory { IsErrOf result PictureEnd.Memory
-            → Keeps (O.held output.old) (O.held output.new) }
-        ensures memory_uncounted { IsErrOf result PictureEnd.Memory
+        ensures uncounted { IsErrOf result PictureEnd.Memory
             → O.faults output.new ≡ O.faults output.old }
         ensures cause { HasCause is_sink_fault (O.faults output.old) (O.faults output.new) result }
     {
@@ -166,9 +155,7 @@ impl Run {
             (printed self.now.world (Shows client kind))) }
         ensures prefix { GrowsByPrefix (O.held output.old) (O.held output.new)
             (printed self.now.world (Shows client kind)) }
-        ensures memory { IsErrOf result PictureEnd.Memory
-            → Keeps (O.held output.old) (O.held output.new) }
-        ensures memory_uncounted { IsErrOf result PictureEnd.Memory
+        ensures uncounted { IsErrOf result PictureEnd.Memory
             → O.faults output.new ≡ O.faults output.old }
         ensures cause { HasCause is_sink_fault (O.faults output.old) (O.faults output.new) result }
     {
@@ -200,9 +187,7 @@ fn put_line<O: Sink>(alloc: Global, line: ReportLine, output: &mut O) -> Result<
     ensures written { OnOk result
         (Appends (O.held output.old) (O.held output.new) (text_of line)) }
     ensures prefix { GrowsByPrefix (O.held output.old) (O.held output.new) (text_of line) }
-    ensures memory { IsErrOf result PictureEnd.Memory
-        → Keeps (O.held output.old) (O.held output.new) }
-    ensures memory_uncounted { IsErrOf result PictureEnd.Memory
+    ensures uncounted { IsErrOf result PictureEnd.Memory
         → O.faults output.new ≡ O.faults output.old }
     ensures cause { HasCause is_sink_fault (O.faults output.old) (O.faults output.new) result }
 {

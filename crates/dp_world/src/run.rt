@@ -1,13 +1,13 @@
 //! Running a schedule.
 
-ghost use Rattle.std.specs.Prelude.{◌≤◌};
-ghost use Rattle.dp_world.specs.RunEnds.{Blames, WorldLeaves};
+ghost use Rattle.std.specs.Prelude.{◌≡◌, ◌≤◌};
+ghost use Rattle.dp_world.specs.RunEnds.{Blames, WorldLeaves, run_end_of};
 
-use crate::line_run::Run;
-use crate::steps::ScheduleSteps;
-use dp_io::{Failed, Sink, Source};
-use dp_lines::{RunEnd, further_step, lines_seen, still_left};
-use dp_schedule::one_action;
+use crate::line_run::WorldRun;
+use dp_flat::PictureEnd;
+use dp_io::{Sink, Source};
+use dp_lines::{RunEnd, further_step};
+use dp_script::{ScriptEnd, run_lines};
 use dp_steps::Steps;
 use std::alloc::Global;
 use std::sync::ledger::Ledger;
@@ -16,7 +16,7 @@ use std::sync::ledger::Ledger;
 const WORLD_LIMIT: usize = 1 << 26;
 
 /// Reads the lines of a schedule and does them one after the other. What a line prints is written
-/// before the next line is read.
+/// before the next line is done.
 ///
 /// # Errors
 ///
@@ -39,33 +39,24 @@ pub fn run_world<I: Source, O: Sink, D: Ledger, T: Ledger>(
     ensures input_later { I.faults input.old ≤ I.faults input.new }
     ensures output_later { O.faults output.old ≤ O.faults output.new }
 {
-    one_action();
-    further_step::<ScheduleSteps>();
-    still_left();
-    lines_seen();
-    let Ok(mut run) = Run::new(alloc) else {
+    further_step::<WorldRun>();
+    let Ok(mut machine) = WorldRun::new(alloc) else {
         return RunEnd::Memory;
     };
-    let mut buffer = [0; 4096];
-    let mut room = WORLD_LIMIT;
-    'reads: loop {
-        let count = match input.read(&mut buffer) {
-            Ok(count) => count,
-            Err(Failed) => return RunEnd::ReadFault,
-        };
-        if count == 0 {
-            if let Err(end) = run.do_rest(output, draws, tiles) {
-                return end;
-            }
-            return RunEnd::Done;
-        }
-        let counted = count.min(room);
-        if let Err(end) = run.do_piece(&buffer[..counted], output, draws, tiles) {
-            return end;
-        }
-        if counted < count {
-            return RunEnd::Long;
-        }
-        room -= counted;
+    run_end(run_lines(alloc, WORLD_LIMIT, input, &mut machine, output, draws, tiles))
+}
+
+/// How the run ends where that of its lines ends so.
+fn run_end(end: ScriptEnd<PictureEnd>) -> RunEnd
+    ensures { result ≡ run_end_of end }
+{
+    match end {
+        ScriptEnd::Done => RunEnd::Done,
+        ScriptEnd::BadLine(number) => RunEnd::BadLine(number),
+        ScriptEnd::ReadFault => RunEnd::ReadFault,
+        ScriptEnd::Long => RunEnd::Long,
+        ScriptEnd::Memory => RunEnd::Memory,
+        ScriptEnd::Ended(PictureEnd::Failed) => RunEnd::WriteFault,
+        ScriptEnd::Ended(PictureEnd::Memory) => RunEnd::Memory,
     }
 }

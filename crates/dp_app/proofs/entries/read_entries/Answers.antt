@@ -1,98 +1,36 @@
-use Rattle.std.proofs.Common.{◌≡◌, ◌<◌, ◌≤◌, length, take, sym, ◌∙◌, subst, arith}
-use Rattle.std.specs.Prelude.{IfSome}
-use Rattle.std.proofs.lemmas.List.{length-take}
-use Rattle.dp_lines.specs.declared.run_end.RunEnd.{RunEnd}
-use Rattle.dp_app.specs.Read.{EndsReading, BlamesReading}
-use Rattle.dp_app.proofs.Inputs.{told_at_fault, told_at_end, told_at_stop, told_too_long}
-use Rattle.dp_app.proofs.Inputs.{told_further, two_parts, end_blames, stop_blames}
+use Rattle.std.proofs.Common.{refl}
+use Rattle.dp_app.proofs.Inputs.{told_first, told_done, told_end, blames_of}
 use Rattle.dp_app.proofs.entries.read_entries.Goals as goal
 
-pub returns-then-count-eq0-clause-told : goal.returns-then-count-eq0-clause-told
-returns-then-count-eq0-clause-told g c =
-    let long : 0 < length c.read.new.buf = omega arith in
-    subst (λ (end : RunEnd). IfSome (g.I.Source.left c.args.input.now)
-    (λ input. EndsReading input (g.I.Source.left c.read.new.self) c.reads.history.entries.items
-    end)) (sym c.end-end.ensures)
-    (told_at_end (g.I.Source.left c.args.input.now) (g.I.Source.left c.reads.input)
-    (g.I.Source.left c.read.new.self) c.reads.history.entries.items c.reads.history.splitter
-    c.reads.room c.in-Ok.count c.read.new.buf c.reads.invariant.told c.reads.invariant.drained
-    c.reads.invariant.room c.in-Ok.ensures.end long c.if-count-eq0.true)
+pub entries-init : goal.entries-init
+entries-init g c = record {
+  told =
+      rw c.new-entries.ensures.items
+      (told_first (g.I.Source.left c.args.input.now) c.new-reader.result
+      c.new-reader.ensures.begun);
+  first = c.new-reader.ensures.first;
+  limit = c.new-reader.ensures.limit;
+  not_ended = c.new-reader.ensures.not_ended;
+  kept = refl;
+}
 
-pub returns-in-Err-feed-clause-told : goal.returns-in-Err-feed-clause-told
-returns-in-Err-feed-clause-told g c =
-    let counted = c.min-counted.result in
-    let least : counted ≤ c.in-Ok.count = omega arith in
-    let few : length (take c.in-Ok.count c.read.new.buf)
-    ≤ 4096 = omega (arith, length-take c.in-Ok.count c.read.new.buf, c.in-Ok.ensures.bound) in
-    let short : length (take counted c.read.new.buf) ≤ c.reads.room = omega
-    (arith, length-take counted c.read.new.buf, c.in-Ok.ensures.bound) in
-    told_at_stop (g.I.Source.left c.args.input.now) (g.I.Source.left c.reads.input)
-    (g.I.Source.left c.read.new.self) c.reads.history.entries.items
-    c.feed.new.self.entries.items c.reads.history.splitter c.reads.room
-    (take c.in-Ok.count c.read.new.buf) (take counted c.read.new.buf) _ c.in-Err-feed.end
-    c.reads.invariant.told c.reads.invariant.drained c.reads.invariant.room c.in-Ok.ensures.bytes.0
-    (two_parts counted c.in-Ok.count c.read.new.buf least) short few
-    c.in-Err-feed.ensures.stop c.in-Err-feed.ensures.stopped
-
-pub returns-then-counted-count-clause-told : goal.returns-then-counted-count-clause-told
-returns-then-counted-count-clause-told g c =
-    let counted = c.min-counted.result in
-    let least : counted ≤ c.in-Ok.count = omega arith in
-    let full : length (take counted c.read.new.buf) ≡ c.reads.room = omega
-    (arith, length-take counted c.read.new.buf, c.in-Ok.ensures.bound) in
-    let few : length (take c.in-Ok.count c.read.new.buf)
-    ≤ 4096 = omega (arith, length-take c.in-Ok.count c.read.new.buf, c.in-Ok.ensures.bound) in
-    let over : length (take counted c.read.new.buf) < length (take c.in-Ok.count c.read.new.buf) =
-    omega (
-      arith,
-      length-take counted c.read.new.buf,
-      length-take c.in-Ok.count c.read.new.buf,
-      c.in-Ok.ensures.bound,
-    ) in
-    told_too_long (g.I.Source.left c.args.input.now) (g.I.Source.left c.reads.input)
-    (g.I.Source.left c.read.new.self) c.reads.history.entries.items
-    c.feed.new.self.entries.items c.reads.history.splitter c.feed.new.self.splitter c.reads.room
-    (take c.in-Ok.count c.read.new.buf) (take counted c.read.new.buf) _
-    c.reads.invariant.told c.reads.invariant.drained c.reads.invariant.room c.in-Ok.ensures.bytes.0
-    (two_parts counted c.in-Ok.count c.read.new.buf least) full over few
-    c.in_default.ensures.drained c.in_default.ensures.ok
-
-pub reads-preserved : goal.reads-preserved
-reads-preserved g c =
-    let all : c.min-counted.result ≡ c.in-Ok.count = omega arith in
-    record {
-      told =
-          told_further (g.I.Source.left c.args.input.now) (g.I.Source.left c.reads.input)
-          (g.I.Source.left c.read.new.self) c.reads.history.entries.items
-          c.feed.new.self.entries.items c.reads.history.splitter c.feed.new.self.splitter
-          (take c.in-Ok.count c.read.new.buf)
-          c.reads.invariant.told c.in-Ok.ensures.bytes.0 (rw (← all) c.in_default.ensures.ok);
-      drained = c.in_default.ensures.drained;
-      room = omega (
-        arith,
-        c.in_default.ensures.len,
-        length-take c.min-counted.result
-            c.read.new.buf,
-        c.in-Ok.ensures.bound,
-        c.reads.invariant.room,
-      );
-      kept = c.in-Ok.ensures.cause.kept ∙ c.reads.invariant.kept;
-    }
-
-pub returns-then-count-eq0-clause-blames : goal.returns-then-count-eq0-clause-blames
-returns-then-count-eq0-clause-blames g c =
-    subst (λ (end : RunEnd). BlamesReading (g.I.Source.faults c.args.input.now)
-    (g.I.Source.faults c.read.new.self) end) (sym c.end-end.ensures)
-    (end_blames _ _ c.reads.history.splitter (c.in-Ok.ensures.cause.kept ∙ c.reads.invariant.kept))
-
-pub returns-in-Err-feed-clause-blames : goal.returns-in-Err-feed-clause-blames
-returns-in-Err-feed-clause-blames g c =
-    stop_blames _ _ c.in-Err-feed.end c.in-Err-feed.ensures.stop
-    (c.in-Ok.ensures.cause.kept ∙ c.reads.invariant.kept)
+pub returns-in-Ok-None-clause-told : goal.returns-in-Ok-None-clause-told
+returns-in-Ok-None-clause-told g c =
+    let none = c.in-Ok-None.ensures.done c.entries.invariant.not_ended in
+    let done = rw c.in-Ok-None.field-0-is at none in
+    told_done (g.I.Source.left c.args.input.now) (g.I.Source.left c.entries.input)
+    (g.I.Source.left c.next.new.input) c.entries.entries.items c.entries.reader
+    c.entries.invariant.first c.entries.invariant.limit done c.entries.invariant.told
 
 pub returns-in-Err-clause-told : goal.returns-in-Err-clause-told
 returns-in-Err-clause-told g c =
-    told_at_fault (g.I.Source.left c.args.input.now) (g.I.Source.left c.reads.input)
-    (g.I.Source.left c.read.new.self) c.reads.history.entries.items
-    c.reads.history.splitter c.reads.room c.reads.invariant.told c.reads.invariant.drained
-    c.reads.invariant.room c.in-Err.ensures.bytes
+    rw c.run_end-end.ensures
+    (told_end (g.I.Source.left c.args.input.now) (g.I.Source.left c.entries.input)
+    (g.I.Source.left c.next.new.input) c.entries.entries.items c.entries.reader c.in-Err.end
+    c.entries.invariant.first c.entries.invariant.limit c.in-Err.ensures.ends
+    c.entries.invariant.told)
+
+pub returns-in-Err-clause-blames : goal.returns-in-Err-clause-blames
+returns-in-Err-clause-blames g c =
+    rw c.run_end-end.ensures
+    (blames_of _ _ c.in-Err.end (rw c.entries.invariant.kept at c.in-Err.ensures.blames))

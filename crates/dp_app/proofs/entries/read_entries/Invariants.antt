@@ -1,20 +1,19 @@
-use Rattle.std.proofs.Common.{◌≡◌, ◌+◌, ◌^◌, length}
-use Rattle.std.specs.Prelude.{IfSome}
-use Rattle.dp_frame.specs.Frames.{HoldsNoFrame}
-use Rattle.dp_app.specs.Read.{HasRead}
+use Rattle.std.proofs.Common.{◌≡◌, ◌-◌, ◌^◌}
+use Rattle.std.specs.Prelude.{IfSome, IsTrue}
+use Rattle.dp_entries.specs.Reader.{HasRead}
+use Rattle.dp_entries.specs.Anywhere.{StandsAnywhere}
 use Rattle.dp_app.proofs.entries.read_entries.Given as goal
 
--- of the input's bytes these were read, each whole frame among them gave its entry, and no read
--- failed
-abbrev pub invariant-reads : goal.invariant-reads
-invariant-reads g l =
-    record {
-      told : IfSome (g.I.Source.left l.fn.input) (λ bytes. HasRead bytes (g.I.Source.left l.input)
-          l.history.entries.items l.history.splitter);
-      drained : HoldsNoFrame l.history.splitter.held;
-      room : l.history.splitter.at + length l.history.splitter.held + l.room ≡ 2 ^ 30;
-      kept : g.I.Source.faults l.input ≡ g.I.Source.faults l.fn.input;
-    }
+-- what was read of the input gave these entries, and no read failed
+abbrev pub invariant-entries : goal.invariant-entries
+invariant-entries g l = record {
+  told : IfSome (g.I.Source.left l.fn.input) (λ bytes.
+      HasRead StandsAnywhere bytes (g.I.Source.left l.input) l.entries.items l.reader);
+  first : l.reader.first ≡ 0;
+  limit : l.reader.limit ≡ 2 ^ 30;
+  not_ended : ¬ IsTrue l.reader.ended;
+  kept : g.I.Source.faults l.input ≡ g.I.Source.faults l.fn.input;
+}
 
-abbrev pub decreases-reads : goal.decreases-reads
-decreases-reads g l = l.room
+abbrev pub decreases-entries : goal.decreases-entries
+decreases-entries g l = 2 ^ 30 - l.reader.stream.at

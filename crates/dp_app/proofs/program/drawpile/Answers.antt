@@ -1,6 +1,6 @@
 use Rattle.dp_app.proofs.Completeness.{complete_command, complete_usage, keeps_same, exact}
 use Rattle.dp_app.proofs.Completeness.{fault_told, uncounted, read_told, write_told, at_end}
-use Rattle.dp_app.proofs.Completeness.{replay_left, world_left, headline_of}
+use Rattle.dp_app.proofs.Completeness.{command_left, headline_of, named}
 use Rattle.dp_app.proofs.program.drawpile.Goals as goal
 
 pub returns-in_default-clause-complete : goal.returns-in_default-clause-complete
@@ -38,24 +38,17 @@ returns-clause-exact g c = λ read write diag memory.
     (g.E.Sink.held c.args.diag.now) (g.E.Sink.held c.say.new.diag) c.say.result
     (returns-clause-complete g c read write diag memory)
 
-pub returns-clause-replay : goal.returns-clause-replay
-returns-clause-replay g c = λ replay. (
-  c.run_counted-end.result,
-  replay_left c.args.words.now (g.I.Source.left c.args.input.now) _
-      (g.O.Sink.held c.args.output.now) (g.O.Sink.held c.run_counted-end.new.output)
-      c.in-Some.command c.run_counted-end.result c.in-Some.ensures.some
-      c.run_counted-end.ensures.leaves replay,
-  c.run_counted-end.ensures.blames,
-  c.say.ensures.says,
-)
+pub returns-in_default-clause-ends : goal.returns-in_default-clause-ends
+returns-in_default-clause-ends g c = λ command names.
+    absurd (c.in_default.ensures.none (named c.args.words.now command names))
 
-pub returns-clause-world : goal.returns-clause-world
-returns-clause-world g c = λ world. (
+pub returns-clause-ends : goal.returns-clause-ends
+returns-clause-ends g c = λ command names. (
   c.run_counted-end.result,
-  world_left c.args.words.now (g.I.Source.left c.args.input.now) _ (g.O.Sink.held c.args.output.now)
-      (g.O.Sink.held c.run_counted-end.new.output)
-      c.in-Some.command c.run_counted-end.result c.in-Some.ensures.some
-      c.run_counted-end.ensures.leaves world,
+  command_left c.args.words.now (g.I.Source.left c.args.input.now) _
+      (g.O.Sink.held c.args.output.now) (g.O.Sink.held c.run_counted-end.new.output)
+      c.in-Some.command command c.run_counted-end.result c.in-Some.ensures.some names
+      c.run_counted-end.ensures.leaves,
   c.run_counted-end.ensures.blames,
   c.say.ensures.says,
 )

@@ -8,22 +8,22 @@ use Rattle.dp_app.proofs.replay.run_replay.Goals as goal
 pub returns-then-reads_to_end-clause-leaves : goal.returns-then-reads_to_end-clause-leaves
 returns-then-reads_to_end-clause-leaves g c =
     let told = g.I.Source.left c.args.input.now in
-    let read = c.read_entries-history in
+    let read = c.read_entries-entries in
     let to_end = c.reads_to_end.ensures.yes c.if-reads_to_end.true in
-    shown_leaves told (g.I.Source.left c.read_entries-history.new.input)
+    shown_leaves told (g.I.Source.left c.read_entries-entries.new.input)
     (g.O.Sink.held c.args.output.now) (g.O.Sink.held c.write_shown.new.output)
     (g.O.Sink.faults c.args.output.now) (g.O.Sink.faults c.write_shown.new.output)
     c.deref.result.now read.result.end c.write_shown.result
     (subst (λ (entries : List Entry). IfSome told (λ input. EndsReading input
-    (g.I.Source.left c.read_entries-history.new.input) entries read.result.end))
+    (g.I.Source.left c.read_entries-entries.new.input) entries read.result.end))
     (sym c.deref.ensures.value) read.ensures.told)
     to_end (read.ensures.to_end to_end) c.write_shown.ensures.shown
 
 pub returns-then-reads_to_end-clause-blames : goal.returns-then-reads_to_end-clause-blames
 returns-then-reads_to_end-clause-blames g c =
     shown_blames (g.O.Sink.held c.args.output.now) (g.O.Sink.held c.write_shown.new.output)
-    (g.I.Source.faults c.args.input.now) (g.I.Source.faults c.read_entries-history.new.input)
+    (g.I.Source.faults c.args.input.now) (g.I.Source.faults c.read_entries-entries.new.input)
     (g.O.Sink.faults c.args.output.now) (g.O.Sink.faults c.write_shown.new.output)
-    c.deref.result.now c.read_entries-history.result.end c.write_shown.result
-    c.read_entries-history.ensures.blames (c.reads_to_end.ensures.yes c.if-reads_to_end.true)
+    c.deref.result.now c.read_entries-entries.result.end c.write_shown.result
+    c.read_entries-entries.ensures.blames (c.reads_to_end.ensures.yes c.if-reads_to_end.true)
     c.write_shown.ensures.shown

@@ -3,7 +3,7 @@ use Rattle.std.specs.Io.KnownBytes.{Appends}
 use Rattle.dp_io.specs.Streams.{GrowsByPrefix}
 use Rattle.dp_sim.specs.World.{participant_of}
 use Rattle.dp_world.proofs.Shown.{shown_text}
-use Rattle.dp_world.proofs.line_run.Run.show.Goals as goal
+use Rattle.dp_world.proofs.line_run.WorldRun.show.Goals as goal
 
 pub returns-clause-written : goal.returns-clause-written
 returns-clause-written g c =
