@@ -43,8 +43,8 @@ part_of_pixels w x y n pixels in_list =
     let rest : length (drop start pixels) ≡ length pixels - start = length-drop start pixels in
     let len : length (take n (drop start pixels)) ≡ n = omega
     (arith, length-take n (drop start pixels)) in
-    rw count (fill_by_all (λ i. pixel_at w pixels (x + i) y) (take n (drop start pixels)) n clear len
-    (λ i in_part.
+    rw count (fill_by_all (λ i. pixel_at w pixels (x + i) y) (take n (drop start pixels)) n clear
+    len (λ i in_part.
     let at : start + i ≡ y * w + (x + i) = omega arith in
     get_or-take n (drop start pixels) i clear in_part ∙ get_or-drop start pixels i clear
     ∙ ap (λ k. get_or pixels k clear) at))

@@ -1,5 +1,6 @@
 -- What is read of a board, a row of pixels at a time.
-use Rattle.std.specs.Prelude.{ℕ, ◌+◌, ◌&&◌, nat_lt, if◌then◌else◌, List, map, Option, None, option_map}
+use Rattle.std.specs.Prelude.{ℕ, ◌+◌, ◌&&◌, nat_lt, if◌then◌else◌, List, map, Option, None}
+use Rattle.std.specs.Prelude.{option_map}
 use Rattle.dp_blend.specs.Color.{Channels}
 use Rattle.dp_blend.specs.Canvas.{below, pixel_at}
 use Rattle.dp_layers.specs.Rows.{content_of}

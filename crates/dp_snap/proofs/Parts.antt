@@ -77,7 +77,8 @@ pub tile_more : (f : ℕ → ℕ → Channels) (tile row : List Channels) (y n :
     → take ((y + 1) * 64) (put_mid (y * 64) (y * 64 + 64 - y * 64) tile row)
     ≡ canvas_of 64 (y + 1) f
 tile_more f tile row y n whole in_tile all above is =
-    let row_is : row ≡ map (λ x. f x y) (below 64) = is ∙ ap (λ m. map (λ x. f x y) (below m)) all in
+    let row_is : row ≡ map (λ x. f x y) (below 64) =
+    is ∙ ap (λ m. map (λ x. f x y) (below m)) all in
     let long : length row ≡ 64 = ap length row_is
     ∙ length-map-range_with_len (λ x. f x y) 0 64 in
     take-put_mid (y * 64) (y * 64 + 64 - y * 64) tile row ((y + 1) * 64) (omega (arith, long))

@@ -1,7 +1,7 @@
 -- Tests of each pixel of a row, of a canvas and of a tile.
 use Rattle.std.proofs.Common.{◌≡◌, ◌==◌, ℕ, zero, suc, ◌+◌, ◌*◌, ◌-◌, ◌<◌, ◌≤◌, Bool, true}
-use Rattle.std.proofs.Common.{◌&&◌, List, length, get_or, take, drop, map, refl, ap, sym, ◌∙◌, subst}
-use Rattle.std.proofs.Common.{eq-eqb, arith}
+use Rattle.std.proofs.Common.{◌&&◌, List, length, get_or, take, drop, map, refl, ap, sym, ◌∙◌}
+use Rattle.std.proofs.Common.{subst, eq-eqb, arith}
 use Rattle.std.specs.List.{list_all, flat_map, range_with_len}
 use Rattle.std.proofs.lemmas.Bool.{and_parts, eqb-true}
 use Rattle.std.proofs.lemmas.Nat.{mul-add-lt}
@@ -114,7 +114,8 @@ equal_tile tile corner cols rows whole first in_cols in_rows equal =
     sym (get_or-map tile_pixel tile k clear (tile_pixel clear) inside)
     ∙ equal.1 k (tile_pixel clear) (omega (arith, length-map tile tile_pixel)) in
     let one : tile_pixel (get_or tile 0 clear) ≡ equal.0 = pixel 0 (omega arith) in
-    let corner_is : get_or tile 0 clear ≡ corner = get_or_default tile 0 clear corner (omega arith) ∙ sym first in
+    let corner_is : get_or tile 0 clear ≡ corner =
+    get_or_default tile 0 clear corner (omega arith) ∙ sym first in
     canvas_passes (is_same corner) cols rows (pixel_at 64 tile) (λ x y in_x in_y.
     equal_is_same corner (pixel_at 64 tile x y)
     (sym corner_is ∙ tile_pixel-one (get_or tile 0 clear) (pixel_at 64 tile x y)

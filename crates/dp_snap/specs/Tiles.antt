@@ -22,8 +22,8 @@ abbrev pub pixels_of_tile : ℕ → ℕ → List Channels → ℕ → ℕ → Li
 pixels_of_tile width height pixels col row =
     canvas_of 64 64 (λ x y. pixel_of width height pixels (pos (col * 64 + x)) (pos (row * 64 + y)))
 
--- how many of the 64 columns of the tiles of a column are on a canvas of this width, or how many of
--- the 64 rows of those of a row on one of this height
+-- how many of the 64 columns of a tile are on the canvas, by its width and the number of the tile's
+-- column; or how many of the 64 rows, by its height and the number of the tile's row
 abbrev pub shown_of : ℕ → ℕ → ℕ
 shown_of side number = min 64 (side - number * 64)
 
@@ -31,8 +31,8 @@ shown_of side number = min 64 (side - number * 64)
 abbrev pub on_canvas : ℕ → ℕ → List Channels → List Channels
 on_canvas cols rows tile = canvas_of cols rows (pixel_at 64 tile)
 
--- What is put into a tile that has these pixels: one pixel where those on the canvas are equal, and
--- nothing where they are clear, too; else each of the 4096.
+-- What is put into a tile of these pixels. Where those on the canvas are equal, it is that one
+-- pixel, or nothing where it is clear; else it is each of the 4096.
 abbrev pub content_of_tile : ℕ → ℕ → List Channels → Option TileContent
 content_of_tile cols rows tile =
     let corner = pixel_at 64 tile 0 0 in

@@ -23,8 +23,8 @@ pub(crate) const SIDE: usize = 64;
 /// How many pixels a tile has.
 pub(crate) const COUNT: usize = SIDE * SIDE;
 
-/// How many columns of the tiles of a column are on a canvas of this width, or rows of those of a
-/// row on one of this height.
+/// How many columns of a tile are on the canvas, by its width and the number of the tile's column;
+/// or how many rows, by its height and the number of the tile's row.
 pub(crate) fn shown_of(side: u32, number: u32) -> usize
     requires { number ≤ 64 }
     ensures { result ≡ shown_of side number }

@@ -81,7 +81,10 @@ fn command_text(alloc: Global, command: &Draw) -> Result<String, AllocError> {
         } => format!(in alloc; "resize {top} {right} {bottom} {left}"),
         Draw::Background { color } => format!(in alloc; "background {color:x}"),
         Draw::LayerCreate {
-            id, parent, group, ..
+            id,
+            parent,
+            group,
+            ..
         } => format!(in alloc; "create {id:x} {parent:x} {group}"),
         Draw::LayerMove { id, parent, above } => {
             format!(in alloc; "move {id:x} {parent:x} {above:x}")

@@ -16,7 +16,8 @@ pub push-requires : goal.push-requires
 push-requires g c =
     let content = c.in-Some.content in
     let valid : IsContent content =
-    subst (λ (o : Option TileContent). IfSome o IsContent) c.in-Some.is c.in_ok-tile_content.ensures.valid
+    subst (λ (o : Option TileContent). IfSome o IsContent) c.in-Some.is
+    c.in_ok-tile_content.ensures.valid
     in
     let spelled : DrawHasSpelling (PutTile c.args.id c.args.col c.args.row 0 content) =
     (omega arith, omega arith, omega arith, omega arith, valid) in

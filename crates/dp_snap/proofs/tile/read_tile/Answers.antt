@@ -15,7 +15,11 @@ loop-y-preserved g c =
     let read = tile_more f c.loop-y.tile c.read_part.new.part c.loop-y.y _ c.loop-y.invariant.whole
     c.loop-y-test.true (omega (arith, c.loop-y.invariant.whole)) c.loop-y.invariant.read
     c.read_part.ensures in
-    record { whole = simp (length-append, length-take, length-drop) (omega (arith, c.loop-y.invariant.whole)); read = read }
+    record {
+      whole = simp (length-append, length-take, length-drop)
+          (omega (arith, c.loop-y.invariant.whole));
+      read = read;
+    }
 
 pub returns : goal.returns
 returns g c =

@@ -14,6 +14,6 @@ returns-clause-fits g c =
       ap (λ (pixels : List Channels). length pixels) is
           ∙ length-canvas_of change.new_width change.new_height _,
       subst (All IsPixel) (sym is)
-          (pixels_moved-All change.width change.height c.args.self.now change.new_width change.new_height
-          change.left change.top c.requires.fits.1),
+          (pixels_moved-All change.width change.height c.args.self.now change.new_width
+          change.new_height change.left change.top c.requires.fits.1),
     )

@@ -1,0 +1,6 @@
+//! The laws of snapshots: a snapshot that is replayed gives its board.
+#![tactic(auto)]
+
+mod laws;
+
+pub use laws::{replays_are_boards, replays_have_pixels, snapshots_replay};
