@@ -14,7 +14,7 @@ use Rattle.dp_msg_meta.specs.declared.message.Meta.TheVariants.{Owners, Trusted,
 use Rattle.dp_msg_meta.specs.declared.message.Meta.TheVariants.{FeatureTiers}
 use Rattle.dp_messages.specs.declared.message.Entry.{Entry}
 use Rattle.dp_acl.specs.LookBack.{numbers_below, LayerRule}
-use Rattle.dp_acl.specs.Rights.{is_operator, is_trusted, are_all_locked, is_lock_listed, tiers_of}
+use Rattle.dp_acl.specs.Rights.{is_operator, is_trusted, is_lock_listed}
 use Rattle.dp_acl.specs.Rights.{rule_of}
 use Rattle.dp_acl.specs.Carried.{acl_with, carried_rule, carried_rules, carried}
 use Rattle.dp_acl.specs.Table.{Kept, KeptRule, Mark, mark_of, kept_rule, rule_in_order, StandsFor}
@@ -162,35 +162,14 @@ pub carried-kept : (kept : Kept) (history : List Entry) (present : List ℕ) →
     ∷ map acl_of kept.rules
     ≡ carried history present
 carried-kept kept history present stands rise rules =
-    ap (λ ids. Owners ids ∷ Trusted (filter (mark_of kept.trusted) present)
-    ∷ UserAcl ((if kept.all_locked then 0 ∷ [] else []) ++ filter (mark_of kept.lock_listed)
-    present)
-    ∷ FeatureTiers kept.tiers ∷ map acl_of kept.rules)
-    (sym (present-same kept.operators (is_operator history) present stands.operators rise))
-    ∙ ap (λ ids. Owners (filter (is_operator history) present) ∷ Trusted ids
-    ∷ UserAcl ((if kept.all_locked then 0 ∷ [] else []) ++ filter (mark_of kept.lock_listed)
-    present)
-    ∷ FeatureTiers kept.tiers ∷ map acl_of kept.rules)
-    (sym (present-same kept.trusted (is_trusted history) present stands.trusted rise))
-    ∙ ap (λ ids. Owners (filter (is_operator history) present)
-    ∷ Trusted (filter (is_trusted history) present)
-    ∷ UserAcl ((if kept.all_locked then 0 ∷ [] else []) ++ ids)
-    ∷ FeatureTiers kept.tiers ∷ map acl_of kept.rules)
-    (sym (present-same kept.lock_listed (is_lock_listed history) present stands.lock_listed rise))
-    ∙ ap (λ b. Owners (filter (is_operator history) present)
-    ∷ Trusted (filter (is_trusted history) present)
-    ∷ UserAcl ((if b then 0 ∷ [] else []) ++ filter (is_lock_listed history) present)
-    ∷ FeatureTiers kept.tiers ∷ map acl_of kept.rules) stands.all_locked
-    ∙ ap (λ t. Owners (filter (is_operator history) present)
-    ∷ Trusted (filter (is_trusted history) present)
-    ∷ UserAcl ((if are_all_locked history then 0 ∷ [] else [])
-    ++ filter (is_lock_listed history) present)
-    ∷ FeatureTiers t ∷ map acl_of kept.rules) stands.tiers
-    ∙ ap (λ ms. Owners (filter (is_operator history) present)
-    ∷ Trusted (filter (is_trusted history) present)
-    ∷ UserAcl ((if are_all_locked history then 0 ∷ [] else [])
-    ++ filter (is_lock_listed history) present)
-    ∷ FeatureTiers (tiers_of history) ∷ ms) (sym (carried_rules-kept kept history stands rules))
+    cc (
+      present-same kept.operators (is_operator history) present stands.operators rise,
+      present-same kept.trusted (is_trusted history) present stands.trusted rise,
+      present-same kept.lock_listed (is_lock_listed history) present stands.lock_listed rise,
+      stands.all_locked,
+      stands.tiers,
+      carried_rules-kept kept history stands rules,
+    )
 
 -- a list that grows from nothing by four messages and the rest
 pub five-pushed : (m0 m1 m2 m3 m4 m5 : List Meta) (a b c d : Meta) (rest : List Meta) → m0 ≡ []
@@ -198,19 +177,12 @@ pub five-pushed : (m0 m1 m2 m3 m4 m5 : List Meta) (a b c d : Meta) (rest : List 
     → m5 ≡ m4 ++ rest
     → m5 ≡ a ∷ b ∷ c ∷ d ∷ rest
 five-pushed m0 m1 m2 m3 m4 m5 a b c d rest none first second third fourth last =
-    let one : m1 ≡ a ∷ [] = first ∙ ap (λ ms. ms ++ a ∷ []) none in
-    let two : m2 ≡ a ∷ b ∷ [] = second ∙ ap (λ ms. ms ++ b ∷ []) one in
-    let three : m3 ≡ a ∷ b ∷ c ∷ [] = third ∙ ap (λ ms. ms ++ c ∷ []) two in
-    let four : m4 ≡ a ∷ b ∷ c ∷ d ∷ [] = fourth ∙ ap (λ ms. ms ++ d ∷ []) three in
-    last ∙ ap (λ ms. ms ++ rest) four
+    rw (last, fourth, third, second, first, none) refl
 
 -- the first three messages with equal ids
 pub same-start : (a a' b b' c c' : List ℕ) (rest : List Meta) → a ≡ a' → b ≡ b' → c ≡ c'
     → Owners a ∷ Trusted b ∷ UserAcl c ∷ rest ≡ Owners a' ∷ Trusted b' ∷ UserAcl c' ∷ rest
-same-start a a' b b' c c' rest first second third =
-    ap (λ ids. Owners ids ∷ Trusted b ∷ UserAcl c ∷ rest) first
-    ∙ ap (λ ids. Owners a' ∷ Trusted ids ∷ UserAcl c ∷ rest) second
-    ∙ ap (λ ids. Owners a' ∷ Trusted b' ∷ UserAcl ids ∷ rest) third
+same-start a a' b b' c c' rest first second third = cc
 
 length-lock : (b : Bool) (ids : List ℕ) → length ((if b then 0 ∷ [] else []) ++ ids) ≤ length ids
     + 1

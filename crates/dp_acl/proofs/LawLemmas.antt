@@ -1,5 +1,5 @@
 -- The laws of rights.
-use Rattle.std.proofs.Common.{◌≡◌, ℕ, zero, suc, ◌+◌, ◌<◌, ◌==◌, ◌&&◌, ◌||◌, not, nat_le, Bool}
+use Rattle.std.proofs.Common.{◌≡◌, ℕ, zero, suc, ◌+◌, ◌<◌, ◌==◌, ◌&&◌, ◌||◌, not, Bool}
 use Rattle.std.proofs.Common.{true, false}
 use Rattle.std.proofs.Common.{if◌then◌else◌, List, [], ◌∷◌, ◌++◌, Option, Some, None, unwrap_or}
 use Rattle.std.proofs.Common.{refl, sym, ap, subst, ◌∙◌, inl, inr, arith, append_assoc, append-nil}
@@ -21,9 +21,9 @@ use Rattle.dp_messages.specs.declared.message.Entry.{Entry}
 use Rattle.dp_acl.specs.LookBack as said
 use Rattle.dp_acl.specs.LookBack.{numbers_below, lists, is_join_of, has_joined, owners, LayerRule}
 use Rattle.dp_acl.specs.LookBack.{layer_rule}
-use Rattle.dp_acl.specs.Rights.{is_listed, is_operator, is_trusted, is_registered, are_all_locked}
+use Rattle.dp_acl.specs.Rights.{is_operator, is_trusted, is_registered, are_all_locked}
 use Rattle.dp_acl.specs.Rights.{is_lock_listed}
-use Rattle.dp_acl.specs.Rights.{is_locked, tier_of, tiers_of, has_feature, rule_of, is_open_to}
+use Rattle.dp_acl.specs.Rights.{is_locked, tier_of, tiers_of, has_feature, rule_of}
 use Rattle.dp_acl.specs.Rights.{lets_paint}
 use Rattle.dp_acl.specs.Rights.{may_paint, may_edit_layer, creator_of}
 use Rattle.dp_acl.specs.Permitted.{permits_control, permits_meta, permits_draw, permitted}
@@ -83,158 +83,138 @@ spelled_in_order low ids rise = order-numbers 256 ids refl (rise-lower low ids r
 
 -- ---- histories that look the same
 
--- looking back finds the same in both histories
-record LooksSame (one other : List Entry) : Type 0 where
-  joined : (user : ℕ) → has_joined one user ≡ has_joined other user
-  operators : (user : ℕ) → is_operator one user ≡ is_operator other user
-  trusted : (user : ℕ) → is_trusted one user ≡ is_trusted other user
-  registered : (user : ℕ) → is_registered one user ≡ is_registered other user
-  all_locked : are_all_locked one ≡ are_all_locked other
-  lock_listed : (user : ℕ) → is_lock_listed one user ≡ is_lock_listed other user
-  tiers : tiers_of one ≡ tiers_of other
-  rules : (layer : ℕ) → rule_of one layer ≡ rule_of other layer
+-- what looking back finds of a user and a layer
+record Look : Type 0 where
+  joined : Bool
+  operator : Bool
+  trusted : Bool
+  registered : Bool
+  all_locked : Bool
+  lock_listed : Bool
+  tiers : Tiers
+  rule : Option LayerRule
 
-module _ (one other : List Entry) (e : Entry) (same : LooksSame one other) where
-  listed-same : (ids : Msg → Option (List ℕ))
-      → ((user : ℕ) → is_listed ids one user ≡ is_listed ids other user)
-      → (user : ℕ) → is_listed ids (one ++ e ∷ []) user ≡ is_listed ids (other ++ e ∷ []) user
-  listed-same ids were user =
-      listed-push ids user one e
-      ∙ ap (λ b. listed_behind (is_join_of user e) b (ids e.msg) (is_listed ids one user) user)
-      (same.joined user)
-      ∙ ap (λ b. listed_behind (is_join_of user e) (has_joined other user) (ids e.msg) b user)
-      (were user)
-      ∙ sym (listed-push ids user other e)
-
-  -- with one more entry each
-  same-push : LooksSame (one ++ e ∷ []) (other ++ e ∷ [])
-  same-push = record {
-    joined = λ user. joined-push one e user
-        ∙ ap (λ b. is_join_of user e || b) (same.joined user) ∙ sym (joined-push other e user);
-    operators = listed-same said.owners same.operators;
-    trusted = listed-same said.trusted same.trusted;
-    registered = λ user. registered-push one e user
-        ∙ ap (λ b. if is_join_of user e then unwrap_or (said.joined e.msg) false else b)
-        (same.registered user)
-        ∙ sym (registered-push other e user);
-    all_locked = all_locked-push one e
-        ∙ ap (λ b. option_map_or (λ listed. lists listed 0) (said.locked_users e.msg) b)
-        same.all_locked
-        ∙ sym (all_locked-push other e);
-    lock_listed = listed-same said.locked_users same.lock_listed;
-    tiers = tiers-push one e
-        ∙ ap (λ t. unwrap_or (said.feature_tiers e.msg) t) same.tiers ∙ sym (tiers-push other e);
-    rules = λ layer. rule-push one e layer
-        ∙ ap (λ o. option_or (layer_rule layer e.msg) o) (same.rules layer)
-        ∙ sym (rule-push other e layer);
-  }
-
--- with the same entries after
-same-append : (after one other : List Entry) → LooksSame one other
-    → LooksSame (one ++ after) (other ++ after)
-same-append [] one other same =
-    subst (λ es. LooksSame es (other ++ [])) (sym (append-nil one))
-    (subst (LooksSame one) (sym (append-nil other)) same)
-same-append (e ∷ after) one other same =
-    subst (λ es. LooksSame es (other ++ e ∷ after)) (append_assoc one (e ∷ []) after)
-    (subst (LooksSame (one ++ e ∷ [] ++ after)) (append_assoc other (e ∷ []) after)
-    (same-append after (one ++ e ∷ []) (other ++ e ∷ []) (same-push one other e same)))
-
--- an entry that stands in place of a forbidden message
-same-filtered : (before : List Entry) (sender kind : ℕ)
-    → LooksSame (before ++ filtered sender kind ∷ []) before
-same-filtered before sender kind = record {
-  joined = λ user. joined-push before (filtered sender kind) user;
-  operators = λ user. listed-push said.owners user before (filtered sender kind);
-  trusted = λ user. listed-push said.trusted user before (filtered sender kind);
-  registered = λ user. registered-push before (filtered sender kind) user;
-  all_locked = all_locked-push before (filtered sender kind);
-  lock_listed = λ user. listed-push said.locked_users user before (filtered sender kind);
-  tiers = tiers-push before (filtered sender kind);
-  rules = λ layer. rule-push before (filtered sender kind) layer;
+abbrev look : List Entry → ℕ → ℕ → Look
+look history user layer = record {
+  joined = has_joined history user;
+  operator = is_operator history user;
+  trusted = is_trusted history user;
+  registered = is_registered history user;
+  all_locked = are_all_locked history;
+  lock_listed = is_lock_listed history user;
+  tiers = tiers_of history;
+  rule = rule_of history layer;
 }
+
+-- the same after one more entry
+abbrev look_after : ℕ → ℕ → Entry → Look → Look
+look_after user layer e l = record {
+  joined = is_join_of user e || l.joined;
+  operator = listed_behind (is_join_of user e) l.joined (said.owners e.msg) l.operator user;
+  trusted = listed_behind (is_join_of user e) l.joined (said.trusted e.msg) l.trusted user;
+  registered = if is_join_of user e then unwrap_or (said.joined e.msg) false else l.registered;
+  all_locked = option_map_or (λ listed. lists listed 0) (said.locked_users e.msg) l.all_locked;
+  lock_listed =
+      listed_behind (is_join_of user e) l.joined (said.locked_users e.msg) l.lock_listed user;
+  tiers = unwrap_or (said.feature_tiers e.msg) l.tiers;
+  rule = option_or (layer_rule layer e.msg) l.rule;
+}
+
+look-push : (history : List Entry) (e : Entry) (user layer : ℕ)
+    → look (history ++ e ∷ []) user layer ≡ look_after user layer e (look history user layer)
+look-push history e user layer =
+    cc (
+      joined-push history e user,
+      listed-push said.owners user history e,
+      listed-push said.trusted user history e,
+      registered-push history e user,
+      all_locked-push history e,
+      listed-push said.locked_users user history e,
+      tiers-push history e,
+      rule-push history e layer,
+    )
+
+module _ (user layer : ℕ) where
+  -- with the same entries after
+  look-append : (after one other : List Entry) → look one user layer ≡ look other user layer
+      → look (one ++ after) user layer ≡ look (other ++ after) user layer
+  look-append [] one other same =
+      ap (λ es. look es user layer) (append-nil one) ∙ same
+      ∙ ap (λ es. look es user layer) (sym (append-nil other))
+  look-append (e ∷ after) one other same =
+      ap (λ es. look es user layer) (sym (append_assoc one (e ∷ []) after))
+      ∙ look-append after (one ++ e ∷ []) (other ++ e ∷ [])
+      (look-push one e user layer ∙ ap (look_after user layer e) same
+      ∙ sym (look-push other e user layer))
+      ∙ ap (λ es. look es user layer) (append_assoc other (e ∷ []) after)
+
+  -- an entry that stands in place of a forbidden message
+  look-filtered : (before after : List Entry) (sender kind : ℕ)
+      → look (before ++ filtered sender kind ∷ after) user layer ≡ look (before ++ after) user layer
+  look-filtered before after sender kind =
+      ap (λ es. look es user layer) (sym (append_assoc before (filtered sender kind ∷ []) after))
+      ∙ look-append after (before ++ filtered sender kind ∷ []) before
+      (look-push before (filtered sender kind) user layer)
 
 -- ---- what is permitted in them
 
-module _ (one other : List Entry) (same : LooksSame one other) (user : ℕ) where
+module _ (one other : List Entry) (user : ℕ)
+    (same : (layer : ℕ) → look one user layer ≡ look other user layer) where
+  operator-same : is_operator one user ≡ is_operator other user
+  operator-same = ap (λ l. l.operator) (same 0)
+
   tier-same : tier_of one user ≡ tier_of other user
   tier-same =
-      ap (λ b. if b then 0 else if is_trusted one user then 1 else if is_registered one user then 2
-      else 3)
-      (same.operators user)
-      ∙ ap (λ b. if is_operator other user then 0 else if b then 1
-      else if is_registered one user then 2 else 3)
-      (same.trusted user)
-      ∙ ap (λ b. if is_operator other user then 0 else if is_trusted other user then 1
-      else if b then 2 else 3)
-      (same.registered user)
+      let trusted = ap (λ l. l.trusted) (same 0) in
+      let registered = ap (λ l. l.registered) (same 0) in
+      cc (operator-same, trusted, registered)
 
   locked-same : is_locked one user ≡ is_locked other user
   locked-same =
-      ap (λ b. not b && (are_all_locked one || is_lock_listed one user)) (same.operators user)
-      ∙ ap (λ b. not (is_operator other user) && (b || is_lock_listed one user)) same.all_locked
-      ∙ ap (λ b. not (is_operator other user) && (are_all_locked other || b))
-      (same.lock_listed user)
+      let all = ap (λ l. l.all_locked) (same 0) in
+      let listed = ap (λ l. l.lock_listed) (same 0) in
+      cc (operator-same, all, listed)
 
   feature-same : (feature : Tiers → ℕ) → has_feature one user feature
       ≡ has_feature other user feature
   feature-same feature =
-      ap (λ t. nat_le t (feature (tiers_of one))) tier-same
-      ∙ ap (λ t. nat_le (tier_of other user) (feature t)) same.tiers
+      let tiers = ap (λ l. l.tiers) (same 0) in
+      cc (tier-same, tiers)
 
   use-same : (feature : Tiers → ℕ)
       → (not (is_locked one user) && has_feature one user feature)
       ≡ (not (is_locked other user) && has_feature other user feature)
-  use-same feature =
-      ap (λ b. not b && has_feature one user feature) locked-same
-      ∙ ap (λ b. not (is_locked other user) && b) (feature-same feature)
+  use-same feature = cc (locked-same, feature-same feature)
 
-  lets-same : (rule : LayerRule) → lets_paint one user rule ≡ lets_paint other user rule
-  lets-same rule =
-      ap (λ b. not rule.locked && (b || (nat_le (tier_of one user) rule.tier
-      && is_open_to rule.ids user)))
-      (same.operators user)
-      ∙ ap (λ t. not rule.locked &&
-      (is_operator other user || (nat_le t rule.tier && is_open_to rule.ids user)))
-      tier-same
-
-  lets-same_of : (o : Option LayerRule)
+  lets-same : (o : Option LayerRule)
       → option_map_or (lets_paint one user) o true ≡ option_map_or (lets_paint other user) o true
-  lets-same_of None = refl
-  lets-same_of (Some rule) = lets-same rule
+  lets-same None = refl
+  lets-same (Some rule) = cc (operator-same, tier-same)
 
   paint-same : (layer : ℕ) → may_paint one user layer ≡ may_paint other user layer
   paint-same layer =
-      ap (λ b. not b && option_map_or (lets_paint one user) (rule_of one layer) true) locked-same
-      ∙ ap (λ o. not (is_locked other user) && option_map_or (lets_paint one user) o true)
-      (same.rules layer)
-      ∙ ap (λ b. not (is_locked other user) && b) (lets-same_of (rule_of other layer))
+      let rule = ap (λ l. option_map_or (lets_paint one user) l.rule true) (same layer) in
+      cc (locked-same, rule, lets-same (rule_of other layer))
 
   paint_by-same : (layer : ℕ) (feature : Tiers → ℕ)
       → (may_paint one user layer && has_feature one user feature)
       ≡ (may_paint other user layer && has_feature other user feature)
-  paint_by-same layer feature =
-      ap (λ b. b && has_feature one user feature) (paint-same layer)
-      ∙ ap (λ b. may_paint other user layer && b) (feature-same feature)
+  paint_by-same layer feature = cc (paint-same layer, feature-same feature)
 
   edit-same : (layer : ℕ) → may_edit_layer one user layer ≡ may_edit_layer other user layer
   edit-same layer =
-      ap (λ b. not b && (has_feature one user (λ tiers. tiers.edit_layers)
-      || (has_feature one user (λ tiers. tiers.own_layers) && creator_of layer == user)))
-      locked-same
-      ∙ ap (λ b. not (is_locked other user) && (b
-      || (has_feature one user (λ tiers. tiers.own_layers) && creator_of layer == user)))
-      (feature-same (λ tiers. tiers.edit_layers))
-      ∙ ap (λ b. not (is_locked other user) && (has_feature other user (λ tiers. tiers.edit_layers)
-      || (b && creator_of layer == user))) (feature-same (λ tiers. tiers.own_layers))
+      cc (
+        locked-same,
+        feature-same (λ tiers. tiers.edit_layers),
+        feature-same (λ tiers. tiers.own_layers),
+      )
 
   undo-cases : (own : Bool)
       → (if own then not (is_locked one user) && has_feature one user (λ tiers. tiers.undo)
       else is_operator one user)
       ≡ (if own then not (is_locked other user) && has_feature other user (λ tiers. tiers.undo)
       else is_operator other user)
-  undo-cases true = use-same (λ tiers. tiers.undo)
-  undo-cases false = same.operators user
+  undo-cases own = cc (use-same (λ tiers. tiers.undo), operator-same)
 
   control-same : (m : Control) → permits_control one user m ≡ permits_control other user m
   control-same (control.Hello name) = refl
@@ -242,22 +222,22 @@ module _ (one other : List Entry) (same : LooksSame one other) (user : ℕ) wher
   control-same (control.Ping pong) = refl
   control-same (control.Ack epoch) = refl
   control-same (control.Welcome version welcomed epoch at) = refl
-  control-same control.ResetBegin = same.operators user
-  control-same control.ResetEnd = same.operators user
+  control-same control.ResetBegin = operator-same
+  control-same control.ResetEnd = operator-same
 
   meta-same : (m : Meta) → permits_meta one user m ≡ permits_meta other user m
   meta-same (meta.Join registered name) = refl
   meta-same meta.Leave = refl
-  meta-same (meta.Owners ids) = same.operators user
+  meta-same (meta.Owners ids) = operator-same
   meta-same (meta.Chat text) = refl
-  meta-same (meta.Trusted ids) = same.operators user
+  meta-same (meta.Trusted ids) = operator-same
   meta-same (meta.ResetMark epoch carried) = refl
   meta-same (meta.Laser x y) = feature-same (λ tiers. tiers.laser)
   meta-same (meta.MovePointer x y) = refl
-  meta-same (meta.UserAcl ids) = same.operators user
+  meta-same (meta.UserAcl ids) = operator-same
   meta-same (meta.LayerAcl layer locked tier ids) = ap (λ b. b || creator_of layer == user)
-      (same.operators user)
-  meta-same (meta.FeatureTiers tiers) = same.operators user
+      operator-same
+  meta-same (meta.FeatureTiers tiers) = operator-same
   meta-same (meta.Filtered kind) = refl
 
   draw-same : (m : Draw) → permits_draw one user m ≡ permits_draw other user m
@@ -279,7 +259,7 @@ module _ (one other : List Entry) (same : LooksSame one other) (user : ℕ) wher
   permitted-same : (m : Msg) → permitted one user m ≡ permitted other user m
   permitted-same (msg.Control m) = control-same m
   permitted-same (msg.Meta m) = meta-same m
-  permitted-same (msg.Part command) = same.operators user
+  permitted-same (msg.Part command) = operator-same
   permitted-same msg.Point = ap not locked-same
   permitted-same (msg.Undo target redo) = undo-cases (target == 0 || target == user)
   permitted-same (msg.Draw command) = draw-same command
@@ -287,10 +267,8 @@ module _ (one other : List Entry) (same : LooksSame one other) (user : ℕ) wher
 
 pub forbidden_changes_nothing : ForbiddenChangesNoRight
 forbidden_changes_nothing before after sender kind user m =
-    ap (λ es. permitted es user m) (sym (append_assoc before (filtered sender kind ∷ []) after))
-    ∙ permitted-same (before ++ filtered sender kind ∷ [] ++ after) (before ++ after)
-    (same-append after (before ++ filtered sender kind ∷ []) before
-    (same-filtered before sender kind)) user m
+    permitted-same (before ++ filtered sender kind ∷ after) (before ++ after) user
+    (λ layer. look-filtered user layer before after sender kind) m
 
 -- ---- operators
 

@@ -1,8 +1,8 @@
 -- What is kept after one more entry stands for the longer history.
-use Rattle.std.proofs.Common.{◌≡◌, ℕ, ◌<◌, ◌==◌, ◌||◌, Bool, true, false, if◌then◌else◌}
-use Rattle.std.proofs.Common.{List, [], ◌∷◌, ◌++◌, All, Option, Some, None, IfSome, unwrap_or}
+use Rattle.std.proofs.Common.{◌≡◌, ℕ, ◌<◌, ◌==◌, Bool, true, false, if◌then◌else◌}
+use Rattle.std.proofs.Common.{List, [], ◌∷◌, ◌++◌, All, Option, Some, None, IfSome}
 use Rattle.std.proofs.Common.{rules, refl, sym, ap, subst, ◌∙◌}
-use Rattle.std.specs.Option.{option_map, option_map_or, option_or}
+use Rattle.std.specs.Option.{option_map, option_or}
 use Rattle.dp_msg_meta.specs.declared.message.Meta.{Meta}
 use Rattle.dp_msg_meta.specs.declared.message.Meta.TheVariants.{LayerAcl}
 use Rattle.dp_messages.specs.declared.message.Msg.{Msg}
@@ -11,10 +11,10 @@ use Rattle.dp_messages.specs.declared.message.Entry.{Entry}
 use Rattle.dp_acl.specs.LookBack as said
 use Rattle.dp_acl.specs.LookBack.{lists, LayerRule, layer_rule, is_join_of, has_joined}
 use Rattle.dp_acl.specs.Rights.{is_listed, rule_of}
-use Rattle.dp_acl.specs.Table.{Kept, KeptRule, Mark, mark_of, kept_rule, rule_in_order, StandsFor}
+use Rattle.dp_acl.specs.Table.{Kept, KeptRule, Mark, kept_rule, rule_in_order, StandsFor}
 use Rattle.dp_acl.specs.Marks.{marked}
 use Rattle.dp_acl.specs.Step.{meta_entry, listed_after, IsKeptAfter}
-use Rattle.dp_acl.proofs.PushLemmas.{joined-push, listed_behind, listed-push, registered-push}
+use Rattle.dp_acl.proofs.PushLemmas.{joined-push, listed-push, registered-push}
 use Rattle.dp_acl.proofs.PushLemmas.{all_locked-push}
 use Rattle.dp_acl.proofs.PushLemmas.{tiers-push, rule-push}
 use Rattle.dp_acl.proofs.IdLemmas.{marked-in_order}
@@ -35,41 +35,35 @@ module _ (before after : Kept) (history : List Entry) (e : Entry)
       → Mark new (listed_after before e (ids e.msg) old) → Mark old (is_listed ids history)
       → Mark new (is_listed ids (history ++ e ∷ []))
   listed-step ids old new marks was user low =
-      marks user low
-      ∙ ap (λ b. listed_behind (is_join_of user e) b (ids e.msg) (mark_of old user) user)
-      (stands.joined user low)
-      ∙ ap (λ b. listed_behind (is_join_of user e) (has_joined history user) (ids e.msg) b user)
-      (was user low)
-      ∙ sym (listed-push ids user history e)
+      rw (marks user low, stands.joined user low, was user low, listed-push ids user history e) refl
 
   -- what is kept after the entry stands for the history with it
   pub stands-push : StandsFor after (history ++ e ∷ [])
   stands-push = record {
-    joined = λ user low. step.joined user low
-        ∙ ap (λ b. is_join_of user e || b) (stands.joined user low)
-        ∙ sym (joined-push history e user);
+    joined = λ user low. cc (
+      step.joined user low,
+      stands.joined user low,
+      joined-push history e user,
+    );
     operators = listed-step said.owners before.operators after.operators step.operators
         stands.operators;
     trusted = listed-step said.trusted before.trusted after.trusted step.trusted stands.trusted;
-    registered = λ user low. step.registered user low
-        ∙ ap (λ b. if is_join_of user e then unwrap_or (said.joined e.msg) false else b)
-        (stands.registered user low)
-        ∙ sym (registered-push history e user);
-    all_locked = step.all_locked
-        ∙ ap (λ b. option_map_or (λ listed. lists listed 0) (said.locked_users e.msg) b)
-        stands.all_locked
-        ∙ sym (all_locked-push history e);
+    registered = λ user low. cc (
+      step.registered user low,
+      stands.registered user low,
+      registered-push history e user,
+    );
+    all_locked = cc (step.all_locked, stands.all_locked, all_locked-push history e);
     lock_listed = listed-step said.locked_users before.lock_listed after.lock_listed
         step.lock_listed
         stands.lock_listed;
-    tiers = step.tiers
-        ∙ ap (λ t. unwrap_or (said.feature_tiers e.msg) t) stands.tiers
-        ∙ sym (tiers-push history e);
-    rules = λ layer small. step.rules layer small
-        ∙ ap (λ o. option_or (option_map rule_in_order (layer_rule layer e.msg)) o)
-        (stands.rules layer small)
-        ∙ sym (map-or rule_in_order (layer_rule layer e.msg) (rule_of history layer))
-        ∙ ap (option_map rule_in_order) (sym (rule-push history e layer));
+    tiers = cc (step.tiers, stands.tiers, tiers-push history e);
+    rules = λ layer small. cc (
+      step.rules layer small,
+      stands.rules layer small,
+      map-or rule_in_order (layer_rule layer e.msg) (rule_of history layer),
+      rule-push history e layer,
+    );
     ids = λ layer small. subst (λ o. IfSome o (λ rule. All (λ id. id < 256) rule.ids))
         (sym (rule-push history e layer))
         (some-or (λ rule. All (λ id. id < 256) rule.ids) (layer_rule layer e.msg)

@@ -1,7 +1,7 @@
 -- What an event makes of a state, as it is planned.
 use Rattle.std.proofs.Common.{◌≡◌, ℕ, ◌+◌, ◌-◌, ◌<◌, ◌≤◌, Bool, true, false, not, ◌&&◌}
 use Rattle.std.proofs.Common.{if◌then◌else◌, nat_le, IsSome}
-use Rattle.std.proofs.Common.{List, [], ◌∷◌, ◌++◌, length, set, Option, None, Some, is_some}
+use Rattle.std.proofs.Common.{List, [], ◌∷◌, length, set, Option, None, Some, is_some}
 use Rattle.std.proofs.Common.{refl, sym, ap, subst, ◌∙◌, ⊎_elim, arith, append-nil, append_assoc}
 use Rattle.std.specs.Prelude.{option_to_list}
 use Rattle.std.specs.List.{list_any, find, slice_get}
@@ -11,7 +11,7 @@ use Rattle.std.proofs.lemmas.Str.{IsUtf8-from_is_utf8, is_utf8-from_IsUtf8}
 use Rattle.std.proofs.Math.ListN.{length-set}
 use Rattle.std.specs.Str.{IsUtf8, is_utf8}
 use Rattle.dp_msg_meta.specs.Fields.{IsText}
-use Rattle.dp_msg_meta.specs.declared.message.Meta.TheVariants.{Join, Leave}
+use Rattle.dp_msg_meta.specs.declared.message.Meta.TheVariants.{Leave}
 use Rattle.dp_messages.specs.declared.message.Msg.{Msg}
 use Rattle.dp_messages.specs.declared.message.Msg.TheVariants as msg
 use Rattle.dp_messages.specs.declared.message.Entry.{Entry}
@@ -28,11 +28,10 @@ use Rattle.dp_events.specs.declared.event.Reply.TheVariants as reply
 use Rattle.dp_tables.specs.declared.plan.Change.TheVariants.{Becomes}
 use Rattle.dp_events.specs.declared.decision.Decision.{Decision}
 use Rattle.dp_events.specs.declared.decision.Decision.TheVariants as decision
-use Rattle.dp_epochs.specs.State.{State, Stream, Acted, acted, stays, here, epoch_of, entry_of}
+use Rattle.dp_epochs.specs.State.{State, Stream, acted, stays, here, epoch_of, entry_of}
 use Rattle.dp_epochs.specs.State.{is_name}
 use Rattle.dp_events.specs.Connections.{is_open}
 use Rattle.dp_epochs.specs.State.{is_present, free_id, user_ids, opened_as}
-use Rattle.dp_epochs.specs.State.{new_connection}
 use Rattle.dp_epochs.specs.State.{connection_in, where_open, open_in, with_connection, left}
 use Rattle.dp_epochs.specs.State.{closed_by, owner_on_join, owner_on_leave, next_owner}
 use Rattle.dp_epochs.specs.State.{present_users, stream_without, says_by, acted_by, decided}
@@ -56,8 +55,7 @@ pub plan-still : (s : State) (e : Event) (r : Reply) → acted s e ≡ stays s r
     → IsPlan s e (still_plan e r)
 plan-still s e r is = record {
   event = refl;
-  acted = is ∙ ap (λ live. record { state = record s { live = live }; reply = r })
-      (sym (append-nil s.live));
+  acted = rw (is, append-nil s.live) refl;
   change = tt;
 }
 
@@ -138,14 +136,7 @@ module _ (s : State) (t : Seen) (are : AreOf s t) where
       ∙ sym next in
       record {
         event = refl;
-        acted = opens name registered (Some user) named found
-            ∙ ap (λ tail. record {
-              state = record s {
-                live = s.live ++ (entry_of user (msg.Meta (Join registered name)) ∷ tail);
-                connections = s.connections ++ new_connection s user ∷ [];
-              };
-              reply = reply.Opened (length s.connections + 1) user (epoch_of s) (length s.live);
-            }) behind;
+        acted = cc (opens name registered (Some user) named found, behind);
         change = (refl, not_true (is_present s user) free.1);
       }
 
@@ -202,37 +193,25 @@ module _ (s : State) (t : Seen) (are : AreOf s t) where
         (λ user. mark (set t.present c.user false) user && is_operator s.live user)
         (λ k small. ap (λ b. b && is_operator gone.live k) (left-marked k small)
         ∙ ap (λ b. mark (set t.present c.user false) k && b) (left-operator k)) in
-        ap (λ b. next_owner (if is_operator s.live c.user && not b
-        then find (is_present gone) user_ids else None)) any_is
-        ∙ ap (λ o. next_owner (if is_operator s.live c.user && not (list_any
-        (λ user. mark (set t.present c.user false) user && is_operator s.live user) user_ids)
-        then o else None))
-        (find_user-same (is_present gone) (mark (set t.present c.user false)) left-marked)
-        ∙ sym next
+        let find_is = find_user-same (is_present gone) (mark (set t.present c.user false))
+        left-marked in
+        cc (any_is, find_is, next)
 
     plan-leaves : (second : Option Entry)
         → option_to_list second ≡ next_owner (next_operator (is_operator s.live)
         (set t.present c.user false) c.user)
         → IsPlan s (event.Close conn) (leave_plan conn c (here s) second)
     plan-leaves second next =
-        let made : List Entry → Option Stream → Acted = λ live stream. record {
-          state = record s {
-            live = live;
-            connections = set s.connections (conn - 1) ended_one;
-            stream = stream;
-          };
-          reply = reply.Placed (epoch_of s) (length s.live);
-        } in
         let leave = entry_of c.user (msg.Meta Leave) in
+        let owners = next_owner (owner_on_leave (is_operator s.live c.user) (left s conn c)) in
         record {
           event = refl;
           acted = ap (λ o. option_map_or (closed_by s conn) o (stays s reply.Ignored)) found
-              ∙ ap (λ live. made live (stream_without conn s.stream))
-              (append_assoc s.live (leave ∷ []) (next_owner (owner_on_leave
-              (is_operator s.live c.user) (left s conn c)))
-              ∙ ap (λ o. s.live ++ (leave ∷ o)) (owners-planned second next))
-              ∙ ap (λ stream. made (s.live ++ (leave ∷ option_to_list second)) stream)
-              (stays_none conn s.stream are.stream);
+              ∙ cc (
+                append_assoc s.live (leave ∷ []) owners,
+                owners-planned second next,
+                stays_none conn s.stream are.stream,
+              );
           change = may-become s.connections conn c ended_one found refl;
         }
 
@@ -268,14 +247,7 @@ module _ (s : State) (conn : ℕ) (c : Connection) (found : open_connection s co
       let d : Connection = record c { acknowledged = epoch_of s } in
       subst (λ k. IsPlan s (event.Say conn m) (ack_plan conn c k m)) (sym epoch_is) (record {
         event = refl;
-        acted = say-acted decision.Acknowledge is
-            ∙ ap (λ live. record {
-              state = record s {
-                live = live;
-                connections = set s.connections (conn - 1) d;
-              };
-              reply = reply.Noted;
-            }) (sym (append-nil s.live));
+        acted = say-acted decision.Acknowledge is ∙ cc (append-nil s.live);
         change = may-become s.connections conn c d found refl;
       })
 
@@ -301,20 +273,14 @@ pub next-is : (operates : ℕ → Bool) (present : List Bool) (user : ℕ) (o p 
     → o ≡ find (λ other. mark present other && operates other) user_ids → is_some o ≡ false
     → p ≡ find (mark present) user_ids → p ≡ next_operator operates present user
 next-is operates present user o p operating found none next =
-    next
-    ∙ sym (ap (λ b. if b && not (list_any (λ other. mark present other && operates other) user_ids)
-    then find (mark present) user_ids else None) operating
-    ∙ ap (λ b. if not b then find (mark present) user_ids else None)
-    (list_any-find (λ other. mark present other && operates other) user_ids ∙ ap is_some (sym found)
-    ∙ none))
+    let any = list_any-find (λ other. mark present other && operates other) user_ids in
+    cc (any, operating, found, none, next)
 
 -- none does, where the user was no operator
 pub next-no_operator : (operates : ℕ → Bool) (present : List Bool) (user : ℕ)
     → operates user ≡ false
     → None ≡ next_operator operates present user
-next-no_operator operates present user no_one =
-    sym (ap (λ b. if b && not (list_any (λ other. mark present other && operates other) user_ids)
-    then find (mark present) user_ids else None) no_one)
+next-no_operator operates present user no_one = cc
 
 -- none does, where an operator stays
 pub next-operator_stays : (operates : ℕ → Bool) (present : List Bool) (user : ℕ) (o : Option ℕ)
@@ -322,11 +288,8 @@ pub next-operator_stays : (operates : ℕ → Bool) (present : List Bool) (user 
     → o ≡ find (λ other. mark present other && operates other) user_ids → is_some o ≡ true
     → None ≡ next_operator operates present user
 next-operator_stays operates present user o operating found some =
-    sym (ap (λ b. if b && not (list_any (λ other. mark present other && operates other) user_ids)
-    then find (mark present) user_ids else None) operating
-    ∙ ap (λ b. if not b then find (mark present) user_ids else None)
-    (list_any-find (λ other. mark present other && operates other) user_ids ∙ ap is_some (sym found)
-    ∙ some))
+    let any = list_any-find (λ other. mark present other && operates other) user_ids in
+    cc (any, operating, found, some)
 
 -- ---- a Close that was left out
 

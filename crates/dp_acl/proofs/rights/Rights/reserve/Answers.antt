@@ -1,5 +1,5 @@
 use Rattle.std.proofs.Common.{sym, subst}
-use Rattle.dp_acl.specs.Table.{Kept, StandsFor}
+use Rattle.dp_acl.specs.Table.{StandsFor}
 use Rattle.dp_acl.specs.contracts.rights.Rights.{the_view}
 use Rattle.dp_acl.proofs.StepLemmas.{stands-room}
 use Rattle.dp_acl.proofs.rights.Rights.reserve.Goals as goal
