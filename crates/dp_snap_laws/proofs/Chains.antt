@@ -3,7 +3,8 @@
 use Rattle.std.proofs.Common.{◌≡◌, ◌≢◌, ◌==◌, ℕ, zero, suc, Bool, true, false, ◌&&◌, ◌||◌}
 use Rattle.std.proofs.Common.{List, [], ◌∷◌, ◌++◌, map, refl, ap, sym, ◌∙◌, subst, ◌⊎◌, inl, inr}
 use Rattle.std.proofs.Common.{⊎_elim, eq-eqb, get_or}
-use Rattle.std.specs.Prelude.{All}
+use Rattle.std.specs.Prelude.{All, Option, Some, is_some}
+use Rattle.std.specs.Option.{option_map_or}
 use Rattle.std.specs.List.{list_all}
 use Rattle.std.proofs.lemmas.Bool.{cases_Bool, eqb-true, ne_eqb, false≢true, or_cases, or_left}
 use Rattle.std.proofs.lemmas.Bool.{or_right, or_from, cases_eq, false_from_ne_true}
@@ -11,7 +12,8 @@ use Rattle.std.proofs.lemmas.List.Elements.{All-head, All-tail, All-map, All-app
 use Rattle.std.proofs.lemmas.List.Folds.{list_all-append, list_all-map}
 use Rattle.std.proofs.lemmas.List.Sums.{list_all-from_AllPass}
 use Rattle.dp_layers.specs.declared.row.LayerRow.{LayerRow}
-use Rattle.dp_layers.specs.Layers.{nesting_limit, has_id, has_row, is_group_row, is_root_or_group}
+use Rattle.dp_layers.specs.Layers.{nesting_limit, has_id, has_row, row_of, is_group_row}
+use Rattle.dp_layers.specs.Layers.{is_root_or_group}
 use Rattle.dp_layers.specs.Layers.{parent_of, is_within, is_below, is_in, are_within}
 use Rattle.dp_layers.specs.Changes.{new_row}
 use Rattle.dp_layers.specs.Tree.{IsLayerTree}
@@ -50,36 +52,35 @@ half_parent (row ∷ front) rest id =
     (λ (missed : (row.id == id) ≡ false). rw missed (half_parent front rest id))
     (cases_Bool (row.id == id))
 
-pub root_has : (rest : List LayerRow) (id : ℕ) → has_row (map at_root rest) id ≡ has_row rest id
-root_has [] id = refl
-root_has (row ∷ rest) id =
-    ⊎_elim (λ (here : (row.id == id) ≡ true). rw here refl)
-    (λ (missed : (row.id == id) ≡ false). rw missed (root_has rest id))
-    (cases_Bool (row.id == id))
+-- what is read of the row of an id, where a row says the same in its place and at the root
+module _ {X : Type 0} (read : Option LayerRow → X)
+    (placed : (row : LayerRow) → read (Some (in_place row)) ≡ read (Some row))
+    (rooted : (row : LayerRow) → read (Some (at_root row)) ≡ read (Some row)) where
+  root_read : (rest : List LayerRow) (id : ℕ)
+      → read (row_of (map at_root rest) id) ≡ read (row_of rest id)
+  root_read [] id = refl
+  root_read (row ∷ rest) id =
+      ⊎_elim (λ (here : (row.id == id) ≡ true). rw here (rooted row))
+      (λ (missed : (row.id == id) ≡ false). rw missed (root_read rest id))
+      (cases_Bool (row.id == id))
+
+  half_read : (front rest : List LayerRow) (id : ℕ)
+      → read (row_of (half front rest) id) ≡ read (row_of (front ++ rest) id)
+  half_read [] rest id = root_read rest id
+  half_read (row ∷ front) rest id =
+      ⊎_elim (λ (here : (row.id == id) ≡ true). rw here (placed row))
+      (λ (missed : (row.id == id) ≡ false). rw missed (half_read front rest id))
+      (cases_Bool (row.id == id))
 
 pub half_has : (front rest : List LayerRow) (id : ℕ)
     → has_row (half front rest) id ≡ has_row (front ++ rest) id
-half_has [] rest id = root_has rest id
-half_has (row ∷ front) rest id =
-    ⊎_elim (λ (here : (row.id == id) ≡ true). rw here refl)
-    (λ (missed : (row.id == id) ≡ false). rw missed (half_has front rest id))
-    (cases_Bool (row.id == id))
-
-root_group : (rest : List LayerRow) (id : ℕ)
-    → is_group_row (map at_root rest) id ≡ is_group_row rest id
-root_group [] id = refl
-root_group (row ∷ rest) id =
-    ⊎_elim (λ (here : (row.id == id) ≡ true). rw here refl)
-    (λ (missed : (row.id == id) ≡ false). rw missed (root_group rest id))
-    (cases_Bool (row.id == id))
+half_has front rest id = half_read (λ o. is_some o) (λ row. refl) (λ row. refl) front rest id
 
 half_group : (front rest : List LayerRow) (id : ℕ)
     → is_group_row (half front rest) id ≡ is_group_row (front ++ rest) id
-half_group [] rest id = root_group rest id
-half_group (row ∷ front) rest id =
-    ⊎_elim (λ (here : (row.id == id) ≡ true). rw here refl)
-    (λ (missed : (row.id == id) ≡ false). rw missed (half_group front rest id))
-    (cases_Bool (row.id == id))
+half_group front rest id =
+    half_read (λ o. option_map_or (λ row. row.group) o false) (λ row. refl) (λ row. refl) front rest
+    id
 
 pub half_root_or_group : (front rest : List LayerRow) (id : ℕ)
     → is_root_or_group (half front rest) id ≡ is_root_or_group (front ++ rest) id

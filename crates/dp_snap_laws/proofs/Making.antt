@@ -28,7 +28,7 @@ use Rattle.dp_snap.specs.Snapshot.{create_of, moves_after, is_as_created, attrs_
 use Rattle.dp_snap_laws.proofs.Lists.{NonePasses, All-middle, filter_one, filter_rest, behind_one}
 use Rattle.dp_snap_laws.proofs.Lists.{map_one}
 use Rattle.dp_snap_laws.proofs.Chains.{in_place, at_root, half, half_has, has_middle, has_none}
-use Rattle.dp_snap_laws.proofs.Chains.{root_has, half_within, row_numbered, front_away, rest_away}
+use Rattle.dp_snap_laws.proofs.Chains.{half_within, row_numbered, front_away, rest_away}
 use Rattle.dp_snap_laws.proofs.Chains.{parent_there, parent_free}
 
 -- the board with these rows
@@ -60,7 +60,7 @@ module _ (board : Board) where
       map-map (λ (r : Row (List Channels)). r.layer) root_row front in
       let some : (row.id == 0) ≡ false = ne_eqb row.id 0 (row_numbered front row rest tree) in
       let new : has_row (layers_of (map root_row front)) row.id ≡ false =
-      ap (λ ls. has_row ls row.id) layers ∙ root_has front row.id
+      ap (λ ls. has_row ls row.id) layers ∙ half_has [] front row.id
       ∙ has_none front row.id (front_away front row rest tree) in
       let few : nat_lt (length (layers_of (map root_row front))) row_limit ≡ true =
       lt-ltb (length (layers_of (map root_row front))) row_limit
