@@ -1,0 +1,50 @@
+-- Headers of recordings.
+use Rattle.std.specs.Prelude.{◌≡◌, ◌≢◌, ◌⊎◌, ℕ, ◌+◌, ◌<◌, ◌≤◌, List, [], ◌∷◌, ◌++◌, length, take, drop}
+use Rattle.std.specs.Prelude.{Some, codes, option_and_then, IsUtf8}
+use Rattle.byteorder.specs.Endian.{big_number}
+use Rattle.serde_json.specs.Find.{as_str, get}
+use Rattle.serde_json.specs.Read.{read}
+use Rattle.dp_recording.specs.declared.header.HeaderError.{HeaderError}
+use Rattle.dp_recording.specs.declared.header.HeaderError.TheVariants.{Bad, Short, Memory}
+
+-- the first bytes of each recording
+abbrev pub magic : List ℕ
+magic = codes "DPREC" ++ 0 ∷ []
+
+-- The text is JSON whose key `profile` has this string: of equal keys the last one counts, and what
+-- is no object has no keys.
+abbrev pub TellsProfile : List ℕ → List ℕ → Type 0
+TellsProfile text profile =
+    IsUtf8 text
+    × (option_and_then as_str (option_and_then (get (codes "profile")) (read text)) ≡ Some profile)
+
+-- how long the header is that the bytes announce: the two bytes after the first six say how long
+-- its text is
+abbrev pub announced : List ℕ → ℕ
+announced bytes = 8 + big_number 2 (drop 6 bytes)
+
+-- the bytes begin with a header of so many
+pub record IsHeader (bytes : List ℕ) (len : ℕ) : Type 0 where
+  pub begins : take 6 bytes ≡ magic
+  pub long : len ≡ announced bytes
+  pub whole : len ≤ length bytes
+  pub profile : TellsProfile (drop 8 (take len bytes)) (codes "dp-int-1")
+
+-- the bytes begin with no header
+abbrev pub HasNoHeader : List ℕ → Type 0
+HasNoHeader bytes = (len : ℕ) → IsHeader bytes len → ⊥
+
+-- the bytes agree with the first six as far as both go, and are too few for a header
+pub record IsShort (bytes : List ℕ) : Type 0 where
+  pub begins : take 6 bytes ≡ take (length bytes) magic
+  pub few : (length bytes < 8) ⊎ (length bytes < announced bytes)
+
+-- why the bytes begin with no header
+abbrev pub IsRefused : List ℕ → HeaderError → Type 0
+IsRefused bytes Bad = HasNoHeader bytes × (IsShort bytes → ⊥)
+IsRefused bytes Short = IsShort bytes
+IsRefused bytes Memory = Unit {0}
+
+-- the header that is written
+abbrev pub header_bytes : List ℕ
+header_bytes = magic ++ 0 ∷ 22 ∷ codes "{\"profile\":\"dp-int-1\"}"

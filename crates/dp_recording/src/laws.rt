@@ -1,0 +1,38 @@
+//! Laws of recordings. Each function does nothing: its contract is the law.
+
+ghost use Rattle.std.specs.Prelude.{◌≡◌, ℕ, List, ◌++◌};
+ghost use Rattle.dp_messages.specs.declared.message.Entry.{Entry};
+ghost use Rattle.dp_lines.specs.declared.run_end.RunEnd.{RunEnd};
+ghost use Rattle.dp_recording.specs.Headers.{HasNoHeader, IsHeader, IsShort, header_bytes};
+ghost use Rattle.dp_recording.specs.Recordings.{RecordingComesTo};
+
+use dp_entries::{Anywhere, one_reading};
+
+/// Bytes begin with one header at most, and more bytes after it change nothing. Bytes that are too
+/// few for a header begin with none; others that begin with none never do.
+pub fn one_header()
+    ensures one { (bytes : List ℕ) (len other : ℕ) → IsHeader bytes len → IsHeader bytes other
+        → len ≡ other }
+    ensures goes_on { (bytes more : List ℕ) (len : ℕ) → IsHeader bytes len
+        → IsHeader (bytes ++ more) len }
+    ensures short { (bytes : List ℕ) → IsShort bytes → HasNoHeader bytes }
+    ensures none { (bytes more : List ℕ) → HasNoHeader bytes → ¬ IsShort bytes
+        → HasNoHeader (bytes ++ more) }
+{}
+
+/// The header that is written is one, whatever comes after it.
+pub fn the_header_is_one()
+    ensures { (more : List ℕ) → IsHeader (header_bytes ++ more) 30 }
+{}
+
+/// A recording comes to at most one end, with one list of entries.
+pub fn one_recording()
+    ensures entries { (input : List ℕ) (entries others : List Entry) (end other : RunEnd)
+        → RecordingComesTo input entries end → RecordingComesTo input others other
+        → entries ≡ others }
+    ensures end { (input : List ℕ) (entries others : List Entry) (end other : RunEnd)
+        → RecordingComesTo input entries end → RecordingComesTo input others other → end ≡ other }
+{
+    one_header();
+    one_reading::<Anywhere>();
+}

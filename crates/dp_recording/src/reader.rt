@@ -1,0 +1,286 @@
+//! Reading a recording.
+
+ghost use Rattle.std.specs.Prelude.{◌≡◌, ◌<◌, ◌≤◌, ◌⊎◌, ℕ, List, [], ◌∷◌, ◌++◌, length, Err, Some};
+ghost use Rattle.std.specs.Prelude.{IfOk, IfErr, IfSome, IfNone, OnOk, Option};
+ghost use Rattle.dp_messages.specs.declared.message.Entry.{Entry as Item};
+ghost use Rattle.dp_recording.specs.declared.reader.RecError.{RecError as Error};
+ghost use Rattle.dp_recording.specs.declared.reader.RecError.TheVariants.{Memory};
+ghost use Rattle.dp_recording.specs.declared.reader.Phase.TheVariants.{New, Reading, Finished};
+ghost use Rattle.dp_recording.specs.declared.reader.Phase.TheVariants.{Failed};
+ghost use Rattle.dp_recording.specs.Headers.{IsHeader, IsShort};
+ghost use Rattle.dp_recording.specs.Recordings.{Blames, EndsEarly, EndsLate, EndsRecording, HasReadOf};
+ghost use Rattle.dp_recording.specs.Recordings.{HoldsHeader, end_of, error_of};
+
+use crate::header::{HeaderError, read_header};
+use dp_entries::{Anywhere, EntryReader, ReadEnd};
+use dp_io::{Failed as ReadFailed, Source};
+use dp_lines::RunEnd;
+use dp_lists::rest_of;
+use dp_messages::{DecodeError, Entry};
+use std::alloc::{AllocError, Global};
+use std::marker::Model;
+use std::mem;
+use thiserror::Error;
+
+/// So many bytes of a recording count.
+const LIMIT: u64 = 1 << 30;
+
+/// Why a recording gives no further entry. Places are counted from the input's start.
+#[derive(Clone, Copy, Debug, PartialEq, Eq, Error)]
+pub enum RecError {
+    /// It begins with no header.
+    #[error("the recording has no header")]
+    BadHeader,
+    /// It ends inside the frame at this byte.
+    #[error("the recording ends inside the frame at {at}")]
+    Truncated { at: u64 },
+    /// The frame at this byte carries no message.
+    #[error("the frame at {at} carries no message: {why}")]
+    Message { at: u64, why: DecodeError },
+    #[error("the recording was not read")]
+    ReadFault,
+    /// It has more than 1 GiB.
+    #[error("the recording is too long")]
+    Long,
+    #[error("out of memory")]
+    Memory,
+}
+
+impl RecError {
+    /// How a run ends for which reading its recording ended so.
+    pub fn run_end(&self) -> RunEnd
+        ensures { result ≡ end_of self.now }
+    {
+        match self {
+            RecError::BadHeader => RunEnd::BadHeader,
+            RecError::Truncated { at } => RunEnd::Truncated(*at),
+            RecError::Message { at, why: _ } => RunEnd::BadMessage(*at),
+            RecError::ReadFault => RunEnd::ReadFault,
+            RecError::Long => RunEnd::Long,
+            RecError::Memory => RunEnd::Memory,
+        }
+    }
+}
+
+/// How far a reader is.
+#[derive(Drop)]
+pub enum Phase {
+    /// It has read nothing.
+    New,
+    /// It reads the entries after the header.
+    Reading(EntryReader<Anywhere>),
+    /// It came to the end, after a whole frame.
+    Finished,
+    /// It ended so.
+    Failed(RecError),
+}
+
+/// The entries of a recording, pulled one at a time of a source. Contracts see how far it is.
+#[derive(Drop)]
+pub struct RecordingReader {
+    phase: Phase,
+}
+
+impl Model for RecordingReader {
+    ghost use Rattle.dp_recording.specs.declared.reader.Phase.{Phase as Progress};
+
+    ghost Value = { Progress };
+
+    ghost view = { λ r. r.phase };
+}
+
+impl RecordingReader {
+    /// A reader that has read nothing.
+    pub fn new() -> RecordingReader
+        ensures { result ≡ New }
+    {
+        RecordingReader { phase: Phase::New }
+    }
+
+    /// Gives the next entry; `None` at the end after a whole frame, and from then on. It reads
+    /// pieces of at most 4096 bytes, and only where no whole frame is held.
+    ///
+    /// # Errors
+    ///
+    /// Each as `RecError` says. After an error it gives the same error again, and reads nothing.
+    pub fn next<I: Source>(
+        &mut self,
+        alloc: Global,
+        input: &mut I,
+    ) -> Result<Option<Entry>, RecError>
+        // What was read goes on by the entry that is given.
+        ensures given { IfOk result (λ next. IfSome next (λ entry.
+            (bytes : List ℕ) (entries : List Item)
+            → HasReadOf bytes (I.left input.old) entries self.old
+            → HasReadOf bytes (I.left input.new) (entries ++ entry ∷ []) self.new)) }
+
+        // Where there is none, the recording came to its end, or reading it ended so.
+        ensures done { IfOk result (λ next. IfNone next ((bytes : List ℕ) (entries : List Item)
+            → HasReadOf bytes (I.left input.old) entries self.old
+            → HasReadOf bytes (I.left input.new) entries Finished)) }
+        ensures ends { IfErr result (λ error. (bytes : List ℕ) (entries : List Item)
+            → HasReadOf bytes (I.left input.old) entries self.old
+            → EndsRecording bytes (I.left input.new) entries error) }
+
+        // It stays so.
+        ensures finished { IfOk result (λ next. IfNone next (self.new ≡ Finished)) }
+        ensures failed { IfErr result (λ error. self.new ≡ Failed error) }
+        ensures again { (error : Error) → self.old ≡ Failed error → (result ≡ Err error)
+            × (I.left input.new ≡ I.left input.old) × (I.faults input.new ≡ I.faults input.old) }
+
+        // A fault is answered where the count of the input's faults rose, and else it stays.
+        ensures kept { OnOk result (I.faults input.new ≡ I.faults input.old) }
+        ensures blames { IfErr result (λ error. (self.old ≡ Failed error)
+            ⊎ Blames (I.faults input.old) (I.faults input.new) error) }
+        ensures later { I.faults input.old ≤ I.faults input.new }
+    {
+        let (phase, next) = go_on(alloc, input, mem::replace(&mut self.phase, Phase::Finished));
+        self.phase = phase;
+        next
+    }
+}
+
+/// The next entry of a reader that is so far, and how far it is then.
+fn go_on<I: Source>(
+    alloc: Global,
+    input: &mut I,
+    phase: Phase,
+) -> (Phase, Result<Option<Entry>, RecError>)
+    ensures given { IfOk result.1 (λ next. IfSome next (λ entry.
+        (bytes : List ℕ) (entries : List Item)
+        → HasReadOf bytes (I.left input.old) entries phase
+        → HasReadOf bytes (I.left input.new) (entries ++ entry ∷ []) result.0)) }
+    ensures done { IfOk result.1 (λ next. IfNone next ((bytes : List ℕ) (entries : List Item)
+        → HasReadOf bytes (I.left input.old) entries phase
+        → HasReadOf bytes (I.left input.new) entries Finished)) }
+    ensures ends { IfErr result.1 (λ error. (bytes : List ℕ) (entries : List Item)
+        → HasReadOf bytes (I.left input.old) entries phase
+        → EndsRecording bytes (I.left input.new) entries error) }
+    ensures finished { IfOk result.1 (λ next. IfNone next (result.0 ≡ Finished)) }
+    ensures failed { IfErr result.1 (λ error. result.0 ≡ Failed error) }
+    ensures again { (error : Error) → phase ≡ Failed error → (result.1 ≡ Err error)
+        × (I.left input.new ≡ I.left input.old) × (I.faults input.new ≡ I.faults input.old) }
+    ensures kept { OnOk result.1 (I.faults input.new ≡ I.faults input.old) }
+    ensures blames { IfErr result.1 (λ error. (phase ≡ Failed error)
+        ⊎ Blames (I.faults input.old) (I.faults input.new) error) }
+    ensures later { I.faults input.old ≤ I.faults input.new }
+{
+    match phase {
+        Phase::New => match open(alloc, input) {
+            Ok(reader) => pull(alloc, input, reader),
+            Err(error) => (Phase::Failed(error), Err(error)),
+        },
+        Phase::Reading(reader) => pull(alloc, input, reader),
+        Phase::Finished => (Phase::Finished, Ok(None)),
+        Phase::Failed(error) => (Phase::Failed(error), Err(error)),
+    }
+}
+
+/// The next entry after the header.
+fn pull<I: Source>(
+    alloc: Global,
+    input: &mut I,
+    mut reader: EntryReader<Anywhere>,
+) -> (Phase, Result<Option<Entry>, RecError>)
+    ensures given { IfOk result.1 (λ next. IfSome next (λ entry.
+        (bytes : List ℕ) (entries : List Item)
+        → HasReadOf bytes (I.left input.old) entries (Reading reader)
+        → HasReadOf bytes (I.left input.new) (entries ++ entry ∷ []) result.0)) }
+    ensures done { IfOk result.1 (λ next. IfNone next ((bytes : List ℕ) (entries : List Item)
+        → HasReadOf bytes (I.left input.old) entries (Reading reader)
+        → HasReadOf bytes (I.left input.new) entries Finished)) }
+    ensures ends { IfErr result.1 (λ error. (bytes : List ℕ) (entries : List Item)
+        → HasReadOf bytes (I.left input.old) entries (Reading reader)
+        → EndsLate bytes (I.left input.new) entries error) }
+    ensures finished { IfOk result.1 (λ next. IfNone next (result.0 ≡ Finished)) }
+    ensures failed { IfErr result.1 (λ error. result.0 ≡ Failed error) }
+    ensures kept { OnOk result.1 (I.faults input.new ≡ I.faults input.old) }
+    ensures blames { IfErr result.1 (Blames (I.faults input.old) (I.faults input.new)) }
+    ensures later { I.faults input.old ≤ I.faults input.new }
+{
+    match reader.next(alloc, input) {
+        Ok(Some(entry)) => (Phase::Reading(reader), Ok(Some(entry))),
+        Ok(None) => (Phase::Finished, Ok(None)),
+        Err(end) => {
+            let error = error_of(end);
+            (Phase::Failed(error), Err(error))
+        }
+    }
+}
+
+/// Why a recording gives no entry whose entries ended so.
+fn error_of(end: ReadEnd<DecodeError>) -> RecError
+    ensures { result ≡ error_of end }
+{
+    match end {
+        ReadEnd::ReadFault => RecError::ReadFault,
+        ReadEnd::Truncated(at) => RecError::Truncated { at },
+        ReadEnd::BadMessage(at, why) => RecError::Message { at, why },
+        ReadEnd::Long => RecError::Long,
+        ReadEnd::Memory => RecError::Memory,
+    }
+}
+
+/// Reads the header of an input, and gives a reader of what comes after it.
+fn open<I: Source>(alloc: Global, input: &mut I) -> Result<EntryReader<Anywhere>, RecError>
+    ensures begun { IfOk result (λ reader. (bytes : List ℕ) → I.left input.old ≡ Some bytes
+        → HasReadOf bytes (I.left input.new) [] (Reading reader)) }
+    ensures ends { IfErr result (λ error. (bytes : List ℕ) → I.left input.old ≡ Some bytes
+        → EndsEarly bytes (I.left input.new) error) }
+    ensures kept { OnOk result (I.faults input.new ≡ I.faults input.old) }
+    ensures blames { IfErr result (Blames (I.faults input.old) (I.faults input.new)) }
+    ensures later { I.faults input.old ≤ I.faults input.new }
+{
+    let mut held = Vec::new(alloc);
+    'pieces: loop {
+        match read_header(alloc, held.as_slice()) {
+            Ok(len) => return begin(alloc, held.as_slice(), len),
+            Err(HeaderError::Short) => read_piece(input, &mut held)?,
+            Err(HeaderError::Bad) => return Err(RecError::BadHeader),
+            Err(HeaderError::Memory) => return Err(RecError::Memory),
+        }
+    }
+}
+
+/// Reads a piece more of an input whose bytes so far are too few for a header.
+fn read_piece<I: Source>(input: &mut I, held: &mut Vec<u8>) -> Result<(), RecError>
+    requires { IsShort held.old.items }
+    ensures read { OnOk result ((bytes : List ℕ)
+        → HoldsHeader bytes (I.left input.old) held.old.items
+        → HoldsHeader bytes (I.left input.new) held.new.items) }
+    ensures more { OnOk result (length held.old.items < length held.new.items) }
+    ensures ends { IfErr result (λ error. (bytes : List ℕ)
+        → HoldsHeader bytes (I.left input.old) held.old.items
+        → EndsEarly bytes (I.left input.new) error) }
+    ensures kept { OnOk result (I.faults input.new ≡ I.faults input.old) }
+    ensures blames { IfErr result (Blames (I.faults input.old) (I.faults input.new)) }
+    ensures later { I.faults input.old ≤ I.faults input.new }
+{
+    let mut buffer = [0; 4096];
+    let count = match input.read(&mut buffer) {
+        Ok(count) => count,
+        Err(ReadFailed) => return Err(RecError::ReadFault),
+    };
+    if count == 0 {
+        return Err(RecError::BadHeader);
+    }
+    match held.extend_from_slice(&buffer[..count]) {
+        Ok(()) => Ok(()),
+        Err(AllocError) => Err(RecError::Memory),
+    }
+}
+
+/// A reader of what comes after the header with which these bytes begin.
+fn begin(alloc: Global, held: &[u8], len: usize) -> Result<EntryReader<Anywhere>, RecError>
+    requires header { IsHeader held.now len }
+    requires few { len ≤ 65543 }
+    ensures begun { IfOk result (λ reader. (bytes : List ℕ) (left : Option (List ℕ))
+        → HoldsHeader bytes left held.now → HasReadOf bytes left [] (Reading reader)) }
+    ensures memory { IfErr result (λ error. error ≡ Memory) }
+{
+    let mut reader = EntryReader::new(alloc, len as u64, LIMIT);
+    match reader.push(rest_of(held, len)) {
+        Ok(()) => Ok(reader),
+        Err(AllocError) => Err(RecError::Memory),
+    }
+}
