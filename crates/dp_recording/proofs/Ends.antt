@@ -4,10 +4,17 @@ use Rattle.std.proofs.lemmas.Option.{none-some}
 use Rattle.dp_messages.specs.declared.message.Entry.{Entry}
 use Rattle.dp_lines.specs.declared.run_end.RunEnd.{RunEnd}
 use Rattle.dp_lines.specs.declared.run_end.RunEnd.TheVariants as run
-use Rattle.dp_entries.specs.Anywhere.{StandsAnywhere}
+use Rattle.dp_messages.specs.declared.decoder.DecodeError.{DecodeError}
+use Rattle.dp_entries.specs.declared.ends.ReadEnd.{ReadEnd}
+use Rattle.dp_entries.specs.declared.ends.ReadEnd.TheVariants as read
+use Rattle.dp_entries.specs.Anywhere.{IsCauseAnywhere, StandsAnywhere}
 use Rattle.dp_entries.specs.Input.{ComesTo}
+use Rattle.dp_entries.specs.Reading.{EndsReading}
+use Rattle.dp_recording.specs.declared.reader.RecError.{RecError}
+use Rattle.dp_recording.specs.declared.reader.RecError.TheVariants.{BadHeader, Truncated, Message}
+use Rattle.dp_recording.specs.declared.reader.RecError.TheVariants.{ReadFault, Long, Memory}
 use Rattle.dp_recording.specs.Headers.{HasNoHeader, IsHeader}
-use Rattle.dp_recording.specs.Recordings.{RecordingComesTo, recording_limit}
+use Rattle.dp_recording.specs.Recordings.{EndsEarly, EndsRecording, RecordingComesTo, error_of, recording_limit}
 
 abbrev pub ComesAfter : List ℕ → List Entry → RunEnd → Type 0
 ComesAfter input entries end =
@@ -65,3 +72,27 @@ none-weaker (Some x) f said = said
 pub some-weaker : {X : Type 0} {P Q : X → Type 0} (o : Option X) → ((x : X) → P x → Q x) → IfSome o P → IfSome o Q
 some-weaker None f said = said
 some-weaker (Some x) f said = f x said
+
+-- ---- how reading ends
+
+-- before the header was whole
+pub early-ends : (input : List ℕ) (left : Option (List ℕ)) (entries : List Entry) (error : RecError) → entries ≡ []
+    → EndsEarly input left error → EndsRecording input left entries error
+early-ends input left entries BadHeader none ends = ((none, ends.0), inl ends.1)
+early-ends input left entries ReadFault none ends = inl ends
+early-ends input left entries Memory none ends = tt
+early-ends input left entries (Truncated at) none ends = absurd ends
+early-ends input left entries (Message at why) none ends = absurd ends
+early-ends input left entries Long none ends = absurd ends
+
+-- after a header
+pub late-ends : (input : List ℕ) (left : Option (List ℕ)) (entries : List Entry) (len : ℕ)
+    (end : ReadEnd DecodeError) → IsHeader input len
+    → EndsReading StandsAnywhere IsCauseAnywhere len recording_limit input left entries end
+    → EndsRecording input left entries (error_of end)
+late-ends input left entries len read.ReadFault header ends = inr (len, header, ends)
+late-ends input left entries len (read.Truncated at) header ends = ((len, header, ends.0), ends.1)
+late-ends input left entries len (read.BadMessage at why) header ends =
+    ((len, header, ends.0), inr (len, header, ends.1), ends.2)
+late-ends input left entries len read.Long header ends = ((len, header, ends.0), inr (len, header, ends.1))
+late-ends input left entries len read.Memory header ends = tt

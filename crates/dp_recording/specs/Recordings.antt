@@ -1,5 +1,5 @@
 -- What a recording comes to, and what was read of one.
-use Rattle.std.specs.Prelude.{◌≡◌, ◌⊎◌, ◌≤◌, ℕ, ◌^◌, IsTrue, List, [], ◌++◌, length, Option, Some}
+use Rattle.std.specs.Prelude.{◌≡◌, ◌⊎◌, ◌≤◌, ℕ, ◌+◌, ◌-◌, ◌^◌, IsTrue, List, [], ◌++◌, length, Option, Some}
 use Rattle.std.specs.Io.KnownBytes.{IsAtEnd}
 use Rattle.dp_io.specs.Faults.{Rose}
 use Rattle.dp_messages.specs.declared.message.Entry.{Entry}
@@ -12,7 +12,7 @@ use Rattle.dp_messages.specs.declared.decoder.DecodeError.{DecodeError}
 use Rattle.dp_entries.specs.Anywhere.{IsCauseAnywhere, StandsAnywhere}
 use Rattle.dp_entries.specs.Input.{ComesTo}
 use Rattle.dp_entries.specs.Reader.{HasRead}
-use Rattle.dp_entries.specs.Reading.{EndsReading}
+use Rattle.dp_entries.specs.Reading.{IsBadAt, TookNoCause}
 use Rattle.dp_recording.specs.declared.reader.RecError.{RecError}
 use Rattle.dp_recording.specs.declared.reader.RecError.TheVariants.{BadHeader, Truncated, Message}
 use Rattle.dp_recording.specs.declared.reader.RecError.TheVariants.{ReadFault, Long, Memory}
@@ -48,26 +48,46 @@ end_of ReadFault = run.ReadFault
 end_of Long = run.Long
 end_of Memory = run.Memory
 
--- How reading an input ended of which these bytes are left: before its header was whole, of which
--- what was taken is a part, with at most a piece after it; or after the header, as reading entries
--- ends.
+-- What was taken of an input of which these bytes are left holds no cause to end, but for the last
+-- bytes of it, at most so many: it is too few bytes for a header, or a header, and then bytes that
+-- hold none.
+abbrev pub RecordingTook : ℕ → List ℕ → Option (List ℕ) → Type 0
+RecordingTook most input left =
+    TookWithin IsShort most input left
+    ⊎ ((len : ℕ) × IsHeader input len
+    × TookNoCause StandsAnywhere len recording_limit most input left)
+
+-- How reading an input ended of which these bytes are left, after these entries: by its bytes, with
+-- a piece at most after what holds no cause; by a fault, with nothing after it; or because memory
+-- ran out.
+abbrev pub EndsRecording : List ℕ → Option (List ℕ) → List Entry → RecError → Type 0
+EndsRecording input left entries BadHeader =
+    RecordingComesTo input entries run.BadHeader × RecordingTook 4096 input left
+EndsRecording input left entries ReadFault = RecordingTook 0 input left
+EndsRecording input left entries (Truncated at) =
+    RecordingComesTo input entries (run.Truncated at) × IsAtEnd left
+EndsRecording input left entries (Message at why) =
+    RecordingComesTo input entries (run.BadMessage at) × RecordingTook 4096 input left
+    × IsBadAt IsCauseAnywhere input (length entries) at why
+EndsRecording input left entries Long =
+    RecordingComesTo input entries run.Long × RecordingTook 4096 input left
+EndsRecording input left entries Memory = Unit {0}
+
+-- how reading ended before the header was whole
 abbrev pub EndsEarly : List ℕ → Option (List ℕ) → RecError → Type 0
 EndsEarly input left BadHeader = HasNoHeader input × TookWithin IsShort 4096 input left
 EndsEarly input left ReadFault = TookWithin IsShort 0 input left
 EndsEarly input left Memory = Unit {0}
-EndsEarly input left _ = ⊥
+EndsEarly input left (Truncated at) = ⊥
+EndsEarly input left (Message at why) = ⊥
+EndsEarly input left Long = ⊥
 
-pub record EndsLate (input : List ℕ) (left : Option (List ℕ)) (entries : List Entry)
-    (error : RecError) : Type 0 where
-  pub len : ℕ
-  pub header : IsHeader input len
-  pub end : ReadEnd DecodeError
-  pub same : error ≡ error_of end
-  pub ends : EndsReading StandsAnywhere IsCauseAnywhere len recording_limit input left entries end
-
-abbrev pub EndsRecording : List ℕ → Option (List ℕ) → List Entry → RecError → Type 0
-EndsRecording input left entries error =
-    ((entries ≡ []) × EndsEarly input left error) ⊎ EndsLate input left entries error
+-- a number that falls with each entry
+abbrev pub measure_of : Phase → ℕ
+measure_of New = recording_limit + 1
+measure_of (Reading reader) = reader.limit - reader.stream.at
+measure_of Finished = 0
+measure_of (Failed error) = 0
 
 -- What was read of an input of which these bytes are left, and what entries it gave: nothing was
 -- read; a header, and entries after it; all of it; or it ended so.
@@ -93,4 +113,8 @@ pub record HoldsHeader (input : List ℕ) (left : Option (List ℕ)) (held : Lis
 -- the count of the input's faults where reading ended so: a fault raised it, and else it stays
 abbrev pub Blames : ℕ → ℕ → RecError → Type 0
 Blames before now ReadFault = Rose before now
-Blames before now _ = now ≡ before
+Blames before now BadHeader = now ≡ before
+Blames before now (Truncated at) = now ≡ before
+Blames before now (Message at why) = now ≡ before
+Blames before now Long = now ≡ before
+Blames before now Memory = now ≡ before

@@ -8,8 +8,9 @@ ghost use Rattle.dp_recording.specs.declared.reader.RecError.TheVariants.{Memory
 ghost use Rattle.dp_recording.specs.declared.reader.Phase.TheVariants.{New, Reading, Finished};
 ghost use Rattle.dp_recording.specs.declared.reader.Phase.TheVariants.{Failed};
 ghost use Rattle.dp_recording.specs.Headers.{IsHeader, IsShort};
-ghost use Rattle.dp_recording.specs.Recordings.{Blames, EndsEarly, EndsLate, EndsRecording, HasReadOf};
-ghost use Rattle.dp_recording.specs.Recordings.{HoldsHeader, end_of, error_of};
+ghost use Rattle.dp_recording.specs.Recordings.{Blames, EndsEarly, EndsRecording, HasReadOf};
+ghost use Rattle.dp_recording.specs.Recordings.{HoldsHeader, end_of, error_of, measure_of};
+ghost use Rattle.dp_recording.specs.Recordings.{recording_limit};
 
 use crate::header::{HeaderError, read_header};
 use dp_entries::{Anywhere, EntryReader, ReadEnd};
@@ -122,6 +123,9 @@ impl RecordingReader {
             → HasReadOf bytes (I.left input.old) entries self.old
             → EndsRecording bytes (I.left input.new) entries error) }
 
+        ensures further { IfOk result (λ next. IfSome next (λ _.
+            measure_of self.new < measure_of self.old)) }
+
         // It stays so.
         ensures finished { IfOk result (λ next. IfNone next (self.new ≡ Finished)) }
         ensures failed { IfErr result (λ error. self.new ≡ Failed error) }
@@ -156,6 +160,8 @@ fn go_on<I: Source>(
     ensures ends { IfErr result.1 (λ error. (bytes : List ℕ) (entries : List Item)
         → HasReadOf bytes (I.left input.old) entries phase
         → EndsRecording bytes (I.left input.new) entries error) }
+    ensures further { IfOk result.1 (λ next. IfSome next (λ _.
+        measure_of result.0 < measure_of phase)) }
     ensures finished { IfOk result.1 (λ next. IfNone next (result.0 ≡ Finished)) }
     ensures failed { IfErr result.1 (λ error. result.0 ≡ Failed error) }
     ensures again { (error : Error) → phase ≡ Failed error → (result.1 ≡ Err error)
@@ -191,7 +197,10 @@ fn pull<I: Source>(
         → HasReadOf bytes (I.left input.new) entries Finished)) }
     ensures ends { IfErr result.1 (λ error. (bytes : List ℕ) (entries : List Item)
         → HasReadOf bytes (I.left input.old) entries (Reading reader)
-        → EndsLate bytes (I.left input.new) entries error) }
+        → EndsRecording bytes (I.left input.new) entries error) }
+    ensures further { IfOk result.1 (λ next. IfSome next (λ _.
+        (measure_of result.0 < measure_of (Reading reader))
+        × (measure_of result.0 ≤ reader.limit))) }
     ensures finished { IfOk result.1 (λ next. IfNone next (result.0 ≡ Finished)) }
     ensures failed { IfErr result.1 (λ error. result.0 ≡ Failed error) }
     ensures kept { OnOk result.1 (I.faults input.new ≡ I.faults input.old) }
@@ -227,6 +236,7 @@ fn open<I: Source>(alloc: Global, input: &mut I) -> Result<EntryReader<Anywhere>
         → HasReadOf bytes (I.left input.new) [] (Reading reader)) }
     ensures ends { IfErr result (λ error. (bytes : List ℕ) → I.left input.old ≡ Some bytes
         → EndsEarly bytes (I.left input.new) error) }
+    ensures limit { IfOk result (λ reader. reader.limit ≡ recording_limit) }
     ensures kept { OnOk result (I.faults input.new ≡ I.faults input.old) }
     ensures blames { IfErr result (Blames (I.faults input.old) (I.faults input.new)) }
     ensures later { I.faults input.old ≤ I.faults input.new }
@@ -276,6 +286,7 @@ fn begin(alloc: Global, held: &[u8], len: usize) -> Result<EntryReader<Anywhere>
     requires few { len ≤ 65543 }
     ensures begun { IfOk result (λ reader. (bytes : List ℕ) (left : Option (List ℕ))
         → HoldsHeader bytes left held.now → HasReadOf bytes left [] (Reading reader)) }
+    ensures limit { IfOk result (λ reader. reader.limit ≡ recording_limit) }
     ensures memory { IfErr result (λ error. error ≡ Memory) }
 {
     let mut reader = EntryReader::new(alloc, len as u64, LIMIT);

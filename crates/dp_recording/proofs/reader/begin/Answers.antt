@@ -24,6 +24,6 @@ returns-in-Ok-clause-begun c = λ bytes left h.
       subst (IsHeader bytes) (sym first)
       (subst (λ t. IsHeader t len) (sym h.whole) (goes-on held h.untaken len header)),
       c.in-Ok.ensures.limit ∙ c.new-reader.ensures.limit,
-      subst (λ b. IsTrue b → ⊥) (sym c.in-Ok.ensures.ended) c.new-reader.ensures.open,
+      subst (λ b. IsTrue b → ⊥) (sym c.in-Ok.ensures.ended) c.new-reader.ensures.not_ended,
       subst (λ o. HasRead StandsAnywhere bytes o [] c.push.new.self) (sym h.left_is) read,
     )

@@ -1,4 +1,3 @@
-use Rattle.std.proofs.Common.{inr}
 use Rattle.std.proofs.lemmas.Result.{IfErr-weaker, IfOk-weaker}
 use Rattle.dp_recording.proofs.Ends.{none-weaker}
 use Rattle.dp_recording.proofs.Taken.{began}
@@ -15,14 +14,11 @@ pub returns-in-Ok-clause-ends : goal.returns-in-Ok-clause-ends
 returns-in-Ok-clause-ends g c =
     rw c.in-New.is
     (IfErr-weaker c.pull.result.1 _ _ (λ error said bytes entries h.
-      inr (said bytes entries (began bytes _ _ entries c.in-Ok.reader c.in-Ok.ensures.begun h)))
+      said bytes entries (began bytes _ _ entries c.in-Ok.reader c.in-Ok.ensures.begun h))
     c.pull.ensures.ends)
 
 pub returns-in-Reading-clause-done : goal.returns-in-Reading-clause-done
 returns-in-Reading-clause-done g c = rw c.in-Reading.is c.pull-in-Reading.ensures.done
 
 pub returns-in-Reading-clause-ends : goal.returns-in-Reading-clause-ends
-returns-in-Reading-clause-ends g c =
-    rw c.in-Reading.is
-    (IfErr-weaker c.pull-in-Reading.result.1 _ _ (λ error said bytes entries h.
-      inr (said bytes entries h)) c.pull-in-Reading.ensures.ends)
+returns-in-Reading-clause-ends g c = rw c.in-Reading.is c.pull-in-Reading.ensures.ends

@@ -3,7 +3,7 @@ use Rattle.dp_lines.specs.declared.run_end.RunEnd.TheVariants.{Done}
 use Rattle.dp_entries.specs.Anywhere.{IsCauseAnywhere, StandsAnywhere}
 use Rattle.dp_entries.specs.Input.{ComesTo}
 use Rattle.dp_entries.specs.Reading.{EndsReading}
-use Rattle.dp_recording.proofs.Ends.{none-holds}
+use Rattle.dp_recording.proofs.Ends.{late-ends, none-holds}
 use Rattle.dp_recording.proofs.reader.pull.Goals as goal
 
 pub returns-in-Ok-None-clause-done : goal.returns-in-Ok-None-clause-done
@@ -20,13 +20,10 @@ returns-in-Ok-None-clause-done g c = λ bytes entries h.
     )
 
 pub returns-in-Err-clause-ends : goal.returns-in-Err-clause-ends
-returns-in-Err-clause-ends g c = λ bytes entries h. record {
-  len = c.args.reader.first;
-  header = h.0;
-  end = c.in-Err.end;
-  same = c.error_of-error.ensures;
-  ends =
-  subst (λ limit. EndsReading StandsAnywhere IsCauseAnywhere c.args.reader.first limit bytes
-      (g.I.Source.left c.next.new.input) entries c.in-Err.end) h.1
-  (c.in-Err.ensures.ends bytes entries h.3);
-}
+returns-in-Err-clause-ends g c = λ bytes entries h.
+    let first = c.args.reader.first in
+    let left = g.I.Source.left c.next.new.input in
+    rw c.error_of-error.ensures
+    (late-ends bytes left entries first c.in-Err.end h.0
+    (subst (λ limit. EndsReading StandsAnywhere IsCauseAnywhere first limit bytes left entries c.in-Err.end)
+    h.1 (c.in-Err.ensures.ends bytes entries h.3)))
