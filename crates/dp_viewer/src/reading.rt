@@ -1,16 +1,18 @@
 //! The entries of an input that are shown.
 
-ghost use Rattle.std.specs.Prelude.{◌≡◌, ◌↔◌, ◌<◌, ◌≤◌, IfSome, IsTrue};
+ghost use Rattle.std.specs.Prelude.{◌≡◌, ◌↔◌, ◌<◌, ◌≤◌, List, [], ◌∷◌, ◌++◌, IfSome, IsTrue};
+ghost use Rattle.std.specs.Prelude.{OnErr, OnOk};
 ghost use Rattle.std.specs.Io.KnownBytes.{IsAtEnd};
+ghost use Rattle.dp_messages.specs.declared.message.Entry.{Entry as Item};
 ghost use Rattle.dp_viewer.specs.Reading.{BlamesReading, EndsReading, ReadsToEnd};
-ghost use Rattle.dp_viewer.specs.Ways.{play_way, replay_way};
+ghost use Rattle.dp_viewer.specs.Ways.{first_of, play_way, replay_way};
 
 use dp_entries::{Anywhere, EntryReader};
 use dp_io::Source;
 use dp_lines::RunEnd;
 use dp_messages::Entry;
 use dp_recording::RecordingReader;
-use std::alloc::Global;
+use std::alloc::{AllocError, Global};
 
 /// How many bytes of the input of `replay` count: 1 GiB.
 const INPUT_LIMIT: u64 = 1 << 30;
@@ -75,11 +77,23 @@ pub(crate) fn read_recording<I: Source>(alloc: Global, input: &mut I, at: Option
                 return Reading { entries, end };
             }
         };
-        if is_shown(at, entries.len()) && entries.push(entry).is_err() {
+        if keep(&mut entries, entry, at).is_err() {
             let end = RunEnd::Memory;
             return Reading { entries, end };
         }
     }
+}
+
+/// Adds the next entry where it is one of the first so many. After an error nothing has changed.
+fn keep(entries: &mut Vec<Entry>, entry: Entry, at: Option<u32>) -> Result<(), AllocError>
+    ensures kept { OnOk result ((all : List Item) → entries.old.items ≡ first_of at all
+        → entries.new.items ≡ first_of at (all ++ entry ∷ [])) }
+    ensures err { OnErr result (entries.new.items ≡ entries.old.items) }
+{
+    if is_shown(at, entries.len()) {
+        entries.push(entry)?;
+    }
+    Ok(())
 }
 
 /// Whether an entry is shown before which so many are.

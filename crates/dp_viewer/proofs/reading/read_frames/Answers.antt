@@ -1,6 +1,6 @@
 use Rattle.std.proofs.Common.{refl}
-use Rattle.dp_app.proofs.Inputs.{told_first, told_done, told_end, blames_of}
-use Rattle.dp_app.proofs.entries.read_entries.Goals as goal
+use Rattle.dp_viewer.proofs.Inputs.{told_first, told_done, told_end, blames_of}
+use Rattle.dp_viewer.proofs.reading.read_frames.Goals as goal
 
 pub entries-init : goal.entries-init
 entries-init g c = record {

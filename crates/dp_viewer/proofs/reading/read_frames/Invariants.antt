@@ -2,7 +2,7 @@ use Rattle.std.proofs.Common.{◌≡◌, ◌-◌, ◌^◌}
 use Rattle.std.specs.Prelude.{IfSome, IsTrue}
 use Rattle.dp_entries.specs.Reader.{HasRead}
 use Rattle.dp_entries.specs.Anywhere.{StandsAnywhere}
-use Rattle.dp_app.proofs.entries.read_entries.Given as goal
+use Rattle.dp_viewer.proofs.reading.read_frames.Given as goal
 
 -- what was read of the input gave these entries, and no read failed
 abbrev pub invariant-entries : goal.invariant-entries

@@ -12,8 +12,8 @@ use Rattle.dp_entries.specs.Ends.{end_of}
 use Rattle.dp_entries.specs.Input.{ComesTo}
 use Rattle.dp_entries.specs.Reader.{Reader, HasRead}
 use Rattle.dp_entries.specs.Reading as reading
-use Rattle.dp_app.specs.Input.{replay_limit}
-use Rattle.dp_app.specs.Read.{EndsReading, BlamesReading}
+use Rattle.dp_viewer.specs.Ways.{replay_limit, replay_way}
+use Rattle.dp_viewer.specs.Reading.{EndsReading, BlamesReading}
 
 -- nothing is read yet
 pub told_first : (input : Option (List ℕ)) (r : Reader)
@@ -38,21 +38,24 @@ pub told_done : (input left now : Option (List ℕ)) (entries : List Entry) (r :
     → ((bytes : List ℕ) (es : List Entry) → HasRead StandsAnywhere bytes left es r
     → ComesTo StandsAnywhere r.first r.limit bytes es run.Done)
     → IfSome input (λ bytes. HasRead StandsAnywhere bytes left entries r)
-    → IfSome input (λ bytes. EndsReading bytes now entries run.Done)
+    → IfSome input (λ bytes. EndsReading replay_way bytes now entries run.Done)
 told_done None left now entries r first limit done told = tt
-told_done (Some bytes) left now entries r first limit done told =
-    subst (λ (n : ℕ). ComesTo StandsAnywhere n replay_limit bytes entries run.Done) first
-    (subst (λ (n : ℕ). ComesTo StandsAnywhere r.first n bytes entries run.Done) limit
-    (done bytes entries told))
+told_done (Some bytes) left now entries r first limit done told = (
+  entries,
+  subst (λ (n : ℕ). ComesTo StandsAnywhere n replay_limit bytes entries run.Done) first
+      (subst (λ (n : ℕ). ComesTo StandsAnywhere r.first n bytes entries run.Done) limit
+      (done bytes entries told)),
+  refl,
+)
 
 ends_of : (bytes : List ℕ) (left : Option (List ℕ)) (entries : List Entry)
     (end : ReadEnd DecodeError)
     → reading.EndsReading StandsAnywhere IsCauseAnywhere 0 replay_limit bytes left entries end
-    → EndsReading bytes left entries (end_of end)
+    → EndsReading replay_way bytes left entries (end_of end)
 ends_of bytes left entries ReadFault ends = ends
-ends_of bytes left entries (Truncated n) ends = ends.0
-ends_of bytes left entries (BadMessage n cause) ends = (ends.0, ends.1)
-ends_of bytes left entries Long ends = ends
+ends_of bytes left entries (Truncated n) ends = (entries, ends.0, refl)
+ends_of bytes left entries (BadMessage n cause) ends = ((entries, ends.0), ends.1)
+ends_of bytes left entries Long ends = ((entries, ends.0), ends.1)
 ends_of bytes left entries Memory ends = tt
 
 -- reading ended so
@@ -62,7 +65,7 @@ pub told_end : (input left now : Option (List ℕ)) (entries : List Entry) (r : 
     → ((bytes : List ℕ) (es : List Entry) → HasRead StandsAnywhere bytes left es r
     → reading.EndsReading StandsAnywhere IsCauseAnywhere r.first r.limit bytes now es end)
     → IfSome input (λ bytes. HasRead StandsAnywhere bytes left entries r)
-    → IfSome input (λ bytes. EndsReading bytes now entries (end_of end))
+    → IfSome input (λ bytes. EndsReading replay_way bytes now entries (end_of end))
 told_end None left now entries r end first limit ends told = tt
 told_end (Some bytes) left now entries r end first limit ends told =
     ends_of bytes now entries end
@@ -72,7 +75,7 @@ told_end (Some bytes) left now entries r end first limit ends told =
     entries end) limit (ends bytes entries told)))
 
 pub blames_of : (before now : ℕ) (end : ReadEnd DecodeError) → reading.Blames before now end
-    → BlamesReading before now (end_of end)
+    → BlamesReading replay_way before now (end_of end)
 blames_of before now ReadFault blames = blames
 blames_of before now (Truncated n) blames = blames
 blames_of before now (BadMessage n cause) blames = blames

@@ -1,5 +1,5 @@
-use Rattle.dp_app.specs.Input.{replay_limit}
-use Rattle.dp_app.proofs.laws.one_reading.Goals as goal
+use Rattle.dp_viewer.specs.Ways.{replay_limit}
+use Rattle.dp_viewer.proofs.laws.one_replay.Goals as goal
 
 pub returns-clause-entries : goal.returns-clause-entries
 returns-clause-entries c input es ds end other h k =

@@ -4,7 +4,7 @@ use Rattle.dp_plain.specs.Board.{Board}
 use Rattle.dp_plain.specs.Commands.{draw}
 use Rattle.dp_plain.specs.Picture.{p6}
 use Rattle.dp_plain.specs.Replay.{shown, shown_on}
-use Rattle.dp_app.proofs.replay.write_shown.Goals as goal
+use Rattle.dp_viewer.proofs.pictures.write_shown.Goals as goal
 
 pub returns-in-Ok-write_p6-clause-shown : goal.returns-in-Ok-write_p6-clause-shown
 returns-in-Ok-write_p6-clause-shown g c =
