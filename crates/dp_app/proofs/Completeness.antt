@@ -151,13 +151,12 @@ complete_ending : {A : Type 0} (words : List (String A)) (bytes : List ℕ) (s :
     → s.input ≡ Some bytes → ¬ Rose s.read s.read_now → ¬ Rose s.written s.written_now
     → status ≢ 7 → status ≡ code_of ending → Appends dold dnew (ending_line ending) →
     (answer : Answer) × IsDue words bytes answer × IsGiven answer status s.old s.new dold dnew
-complete_ending words bytes s dold dnew status Usage (none, same) told read write memory code line =
-    (
-      usage_answer,
-      inr (none, refl),
-      record { status = code; text = appends_nothing s.old s.new same.1; line = line },
-    )
-complete_ending words bytes s dold dnew status NoLink (command, asks, runs, same) told read write
+complete_ending words bytes s dold dnew status Usage (none, same) told read write memory code line = (
+  usage_answer,
+  inr (none, refl),
+  record { status = code; text = appends_nothing s.old s.new same.1; line = line },
+)
+complete_ending words bytes s dold dnew status NoLink (command, asks, (runs, same)) told read write
     memory code line = (
       no_link_answer,
       inl (command, asks, due_link command bytes runs),
@@ -165,7 +164,7 @@ complete_ending words bytes s dold dnew status NoLink (command, asks, runs, same
     )
 complete_ending words bytes s dold dnew status NoWords same told read write memory code line =
     absurd (memory code)
-complete_ending words bytes s dold dnew status (Run end) (command, asks, runs, leaves, blames) told
+complete_ending words bytes s dold dnew status (Run end) (command, asks, (runs, leaves, blames)) told
     read write memory code line =
     let due = complete_told bytes s.left s.old s.new dold dnew status command end
     (subst (λ (o : Option (List ℕ)). CommandLeaves command o s.left s.old s.new end) told leaves)
@@ -397,6 +396,15 @@ run_not_one (BadMessage n) e = omega (arith, e)
 run_not_one Closed e = omega (arith, e)
 run_not_one BadHeader e = omega (arith, e)
 
+-- what the command that the words ask for leaves
+pub words_end : {A : Type 0} (words : List (String A)) (s : Streams) (command : CommandLine)
+    (ending : Ending) → Asks words command → EndsCommand command s ending
+    → EndsWords words s ending
+words_end words s command Usage asks ends = absurd ends
+words_end words s command NoLink asks ends = (command, asks, ends)
+words_end words s command NoWords asks ends = absurd ends
+words_end words s command (Run end) asks ends = (command, asks, ends)
+
 -- status 1 is said of words that are no command alone
 pub usage_of : {A : Type 0} (words : List (String A)) (s : Streams) (dold dnew : Option (List ℕ))
     (before now status : ℕ) (ending : Ending) → EndsWords words s ending
@@ -428,8 +436,8 @@ other_words_of words s dold dnew before now status (Run end) ends says none =
 -- words that ask for a command of which a run happens ask for none that needs a link
 not_both : OneCommand → {A : Type 0} (words : List (String A)) (command other : CommandLine)
     → Asks words command → Runs command → Asks words other → ¬ Runs other → ⊥
-not_both law words command other asks runs again not =
-    not (subst Runs (law (map string_bytes words) command other asks again) runs)
+not_both law words command other asks runs again never =
+    never (subst Runs (law (map string_bytes words) command other asks again) runs)
 
 pub no_link_of : OneCommand → {A : Type 0} (words : List (String A)) (s : Streams)
     (dold dnew : Option (List ℕ)) (before now status : ℕ) (ending : Ending)
@@ -491,7 +499,7 @@ ends_of law words s dold dnew before now status Usage ends says command asks run
 ends_of law words s dold dnew before now status NoLink ends says command asks runs =
     absurd (not_both law words command ends.0 asks runs ends.1 ends.2.0)
 ends_of law words s dold dnew before now status NoWords same says command asks runs =
-    (Memory, refused command s runs same, (same.2.0, same.2.1), says)
+    (Memory, refused command s runs same, (same.2, same.3), says)
 ends_of law words s dold dnew before now status (Run end) ends says command asks runs = (
   end,
   subst (λ (c : CommandLine). CommandLeaves c s.input s.left s.old s.new end)
@@ -523,9 +531,9 @@ pub fault_told : {A : Type 0} (words : List (String A)) (s : Streams) (dold dnew
 fault_told words s dold dnew before now status Usage ends says command rose =
     absurd (ends.0 command)
 fault_told words s dold dnew before now status NoLink ends says command rose =
-    absurd (omega (arith, ends.2.1.2.0, rose))
+    absurd (omega (arith, ends.2.1.2, rose))
 fault_told words s dold dnew before now status NoWords ends says command rose =
-    absurd (omega (arith, ends.2.0, rose))
+    absurd (omega (arith, ends.2, rose))
 fault_told words s dold dnew before now status (Run end) ends says command rose =
     run_told dold dnew s.read s.read_now s.written s.written_now before now status end ends.2.2 says
     rose
@@ -536,8 +544,9 @@ pub uncounted : {A : Type 0} (words : List (String A)) (s : Streams) (dold dnew 
     → IsCommand words → IsOfBytes status
     → (s.read_now ≡ s.read) × (s.written_now ≡ s.written)
 uncounted words s dold dnew before now status Usage ends says command h = absurd (ends.0 command)
-uncounted words s dold dnew before now status NoLink ends says command h = ends.2.1.2
-uncounted words s dold dnew before now status NoWords ends says command h = ends.2
+uncounted words s dold dnew before now status NoLink ends says command h =
+    (ends.2.1.2, ends.2.1.3)
+uncounted words s dold dnew before now status NoWords ends says command h = (ends.2, ends.3)
 uncounted words s dold dnew before now status (Run end) ends says command h =
     run_uncounted dold dnew s.read s.read_now s.written s.written_now before now status end ends.2.2
     says h

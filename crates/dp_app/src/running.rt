@@ -22,10 +22,14 @@ pub(crate) fn run_words<I: Source, O: Sink, D: Ledger, T: Ledger>(
     tiles: &mut Steps<T>,
 ) -> Ending
     ensures ends { EndsWords words.now (record {
-        input = I.left input.old; left = I.left input.new;
-        old = O.held output.old; new = O.held output.new;
-        read = I.faults input.old; read_now = I.faults input.new;
-        written = O.faults output.old; written_now = O.faults output.new;
+      input = I.left input.old;
+      left = I.left input.new;
+      old = O.held output.old;
+      new = O.held output.new;
+      read = I.faults input.old;
+      read_now = I.faults input.new;
+      written = O.faults output.old;
+      written_now = O.faults output.new;
     }) result }
     ensures input_later { I.faults input.old ≤ I.faults input.new }
     ensures output_later { O.faults output.old ≤ O.faults output.new }
@@ -47,10 +51,14 @@ fn run_command<I: Source, O: Sink, D: Ledger, T: Ledger>(
     tiles: &mut Steps<T>,
 ) -> Ending
     ensures ends { EndsCommand command.now (record {
-        input = I.left input.old; left = I.left input.new;
-        old = O.held output.old; new = O.held output.new;
-        read = I.faults input.old; read_now = I.faults input.new;
-        written = O.faults output.old; written_now = O.faults output.new;
+      input = I.left input.old;
+      left = I.left input.new;
+      old = O.held output.old;
+      new = O.held output.new;
+      read = I.faults input.old;
+      read_now = I.faults input.new;
+      written = O.faults output.old;
+      written_now = O.faults output.new;
     }) result }
     ensures input_later { I.faults input.old ≤ I.faults input.new }
     ensures output_later { O.faults output.old ≤ O.faults output.new }

@@ -77,14 +77,7 @@ fn no_header(rt: HostRuntime) -> Result<(), Fail> {
         "{\"profile\":\"dp-int-1\"}",
     ] {
         for piece in [1, 4096] {
-            let run = run(
-                &rt,
-                rt.alloc(),
-                "play",
-                input.as_bytes(),
-                piece,
-                NO_FAULTS,
-            )?;
+            let run = run(&rt, rt.alloc(), "play", input.as_bytes(), piece, NO_FAULTS)?;
             assert_eq!(rt; run.status, 12, "{input}");
             assert_eq!(rt; run.diag.as_slice(), b"bad header\n".as_slice());
             assert!(rt; run.output.as_slice().is_empty(), "{input}");

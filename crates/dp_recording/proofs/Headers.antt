@@ -40,7 +40,7 @@ agree bytes more begins = by (cases_lt (length bytes) 6)
         let rest = 6 - length bytes in
         let whole : length bytes + rest ≡ 6 = omega (arith, few) in
         let joined : magic ≡ bytes ++ take rest more =
-            sym begins ∙ ap (λ n. take n (bytes ++ more)) (sym whole) ∙ take-append-add bytes more rest in
+        sym begins ∙ ap (λ n. take n (bytes ++ more)) (sym whole) ∙ take-append-add bytes more rest in
         take-past bytes 6 (omega (arith, few)) ∙ sym (take-append_seam bytes (take rest more))
         ∙ ap (take (length bytes)) (sym joined)
 
@@ -69,7 +69,7 @@ none-stays bytes more none enough len h =
     let begins = agree bytes more h.begins in
     let long : 8 ≤ length bytes = not-below _ _ (λ few. enough (record { begins = begins; few = inl few })) in
     let whole : announced bytes ≤ length bytes =
-        not-below _ _ (λ few. enough (record { begins = begins; few = inr few })) in
+    not-below _ _ (λ few. enough (record { begins = begins; few = inr few })) in
     let same = announced-same bytes more long in
     let fits : len ≤ length bytes = omega (arith, h.long, same, whole) in
     none len (record {

@@ -26,7 +26,7 @@ reads-piece input left new held later chunk short small joined consumes h =
       piece = chunk;
       untaken = rest;
       whole = h.whole ∙ ap (λ t. held ++ t) taken ∙ sym (append_assoc held chunk rest)
-      ∙ ap (λ t. t ++ rest) (sym joined);
+          ∙ ap (λ t. t ++ rest) (sym joined);
       left_is = refl;
       split = joined;
       few = short;
@@ -38,7 +38,7 @@ pub rest-is-small : {input : List ℕ} {left : Option (List ℕ)} (held : List �
     → IsHeader held len → HoldsHeader input left held → length (drop len held) ≤ 4096
 rest-is-small held len header h =
     let past : length h.short < len =
-        header-goes-past h.short h.piece len h.few (subst (λ t. IsHeader t len) h.split header) in
+    header-goes-past h.short h.piece len h.few (subst (λ t. IsHeader t len) h.split header) in
     omega (arith, past, h.small, length-drop len held, ap length h.split, length-append h.short h.piece)
 
 -- the input is the header, and then the rest of what is held with what is left

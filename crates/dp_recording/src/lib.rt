@@ -13,6 +13,5 @@ pub use laws::{one_header, one_recording, the_header_is_one};
 pub use reader::{RecError, RecordingReader};
 pub use writer::put_header;
 
-
 #[cfg(test)]
 mod tests;

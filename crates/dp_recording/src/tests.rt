@@ -40,7 +40,11 @@ fn texts_of_headers(rt: HostRuntime) -> Result<(), Fail> {
     let alloc = rt.alloc();
     for (text, tells) in TEXTS {
         let header = header_of(&rt, alloc, text)?;
-        let due = if tells { Ok(header.len()) } else { Err(HeaderError::Bad) };
+        let due = if tells {
+            Ok(header.len())
+        } else {
+            Err(HeaderError::Bad)
+        };
         assert_eq!(rt; read_header(alloc, header.as_slice()), due, "{text:?}");
     }
     the_header_is_one();
@@ -66,7 +70,11 @@ fn texts_nest_127_deep(rt: HostRuntime) -> Result<(), Fail> {
     for (depth, due) in [(2, true), (127, true), (128, false)] {
         let text = nested(alloc, depth)?;
         let header = header_of(&rt, alloc, text.as_slice())?;
-        assert_eq!(rt; read_header(alloc, header.as_slice()).is_ok(), due, "{depth}");
+        assert_eq!(rt;
+            read_header(alloc, header.as_slice()).is_ok(),
+            due,
+            "{depth}"
+        );
     }
     Ok(())
 }

@@ -23,15 +23,6 @@ pub told_first : (input : Option (List ℕ)) (r : Reader)
 told_first None r begun = tt
 told_first (Some bytes) r begun = begun bytes [] bytes refl refl
 
--- one entry more
-pub told_further : (input left now : Option (List ℕ)) (entries later : List Entry) (old new : Reader)
-    → ((bytes : List ℕ) → HasRead StandsAnywhere bytes left entries old
-    → HasRead StandsAnywhere bytes now later new)
-    → IfSome input (λ bytes. HasRead StandsAnywhere bytes left entries old)
-    → IfSome input (λ bytes. HasRead StandsAnywhere bytes now later new)
-told_further None left now entries later old new further told = tt
-told_further (Some bytes) left now entries later old new further told = further bytes told
-
 -- the input is at its end
 pub told_done : (input left now : Option (List ℕ)) (entries : List Entry) (r : Reader)
     → r.first ≡ 0 → r.limit ≡ replay_limit

@@ -1,10 +1,8 @@
 -- How reading a recording for a picture ends.
-use Rattle.std.proofs.Common.{◌≡◌, ℕ, ◌<◌, ◌≤◌, List, [], ◌∷◌, ◌++◌, length, take, refl, sym, ap, ◌∙◌}
-use Rattle.std.proofs.Common.{subst, arith, inl, inr, ◌⊎◌}
+use Rattle.std.proofs.Common.{◌≡◌, ◌⊎◌, ℕ, List, [], ◌∷◌, ◌++◌, refl, sym, ◌∙◌, subst, inl, inr}
 use Rattle.std.proofs.Math.Seq.{take-nil}
-use Rattle.std.proofs.lemmas.List.{length-append, length-take, take-append-le, take_all}
-use Rattle.std.specs.Prelude.{Option, Some, None, IfSome}
-use Rattle.std.specs.Io.KnownBytes.{IsAtEnd}
+use Rattle.std.specs.Prelude.{Option, Some, None, IfSome, Result, Ok, Err, OnOk, is_err}
+use Rattle.std.specs.Prelude.{Bool, true, false}
 use Rattle.dp_messages.specs.declared.message.Entry.{Entry}
 use Rattle.dp_lines.specs.declared.run_end.RunEnd.TheVariants as run
 use Rattle.dp_recording.specs.declared.reader.Phase.{Phase}
@@ -12,10 +10,9 @@ use Rattle.dp_recording.specs.declared.reader.Phase.TheVariants.{New, Finished, 
 use Rattle.dp_recording.specs.declared.reader.RecError.{RecError}
 use Rattle.dp_recording.specs.declared.reader.RecError.TheVariants.{BadHeader, Truncated, Message}
 use Rattle.dp_recording.specs.declared.reader.RecError.TheVariants.{ReadFault, Long, Memory}
-use Rattle.dp_recording.specs.Recordings.{Blames, EndsRecording, EndsWithInput, GoesOn, HasReadOf}
-use Rattle.dp_recording.specs.Recordings.{end_of}
+use Rattle.dp_recording.specs.Recordings.{Blames, EndsRecording, GoesOn, HasReadOf, end_of}
 use Rattle.dp_viewer.specs.Ways.{first_of, play_way}
-use Rattle.dp_viewer.specs.Reading.{EndsReading, BlamesReading, ReadsToEnd}
+use Rattle.dp_viewer.specs.Reading.{EndsReading, BlamesReading}
 
 -- What was read of an input whose bytes are known, of which those are left: these entries are the
 -- first, so many or all, of those that a reader gave.
@@ -23,6 +20,12 @@ abbrev pub Shows : Option ℕ → Option (List ℕ) → Option (List ℕ) → Li
 Shows at input left shown reader =
     IfSome input (λ bytes. (all : List Entry) × HasReadOf bytes left all reader
     × (shown ≡ first_of at all))
+
+-- what holds where a call answers `Ok`, where it didn't answer an error
+pub on-no-error : {A E P : Type 0} (r : Result A E) (b : Bool) → b ≡ is_err r → b ≡ false
+    → OnOk r P → P
+on-no-error (Ok a) b is passed on = on
+on-no-error (Err e) b is passed on = let f : true ≡ false = sym is ∙ passed in absurd cc
 
 -- of no entries the first are none
 none-first : (at : Option ℕ) → [] ≡ first_of at []
@@ -97,30 +100,3 @@ pub blames-going : (at : Option ℕ) (before now : ℕ) (old : Phase) (error : R
     → BlamesReading (play_way at) before now (end_of error)
 blames-going at before now old error going (inl failed) = absurd (subst GoesOn failed going)
 blames-going at before now old error going (inr blames) = blames-of at before now error blames
-
--- where the input is read to its end, it is at it
-pub inside-end : (left : Option (List ℕ)) (error : RecError) → EndsWithInput left error
-    → ReadsToEnd (end_of error) → IsAtEnd left
-inside-end left (Truncated n) inside reads = inside
-inside-end left _ inside reads = absurd reads
-
--- the next entry is one of the first so many, or not
-pub kept-more : (at : Option ℕ) (shown all : List Entry) (entry : Entry)
-    → IfSome at (λ n. length shown < n) → shown ≡ first_of at all
-    → shown ++ entry ∷ [] ≡ first_of at (all ++ entry ∷ [])
-kept-more None shown all entry few are = ap (λ (es : List Entry). es ++ entry ∷ []) are
-kept-more (Some n) shown all entry few are =
-    let least : length all < n =
-    omega (arith, few, ap (λ (es : List Entry). length es) are, length-take n all) in
-    let whole : shown ≡ all = are ∙ take_all n all (omega (arith, least)) in
-    ap (λ (es : List Entry). es ++ entry ∷ []) whole ∙ sym (take_all n (all ++ entry ∷ [])
-    (omega (arith, least, length-append all (entry ∷ []))))
-
-pub kept-same : (at : Option ℕ) (shown all : List Entry) (entry : Entry)
-    → ¬ IfSome at (λ n. length shown < n) → shown ≡ first_of at all
-    → shown ≡ first_of at (all ++ entry ∷ [])
-kept-same None shown all entry many are = absurd (many tt)
-kept-same (Some n) shown all entry many are =
-    let most : n ≤ length all =
-    omega (arith, many, ap (λ (es : List Entry). length es) are, length-take n all) in
-    are ∙ sym (take-append-le n all (entry ∷ []) most)

@@ -23,7 +23,8 @@ returns-clause-untouched g c =
 
 pub returns-clause-uncounted : goal.returns-clause-uncounted
 returns-clause-uncounted g c =
-    λ none. (untouched_of c.args.words.now _ _ c.run_words-ending.ensures.ends none).2
+    λ none. let same = untouched_of c.args.words.now _ _ c.run_words-ending.ensures.ends none in
+    (same.2, same.3)
 
 pub returns-clause-ends : goal.returns-clause-ends
 returns-clause-ends g c =

@@ -9,10 +9,10 @@ returns-then-branch-clause-ok c =
     let same : c.prefix_of.result.now ≡ c.prefix_of-2.result.now = search rules in
     record {
       begins = sym c.prefix_of.ensures ∙ same ∙ c.prefix_of-2.ensures
-      ∙ take-past magic _ (omega (arith, c.if-bytes-lt8.false));
+          ∙ take-past magic _ (omega (arith, c.if-bytes-lt8.false));
       long = ap (λ n. 8 + n) (c.read_u16.ensures ∙ ap (big_number 2) c.rest_of.ensures);
       whole = omega (arith, c.if-bytes-len.false);
       profile = subst (λ t. TellsProfile t (codes "dp-int-1"))
-      (c.rest_of-2.ensures ∙ ap (drop 8) c.prefix_of-3.ensures)
-      (c.in_ok-tells_profile.ensures.0 c.if-branch.true);
+          (c.rest_of-2.ensures ∙ ap (drop 8) c.prefix_of-3.ensures)
+          (c.in_ok-tells_profile.ensures.0 c.if-branch.true);
     }

@@ -19,10 +19,9 @@ returns-in-Ok-clause-begun c = λ bytes left h.
     let begun = c.new-reader.ensures.begun bytes (take len held) (rest ++ h.untaken) whole place in
     let small = subst (λ t. length t ≤ 4096) (sym rest_is) (rest-is-small held len header h) in
     let read = c.in-Ok.ensures.read bytes h.untaken [] small begun in
-    let first = c.in-Ok.ensures.first ∙ c.new-reader.ensures.first in
-    (
+    let first = c.in-Ok.ensures.first ∙ c.new-reader.ensures.first in (
       subst (IsHeader bytes) (sym first)
-      (subst (λ t. IsHeader t len) (sym h.whole) (goes-on held h.untaken len header)),
+          (subst (λ t. IsHeader t len) (sym h.whole) (goes-on held h.untaken len header)),
       c.in-Ok.ensures.limit ∙ c.new-reader.ensures.limit,
       subst (λ b. IsTrue b → ⊥) (sym c.in-Ok.ensures.ended) c.new-reader.ensures.not_ended,
       subst (λ o. HasRead StandsAnywhere bytes o [] c.push.new.self) (sym h.left_is) read,

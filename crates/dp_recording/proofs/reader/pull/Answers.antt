@@ -8,13 +8,12 @@ use Rattle.dp_recording.proofs.reader.pull.Goals as goal
 
 pub returns-in-Ok-None-clause-done : goal.returns-in-Ok-None-clause-done
 returns-in-Ok-None-clause-done g c = λ bytes entries h.
-    let first = c.args.reader.first in
-    (
+    let first = c.args.reader.first in (
       (
         first,
         h.0,
         subst (λ limit. ComesTo StandsAnywhere first limit bytes entries Done) h.1
-        (none-holds _ c.in-Ok-None.field-0-is (c.in-Ok-None.ensures.done h.2) bytes entries h.3),
+            (none-holds _ c.in-Ok-None.field-0-is (c.in-Ok-None.ensures.done h.2) bytes entries h.3),
       ),
       none-holds _ c.in-Ok-None.field-0-is (c.in-Ok-None.ensures.at_end h.2),
     )

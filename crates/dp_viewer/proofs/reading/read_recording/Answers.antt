@@ -1,5 +1,6 @@
-use Rattle.std.proofs.Common.{refl}
-use Rattle.dp_viewer.proofs.Recordings.{shows-first, shows-done, shows-end, blames-going, inside-end}
+use Rattle.std.proofs.Common.{refl, ◌∙◌}
+use Rattle.dp_viewer.proofs.Recordings.{on-no-error, shows-further}
+use Rattle.dp_viewer.proofs.Recordings.{shows-first, shows-done, shows-end, blames-going}
 use Rattle.dp_viewer.proofs.reading.read_recording.Goals as goal
 
 pub entries-init : goal.entries-init
@@ -10,6 +11,21 @@ entries-init g c = record {
   going = rw c.new-reader.ensures tt;
   kept = refl;
 }
+
+pub entries-preserved : goal.entries-preserved
+entries-preserved g c =
+    let given = rw c.in-Ok-Some.field-0-is at c.in-Ok-Some.ensures.given in
+    let kept = on-no-error c.keep.result c.is_err.result c.is_err.ensures.value c.if-is_err.false
+    c.keep.ensures.kept in
+    record {
+      told =
+          shows-further c.args.at (g.I.Source.left c.args.input.now)
+          (g.I.Source.left c.entries.input) (g.I.Source.left c.next.new.input)
+          c.entries.entries.items c.keep.new.entries.items c.in-Ok-Some.entry c.entries.reader
+          c.next.new.self given kept c.entries.invariant.told;
+      going = rw c.in-Ok-Some.field-0-is at c.in-Ok-Some.ensures.goes_on;
+      kept = c.in-Ok-Some.ensures.kept ∙ c.entries.invariant.kept;
+    }
 
 pub returns-in-Ok-None-clause-told : goal.returns-in-Ok-None-clause-told
 returns-in-Ok-None-clause-told g c =

@@ -8,10 +8,10 @@ pub returns-clause-given : goal.returns-clause-given
 returns-clause-given g c =
     let same : c.replace.result ≡ c.args.self.now = c.replace.ensures.value ∙ c.self.view_is in
     IfOk-weaker c.go_on-phase.result.1 _ _ (λ next. some-weaker next (λ entry said bytes entries h.
-      said bytes entries (so-far bytes _ entries same h))) c.go_on-phase.ensures.given
+    said bytes entries (so-far bytes _ entries same h))) c.go_on-phase.ensures.given
 
 pub returns-clause-done : goal.returns-clause-done
 returns-clause-done g c =
     let same : c.replace.result ≡ c.args.self.now = c.replace.ensures.value ∙ c.self.view_is in
     IfOk-weaker c.go_on-phase.result.1 _ _ (λ next. none-weaker next (λ said bytes entries h.
-      said bytes entries (so-far bytes _ entries same h))) c.go_on-phase.ensures.done
+    said bytes entries (so-far bytes _ entries same h))) c.go_on-phase.ensures.done

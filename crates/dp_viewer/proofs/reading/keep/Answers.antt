@@ -1,2 +1,0 @@
-use Rattle.dp_viewer.proofs.Recordings.{kept-more, kept-same}
-use Rattle.dp_viewer.proofs.reading.keep.Goals as goal
