@@ -1,4 +1,1 @@
-pub mod Inputs
-pub mod Replaying
-pub mod OneWord
 pub mod Completeness

@@ -1,33 +1,33 @@
--- The words of the commands.
-use Rattle.std.specs.Prelude.{◌≡◌, ℕ, ◌⊎◌, List, [], ◌∷◌, codes, map, string_bytes}
+-- What the words ask for.
+use Rattle.std.specs.Prelude.{List, map, string_bytes, ⊤}
 use Rattle.std.specs.declared.string.String.{String}
-use Rattle.dp_app.specs.declared.words.Command.{Command}
-use Rattle.dp_app.specs.declared.words.Command.TheVariants.{Replay, World}
+use Rattle.dp_words.specs.declared.command_line.CommandLine.{CommandLine}
+use Rattle.dp_words.specs.declared.command_line.CommandLine.TheVariants.{Replay, World, Play, Join}
+use Rattle.dp_words.specs.CommandLines.{AsksFor, IsCommandLine}
 
--- the words of the commands
-abbrev pub replay_word : List ℕ
-replay_word = codes "replay"
-
-abbrev pub world_word : List ℕ
-world_word = codes "world"
-
--- the words are this single one
-abbrev pub AreWord : {A : Type 0} → List ℕ → List (String A) → Type 0
-AreWord word words = map string_bytes words ≡ word ∷ []
-
--- the words are the single word `replay`
-abbrev pub IsReplay : {A : Type 0} → List (String A) → Type 0
-IsReplay words = AreWord replay_word words
-
--- the words are the single word `world`
-abbrev pub IsWorld : {A : Type 0} → List (String A) → Type 0
-IsWorld words = AreWord world_word words
+-- the words ask for the command
+abbrev pub Asks : {A : Type 0} → List (String A) → CommandLine → Type 0
+Asks words command = AsksFor (map string_bytes words) command
 
 -- the words are a command
 abbrev pub IsCommand : {A : Type 0} → List (String A) → Type 0
-IsCommand words = IsReplay words ⊎ IsWorld words
+IsCommand words = IsCommandLine (map string_bytes words)
 
--- the words name the command
-abbrev pub NamesCommand : {A : Type 0} → List (String A) → Command → Type 0
-NamesCommand words Replay = IsReplay words
-NamesCommand words World = IsWorld words
+-- the words ask for `world`
+abbrev pub IsWorld : {A : Type 0} → List (String A) → Type 0
+IsWorld words = Asks words World
+
+-- a run happens of the command: it needs no link
+abbrev pub Runs : CommandLine → Type 0
+Runs Replay = ⊤
+Runs World = ⊤
+Runs (Play at) = ⊤
+Runs (Join addr user) = ⊥
+
+-- the words ask for a command of which a run happens
+abbrev pub AskForRun : {A : Type 0} → List (String A) → Type 0
+AskForRun words = (command : CommandLine) × Asks words command × Runs command
+
+-- the words ask for a command that needs a link
+abbrev pub AskForLink : {A : Type 0} → List (String A) → Type 0
+AskForLink words = (command : CommandLine) × Asks words command × ¬ Runs command

@@ -4,38 +4,53 @@ ghost use Rattle.std.specs.Prelude.{◌≡◌, ◌≤◌, ◌++◌, length, code
 ghost use Rattle.std.specs.Io.KnownBytes.{Appends};
 ghost use Rattle.dp_io.specs.Faults.{HasCause, any_fault};
 ghost use Rattle.dp_io.specs.Streams.{GrowsByPrefix};
-ghost use Rattle.dp_app.specs.Answer.{line_of, Says, SaysUsage};
+ghost use Rattle.dp_app.specs.Answer.{line_of, SaysLine};
+ghost use Rattle.dp_app.specs.Endings.{code_of, ending_line};
 
+use crate::ending::Ending;
 use crate::status::status_of;
 use arrayvec::ArrayString;
 use dp_io::{Failed, Sink, put_all};
 use dp_lines::RunEnd;
 use itoa::Buffer;
 
-/// Says how the run ended, and answers the program's status: 4 where diag fails.
-pub(crate) fn say<E: Sink>(diag: &mut E, end: RunEnd) -> u8
-    ensures says { Says (E.held diag.old) (E.held diag.new)
-        (E.faults diag.old) (E.faults diag.new) result end }
+/// Says how the program ended, and answers its status: 4 where diag fails.
+pub(crate) fn say<E: Sink>(diag: &mut E, ending: Ending) -> u8
+    ensures says { SaysLine (code_of ending) (ending_line ending) (E.held diag.old) (E.held diag.new)
+        (E.faults diag.old) (E.faults diag.new) result }
     ensures later { E.faults diag.old ≤ E.faults diag.new }
 {
-    match put_line(diag, end) {
-        Ok(()) => status_of(end),
+    match put_ending(diag, ending) {
+        Ok(()) => code_of(ending),
         Err(Failed) => status_of(RunEnd::WriteFault),
     }
 }
 
-/// Says what the words may be, and answers the program's status: 4 where diag fails.
-pub(crate) fn say_usage<E: Sink>(diag: &mut E) -> u8
-    ensures says { SaysUsage (E.held diag.old) (E.held diag.new)
-        (E.faults diag.old) (E.faults diag.new) result }
-    ensures later { E.faults diag.old ≤ E.faults diag.new }
+/// The program's status where it ends so.
+fn code_of(ending: Ending) -> u8
+    ensures { result ≡ code_of ending }
 {
-    match put_all(
-        diag,
-        b"usage: drawpile replay, world, play, join, serve or drill\n",
-    ) {
-        Ok(()) => 1,
-        Err(Failed) => status_of(RunEnd::WriteFault),
+    match ending {
+        Ending::Usage => 1,
+        Ending::NoLink => 13,
+        Ending::NoWords => status_of(RunEnd::Memory),
+        Ending::Run(end) => status_of(end),
+    }
+}
+
+fn put_ending<E: Sink>(diag: &mut E, ending: Ending) -> Result<(), Failed>
+    ensures line { OnOk result (Appends (E.held diag.old) (E.held diag.new) (ending_line ending)) }
+    ensures prefix { GrowsByPrefix (E.held diag.old) (E.held diag.new) (ending_line ending) }
+    ensures cause { HasCause any_fault (E.faults diag.old) (E.faults diag.new) result }
+{
+    match ending {
+        Ending::Usage => put_all(
+            diag,
+            b"usage: drawpile replay, world, play, join, serve or drill\n",
+        ),
+        Ending::NoLink => put_all(diag, b"no link\n"),
+        Ending::NoWords => put_line(diag, RunEnd::Memory),
+        Ending::Run(end) => put_line(diag, end),
     }
 }
 

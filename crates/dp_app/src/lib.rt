@@ -2,15 +2,11 @@
 #![tactic(auto)]
 
 mod diagnostics;
-mod entries;
-mod laws;
+mod ending;
 mod program;
-mod replay;
+mod running;
 mod status;
-mod words;
 
 pub use dp_lines::RunEnd;
-pub use laws::one_reading;
 pub use program::{Outcome, drawpile};
 pub use status::status_of;
-pub use words::Command;

@@ -3,25 +3,24 @@
 ghost use Rattle.std.specs.Prelude.{◌≡◌, ◌≢◌, ◌⊎◌, ◌<◌, ◌≤◌, IfSome};
 ghost use Rattle.std.specs.Io.KnownBytes.{Keeps, IsAtEnd};
 ghost use Rattle.dp_io.specs.Faults.{Rose};
-ghost use Rattle.dp_lines.specs.declared.run_end.RunEnd.{RunEnd as run_end};
+ghost use Rattle.dp_lines.specs.declared.run_end.RunEnd.{RunEnd};
+ghost use Rattle.dp_lines.specs.declared.run_end.RunEnd.TheVariants.{Memory};
+ghost use Rattle.dp_words.specs.declared.command_line.CommandLine.{CommandLine};
 ghost use Rattle.dp_world.specs.RunEnds.{Blames};
-ghost use Rattle.dp_app.specs.declared.words.Command.{Command as Named};
 ghost use Rattle.dp_app.specs.Answer.{Answer, CommandLeaves, HasHeadline, IsDue, IsGiven};
-ghost use Rattle.dp_app.specs.Answer.{Says, SaysUsage};
-ghost use Rattle.dp_app.specs.Commands.{IsCommand, IsWorld, NamesCommand};
+ghost use Rattle.dp_app.specs.Answer.{Says, SaysNoLink, SaysUsage};
+ghost use Rattle.dp_app.specs.Commands.{AskForLink, AskForRun, Asks, IsCommand, IsWorld, Runs};
 
-use crate::diagnostics::{say, say_usage};
-use crate::laws::one_reading;
-use crate::replay::run_replay;
-use crate::words::{Command, command_of};
-use dp_io::{Failed, Sink, Source};
-use dp_lines::RunEnd;
+use crate::diagnostics::say;
+use crate::running::run_words;
+use dp_io::{Sink, Source};
 use dp_sim::headline;
 use dp_steps::Steps;
-use dp_world::{one_schedule, run_world};
+use dp_viewer::{one_play, one_replay};
+use dp_words::one_command_line;
+use dp_world::one_schedule;
 use std::alloc::Global;
-use std::marker::Brand;
-use std::sync::ledger::{Blank, Ledger};
+use std::sync::ledger::Ledger;
 
 /// What the program ends with.
 #[derive(Clone, Copy, Debug, PartialEq, Eq)]
@@ -31,29 +30,40 @@ pub struct Outcome {
 }
 
 /// The program: its words after its name, its input, its output, and where it says why it ended.
-/// Nothing else is read or written.
-pub fn drawpile<I: Source, O: Sink, E: Sink>(
+/// The work on its canvas is counted. Nothing else is read or written.
+pub fn drawpile<I: Source, O: Sink, E: Sink, D: Ledger, T: Ledger>(
     alloc: Global,
     words: &[String],
     input: &mut I,
     output: &mut O,
     diag: &mut E,
+    draws: &mut Steps<D>,
+    tiles: &mut Steps<T>,
 ) -> Outcome
-    // Words that are no command are refused, and touch neither input nor output.
+    // Words that are no command are refused, and so is a command that needs a link, for there is
+    // none. Neither input nor output is touched then. Reading the words can run out of memory.
     ensures usage { result.status ≡ 1 → ¬ IsCommand words.now }
     ensures other_words { ¬ IsCommand words.now
         → SaysUsage (E.held diag.old) (E.held diag.new) (E.faults diag.old) (E.faults diag.new)
-        result.status }
-    ensures untouched { ¬ IsCommand words.now
+        result.status
+        ⊎ Says (E.held diag.old) (E.held diag.new) (E.faults diag.old) (E.faults diag.new)
+        result.status Memory }
+    ensures no_link { AskForLink words.now
+        → SaysNoLink (E.held diag.old) (E.held diag.new) (E.faults diag.old) (E.faults diag.new)
+        result.status
+        ⊎ Says (E.held diag.old) (E.held diag.new) (E.faults diag.old) (E.faults diag.new)
+        result.status Memory }
+    ensures untouched { ¬ AskForRun words.now
         → Keeps (I.left input.old) (I.left input.new) × Keeps (O.held output.old)
         (O.held output.new) }
-    ensures uncounted { ¬ IsCommand words.now
+    ensures uncounted { ¬ AskForRun words.now
         → (I.faults input.new ≡ I.faults input.old) × (O.faults output.new ≡ O.faults output.old) }
 
     // A command ends in one of the ways of a run: what the input comes to decides what is written,
     // the fault that ends it is the one that was counted, and the status and the line on diag
     // report it. Of `world` what is written is the report of the lines that are done.
-    ensures ends { (command : Named) → NamesCommand words.now command → (end : run_end)
+    ensures ends { (command : CommandLine) → Asks words.now command → Runs command
+        → (end : RunEnd)
         × CommandLeaves command (I.left input.old) (I.left input.new)
         (O.held output.old) (O.held output.new) end
         × Blames (I.faults input.old) (I.faults input.new)
@@ -67,7 +77,7 @@ pub fn drawpile<I: Source, O: Sink, E: Sink>(
     // nothing.
     ensures headline { IsWorld words.now → IfSome (I.left input.old) HasHeadline }
 
-    // Of both: the input is read to its end, faults are reported, and none is passed over.
+    // Of all: the input is read to its end, faults are reported, and none is passed over.
     ensures to_end { IsCommand words.now → (result.status ≡ 0) ⊎ (result.status ≡ 9)
         → IsAtEnd (I.left input.new) }
     ensures fault_told { IsCommand words.now → I.faults input.old < I.faults input.new
@@ -75,7 +85,7 @@ pub fn drawpile<I: Source, O: Sink, E: Sink>(
         ⊎ ((result.status ≡ 4) × Rose (E.faults diag.old) (E.faults diag.new)) }
     ensures unfailed { IsCommand words.now
         → (result.status ≡ 0) ⊎ (result.status ≡ 2) ⊎ (result.status ≡ 8) ⊎ (result.status ≡ 9)
-        ⊎ (result.status ≡ 10)
+        ⊎ (result.status ≡ 10) ⊎ (result.status ≡ 12)
         → (I.faults input.new ≡ I.faults input.old) × (O.faults output.new ≡ O.faults output.old) }
 
     // Faults have their causes.
@@ -104,49 +114,13 @@ pub fn drawpile<I: Source, O: Sink, E: Sink>(
         → IsGiven answer result.status
         (O.held output.old) (O.held output.new) (E.held diag.old) (E.held diag.new)) }
 {
-    one_reading();
+    one_command_line();
+    one_replay();
+    one_play();
     one_schedule();
     headline();
-    let Some(command) = command_of(words) else {
-        return Outcome {
-            status: say_usage(diag),
-        };
-    };
-    let end = run_counted::<_, _, Brand, Brand>(
-        alloc,
-        command,
-        input,
-        output,
-        Blank::new(1),
-        Blank::new(1),
-    );
+    let ending = run_words(alloc, words, input, output, draws, tiles);
     Outcome {
-        status: say(diag, end),
-    }
-}
-
-/// Runs a command with counters over these blanks.
-fn run_counted<I: Source, O: Sink, D: Ledger, T: Ledger>(
-    alloc: Global,
-    command: Command,
-    input: &mut I,
-    output: &mut O,
-    draws: Blank,
-    tiles: Blank,
-) -> RunEnd
-    requires draws { (draws.name ≡ D.name) × (draws.parts ≡ D.parts) × (0 < draws.parts) }
-    requires tiles { (tiles.name ≡ T.name) × (tiles.parts ≡ T.parts) × (0 < tiles.parts) }
-    ensures leaves { CommandLeaves command (I.left input.old) (I.left input.new)
-        (O.held output.old) (O.held output.new) result }
-    ensures blames { Blames (I.faults input.old) (I.faults input.new)
-        (O.faults output.old) (O.faults output.new) result }
-    ensures input_later { I.faults input.old ≤ I.faults input.new }
-    ensures output_later { O.faults output.old ≤ O.faults output.new }
-{
-    let mut draws = Steps::<D>::new(draws);
-    let mut tiles = Steps::<T>::new(tiles);
-    match command {
-        Command::Replay => run_replay(alloc, input, output, &mut draws, &mut tiles),
-        Command::World => run_world(alloc, input, output, &mut draws, &mut tiles),
+        status: say(diag, ending),
     }
 }

@@ -1,8 +1,7 @@
 //! The status of each way to end.
 
-ghost use Rattle.std.specs.Prelude.{◌≡◌, IsTrue};
+ghost use Rattle.std.specs.Prelude.{◌≡◌};
 ghost use Rattle.dp_app.specs.Answer.{status_of};
-ghost use Rattle.dp_app.specs.Read.{ReadsToEnd};
 
 use dp_lines::RunEnd;
 
@@ -23,12 +22,4 @@ pub fn status_of(end: RunEnd) -> u8
         RunEnd::Closed => 11,
         RunEnd::BadHeader => 12,
     }
-}
-
-/// Whether a run of `replay` that ends so read its input to the end.
-pub(crate) fn reads_to_end(end: RunEnd) -> bool
-    ensures yes { IsTrue result → ReadsToEnd end }
-    ensures no { ReadsToEnd end → IsTrue result }
-{
-    matches!(end, RunEnd::Done | RunEnd::Truncated(_))
 }

@@ -2,8 +2,8 @@
 
 ghost use Rattle.std.specs.Prelude.{◌≤◌, None, length};
 
-use crate::running::{Faults, NO_FAULTS, run};
-use dp_app::{Outcome, drawpile};
+use crate::running::{Faults, NO_FAULTS, outcome_of, run, words_of};
+use dp_app::Outcome;
 use dp_io::{Failed, MemSink, MemSource, Source};
 use std::alloc::Global;
 use std::process::Abort;
@@ -147,7 +147,7 @@ fn push_hex(bytes: &mut Vec<u8>, text: &str) -> Result<(), Fail> {
 }
 
 /// The bytes of these frames.
-fn input_of(alloc: Global, words: &str) -> Result<Vec<u8>, Fail> {
+pub(crate) fn input_of(alloc: Global, words: &str) -> Result<Vec<u8>, Fail> {
     let mut bytes = Vec::new(alloc);
     for word in words.split_whitespace() {
         push_hex(&mut bytes, frame(word))?;
@@ -156,7 +156,7 @@ fn input_of(alloc: Global, words: &str) -> Result<Vec<u8>, Fail> {
 }
 
 /// The picture of this head and these pixels, or nothing.
-fn picture_of(alloc: Global, head: &str, pixels: &str) -> Result<Vec<u8>, Fail> {
+pub(crate) fn picture_of(alloc: Global, head: &str, pixels: &str) -> Result<Vec<u8>, Fail> {
     let mut bytes = Vec::new(alloc);
     if !head.is_empty() {
         bytes.extend_from_slice(b"P6\n")?;
@@ -287,7 +287,7 @@ fn the_greatest_canvas(rt: HostRuntime) -> Result<(), Fail> {
     let mut source = MemSource::new(input, 4096, Vec::new(alloc));
     let mut output = MemSink::new(alloc, 50_400_000, 50_400_000, Vec::new(alloc))?;
     let mut diag = MemSink::new(alloc, 100, 100, Vec::new(alloc))?;
-    let outcome = drawpile(alloc, &words, &mut source, &mut output, &mut diag);
+    let outcome = outcome_of(alloc, &words, &mut source, &mut output, &mut diag);
     assert_eq!(rt; outcome, Outcome { status: 0 });
     assert_eq!(rt; output.as_slice().len(), 17 + 50_331_648);
     let pixels = output.as_slice().get(17..).unwrap_or(&[]);
@@ -308,15 +308,20 @@ fn words_that_are_no_command(rt: HostRuntime) -> Result<(), Fail> {
         "replay replay",
         "replay x",
         "--help",
+        "help",
+        "play x",
+        "play --at",
+        "play --at=+3",
+        "play --at 4294967296",
+        "play --at 1 --at 2",
+        "join localhost:7",
+        "join localhost:7 abcdefghijklmnopqrstuvwxyz0123456",
     ] {
-        let mut list = Vec::new(alloc);
-        for word in words.split_whitespace() {
-            list.push(String::from_str(alloc, word)?)?;
-        }
+        let list = words_of(alloc, words)?;
         let mut source = MemSource::new(Vec::new(alloc), 1, Vec::new(alloc));
         let mut output = MemSink::new(alloc, 100, 1, Vec::new(alloc))?;
         let mut diag = MemSink::new(alloc, 100, 1, Vec::new(alloc))?;
-        let outcome = drawpile(alloc, &list, &mut source, &mut output, &mut diag);
+        let outcome = outcome_of(alloc, &list, &mut source, &mut output, &mut diag);
         assert_eq!(rt; outcome, Outcome { status: 1 }, "{words}");
         assert!(rt; output.as_slice().is_empty(), "{words}");
         assert_eq!(rt;
@@ -509,7 +514,7 @@ fn inputs_about_the_limit(rt: HostRuntime) -> Result<(), Fail> {
         let mut source = long_source(alloc, title, behind)?;
         let mut output = MemSink::new(alloc, 100, 100, Vec::new(alloc))?;
         let mut diag = MemSink::new(alloc, 100, 100, Vec::new(alloc))?;
-        let outcome = drawpile(alloc, &words, &mut source, &mut output, &mut diag);
+        let outcome = outcome_of(alloc, &words, &mut source, &mut output, &mut diag);
         assert_eq!(rt; outcome, Outcome { status });
         assert_eq!(rt; diag.as_slice(), line.as_bytes());
         let picture = picture_of(alloc, if status == 0 { "0 0" } else { "" }, "")?;

@@ -1,9 +1,14 @@
 //! Runs of the program over sources and sinks in memory.
 
-use dp_app::drawpile;
-use dp_io::{MemSink, MemSource};
+ghost use Rattle.std.specs.Prelude.{◌≡◌, ◌<◌};
+
+use dp_app::{Outcome, drawpile};
+use dp_io::{MemSink, MemSource, Sink, Source};
+use dp_steps::Steps;
 use std::alloc::Global;
+use std::marker::Brand;
 use std::process::Abort;
+use std::sync::ledger::{Blank, Ledger};
 use std::test::Fail;
 
 /// The calls that fail, by their numbers from 1, of a run's input, output and diag.
@@ -28,17 +33,17 @@ pub struct Ran {
     pub diag: MemSink,
 }
 
-/// Runs a command on the input in pieces of this length, and writes in pieces of this length.
+/// Runs words on the input in pieces of this length, and writes in pieces of this length.
 pub fn run(
     rt: &impl Abort,
     alloc: Global,
-    word: &str,
+    words: &str,
     input: &[u8],
     piece: usize,
     faults: Faults<'_>,
 ) -> Result<Ran, Fail> {
     assert!(rt; piece >= 1);
-    let words = [String::from_str(alloc, word)?];
+    let words = words_of(alloc, words)?;
     let mut source = MemSource::new(
         Vec::from_slice(alloc, input)?,
         piece,
@@ -51,10 +56,56 @@ pub fn run(
         Vec::from_slice(alloc, faults.output)?,
     )?;
     let mut diag = MemSink::new(alloc, 1000, piece, Vec::from_slice(alloc, faults.diag)?)?;
-    let status = drawpile(alloc, &words, &mut source, &mut output, &mut diag).status;
+    let status = outcome_of(alloc, &words, &mut source, &mut output, &mut diag).status;
     Ok(Ran {
         status,
         output,
         diag,
     })
+}
+
+/// The words of a text.
+pub fn words_of(alloc: Global, text: &str) -> Result<Vec<String>, Fail> {
+    let mut words = Vec::new(alloc);
+    for word in text.split_whitespace() {
+        words.push(String::from_str(alloc, word)?)?;
+    }
+    Ok(words)
+}
+
+/// Runs the program with new counters.
+pub fn outcome_of<I: Source, O: Sink, E: Sink>(
+    alloc: Global,
+    words: &[String],
+    input: &mut I,
+    output: &mut O,
+    diag: &mut E,
+) -> Outcome {
+    counted::<_, _, _, Brand, Brand>(
+        alloc,
+        words,
+        input,
+        output,
+        diag,
+        Blank::new(1),
+        Blank::new(1),
+    )
+}
+
+/// Runs the program with counters over these blanks.
+fn counted<I: Source, O: Sink, E: Sink, D: Ledger, T: Ledger>(
+    alloc: Global,
+    words: &[String],
+    input: &mut I,
+    output: &mut O,
+    diag: &mut E,
+    draws: Blank,
+    tiles: Blank,
+) -> Outcome
+    requires draws { (draws.name ≡ D.name) × (draws.parts ≡ D.parts) × (0 < draws.parts) }
+    requires tiles { (tiles.name ≡ T.name) × (tiles.parts ≡ T.parts) × (0 < tiles.parts) }
+{
+    let mut draws = Steps::<D>::new(draws);
+    let mut tiles = Steps::<T>::new(tiles);
+    drawpile(alloc, words, input, output, diag, &mut draws, &mut tiles)
 }

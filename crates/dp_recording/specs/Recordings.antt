@@ -89,6 +89,22 @@ measure_of (Reading reader) = reader.limit - reader.stream.at
 measure_of Finished = 0
 measure_of (Failed error) = 0
 
+-- it has not ended
+abbrev pub GoesOn : Phase → Type 0
+GoesOn New = Unit {0}
+GoesOn (Reading reader) = ¬ IsTrue reader.ended
+GoesOn Finished = ⊥
+GoesOn (Failed error) = ⊥
+
+-- the input is at its end where reading it ended inside a frame
+abbrev pub EndsWithInput : Option (List ℕ) → RecError → Type 0
+EndsWithInput left (Truncated at) = IsAtEnd left
+EndsWithInput left BadHeader = Unit {0}
+EndsWithInput left ReadFault = Unit {0}
+EndsWithInput left (Message at why) = Unit {0}
+EndsWithInput left Long = Unit {0}
+EndsWithInput left Memory = Unit {0}
+
 -- What was read of an input of which these bytes are left, and what entries it gave: nothing was
 -- read; a header, and entries after it; all of it; or it ended so.
 abbrev pub HasReadOf : List ℕ → Option (List ℕ) → List Entry → Phase → Type 0

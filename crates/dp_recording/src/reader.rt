@@ -1,7 +1,8 @@
 //! Reading a recording.
 
 ghost use Rattle.std.specs.Prelude.{◌≡◌, ◌<◌, ◌≤◌, ◌⊎◌, ℕ, List, [], ◌∷◌, ◌++◌, length, Err, Some};
-ghost use Rattle.std.specs.Prelude.{IfOk, IfErr, IfSome, IfNone, OnOk, Option};
+ghost use Rattle.std.specs.Prelude.{IfOk, IfErr, IfSome, IfNone, IsTrue, OnOk, OnSome, Option};
+ghost use Rattle.std.specs.Io.KnownBytes.{IsAtEnd};
 ghost use Rattle.dp_messages.specs.declared.message.Entry.{Entry as Item};
 ghost use Rattle.dp_recording.specs.declared.reader.RecError.{RecError as Error};
 ghost use Rattle.dp_recording.specs.declared.reader.RecError.TheVariants.{Memory};
@@ -9,8 +10,8 @@ ghost use Rattle.dp_recording.specs.declared.reader.Phase.TheVariants.{New, Read
 ghost use Rattle.dp_recording.specs.declared.reader.Phase.TheVariants.{Failed};
 ghost use Rattle.dp_recording.specs.Headers.{IsHeader, IsShort};
 ghost use Rattle.dp_recording.specs.Recordings.{Blames, EndsEarly, EndsRecording, HasReadOf};
-ghost use Rattle.dp_recording.specs.Recordings.{HoldsHeader, end_of, error_of, measure_of};
-ghost use Rattle.dp_recording.specs.Recordings.{recording_limit};
+ghost use Rattle.dp_recording.specs.Recordings.{EndsWithInput, GoesOn, HoldsHeader, end_of, error_of};
+ghost use Rattle.dp_recording.specs.Recordings.{measure_of, recording_limit};
 
 use crate::header::{HeaderError, read_header};
 use dp_entries::{Anywhere, EntryReader, ReadEnd};
@@ -126,6 +127,12 @@ impl RecordingReader {
         ensures further { IfOk result (λ next. IfSome next (λ _.
             measure_of self.new < measure_of self.old)) }
 
+        // Before that it goes on, and it stops at the input's end, where that is the cause.
+        ensures goes_on { IfOk result (λ next. OnSome next (GoesOn self.new)) }
+        ensures at_end { GoesOn self.old → IfOk result (λ next.
+            IfNone next (IsAtEnd (I.left input.new))) }
+        ensures inside { GoesOn self.old → IfErr result (EndsWithInput (I.left input.new)) }
+
         // It stays so.
         ensures finished { IfOk result (λ next. IfNone next (self.new ≡ Finished)) }
         ensures failed { IfErr result (λ error. self.new ≡ Failed error) }
@@ -162,6 +169,10 @@ fn go_on<I: Source>(
         → EndsRecording bytes (I.left input.new) entries error) }
     ensures further { IfOk result.1 (λ next. IfSome next (λ _.
         measure_of result.0 < measure_of phase)) }
+    ensures goes_on { IfOk result.1 (λ next. OnSome next (GoesOn result.0)) }
+    ensures at_end { GoesOn phase → IfOk result.1 (λ next.
+        IfNone next (IsAtEnd (I.left input.new))) }
+    ensures inside { GoesOn phase → IfErr result.1 (EndsWithInput (I.left input.new)) }
     ensures finished { IfOk result.1 (λ next. IfNone next (result.0 ≡ Finished)) }
     ensures failed { IfErr result.1 (λ error. result.0 ≡ Failed error) }
     ensures again { (error : Error) → phase ≡ Failed error → (result.1 ≡ Err error)
@@ -201,6 +212,10 @@ fn pull<I: Source>(
     ensures further { IfOk result.1 (λ next. IfSome next (λ _.
         (measure_of result.0 < measure_of (Reading reader))
         × (measure_of result.0 ≤ reader.limit))) }
+    ensures goes_on { IfOk result.1 (λ next. OnSome next (GoesOn result.0)) }
+    ensures at_end { ¬ IsTrue reader.ended → IfOk result.1 (λ next.
+        IfNone next (IsAtEnd (I.left input.new))) }
+    ensures inside { IfErr result.1 (EndsWithInput (I.left input.new)) }
     ensures finished { IfOk result.1 (λ next. IfNone next (result.0 ≡ Finished)) }
     ensures failed { IfErr result.1 (λ error. result.0 ≡ Failed error) }
     ensures kept { OnOk result.1 (I.faults input.new ≡ I.faults input.old) }
@@ -237,6 +252,8 @@ fn open<I: Source>(alloc: Global, input: &mut I) -> Result<EntryReader<Anywhere>
     ensures ends { IfErr result (λ error. (bytes : List ℕ) → I.left input.old ≡ Some bytes
         → EndsEarly bytes (I.left input.new) error) }
     ensures limit { IfOk result (λ reader. reader.limit ≡ recording_limit) }
+    ensures goes_on { IfOk result (λ reader. ¬ IsTrue reader.ended) }
+    ensures inside { IfErr result (EndsWithInput (I.left input.new)) }
     ensures kept { OnOk result (I.faults input.new ≡ I.faults input.old) }
     ensures blames { IfErr result (Blames (I.faults input.old) (I.faults input.new)) }
     ensures later { I.faults input.old ≤ I.faults input.new }
@@ -259,6 +276,7 @@ fn read_piece<I: Source>(input: &mut I, held: &mut Vec<u8>) -> Result<(), RecErr
         → HoldsHeader bytes (I.left input.old) held.old.items
         → HoldsHeader bytes (I.left input.new) held.new.items) }
     ensures more { OnOk result (length held.old.items < length held.new.items) }
+    ensures inside { IfErr result (EndsWithInput (I.left input.new)) }
     ensures ends { IfErr result (λ error. (bytes : List ℕ)
         → HoldsHeader bytes (I.left input.old) held.old.items
         → EndsEarly bytes (I.left input.new) error) }
@@ -287,6 +305,7 @@ fn begin(alloc: Global, held: &[u8], len: usize) -> Result<EntryReader<Anywhere>
     ensures begun { IfOk result (λ reader. (bytes : List ℕ) (left : Option (List ℕ))
         → HoldsHeader bytes left held.now → HasReadOf bytes left [] (Reading reader)) }
     ensures limit { IfOk result (λ reader. reader.limit ≡ recording_limit) }
+    ensures goes_on { IfOk result (λ reader. ¬ IsTrue reader.ended) }
     ensures memory { IfErr result (λ error. error ≡ Memory) }
 {
     let mut reader = EntryReader::new(alloc, len as u64, LIMIT);

@@ -1,7 +1,14 @@
 use Rattle.std.proofs.lemmas.Result.{IfErr-weaker, IfOk-weaker}
-use Rattle.dp_recording.proofs.Ends.{none-weaker}
+use Rattle.dp_recording.proofs.Ends.{none-weaker, some-weaker}
 use Rattle.dp_recording.proofs.Taken.{began}
 use Rattle.dp_recording.proofs.reader.go_on.Goals as goal
+
+pub returns-in-Ok-clause-given : goal.returns-in-Ok-clause-given
+returns-in-Ok-clause-given g c =
+    rw c.in-New.is
+    (IfOk-weaker c.pull.result.1 _ _ (λ next. some-weaker next (λ entry said bytes entries h.
+    said bytes entries (began bytes _ _ entries c.in-Ok.reader c.in-Ok.ensures.begun h)))
+    c.pull.ensures.given)
 
 pub returns-in-Ok-clause-done : goal.returns-in-Ok-clause-done
 returns-in-Ok-clause-done g c =

@@ -1,4 +1,4 @@
-use Rattle.std.proofs.Common.{subst}
+use Rattle.std.proofs.Common.{ℕ, subst}
 use Rattle.dp_lines.specs.declared.run_end.RunEnd.TheVariants.{Done}
 use Rattle.dp_entries.specs.Anywhere.{IsCauseAnywhere, StandsAnywhere}
 use Rattle.dp_entries.specs.Input.{ComesTo}

@@ -1,0 +1,15 @@
+use Rattle.std.proofs.Common.{◌≡◌}
+use Rattle.dp_recording.specs.Recordings.{GoesOn, measure_of}
+use Rattle.dp_viewer.proofs.Recordings.{Shows}
+use Rattle.dp_viewer.proofs.reading.read_recording.Given as goal
+
+-- of the entries that the reader gave the first are kept, it has not ended, and no read failed
+abbrev pub invariant-entries : goal.invariant-entries
+invariant-entries g l = record {
+  told : Shows l.at (g.I.Source.left l.fn.input) (g.I.Source.left l.input) l.entries.items l.reader;
+  going : GoesOn l.reader;
+  kept : g.I.Source.faults l.input ≡ g.I.Source.faults l.fn.input;
+}
+
+abbrev pub decreases-entries : goal.decreases-entries
+decreases-entries g l = measure_of l.reader

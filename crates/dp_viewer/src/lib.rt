@@ -1,0 +1,9 @@
+//! Pictures of what an input shows: of frames, and of a recording.
+#![tactic(auto)]
+
+mod laws;
+mod pictures;
+mod reading;
+
+pub use laws::{one_play, one_replay};
+pub use pictures::{run_play, run_replay};

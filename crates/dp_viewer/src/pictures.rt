@@ -1,0 +1,114 @@
+//! The commands `replay` and `play`: an input whose picture is written.
+
+ghost use Rattle.std.specs.Prelude.{◌≤◌, IsTrue};
+ghost use Rattle.dp_world.specs.RunEnds.{Blames};
+ghost use Rattle.dp_viewer.specs.Pictures.{PictureLeaves};
+ghost use Rattle.dp_viewer.specs.Reading.{ReadsToEnd, WritesShown};
+ghost use Rattle.dp_viewer.specs.Ways.{play_way, replay_way};
+
+use crate::reading::{Reading, read_frames, read_recording};
+use dp_canvas::Canvas;
+use dp_flat::{PictureEnd, write_p6};
+use dp_io::{Sink, Source};
+use dp_lines::RunEnd;
+use dp_messages::Entry;
+use dp_plain::show_on;
+use dp_steps::Steps;
+use std::alloc::Global;
+use std::sync::ledger::Ledger;
+
+/// Reads frames to the input's end, and writes the P6 picture of what they show. Where the input
+/// ends inside a frame, the picture is that of the whole ones.
+///
+/// # Errors
+///
+/// It ends with `BadMessage` at the first frame that carries no message, with `Long` where the
+/// input has more than 1 GiB, with `ReadFault` and `WriteFault` where the input and the output
+/// failed, and with `Memory` where memory ran out.
+///
+/// The rule: docs/protocol.md, "Commands".
+pub fn run_replay<I: Source, O: Sink, D: Ledger, T: Ledger>(
+    alloc: Global,
+    input: &mut I,
+    output: &mut O,
+    draws: &mut Steps<D>,
+    tiles: &mut Steps<T>,
+) -> RunEnd
+    ensures leaves { PictureLeaves replay_way (I.left input.old) (I.left input.new)
+        (O.held output.old) (O.held output.new) result }
+    ensures blames { Blames (I.faults input.old) (I.faults input.new)
+        (O.faults output.old) (O.faults output.new) result }
+    ensures input_later { I.faults input.old ≤ I.faults input.new }
+    ensures output_later { O.faults output.old ≤ O.faults output.new }
+{
+    let Reading { entries, end } = read_frames(alloc, input);
+    if reads_to_end(end) {
+        write_shown(alloc, &entries, output, end, draws, tiles)
+    } else {
+        end
+    }
+}
+
+/// Reads a recording to its end, and writes the P6 picture of its first entries, so many, or of
+/// all. Those after them are read and judged all the same. Where the recording ends inside a frame,
+/// the picture is that of the whole ones.
+///
+/// # Errors
+///
+/// As `run_replay`, and with `BadHeader` where the input begins with no header. Places are counted
+/// from the input's start.
+///
+/// The rule: docs/protocol.md, "Recordings".
+pub fn run_play<I: Source, O: Sink, D: Ledger, T: Ledger>(
+    alloc: Global,
+    input: &mut I,
+    output: &mut O,
+    at: Option<u32>,
+    draws: &mut Steps<D>,
+    tiles: &mut Steps<T>,
+) -> RunEnd
+    ensures leaves { PictureLeaves (play_way at) (I.left input.old) (I.left input.new)
+        (O.held output.old) (O.held output.new) result }
+    ensures blames { Blames (I.faults input.old) (I.faults input.new)
+        (O.faults output.old) (O.faults output.new) result }
+    ensures input_later { I.faults input.old ≤ I.faults input.new }
+    ensures output_later { O.faults output.old ≤ O.faults output.new }
+{
+    let Reading { entries, end } = read_recording(alloc, input, at);
+    if reads_to_end(end) {
+        write_shown(alloc, &entries, output, end, draws, tiles)
+    } else {
+        end
+    }
+}
+
+/// Whether the input is read to its end where reading it ends so.
+fn reads_to_end(end: RunEnd) -> bool
+    ensures yes { IsTrue result → ReadsToEnd end }
+    ensures no { ReadsToEnd end → IsTrue result }
+{
+    matches!(end, RunEnd::Done | RunEnd::Truncated(_))
+}
+
+/// Writes the picture of what the entries show. Ends as given where it is written.
+fn write_shown<O: Sink, D: Ledger, T: Ledger>(
+    alloc: Global,
+    entries: &[Entry],
+    output: &mut O,
+    end: RunEnd,
+    draws: &mut Steps<D>,
+    tiles: &mut Steps<T>,
+) -> RunEnd
+    ensures shown { WritesShown (O.held output.old) (O.held output.new)
+        (O.faults output.old) (O.faults output.new) entries.now end result }
+    ensures later { O.faults output.old ≤ O.faults output.new }
+{
+    let Ok(canvas) = show_on(alloc, Canvas::new(alloc), entries, draws, tiles) else {
+        return RunEnd::Memory;
+    };
+    match write_p6(alloc, &canvas, output) {
+        Ok(()) => end,
+        Err(PictureEnd::Failed) => RunEnd::WriteFault,
+        Err(PictureEnd::Memory) => RunEnd::Memory,
+    }
+}
