@@ -16,6 +16,5 @@ pub use devices::{Devices, wanted};
 pub use laws::{one_command_line, some_command_lines};
 pub use parser::read_words;
 
-
 #[cfg(test)]
 mod tests;

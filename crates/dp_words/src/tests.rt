@@ -16,7 +16,10 @@ const LINES: [(&str, &str); 34] = [
     ("join|localhost:4000|ann", "join localhost:4000 ann"),
     ("join|--|-a|-b", "join -a -b"),
     ("join||ann", "join  ann"),
-    ("join|a|12345678901234567890123456789012", "join a 12345678901234567890123456789012"),
+    (
+        "join|a|12345678901234567890123456789012",
+        "join a 12345678901234567890123456789012",
+    ),
     ("", "-"),
     ("paint", "-"),
     ("Replay", "-"),
@@ -62,7 +65,11 @@ fn no_words(rt: HostRuntime) -> Result<(), Fail> {
 #[test]
 fn only_join_wants_a_link(rt: HostRuntime) -> Result<(), Fail> {
     let alloc = rt.alloc();
-    for (line, wants) in [("join|a:1|ann", "a:1"), ("play|--at|3", "-"), ("join|a:1", "-")] {
+    for (line, wants) in [
+        ("join|a:1|ann", "a:1"),
+        ("play|--at|3", "-"),
+        ("join|a:1", "-"),
+    ] {
         let words = words_of(alloc, line)?;
         let devices = wanted(alloc, words.as_slice())?;
         let addr = match &devices {
