@@ -22,7 +22,7 @@ PY
 time_all() {
   local command=$1 input
   shift
-  "$top/bin/drawpile" "$command" </dev/null >/dev/null
+  "$top/bin/drawpile" replay </dev/null >/dev/null
   for input in "$@"; do
     echo "$input: $(stat -c %s "$work/$input") bytes in"
     time "$top/bin/drawpile" "$command" <"$work/$input" >/dev/null
