@@ -1,5 +1,5 @@
 -- What a recording comes to, in two cases.
-use Rattle.std.proofs.Common.{◌≡◌, ◌⊎◌, ℕ, List, [], Option, Some, None, IfNone, IfSome, ap₂, inl, inr, refl, subst, sym, ◌∙◌}
+use Rattle.std.proofs.Common.{◌≡◌, ◌⊎◌, ℕ, List, [], Option, Some, None, Result, Ok, Err, IfNone, IfOk, IfSome, ap₂, inl, inr, refl, subst, sym, ◌∙◌}
 use Rattle.std.proofs.lemmas.Option.{none-some}
 use Rattle.dp_messages.specs.declared.message.Entry.{Entry}
 use Rattle.dp_lines.specs.declared.run_end.RunEnd.{RunEnd}
@@ -64,6 +64,12 @@ one-part part header reading input entries others end other (inr x) (inr y) =
 pub none-holds : {X P : Type 0} (o : Option X) → o ≡ None → IfNone o P → P
 none-holds None e said = said
 none-holds (Some x) e said = absurd (none-some x (sym e))
+
+pub none-joined : {X E P Q R H : Type 0} (r : Result (Option X) E) → (H → IfOk r (λ o. IfNone o P))
+    → (H → IfOk r (λ o. IfNone o Q)) → ((H → P) → (H → Q) → R) → IfOk r (λ o. IfNone o R)
+none-joined (Ok None) p q f = f p q
+none-joined (Ok (Some x)) p q f = tt
+none-joined (Err e) p q f = tt
 
 pub none-weaker : {X P Q : Type 0} (o : Option X) → (P → Q) → IfNone o P → IfNone o Q
 none-weaker None f said = f said

@@ -1,7 +1,7 @@
 -- Headers of bytes, and of these bytes with more after them.
-use Rattle.std.proofs.Common.{◌≡◌, ◌<◌, ◌≤◌, ◌⊎◌, ℕ, ◌+◌, ◌*◌, ◌-◌, List, [], ◌++◌, length, take, drop, min}
-use Rattle.std.proofs.Common.{inl, inr, ap, ap₂, arith, codes, refl, slice_index, subst, sym, ◌∙◌}
-use Rattle.std.proofs.lemmas.List.{drop-append-le, get_or-drop, get_or_append_left, length-append, take-append-le, take_min}
+use Rattle.std.proofs.Common.{◌≡◌, ◌<◌, ◌≤◌, ◌⊎◌, ℕ, ◌+◌, ◌*◌, ◌-◌, List, ◌++◌, length, take, drop, min}
+use Rattle.std.proofs.Common.{inl, inr, ap, ap₂, arith, codes, slice_index, subst, sym, ◌∙◌}
+use Rattle.std.proofs.lemmas.List.{get_or-drop, get_or_append_left, length-append, take-append-le, take_min}
 use Rattle.std.proofs.lemmas.Bool.{cases_lt}
 use Rattle.std.proofs.Math.Seq.{take-append-add, take-append_seam, take-length}
 use Rattle.dp_recording.specs.Headers.{HasNoHeader, IsHeader, IsShort, TellsProfile, announced, magic}

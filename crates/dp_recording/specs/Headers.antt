@@ -1,5 +1,5 @@
 -- Headers of recordings.
-use Rattle.std.specs.Prelude.{◌≡◌, ◌≢◌, ◌⊎◌, ℕ, ◌+◌, ◌<◌, ◌≤◌, List, [], ◌∷◌, ◌++◌, length, take, drop}
+use Rattle.std.specs.Prelude.{◌≡◌, ◌⊎◌, ℕ, ◌+◌, ◌<◌, ◌≤◌, List, [], ◌∷◌, ◌++◌, length, take, drop}
 use Rattle.std.specs.Prelude.{Some, codes, option_and_then, IsUtf8}
 use Rattle.byteorder.specs.Endian.{big_number}
 use Rattle.serde_json.specs.Find.{as_str, get}

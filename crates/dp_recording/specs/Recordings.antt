@@ -89,6 +89,20 @@ measure_of (Reading reader) = reader.limit - reader.stream.at
 measure_of Finished = 0
 measure_of (Failed error) = 0
 
+-- it reads the entries after the header
+abbrev pub IsReading : Phase → Type 0
+IsReading New = ⊥
+IsReading (Reading reader) = Unit {0}
+IsReading Finished = ⊥
+IsReading (Failed error) = ⊥
+
+-- so many bytes count of what a reader reads
+abbrev pub limit_of : Phase → ℕ
+limit_of New = recording_limit
+limit_of (Reading reader) = reader.limit
+limit_of Finished = 0
+limit_of (Failed error) = 0
+
 -- it has not ended
 abbrev pub GoesOn : Phase → Type 0
 GoesOn New = Unit {0}

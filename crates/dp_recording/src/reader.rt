@@ -10,7 +10,8 @@ ghost use Rattle.dp_recording.specs.declared.reader.Phase.TheVariants.{New, Read
 ghost use Rattle.dp_recording.specs.declared.reader.Phase.TheVariants.{Failed};
 ghost use Rattle.dp_recording.specs.Headers.{IsHeader, IsShort};
 ghost use Rattle.dp_recording.specs.Recordings.{Blames, EndsEarly, EndsRecording, HasReadOf};
-ghost use Rattle.dp_recording.specs.Recordings.{EndsWithInput, GoesOn, HoldsHeader, end_of, error_of};
+ghost use Rattle.dp_recording.specs.Recordings.{EndsWithInput, GoesOn, HoldsHeader, IsReading};
+ghost use Rattle.dp_recording.specs.Recordings.{end_of, error_of, limit_of};
 ghost use Rattle.dp_recording.specs.Recordings.{measure_of, recording_limit};
 
 use crate::header::{HeaderError, read_header};
@@ -21,7 +22,6 @@ use dp_lists::rest_of;
 use dp_messages::{DecodeError, Entry};
 use std::alloc::{AllocError, Global};
 use std::marker::Model;
-use std::mem;
 use thiserror::Error;
 
 /// So many bytes of a recording count.
@@ -145,90 +145,134 @@ impl RecordingReader {
             ⊎ Blames (I.faults input.old) (I.faults input.new) error) }
         ensures later { I.faults input.old ≤ I.faults input.new }
     {
-        let (phase, next) = go_on(alloc, input, mem::replace(&mut self.phase, Phase::Finished));
-        self.phase = phase;
-        next
+        go_on(alloc, input, &mut self.phase)
     }
 }
 
-/// The next entry of a reader that is so far, and how far it is then.
+/// Gives the next entry of a reader that is so far.
 fn go_on<I: Source>(
     alloc: Global,
     input: &mut I,
-    phase: Phase,
-) -> (Phase, Result<Option<Entry>, RecError>)
-    ensures given { IfOk result.1 (λ next. IfSome next (λ entry.
+    phase: &mut Phase,
+) -> Result<Option<Entry>, RecError>
+    ensures given { IfOk result (λ next. IfSome next (λ entry.
         (bytes : List ℕ) (entries : List Item)
-        → HasReadOf bytes (I.left input.old) entries phase
-        → HasReadOf bytes (I.left input.new) (entries ++ entry ∷ []) result.0)) }
-    ensures done { IfOk result.1 (λ next. IfNone next ((bytes : List ℕ) (entries : List Item)
-        → HasReadOf bytes (I.left input.old) entries phase
+        → HasReadOf bytes (I.left input.old) entries phase.old
+        → HasReadOf bytes (I.left input.new) (entries ++ entry ∷ []) phase.new)) }
+    ensures done { IfOk result (λ next. IfNone next ((bytes : List ℕ) (entries : List Item)
+        → HasReadOf bytes (I.left input.old) entries phase.old
         → HasReadOf bytes (I.left input.new) entries Finished)) }
-    ensures ends { IfErr result.1 (λ error. (bytes : List ℕ) (entries : List Item)
-        → HasReadOf bytes (I.left input.old) entries phase
+    ensures ends { IfErr result (λ error. (bytes : List ℕ) (entries : List Item)
+        → HasReadOf bytes (I.left input.old) entries phase.old
         → EndsRecording bytes (I.left input.new) entries error) }
-    ensures further { IfOk result.1 (λ next. IfSome next (λ _.
-        measure_of result.0 < measure_of phase)) }
-    ensures goes_on { IfOk result.1 (λ next. OnSome next (GoesOn result.0)) }
-    ensures at_end { GoesOn phase → IfOk result.1 (λ next.
+    ensures further { IfOk result (λ next. IfSome next (λ _.
+        measure_of phase.new < measure_of phase.old)) }
+    ensures goes_on { IfOk result (λ next. OnSome next (GoesOn phase.new)) }
+    ensures at_end { GoesOn phase.old → IfOk result (λ next.
         IfNone next (IsAtEnd (I.left input.new))) }
-    ensures inside { GoesOn phase → IfErr result.1 (EndsWithInput (I.left input.new)) }
-    ensures finished { IfOk result.1 (λ next. IfNone next (result.0 ≡ Finished)) }
-    ensures failed { IfErr result.1 (λ error. result.0 ≡ Failed error) }
-    ensures again { (error : Error) → phase ≡ Failed error → (result.1 ≡ Err error)
+    ensures inside { GoesOn phase.old → IfErr result (EndsWithInput (I.left input.new)) }
+    ensures finished { IfOk result (λ next. IfNone next (phase.new ≡ Finished)) }
+    ensures failed { IfErr result (λ error. phase.new ≡ Failed error) }
+    ensures again { (error : Error) → phase.old ≡ Failed error → (result ≡ Err error)
         × (I.left input.new ≡ I.left input.old) × (I.faults input.new ≡ I.faults input.old) }
-    ensures kept { OnOk result.1 (I.faults input.new ≡ I.faults input.old) }
-    ensures blames { IfErr result.1 (λ error. (phase ≡ Failed error)
+    ensures kept { OnOk result (I.faults input.new ≡ I.faults input.old) }
+    ensures blames { IfErr result (λ error. (phase.old ≡ Failed error)
         ⊎ Blames (I.faults input.old) (I.faults input.new) error) }
     ensures later { I.faults input.old ≤ I.faults input.new }
 {
     match phase {
         Phase::New => match open(alloc, input) {
-            Ok(reader) => pull(alloc, input, reader),
-            Err(error) => (Phase::Failed(error), Err(error)),
+            Ok(reader) => {
+                *phase = Phase::Reading(reader);
+                pull(alloc, input, phase)
+            }
+            Err(error) => {
+                *phase = Phase::Failed(error);
+                Err(error)
+            }
         },
-        Phase::Reading(reader) => pull(alloc, input, reader),
-        Phase::Finished => (Phase::Finished, Ok(None)),
-        Phase::Failed(error) => (Phase::Failed(error), Err(error)),
+        Phase::Reading(_) => pull(alloc, input, phase),
+        Phase::Finished => Ok(None),
+        Phase::Failed(error) => Err(*error),
     }
 }
 
-/// The next entry after the header.
+/// Gives the next entry after the header.
 fn pull<I: Source>(
     alloc: Global,
     input: &mut I,
-    mut reader: EntryReader<Anywhere>,
-) -> (Phase, Result<Option<Entry>, RecError>)
-    ensures given { IfOk result.1 (λ next. IfSome next (λ entry.
+    phase: &mut Phase,
+) -> Result<Option<Entry>, RecError>
+    requires { IsReading phase.old }
+    ensures given { IfOk result (λ next. IfSome next (λ entry.
         (bytes : List ℕ) (entries : List Item)
-        → HasReadOf bytes (I.left input.old) entries (Reading reader)
-        → HasReadOf bytes (I.left input.new) (entries ++ entry ∷ []) result.0)) }
-    ensures done { IfOk result.1 (λ next. IfNone next ((bytes : List ℕ) (entries : List Item)
-        → HasReadOf bytes (I.left input.old) entries (Reading reader)
+        → HasReadOf bytes (I.left input.old) entries phase.old
+        → HasReadOf bytes (I.left input.new) (entries ++ entry ∷ []) phase.new)) }
+    ensures done { IfOk result (λ next. IfNone next ((bytes : List ℕ) (entries : List Item)
+        → HasReadOf bytes (I.left input.old) entries phase.old
         → HasReadOf bytes (I.left input.new) entries Finished)) }
-    ensures ends { IfErr result.1 (λ error. (bytes : List ℕ) (entries : List Item)
-        → HasReadOf bytes (I.left input.old) entries (Reading reader)
+    ensures ends { IfErr result (λ error. (bytes : List ℕ) (entries : List Item)
+        → HasReadOf bytes (I.left input.old) entries phase.old
         → EndsRecording bytes (I.left input.new) entries error) }
-    ensures further { IfOk result.1 (λ next. IfSome next (λ _.
-        (measure_of result.0 < measure_of (Reading reader))
-        × (measure_of result.0 ≤ reader.limit))) }
-    ensures goes_on { IfOk result.1 (λ next. OnSome next (GoesOn result.0)) }
-    ensures at_end { ¬ IsTrue reader.ended → IfOk result.1 (λ next.
+    ensures further { IfOk result (λ next. IfSome next (λ _.
+        (measure_of phase.new < measure_of phase.old)
+        × (measure_of phase.new ≤ limit_of phase.old))) }
+    ensures goes_on { IfOk result (λ next. OnSome next (GoesOn phase.new)) }
+    ensures at_end { GoesOn phase.old → IfOk result (λ next.
         IfNone next (IsAtEnd (I.left input.new))) }
-    ensures inside { IfErr result.1 (EndsWithInput (I.left input.new)) }
-    ensures finished { IfOk result.1 (λ next. IfNone next (result.0 ≡ Finished)) }
-    ensures failed { IfErr result.1 (λ error. result.0 ≡ Failed error) }
-    ensures kept { OnOk result.1 (I.faults input.new ≡ I.faults input.old) }
-    ensures blames { IfErr result.1 (Blames (I.faults input.old) (I.faults input.new)) }
+    ensures inside { IfErr result (EndsWithInput (I.left input.new)) }
+    ensures finished { IfOk result (λ next. IfNone next (phase.new ≡ Finished)) }
+    ensures failed { IfErr result (λ error. phase.new ≡ Failed error) }
+    ensures kept { OnOk result (I.faults input.new ≡ I.faults input.old) }
+    ensures blames { IfErr result (Blames (I.faults input.old) (I.faults input.new)) }
     ensures later { I.faults input.old ≤ I.faults input.new }
 {
-    match reader.next(alloc, input) {
-        Ok(Some(entry)) => (Phase::Reading(reader), Ok(Some(entry))),
-        Ok(None) => (Phase::Finished, Ok(None)),
+    match read_next(alloc, input, phase) {
+        Ok(Some(entry)) => Ok(Some(entry)),
+        Ok(None) => {
+            *phase = Phase::Finished;
+            Ok(None)
+        }
         Err(end) => {
             let error = error_of(end);
-            (Phase::Failed(error), Err(error))
+            *phase = Phase::Failed(error);
+            Err(error)
         }
+    }
+}
+
+/// Gives the next entry after the header, where the reader is past it. The reader stays there.
+fn read_next<I: Source>(
+    alloc: Global,
+    input: &mut I,
+    phase: &mut Phase,
+) -> Result<Option<Entry>, ReadEnd<DecodeError>>
+    requires { IsReading phase.old }
+    ensures given { IfOk result (λ next. IfSome next (λ entry.
+        (bytes : List ℕ) (entries : List Item)
+        → HasReadOf bytes (I.left input.old) entries phase.old
+        → HasReadOf bytes (I.left input.new) (entries ++ entry ∷ []) phase.new)) }
+    ensures done { IfOk result (λ next. IfNone next ((bytes : List ℕ) (entries : List Item)
+        → HasReadOf bytes (I.left input.old) entries phase.old
+        → HasReadOf bytes (I.left input.new) entries Finished)) }
+    ensures ends { IfErr result (λ end. (bytes : List ℕ) (entries : List Item)
+        → HasReadOf bytes (I.left input.old) entries phase.old
+        → EndsRecording bytes (I.left input.new) entries (error_of end)) }
+    ensures further { IfOk result (λ next. IfSome next (λ _.
+        (measure_of phase.new < measure_of phase.old)
+        × (measure_of phase.new ≤ limit_of phase.old))) }
+    ensures goes_on { IfOk result (λ next. OnSome next (GoesOn phase.new)) }
+    ensures at_end { GoesOn phase.old → IfOk result (λ next.
+        IfNone next (IsAtEnd (I.left input.new))) }
+    ensures inside { IfErr result (λ end. EndsWithInput (I.left input.new) (error_of end)) }
+    ensures kept { OnOk result (I.faults input.new ≡ I.faults input.old) }
+    ensures blames { IfErr result (λ end.
+        Blames (I.faults input.old) (I.faults input.new) (error_of end)) }
+    ensures later { I.faults input.old ≤ I.faults input.new }
+{
+    match phase {
+        Phase::Reading(reader) => reader.next(alloc, input),
+        _ => Ok(None),
     }
 }
 
