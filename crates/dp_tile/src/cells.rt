@@ -1,14 +1,17 @@
 //! The slots of a grid, which grids share until one of them is written to.
 
-ghost use Rattle.std.specs.Prelude.{◌≡◌, [], ◌<◌, length, replicate, slice_index_or, slice_set};
-ghost use Rattle.std.specs.Prelude.{IfOk, OnOk, OnErr, All};
+ghost use Rattle.std.specs.Prelude.{◌≡◌, [], ◌+◌, ◌<◌, ◌≤◌, length, replicate};
+ghost use Rattle.std.specs.Prelude.{slice_index_or, slice_set, IfOk, OnOk, OnErr};
 ghost use Rattle.dp_blend.specs.Color.{clear};
 ghost use Rattle.dp_tile.specs.Tiles.{tile_of};
 
+use crate::painter::TilePainter;
 use crate::slot::Slot;
+use dp_steps::Steps;
 use std::alloc::{AllocError, Global};
 use std::marker::Model;
 use std::sync::Arc;
+use std::sync::ledger::Ledger;
 
 /// Slots in a row. It is seen as the list of their pixels.
 #[derive(Drop)]
@@ -74,15 +77,83 @@ impl Cells {
         }
     }
 
+    // Makes the slots this grid's alone: in a list of its own, where others have the list too.
+    fn own(&mut self, alloc: Global) -> Result<(), AllocError>
+        ensures { self.new ≡ self.old }
+    {
+        match &mut self.slots {
+            None => Ok(()),
+            Some(slots) => own_slots(alloc, slots),
+        }
+    }
+
+    // Makes the tile at a place this grid's alone.
+    pub(crate) fn own_tile<T: Ledger>(
+        &mut self,
+        alloc: Global,
+        place: usize,
+        tiles: &mut Steps<T>,
+    ) -> Result<(), AllocError>
+        requires { place < length self.old }
+        ensures same { self.new ≡ self.old }
+        ensures tiles_rise { tiles.old ≤ tiles.new }
+        ensures one_tile { tiles.new ≤ tiles.old + 1 }
+    {
+        self.own(alloc)?;
+        match &mut self.slots {
+            None => Ok(()),
+            Some(slots) => match Arc::get_mut(slots) {
+                None => Err(AllocError),
+                Some(sole) => sole[place].own(alloc, tiles),
+            },
+        }
+    }
+
+    // Paints the tile at a place, which is that of a column and a row.
+    pub(crate) fn paint<P: TilePainter, T: Ledger>(
+        &mut self,
+        alloc: Global,
+        place: usize,
+        col: u32,
+        row: u32,
+        painter: &P,
+        tiles: &mut Steps<T>,
+    ) -> Result<(), AllocError>
+        requires { place < length self.old }
+        ensures painted { OnOk result (self.new ≡ slice_set self.old place
+            (P.painted painter.now col row (slice_index_or self.old place (tile_of clear)))) }
+        ensures count { OnOk result (length (P.painted painter.now col row
+            (slice_index_or self.old place (tile_of clear))) ≡ 4096) }
+        ensures err { OnErr result (self.new ≡ self.old) }
+        ensures tiles_rise { tiles.old ≤ tiles.new }
+        ensures one_tile { tiles.new ≤ tiles.old + 1 }
+    {
+        self.own(alloc)?;
+        match &mut self.slots {
+            None => Ok(()),
+            Some(slots) => match Arc::get_mut(slots) {
+                None => Err(AllocError),
+                Some(sole) => sole[place].paint(alloc, col, row, painter, tiles),
+            },
+        }
+    }
+
     // Puts a slot at a place.
     pub(crate) fn put(&mut self, alloc: Global, place: usize, slot: Slot) -> Result<(), AllocError>
         requires { place < length self.old }
         ensures written { OnOk result (self.new ≡ slice_set self.old place slot) }
         ensures err { OnErr result (self.new ≡ self.old) }
     {
+        self.own(alloc)?;
         match &mut self.slots {
             None => Ok(()),
-            Some(slots) => put_slot(alloc, slots, place, slot),
+            Some(slots) => match Arc::get_mut(slots) {
+                None => Err(AllocError),
+                Some(sole) => {
+                    sole[place] = slot;
+                    Ok(())
+                }
+            },
         }
     }
 }
@@ -109,25 +180,14 @@ fn share_slots(alloc: Global, slots: &[Slot]) -> Result<Vec<Slot>, AllocError>
     Ok(copies)
 }
 
-// Puts a slot at a place, in slots of its own where others have these too.
-fn put_slot(
-    alloc: Global,
-    slots: &mut Arc<Vec<Slot>>,
-    place: usize,
-    slot: Slot,
-) -> Result<(), AllocError>
-    requires { place < length slots.old.value.items }
-    ensures written { OnOk result (slots.new.value.items
-        ≡ slice_set slots.old.value.items place slot) }
-    ensures err { OnErr result (slots.new.value.items ≡ slots.old.value.items) }
+// Makes the slots the caller's alone: a copy of the list, where others have it too.
+fn own_slots(alloc: Global, slots: &mut Arc<Vec<Slot>>) -> Result<(), AllocError>
+    ensures { slots.new.value.items ≡ slots.old.value.items }
 {
     match Arc::get_mut(slots) {
-        Some(sole) => {
-            sole[place] = slot;
-        }
+        Some(_sole) => {}
         None => {
-            let mut copies = share_slots(alloc, slots)?;
-            copies[place] = slot;
+            let copies = share_slots(alloc, slots)?;
             *slots = Arc::new(alloc, copies)?;
         }
     }

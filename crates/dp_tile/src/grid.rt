@@ -1,15 +1,18 @@
 //! Tiles in columns and rows.
 
-ghost use Rattle.std.specs.Prelude.{◌≡◌, ◌*◌, ◌<◌, ◌≤◌, IfOk, IfSome, IfNone, OnOk, OnErr};
+ghost use Rattle.std.specs.Prelude.{◌≡◌, ◌+◌, ◌*◌, ◌<◌, ◌≤◌, IfOk, IfSome, IfNone, OnOk, OnErr};
 ghost use Rattle.dp_blend.specs.Color.{clear};
 ghost use Rattle.dp_tile.specs.Tiles.{IsGrid, tile_of, clear_grid, cell_at, with_cell, grid_pixel};
 
 use crate::cells::Cells;
+use crate::painter::TilePainter;
 use crate::slot::Slot;
 use crate::tile::{SIDE, Tile};
 use dp_blend::Pixel;
+use dp_steps::Steps;
 use std::alloc::{AllocError, Global};
 use std::marker::Model;
+use std::sync::ledger::Ledger;
 
 /// Tiles in at most 64 columns and 64 rows. Grids that were shared have their tiles in common, each
 /// until one of them is written to. A grid is seen as its sides and the pixels of its cells.
@@ -111,8 +114,8 @@ impl Grid {
         ensures pixels { IfSome result (λ tile. tile.now ≡ cell_at self.now col row) }
         ensures none { IfNone result (cell_at self.now col row ≡ tile_of clear) }
     {
-        let place = row as usize * self.cols as usize + col as usize;
-        self.cells.at(place).tile()
+        let shown = row as usize * self.cols as usize + col as usize;
+        self.cells.at(shown).tile()
     }
 
     /// Puts a tile at a column and a row. Other grids that shared the old one keep it.
@@ -130,5 +133,48 @@ impl Grid {
         let place = row as usize * self.cols as usize + col as usize;
         let slot = Slot::of(self.alloc, tile)?;
         self.cells.put(self.alloc, place, slot)
+    }
+
+    /// Makes the tile at a column and a row this grid's alone, so that a `paint` of it takes no memory
+    /// while the grid isn't shared. It makes at most one tile, and the pixels stay.
+    pub fn own<T: Ledger>(
+        &mut self,
+        col: u32,
+        row: u32,
+        tiles: &mut Steps<T>,
+    ) -> Result<(), AllocError>
+        requires col { col < self.old.cols }
+        requires row { row < self.old.rows }
+        ensures same { self.new ≡ self.old }
+        ensures tiles_rise { tiles.old ≤ tiles.new }
+        ensures one_tile { tiles.new ≤ tiles.old + 1 }
+    {
+        let owned = row as usize * self.cols as usize + col as usize;
+        self.cells.own_tile(self.alloc, owned, tiles)
+    }
+
+    /// Paints the tile at a column and a row. Other grids that shared it keep the old one.
+    ///
+    /// # Errors
+    ///
+    /// The grid is as it was, and a tile that was made is counted.
+    pub fn paint<P: TilePainter, T: Ledger>(
+        &mut self,
+        col: u32,
+        row: u32,
+        painter: &P,
+        tiles: &mut Steps<T>,
+    ) -> Result<(), AllocError>
+        requires col { col < self.old.cols }
+        requires row { row < self.old.rows }
+        ensures painted { OnOk result (self.new ≡ with_cell self.old col row
+            (P.painted painter.now col row (cell_at self.old col row))) }
+        ensures err { OnErr result (self.new ≡ self.old) }
+        ensures tiles_rise { tiles.old ≤ tiles.new }
+        ensures one_tile { tiles.new ≤ tiles.old + 1 }
+    {
+        let painted = row as usize * self.cols as usize + col as usize;
+        self.cells
+            .paint(self.alloc, painted, col, row, painter, tiles)
     }
 }

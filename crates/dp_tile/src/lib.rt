@@ -4,8 +4,10 @@
 
 mod cells;
 mod grid;
+mod painter;
 mod slot;
 mod tile;
 
 pub use grid::Grid;
+pub use painter::TilePainter;
 pub use tile::{SIDE, Tile};

@@ -1,15 +1,18 @@
 //! The place of one tile, which slots of several grids may have in common.
 
-ghost use Rattle.std.specs.Prelude.{◌≡◌, ◌<◌, length, IfOk, IfSome, IfNone, IsNone};
+ghost use Rattle.std.specs.Prelude.{◌≡◌, ◌+◌, ◌<◌, ◌≤◌, length, IfOk, IfSome, IfNone, OnOk, OnErr};
 ghost use Rattle.dp_blend.specs.Color.{clear};
 ghost use Rattle.dp_blend.specs.Canvas.{pixel_at};
 ghost use Rattle.dp_tile.specs.Tiles.{tile_of};
 
+use crate::painter::TilePainter;
 use crate::tile::Tile;
 use dp_blend::Pixel;
+use dp_steps::Steps;
 use std::alloc::{AllocError, Global};
 use std::marker::Model;
 use std::sync::Arc;
+use std::sync::ledger::Ledger;
 
 /// A tile, or none where all its pixels are clear. It is seen as the tile's pixels.
 #[derive(Drop)]
@@ -87,6 +90,88 @@ impl Slot {
         match &self.tile {
             None => None,
             Some(tile) => Some(tile),
+        }
+    }
+
+    // Makes the tile this slot's alone: a new one where there is none, a copy where others have it too.
+    pub(crate) fn own<T: Ledger>(
+        &mut self,
+        alloc: Global,
+        tiles: &mut Steps<T>,
+    ) -> Result<(), AllocError>
+        ensures same { self.new ≡ self.old }
+        ensures tiles_rise { tiles.old ≤ tiles.new }
+        ensures one_tile { tiles.new ≤ tiles.old + 1 }
+    {
+        match &mut self.tile {
+            None => {
+                let tile = Tile::blank(alloc, tiles)?;
+                self.tile = Some(Arc::new(alloc, tile)?);
+                Ok(())
+            }
+            Some(tile) => own_tile(alloc, tile, tiles),
+        }
+    }
+
+    // Paints the tile, of a column and a row, on one that is this slot's alone.
+    pub(crate) fn paint<P: TilePainter, T: Ledger>(
+        &mut self,
+        alloc: Global,
+        col: u32,
+        row: u32,
+        painter: &P,
+        tiles: &mut Steps<T>,
+    ) -> Result<(), AllocError>
+        ensures painted { OnOk result (self.new ≡ P.painted painter.now col row self.old) }
+        ensures count { OnOk result (length (P.painted painter.now col row self.old) ≡ 4096) }
+        ensures err { OnErr result (self.new ≡ self.old) }
+        ensures tiles_rise { tiles.old ≤ tiles.new }
+        ensures one_tile { tiles.new ≤ tiles.old + 1 }
+    {
+        self.own(alloc, tiles)?;
+        match &mut self.tile {
+            None => Err(AllocError),
+            Some(tile) => paint_tile(tile, col, row, painter),
+        }
+    }
+}
+
+// Makes the tile the caller's alone: a copy, where others have it too.
+fn own_tile<T: Ledger>(
+    alloc: Global,
+    tile: &mut Arc<Tile>,
+    tiles: &mut Steps<T>,
+) -> Result<(), AllocError>
+    ensures same { tile.new.value ≡ tile.old.value }
+    ensures tiles_rise { tiles.old ≤ tiles.new }
+    ensures one_tile { tiles.new ≤ tiles.old + 1 }
+{
+    match Arc::get_mut(tile) {
+        Some(_sole) => {}
+        None => {
+            let copy = tile.copy(alloc, tiles)?;
+            *tile = Arc::new(alloc, copy)?;
+        }
+    }
+    Ok(())
+}
+
+// Paints a tile that no one else has. It takes no memory.
+fn paint_tile<P: TilePainter>(
+    tile: &mut Arc<Tile>,
+    col: u32,
+    row: u32,
+    painter: &P,
+) -> Result<(), AllocError>
+    ensures painted { OnOk result (tile.new.value ≡ P.painted painter.now col row tile.old.value) }
+    ensures count { OnOk result (length tile.new.value ≡ 4096) }
+    ensures err { OnErr result (tile.new.value ≡ tile.old.value) }
+{
+    match Arc::get_mut(tile) {
+        None => Err(AllocError),
+        Some(sole) => {
+            sole.paint(col, row, painter);
+            Ok(())
         }
     }
 }

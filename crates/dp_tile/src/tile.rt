@@ -5,6 +5,7 @@ ghost use Rattle.dp_blend.specs.Color.{clear};
 ghost use Rattle.dp_blend.specs.Canvas.{pixel_at};
 ghost use Rattle.dp_tile.specs.Tiles.{tile_of};
 
+use crate::painter::TilePainter;
 use dp_blend::Pixel;
 use dp_steps::Steps;
 use std::alloc::{AllocError, Global};
@@ -61,11 +62,7 @@ impl Tile {
     }
 
     /// A second tile of the same pixels.
-    pub fn copy<T: Ledger>(
-        &self,
-        alloc: Global,
-        tiles: &mut Steps<T>,
-    ) -> Result<Tile, AllocError>
+    pub fn copy<T: Ledger>(&self, alloc: Global, tiles: &mut Steps<T>) -> Result<Tile, AllocError>
         ensures same { IfOk result (λ tile. tile ≡ self.now) }
         ensures one_tile { OnOk result (tiles.new ≡ tiles.old + 1) }
         ensures err { OnErr result (tiles.new ≡ tiles.old) }
@@ -98,6 +95,14 @@ impl Tile {
         ensures { self.new ≡ slice_set self.old (y * 64 + x) p }
     {
         self.pixels[y * SIDE + x] = p;
+    }
+
+    // Paints the pixels, of the tile at a column and a row.
+    pub(crate) fn paint<P: TilePainter>(&mut self, col: u32, row: u32, painter: &P)
+        ensures painted { self.new ≡ P.painted painter.now col row self.old }
+        ensures count { length self.new ≡ 4096 }
+    {
+        painter.paint(col, row, &mut self.pixels);
     }
 }
 
