@@ -11,3 +11,6 @@ mod tile;
 pub use grid::Grid;
 pub use painter::TilePainter;
 pub use tile::{SIDE, Tile};
+
+#[cfg(test)]
+mod tests;
