@@ -1,0 +1,50 @@
+-- A tile is a square of 64 by 64 pixels, seen as their list: row by row from the top, each row from
+-- the left. A grid is tiles in columns and rows.
+use Rattle.std.specs.Prelude.{◌≡◌, ℕ, ◌+◌, ◌*◌, ◌/◌, ◌%◌, ◌≤◌, List, length, replicate}
+use Rattle.std.specs.Prelude.{slice_index_or, slice_set, All}
+use Rattle.dp_blend.specs.Color.{Channels, clear}
+use Rattle.dp_blend.specs.Canvas.{canvas_of, pixel_at}
+
+-- the pixels of a tile of one colour
+unfoldable pub tile_of : Channels → List Channels
+tile_of p = replicate 4096 p
+
+-- tiles in columns and rows: row by row from the top, each row from the left. Each cell is the list
+-- of its pixels, so the value doesn't tell a tile that isn't there from a clear one.
+pub record TileGrid : Type 0 where
+  pub cols : ℕ
+  pub rows : ℕ
+  pub cells : List (List Channels)
+
+-- a grid has at most 64 columns and 64 rows, a cell for each place, and 4096 pixels in each cell
+pub record IsGrid (g : TileGrid) : Type 0 where
+  pub cols : g.cols ≤ 64
+  pub rows : g.rows ≤ 64
+  pub cells : length g.cells ≡ g.cols * g.rows
+  pub pixels : All (λ cell. length cell ≡ 4096) g.cells
+
+-- the grid of these sides that shows nothing
+abbrev pub clear_grid : ℕ → ℕ → TileGrid
+clear_grid cols rows =
+    record { cols = cols; rows = rows; cells = replicate (cols * rows) (tile_of clear) }
+
+-- the pixels of the cell at a column and a row
+abbrev pub cell_at : TileGrid → ℕ → ℕ → List Channels
+cell_at g col row = slice_index_or g.cells (row * g.cols + col) (tile_of clear)
+
+-- the grid with these pixels in the cell at a column and a row
+abbrev pub with_cell : TileGrid → ℕ → ℕ → List Channels → TileGrid
+with_cell g col row pixels =
+    record {
+      cols = g.cols;
+      rows = g.rows;
+      cells = slice_set g.cells (row * g.cols + col) pixels;
+    }
+
+-- the pixel at a place of a grid
+abbrev pub grid_pixel : TileGrid → ℕ → ℕ → Channels
+grid_pixel g x y = pixel_at 64 (cell_at g (x / 64) (y / 64)) (x % 64) (y % 64)
+
+-- the pixels of a canvas of this width and height whose tiles are those of a grid
+abbrev pub grid_pixels : ℕ → ℕ → TileGrid → List Channels
+grid_pixels width height g = canvas_of width height (grid_pixel g)

@@ -1,0 +1,180 @@
+//! Tiles in columns and rows.
+
+ghost use Rattle.std.specs.Prelude.{◌≡◌, ◌+◌, ◌*◌, ◌<◌, ◌≤◌, IfOk, IfSome, IfNone, OnOk, OnErr};
+ghost use Rattle.dp_blend.specs.Color.{clear};
+ghost use Rattle.dp_tile.specs.Tiles.{IsGrid, tile_of, clear_grid, cell_at, with_cell, grid_pixel};
+
+use crate::cells::Cells;
+use crate::painter::TilePainter;
+use crate::slot::Slot;
+use crate::tile::{SIDE, Tile};
+use dp_blend::Pixel;
+use dp_steps::Steps;
+use std::alloc::{AllocError, Global};
+use std::marker::Model;
+use std::sync::ledger::Ledger;
+
+/// Tiles in at most 64 columns and 64 rows. Grids that were shared have their tiles in common, each
+/// until one of them is written to. A grid is seen as its sides and the pixels of its cells.
+#[derive(Drop)]
+pub struct Grid {
+    cols: u32,
+    rows: u32,
+    cells: Cells,
+    alloc: Global,
+}
+
+impl Model for Grid {
+    ghost use Rattle.dp_tile.specs.Tiles.{TileGrid, IsGrid};
+
+    ghost Value = { TileGrid };
+
+    ghost view = { λ g. record { cols = g.cols; rows = g.rows; cells = g.cells } };
+
+    ghost invariant = { λ g. IsGrid (record { cols = g.cols; rows = g.rows; cells = g.cells }) };
+}
+
+impl Grid {
+    /// A grid that shows nothing. It makes no tile.
+    pub fn new(alloc: Global, cols: u32, rows: u32) -> Result<Grid, AllocError>
+        requires cols { cols ≤ 64 }
+        requires rows { rows ≤ 64 }
+        ensures { IfOk result (λ grid. grid ≡ clear_grid cols rows) }
+    {
+        let cells = Cells::clear(alloc, cols as usize * rows as usize)?;
+        Ok(Grid {
+            cols,
+            rows,
+            cells,
+            alloc,
+        })
+    }
+
+    /// A grid without tiles. It takes no memory.
+    pub fn none(alloc: Global) -> Grid
+        ensures { result ≡ clear_grid 0 0 }
+    {
+        Grid {
+            cols: 0,
+            rows: 0,
+            cells: Cells::none(),
+            alloc,
+        }
+    }
+
+    /// A second grid of the same tiles. It makes no tile, and costs the same whatever their number.
+    pub fn share(&self) -> Result<Grid, AllocError>
+        ensures { IfOk result (λ grid. grid ≡ self.now) }
+    {
+        let cells = self.cells.share()?;
+        Ok(Grid {
+            cols: self.cols,
+            rows: self.rows,
+            cells,
+            alloc: self.alloc,
+        })
+    }
+
+    /// The value is a grid.
+    pub fn known(&self)
+        ensures { IsGrid self.now }
+    {
+        let _ = &self.cells;
+    }
+
+    /// How many columns it has.
+    pub fn cols(&self) -> u32
+        ensures { result ≡ self.now.cols }
+    {
+        self.cols
+    }
+
+    /// How many rows it has.
+    pub fn rows(&self) -> u32
+        ensures { result ≡ self.now.rows }
+    {
+        self.rows
+    }
+
+    /// The pixel at a place.
+    pub fn get(&self, x: u32, y: u32) -> Pixel
+        requires x { x < self.now.cols * 64 }
+        requires y { y < self.now.rows * 64 }
+        ensures { result ≡ grid_pixel self.now x y }
+    {
+        let (x, y) = (x as usize, y as usize);
+        let place = y / SIDE * self.cols as usize + x / SIDE;
+        self.cells.at(place).get(x % SIDE, y % SIDE)
+    }
+
+    /// The tile at a column and a row. `None` comes only where it shows nothing.
+    pub fn tile(&self, col: u32, row: u32) -> Option<&Tile>
+        requires col { col < self.now.cols }
+        requires row { row < self.now.rows }
+        ensures pixels { IfSome result (λ tile. tile.now ≡ cell_at self.now col row) }
+        ensures none { IfNone result (cell_at self.now col row ≡ tile_of clear) }
+    {
+        let shown = row as usize * self.cols as usize + col as usize;
+        self.cells.at(shown).tile()
+    }
+
+    /// Puts a tile at a column and a row. Other grids that shared the old one keep it.
+    ///
+    /// # Errors
+    ///
+    /// The grid is as it was.
+    pub fn write(&mut self, col: u32, row: u32, tile: Tile) -> Result<(), AllocError>
+        requires col { col < self.old.cols }
+        requires row { row < self.old.rows }
+        ensures written { OnOk result (self.new ≡ with_cell self.old col row tile) }
+        ensures err { OnErr result (self.new ≡ self.old) }
+    {
+        tile.known();
+        let place = row as usize * self.cols as usize + col as usize;
+        let slot = Slot::of(self.alloc, tile)?;
+        self.cells.put(self.alloc, place, slot)
+    }
+
+    /// Makes the tile at a column and a row this grid's alone, so that a `paint` of it takes no memory
+    /// while the grid isn't shared. It makes at most one tile, and the pixels stay.
+    pub fn own<T: Ledger>(
+        &mut self,
+        col: u32,
+        row: u32,
+        tiles: &mut Steps<T>,
+    ) -> Result<(), AllocError>
+        requires col { col < self.old.cols }
+        requires row { row < self.old.rows }
+        ensures same { self.new ≡ self.old }
+        ensures tiles_rise { tiles.old ≤ tiles.new }
+        ensures one_tile { tiles.new ≤ tiles.old + 1 }
+    {
+        let owned = row as usize * self.cols as usize + col as usize;
+        self.cells.own_tile(self.alloc, owned, tiles)
+    }
+
+    /// Paints the tile at a column and a row. Other grids that shared it keep the old one.
+    ///
+    /// # Errors
+    ///
+    /// The grid is as it was, and a tile that was made is counted.
+    pub fn paint<P: TilePainter, T: Ledger>(
+        &mut self,
+        col: u32,
+        row: u32,
+        painter: &P,
+        tiles: &mut Steps<T>,
+    ) -> Result<(), AllocError>
+        requires col { col < self.old.cols }
+        requires row { row < self.old.rows }
+        ensures painted { OnOk result (self.new ≡ with_cell self.old col row
+            (P.painted painter.now col row (cell_at self.old col row))) }
+        ensures err { OnErr result (self.new ≡ self.old) }
+        ensures tiles_rise { tiles.old ≤ tiles.new }
+        ensures one_tile { tiles.new ≤ tiles.old + 1 }
+    {
+        let painted = row as usize * self.cols as usize + col as usize;
+        self.cells
+            .paint(self.alloc, painted, col, row, painter, tiles)
+    }
+}

@@ -1,0 +1,16 @@
+//! Tiles of 64 by 64 pixels, counted where they are made, and grids that share them until they are
+//! written to.
+#![tactic(auto)]
+
+mod cells;
+mod grid;
+mod painter;
+mod slot;
+mod tile;
+
+pub use grid::Grid;
+pub use painter::TilePainter;
+pub use tile::{SIDE, Tile};
+
+#[cfg(test)]
+mod tests;

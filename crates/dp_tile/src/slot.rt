@@ -1,0 +1,177 @@
+//! The place of one tile, which slots of several grids may have in common.
+
+ghost use Rattle.std.specs.Prelude.{◌≡◌, ◌+◌, ◌<◌, ◌≤◌, length, IfOk, IfSome, IfNone, OnOk, OnErr};
+ghost use Rattle.dp_blend.specs.Color.{clear};
+ghost use Rattle.dp_blend.specs.Canvas.{pixel_at};
+ghost use Rattle.dp_tile.specs.Tiles.{tile_of};
+
+use crate::painter::TilePainter;
+use crate::tile::Tile;
+use dp_blend::Pixel;
+use dp_steps::Steps;
+use std::alloc::{AllocError, Global};
+use std::marker::Model;
+use std::sync::Arc;
+use std::sync::ledger::Ledger;
+
+/// A tile, or none where all its pixels are clear. It is seen as the tile's pixels.
+#[derive(Drop)]
+pub(crate) struct Slot {
+    tile: Option<Arc<Tile>>,
+}
+
+impl Model for Slot {
+    ghost use Rattle.std.specs.Prelude.{◌≡◌, List, length};
+    ghost use Rattle.std.specs.Option.{option_map_or};
+    ghost use Rattle.dp_blend.specs.Color.{Channels, clear};
+    ghost use Rattle.dp_tile.specs.Tiles.{tile_of};
+
+    ghost Value = { List Channels };
+
+    ghost view = { λ s. option_map_or (λ t. t.value) s.tile (tile_of clear) };
+
+    ghost invariant = { λ s. length (option_map_or (λ t. t.value) s.tile (tile_of clear)) ≡ 4096 };
+}
+
+impl Slot {
+    // A slot without a tile.
+    pub(crate) fn clear() -> Slot
+        ensures { result ≡ tile_of clear }
+    {
+        Slot { tile: None }
+    }
+
+    // A slot that has the tile.
+    pub(crate) fn of(alloc: Global, tile: Tile) -> Result<Slot, AllocError>
+        ensures { IfOk result (λ slot. slot ≡ tile) }
+    {
+        tile.known();
+        let tile = Arc::new(alloc, tile)?;
+        Ok(Slot { tile: Some(tile) })
+    }
+
+    // A slot that has the same tile.
+    pub(crate) fn share(&self) -> Result<Slot, AllocError>
+        ensures { IfOk result (λ slot. slot ≡ self.now) }
+    {
+        match &self.tile {
+            None => Ok(Slot { tile: None }),
+            Some(tile) => {
+                let tile = tile.clone()?;
+                Ok(Slot { tile: Some(tile) })
+            }
+        }
+    }
+
+    // A slot has 4096 pixels.
+    pub(crate) fn known(&self)
+        ensures { length self.now ≡ 4096 }
+    {
+        let _ = &self.tile;
+    }
+
+    // The pixel at a place.
+    pub(crate) fn get(&self, x: usize, y: usize) -> Pixel
+        requires x { x < 64 }
+        requires y { y < 64 }
+        ensures { result ≡ pixel_at 64 self.now x y }
+    {
+        match &self.tile {
+            None => Pixel::CLEAR,
+            Some(tile) => tile.get(x, y),
+        }
+    }
+
+    // The tile, if there is one.
+    pub(crate) fn tile(&self) -> Option<&Tile>
+        ensures pixels { IfSome result (λ tile. tile.now ≡ self.now) }
+        ensures none { IfNone result (self.now ≡ tile_of clear) }
+    {
+        match &self.tile {
+            None => None,
+            Some(tile) => Some(tile),
+        }
+    }
+
+    // Makes the tile this slot's alone: a new one where there is none, a copy where others have it too.
+    pub(crate) fn own<T: Ledger>(
+        &mut self,
+        alloc: Global,
+        tiles: &mut Steps<T>,
+    ) -> Result<(), AllocError>
+        ensures same { self.new ≡ self.old }
+        ensures tiles_rise { tiles.old ≤ tiles.new }
+        ensures one_tile { tiles.new ≤ tiles.old + 1 }
+    {
+        match &mut self.tile {
+            None => {
+                let tile = Tile::blank(alloc, tiles)?;
+                self.tile = Some(Arc::new(alloc, tile)?);
+                Ok(())
+            }
+            Some(tile) => own_tile(alloc, tile, tiles),
+        }
+    }
+
+    // Paints the tile, of a column and a row, on one that is this slot's alone.
+    pub(crate) fn paint<P: TilePainter, T: Ledger>(
+        &mut self,
+        alloc: Global,
+        col: u32,
+        row: u32,
+        painter: &P,
+        tiles: &mut Steps<T>,
+    ) -> Result<(), AllocError>
+        ensures painted { OnOk result (self.new ≡ P.painted painter.now col row self.old) }
+        ensures count { OnOk result (length (P.painted painter.now col row self.old) ≡ 4096) }
+        ensures err { OnErr result (self.new ≡ self.old) }
+        ensures tiles_rise { tiles.old ≤ tiles.new }
+        ensures one_tile { tiles.new ≤ tiles.old + 1 }
+    {
+        self.own(alloc, tiles)?;
+        match &mut self.tile {
+            None => Err(AllocError),
+            Some(tile) => paint_tile(tile, col, row, painter),
+        }
+    }
+}
+
+// Makes the tile the caller's alone: a copy, where others have it too.
+fn own_tile<T: Ledger>(
+    alloc: Global,
+    tile: &mut Arc<Tile>,
+    tiles: &mut Steps<T>,
+) -> Result<(), AllocError>
+    ensures same { tile.new.value ≡ tile.old.value }
+    ensures tiles_rise { tiles.old ≤ tiles.new }
+    ensures one_tile { tiles.new ≤ tiles.old + 1 }
+{
+    match Arc::get_mut(tile) {
+        Some(_sole) => {}
+        None => {
+            let copy = tile.copy(alloc, tiles)?;
+            *tile = Arc::new(alloc, copy)?;
+        }
+    }
+    Ok(())
+}
+
+// Paints a tile that no one else has. It takes no memory.
+fn paint_tile<P: TilePainter>(
+    tile: &mut Arc<Tile>,
+    col: u32,
+    row: u32,
+    painter: &P,
+) -> Result<(), AllocError>
+    ensures painted { OnOk result (tile.new.value ≡ P.painted painter.now col row tile.old.value) }
+    ensures count { OnOk result (length tile.new.value ≡ 4096) }
+    ensures err { OnErr result (tile.new.value ≡ tile.old.value) }
+{
+    match Arc::get_mut(tile) {
+        None => Err(AllocError),
+        Some(sole) => {
+            sole.paint(col, row, painter);
+            Ok(())
+        }
+    }
+}

@@ -1,0 +1,55 @@
+ghost use Rattle.std.specs.Prelude.{◌≡◌, ◌<◌, slice_set};
+ghost use Rattle.dp_blend.specs.Color.{white};
+
+use crate::{Grid, Tile, TilePainter};
+use dp_blend::Pixel;
+use dp_steps::Steps;
+use std::alloc::{AllocError, Global};
+use std::marker::Brand;
+use std::sync::ledger::{Blank, Ledger};
+
+/// It makes the first pixel white.
+struct FirstWhite {}
+
+impl TilePainter for FirstWhite {
+    ghost painted = { λ _ _ _ pixels. slice_set pixels 0 white };
+
+    fn paint(&self, _col: u32, _row: u32, pixels: &mut [Pixel]) {
+        pixels[0] = Pixel::WHITE;
+    }
+}
+
+/// Pixels of a grid and of the one that it was shared from, after both were written to.
+fn shared_and_written<T: Ledger>(alloc: Global, blank: Blank) -> Result<[Pixel; 6], AllocError>
+    requires name { blank.name ≡ T.name }
+    requires parts { blank.parts ≡ T.parts }
+    requires some { 0 < blank.parts }
+{
+    let mut tiles = Steps::<T>::new(blank);
+    let mut grid = Grid::new(alloc, 3, 2)?;
+    let mut tile = Tile::blank(alloc, &mut tiles)?;
+    tile.set(5, 7, Pixel::WHITE);
+    grid.write(2, 1, tile.copy(alloc, &mut tiles)?)?;
+    let mut other = grid.share()?;
+    other.paint(2, 1, &FirstWhite {}, &mut tiles)?;
+    grid.own(0, 0, &mut tiles)?;
+    grid.write(0, 1, Tile::solid(alloc, Pixel::WHITE, &mut tiles)?)?;
+    Ok([
+        grid.get(133, 71),
+        grid.get(128, 64),
+        grid.get(63, 127),
+        other.get(133, 71),
+        other.get(128, 64),
+        other.get(63, 127),
+    ])
+}
+
+#[test]
+fn a_write_leaves_a_shared_grid(rt: HostRuntime) -> Result<(), AllocError> {
+    let pixels = shared_and_written::<Brand>(rt.alloc(), Blank::new(1))?;
+    let (white, clear) = (Pixel::WHITE, Pixel::CLEAR);
+    assert_eq!(rt; pixels, [white, clear, white, white, white, clear]);
+    let none = Grid::none(rt.alloc());
+    assert_eq!(rt; (none.cols(), none.rows()), (0, 0));
+    Ok(())
+}

@@ -1,0 +1,117 @@
+//! A square of pixels.
+
+ghost use Rattle.std.specs.Prelude.{◌≡◌, ◌+◌, ◌*◌, ◌<◌, length, slice_set, IfOk, OnOk, OnErr};
+ghost use Rattle.dp_blend.specs.Color.{clear};
+ghost use Rattle.dp_blend.specs.Canvas.{pixel_at};
+ghost use Rattle.dp_tile.specs.Tiles.{tile_of};
+
+use crate::painter::TilePainter;
+use dp_blend::Pixel;
+use dp_steps::Steps;
+use std::alloc::{AllocError, Global};
+use std::marker::Model;
+use std::sync::ledger::Ledger;
+
+/// How many pixels a side of a tile has.
+pub const SIDE: usize = 64;
+
+/// How many pixels a tile has.
+const COUNT: usize = SIDE * SIDE;
+
+/// A square of 64 by 64 pixels. It is seen as their list, row by row from the top, each row from the
+/// left.
+#[derive(Drop)]
+pub struct Tile {
+    pixels: Vec<Pixel>,
+}
+
+impl Model for Tile {
+    ghost use Rattle.std.specs.Prelude.{◌≡◌, List, length};
+    ghost use Rattle.dp_blend.specs.Color.{Channels};
+
+    ghost Value = { List Channels };
+
+    ghost view = { λ t. t.pixels.items };
+
+    ghost invariant = { λ t. length t.pixels.items ≡ 4096 };
+}
+
+impl Tile {
+    /// A tile that shows nothing.
+    pub fn blank<T: Ledger>(alloc: Global, tiles: &mut Steps<T>) -> Result<Tile, AllocError>
+        ensures clear { IfOk result (λ tile. tile ≡ tile_of clear) }
+        ensures one_tile { OnOk result (tiles.new ≡ tiles.old + 1) }
+        ensures err { OnErr result (tiles.new ≡ tiles.old) }
+    {
+        Tile::solid(alloc, Pixel::CLEAR, tiles)
+    }
+
+    /// A tile of one colour.
+    pub fn solid<T: Ledger>(
+        alloc: Global,
+        p: Pixel,
+        tiles: &mut Steps<T>,
+    ) -> Result<Tile, AllocError>
+        ensures solid { IfOk result (λ tile. tile ≡ tile_of p) }
+        ensures one_tile { OnOk result (tiles.new ≡ tiles.old + 1) }
+        ensures err { OnErr result (tiles.new ≡ tiles.old) }
+    {
+        let pixels = solid_pixels(alloc, p)?;
+        tiles.tick();
+        Ok(Tile { pixels })
+    }
+
+    /// A second tile of the same pixels.
+    pub fn copy<T: Ledger>(&self, alloc: Global, tiles: &mut Steps<T>) -> Result<Tile, AllocError>
+        ensures same { IfOk result (λ tile. tile ≡ self.now) }
+        ensures one_tile { OnOk result (tiles.new ≡ tiles.old + 1) }
+        ensures err { OnErr result (tiles.new ≡ tiles.old) }
+    {
+        let pixels = Vec::from_slice(alloc, &self.pixels)?;
+        tiles.tick();
+        Ok(Tile { pixels })
+    }
+
+    /// A tile has 4096 pixels.
+    pub fn known(&self)
+        ensures { length self.now ≡ 4096 }
+    {
+        let _ = &self.pixels;
+    }
+
+    /// The pixel at a place.
+    pub fn get(&self, x: usize, y: usize) -> Pixel
+        requires x { x < 64 }
+        requires y { y < 64 }
+        ensures { result ≡ pixel_at 64 self.now x y }
+    {
+        self.pixels[y * SIDE + x]
+    }
+
+    /// Writes the pixel at a place.
+    pub fn set(&mut self, x: usize, y: usize, p: Pixel)
+        requires x { x < 64 }
+        requires y { y < 64 }
+        ensures { self.new ≡ slice_set self.old (y * 64 + x) p }
+    {
+        self.pixels[y * SIDE + x] = p;
+    }
+
+    // Paints the pixels, of the tile at a column and a row.
+    pub(crate) fn paint<P: TilePainter>(&mut self, col: u32, row: u32, painter: &P)
+        ensures painted { self.new ≡ P.painted painter.now col row self.old }
+        ensures count { length self.new ≡ 4096 }
+    {
+        painter.paint(col, row, &mut self.pixels);
+    }
+}
+
+// The pixels of a tile of one colour.
+fn solid_pixels(alloc: Global, p: Pixel) -> Result<Vec<Pixel>, AllocError>
+    ensures solid { IfOk result (λ pixels. pixels.items ≡ tile_of p) }
+    ensures count { IfOk result (λ pixels. length pixels.items ≡ 4096) }
+{
+    let mut pixels = Vec::with_capacity(alloc, COUNT)?;
+    pixels.resize(COUNT, p)?;
+    Ok(pixels)
+}
