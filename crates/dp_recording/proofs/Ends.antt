@@ -1,5 +1,6 @@
 -- What a recording comes to, in two cases.
-use Rattle.std.proofs.Common.{◌≡◌, ◌⊎◌, ℕ, List, [], Option, Some, None, Result, Ok, Err, IfNone, IfOk, IfSome, ap₂, inl, inr, refl, subst, sym, ◌∙◌}
+use Rattle.std.proofs.Common.{◌≡◌, ◌⊎◌, ℕ, List, [], Option, Some, None, Result, Ok, Err, IfNone}
+use Rattle.std.proofs.Common.{IfOk, IfSome, ap₂, inl, inr, refl, subst, sym, ◌∙◌}
 use Rattle.std.proofs.lemmas.Option.{none-some}
 use Rattle.dp_messages.specs.declared.message.Entry.{Entry}
 use Rattle.dp_lines.specs.declared.run_end.RunEnd.{RunEnd}
@@ -14,7 +15,8 @@ use Rattle.dp_recording.specs.declared.reader.RecError.{RecError}
 use Rattle.dp_recording.specs.declared.reader.RecError.TheVariants.{BadHeader, Truncated, Message}
 use Rattle.dp_recording.specs.declared.reader.RecError.TheVariants.{ReadFault, Long, Memory}
 use Rattle.dp_recording.specs.Headers.{HasNoHeader, IsHeader}
-use Rattle.dp_recording.specs.Recordings.{EndsEarly, EndsRecording, RecordingComesTo, error_of, recording_limit}
+use Rattle.dp_recording.specs.Recordings.{EndsEarly, EndsRecording, RecordingComesTo, error_of}
+use Rattle.dp_recording.specs.Recordings.{recording_limit}
 
 abbrev pub ComesAfter : List ℕ → List Entry → RunEnd → Type 0
 ComesAfter input entries end =
@@ -23,7 +25,8 @@ ComesAfter input entries end =
 abbrev pub HasNone : List ℕ → List Entry → RunEnd → Type 0
 HasNone input entries end = (entries ≡ []) × HasNoHeader input × (end ≡ run.BadHeader)
 
-pub two-ways : (input : List ℕ) (entries : List Entry) (end : RunEnd) → RecordingComesTo input entries end
+pub two-ways : (input : List ℕ) (entries : List Entry) (end : RunEnd)
+    → RecordingComesTo input entries end
     → HasNone input entries end ⊎ ComesAfter input entries end
 two-ways input entries run.BadHeader x = inl (x.0, x.1, refl)
 two-ways input entries run.Done x = inr x
@@ -42,14 +45,16 @@ abbrev pub OneHeader : Type 0
 OneHeader = (bytes : List ℕ) (len other : ℕ) → IsHeader bytes len → IsHeader bytes other → len ≡ other
 
 abbrev pub OneReading : {X : Type 0} → (List Entry → RunEnd → X) → Type 0
-OneReading {X} part = (first limit : ℕ) (input : List ℕ) (entries others : List Entry) (end other : RunEnd)
+OneReading {X} part = (first limit : ℕ) (input : List ℕ) (entries others : List Entry)
+    (end other : RunEnd)
     → ComesTo StandsAnywhere first limit input entries end
     → ComesTo StandsAnywhere first limit input others other → part entries end ≡ part others other
 
 pub one-part : {X : Type 0} (part : List Entry → RunEnd → X) → OneHeader → OneReading part
     → (input : List ℕ) (entries others : List Entry) (end other : RunEnd)
     → HasNone input entries end ⊎ ComesAfter input entries end
-    → HasNone input others other ⊎ ComesAfter input others other → part entries end ≡ part others other
+    → HasNone input others other ⊎ ComesAfter input others other
+    → part entries end ≡ part others other
 one-part part header reading input entries others end other (inl x) (inl y) =
     ap₂ part (x.0 ∙ sym y.0) (x.2 ∙ sym y.2)
 one-part part header reading input entries others end other (inl x) (inr y) = absurd (x.1 y.0 y.1)
@@ -75,14 +80,16 @@ pub none-weaker : {X P Q : Type 0} (o : Option X) → (P → Q) → IfNone o P �
 none-weaker None f said = f said
 none-weaker (Some x) f said = said
 
-pub some-weaker : {X : Type 0} {P Q : X → Type 0} (o : Option X) → ((x : X) → P x → Q x) → IfSome o P → IfSome o Q
+pub some-weaker : {X : Type 0} {P Q : X → Type 0} (o : Option X) → ((x : X) → P x → Q x)
+    → IfSome o P → IfSome o Q
 some-weaker None f said = said
 some-weaker (Some x) f said = f x said
 
 -- ---- how reading ends
 
 -- before the header was whole
-pub early-ends : (input : List ℕ) (left : Option (List ℕ)) (entries : List Entry) (error : RecError) → entries ≡ []
+pub early-ends : (input : List ℕ) (left : Option (List ℕ)) (entries : List Entry) (error : RecError)
+    → entries ≡ []
     → EndsEarly input left error → EndsRecording input left entries error
 early-ends input left entries BadHeader none ends = ((none, ends.0), inl ends.1)
 early-ends input left entries ReadFault none ends = inl ends
@@ -100,5 +107,6 @@ late-ends input left entries len read.ReadFault header ends = inr (len, header, 
 late-ends input left entries len (read.Truncated at) header ends = ((len, header, ends.0), ends.1)
 late-ends input left entries len (read.BadMessage at why) header ends =
     ((len, header, ends.0), inr (len, header, ends.1), ends.2)
-late-ends input left entries len read.Long header ends = ((len, header, ends.0), inr (len, header, ends.1))
+late-ends input left entries len read.Long header ends =
+    ((len, header, ends.0), inr (len, header, ends.1))
 late-ends input left entries len read.Memory header ends = tt

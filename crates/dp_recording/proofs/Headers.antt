@@ -1,10 +1,13 @@
 -- Headers of bytes, and of these bytes with more after them.
-use Rattle.std.proofs.Common.{◌≡◌, ◌<◌, ◌≤◌, ◌⊎◌, ℕ, ◌+◌, ◌*◌, ◌-◌, List, ◌++◌, length, take, drop, min}
+use Rattle.std.proofs.Common.{◌≡◌, ◌<◌, ◌≤◌, ◌⊎◌, ℕ, ◌+◌, ◌*◌, ◌-◌, List, ◌++◌, length, take, drop}
+use Rattle.std.proofs.Common.{min}
 use Rattle.std.proofs.Common.{inl, inr, ap, ap₂, arith, codes, slice_index, subst, sym, ◌∙◌}
-use Rattle.std.proofs.lemmas.List.{get_or-drop, get_or_append_left, length-append, take-append-le, take_min}
+use Rattle.std.proofs.lemmas.List.{get_or-drop, get_or_append_left, length-append, take-append-le}
+use Rattle.std.proofs.lemmas.List.{take_min}
 use Rattle.std.proofs.lemmas.Bool.{cases_lt}
 use Rattle.std.proofs.Math.Seq.{take-append-add, take-append_seam, take-length}
-use Rattle.dp_recording.specs.Headers.{HasNoHeader, IsHeader, IsShort, TellsProfile, announced, magic}
+use Rattle.dp_recording.specs.Headers.{HasNoHeader, IsHeader, IsShort, TellsProfile, announced}
+use Rattle.dp_recording.specs.Headers.{magic}
 
 pub take-past : {X : Type 0} (xs : List X) (n : ℕ) → length xs ≤ n → take n xs ≡ xs
 take-past xs n long =
@@ -19,11 +22,13 @@ not-below m n never = elim (cases_lt m n) as (λ _. n ≤ m) [ inl lt ↦ absurd
 byte : (bytes more : List ℕ) (k : ℕ) → 6 + k < length bytes
     → slice_index (drop 6 (bytes ++ more)) k ≡ slice_index (drop 6 bytes) k
 byte bytes more k lt =
-    get_or-drop 6 (bytes ++ more) k 0 ∙ get_or_append_left bytes more 0 (6 + k) lt ∙ sym (get_or-drop 6 bytes k 0)
+    get_or-drop 6 (bytes ++ more) k 0 ∙ get_or_append_left bytes more 0 (6 + k) lt
+    ∙ sym (get_or-drop 6 bytes k 0)
 
 announced-same : (bytes more : List ℕ) → 8 ≤ length bytes → announced (bytes ++ more) ≡ announced bytes
 announced-same bytes more long =
-    ap₂ (λ a b. 8 + (a * 256 + (b * 1 + 0))) (byte bytes more 0 (omega arith)) (byte bytes more 1 (omega arith))
+    ap₂ (λ a b. 8 + (a * 256 + (b * 1 + 0))) (byte bytes more 0 (omega arith))
+    (byte bytes more 1 (omega arith))
 
 -- ---- the first six bytes
 
@@ -54,7 +59,8 @@ goes-on bytes more len h = record {
   begins = six bytes more (omega (arith, header-long h)) ∙ h.begins;
   long = h.long ∙ sym (announced-same bytes more (header-long h));
   whole = omega (arith, h.whole, length-append bytes more);
-  profile = subst (λ t. TellsProfile (drop 8 t) (codes "dp-int-1")) (sym (take-append-le len bytes more h.whole)) h.profile;
+  profile = subst (λ t. TellsProfile (drop 8 t) (codes "dp-int-1"))
+      (sym (take-append-le len bytes more h.whole)) h.profile;
 }
 
 pub short-none : (bytes : List ℕ) → IsShort bytes → HasNoHeader bytes
@@ -64,7 +70,8 @@ short-none bytes short len h = by short.few
     by (inl few) = omega (arith, few, header-long h)
     by (inr few) = omega (arith, few, h.long, h.whole)
 
-pub none-stays : (bytes more : List ℕ) → HasNoHeader bytes → (IsShort bytes → ⊥) → HasNoHeader (bytes ++ more)
+pub none-stays : (bytes more : List ℕ) → HasNoHeader bytes → (IsShort bytes → ⊥)
+    → HasNoHeader (bytes ++ more)
 none-stays bytes more none enough len h =
     let begins = agree bytes more h.begins in
     let long : 8 ≤ length bytes = not-below _ _ (λ few. enough (record { begins = begins; few = inl few })) in
@@ -76,23 +83,27 @@ none-stays bytes more none enough len h =
       begins = sym (six bytes more (omega (arith, long))) ∙ h.begins;
       long = h.long ∙ same;
       whole = fits;
-      profile = subst (λ t. TellsProfile (drop 8 t) (codes "dp-int-1")) (take-append-le len bytes more fits) h.profile;
+      profile = subst (λ t. TellsProfile (drop 8 t) (codes "dp-int-1"))
+          (take-append-le len bytes more fits) h.profile;
     })
 
 -- a header is longer than bytes that are too few for one
-pub header-goes-past : (short more : List ℕ) (len : ℕ) → IsShort short → IsHeader (short ++ more) len
+pub header-goes-past : (short more : List ℕ) (len : ℕ) → IsShort short
+    → IsHeader (short ++ more) len
     → length short < len
 header-goes-past short more len few h = elim (cases_lt (length short) len) as (λ _. length short < len) [
   | inl lt ↦ lt
   | inr le ↦ absurd (short-none short few len (cut short more len le h))
 ]
   where
-    cut : (bytes more : List ℕ) (len : ℕ) → len ≤ length bytes → IsHeader (bytes ++ more) len → IsHeader bytes len
+    cut : (bytes more : List ℕ) (len : ℕ) → len ≤ length bytes → IsHeader (bytes ++ more) len
+        → IsHeader bytes len
     cut bytes more len fits h =
         let long : 8 ≤ length bytes = omega (arith, h.long, fits) in
         record {
           begins = sym (six bytes more (omega (arith, long))) ∙ h.begins;
           long = h.long ∙ announced-same bytes more long;
           whole = fits;
-          profile = subst (λ t. TellsProfile (drop 8 t) (codes "dp-int-1")) (take-append-le len bytes more fits) h.profile;
+          profile = subst (λ t. TellsProfile (drop 8 t) (codes "dp-int-1"))
+              (take-append-le len bytes more fits) h.profile;
         }
