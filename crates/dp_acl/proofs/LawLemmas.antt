@@ -37,7 +37,7 @@ use Rattle.dp_acl.proofs.PushLemmas.{tiers-push, rule-push}
 -- ---- ids in order
 
 -- ids that rise from above a number don't list it
-lists-below : (low id : ℕ) (ids : List ℕ) → RiseFrom low ids → id < low → lists ids id ≡ false
+pub lists-below : (low id : ℕ) (ids : List ℕ) → RiseFrom low ids → id < low → lists ids id ≡ false
 lists-below low id [] rise below = refl
 lists-below low id (i ∷ ids) rise below =
     ap (λ b. b || lists ids id) (ne_eqb i id (λ e. omega (arith, rise.0)))
@@ -84,17 +84,17 @@ spelled_in_order low ids rise = order-numbers 256 ids refl (rise-lower low ids r
 -- ---- histories that look the same
 
 -- what looking back finds of a user and a layer
-record Look : Type 0 where
-  joined : Bool
-  operator : Bool
-  trusted : Bool
-  registered : Bool
-  all_locked : Bool
-  lock_listed : Bool
-  tiers : Tiers
-  rule : Option LayerRule
+pub record Look : Type 0 where
+  pub joined : Bool
+  pub operator : Bool
+  pub trusted : Bool
+  pub registered : Bool
+  pub all_locked : Bool
+  pub lock_listed : Bool
+  pub tiers : Tiers
+  pub rule : Option LayerRule
 
-abbrev look : List Entry → ℕ → ℕ → Look
+abbrev pub look : List Entry → ℕ → ℕ → Look
 look history user layer = record {
   joined = has_joined history user;
   operator = is_operator history user;
@@ -107,7 +107,7 @@ look history user layer = record {
 }
 
 -- the same after one more entry
-abbrev look_after : ℕ → ℕ → Entry → Look → Look
+abbrev pub look_after : ℕ → ℕ → Entry → Look → Look
 look_after user layer e l = record {
   joined = is_join_of user e || l.joined;
   operator = listed_behind (is_join_of user e) l.joined (said.owners e.msg) l.operator user;
@@ -120,7 +120,7 @@ look_after user layer e l = record {
   rule = option_or (layer_rule layer e.msg) l.rule;
 }
 
-look-push : (history : List Entry) (e : Entry) (user layer : ℕ)
+pub look-push : (history : List Entry) (e : Entry) (user layer : ℕ)
     → look (history ++ e ∷ []) user layer ≡ look_after user layer e (look history user layer)
 look-push history e user layer =
     cc (
@@ -158,27 +158,52 @@ module _ (user layer : ℕ) where
 
 -- ---- what is permitted in them
 
+-- the same but for the rule of the layer
+abbrev pub but_rule : Look → Look
+but_rule l = record l { rule = None }
+
+-- the rules of a layer after two histories let a user paint alike
+abbrev pub LetAlike : List Entry → List Entry → ℕ → ℕ → Type 0
+LetAlike one other user layer =
+    option_map_or (lets_paint other user) (rule_of one layer) true
+    ≡ option_map_or (lets_paint other user) (rule_of other layer) true
+
+-- the layer that a command paints on, 0 where it paints on none
+abbrev pub painted_by : Draw → ℕ
+painted_by (draw.PutImage layer mode x y w h colors) = layer
+painted_by (draw.FillRect layer mode x y w h color) = layer
+painted_by (draw.PutTile layer col row repeat content) = layer
+painted_by (draw.DabsRound layer x y r g b mode dabs) = layer
+painted_by (draw.DabsSquare layer x y r g b mode dabs) = layer
+painted_by (draw.MoveRect layer sx sy w h tx ty) = layer
+painted_by m = 0
+
+-- the layer that a message paints on, likewise
+abbrev pub painted_layer : Msg → ℕ
+painted_layer (msg.Draw command) = painted_by command
+painted_layer m = 0
+
 module _ (one other : List Entry) (user : ℕ)
-    (same : (layer : ℕ) → look one user layer ≡ look other user layer) where
+    (same : but_rule (look one user 0) ≡ but_rule (look other user 0)) where
   operator-same : is_operator one user ≡ is_operator other user
-  operator-same = ap (λ l. l.operator) (same 0)
+  operator-same = ap (λ l. l.operator) same
 
   tier-same : tier_of one user ≡ tier_of other user
   tier-same =
-      let trusted = ap (λ l. l.trusted) (same 0) in
-      let registered = ap (λ l. l.registered) (same 0) in
+      let trusted = ap (λ l. l.trusted) same in
+      let registered = ap (λ l. l.registered) same in
       cc (operator-same, trusted, registered)
 
   locked-same : is_locked one user ≡ is_locked other user
   locked-same =
-      let all = ap (λ l. l.all_locked) (same 0) in
-      let listed = ap (λ l. l.lock_listed) (same 0) in
+      let all = ap (λ l. l.all_locked) same in
+      let listed = ap (λ l. l.lock_listed) same in
       cc (operator-same, all, listed)
 
   feature-same : (feature : Tiers → ℕ) → has_feature one user feature
       ≡ has_feature other user feature
   feature-same feature =
-      let tiers = ap (λ l. l.tiers) (same 0) in
+      let tiers = ap (λ l. l.tiers) same in
       cc (tier-same, tiers)
 
   use-same : (feature : Tiers → ℕ)
@@ -191,15 +216,14 @@ module _ (one other : List Entry) (user : ℕ)
   lets-same None = refl
   lets-same (Some rule) = cc (operator-same, tier-same)
 
-  paint-same : (layer : ℕ) → may_paint one user layer ≡ may_paint other user layer
-  paint-same layer =
-      let rule = ap (λ l. option_map_or (lets_paint one user) l.rule true) (same layer) in
-      cc (locked-same, rule, lets-same (rule_of other layer))
+  paint-same : (layer : ℕ) → LetAlike one other user layer
+      → may_paint one user layer ≡ may_paint other user layer
+  paint-same layer alike = cc (locked-same, alike, lets-same (rule_of one layer))
 
-  paint_by-same : (layer : ℕ) (feature : Tiers → ℕ)
+  paint_by-same : (layer : ℕ) (feature : Tiers → ℕ) → LetAlike one other user layer
       → (may_paint one user layer && has_feature one user feature)
       ≡ (may_paint other user layer && has_feature other user feature)
-  paint_by-same layer feature = cc (paint-same layer, feature-same feature)
+  paint_by-same layer feature alike = cc (paint-same layer alike, feature-same feature)
 
   edit-same : (layer : ℕ) → may_edit_layer one user layer ≡ may_edit_layer other user layer
   edit-same layer =
@@ -240,35 +264,42 @@ module _ (one other : List Entry) (user : ℕ)
   meta-same (meta.FeatureTiers tiers) = operator-same
   meta-same (meta.Filtered kind) = refl
 
-  draw-same : (m : Draw) → permits_draw one user m ≡ permits_draw other user m
-  draw-same (draw.CanvasResize top right bottom left) = use-same (λ tiers. tiers.resize)
-  draw-same (draw.LayerCreate id parent group title) = edit-same id
-  draw-same (draw.LayerAttr id opacity mode hidden) = edit-same id
-  draw-same (draw.LayerTitle id title) = edit-same id
-  draw-same (draw.LayerMove id parent above) = edit-same id
-  draw-same (draw.LayerDelete id) = edit-same id
-  draw-same (draw.PutImage layer mode x y w h colors) = paint_by-same layer (λ tiers. tiers.image)
-  draw-same (draw.FillRect layer mode x y w h color) = paint-same layer
-  draw-same (draw.PutTile layer col row repeat content) = paint_by-same layer (λ tiers. tiers.image)
-  draw-same (draw.Background color) = use-same (λ tiers. tiers.background)
-  draw-same (draw.DabsRound layer x y r g b mode dabs) = paint-same layer
-  draw-same (draw.DabsSquare layer x y r g b mode dabs) = paint-same layer
-  draw-same (draw.MoveRect layer sx sy w h tx ty) = paint_by-same layer (λ tiers. tiers.move_)
+  draw-same : (m : Draw) → LetAlike one other user (painted_by m)
+      → permits_draw one user m ≡ permits_draw other user m
+  draw-same (draw.CanvasResize top right bottom left) alike = use-same (λ tiers. tiers.resize)
+  draw-same (draw.LayerCreate id parent group title) alike = edit-same id
+  draw-same (draw.LayerAttr id opacity mode hidden) alike = edit-same id
+  draw-same (draw.LayerTitle id title) alike = edit-same id
+  draw-same (draw.LayerMove id parent above) alike = edit-same id
+  draw-same (draw.LayerDelete id) alike = edit-same id
+  draw-same (draw.PutImage layer mode x y w h colors) alike =
+      paint_by-same layer (λ tiers. tiers.image) alike
+  draw-same (draw.FillRect layer mode x y w h color) alike = paint-same layer alike
+  draw-same (draw.PutTile layer col row repeat content) alike =
+      paint_by-same layer (λ tiers. tiers.image) alike
+  draw-same (draw.Background color) alike = use-same (λ tiers. tiers.background)
+  draw-same (draw.DabsRound layer x y r g b mode dabs) alike = paint-same layer alike
+  draw-same (draw.DabsSquare layer x y r g b mode dabs) alike = paint-same layer alike
+  draw-same (draw.MoveRect layer sx sy w h tx ty) alike =
+      paint_by-same layer (λ tiers. tiers.move_) alike
 
   -- the same is permitted in both
-  permitted-same : (m : Msg) → permitted one user m ≡ permitted other user m
-  permitted-same (msg.Control m) = control-same m
-  permitted-same (msg.Meta m) = meta-same m
-  permitted-same (msg.Part command) = operator-same
-  permitted-same msg.Point = ap not locked-same
-  permitted-same (msg.Undo target redo) = undo-cases (target == 0 || target == user)
-  permitted-same (msg.Draw command) = draw-same command
-  permitted-same (msg.Opaque kind body) = refl
+  pub permitted-same : (m : Msg) → LetAlike one other user (painted_layer m)
+      → permitted one user m ≡ permitted other user m
+  permitted-same (msg.Control m) alike = control-same m
+  permitted-same (msg.Meta m) alike = meta-same m
+  permitted-same (msg.Part command) alike = operator-same
+  permitted-same msg.Point alike = ap not locked-same
+  permitted-same (msg.Undo target redo) alike = undo-cases (target == 0 || target == user)
+  permitted-same (msg.Draw command) alike = draw-same command alike
+  permitted-same (msg.Opaque kind body) alike = refl
 
 pub forbidden_changes_nothing : ForbiddenChangesNoRight
 forbidden_changes_nothing before after sender kind user m =
     permitted-same (before ++ filtered sender kind ∷ after) (before ++ after) user
-    (λ layer. look-filtered user layer before after sender kind) m
+    (ap but_rule (look-filtered user 0 before after sender kind)) m
+    (ap (λ l. option_map_or (lets_paint (before ++ after) user) l.rule true)
+    (look-filtered user (painted_layer m) before after sender kind))
 
 -- ---- operators
 

@@ -6,3 +6,5 @@ pub mod StepLemmas
 pub mod PaintLemmas
 pub mod CarryLemmas
 pub mod LawLemmas
+pub mod LookLemmas
+pub mod OpeningLemmas

@@ -9,7 +9,7 @@ use Rattle.dp_acl.specs.Rights.{is_operator, is_locked, tier_of, rule_of, lets_p
 use Rattle.dp_acl.specs.Table.{rule_in_order}
 use Rattle.dp_acl.proofs.IdLemmas.{open-in_order}
 
-lets-in_order : (history : List Entry) (user : ℕ) (rule : LayerRule) → user < 256
+pub lets-in_order : (history : List Entry) (user : ℕ) (rule : LayerRule) → user < 256
     → All (λ id. id < 256) rule.ids
     → lets_paint history user (rule_in_order rule) ≡ lets_paint history user rule
 lets-in_order history user rule low bytes =

@@ -26,10 +26,10 @@ slice_get-last [] x = refl
 slice_get-last (y ∷ xs) x = slice_get-last xs x
 
 -- the last item of a list
-abbrev last_item : {X : Type 0} → List X → Option X
+abbrev pub last_item : {X : Type 0} → List X → Option X
 last_item xs = slice_get xs (length xs - 1)
 
-last_item-more : {X : Type 0} (xs : List X) (o : Option X)
+pub last_item-more : {X : Type 0} (xs : List X) (o : Option X)
     → last_item (xs ++ cons_option o []) ≡ option_or o (last_item xs)
 last_item-more xs None = ap last_item (append-nil xs)
 last_item-more xs (Some x) =

@@ -1,14 +1,18 @@
 -- Laws of rights.
-use Rattle.std.specs.Prelude.{◌≡◌, ℕ, false, None, List, [], ◌∷◌, ◌++◌}
+use Rattle.std.specs.Prelude.{◌≡◌, ℕ, true, false, None, List, [], ◌∷◌, ◌++◌, map}
+use Rattle.dp_msg_draw.specs.declared.draw.Draw.{Draw}
 use Rattle.dp_msg_meta.specs.Fields.{RiseFrom}
 use Rattle.dp_msg_meta.specs.declared.message.Meta.TheVariants.{Filtered}
 use Rattle.dp_messages.specs.declared.message.Msg.{Msg}
 use Rattle.dp_messages.specs.declared.message.Msg.TheVariants as msg
 use Rattle.dp_messages.specs.declared.message.Entry.{Entry}
-use Rattle.dp_acl.specs.LookBack.{is_join_of, owners}
+use Rattle.dp_messages.specs.Messages.{HasSpelling}
+use Rattle.dp_acl.specs.LookBack.{lists, is_join_of, owners}
 use Rattle.dp_acl.specs.Rights.{is_operator}
 use Rattle.dp_acl.specs.Permitted.{permitted}
 use Rattle.dp_acl.specs.Carried.{in_order}
+use Rattle.dp_acl.specs.Table.{Kept, StandsFor}
+use Rattle.dp_acl.specs.Opening.{command_entry, opening}
 
 -- the entry that stands in place of a forbidden message of this kind
 abbrev pub filtered : ℕ → ℕ → Entry
@@ -30,3 +34,19 @@ OperatorsStay =
     (history : List Entry) (e : Entry) (user : ℕ)
     → owners e.msg ≡ None → is_join_of user e ≡ false
     → is_operator (history ++ e ∷ []) user ≡ is_operator history user
+
+-- The commands of a reset, as they stand in a history, change no right: a table stands for the
+-- history with them as it did without.
+abbrev pub CommandsChangeNoRight : Type 0
+CommandsChangeNoRight =
+    (kept : Kept) (history : List Entry) (commands : List Draw)
+    → StandsFor kept history → StandsFor kept (history ++ map command_entry commands)
+
+-- An opening changes no right of a user who is present: what the user may say is the same after it
+-- as after the history before, of messages that have a spelling.
+abbrev pub OpeningsChangeNoRight : Type 0
+OpeningsChangeNoRight =
+    (kept : Kept) (epoch : ℕ) (history : List Entry) (present : List ℕ) (commands : List Draw)
+    (user : ℕ) (m : Msg)
+    → StandsFor kept history → RiseFrom 1 present → lists present user ≡ true → HasSpelling m
+    → permitted (opening epoch history present commands) user m ≡ permitted history user m

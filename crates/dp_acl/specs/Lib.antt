@@ -2,6 +2,7 @@ pub mod LookBack
 pub mod Rights
 pub mod Permitted
 pub mod Carried
+pub mod Opening
 pub mod Table
 pub mod Laws
 pub mod Marks

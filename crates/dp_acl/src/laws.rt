@@ -1,6 +1,7 @@
 //! Laws of rights, each the contract of a function that does nothing.
 
 ghost use Rattle.dp_acl.specs.Laws.{ForbiddenChangesNoRight, OperatorsStay, SpelledIdsAreInOrder};
+ghost use Rattle.dp_acl.specs.Laws.{CommandsChangeNoRight, OpeningsChangeNoRight};
 
 /// A message that was filtered out changes no right: what is permitted is the same with the entry
 /// that stands in its place and without it.
@@ -17,4 +18,14 @@ pub fn spelled_ids_are_in_order()
 /// operator.
 pub fn operators_stay()
     ensures { OperatorsStay }
+{}
+
+/// Commands of a reset change no right: a table stands for a history with them as without.
+pub fn commands_change_no_right()
+    ensures { CommandsChangeNoRight }
+{}
+
+/// The opening of an epoch changes no right of a present user.
+pub fn openings_change_no_right()
+    ensures { OpeningsChangeNoRight }
 {}

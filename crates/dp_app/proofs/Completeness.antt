@@ -253,7 +253,7 @@ exact law words (Some bytes) old new dold dnew status h = λ answer due.
     (one_due law words bytes h.0 answer h.1 due) h.2
 
 -- the counts of a run by its status
-run_told : (dold dnew : Option (List ℕ)) (input input_now output output_now before now status
+pub run_told : (dold dnew : Option (List ℕ)) (input input_now output output_now before now status
     : ℕ) (end : RunEnd) →
     Blames input input_now output output_now end → Says dold dnew before now status end
     → input < input_now →
@@ -291,7 +291,7 @@ not_four (inr (inr (inr (inl e)))) = omega (arith, e)
 not_four (inr (inr (inr (inr (inl e))))) = omega (arith, e)
 not_four (inr (inr (inr (inr (inr e))))) = omega (arith, e)
 
-run_uncounted : (dold dnew : Option (List ℕ))
+pub run_uncounted : (dold dnew : Option (List ℕ))
     (input input_now output output_now before now status : ℕ) (end : RunEnd) →
     Blames input input_now output output_now end → Says dold dnew before now status end →
     IsOfBytes status → (input_now ≡ input) × (output_now ≡ output)
@@ -304,7 +304,7 @@ run_uncounted dold dnew input input_now output output_now before now status Writ
 run_uncounted dold dnew input input_now output output_now before now status _ b (inl says) h = b
 
 -- a fault that is reported was counted
-run_read_told : (dold dnew : Option (List ℕ)) (input input_now output output_now before now status :
+pub run_read_told : (dold dnew : Option (List ℕ)) (input input_now output output_now before now status :
     ℕ) (end : RunEnd) →
     Blames input input_now output output_now end → Says dold dnew before now status end → status ≡ 3
     → Rose input input_now
@@ -315,7 +315,7 @@ run_read_told dold dnew input input_now output output_now before now status Read
 run_read_told dold dnew input input_now output output_now before now status _ b (inl says) h = absurd
     (omega (arith, says.0, h))
 
-run_write_told : (dold dnew : Option (List ℕ)) (input input_now output output_now before now status
+pub run_write_told : (dold dnew : Option (List ℕ)) (input input_now output output_now before now status
     : ℕ) (end : RunEnd) →
     Blames input input_now output output_now end → Says dold dnew before now status end → status ≡ 4
     →
@@ -328,7 +328,7 @@ run_write_told dold dnew input input_now output output_now before now status _ b
     (omega (arith, says.0, h))
 
 -- a status that is neither 0 nor 9
-neither : (status n : ℕ) → status ≡ n → (n ≡ 0 → ⊥) → (n ≡ 9 → ⊥) → (status ≡ 0) ⊎ (status ≡ 9) → ⊥
+pub neither : (status n : ℕ) → status ≡ n → (n ≡ 0 → ⊥) → (n ≡ 9 → ⊥) → (status ≡ 0) ⊎ (status ≡ 9) → ⊥
 neither status n e zero nine (inl h) = zero (sym e ∙ h)
 neither status n e zero nine (inr h) = nine (sym e ∙ h)
 
@@ -383,7 +383,7 @@ pub headline_of : ((actions : List Action) → Headline (world_after actions))
 headline_of law None = tt
 headline_of law (Some bytes) = λ done behind actions parts asked. law actions
 
-run_not_one : (end : RunEnd) → status_of end ≡ 1 → ⊥
+pub run_not_one : (end : RunEnd) → status_of end ≡ 1 → ⊥
 run_not_one Done e = omega (arith, e)
 run_not_one (BadLine n) e = omega (arith, e)
 run_not_one ReadFault e = omega (arith, e)
@@ -434,7 +434,7 @@ other_words_of words s dold dnew before now status (Run end) ends says none =
     absurd (none (ends.0, ends.1))
 
 -- words that ask for a command of which a run happens ask for none that needs a link
-not_both : OneCommand → {A : Type 0} (words : List (String A)) (command other : CommandLine)
+pub not_both : OneCommand → {A : Type 0} (words : List (String A)) (command other : CommandLine)
     → Asks words command → Runs command → Asks words other → ¬ Runs other → ⊥
 not_both law words command other asks runs again never =
     never (subst Runs (law (map string_bytes words) command other asks again) runs)

@@ -1,15 +1,17 @@
 //! The program's top call.
 
-ghost use Rattle.std.specs.Prelude.{◌≡◌, ◌≢◌, ◌⊎◌, ◌<◌, ◌≤◌, IfSome};
+ghost use Rattle.std.specs.Prelude.{◌≡◌, ◌≢◌, ◌⊎◌, ◌<◌, ◌≤◌, [], ℕ, List, IfSome};
 ghost use Rattle.std.specs.Io.KnownBytes.{Keeps, IsAtEnd};
 ghost use Rattle.dp_io.specs.Faults.{Rose};
 ghost use Rattle.dp_lines.specs.declared.run_end.RunEnd.{RunEnd};
 ghost use Rattle.dp_lines.specs.declared.run_end.RunEnd.TheVariants.{Memory};
 ghost use Rattle.dp_words.specs.declared.command_line.CommandLine.{CommandLine};
+ghost use Rattle.dp_words.specs.declared.command_line.CommandLine.TheVariants.{Join};
 ghost use Rattle.dp_world.specs.RunEnds.{Blames};
 ghost use Rattle.dp_app.specs.Answer.{Answer, CommandLeaves, HasHeadline, IsDue, IsGiven};
 ghost use Rattle.dp_app.specs.Answer.{Says, SaysNoLink, SaysUsage};
 ghost use Rattle.dp_app.specs.Commands.{AskForLink, AskForRun, Asks, IsCommand, IsWorld, Runs};
+ghost use Rattle.dp_app.specs.Joins.{HasJoined, HasLink};
 
 use crate::diagnostics::say;
 use crate::running::run_words;
@@ -17,46 +19,51 @@ use dp_io::{Sink, Source};
 use dp_sim::headline;
 use dp_steps::Steps;
 use dp_viewer::{one_play, one_replay};
+use dp_wire::Wire;
 use dp_words::one_command_line;
 use dp_world::one_schedule;
 use std::alloc::Global;
 use std::sync::ledger::Ledger;
 
 /// What the program ends with.
-#[derive(Clone, Copy, Debug, PartialEq, Eq)]
-pub struct Outcome {
+#[derive(Drop)]
+pub struct Outcome<W> {
     /// The exit status. The table: docs/protocol.md, "Statuses".
     pub status: u8,
+    /// The wires that it was given.
+    pub wires: Vec<W>,
 }
 
-/// The program: its words after its name, its input, its output, and where it says why it ended.
-/// The work on its canvas is counted. Nothing else is read or written.
-pub fn drawpile<I: Source, O: Sink, E: Sink, D: Ledger, T: Ledger>(
+/// The program: its words after its name, its input, its output, where it says why it ended, and
+/// the wires on which it may dial (`wanted` of dp_words says whether it needs one). The work on its
+/// canvas is counted. Nothing else is read or written.
+pub fn drawpile<I: Source, O: Sink, E: Sink, W: Wire + Drop, D: Ledger, T: Ledger>(
     alloc: Global,
     words: &[String],
     input: &mut I,
     output: &mut O,
     diag: &mut E,
+    wires: Vec<W>,
     draws: &mut Steps<D>,
     tiles: &mut Steps<T>,
-) -> Outcome
-    // Words that are no command are refused, and so is a command that needs a link, for there is
-    // none. Neither input nor output is touched then. Reading the words can run out of memory.
+) -> Outcome<W>
+    // Words that are no command are refused, and so is a command that needs a link where there is
+    // no wire. Neither input nor output is touched then. Reading the words can run out of memory.
     ensures usage { result.status ≡ 1 → ¬ IsCommand words.now }
     ensures other_words { ¬ IsCommand words.now
         → SaysUsage (E.held diag.old) (E.held diag.new) (E.faults diag.old) (E.faults diag.new)
         result.status
         ⊎ Says (E.held diag.old) (E.held diag.new) (E.faults diag.old) (E.faults diag.new)
         result.status Memory }
-    ensures no_link { AskForLink words.now
+    ensures no_link { AskForLink words.now → wires.items ≡ []
         → SaysNoLink (E.held diag.old) (E.held diag.new) (E.faults diag.old) (E.faults diag.new)
         result.status
         ⊎ Says (E.held diag.old) (E.held diag.new) (E.faults diag.old) (E.faults diag.new)
         result.status Memory }
-    ensures untouched { ¬ AskForRun words.now
+    ensures untouched { ¬ AskForRun words.now → ¬ HasLink words.now wires.items
         → Keeps (I.left input.old) (I.left input.new) × Keeps (O.held output.old)
         (O.held output.new) }
-    ensures uncounted { ¬ AskForRun words.now
+    ensures uncounted { ¬ AskForRun words.now → ¬ HasLink words.now wires.items
         → (I.faults input.new ≡ I.faults input.old) × (O.faults output.new ≡ O.faults output.old) }
 
     // A command ends in one of the ways of a run: what the input comes to decides what is written,
@@ -70,6 +77,24 @@ pub fn drawpile<I: Source, O: Sink, E: Sink, D: Ledger, T: Ledger>(
         (O.faults output.old) (O.faults output.new) end
         × Says (E.held diag.old) (E.held diag.new) (E.faults diag.old) (E.faults diag.new)
         result.status end }
+
+    // `join` dials on the first wire, and ends in one of the ways of a run over a link: what the
+    // script and the link come to decides what is printed and what is written to the link. Or memory
+    // ran out before the words were read. The link is handed back, and other wires stay.
+    ensures joins { (addr name : List ℕ) → Asks words.now (Join addr name) → wires.items ≢ []
+        → HasJoined W.links W.faults W.Rx.left W.Rx.faults W.Tx.held W.Tx.faults name
+        wires.items result.wires.items (record {
+          input = I.left input.old;
+          left = I.left input.new;
+          old = O.held output.old;
+          new = O.held output.new;
+          read = I.faults input.old;
+          read_now = I.faults input.new;
+          written = O.faults output.old;
+          written_now = O.faults output.new;
+        }) (E.held diag.old) (E.held diag.new) (E.faults diag.old) (E.faults diag.new)
+        result.status }
+    ensures wires_stay { ¬ HasLink words.now wires.items → result.wires.items ≡ wires.items }
 
     // And whatever the input comes to: after its first lines, however many, each client has taken a
     // prefix of the history of its epoch, its confirmed canvas is that prefix replayed, its view
@@ -98,15 +123,18 @@ pub fn drawpile<I: Source, O: Sink, E: Sink, D: Ledger, T: Ledger>(
     ensures diag_later { E.faults diag.old ≤ E.faults diag.new }
 
     // Where nothing failed and memory sufficed, an answer is given that the words and the input's
-    // bytes are due, and they are due no other.
-    ensures complete { ¬ Rose (I.faults input.old) (I.faults input.new)
+    // bytes are due, and they are due no other. (That of `join` over a link depends on the link's
+    // bytes, too: `joins` says it.)
+    ensures complete { ¬ HasLink words.now wires.items
+        → ¬ Rose (I.faults input.old) (I.faults input.new)
         → ¬ Rose (O.faults output.old) (O.faults output.new)
         → ¬ Rose (E.faults diag.old) (E.faults diag.new)
         → result.status ≢ 7
         → IfSome (I.left input.old) (λ bytes. (answer : Answer) × IsDue words.now bytes answer
         × IsGiven answer result.status
         (O.held output.old) (O.held output.new) (E.held diag.old) (E.held diag.new)) }
-    ensures exact { ¬ Rose (I.faults input.old) (I.faults input.new)
+    ensures exact { ¬ HasLink words.now wires.items
+        → ¬ Rose (I.faults input.old) (I.faults input.new)
         → ¬ Rose (O.faults output.old) (O.faults output.new)
         → ¬ Rose (E.faults diag.old) (E.faults diag.new)
         → result.status ≢ 7
@@ -119,8 +147,8 @@ pub fn drawpile<I: Source, O: Sink, E: Sink, D: Ledger, T: Ledger>(
     one_play();
     one_schedule();
     headline();
-    let ending = run_words(alloc, words, input, output, draws, tiles);
-    Outcome {
-        status: say(diag, ending),
-    }
+    let mut wires = wires;
+    let ending = run_words(alloc, words, input, output, &mut wires, draws, tiles);
+    let status = say(diag, ending);
+    Outcome { status, wires }
 }

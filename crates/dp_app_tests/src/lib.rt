@@ -2,6 +2,8 @@
 #![tactic(auto)]
 
 #[cfg(test)]
+mod join;
+#[cfg(test)]
 mod play;
 #[cfg(test)]
 mod replay;

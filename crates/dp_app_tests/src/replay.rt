@@ -3,7 +3,6 @@
 ghost use Rattle.std.specs.Prelude.{◌≤◌, None, length};
 
 use crate::running::{Faults, NO_FAULTS, outcome_of, run, words_of};
-use dp_app::Outcome;
 use dp_io::{Failed, MemSink, MemSource, Source};
 use std::alloc::Global;
 use std::process::Abort;
@@ -287,8 +286,15 @@ fn the_greatest_canvas(rt: HostRuntime) -> Result<(), Fail> {
     let mut source = MemSource::new(input, 4096, Vec::new(alloc));
     let mut output = MemSink::new(alloc, 50_400_000, 50_400_000, Vec::new(alloc))?;
     let mut diag = MemSink::new(alloc, 100, 100, Vec::new(alloc))?;
-    let outcome = outcome_of(alloc, &words, &mut source, &mut output, &mut diag);
-    assert_eq!(rt; outcome, Outcome { status: 0 });
+    let outcome = outcome_of(
+        alloc,
+        &words,
+        &mut source,
+        &mut output,
+        &mut diag,
+        Vec::new(alloc),
+    );
+    assert_eq!(rt; outcome.status, 0);
     assert_eq!(rt; output.as_slice().len(), 17 + 50_331_648);
     let pixels = output.as_slice().get(17..).unwrap_or(&[]);
     assert!(rt; output.as_slice().starts_with(b"P6\n4096 4096\n255\n"));
@@ -321,8 +327,15 @@ fn words_that_are_no_command(rt: HostRuntime) -> Result<(), Fail> {
         let mut source = MemSource::new(Vec::new(alloc), 1, Vec::new(alloc));
         let mut output = MemSink::new(alloc, 100, 1, Vec::new(alloc))?;
         let mut diag = MemSink::new(alloc, 100, 1, Vec::new(alloc))?;
-        let outcome = outcome_of(alloc, &list, &mut source, &mut output, &mut diag);
-        assert_eq!(rt; outcome, Outcome { status: 1 }, "{words}");
+        let outcome = outcome_of(
+            alloc,
+            &list,
+            &mut source,
+            &mut output,
+            &mut diag,
+            Vec::new(alloc),
+        );
+        assert_eq!(rt; outcome.status, 1, "{words}");
         assert!(rt; output.as_slice().is_empty(), "{words}");
         assert_eq!(rt;
             diag.as_slice(),
@@ -514,8 +527,15 @@ fn inputs_about_the_limit(rt: HostRuntime) -> Result<(), Fail> {
         let mut source = long_source(alloc, title, behind)?;
         let mut output = MemSink::new(alloc, 100, 100, Vec::new(alloc))?;
         let mut diag = MemSink::new(alloc, 100, 100, Vec::new(alloc))?;
-        let outcome = outcome_of(alloc, &words, &mut source, &mut output, &mut diag);
-        assert_eq!(rt; outcome, Outcome { status });
+        let outcome = outcome_of(
+            alloc,
+            &words,
+            &mut source,
+            &mut output,
+            &mut diag,
+            Vec::new(alloc),
+        );
+        assert_eq!(rt; outcome.status, status);
         assert_eq!(rt; diag.as_slice(), line.as_bytes());
         let picture = picture_of(alloc, if status == 0 { "0 0" } else { "" }, "")?;
         assert_eq!(rt; output.as_slice(), picture.as_slice());

@@ -5,6 +5,7 @@ ghost use Rattle.std.specs.Prelude.{◌≡◌, ◌<◌};
 use dp_app::{Outcome, drawpile};
 use dp_io::{MemSink, MemSource, Sink, Source};
 use dp_steps::Steps;
+use dp_wire::MemWire;
 use std::alloc::Global;
 use std::marker::Brand;
 use std::process::Abort;
@@ -56,7 +57,9 @@ pub fn run(
         Vec::from_slice(alloc, faults.output)?,
     )?;
     let mut diag = MemSink::new(alloc, 1000, piece, Vec::from_slice(alloc, faults.diag)?)?;
-    let status = outcome_of(alloc, &words, &mut source, &mut output, &mut diag).status;
+    let wires = Vec::new(alloc);
+    let outcome = outcome_of(alloc, &words, &mut source, &mut output, &mut diag, wires);
+    let status = outcome.status;
     Ok(Ran {
         status,
         output,
@@ -73,20 +76,22 @@ pub fn words_of(alloc: Global, text: &str) -> Result<Vec<String>, Fail> {
     Ok(words)
 }
 
-/// Runs the program with new counters.
+/// Runs the program on these wires with new counters.
 pub fn outcome_of<I: Source, O: Sink, E: Sink>(
     alloc: Global,
     words: &[String],
     input: &mut I,
     output: &mut O,
     diag: &mut E,
-) -> Outcome {
+    wires: Vec<MemWire>,
+) -> Outcome<MemWire> {
     counted::<_, _, _, Brand, Brand>(
         alloc,
         words,
         input,
         output,
         diag,
+        wires,
         Blank::new(1),
         Blank::new(1),
     )
@@ -99,13 +104,16 @@ fn counted<I: Source, O: Sink, E: Sink, D: Ledger, T: Ledger>(
     input: &mut I,
     output: &mut O,
     diag: &mut E,
+    wires: Vec<MemWire>,
     draws: Blank,
     tiles: Blank,
-) -> Outcome
+) -> Outcome<MemWire>
     requires draws { (draws.name ≡ D.name) × (draws.parts ≡ D.parts) × (0 < draws.parts) }
     requires tiles { (tiles.name ≡ T.name) × (tiles.parts ≡ T.parts) × (0 < tiles.parts) }
 {
     let mut draws = Steps::<D>::new(draws);
     let mut tiles = Steps::<T>::new(tiles);
-    drawpile(alloc, words, input, output, diag, &mut draws, &mut tiles)
+    drawpile(
+        alloc, words, input, output, diag, wires, &mut draws, &mut tiles,
+    )
 }

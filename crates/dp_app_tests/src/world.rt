@@ -55,7 +55,7 @@ up 1|placed 0:5";
 /// brackets, whose pixels are red, blue and white, each with how often it stands there, and its
 /// rows separated by a slash. `takes C N M` stands for the lines that take the entries from N to M,
 /// and `points K N` for K undo points of the second client, placed from N on.
-static ROWS: [(&str, &[&str]); 24] = [
+static ROWS: [(&str, &[&str]); 26] = [
     ("", &[START]),
     ("", &[START2]),
     (
@@ -197,6 +197,27 @@ static ROWS: [(&str, &[&str]); 24] = [
             START,
             "say 1 RED0|said 3\nleave 1|leaving\nsay 1 POINT|gone\nup 1|placed 0:5\nup 1|left 0:6",
             "take 1|gone\njoin ann|joined 2 user 1 at 0:7\ntakes 2 0 8\nconf 2|[1R1W]",
+        ],
+    ),
+    (
+        "",
+        &[
+            START2,
+            "say 1 RED0|said 3\nup 1|placed 0:6\ntakes 1 0 6\nsay 2 BLUE1|said 1\nreset 1|sent 5",
+            "up 1|noted\nup 1|noted\nup 1|noted\nup 1|noted\nup 1|placed 1:0\nup 2|ignored",
+            "take 2|took 1:0\nup 2|noted\nsay 2 BLUE1|said 1\nup 2|placed 1:10",
+            "take 2|took 1:1\ntake 2|took 1:2\ntake 2|took 1:3\ntake 2|took 1:4\ntake 2|took 1:5",
+            "take 2|took 1:6\ntake 2|took 1:7\ntake 2|took 1:8\ntake 2|took 1:9\nconf 2|[1R1W]",
+            "view 2|[1R1B]\ntake 2|took 1:10\nconf 2|[1R1B]\nview 2|[1R1B]\ntake 2|nothing",
+        ],
+    ),
+    (
+        "",
+        &[
+            START,
+            "join bob|joined 2 user 2 at 0:5\ntakes 1 0 4\nreset 1|sent 4",
+            "up 1|noted\nup 1|noted\nup 1|noted\nup 1|placed 1:0\ntake 1|took 1:0\nup 1|noted",
+            "snap 1|snap 0\nreset 1|sent 2\nup 1|noted\nup 1|placed 2:0\ntake 2|took 2:0\nup 2|noted",
         ],
     ),
     ("bad line 3", &["join ann|joined 1 user 1 at 0:1\n\nup 2"]),

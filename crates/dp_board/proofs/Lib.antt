@@ -5,4 +5,9 @@ pub mod SortedLemmas
 pub mod CommandLemmas
 pub mod FlagLemmas
 pub mod GroupLemmas
+pub mod TimesLemmas
+pub mod StepLemmas
+pub mod MoveLemmas
+pub mod TableSteps
+pub mod KeepLemmas
 pub mod Numbers

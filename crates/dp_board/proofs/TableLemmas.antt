@@ -9,12 +9,11 @@ use Rattle.dp_board.specs.declared.act.Act.{Act}
 use Rattle.dp_board.specs.declared.act.Act.TheVariants.{Point, Undo, Redo, Draw, Other}
 use Rattle.dp_board.specs.declared.act.UserAct.{UserAct}
 use Rattle.dp_board.specs.declared.join.Join.{Join}
-use Rattle.dp_board.specs.declared.table.StrokeTable.{StrokeTable}
 use Rattle.dp_board.specs.Strokes.{no_strokes, is_among, after_act, strokes}
 use Rattle.dp_board.specs.Flags.{joined, is_group_drawn, flag_of, flags_from}
 use Rattle.dp_board.specs.Users.{groups_of, HaveDone}
 use Rattle.dp_board.specs.Joins.{join_of, join_in, joins_from, is_join_drawn}
-use Rattle.dp_board.specs.Table.{IsTableBehind, TakesAct}
+use Rattle.dp_board.specs.Table.{Table, HasStrokes, TakesAct}
 
 -- one more act at the end of a history
 pub strokes-push : {Op : Type 0} → (depth user : ℕ) (xs : List (UserAct Op)) (a : UserAct Op)
@@ -22,19 +21,19 @@ pub strokes-push : {Op : Type 0} → (depth user : ℕ) (xs : List (UserAct Op))
 strokes-push depth user xs a = fold_push (after_act user) (no_strokes depth) xs a
 
 -- the strokes of each user, with one more act
-pub IsTableBehind-push : {Op : Type 0} → (depth : ℕ) (before : List (UserAct Op)) (a : UserAct Op)
-    (old new : StrokeTable) → IsTableBehind depth before old → TakesAct a old new
-    → IsTableBehind depth (before ++ a ∷ []) new
-IsTableBehind-push depth before a old new were taken user small =
+pub HasStrokes-push : {Op : Type 0} → (depth : ℕ) (before : List (UserAct Op)) (a : UserAct Op)
+    (old new : Table) → HasStrokes depth before old → TakesAct a old new
+    → HasStrokes depth (before ++ a ∷ []) new
+HasStrokes-push depth before a old new were taken user small =
     taken user small
     ∙ ap (λ s. after_act user s a) (were user small)
     ∙ sym (strokes-push depth user before a)
 
 -- what the acts joined, with one more act
 pub joins_from-push : {Op : Type 0} → (depth : ℕ) (before : List (UserAct Op)) (a : UserAct Op)
-    (rest : List (UserAct Op)) (table : StrokeTable) (joins all : List Join)
-    → IsTableBehind depth before table → a.user < 256 → joins ++ joins_from depth before (a ∷ rest)
-    ≡ all → (joins ++ join_of a.user (groups_of table.users.items a.user) a.act ∷ [])
+    (rest : List (UserAct Op)) (table : Table) (joins all : List Join)
+    → HasStrokes depth before table → a.user < 256 → joins ++ joins_from depth before (a ∷ rest)
+    ≡ all → (joins ++ join_of a.user (groups_of table.users a.user) a.act ∷ [])
     ++ joins_from depth (before ++ a ∷ []) rest ≡ all
 joins_from-push depth before a rest table joins all are small is =
     append_assoc joins _ _
@@ -49,9 +48,9 @@ take-step xs i a inside is = take_more xs i a inside ∙ ap (λ y. take i xs ++ 
 
 -- the joins so far and those of the rest, one act on
 pub joins_from-step : {Op : Type 0} → (depth : ℕ) (xs : List (UserAct Op)) (i : ℕ) (a : UserAct Op)
-    (table : StrokeTable) (joins more : List Join) (join : Join) (all : List Join) → i < length xs
-    → a ≡ get_or xs i a → IsTableBehind depth (take i xs) table → a.user < 256
-    → join ≡ join_of a.user (groups_of table.users.items a.user) a.act → more ≡ joins ++ join ∷ []
+    (table : Table) (joins more : List Join) (join : Join) (all : List Join) → i < length xs
+    → a ≡ get_or xs i a → HasStrokes depth (take i xs) table → a.user < 256
+    → join ≡ join_of a.user (groups_of table.users a.user) a.act → more ≡ joins ++ join ∷ []
     → joins ++ joins_from depth (take i xs) (drop i xs) ≡ all
     → more ++ joins_from depth (take (i + 1) xs) (drop (i + 1) xs) ≡ all
 joins_from-step depth xs i a table joins more join all inside is are small joined grown so_far =
@@ -59,15 +58,15 @@ joins_from-step depth xs i a table joins more join all inside is are small joine
     ∙ ap (λ y. y ∷ drop (i + 1) xs) (sym is) in
     ap (λ js. js ++ joins_from depth (take (i + 1) xs) (drop (i + 1) xs))
     (grown ∙ ap (λ j. joins ++ j ∷ []) joined)
-    ∙ ap (λ b. (joins ++ join_of a.user (groups_of table.users.items a.user) a.act ∷ [])
+    ∙ ap (λ b. (joins ++ join_of a.user (groups_of table.users a.user) a.act ∷ [])
     ++ joins_from depth b (drop (i + 1) xs)) (take-step xs i a inside is)
     ∙ joins_from-push depth (take i xs) a (drop (i + 1) xs) table joins all are small
     (ap (λ d. joins ++ joins_from depth (take i xs) d) (sym left) ∙ so_far)
 
 -- what a command joined is drawn where its group is
-is_join_drawn-join_in : {Op : Type 0} → (depth : ℕ) (all : List (UserAct Op)) (table : StrokeTable)
-    (done : List (List ℕ)) (user : ℕ) (group : Option ℕ) → IsTableBehind depth all table
-    → HaveDone table.users.items done → user < 256 → is_join_drawn done (join_in user group)
+is_join_drawn-join_in : {Op : Type 0} → (depth : ℕ) (all : List (UserAct Op)) (table : Table)
+    (done : List (List ℕ)) (user : ℕ) (group : Option ℕ) → HasStrokes depth all table
+    → HaveDone table.users done → user < 256 → is_join_drawn done (join_in user group)
     ≡ is_group_drawn (strokes depth user all).groups.done group
 is_join_drawn-join_in depth all table done user None are have small = refl
 is_join_drawn-join_in depth all table done user (Some group) are have small =
@@ -75,8 +74,8 @@ is_join_drawn-join_in depth all table done user (Some group) are have small =
 
 -- what an act joined is drawn where the act is a command that is drawn
 is_join_drawn-join_of : {Op : Type 0} → (depth : ℕ) (all before : List (UserAct Op))
-    (table : StrokeTable) (done : List (List ℕ)) (user : ℕ) (act : Act Op)
-    → IsTableBehind depth all table → HaveDone table.users.items done → user < 256
+    (table : Table) (done : List (List ℕ)) (user : ℕ) (act : Act Op)
+    → HasStrokes depth all table → HaveDone table.users done → user < 256
     → is_join_drawn done (join_of user (strokes depth user before).groups act)
     ≡ flag_of depth all before user act
 is_join_drawn-join_of depth all before table done user (Draw op) are have small =
@@ -88,8 +87,8 @@ is_join_drawn-join_of depth all before table done user Other are have small = re
 
 -- the flags of the rest of a history, from what its acts joined
 pub map-joins_from : {Op : Type 0} → (depth : ℕ) (all before rest : List (UserAct Op))
-    (table : StrokeTable) (done : List (List ℕ)) → IsTableBehind depth all table
-    → HaveDone table.users.items done → All (λ act. act.user < 256) rest
+    (table : Table) (done : List (List ℕ)) → HasStrokes depth all table
+    → HaveDone table.users done → All (λ act. act.user < 256) rest
     → map (is_join_drawn done) (joins_from depth before rest) ≡ flags_from depth all before rest
 map-joins_from depth all before [] table done are have small = refl
 map-joins_from depth all before (a ∷ rest) table done are have small =

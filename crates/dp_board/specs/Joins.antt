@@ -25,6 +25,10 @@ joins_from depth before (a ∷ rest) =
     join_of a.user (strokes depth a.user before).groups a.act
     ∷ joins_from depth (before ++ a ∷ []) rest
 
+-- what each act of a history joins
+abbrev pub joins : {Op : Type 0} → ℕ → List (UserAct Op) → List Join
+joins depth acts = joins_from depth [] acts
+
 -- what joined so is drawn, where the users end with these done groups
 abbrev pub is_join_drawn : List (List ℕ) → Join → Bool
 is_join_drawn done NoCommand = false

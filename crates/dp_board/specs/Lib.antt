@@ -6,4 +6,5 @@ pub mod Users
 pub mod Joins
 pub mod Table
 pub mod Laws
+pub mod Moves
 pub mod Numbers

@@ -27,3 +27,14 @@ pub struct UserAct<Op> {
     /// What the entry does.
     pub act: Act<Op>,
 }
+
+/// What an act did to the board of a history.
+#[derive(Clone, Copy, Debug, PartialEq, Eq)]
+pub enum Change {
+    /// Its command was drawn last.
+    Drew,
+    /// It moved a group: commands are gone from the board, or are back on it.
+    Rebuilt,
+    /// Nothing.
+    Nothing,
+}

@@ -1,6 +1,7 @@
 //! The groups of one user.
 
 ghost use Rattle.std.specs.Prelude.{◌≡◌, ◌<◌, length, position, OnOk, IfOk, IfSome};
+ghost use Rattle.dp_board.specs.Table.{begins_settled};
 ghost use Rattle.dp_board.specs.Users.{HaveSame};
 
 use crate::act::Act;
@@ -25,10 +26,18 @@ impl Model for UserGroups {
     ghost view = { λ g. record { done = g.done.items; undone = g.undone.items } };
 }
 
+/// Whether the first two of some done groups are out of reach.
+fn begins_settled(done: &[usize], window: &PointWindow) -> bool
+    ensures { result ≡ begins_settled window.now done.now }
+{
+    done.len() > 1 && !window.is_eligible(done[0]) && !window.is_eligible(done[1])
+}
+
 impl UserGroups {
     ghost use Rattle.dp_board.specs.Strokes.{no_groups, last_of, is_eligible};
     ghost use Rattle.dp_board.specs.Strokes.{Strokes, groups_after, open_group, clear_undone};
     ghost use Rattle.dp_board.specs.Strokes.{undo, redo, undoable, redoable};
+    ghost use Rattle.dp_board.specs.Table.{unsettled};
 
     pub(crate) fn new(alloc: Global) -> Self
         ensures { result ≡ no_groups }
@@ -94,6 +103,42 @@ impl UserGroups {
             self.done.pop();
         }
         Ok(())
+    }
+
+    /// The group that an undo moves: the last done one, where it is eligible.
+    pub(crate) fn undoable(&self, window: &PointWindow) -> Option<usize>
+        ensures { result ≡ undoable window.now self.now }
+    {
+        self.last_done().filter(|&group| window.is_eligible(group))
+    }
+
+    /// The group that a redo moves: the first eligible one of the undone.
+    pub(crate) fn redoable(&self, window: &PointWindow) -> Option<usize>
+        ensures { result ≡ redoable window.now self.now }
+    {
+        self.undone
+            .iter()
+            .copied()
+            .find(|&group| window.is_eligible(group))
+    }
+
+    /// Equal groups.
+    pub(crate) fn copy(&self, alloc: Global) -> Result<Self, AllocError>
+        ensures { IfOk result (λ copy. copy ≡ self.now) }
+    {
+        Ok(UserGroups {
+            done: Vec::from_slice(alloc, &self.done)?,
+            undone: Vec::from_slice(alloc, &self.undone)?,
+        })
+    }
+
+    /// Forgets done groups that are out of reach and come before another that is out of reach.
+    pub(crate) fn forget_settled(&mut self, window: &PointWindow)
+        ensures { self.new ≡ unsettled window.now self.old }
+    {
+        while begins_settled(&self.done, window) {
+            self.done.remove(0);
+        }
     }
 
     /// The place of the first eligible group among the undone ones.

@@ -3,6 +3,9 @@
 ghost use Rattle.dp_board.specs.Laws.{CommandsDoNotCount, EachActHasAFlag};
 ghost use Rattle.dp_board.specs.Laws.{StrokesGoOn, WindowIsOfLastPoints};
 ghost use Rattle.dp_board.specs.Laws.{GroupsArePoints, MovedIsAPoint};
+ghost use Rattle.dp_board.specs.Moves.{FlagsGoOn, FlagsMove, FlagsStayBefore, JoinsComeLater};
+ghost use Rattle.dp_board.specs.Moves.{EachActHasAJoin, MovedIsInReach, FinalFlagsStay};
+ghost use Rattle.dp_board.specs.Table.{TablesBegin, TablesGoOn, TablesMove, TablesJoin};
 
 /// Which acts are commands that are drawn does not depend on the commands: a history with other
 /// commands in place of its own has the same flags.
@@ -30,4 +33,35 @@ pub fn window_is_of_last_points<Op>()
 pub fn groups_are_points<Op>()
     ensures groups { GroupsArePoints Op }
     ensures moved { MovedIsAPoint Op }
+{}
+
+/// The flags of a history with one more act. Where the act moves no group they stay, and the act
+/// has the flag true where it is a command. Where it moves one, the flags of that group change and
+/// no others, and none up to the point of the group.
+pub fn flags_go_on<Op>()
+    ensures unmoved { FlagsGoOn Op }
+    ensures moved { FlagsMove Op }
+    ensures before { FlagsStayBefore Op }
+{}
+
+/// What an act joins comes before it, and what it moves is in reach.
+pub fn groups_come_first<Op>()
+    ensures each { EachActHasAJoin Op }
+    ensures joined { JoinsComeLater Op }
+    ensures moved { MovedIsInReach Op }
+{}
+
+/// What can't be undone or brought back any more has its flag in each longer history: a replay may
+/// forget how it came to it.
+pub fn final_flags_stay<Op>()
+    ensures { FinalFlagsStay Op }
+{}
+
+/// A table of strokes follows a history act by act, and says what an act that comes next moves and
+/// what it joins.
+pub fn tables_follow<Op>()
+    ensures first { TablesBegin Op }
+    ensures next { TablesGoOn Op }
+    ensures moved { TablesMove Op }
+    ensures joined { TablesJoin Op }
 {}

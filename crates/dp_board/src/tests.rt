@@ -1,9 +1,11 @@
 use crate::act::{Act, UserAct};
 use crate::flags::drawn_flags;
+use crate::join::Join;
 use crate::laws::{
-    commands_do_not_count, each_act_has_a_flag, groups_are_points, strokes_go_on,
-    window_is_of_last_points,
+    commands_do_not_count, each_act_has_a_flag, final_flags_stay, flags_go_on, groups_are_points,
+    groups_come_first, strokes_go_on, tables_follow, window_is_of_last_points,
 };
+use crate::table::StrokeTable;
 use std::alloc::{AllocError, Global};
 use std::process::Abort;
 use std::test::Fail;
@@ -160,6 +162,10 @@ fn without_commands(rt: HostRuntime) -> Result<(), Fail> {
     strokes_go_on::<u8>();
     window_is_of_last_points::<u8>();
     groups_are_points::<u8>();
+    groups_come_first::<u8>();
+    flags_go_on::<u8>();
+    final_flags_stay::<u8>();
+    tables_follow::<u8>();
     let acts = [
         UserAct {
             user: 1,
@@ -182,5 +188,51 @@ fn without_commands(rt: HostRuntime) -> Result<(), Fail> {
         drawn_flags(rt.alloc(), 30, &acts)?.as_slice(),
         [false, false, false, true].as_slice()
     );
+    Ok(())
+}
+
+/// Takes the acts of a script at depth 2 one by one, and writes what each moves and joins: `-` for
+/// nothing, `0` for group 0.
+fn moves(rt: &impl Abort, alloc: Global, script: &str) -> Result<(String, String), AllocError> {
+    let mut table = StrokeTable::new(alloc, 2)?;
+    let mut moved = String::new(alloc);
+    let mut joined = String::new(alloc);
+    for word in script.split_whitespace() {
+        let act = act_of(rt, word);
+        match table.moved(&act) {
+            None => moved.push_str("-")?,
+            Some(group) => moved.push_str(format!(in alloc; "{group}")?.as_str())?,
+        }
+        match table.join_of(&act) {
+            Join::NoCommand => joined.push_str("-")?,
+            Join::GroupZero => joined.push_str("0")?,
+            Join::InGroup { group, .. } => {
+                joined.push_str(format!(in alloc; "g{group}")?.as_str())?;
+            }
+        }
+        table.take(alloc, &act)?;
+    }
+    Ok((moved, joined))
+}
+
+#[test]
+fn one_act_at_a_time(rt: HostRuntime) -> Result<(), Fail> {
+    for (script, moved, joined) in [
+        ("1D. 1P. 1D. 1U1 1D. 1R1", "---1--", "0-g1-0-"),
+        ("1P. 1D. 2U1 2D. 1R1 1D.", "--0-0-", "-g0-0-g0"),
+        // The first of three groups is out of reach, and commands join it after two undos.
+        ("1P. 1P. 1P. 1U1 1U1 1U1 1D. 1R1", "---21---", "------g0-"),
+        (
+            "1P. 1P. 1P. 1P. 1P. 1U1 1U1 1U1 1R1 1D.",
+            "-----43-3-",
+            "---------g3",
+        ),
+    ] {
+        let (moves, joins) = moves(&rt, rt.alloc(), script)?;
+        assert_eq!(rt; moves.as_str(), moved, "moved by {script}");
+        assert_eq!(rt; joins.as_str(), joined, "joined by {script}");
+    }
+    let table = StrokeTable::new(rt.alloc(), 2)?;
+    assert_eq!(rt; (table.position(), table.oldest()), (0, 0));
     Ok(())
 }

@@ -1,6 +1,7 @@
 //! The points that undo and redo reach.
 
-ghost use Rattle.std.specs.Prelude.{◌≡◌, OnOk};
+ghost use Rattle.std.specs.Prelude.{◌≡◌, min, IfOk, OnOk, OnErr};
+ghost use Rattle.std.specs.List.{fold};
 
 use crate::act::Act;
 use std::alloc::{AllocError, Global};
@@ -42,9 +43,29 @@ impl PointWindow {
         self.points.contains(&group)
     }
 
+    /// The oldest point in reach, or `end` where none is before it.
+    pub(crate) fn oldest(&self, end: usize) -> usize
+        ensures { result ≡ fold min end self.now.points }
+    {
+        self.points
+            .iter()
+            .fold(end, |oldest, point| oldest.min(*point))
+    }
+
+    /// An equal window.
+    pub(crate) fn copy(&self, alloc: Global) -> Result<Self, AllocError>
+        ensures { IfOk result (λ copy. copy ≡ self.now) }
+    {
+        Ok(PointWindow {
+            depth: self.depth,
+            points: self.points.iter().copied().collect(alloc)?,
+        })
+    }
+
     /// Adds the point of an act at a position, if it is one, and keeps the last ones alone.
     pub(crate) fn take<Op>(&mut self, position: usize, act: &Act<Op>) -> Result<(), AllocError>
-        ensures { OnOk result (self.new ≡ window_after position act.now self.old) }
+        ensures ok { OnOk result (self.new ≡ window_after position act.now self.old) }
+        ensures err { OnErr result (self.new ≡ self.old) }
     {
         if matches!(act, Act::Point) {
             self.points.push_back(position)?;

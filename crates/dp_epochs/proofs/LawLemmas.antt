@@ -1,10 +1,11 @@
 -- The laws of sessions.
-use Rattle.std.proofs.Common.{◌≡◌, ℕ, suc, ◌+◌, ◌*◌, ◌≤◌, ◌==◌, Bool, true, false}
-use Rattle.std.proofs.Common.{if◌then◌else◌, List, [], ◌∷◌, ◌++◌, length}
+use Rattle.std.proofs.Common.{◌≡◌, ℕ, zero, suc, ◌+◌, ◌*◌, ◌<◌, ◌≤◌, ◌==◌, Bool, true, false}
+use Rattle.std.proofs.Common.{nat_lt, nat_le, if◌then◌else◌, List, [], ◌∷◌, ◌++◌, length}
 use Rattle.std.proofs.Common.{map, fold, All, Option, None, Some, Result, Ok, Err}
-use Rattle.std.proofs.Common.{refl, sym, ap, subst, ◌∙◌, arith}
+use Rattle.std.proofs.Common.{refl, sym, ap, subst, ◌∙◌, ⊎_elim, arith}
 use Rattle.std.proofs.Common.{length-append}
-use Rattle.std.specs.List.{filter}
+use Rattle.std.specs.Prelude.{slice_index_or}
+use Rattle.std.specs.List.{filter, sum_by}
 use Rattle.std.specs.Option.{option_map_or}
 use Rattle.std.specs.declared.alloc.AllocError.{AllocError}
 use Rattle.dp_events.specs.declared.connection.Connection.{Connection}
@@ -13,18 +14,33 @@ use Rattle.dp_events.specs.declared.event.Event.{Event}
 use Rattle.dp_events.specs.declared.event.Event.TheVariants as event
 use Rattle.dp_events.specs.declared.event.Reply.{Reply}
 use Rattle.dp_events.specs.declared.event.ShutAt.{ShutAt}
-use Rattle.dp_epochs.specs.State.{State, first_state, acted, history_of, open_connection}
-use Rattle.dp_epochs.specs.State.{with_connection, after_shut}
-use Rattle.dp_epochs.specs.Effects.{entries_of}
+use Rattle.std.proofs.lemmas.Bool.{cond_both, and_parts, ltb-true, cases_lt}
+use Rattle.std.proofs.lemmas.List.{get_or_past}
+use Rattle.dp_msg_meta.specs.declared.message.Meta.TheVariants as meta
+use Rattle.dp_messages.specs.declared.message.Msg.{Msg}
+use Rattle.dp_messages.specs.declared.message.Msg.TheVariants as msg
+use Rattle.dp_messages.specs.declared.message.Entry.{Entry}
+use Rattle.dp_messages.specs.Properties.{marked}
+use Rattle.dp_acl.specs.Permitted.{permitted}
+use Rattle.dp_acl.specs.Opening.{part_limit, opening_limit, opening}
+use Rattle.dp_epochs.specs.State.{State, Stream, first_state, acted, noted, after_event, epoch_of}
+use Rattle.dp_epochs.specs.State.{histories, history_of, open_connection, with_connection}
+use Rattle.dp_epochs.specs.State.{after_shut, next_owner, stream_without, present_users}
+use Rattle.dp_epochs.specs.State.{part_bytes, reset_byte_limit}
+use Rattle.dp_epochs.specs.Effects.{Effect, Nothing, TakesUp, Placed, Filtered, Joined, Left}
+use Rattle.dp_epochs.specs.Effects.{Began, Added, Dropped, Reopened, made, entries_of, ended_after}
+use Rattle.dp_epochs.specs.Effects.{live_after, IsEffect}
 use Rattle.dp_epochs.specs.Past.{Past, LogItem, Journalled, RefusedClose, shut_at, interleaved}
 use Rattle.dp_epochs.specs.Past.{after_item, state_after, state_of}
 use Rattle.dp_epochs.specs.Past.{Serves, Step, refused, kept, shut_with, sure_step}
 use Rattle.dp_events.specs.Rows.{has_room}
-use Rattle.std.proofs.lemmas.List.Elements.{All-weaker, All-push}
+use Rattle.std.proofs.lemmas.List.Elements.{All-nil, All-weaker, All-push}
 use Rattle.dp_epochs.specs.Laws.{Continues, Outcome, IsRun, IsFault, AreFaults, ShutBefore}
-use Rattle.dp_epochs.specs.Laws.{shut_by}
+use Rattle.dp_epochs.specs.Laws.{shut_by, HasNoMark, IsHistory, AreHistories}
 use Rattle.dp_epochs.proofs.Interleaving.{state-came, state-shut}
-use Rattle.dp_epochs.proofs.EffectLemmas.{has-effect, entries-few, history-goes_on}
+use Rattle.dp_epochs.proofs.OpeningLemmas.{opening-short, present-few, opening-marked}
+use Rattle.dp_epochs.proofs.OpeningLemmas.{unmarked-append}
+use Rattle.dp_epochs.proofs.EffectLemmas.{has-effect, entries-few, history-goes_on, reset-sends}
 
 -- ---- answers
 
@@ -94,42 +110,273 @@ history-grows journal shut e epoch before =
     (sym (state-came journal shut e before))
     (history-goes_on (state_after journal shut) e epoch)
 
-shut-live : (s : State) (conn : ℕ) (o : Option Connection)
-    → (option_map_or (λ c. with_connection s conn (record c { ending = ending.Shut })) o s).live
-    ≡ s.live
-shut-live s conn None = refl
-shut-live s conn (Some c) = refl
+-- ---- what holds of every state
 
-live-run : (s : State) (hs : List LogItem) → length (fold after_item s hs).live ≤ length s.live
-    + 2 * came_in hs
-unfolding came_in
-live-run s [] = omega arith
-live-run s (Journalled e ∷ more) =
-    let h = has-effect s e in
-    omega (
-      arith,
-      live-run (after_item s (Journalled e)) more,
-      ap (λ a. length a.state.live) h.made,
-      length-append s.live (entries_of h.effect),
-      entries-few h.effect,
-    )
-live-run s (RefusedClose conn ∷ more) =
-    omega (
-      arith,
-      live-run (after_shut s conn) more,
-      ap length
-          (shut-live s conn (open_connection s conn)),
-    )
+module _ (P : State → ℕ → Type 0)
+    (event : (s : State) (e : Event) (n : ℕ) → P s n → P (after_event s e) (suc n))
+    (shut : (s : State) (conn : ℕ) (n : ℕ) → P s n → P (after_shut s conn) n) where
+  run-holds : (s : State) (n : ℕ) (hs : List LogItem) → P s n
+      → P (fold after_item s hs) (n + came_in hs)
+  unfolding came_in
+  run-holds s n [] h = subst (P s) (omega arith) h
+  run-holds s n (Journalled e ∷ more) h =
+      subst (P (fold after_item (after_event s e) more)) (omega arith)
+      (run-holds (after_event s e) (suc n) more (event s e n h))
+  run-holds s n (RefusedClose conn ∷ more) h =
+      run-holds (after_shut s conn) n more (shut s conn n h)
 
--- at most two entries for each event
-pub short-history : (past : Past) → length (state_of past).live ≤ 2 * length past.journal + 1
-short-history past =
-    omega (
-      arith,
-      live-run first_state (interleaved 0 past.journal past.shut),
-      came_in-interleaved 0
-          past.journal past.shut,
-    )
+  -- what holds at first, and stays so with each event, holds of the state of each past
+  past-holds : P first_state 0 → (past : Past) → P (state_of past) (length past.journal)
+  past-holds first past =
+      subst (P (state_of past)) (omega (arith, came_in-interleaved 0 past.journal past.shut))
+      (run-holds first_state 0 (interleaved 0 past.journal past.shut) first)
+
+-- ---- length
+
+abbrev IsShortStream : Option Stream → Type 0
+IsShortStream None = Unit {0}
+IsShortStream (Some stream) = length stream.commands ≤ part_limit
+
+-- after so many events each history is short, and so is the reset that is being sent
+record IsShort (s : State) (n : ℕ) : Type 0 where
+  ended : All (λ history. length history ≤ 2 * n + opening_limit) s.ended
+  live : length s.live ≤ 2 * n + opening_limit
+  stream : IsShortStream s.stream
+  epoch : length s.ended ≤ n
+
+module _ (s : State) (n : ℕ) (h : IsShort s n) where
+  ended-short : All (λ history. length history ≤ 2 * suc n + opening_limit) s.ended
+  ended-short =
+      All-weaker (λ (history : List Entry). length history ≤ 2 * n + opening_limit)
+      (λ (history : List Entry). length history ≤ 2 * suc n + opening_limit)
+      (λ history few. omega (arith, few)) s.ended h.ended
+
+  short-grown : (t : State) (more : List Entry) → t.ended ≡ s.ended → t.live ≡ s.live ++ more
+      → length more ≤ 2 → IsShortStream t.stream → IsShort t (suc n)
+  short-grown t more ended live few stream = record {
+    ended = subst (All (λ history. length history ≤ 2 * suc n + opening_limit)) (sym ended)
+        ended-short;
+    live = omega (arith, ap length live, length-append s.live more, few, h.live);
+    stream = stream;
+    epoch = omega (arith, ap length ended, h.epoch);
+  }
+
+without-short : (conn : ℕ) (o : Option Stream) → IsShortStream o
+    → IsShortStream (stream_without conn o)
+without-short conn None h = tt
+without-short conn (Some stream) h =
+    cond_both (stream.owner == conn) None (Some stream) IsShortStream (λ yes. tt) (λ no. h)
+
+short-effect : (s : State) (e : Event) (effect : Effect) → IsEffect s e effect → (n : ℕ)
+    → IsShort s n → IsShort (noted s (made s effect)) (suc n)
+short-effect s e (Nothing answer) cause n h =
+    short-grown s n h (noted s (made s (Nothing answer))) [] refl refl (omega arith) h.stream
+short-effect s e (TakesUp conn c) cause n h =
+    short-grown s n h (noted s (made s (TakesUp conn c))) [] refl refl (omega arith) h.stream
+short-effect s e (Placed conn c m) cause n h =
+    short-grown s n h (noted s (made s (Placed conn c m))) (entries_of (Placed conn c m)) refl refl
+    (omega arith) h.stream
+short-effect s e (Filtered conn c m) cause n h =
+    short-grown s n h (noted s (made s (Filtered conn c m))) (entries_of (Filtered conn c m)) refl
+    refl (omega arith) h.stream
+short-effect s e (Joined user registered name next) cause n h =
+    short-grown s n h (noted s (made s (Joined user registered name next)))
+    (entries_of (Joined user registered name next)) refl refl
+    (entries-few (Joined user registered name next)) h.stream
+short-effect s e (Left conn c next) cause n h =
+    short-grown s n h (noted s (made s (Left conn c next))) (entries_of (Left conn c next)) refl
+    refl (entries-few (Left conn c next)) (without-short conn s.stream h.stream)
+short-effect s e (Began conn c) cause n h =
+    short-grown s n h (noted s (made s (Began conn c))) [] refl refl (omega arith) (omega arith)
+short-effect s e (Added conn c stream command) cause n h =
+    let room : length stream.commands < part_limit =
+    ltb-true (length stream.commands) part_limit
+    (and_parts (nat_lt (length stream.commands) part_limit)
+    (nat_le (sum_by part_bytes stream.commands + part_bytes command) reset_byte_limit) cause.3).0 in
+    short-grown s n h (noted s (made s (Added conn c stream command))) [] refl refl (omega arith)
+    (omega (arith, room, length-append stream.commands (command ∷ [])))
+short-effect s e (Dropped conn c command) cause n h =
+    short-grown s n h (noted s (made s (Dropped conn c command)))
+    (entries_of (Dropped conn c command)) refl refl (omega arith) tt
+short-effect s e (Reopened conn c commands) cause n h =
+    let sends = reset-sends s conn c commands cause.1 in
+    let few : length sends.stream.commands ≤ part_limit = subst IsShortStream sends.is h.stream in
+    let short = opening-short (epoch_of s + 1) s.live (present_users s) commands (present-few s)
+    (omega (arith, few, ap length sends.same)) in
+    record {
+      ended = All-push (λ (history : List Entry). length history ≤ 2 * suc n + opening_limit)
+          s.ended s.live (ended-short s n h) (omega (arith, h.live));
+      live = omega (arith, short);
+      stream = tt;
+      epoch = omega (arith, length-append s.ended (s.live ∷ []), h.epoch);
+    }
+
+event-short : (s : State) (e : Event) (n : ℕ) → IsShort s n → IsShort (after_event s e) (suc n)
+event-short s e n h =
+    let it = has-effect s e in
+    subst (λ a. IsShort (noted s a) (suc n)) (sym it.made) (short-effect s e it.effect it.cause n h)
+
+shut-short : (s : State) (conn n : ℕ) → IsShort s n → IsShort (after_shut s conn) n
+shut-short s conn n h = at_most_one (open_connection s conn)
+  where
+    at_most_one : (o : Option Connection) → IsShort (option_map_or (λ c. with_connection s conn
+        (record c { ending = ending.Shut })) o s) n
+    at_most_one None = h
+    at_most_one (Some c) = record {
+      ended = h.ended;
+      live = h.live;
+      stream = h.stream;
+      epoch = h.epoch;
+    }
+
+first-short : IsShort first_state 0
+first-short = record {
+  ended = All-nil (λ (history : List Entry). length history ≤ 2 * 0 + opening_limit);
+  live = omega arith;
+  stream = tt;
+  epoch = omega arith;
+}
+
+past-short : (past : Past) → IsShort (state_of past) (length past.journal)
+past-short = past-holds IsShort event-short shut-short first-short
+
+-- the epoch is at most the number of events
+pub few-epochs : (past : Past) → epoch_of (state_of past) ≤ length past.journal
+few-epochs past = (past-short past).epoch
+
+short-at : (bound : ℕ) (hs : List (List Entry)) (k : ℕ)
+    → All (λ history. length history ≤ bound) hs → length (slice_index_or hs k []) ≤ bound
+short-at bound hs k short =
+    ⊎_elim (λ (within : k < length hs). short k [] within)
+    (λ (past : length hs ≤ k). omega (arith, ap length (get_or_past hs k [] past)))
+    (cases_lt k (length hs))
+
+-- each history is short
+pub short-history : (past : Past) (epoch : ℕ) → length (history_of (state_of past) epoch)
+    ≤ 2 * length past.journal + opening_limit
+short-history past epoch =
+    let s = state_of past in
+    let h = past-short past in
+    short-at (2 * length past.journal + opening_limit) (s.ended ++ s.live ∷ []) epoch
+    (All-push (λ (history : List Entry). length history
+    ≤ 2 * length past.journal + opening_limit) s.ended s.live h.ended h.live)
+
+-- ---- epochs
+
+epoch-effect : (s : State) (effect : Effect)
+    → (length s.ended ≤ length (ended_after s effect))
+    × (length (ended_after s effect) ≤ length s.ended + 1)
+epoch-effect s (Reopened conn c commands) = (
+  omega (arith, length-append s.ended (s.live ∷ [])),
+  omega (arith, length-append s.ended (s.live ∷ [])),
+)
+epoch-effect s effect = (omega arith, omega arith)
+
+pub epoch-rises : (s : State) (e : Event) → (epoch_of s ≤ epoch_of (after_event s e))
+    × (epoch_of (after_event s e) ≤ epoch_of s + 1)
+epoch-rises s e =
+    let it = has-effect s e in
+    subst (λ a. (epoch_of s ≤ epoch_of (noted s a)) × (epoch_of (noted s a) ≤ epoch_of s + 1))
+    (sym it.made) (epoch-effect s it.effect)
+
+-- ---- marks
+
+unmarked-permitted : (h : List Entry) (user : ℕ) (m : Msg) → permitted h user m ≡ true
+    → marked m ≡ None
+unmarked-permitted h user (msg.Meta (meta.ResetMark epoch carried)) may = cc
+unmarked-permitted h user m may = refl
+
+unmarked-owner : (o : Option ℕ) → HasNoMark (next_owner o)
+unmarked-owner None = tt
+unmarked-owner (Some user) = (refl, tt)
+
+-- no entry that an event places after the live history is a mark
+entries-unmarked : (s : State) (e : Event) (effect : Effect) → IsEffect s e effect
+    → HasNoMark (entries_of effect)
+entries-unmarked s e (Nothing answer) cause = tt
+entries-unmarked s e (TakesUp conn c) cause = tt
+entries-unmarked s e (Placed conn c m) cause =
+    (unmarked-permitted s.live c.user m cause.2, tt)
+entries-unmarked s e (Filtered conn c m) cause = (refl, tt)
+entries-unmarked s e (Joined user registered name next) cause = (refl, unmarked-owner next)
+entries-unmarked s e (Left conn c next) cause = (refl, unmarked-owner next)
+entries-unmarked s e (Began conn c) cause = tt
+entries-unmarked s e (Added conn c stream command) cause = tt
+entries-unmarked s e (Dropped conn c command) cause = (refl, tt)
+entries-unmarked s e (Reopened conn c commands) cause = tt
+
+-- the histories are those of the epochs from this one on
+abbrev AreMarked : ℕ → List (List Entry) → Type 0
+AreMarked epoch [] = Unit {0}
+AreMarked epoch (history ∷ hs) = IsHistory epoch history × AreMarked (suc epoch) hs
+
+history-append : (epoch : ℕ) (history more : List Entry) → IsHistory epoch history
+    → HasNoMark more → IsHistory epoch (history ++ more)
+history-append epoch [] more h clean = absurd h
+history-append epoch (first ∷ rest) more h clean =
+    (h.0, unmarked-append rest more h.1 clean)
+
+marked-grown : (epoch : ℕ) (ended : List (List Entry)) (live more : List Entry)
+    → AreMarked epoch (ended ++ live ∷ []) → HasNoMark more
+    → AreMarked epoch (ended ++ (live ++ more) ∷ [])
+marked-grown epoch [] live more h clean = (history-append epoch live more h.0 clean, tt)
+marked-grown epoch (history ∷ ended) live more h clean =
+    (h.0, marked-grown (suc epoch) ended live more h.1 clean)
+
+marked-opened : (epoch : ℕ) (hs : List (List Entry)) (new : List Entry) → AreMarked epoch hs
+    → IsHistory (epoch + length hs) new → AreMarked epoch (hs ++ new ∷ [])
+marked-opened epoch [] new h is =
+    (subst (λ k. IsHistory k new) (omega arith) is, tt)
+marked-opened epoch (history ∷ hs) new h is = (
+  h.0,
+  marked-opened (suc epoch) hs new h.1 (subst (λ k. IsHistory k new) (omega arith) is),
+)
+
+marked-at : (epoch : ℕ) (hs : List (List Entry)) (k : ℕ) → AreMarked epoch hs → k < length hs
+    → IsHistory (epoch + k) (slice_index_or hs k [])
+marked-at epoch [] k h lt = absurd (omega arith)
+marked-at epoch (history ∷ hs) zero h lt = subst (λ n. IsHistory n history) (omega arith) h.0
+marked-at epoch (history ∷ hs) (suc k) h lt =
+    subst (λ n. IsHistory n (slice_index_or hs k [])) (omega arith)
+    (marked-at (suc epoch) hs k h.1 (omega arith))
+
+-- the histories of a state are marked so
+abbrev IsMarked : State → ℕ → Type 0
+IsMarked s n = AreMarked 0 (histories s)
+
+marked-effect : (s : State) (e : Event) (effect : Effect) → IsEffect s e effect
+    → AreMarked 0 (histories s)
+    → AreMarked 0 (ended_after s effect ++ live_after s effect ∷ [])
+marked-effect s e (Reopened conn c commands) cause h =
+    marked-opened 0 (s.ended ++ s.live ∷ [])
+    (opening (epoch_of s + 1) s.live (present_users s) commands) h
+    (subst (λ k. IsHistory k (opening (epoch_of s + 1) s.live (present_users s) commands))
+    (omega (arith, length-append s.ended (s.live ∷ [])))
+    (opening-marked (epoch_of s + 1) s.live (present_users s) commands))
+marked-effect s e effect cause h =
+    marked-grown 0 s.ended s.live (entries_of effect) h (entries-unmarked s e effect cause)
+
+event-marked : (s : State) (e : Event) (n : ℕ) → IsMarked s n → IsMarked (after_event s e) (suc n)
+event-marked s e n h =
+    let it = has-effect s e in
+    subst (λ a. IsMarked (noted s a) (suc n)) (sym it.made)
+    (marked-effect s e it.effect it.cause h)
+
+shut-marked : (s : State) (conn n : ℕ) → IsMarked s n → IsMarked (after_shut s conn) n
+shut-marked s conn n h = at_most_one (open_connection s conn)
+  where
+    at_most_one : (o : Option Connection) → IsMarked (option_map_or (λ c. with_connection s conn
+        (record c { ending = ending.Shut })) o s) n
+    at_most_one None = h
+    at_most_one (Some c) = h
+
+-- each history of a past begins with the mark of its epoch, and has no other
+pub marked-histories : (past : Past) → AreHistories (state_of past)
+marked-histories past epoch within =
+    let s = state_of past in
+    let h = past-holds IsMarked event-marked shut-marked ((refl, tt), tt) past in
+    subst (λ k. IsHistory k (history_of s epoch)) (omega arith)
+    (marked-at 0 (histories s) epoch h (omega (arith, length-append s.ended (s.live ∷ []))))
 
 -- ---- one more event
 

@@ -1,3 +1,5 @@
 pub mod Interleaving
+pub mod OpeningLemmas
 pub mod EffectLemmas
+pub mod JoinLemmas
 pub mod LawLemmas

@@ -1,18 +1,33 @@
 -- What laws of sessions speak of.
-use Rattle.std.specs.Prelude.{◌≡◌, ◌≤◌, ℕ, List, [], ◌∷◌, ◌++◌, length, Result, Ok, Err}
-use Rattle.std.specs.List.{All}
+use Rattle.std.specs.Prelude.{◌≡◌, ◌≤◌, ℕ, None, Some, List, [], ◌∷◌, ◌++◌, length, Result, Ok, Err}
+use Rattle.std.specs.List.{All, AllByRecursion}
 use Rattle.std.specs.declared.alloc.AllocError.{AllocError}
 use Rattle.dp_messages.specs.declared.message.Entry.{Entry}
+use Rattle.dp_messages.specs.Properties.{marked}
 use Rattle.dp_events.specs.declared.event.Event.{Event}
 use Rattle.dp_events.specs.declared.event.Reply.{Reply}
 use Rattle.dp_events.specs.declared.event.Reply.TheVariants.{StoreFault}
 use Rattle.dp_events.specs.declared.event.Event.TheVariants as event
-use Rattle.dp_epochs.specs.State.{State, after_shut}
+use Rattle.dp_epochs.specs.State.{State, after_shut, epoch_of, history_of}
 use Rattle.dp_epochs.specs.Past.{Past, Step}
 
 -- a history is another with more entries after it
 abbrev pub Continues : List Entry → List Entry → Type 0
 Continues before after = (more : List Entry) × (after ≡ before ++ more)
+
+-- no entry is a mark of an epoch
+abbrev pub HasNoMark : List Entry → Type 0
+HasNoMark entries = AllByRecursion (λ entry. marked entry.msg ≡ None) entries
+
+-- a history begins with the mark of its epoch, and has no other
+abbrev pub IsHistory : ℕ → List Entry → Type 0
+IsHistory epoch [] = ⊥
+IsHistory epoch (first ∷ rest) = (marked first.msg ≡ Some epoch) × HasNoMark rest
+
+-- each history of the state is one of its epoch
+abbrev pub AreHistories : State → Type 0
+AreHistories s =
+    (epoch : ℕ) → epoch ≤ epoch_of s → IsHistory epoch (history_of s epoch)
 
 -- an event, what came of it, and what it left
 pub record Outcome : Type 0 where

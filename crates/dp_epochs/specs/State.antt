@@ -1,20 +1,19 @@
 -- The state of a session, and what one event makes of it.
-use Rattle.std.specs.Prelude.{ℕ, ◌+◌, ◌-◌, Bool, not, ◌&&◌, ◌==◌, nat_le}
+use Rattle.std.specs.Prelude.{ℕ, ◌+◌, ◌-◌, ◌^◌, Bool, false, not, ◌&&◌, ◌==◌, nat_le, nat_lt}
 use Rattle.std.specs.Prelude.{if◌then◌else◌, Option, None, Some, is_some}
 use Rattle.std.specs.Prelude.{List, [], ◌∷◌, ◌++◌, length, slice_set, slice_index_or}
-use Rattle.std.specs.List.{filter, find, list_any, range_with_len}
-use Rattle.std.specs.Option.{option_map_or}
+use Rattle.std.specs.List.{filter, find, list_any, range_with_len, sum_by}
+use Rattle.std.specs.Option.{option_map, option_map_or}
 use Rattle.std.specs.Str.{is_utf8}
 use Rattle.dp_msg_draw.specs.declared.draw.Draw.{Draw}
 use Rattle.dp_msg_meta.specs.declared.message.Control.TheVariants.{Ping, Disconnect, Ack}
 use Rattle.dp_msg_meta.specs.declared.message.Control.TheVariants.{ResetBegin, ResetEnd}
-use Rattle.dp_msg_meta.specs.declared.message.Meta.{Meta}
 use Rattle.dp_msg_meta.specs.declared.message.Meta.TheVariants.{Join, Leave, Owners, ResetMark}
 use Rattle.dp_msg_meta.specs.declared.message.Meta.TheVariants.{Filtered}
 use Rattle.dp_messages.specs.declared.message.Msg.{Msg}
 use Rattle.dp_messages.specs.declared.message.Msg.TheVariants as msg
 use Rattle.dp_messages.specs.declared.message.Entry.{Entry}
-use Rattle.dp_messages.specs.Messages.{kind_of}
+use Rattle.dp_messages.specs.Messages.{kind_of, payload_of}
 use Rattle.dp_lists.specs.Numbered.{numbered}
 use Rattle.dp_acl.specs.Rights.{is_operator}
 use Rattle.dp_acl.specs.Permitted.{permitted}
@@ -28,9 +27,10 @@ use Rattle.dp_events.specs.declared.connection.Connection.{Connection}
 use Rattle.dp_events.specs.Connections.{is_open}
 use Rattle.dp_events.specs.declared.decision.Decision.{Decision}
 use Rattle.dp_events.specs.declared.decision.Decision.TheVariants as decision
+use Rattle.dp_acl.specs.Opening.{server_entry, part_limit, opening}
 
 -- A reset that is being sent: the connection that sends it, the commands so far, and the place of
--- the live history behind which entries are to be kept, if it names one. None does so far.
+-- the live history after which entries are to be kept, if it names one. None does so far.
 pub record Stream : Type 0 where
   pub owner : ℕ
   pub commands : List Draw
@@ -45,10 +45,6 @@ pub record State : Type 0 where
   pub connections : List Connection
   pub stream : Option Stream
   pub answers : List Reply
-
--- an entry of the server's own
-abbrev pub server_entry : Meta → Entry
-server_entry m = record { user = 0; msg = msg.Meta m }
 
 -- a user's entry
 abbrev pub entry_of : ℕ → Msg → Entry
@@ -230,6 +226,49 @@ closed_by s conn connection =
 abbrev pub closed : State → ℕ → Acted
 closed s conn = option_map_or (closed_by s conn) (open_connection s conn) (stays s reply.Ignored)
 
+-- ---- resets
+
+-- how many bytes a part has: those of its payload, with the byte of the command's kind
+abbrev pub part_bytes : Draw → ℕ
+part_bytes command = length (payload_of (msg.Part command))
+
+-- the most bytes that the parts of a reset have
+abbrev pub reset_byte_limit : ℕ
+reset_byte_limit = 2 ^ 28
+
+-- a reset with these commands may have this one, too
+abbrev pub fits_reset : List Draw → Draw → Bool
+fits_reset commands command =
+    nat_lt (length commands) part_limit
+    && nat_le (sum_by part_bytes commands + part_bytes command) reset_byte_limit
+
+-- a reset that has just begun
+abbrev pub first_stream : ℕ → Stream
+first_stream conn = record { owner = conn; commands = []; place = None }
+
+-- the reset with the command of a part
+abbrev pub with_command : Draw → Stream → Stream
+with_command command stream = record stream { commands = stream.commands ++ command ∷ [] }
+
+-- the commands of the reset that is being sent, if there is one
+abbrev pub sent_commands : Option Stream → List Draw
+sent_commands None = []
+sent_commands (Some stream) = stream.commands
+
+-- the reset with the command of a message that is a part
+abbrev pub with_part : Msg → Stream → Stream
+with_part (msg.Part command) stream = with_command command stream
+with_part m stream = stream
+
+-- The next epoch opens with these commands. No connection has taken it up, and no reset is being
+-- sent.
+abbrev pub epoch_opened : State → List Draw → State
+epoch_opened s commands = record s {
+  ended = s.ended ++ s.live ∷ [];
+  live = opening (epoch_of s + 1) s.live (present_users s) commands;
+  stream = None;
+}
+
 -- ---- saying
 
 -- what becomes of a message that is the user's own affair: it is placed where it is permitted
@@ -237,12 +276,41 @@ abbrev pub judged : State → Connection → Msg → Decision
 judged s connection m =
     if permitted s.live connection.user m then decision.Place else decision.Filter
 
--- what becomes of a message of a connection that has taken up the live epoch; resets are filtered
--- so far
+-- the commands of the reset that a connection sends, if it sends one
+abbrev pub commands_by : ℕ → Option Stream → Option (List Draw)
+commands_by conn None = None
+commands_by conn (Some stream) = if stream.owner == conn then Some stream.commands else None
+
+-- the same, where the connection's user is operator
+abbrev pub reset_of : State → ℕ → Connection → Option (List Draw)
+reset_of s conn connection =
+    if is_operator s.live connection.user then commands_by conn s.stream else None
+
+-- the reset is another connection's, whose user is present and operator
+abbrev pub is_held_by_other : State → ℕ → Stream → Bool
+is_held_by_other s conn stream =
+    not (stream.owner == conn)
+    && option_map_or (λ owner. is_operator s.live owner.user) (open_connection s stream.owner) false
+
+-- a connection may begin a reset: its user is operator, and no other present operator sends one
+abbrev pub may_begin : State → ℕ → Connection → Bool
+may_begin s conn connection =
+    is_operator s.live connection.user
+    && not (option_map_or (is_held_by_other s conn) s.stream false)
+
+-- what becomes of a part, by the reset that it would join
+abbrev pub part_decided : Draw → Option (List Draw) → Decision
+part_decided command None = decision.Filter
+part_decided command (Some commands) =
+    if fits_reset commands command then decision.AddPart else decision.DropReset
+
+-- what becomes of a message of a connection that has taken up the live epoch
 abbrev pub heard : State → ℕ → Connection → Msg → Decision
-heard s conn connection (msg.Control ResetBegin) = decision.Filter
-heard s conn connection (msg.Control ResetEnd) = decision.Filter
-heard s conn connection (msg.Part command) = decision.Filter
+heard s conn connection (msg.Control ResetBegin) =
+    if may_begin s conn connection then decision.BeginReset else decision.Filter
+heard s conn connection (msg.Control ResetEnd) =
+    if is_some (reset_of s conn connection) then decision.OpenEpoch else decision.Filter
+heard s conn connection (msg.Part command) = part_decided command (reset_of s conn connection)
 heard s conn connection m = judged s connection m
 
 -- What becomes of a message that the open connection of this number says. An Ack of the epoch
@@ -283,6 +351,20 @@ acted_by s conn connection m decision.Acknowledge = record {
 }
 acted_by s conn connection m decision.Place = said s connection.user m
 acted_by s conn connection m decision.Filter = filtered s connection.user m
+acted_by s conn connection m decision.BeginReset = record {
+  state = record s { stream = Some (first_stream conn) };
+  reply = reply.Noted;
+}
+acted_by s conn connection m decision.AddPart = record {
+  state = record s { stream = option_map (with_part m) s.stream };
+  reply = reply.Noted;
+}
+acted_by s conn connection m decision.DropReset =
+    filtered (record s { stream = None }) connection.user m
+acted_by s conn connection m decision.OpenEpoch = record {
+  state = epoch_opened s (sent_commands s.stream);
+  reply = reply.Placed (epoch_of s + 1) 0;
+}
 
 -- a Say of an open connection
 abbrev pub says_by : State → ℕ → Msg → Connection → Acted

@@ -1,12 +1,23 @@
 //! Laws of sessions, each the contract of a function that does nothing.
 
 ghost use Rattle.std.specs.Prelude.{◌≡◌, ◌≤◌, ◌+◌, ◌*◌, ◌∷◌, ◌++◌, [], ℕ, List, Some, All, length};
+ghost use Rattle.std.specs.Prelude.{Bool, true};
+ghost use Rattle.dp_msg_draw.specs.declared.draw.Draw.{Draw};
+ghost use Rattle.dp_msg_meta.specs.Fields.{RiseFrom};
+ghost use Rattle.dp_msg_meta.specs.declared.message.Meta.TheVariants.{Join};
+ghost use Rattle.dp_messages.specs.declared.message.Msg.TheVariants.{Meta};
+ghost use Rattle.dp_messages.specs.declared.message.Entry.{Entry};
+ghost use Rattle.dp_acl.specs.LookBack.{lists};
 ghost use Rattle.dp_events.specs.declared.event.Event.{Event as Kept};
+ghost use Rattle.dp_events.specs.declared.event.Event.TheVariants.{Open};
 ghost use Rattle.dp_events.specs.declared.event.ShutAt.{ShutAt};
+ghost use Rattle.dp_acl.specs.Opening.{opening, last_join, part_limit, opening_limit};
 ghost use Rattle.dp_epochs.specs.Past.{Past, state_after, state_of, kept, refused, sure_step};
-ghost use Rattle.dp_epochs.specs.State.{after_event, history_of};
-ghost use Rattle.dp_epochs.specs.Effects.{EventsHaveEffects, ConnectionsStay};
+ghost use Rattle.dp_epochs.specs.State.{State, after_event, epoch_of, history_of, present_users};
+ghost use Rattle.dp_epochs.specs.State.{entry_of, free_id, is_name};
+ghost use Rattle.dp_epochs.specs.Effects.{EventsHaveEffects, ConnectionsStay, PartsFit};
 ghost use Rattle.dp_epochs.specs.Laws.{Continues, Outcome, IsRun, AreFaults, ShutBefore, shut_by};
+ghost use Rattle.dp_epochs.specs.Laws.{IsHistory, AreHistories};
 
 /// A session has one answer for each event of its journal, whatever was closed between.
 pub fn one_answer_each()
@@ -17,6 +28,11 @@ pub fn one_answer_each()
 /// which connection it adds or changes, and what is answered.
 pub fn events_have_effects()
     ensures { EventsHaveEffects }
+{}
+
+/// What joins a reset is a part, and fits the reset that is being sent.
+pub fn parts_fit()
+    ensures { PartsFit }
 {}
 
 /// The history of each epoch only grows: what stands in it stands there after one more event.
@@ -48,7 +64,52 @@ pub fn steps_lead_on()
     ensures before { (past : Past) (e : Kept) → ShutBefore past → ShutBefore (sure_step past e) }
 {}
 
-/// A history has at most two entries for each event, after its mark.
+/// A history has at most two entries for each event, besides those with which its epoch opened.
 pub fn histories_are_short()
-    ensures { (past : Past) → length (state_of past).live ≤ 2 * length past.journal + 1 }
+    ensures { (past : Past) (epoch : ℕ) → length (history_of (state_of past) epoch)
+        ≤ 2 * length past.journal + opening_limit }
+{}
+
+/// An epoch opens by an event, so there are at most as many as events.
+pub fn epochs_are_few()
+    ensures { (past : Past) → epoch_of (state_of past) ≤ length past.journal }
+{}
+
+/// An event opens at most one epoch.
+pub fn epochs_rise()
+    ensures rise { (s : State) (e : Kept) → epoch_of s ≤ epoch_of (after_event s e) }
+    ensures next { (s : State) (e : Kept) → epoch_of (after_event s e) ≤ epoch_of s + 1 }
+{}
+
+/// The history of each epoch begins with the mark of the epoch, and has no other mark.
+pub fn histories_are_marked()
+    ensures { (past : Past) → AreHistories (state_of past) }
+{}
+
+/// How an epoch opens: with the mark of its number, after which no other stands. Who is present has
+/// joined last as before.
+pub fn openings()
+    ensures marked { (epoch : ℕ) (history : List Entry) (present : List ℕ) (commands : List Draw)
+        → IsHistory epoch (opening epoch history present commands) }
+    ensures short { (epoch : ℕ) (history : List Entry) (present : List ℕ) (commands : List Draw)
+        → length present ≤ 254 → length commands ≤ part_limit
+        → length (opening epoch history present commands) ≤ opening_limit }
+    ensures joins { (epoch : ℕ) (history : List Entry) (present : List ℕ) (commands : List Draw)
+        (user : ℕ) → RiseFrom 1 present → lists present user ≡ true
+        → last_join (opening epoch history present commands) user ≡ last_join history user }
+{}
+
+/// The present users rise.
+pub fn present_users_rise()
+    ensures { (s : State) → RiseFrom 1 (present_users s) }
+{}
+
+/// A present user's last Join stays, whatever comes, and a user who joins has joined last by that.
+pub fn joins_stay()
+    ensures present { (s : State) (e : Kept) (user : ℕ) → lists (present_users s) user ≡ true
+        → last_join (after_event s e).live user ≡ last_join s.live user }
+    ensures joined { (s : State) (name : List ℕ) (registered : Bool) (user : ℕ)
+        → is_name name ≡ true → free_id s ≡ Some user
+        → last_join (after_event s (Open name registered)).live user
+        ≡ Some (entry_of user (Meta (Join registered name))) }
 {}

@@ -6,6 +6,7 @@
 mod laws;
 
 pub use laws::{
-    connections_stay, events_have_effects, faults_for_good, histories_are_short, histories_grow,
-    one_answer_each, steps_lead_on,
+    connections_stay, epochs_are_few, epochs_rise, events_have_effects, faults_for_good,
+    histories_are_marked, histories_are_short, histories_grow, joins_stay, one_answer_each,
+    openings, parts_fit, present_users_rise, steps_lead_on,
 };

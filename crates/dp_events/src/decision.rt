@@ -11,4 +11,12 @@ pub enum Decision {
     Place,
     /// An entry is placed that says of what kind it was.
     Filter,
+    /// A reset of its connection begins, in place of any other.
+    BeginReset,
+    /// Its command joins the reset that its connection sends.
+    AddPart,
+    /// It passes the limits of a reset: it is filtered, and the reset is dropped.
+    DropReset,
+    /// The reset that its connection sends ends, and the next epoch opens.
+    OpenEpoch,
 }

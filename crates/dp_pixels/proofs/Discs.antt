@@ -1,7 +1,7 @@
 -- The cells of a round dab, row by row.
-use Rattle.std.proofs.Common.{◌≡◌, ℕ, ◌+◌, ◌-◌, ◌*◌, ◌/◌, ◌<◌, ◌≤◌, Bool, true, false, refl, sym}
+use Rattle.std.proofs.Common.{◌≡◌, ℕ, ◌+◌, ◌-◌, ◌*◌, ◌/◌, ◌<◌, ◌≤◌, true}
 use Rattle.std.proofs.Common.{◌∙◌, ap, arith, ⊎_elim, leb}
-use Rattle.std.specs.Prelude.{ℤ, pos, ◌-ℤ◌, ◌↔◌, unsigned_abs, IsTrue}
+use Rattle.std.specs.Prelude.{pos, ◌↔◌, unsigned_abs, IsTrue}
 use Rattle.std.specs.Int.{abs_diff}
 use Rattle.std.proofs.lemmas.Int.{ints}
 use Rattle.std.proofs.lemmas.Bool.{cases_lt, leb-true}

@@ -1,15 +1,15 @@
 -- Where commands change pixels, and where they read them.
-use Rattle.std.proofs.Common.{◌≡◌, ℕ, ◌+◌, ◌*◌, ◌/◌, ◌<◌, ◌≤◌, List, [], ◌∷◌, Bool, true, false}
+use Rattle.std.proofs.Common.{◌≡◌, ℕ, ◌*◌, ◌/◌, ◌<◌, ◌≤◌, List, [], ◌∷◌, Bool, true, false}
 use Rattle.std.proofs.Common.{◌&&◌, ◌||◌, cond, eqb, fold, map, Option, Some, None, refl, sym, ◌∙◌}
-use Rattle.std.proofs.Common.{ap, subst, arith, ◌⊎◌, inl, inr, ⊎_elim}
-use Rattle.std.specs.Prelude.{◌==◌, ℤ, pos, ◌+ℤ◌, ◌-ℤ◌, ◌≤ℤ◌, ◌<ℤ◌, unsigned_abs, slice_get, int_lt}
+use Rattle.std.proofs.Common.{ap, arith, ◌⊎◌, inl, inr, ⊎_elim}
+use Rattle.std.specs.Prelude.{◌==◌, ℤ, pos, ◌-ℤ◌, ◌≤ℤ◌, ◌<ℤ◌, unsigned_abs, slice_get, int_lt}
 use Rattle.std.specs.Prelude.{IsTrue, ◌↔◌}
 use Rattle.std.specs.Int.{int_max, int_min}
 use Rattle.std.specs.Option.{option_map_or}
 use Rattle.std.proofs.lemmas.Int.{ints, int_max_is, int_min_is}
 use Rattle.std.proofs.lemmas.Bool.{cases_Bool, cond-true, cond-false, eqb-true, and_left}
-use Rattle.std.proofs.lemmas.Bool.{false≢true, or_left, or_right, or_parts, or_cases, and_parts}
-use Rattle.std.proofs.lemmas.Bool.{and_cases, eq-eqb, false_from_ne_true}
+use Rattle.std.proofs.lemmas.Bool.{false≢true, or_left, or_parts, or_cases, and_parts}
+use Rattle.std.proofs.lemmas.Bool.{eq-eqb, false_from_ne_true}
 use Rattle.std.proofs.lemmas.Nat.{same_from_place}
 use Rattle.dp_blend.specs.Color.{Channels, clear, of_argb, premultiplied, fade, from8}
 use Rattle.dp_blend.specs.Blending.{blend, mode_numbered}
@@ -26,7 +26,7 @@ use Rattle.dp_pixels.specs.Rectangles.{canvas_rect, clipped, is_in, joined, rect
 use Rattle.dp_pixels.specs.Dabs.{dab_covers, dab_rect, placed_dabs}
 use Rattle.dp_pixels.specs.Commands.{dab_blended, dabs_blended, drawn, filled, image_color}
 use Rattle.dp_pixels.specs.Commands.{image_index, imaged, moved, pixel_drawn, stroked}
-use Rattle.dp_pixels.specs.Tiles.{tile_changed, is_in_tiles, tile_number, tiles_along}
+use Rattle.dp_pixels.specs.Tiles.{tile_changed, is_in_tiles, tiles_along}
 use Rattle.dp_pixels.specs.Feet.{Footprint, Area, Two, All, around, feet_meet, foot, foot_layer}
 use Rattle.dp_pixels.specs.Feet.{greatest_canvas, is_in_foot, meets_area}
 use Rattle.dp_pixels.proofs.Rectangles.{IsIn, is_in-true, is_in_by, is_in-false, in_or_out}

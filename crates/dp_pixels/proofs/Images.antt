@@ -12,7 +12,7 @@ use Rattle.std.proofs.lemmas.Option.{slice_get-get_or, slice_get_past}
 use Rattle.std.specs.Option.{option_map_or}
 use Rattle.dp_blend.specs.Color.{Channels}
 use Rattle.dp_pixels.specs.Commands.{image_index}
-use Rattle.std.proofs.Math.Nat.{mul-le-mul_left, mul-le-mul_right}
+use Rattle.std.proofs.Math.Nat.{mul-le-mul_left}
 
 -- how far a number is above another that it isn't below, as the code computes it
 abbrev pub offset : ℤ → ℕ → ℕ

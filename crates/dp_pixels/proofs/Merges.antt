@@ -1,10 +1,9 @@
 -- Colours that are blended with a row, a piece at a time.
-use Rattle.std.proofs.Common.{◌≡◌, ℕ, ◌+◌, ◌-◌, ◌*◌, ◌/◌, ◌<◌, ◌≤◌, List, length, get_or, take}
-use Rattle.std.proofs.Common.{drop, cond, Bool, true, false, ◌&&◌, leb, ltb, refl, sym, ◌∙◌, ap}
+use Rattle.std.proofs.Common.{◌≡◌, ℕ, ◌+◌, ◌-◌, ◌<◌, ◌≤◌, List, length, get_or}
+use Rattle.std.proofs.Common.{cond, Bool, true, false, ◌&&◌, leb, ltb, sym, ◌∙◌, ap}
 use Rattle.std.proofs.Common.{arith, ⊎_elim}
-use Rattle.std.proofs.lemmas.Bool.{cases_lt, cond-true, cond-false}
+use Rattle.std.proofs.lemmas.Bool.{cases_lt, cond-false}
 use Rattle.std.proofs.lemmas.Bool.Decides.{nat_tests}
-use Rattle.std.proofs.lemmas.List.{get_or-take, get_or_append_left}
 use Rattle.dp_blend.specs.Color.{Channels, fade, of_argb, mul}
 use Rattle.dp_blend.specs.Blending.{blend}
 use Rattle.dp_blend.specs.declared.modes.Mode.{Mode}

@@ -1,11 +1,11 @@
 -- Commands make pixels of pixels.
-use Rattle.std.proofs.Common.{◌≡◌, ℕ, zero, suc, ◌+◌, ◌*◌, ◌/◌, ◌<◌, ◌≤◌, List, [], ◌∷◌, Bool, true}
-use Rattle.std.proofs.Common.{false, cond, fold, map, length, get_or, Option, Some, None, refl, sym}
-use Rattle.std.proofs.Common.{◌∙◌, ap, subst, arith, ◌⊎◌, inl, inr, ⊎_elim}
+use Rattle.std.proofs.Common.{◌≡◌, ℕ, zero, suc, ◌*◌, ◌/◌, ◌<◌, ◌≤◌, List, [], ◌∷◌, Bool, true}
+use Rattle.std.proofs.Common.{false, cond, length, Option, Some, None, refl, sym}
+use Rattle.std.proofs.Common.{subst, arith}
 use Rattle.std.specs.Prelude.{◌^◌, ◌%◌, nat_le, ◌&&◌, ℤ, pos, ◌-ℤ◌, slice_get, unsigned_abs, IsTrue}
 use Rattle.std.specs.List.{All, enumerate_from}
 use Rattle.std.specs.Option.{option_map_or}
-use Rattle.std.proofs.lemmas.Bool.{cases_Bool, leb-true, and_parts}
+use Rattle.std.proofs.lemmas.Bool.{leb-true, and_parts}
 use Rattle.std.proofs.lemmas.List.Elements.{All-map}
 use Rattle.std.proofs.lemmas.List.FromFn.{length-enumerate_from, get_or-enumerate_from}
 use Rattle.std.proofs.Math.Nat.{mul-le-mul_right}
@@ -26,7 +26,7 @@ use Rattle.dp_pixels.specs.Rectangles.{canvas_rect, clipped, is_in, rect_at}
 use Rattle.dp_pixels.specs.Dabs.{dab_covers, placed_dabs}
 use Rattle.dp_pixels.specs.Colors.{FitsColors, FitsStroke}
 use Rattle.dp_pixels.specs.Commands.{dab_blended, dabs_blended, drawn, filled, image_color}
-use Rattle.dp_pixels.specs.Commands.{image_index, imaged, moved, pixel_drawn, stroked}
+use Rattle.dp_pixels.specs.Commands.{image_index, imaged, moved, stroked}
 use Rattle.dp_pixels.specs.Tiles.{content_at, is_in_tiles, is_tile_pixel, replaced_by, tile_changed}
 use Rattle.dp_pixels.proofs.Rectangles.{is_in_by, is_in-true, clipped_in}
 

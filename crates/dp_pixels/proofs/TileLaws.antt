@@ -1,7 +1,7 @@
 -- Where tiles change pixels.
 use Rattle.std.proofs.Common.{◌≡◌, ℕ, ◌+◌, ◌*◌, ◌/◌, ◌<◌, ◌≤◌, Bool, true, false, ◌&&◌, cond, eqb}
-use Rattle.std.proofs.Common.{leb, ltb, refl, sym, ◌∙◌, ap, subst, arith, ◌⊎◌, inl, inr, ⊎_elim}
-use Rattle.std.specs.Prelude.{ℤ, pos, ◌≤ℤ◌, ◌<ℤ◌, unsigned_abs}
+use Rattle.std.proofs.Common.{leb, ltb, refl, sym, ◌∙◌, ap, subst, arith, ⊎_elim}
+use Rattle.std.specs.Prelude.{ℤ, pos, unsigned_abs}
 use Rattle.std.proofs.lemmas.Int.{ints}
 use Rattle.std.proofs.lemmas.Bool.{cond-true, cases_Bool, cases_lt, cond-false, and_parts, eqb-true}
 use Rattle.std.proofs.lemmas.Bool.{leb-true, ltb-true, false≢true}

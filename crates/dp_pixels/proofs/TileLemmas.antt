@@ -1,5 +1,4 @@
 -- Tiles that are put on a canvas.
-use Rattle.std.proofs.Common.{◌≡◌, ℕ, ◌+◌, ◌<◌, ◌≤◌, arith}
 use Rattle.dp_msg_draw.specs.declared.lists.TilePixel.{TilePixel}
 
 -- what stands for a tile's pixel past the end of a list

@@ -1,6 +1,6 @@
 -- What the pixel commands make of the pixels of a layer. A place is a pair of whole numbers; what
 -- stands past the canvas stays.
-use Rattle.std.specs.Prelude.{ℕ, ◌+◌, ◌*◌, ℤ, pos, negsuc, ◌+ℤ◌, ◌-ℤ◌, unsigned_abs}
+use Rattle.std.specs.Prelude.{ℕ, ◌+◌, ◌*◌, ℤ, pos, ◌-ℤ◌, unsigned_abs}
 use Rattle.std.specs.Prelude.{Bool, true, false, ◌&&◌, nat_lt, if◌then◌else◌}
 use Rattle.std.specs.Prelude.{List, Option, None, slice_get, fold}
 use Rattle.std.specs.List.{list_any}

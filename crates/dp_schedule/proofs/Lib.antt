@@ -1,2 +1,3 @@
 pub mod OneAction
+pub mod OneJoinAction
 pub mod Words

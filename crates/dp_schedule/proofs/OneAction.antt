@@ -1,26 +1,30 @@
 -- A line asks for one thing.
 use Rattle.std.proofs.Common.{◌≡◌, ℕ, Bool, true, false, List, [], ◌∷◌, get_or, if◌then◌else◌, ◌==◌}
-use Rattle.std.proofs.Common.{◌||◌, refl, sym, ap, ◌∙◌, subst, arith}
+use Rattle.std.proofs.Common.{◌||◌, ◌&&◌, refl, sym, ap, ◌∙◌, subst, arith}
 use Rattle.dp_lines.specs.Numbers.{IsNumber}
 use Rattle.dp_messages.specs.declared.message.Msg.{Msg}
 use Rattle.dp_messages.specs.Messages.{Spells}
 use Rattle.dp_schedule.specs.declared.action.Action.{Action}
 use Rattle.dp_schedule.specs.declared.action.Action.TheVariants.{Join, Act, Show}
 use Rattle.dp_schedule.specs.declared.action.Instruction.{Instruction}
-use Rattle.dp_schedule.specs.declared.action.Instruction.TheVariants.{Say, Up, Take, Leave, Cut}
+use Rattle.dp_schedule.specs.declared.action.Instruction.TheVariants.{Say, Up, Take, Reset}
+use Rattle.dp_schedule.specs.declared.action.Instruction.TheVariants.{Leave, Cut}
 use Rattle.dp_schedule.specs.declared.action.CanvasKind.{CanvasKind}
 use Rattle.dp_schedule.specs.declared.action.CanvasKind.TheVariants.{View, Confirmed}
+use Rattle.dp_schedule.specs.declared.action.CanvasKind.TheVariants.{Snapshot, Recording}
 use Rattle.dp_schedule.specs.LineGrammar.{WordsParse, NamesClient, EndsIn, HexSpells, join_word}
 use Rattle.dp_schedule.specs.LineGrammar.{instruction_word, canvas_word}
 
--- the sort of a first word, by its fourth byte: 0 that of a join, 1 of an instruction, 2 of a
--- canvas
-sort_by : ℕ → ℕ
-sort_by byte =
-    if byte == 110 || byte == 98 then 0 else (if byte == 119 || byte == 102 then 2 else 1)
+-- the sort of a first word, by its fourth byte, and by its third one where it has no fourth: 0
+-- that of a join, 1 of an instruction, 2 of what is printed
+sort_by : ℕ → ℕ → ℕ
+sort_by third byte =
+    if byte == 110 || byte == 98 then 0
+    else (if byte == 119 || byte == 102 || byte == 112 then 2
+    else (if byte == 0 && third == 99 then 2 else 1))
 
 abbrev sort_of : List ℕ → ℕ
-sort_of word = sort_by (get_or word 3 0)
+sort_of word = sort_by (get_or word 2 0) (get_or word 3 0)
 
 sort_of_join : (registered : Bool) → sort_of (join_word registered) ≡ 0
 unfolding sort_by
@@ -32,6 +36,7 @@ unfolding sort_by
 sort_of_instruction (Say m) = refl
 sort_of_instruction Up = refl
 sort_of_instruction Take = refl
+sort_of_instruction Reset = refl
 sort_of_instruction Leave = refl
 sort_of_instruction Cut = refl
 
@@ -39,6 +44,8 @@ sort_of_canvas : (kind : CanvasKind) → sort_of (canvas_word kind) ≡ 2
 unfolding sort_by
 sort_of_canvas View = refl
 sort_of_canvas Confirmed = refl
+sort_of_canvas Snapshot = refl
+sort_of_canvas Recording = refl
 
 -- words of two sorts are not one
 join_or_instruction : (registered : Bool) (instruction : Instruction)
@@ -56,17 +63,21 @@ instruction_or_canvas : (instruction : Instruction) (kind : CanvasKind)
 instruction_or_canvas instruction kind same =
     omega (arith, ap sort_of same, sort_of_instruction instruction, sort_of_canvas kind)
 
--- who is registered, which canvas is shown and which instruction without a message is done, by
--- the first byte of the word
+-- who is registered, what is printed and which instruction without a message is done, by the first
+-- byte of the word
 registered_by : ℕ → Bool
 registered_by byte = byte == 109
 
 canvas_by : ℕ → CanvasKind
-canvas_by byte = if byte == 118 then View else Confirmed
+canvas_by byte =
+    if byte == 118 then View
+    else (if byte == 115 then Snapshot else (if byte == 114 then Recording else Confirmed))
 
 instruction_by : ℕ → Instruction
 instruction_by byte =
-    if byte == 117 then Up else (if byte == 116 then Take else (if byte == 108 then Leave else Cut))
+    if byte == 117 then Up
+    else (if byte == 116 then Take
+    else (if byte == 114 then Reset else (if byte == 108 then Leave else Cut)))
 
 registered_back : (registered : Bool) → registered_by (get_or (join_word registered) 0 0)
     ≡ registered
@@ -78,6 +89,8 @@ canvas_back : (kind : CanvasKind) → canvas_by (get_or (canvas_word kind) 0 0) 
 unfolding canvas_by
 canvas_back View = refl
 canvas_back Confirmed = refl
+canvas_back Snapshot = refl
+canvas_back Recording = refl
 
 instruction_back : (instruction : Instruction) → EndsIn instruction []
     → instruction_by (get_or (instruction_word instruction) 0 0) ≡ instruction
@@ -85,6 +98,7 @@ unfolding instruction_by
 instruction_back (Say m) (word, ends, tells) = absurd (cc (ends))
 instruction_back Up ends = refl
 instruction_back Take ends = refl
+instruction_back Reset ends = refl
 instruction_back Leave ends = refl
 instruction_back Cut ends = refl
 
@@ -107,7 +121,7 @@ OneMessage =
     → m ≡ n
 
 -- a word spells one message
-one_spelled : OneMessage → (word : List ℕ) (m n : Msg) → HexSpells word m → HexSpells word n → m ≡ n
+pub one_spelled : OneMessage → (word : List ℕ) (m n : Msg) → HexSpells word m → HexSpells word n → m ≡ n
 one_spelled law word m n first second =
     let digits = first.digits in
     let others = second.digits in
@@ -128,6 +142,7 @@ said_by (Say m) word behind (other, ends, tells) =
     (m, refl, subst (λ (w : List ℕ). HexSpells w m) same tells)
 said_by Up word behind ends = absurd (cc (ends))
 said_by Take word behind ends = absurd (cc (ends))
+said_by Reset word behind ends = absurd (cc (ends))
 said_by Leave word behind ends = absurd (cc (ends))
 said_by Cut word behind ends = absurd (cc (ends))
 

@@ -7,7 +7,8 @@ use Rattle.dp_lines.specs.Lines.{words}
 use Rattle.dp_messages.specs.declared.message.Msg.{Msg}
 use Rattle.dp_schedule.specs.declared.action.Action.{Action}
 use Rattle.dp_schedule.specs.declared.action.Action.TheVariants.{Join, Act, Show}
-use Rattle.dp_schedule.specs.declared.action.Instruction.TheVariants.{Say, Up, Take, Leave, Cut}
+use Rattle.dp_schedule.specs.declared.action.Instruction.TheVariants.{Say, Up, Take, Reset}
+use Rattle.dp_schedule.specs.declared.action.Instruction.TheVariants.{Leave, Cut}
 use Rattle.dp_schedule.specs.LineGrammar.{Parses, WordsParse, HexSpells}
 
 -- a list with two items and no third
@@ -62,6 +63,8 @@ third_spells first second third (Act client (Say m)) (tail, names, (word, ends, 
 third_spells first second third (Act client Up) (tail, names, ends) = let parts = names.parts in
     absurd (cc (parts, ends))
 third_spells first second third (Act client Take) (tail, names, ends) = let parts = names.parts in
+    absurd (cc (parts, ends))
+third_spells first second third (Act client Reset) (tail, names, ends) = let parts = names.parts in
     absurd (cc (parts, ends))
 third_spells first second third (Act client Leave) (tail, names, ends) = let parts = names.parts in
     absurd (cc (parts, ends))

@@ -1,2 +1,3 @@
 pub mod LineGrammar
+pub mod JoinGrammar
 pub mod ReportText

@@ -6,9 +6,11 @@ use Rattle.dp_lines.specs.Hexadecimal.{hex_bytes}
 use Rattle.dp_messages.specs.declared.message.Msg.{Msg}
 use Rattle.dp_messages.specs.Messages.{Spells}
 use Rattle.dp_schedule.specs.declared.action.Instruction.{Instruction}
-use Rattle.dp_schedule.specs.declared.action.Instruction.TheVariants.{Say, Up, Take, Leave, Cut}
+use Rattle.dp_schedule.specs.declared.action.Instruction.TheVariants.{Say, Up, Take, Reset}
+use Rattle.dp_schedule.specs.declared.action.Instruction.TheVariants.{Leave, Cut}
 use Rattle.dp_schedule.specs.declared.action.CanvasKind.{CanvasKind}
 use Rattle.dp_schedule.specs.declared.action.CanvasKind.TheVariants.{View, Confirmed}
+use Rattle.dp_schedule.specs.declared.action.CanvasKind.TheVariants.{Snapshot, Recording}
 use Rattle.dp_schedule.specs.declared.action.Action.{Action}
 use Rattle.dp_schedule.specs.declared.action.Action.TheVariants.{Join, Act, Show}
 
@@ -21,12 +23,15 @@ abbrev pub instruction_word : Instruction → List ℕ
 instruction_word (Say m) = codes "say"
 instruction_word Up = codes "up"
 instruction_word Take = codes "take"
+instruction_word Reset = codes "reset"
 instruction_word Leave = codes "leave"
 instruction_word Cut = codes "cut"
 
 abbrev pub canvas_word : CanvasKind → List ℕ
 canvas_word View = codes "view"
 canvas_word Confirmed = codes "conf"
+canvas_word Snapshot = codes "snap"
+canvas_word Recording = codes "rec"
 
 -- ---- what may be said
 
@@ -49,6 +54,7 @@ abbrev pub EndsIn : Instruction → List (List ℕ) → Type 0
 EndsIn (Say m) tail = (word : List ℕ) × (tail ≡ word ∷ []) × HexSpells word m
 EndsIn Up tail = tail ≡ []
 EndsIn Take tail = tail ≡ []
+EndsIn Reset tail = tail ≡ []
 EndsIn Leave tail = tail ≡ []
 EndsIn Cut tail = tail ≡ []
 

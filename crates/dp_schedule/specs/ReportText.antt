@@ -2,7 +2,7 @@
 use Rattle.std.specs.Prelude.{ℕ, List, ◌++◌, codes, decimal}
 use Rattle.dp_schedule.specs.declared.report_line.ReportLine.{ReportLine}
 use Rattle.dp_schedule.specs.declared.report_line.ReportLine.TheVariants.{Joined, Full, NameRefused}
-use Rattle.dp_schedule.specs.declared.report_line.ReportLine.TheVariants.{Ended, Said, Empty}
+use Rattle.dp_schedule.specs.declared.report_line.ReportLine.TheVariants.{Ended, Said, Sent, Empty}
 use Rattle.dp_schedule.specs.declared.report_line.ReportLine.TheVariants.{Placed}
 use Rattle.dp_schedule.specs.declared.report_line.ReportLine.TheVariants.{Filtered, Ignored, Noted}
 use Rattle.dp_schedule.specs.declared.report_line.ReportLine.TheVariants.{Left, Leaving, Cut, Took}
@@ -25,6 +25,7 @@ text_of Full = codes "full\n"
 text_of NameRefused = codes "name refused\n"
 text_of Ended = codes "ended\n"
 text_of (Said count) = codes "said " ++ decimal count ++ codes "\n"
+text_of (Sent count) = codes "sent " ++ decimal count ++ codes "\n"
 text_of Empty = codes "empty\n"
 text_of (Placed epoch at) = placed_line (codes "placed") epoch at
 text_of (Filtered epoch at) = placed_line (codes "filtered") epoch at

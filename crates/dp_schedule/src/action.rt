@@ -12,19 +12,25 @@ pub enum Instruction {
     Up,
     /// It takes the next entry of the history.
     Take,
+    /// A reset to its confirmed canvas joins its uplink.
+    Reset,
     /// It leaves: a Disconnect joins its uplink.
     Leave,
     /// Its uplink is lost, and its connection closed.
     Cut,
 }
 
-/// A canvas of a client.
+/// What is printed of a client.
 #[derive(Clone, Copy, Debug, PartialEq, Eq)]
 pub enum CanvasKind {
-    /// The entries that it has taken, and its unanswered sends.
+    /// The picture of the entries that it has taken, with its unanswered sends.
     View,
-    /// The entries that it has taken.
+    /// The picture of the entries that it has taken.
     Confirmed,
+    /// The snapshot of the entries that it has taken.
+    Snapshot,
+    /// The recording of the entries that it has taken.
+    Recording,
 }
 
 /// What a line asks for. Clients are numbered from 1, in the order of their joins.
@@ -40,7 +46,7 @@ pub enum Action {
         client: u32,
         instruction: Instruction,
     },
-    /// A canvas of a client is printed.
+    /// A client is printed, its canvas or what it has taken.
     Show {
         client: u32,
         kind: CanvasKind,

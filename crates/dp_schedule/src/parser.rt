@@ -47,7 +47,7 @@ pub fn read_action(alloc: Global, line: &[u8]) -> Result<Option<Action>, AllocEr
 }
 
 /// The word of the line at index `k`; `None` where it has no more than `k` words.
-fn word_of(line: &[u8], k: usize) -> Option<&[u8]>
+pub(crate) fn word_of(line: &[u8], k: usize) -> Option<&[u8]>
     ensures { option_copied result ≡ slice_get (words line.now) k }
 {
     line.split(|byte| *byte == SPACE).nth(k)
@@ -118,7 +118,7 @@ fn join_of(word: &[u8]) -> Option<bool>
     }
 }
 
-/// The canvas that is printed by this word.
+/// What of a client is printed by this word.
 fn canvas_kind_of(word: &[u8]) -> Option<CanvasKind>
     ensures some { IfSome result (λ kind. word.now ≡ canvas_word kind) }
     ensures none { IfNone result ((kind : Canvas) → word.now ≢ canvas_word kind) }
@@ -127,6 +127,10 @@ fn canvas_kind_of(word: &[u8]) -> Option<CanvasKind>
         Some(CanvasKind::View)
     } else if word == b"conf".as_slice() {
         Some(CanvasKind::Confirmed)
+    } else if word == b"snap".as_slice() {
+        Some(CanvasKind::Snapshot)
+    } else if word == b"rec".as_slice() {
+        Some(CanvasKind::Recording)
     } else {
         None
     }
@@ -143,6 +147,8 @@ fn instruction_of(word: &[u8]) -> Option<Instruction>
         Some(Instruction::Up)
     } else if word == b"take".as_slice() {
         Some(Instruction::Take)
+    } else if word == b"reset".as_slice() {
+        Some(Instruction::Reset)
     } else if word == b"leave".as_slice() {
         Some(Instruction::Leave)
     } else if word == b"cut".as_slice() {
@@ -153,7 +159,7 @@ fn instruction_of(word: &[u8]) -> Option<Instruction>
 }
 
 /// The message that the digits spell.
-fn message_of(alloc: Global, digits: &[u8]) -> Result<Option<Msg>, AllocError>
+pub(crate) fn message_of(alloc: Global, digits: &[u8]) -> Result<Option<Msg>, AllocError>
     ensures some { IfOk result (λ found. IfSome found (HexSpells digits.now)) }
     ensures none { IfOk result (λ found. IfNone found ((m : Message) → ¬ HexSpells digits.now m)) }
 {

@@ -25,6 +25,8 @@ pub enum ReportLine {
     Ended,
     /// So many sends aren't answered.
     Said(usize),
+    /// A reset of so many messages is on the uplink.
+    Sent(usize),
     /// Nothing is on the uplink.
     Empty,
     /// The message was placed there.
@@ -81,7 +83,8 @@ impl ReportLine {
             ReportLine::Full => Vec::from_slice(alloc, b"full\n"),
             ReportLine::NameRefused => Vec::from_slice(alloc, b"name refused\n"),
             ReportLine::Ended => Vec::from_slice(alloc, b"ended\n"),
-            ReportLine::Said(count) => line_of_count(alloc, *count),
+            ReportLine::Said(count) => line_of_count(alloc, b"said ", *count),
+            ReportLine::Sent(count) => line_of_count(alloc, b"sent ", *count),
             ReportLine::Empty => Vec::from_slice(alloc, b"empty\n"),
             ReportLine::Placed { epoch, at } => line_of_place(alloc, b"placed", *epoch, *at),
             ReportLine::Filtered { epoch, at } => line_of_place(alloc, b"filtered", *epoch, *at),
@@ -116,12 +119,12 @@ fn line_of_join(
     Ok(line)
 }
 
-/// The line of how many sends aren't answered.
-fn line_of_count(alloc: Global, count: usize) -> Result<Vec<u8>, AllocError>
-    ensures { IfOk result (λ text. text.items ≡ text_of (ReportLine.Said count)) }
+/// The line of a word, with its space, and a count.
+fn line_of_count(alloc: Global, word: &[u8], count: usize) -> Result<Vec<u8>, AllocError>
+    ensures { IfOk result (λ text. text.items ≡ word.now ++ decimal count ++ codes "\n") }
 {
     let mut digits = Buffer::new();
-    let mut line = Vec::from_slice(alloc, b"said ")?;
+    let mut line = Vec::from_slice(alloc, word)?;
     line.extend_from_slice(digits.format(count).as_bytes())?;
     line.extend_from_slice(b"\n")?;
     Ok(line)

@@ -6,7 +6,7 @@ use std::process::Abort;
 use std::test::Fail;
 
 /// Lines, and what each asks for.
-static ASKING: [(&[u8], &str); 14] = [
+static ASKING: [(&[u8], &str); 17] = [
     (
         b"join ann",
         "Join { name: Listed { entries: [97, 110, 110] }, registered: false }",
@@ -30,6 +30,7 @@ static ASKING: [(&[u8], &str); 14] = [
     ),
     (b"up 1", "Act { client: 1, instruction: Up }"),
     (b"take 10", "Act { client: 10, instruction: Take }"),
+    (b"reset 1", "Act { client: 1, instruction: Reset }"),
     (b"leave 2", "Act { client: 2, instruction: Leave }"),
     (b"cut 0", "Act { client: 0, instruction: Cut }"),
     (
@@ -38,6 +39,8 @@ static ASKING: [(&[u8], &str); 14] = [
     ),
     (b"view 3", "Show { client: 3, kind: View }"),
     (b"conf 3", "Show { client: 3, kind: Confirmed }"),
+    (b"snap 3", "Show { client: 3, kind: Snapshot }"),
+    (b"rec 3", "Show { client: 3, kind: Recording }"),
     (
         b"join 3",
         "Join { name: Listed { entries: [51] }, registered: false }",
@@ -57,7 +60,7 @@ fn lines_ask_for_actions(rt: HostRuntime) -> Result<(), Fail> {
 }
 
 /// Lines that ask for nothing.
-static ASKING_NOTHING: [&[u8]; 26] = [
+static ASKING_NOTHING: [&[u8]; 29] = [
     b"",
     b"join",
     b"join a b",
@@ -74,6 +77,9 @@ static ASKING_NOTHING: [&[u8]; 26] = [
     b"up 4294967296",
     b"take 1 2",
     b"leave 1 80",
+    b"reset",
+    b"reset 1 80",
+    b"rec 1 80",
     b"view",
     b"conf ann",
     b"say 1",
@@ -113,7 +119,7 @@ fn a_payload_has_at_most_65535_bytes(rt: HostRuntime) -> Result<(), Fail> {
 }
 
 /// Lines of the report, and their texts.
-static TOLD: [(ReportLine, &str); 16] = [
+static TOLD: [(ReportLine, &str); 17] = [
     (
         ReportLine::Joined {
             client: 12,
@@ -127,6 +133,7 @@ static TOLD: [(ReportLine, &str); 16] = [
     (ReportLine::NameRefused, "name refused\n"),
     (ReportLine::Ended, "ended\n"),
     (ReportLine::Said(10), "said 10\n"),
+    (ReportLine::Sent(3), "sent 3\n"),
     (ReportLine::Empty, "empty\n"),
     (ReportLine::Placed { epoch: 0, at: 1 }, "placed 0:1\n"),
     (ReportLine::Filtered { epoch: 1, at: 0 }, "filtered 1:0\n"),
@@ -155,5 +162,52 @@ fn report_lines_have_their_texts(rt: HostRuntime) -> Result<(), Fail> {
     assert_eq!(rt; ReportLine::Said(1), ReportLine::Said(1));
     assert_ne!(rt; ReportLine::Empty, ReportLine::Nothing);
     assert_ne!(rt; CanvasKind::View, CanvasKind::Confirmed);
+    Ok(())
+}
+
+/// Lines of a script of `join`, and what each asks for.
+static JOINING: [(&[u8], &str); 8] = [
+    (b"say 80", "Say(Point)"),
+    (b"say Ff0301", "Say(Undo { target: 3, redo: true })"),
+    (b"take 4294967295", "Take { count: 4294967295 }"),
+    (b"view", "View"),
+    (b"conf", "Confirmed"),
+    (b"snap", "Snapshot"),
+    (b"reset", "Reset"),
+    (b"chat", "Chat"),
+];
+
+/// Lines of such a script that ask for nothing.
+static JOINING_NOTHING: [&[u8]; 16] = [
+    b"",
+    b"join ann",
+    b"say",
+    b"say 05",
+    b"say 1 80",
+    b"say 8",
+    b"take",
+    b"take ",
+    b"take 03",
+    b"take 4294967296",
+    b"take 1 2",
+    b"view 1",
+    b"view ",
+    b"rec",
+    b"up",
+    b"Chat",
+];
+
+#[test]
+fn lines_of_scripts(rt: HostRuntime) -> Result<(), Fail> {
+    let alloc = rt.alloc();
+    for (line, wanted) in &JOINING {
+        let action = read_join_action(alloc, line)?.ok_or("an action")?;
+        let kind = format!(in alloc; "{action:?}")?;
+        assert_eq!(rt; kind.as_str(), *wanted);
+    }
+    for line in &JOINING_NOTHING {
+        assert!(rt; read_join_action(alloc, line)?.is_none());
+    }
+    one_join_action();
     Ok(())
 }

@@ -7,6 +7,7 @@ use dp_frame::Octets;
 use dp_keeper::{KeepError, Keeper, MemKeeper, Row, Rows, SureKeeper};
 use dp_machine::Machine;
 use dp_messages::Msg;
+use dp_msg_draw::Draw;
 use dp_msg_meta::{Control, Ids, Meta};
 use dp_session::Session;
 use std::alloc::{AllocError, Global};
@@ -18,6 +19,22 @@ fn open(alloc: Global, name: &[u8]) -> Result<Event, AllocError> {
     let name = Octets::from_vec(Vec::from_slice(alloc, name)?);
     let registered = false;
     Ok(Event::Open { name, registered })
+}
+
+/// A connection says a control message.
+fn control(conn: u32, control: Control) -> Event {
+    Event::Say {
+        conn,
+        msg: Msg::Control(control),
+    }
+}
+
+/// A connection says a part of a reset.
+fn part(conn: u32) -> Event {
+    Event::Say {
+        conn,
+        msg: Msg::Part(Draw::Background { color: 255 }),
+    }
 }
 
 /// The event of a word. A number after the word is that of the connection.
@@ -46,6 +63,15 @@ fn event(alloc: Global, word: &str) -> Result<Event, AllocError> {
             conn: 2,
             msg: Msg::Control(Control::Ack { epoch: 0 }),
         }),
+        "BEGIN 1" => Ok(control(1, Control::ResetBegin)),
+        "BEGIN 2" => Ok(control(2, Control::ResetBegin)),
+        "END 1" => Ok(control(1, Control::ResetEnd)),
+        "END 2" => Ok(control(2, Control::ResetEnd)),
+        "PART 1" => Ok(part(1)),
+        "PART 2" => Ok(part(2)),
+        "ACK 1 of epoch 1" => Ok(control(1, Control::Ack { epoch: 1 })),
+        "ACK 2 of epoch 1" => Ok(control(2, Control::Ack { epoch: 1 })),
+        "ACK 2 of epoch 2" => Ok(control(2, Control::Ack { epoch: 2 })),
         "CLOSE 2" => Ok(Event::Close { conn: 2 }),
         "CLOSE 7" => Ok(Event::Close { conn: 7 }),
         _ => Ok(Event::Close { conn: 1 }),
@@ -122,6 +148,67 @@ fn each_answer(rt: HostRuntime) -> Result<(), Fail> {
     ] {
         assert_eq!(rt; pull(&session, conn, epoch, at, max)?, given);
     }
+    Ok(())
+}
+
+/// Of two users the first is operator, and resets the session. The opening has the mark, two Joins,
+/// four messages about rights, and the command.
+#[test]
+fn a_reset_opens_the_next_epoch(rt: HostRuntime) -> Result<(), Fail> {
+    let mut session = Session::new(rt.alloc(), SureKeeper::new(Rows::new(rt.alloc())))?;
+    for (word, answer) in [
+        ("OPEN", opened(1, 1, 1)),
+        ("OPEN", opened(2, 2, 3)),
+        ("PART 1", Reply::Filtered { epoch: 0, at: 4 }),
+        ("BEGIN 1", Reply::Noted),
+        ("BEGIN 2", Reply::Filtered { epoch: 0, at: 5 }),
+        ("PART 1", Reply::Noted),
+        ("PART 2", Reply::Filtered { epoch: 0, at: 6 }),
+        ("END 2", Reply::Filtered { epoch: 0, at: 7 }),
+        ("END 1", Reply::Placed { epoch: 1, at: 0 }),
+        ("POINT 2", Reply::Ignored),
+        ("ACK 2", Reply::Ignored),
+        ("ACK 2 of epoch 1", Reply::Noted),
+        ("ACK 2 of epoch 1", Reply::Ignored),
+        ("POINT 2", Reply::Placed { epoch: 1, at: 8 }),
+        ("BEGIN 1", Reply::Ignored),
+        ("ACK 1 of epoch 1", Reply::Noted),
+        ("END 1", Reply::Filtered { epoch: 1, at: 9 }),
+    ] {
+        serve(&rt, rt.alloc(), &mut session, word, answer)?;
+    }
+    for ((conn, epoch, at, max), given) in [
+        ((1, 0, 3, 100), Some((0, 10))),
+        ((2, 1, 8, 1), Some((8, 1))),
+        ((2, 1, 10, 1), Some((10, 0))),
+    ] {
+        assert_eq!(rt; pull(&session, conn, epoch, at, max)?, given);
+    }
+    Ok(())
+}
+
+/// A reset is dropped with its owner, and the next operator may send one.
+#[test]
+fn a_reset_ends_with_its_owner(rt: HostRuntime) -> Result<(), Fail> {
+    let mut session = Session::new(rt.alloc(), SureKeeper::new(Rows::new(rt.alloc())))?;
+    for (word, answer) in [
+        ("OPEN", opened(1, 1, 1)),
+        ("OPEN", opened(2, 2, 3)),
+        ("BEGIN 1", Reply::Noted),
+        ("CLOSE 1", Reply::Placed { epoch: 0, at: 4 }),
+        ("END 2", Reply::Filtered { epoch: 0, at: 6 }),
+        ("BEGIN 2", Reply::Noted),
+        ("END 2", Reply::Placed { epoch: 1, at: 0 }),
+        ("ACK 2 of epoch 1", Reply::Noted),
+        ("BEGIN 2", Reply::Noted),
+        ("END 2", Reply::Placed { epoch: 2, at: 0 }),
+        ("ACK 2 of epoch 1", Reply::Ignored),
+        ("ACK 2 of epoch 2", Reply::Noted),
+        ("POINT 2", Reply::Placed { epoch: 2, at: 6 }),
+    ] {
+        serve(&rt, rt.alloc(), &mut session, word, answer)?;
+    }
+    assert_eq!(rt; pull(&session, 1, 0, 4, 1)?, None);
     Ok(())
 }
 

@@ -2,7 +2,7 @@
 use Rattle.std.proofs.Common.{◌≡◌, ℕ, List, [], ◌∷◌, ◌++◌, map, fold, ap, sym, subst, ◌∙◌}
 use Rattle.std.proofs.Common.{append_assoc}
 use Rattle.std.proofs.lemmas.List.{map-append}
-use Rattle.dp_messages.specs.declared.message.Msg.{Msg}
+use Rattle.dp_messages.specs.declared.message.Msg.TheVariants as msg
 use Rattle.dp_messages.specs.declared.message.Entry.{Entry}
 use Rattle.dp_messages.specs.Messages.{kind_of}
 use Rattle.dp_board.specs.Commands.{drawn_commands}
@@ -16,8 +16,8 @@ use Rattle.dp_events.specs.declared.event.Event.{Event}
 use Rattle.dp_events.specs.declared.event.Event.TheVariants as event
 use Rattle.dp_events.specs.declared.event.Reply.TheVariants as reply
 use Rattle.dp_epochs.specs.State.{State}
-use Rattle.dp_epochs.specs.Effects.{Effect, Nothing, TakesUp, Placed, Filtered, Joined, Left}
-use Rattle.dp_epochs.specs.Effects.{entries_of, answer_of, IsStill, IsEffect, EventsHaveEffects}
+use Rattle.dp_epochs.specs.Effects.{Effect, Nothing, Filtered, Dropped}
+use Rattle.dp_epochs.specs.Effects.{live_after, answer_of, IsStill, IsEffect, EventsHaveEffects}
 use Rattle.dp_sim.specs.Headline.{ChangesNothing, ForbiddenChangesNothing}
 use Rattle.dp_sim.proofs.LawStrokes.{drawn-other}
 
@@ -47,14 +47,13 @@ entry-nothing rights live sender kind = record {
 -- what is answered Filtered has changed nothing
 effect-nothing : ForbiddenChangesNoRight → (s : State) (e : Event) (effect : Effect)
     → IsEffect s e effect → (epoch at : ℕ) → answer_of s effect ≡ reply.Filtered epoch at
-    → ChangesNothing s.live (s.live ++ entries_of effect)
+    → ChangesNothing s.live (live_after s effect)
 effect-nothing rights s e (Nothing answer) cause epoch at is = absurd (subst IsStill is cause)
-effect-nothing rights s e (TakesUp conn c) cause epoch at is = cc
-effect-nothing rights s e (Placed conn c m) cause epoch at is = cc
 effect-nothing rights s e (Filtered conn c m) cause epoch at is =
     entry-nothing rights s.live c.user (kind_of m)
-effect-nothing rights s e (Joined user registered name next) cause epoch at is = cc
-effect-nothing rights s e (Left conn c next) cause epoch at is = cc
+effect-nothing rights s e (Dropped conn c command) cause epoch at is =
+    entry-nothing rights s.live c.user (kind_of (msg.Part command))
+effect-nothing rights s e effect cause epoch at is = cc
 
 pub forbidden-nothing : ForbiddenChangesNoRight → EventsHaveEffects → (s : State)
     → ForbiddenChangesNothing s

@@ -1,53 +1,45 @@
--- What one event leaves of a session: its history grows by entries that are no marks, and
--- connections stay open.
-use Rattle.std.proofs.Common.{◌≡◌, ℕ, ◌+◌, ◌-◌, Bool, true, false, if◌then◌else◌, List, [], ◌∷◌}
-use Rattle.std.proofs.Common.{◌++◌, length}
-use Rattle.std.proofs.Common.{Option, None, Some, is_some, refl, sym, ap, subst, ◌∙◌, ⊎_elim}
+-- What one event leaves of a session: no history loses an entry, and connections stay open.
+use Rattle.std.proofs.Common.{◌≡◌, ℕ, ◌+◌, ◌-◌, ◌≤◌, Bool, true, false, if◌then◌else◌, List, [], ◌∷◌}
+use Rattle.std.proofs.Common.{◌++◌, length, All, arith}
+use Rattle.std.proofs.Common.{Some, is_some, refl, sym, ap, subst, ◌∙◌, ⊎_elim}
 use Rattle.std.proofs.Common.{append-nil, append_assoc, length-append}
-use Rattle.std.specs.Prelude.{slice_set}
+use Rattle.std.specs.Prelude.{slice_set, slice_index_or}
 use Rattle.std.proofs.Math.ListN.{length-set}
 use Rattle.std.proofs.lemmas.Bool.{cond_both, cases_eq}
-use Rattle.dp_messages.specs.Properties.{marked}
-use Rattle.dp_msg_meta.specs.declared.message.Meta.TheVariants as meta
 use Rattle.dp_messages.specs.declared.message.Msg.{Msg}
-use Rattle.dp_messages.specs.declared.message.Msg.TheVariants as msg
-use Rattle.dp_messages.specs.declared.message.Entry.{Entry}
-use Rattle.dp_acl.specs.Permitted.{permitted}
 use Rattle.dp_events.specs.declared.connection.Connection.{Connection}
 use Rattle.dp_events.specs.declared.connection.Ending.TheVariants as ending
 use Rattle.dp_events.specs.declared.event.Event.{Event}
 use Rattle.dp_events.specs.declared.event.Event.TheVariants as event
 use Rattle.dp_events.specs.declared.event.Reply.{Reply}
 use Rattle.dp_events.specs.declared.event.Reply.TheVariants as reply
-use Rattle.dp_epochs.specs.State.{State, acted, noted, after_event, after_shut, epoch_of, here}
+use Rattle.dp_events.specs.declared.event.ShutAt.{ShutAt}
 use Rattle.dp_events.specs.Connections.{is_open}
-use Rattle.dp_epochs.specs.State.{open_in, open_connection, with_connection}
-use Rattle.dp_epochs.specs.State.{new_connection, next_owner}
-use Rattle.dp_epochs.specs.Effects.{Effect, Nothing, TakesUp, Placed, Filtered, Joined, Left, made}
-use Rattle.dp_epochs.specs.Effects.{entries_of, connections_after, answer_of, IsStill, IsEffect}
+use Rattle.dp_epochs.specs.State.{State, after_event, after_shut, epoch_of, here, history_of}
+use Rattle.dp_epochs.specs.State.{open_in, open_connection, with_connection, new_connection}
+use Rattle.dp_epochs.specs.Effects.{Effect, Nothing, TakesUp, Joined, Left}
+use Rattle.dp_epochs.specs.Effects.{connections_after, answer_of, IsStill, IsEffect}
 use Rattle.dp_epochs.specs.Effects.{EventsHaveEffects}
 use Rattle.dp_events.specs.Rows.{has_room}
-use Rattle.dp_epochs.specs.Past.{Past, state_of, kept, refused, answer_to, sure_step, sure_answer}
-use Rattle.dp_epochs.specs.Laws.{ShutBefore, shut_by}
-use Rattle.dp_sim.specs.Invariant.{HasNoMark}
+use Rattle.dp_epochs.specs.Past.{Past, state_after, state_of, kept, refused, answer_to, sure_step}
+use Rattle.dp_epochs.specs.Past.{sure_answer}
+use Rattle.dp_epochs.specs.Laws.{Continues, AreHistories, ShutBefore, shut_by}
 use Rattle.dp_lists.specs.Numbered.{numbered}
 use Rattle.dp_lists.proofs.Options.{option_both}
 use Rattle.dp_lists.proofs.Numbered.{number-found, numbered-other, numbered-same, numbered-old}
 use Rattle.dp_lists.proofs.Numbered.{numbered-new}
-use Rattle.dp_sim.proofs.OpenConnections.{open_some, open_found, some_open, unmarked-append}
+use Rattle.dp_sim.proofs.OpenConnections.{open_some, open_found, some_open}
 
--- the epoch stays, and the history grows by entries that are no marks
+-- no history loses an entry, and no epoch
 pub record Grows (s t : State) : Type 0 where
-  pub ended : t.ended ≡ s.ended
-  pub more : List Entry
-  pub live : t.live ≡ s.live ++ more
-  pub clean : HasNoMark more
+  pub epochs : epoch_of s ≤ epoch_of t
+  pub histories : (epoch : ℕ) → Continues (history_of s epoch) (history_of t epoch)
 
 -- a connection of the number is open
 abbrev pub IsOpen : State → ℕ → Type 0
 IsOpen s number = is_some (open_connection s number) ≡ true
 
--- the history grows so, and of the connections these stay open
+-- the histories grow so, and of the connections these stay open
 pub record Keeps (s : State) (Stays : ℕ → Type 0) (t : State) : Type 0 where
   pub grows : Grows s t
   pub count : length t.connections ≡ length s.connections
@@ -60,8 +52,32 @@ AllStay n = Unit {0}
 abbrev pub OthersStay : ℕ → ℕ → Type 0
 OthersStay conn n = n ≡ conn → ⊥
 
+-- the histories are the same
+grows-same : (s t : State) → t.ended ≡ s.ended → t.live ≡ s.live → Grows s t
+grows-same s t ended live = record {
+  epochs = omega (arith, ap length ended);
+  histories = λ epoch. (
+    [],
+    ap (λ hs. slice_index_or (hs ++ t.live ∷ []) epoch []) ended
+        ∙ ap (λ h. slice_index_or (s.ended ++ h ∷ []) epoch []) live
+        ∙ sym (append-nil (history_of s epoch)),
+  );
+}
+
 pub grows-not : (s : State) → Grows s s
-grows-not s = record { ended = refl; more = []; live = sym (append-nil s.live); clean = tt }
+grows-not s = grows-same s s refl refl
+
+pub grows-both : (s t u : State) → Grows s t → Grows t u → Grows s u
+grows-both s t u h k = record {
+  epochs = omega (arith, h.epochs, k.epochs);
+  histories = λ epoch.
+      let first = h.histories epoch in
+      let then_ = k.histories epoch in (
+        first.0 ++ then_.0,
+        then_.1 ∙ ap (λ xs. xs ++ then_.0) first.1
+            ∙ append_assoc (history_of s epoch) first.0 then_.0,
+      );
+}
 
 pub keeps-all : (s : State) (Stays : ℕ → Type 0) → Keeps s Stays s
 keeps-all s Stays = record { grows = grows-not s; count = refl; stay = λ n stays h. h }
@@ -77,13 +93,7 @@ keeps-fewer s t Stays h = record {
 pub keeps-both : (s t u : State) (Stays : ℕ → Type 0) → Keeps s Stays t → Keeps t Stays u
     → Keeps s Stays u
 keeps-both s t u Stays h k = record {
-  grows = record {
-    ended = k.grows.ended ∙ h.grows.ended;
-    more = h.grows.more ++ k.grows.more;
-    live = k.grows.live ∙ ap (λ live. live ++ k.grows.more) h.grows.live
-        ∙ append_assoc s.live h.grows.more k.grows.more;
-    clean = unmarked-append h.grows.more k.grows.more h.grows.clean k.grows.clean;
-  };
+  grows = grows-both s t u h.grows k.grows;
   count = k.count ∙ h.count;
   stay = λ n stays up. k.stay n stays (h.stay n stays up);
 }
@@ -118,66 +128,19 @@ open-more cs d n up =
 
 -- ---- effects
 
-unmarked-permitted : (h : List Entry) (user : ℕ) (m : Msg) → permitted h user m ≡ true
-    → marked m ≡ None
-unmarked-permitted h user (msg.Meta (meta.Join registered name)) may = refl
-unmarked-permitted h user (msg.Meta meta.Leave) may = refl
-unmarked-permitted h user (msg.Meta (meta.Owners ids)) may = refl
-unmarked-permitted h user (msg.Meta (meta.Chat text)) may = refl
-unmarked-permitted h user (msg.Meta (meta.Trusted ids)) may = refl
-unmarked-permitted h user (msg.Meta (meta.ResetMark epoch carried)) may = cc
-unmarked-permitted h user (msg.Meta (meta.Laser x y)) may = refl
-unmarked-permitted h user (msg.Meta (meta.MovePointer x y)) may = refl
-unmarked-permitted h user (msg.Meta (meta.UserAcl ids)) may = refl
-unmarked-permitted h user (msg.Meta (meta.LayerAcl layer locked tier ids)) may = refl
-unmarked-permitted h user (msg.Meta (meta.FeatureTiers tiers)) may = refl
-unmarked-permitted h user (msg.Meta (meta.Filtered kind)) may = refl
-unmarked-permitted h user (msg.Control m) may = refl
-unmarked-permitted h user (msg.Part command) may = refl
-unmarked-permitted h user msg.Point may = refl
-unmarked-permitted h user (msg.Undo target redo) may = refl
-unmarked-permitted h user (msg.Draw command) may = refl
-unmarked-permitted h user (msg.Opaque kind body) may = refl
-
-unmarked-owner : (o : Option ℕ) → HasNoMark (next_owner o)
-unmarked-owner None = tt
-unmarked-owner (Some user) = (refl, tt)
-
--- no entry that an event places is a mark
-entries-unmarked : (s : State) (e : Event) (effect : Effect) → IsEffect s e effect
-    → HasNoMark (entries_of effect)
-entries-unmarked s e (Nothing answer) cause = tt
-entries-unmarked s e (TakesUp conn c) cause = tt
-entries-unmarked s e (Placed conn c m) cause =
-    (unmarked-permitted s.live c.user m cause.2, tt)
-entries-unmarked s e (Filtered conn c m) cause = (refl, tt)
-entries-unmarked s e (Joined user registered name next) cause = (refl, unmarked-owner next)
-entries-unmarked s e (Left conn c next) cause = (refl, unmarked-owner next)
-
-grows-effect : (s : State) (e : Event) (effect : Effect) → IsEffect s e effect
-    → Grows s (noted s (made s effect))
-grows-effect s e effect cause = record {
-  ended = refl;
-  more = entries_of effect;
-  live = refl;
-  clean = entries-unmarked s e effect cause;
-}
-
 -- connections stay open, but for the one that the event closes
 open-stay : (s : State) (e : Event) (effect : Effect) → IsEffect s e effect → (n : ℕ)
     → (e ≡ event.Close n → ⊥) → is_some (open_in s.connections n) ≡ true
     → is_some (open_in (connections_after s effect) n) ≡ true
-open-stay s e (Nothing answer) cause n other up = up
 open-stay s e (TakesUp conn c) cause n other up =
     open-all s.connections conn c (record c { acknowledged = epoch_of s }) n cause.1.at.found
     cause.1.at.running up
-open-stay s e (Placed conn c m) cause n other up = up
-open-stay s e (Filtered conn c m) cause n other up = up
 open-stay s e (Joined user registered name next) cause n other up =
     open-more s.connections (new_connection s user) n up
 open-stay s e (Left conn c next) cause n other up =
     open-others s.connections conn c (record c { ending = ending.Left (here s) }) n cause.at.found
     (λ same. other (cause.came ∙ ap (λ k. event.Close k) (sym same))) up
+open-stay s e effect cause n other up = up
 
 -- what an Open's answer says of the connections: one more, which is open, or as many as before
 abbrev pub Answers : State → List Connection → Reply → Type 0
@@ -196,8 +159,6 @@ effect-answers : (s : State) (e : Event) (effect : Effect) → IsEffect s e effe
 effect-answers s e (Nothing answer) cause = answers-still s answer cause
 effect-answers s e (TakesUp conn c) cause =
     length-set s.connections (conn - 1) (record c { acknowledged = epoch_of s })
-effect-answers s e (Placed conn c m) cause = refl
-effect-answers s e (Filtered conn c m) cause = refl
 effect-answers s e (Joined user registered name next) cause =
     let d = new_connection s user in (
       length-append s.connections (d ∷ []),
@@ -208,6 +169,7 @@ effect-answers s e (Joined user registered name next) cause =
     )
 effect-answers s e (Left conn c next) cause =
     length-set s.connections (conn - 1) (record c { ending = ending.Left (here s) })
+effect-answers s e effect cause = refl
 
 -- no user asks to join by the event
 abbrev IsNoOpen : Event → Type 0
@@ -215,15 +177,13 @@ IsNoOpen e = (name : List ℕ) (registered : Bool) → e ≡ event.Open name reg
 
 effect-count : (s : State) (e : Event) (effect : Effect) → IsEffect s e effect → IsNoOpen e
     → length (connections_after s effect) ≡ length s.connections
-effect-count s e (Nothing answer) cause closed = refl
 effect-count s e (TakesUp conn c) cause closed =
     length-set s.connections (conn - 1) (record c { acknowledged = epoch_of s })
-effect-count s e (Placed conn c m) cause closed = refl
-effect-count s e (Filtered conn c m) cause closed = refl
 effect-count s e (Joined user registered name next) cause closed =
     absurd (closed name registered cause.came)
 effect-count s e (Left conn c next) cause closed =
     length-set s.connections (conn - 1) (record c { ending = ending.Left (here s) })
+effect-count s e effect cause closed = refl
 
 keeps-shut : (s : State) (conn : ℕ) → Keeps s (OthersStay conn) (after_shut s conn)
 keeps-shut s conn =
@@ -231,7 +191,7 @@ keeps-shut s conn =
     (open_connection s conn) s
     (Keeps s (OthersStay conn))
     (λ c found. let d : Connection = record c { ending = ending.Shut } in record {
-      grows = record { ended = refl; more = []; live = sym (append-nil s.live); clean = tt };
+      grows = grows-same s (with_connection s conn d) refl refl;
       count = length-set s.connections (conn - 1) d;
       stay = λ n other up. open-others s.connections conn c d n found other up;
     })
@@ -253,16 +213,35 @@ pub record Leading : Type 0 where
   pub on_refused : (past : Past) (e : Event) → state_of (refused past e) ≡ shut_by (state_of past) e
   pub before : (past : Past) (e : Event) → ShutBefore past → ShutBefore (sure_step past e)
   pub effects : EventsHaveEffects
+  pub histories : (journal : List Event) (shut : List ShutAt) (e : Event) (epoch : ℕ)
+      → All (λ s. s.n ≤ length journal) shut
+      → Continues (history_of (state_after journal shut) epoch)
+      (history_of (state_after (journal ++ e ∷ []) shut) epoch)
+  pub epochs : (s : State) (e : Event) → epoch_of s ≤ epoch_of (after_event s e)
+  pub marked : (past : Past) → AreHistories (state_of past)
 
-keeps-acted : Leading → (s : State) (e : Event) (Stays : ℕ → Type 0) → IsNoOpen e
-    → ((n : ℕ) → Stays n → e ≡ event.Close n → ⊥) → Keeps s Stays (after_event s e)
-keeps-acted laws s e Stays closed far =
+grows-kept : Leading → (past : Past) (e : Event) → ShutBefore past
+    → Grows (state_of past) (state_of (kept past e))
+grows-kept laws past e before = record {
+  epochs = subst (λ t. epoch_of (state_of past) ≤ epoch_of t) (sym (laws.on_kept past e before))
+      (laws.epochs (state_of past) e);
+  histories = λ epoch. laws.histories past.journal past.shut e epoch before;
+}
+
+keeps-kept : Leading → (past : Past) (e : Event) (Stays : ℕ → Type 0) → ShutBefore past
+    → IsNoOpen e → ((n : ℕ) → Stays n → e ≡ event.Close n → ⊥)
+    → Keeps (state_of past) Stays (state_of (kept past e))
+keeps-kept laws past e Stays before closed far =
+    let s = state_of past in
     let h = laws.effects s e in
-    subst (λ a. Keeps s Stays (noted s a)) (sym h.made) (record {
-      grows = grows-effect s e h.effect h.cause;
-      count = effect-count s e h.effect h.cause closed;
-      stay = λ n stays up. open-stay s e h.effect h.cause n (far n stays) up;
-    })
+    let is : (state_of (kept past e)).connections ≡ connections_after s h.effect =
+    ap (λ t. t.connections) (laws.on_kept past e before) ∙ ap (λ a. a.state.connections) h.made in
+    record {
+      grows = grows-kept laws past e before;
+      count = ap length is ∙ effect-count s e h.effect h.cause closed;
+      stay = λ n stays up. ap (λ cs. is_some (open_in cs n)) is
+          ∙ open-stay s e h.effect h.cause n (far n stays) up;
+    }
 
 keeps-step : Leading → (past : Past) (e : Event) (Stays : ℕ → Type 0) → ShutBefore past
     → IsNoOpen e → ((n : ℕ) → Stays n → e ≡ event.Close n → ⊥)
@@ -271,8 +250,7 @@ keeps-step : Leading → (past : Past) (e : Event) (Stays : ℕ → Type 0) → 
 keeps-step laws past e Stays before closed far shut =
     cond_both (has_room past.journal e) (kept past e) (refused past e)
     (λ p. Keeps (state_of past) Stays (state_of p))
-    (λ fits. subst (Keeps (state_of past) Stays) (sym (laws.on_kept past e before))
-    (keeps-acted laws (state_of past) e Stays closed far))
+    (λ fits. keeps-kept laws past e Stays before closed far)
     (λ full. subst (Keeps (state_of past) Stays) (sym (laws.on_refused past e)) shut)
 
 pub keeps-say : Leading → (past : Past) (conn : ℕ) (m : Msg) → ShutBefore past
@@ -288,15 +266,23 @@ keeps-close laws past conn before =
     (λ n other is. let same : conn ≡ n = cc in other (sym same))
     (keeps-shut (state_of past) conn)
 
-joins-acted : Leading → (s : State) (e : Event) → ((n : ℕ) → e ≡ event.Close n → ⊥)
-    → Joins s (acted s e).reply (after_event s e)
-joins-acted laws s e closed =
+joins-kept : Leading → (past : Past) (e : Event) → ShutBefore past
+    → ((n : ℕ) → e ≡ event.Close n → ⊥)
+    → Joins (state_of past) (answer_to past e) (state_of (kept past e))
+joins-kept laws past e before closed =
+    let s = state_of past in
     let h = laws.effects s e in
-    subst (λ a. Joins s a.reply (noted s a)) (sym h.made) (record {
-      grows = grows-effect s e h.effect h.cause;
-      stay = λ n up. open-stay s e h.effect h.cause n (closed n) up;
-      answer = effect-answers s e h.effect h.cause;
-    })
+    let is : (state_of (kept past e)).connections ≡ connections_after s h.effect =
+    ap (λ t. t.connections) (laws.on_kept past e before) ∙ ap (λ a. a.state.connections) h.made in
+    let answer : answer_to past e ≡ answer_of s h.effect = ap (λ a. a.reply) h.made in
+    record {
+      grows = grows-kept laws past e before;
+      stay = λ n up. ap (λ cs. is_some (open_in cs n)) is
+          ∙ open-stay s e h.effect h.cause n (closed n) up;
+      answer = subst (Answers s (state_of (kept past e)).connections) (sym answer)
+          (subst (λ cs. Answers s cs (answer_of s h.effect)) (sym is)
+          (effect-answers s e h.effect h.cause));
+    }
 
 pub joins-open : Leading → (past : Past) (name : List ℕ) (registered : Bool) → ShutBefore past
     → Joins (state_of past) (sure_answer past (event.Open name registered))
@@ -309,9 +295,7 @@ joins-open laws past name registered before = by_room (has_room past.journal
         (state_of (if b then kept past (event.Open name registered)
         else refused past (event.Open name registered)))
     by_room true =
-        subst (Joins (state_of past) (answer_to past (event.Open name registered)))
-        (sym (laws.on_kept past (event.Open name registered) before))
-        (joins-acted laws (state_of past) (event.Open name registered) (λ n is. cc))
+        joins-kept laws past (event.Open name registered) before (λ n is. cc)
     by_room false =
         subst (Joins (state_of past) reply.Ended) (sym (laws.on_refused past
         (event.Open name registered)))

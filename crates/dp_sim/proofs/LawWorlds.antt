@@ -1,14 +1,15 @@
 -- Turns and worlds: what is true of a world stays so.
 use Rattle.std.proofs.Common.{◌≡◌, ℕ, zero, suc, ◌+◌, ◌-◌, ◌<◌, ◌≤◌, ◌==◌, Bool, true, false}
-use Rattle.std.proofs.Common.{if◌then◌else◌, MatchBool}
+use Rattle.std.proofs.Common.{◌&&◌, if◌then◌else◌, MatchBool}
 use Rattle.std.proofs.Common.{List, [], ◌∷◌, ◌++◌, length, take, fold, Option, None, Some}
 use Rattle.std.proofs.Common.{refl, sym, ap, subst, ◌∙◌, ⊎_elim, arith, length-append}
-use Rattle.std.specs.Prelude.{slice_set, slice_index_or, IfSome, nat_lt, nat_le}
+use Rattle.std.specs.Prelude.{slice_set, IfSome, nat_lt, nat_le}
 use Rattle.std.specs.List.{slice_get, filter_map}
 use Rattle.dp_plain.specs.Commands.{draw_all}
 use Rattle.dp_plain.specs.Replay.{replay}
 use Rattle.std.proofs.Math.ListN.{length-set}
-use Rattle.std.proofs.lemmas.Bool.{cond_both, cases_eq, eq-eqb, ltb-true, and_from, and_parts}
+use Rattle.std.proofs.lemmas.Bool.{cond_both, cases_eq, cases_lt, eq-eqb, ne_eqb, ltb-true}
+use Rattle.std.proofs.lemmas.Bool.{and_from, and_parts}
 use Rattle.std.proofs.lemmas.Bool.{MatchBool-at_false}
 use Rattle.std.proofs.lemmas.List.{take-append-le}
 use Rattle.std.proofs.lemmas.Option.{slice_get_within}
@@ -23,9 +24,10 @@ use Rattle.dp_events.specs.declared.event.Reply.TheVariants as reply
 use Rattle.dp_events.specs.Rows.{event_limit, row_bytes, byte_limit, row_of, has_room}
 use Rattle.dp_epochs.specs.State.{State, epoch_of, history_of}
 use Rattle.dp_epochs.specs.Past.{Past, state_of, kept, refused, sure_step, sure_answer}
-use Rattle.dp_epochs.specs.Laws.{ShutBefore}
+use Rattle.dp_epochs.specs.Laws.{IsHistory, ShutBefore}
 use Rattle.dp_schedule.specs.declared.action.Instruction.{Instruction}
-use Rattle.dp_schedule.specs.declared.action.Instruction.TheVariants.{Say, Up, Take, Leave, Cut}
+use Rattle.dp_schedule.specs.declared.action.Instruction.TheVariants.{Say, Up, Take, Reset}
+use Rattle.dp_schedule.specs.declared.action.Instruction.TheVariants.{Leave, Cut}
 use Rattle.dp_schedule.specs.declared.action.Action.{Action}
 use Rattle.dp_schedule.specs.declared.action.Action.TheVariants.{Join, Act, Show}
 use Rattle.dp_sim.specs.declared.participant.LinkState.{LinkState}
@@ -34,13 +36,13 @@ use Rattle.dp_sim.specs.Exchanges.{Participant, Exchange, is_gone, disconnected,
 use Rattle.dp_sim.specs.Exchanges.{next_entry, took_next, done, exchanged}
 use Rattle.dp_sim.specs.World.{World, participant_of, new_participant, with_joined, joined}
 use Rattle.dp_sim.specs.World.{with_exchange, acted, after, first_world, world_after}
-use Rattle.dp_sim.specs.Invariant.{IsHistory, is_closed, IsParticipant, IsWorld}
+use Rattle.dp_sim.specs.Invariant.{is_closed, IsParticipant, IsWorld}
 use Rattle.dp_sim.specs.Headline.{ShowsPrefix}
 use Rattle.dp_lists.specs.Numbered.{numbered}
 use Rattle.dp_lists.proofs.Options.{option_both, at_some, if_some}
 use Rattle.dp_lists.proofs.Numbered.{number-found, numbered-other, numbered-same, numbered-either}
 use Rattle.dp_lists.proofs.Numbered.{take_one}
-use Rattle.dp_sim.proofs.OpenConnections.{history-more, mark-first, mark-none}
+use Rattle.dp_sim.proofs.OpenConnections.{live-is, mark-first, mark-none}
 use Rattle.dp_sim.proofs.LawLemmas.{Grows, Keeps, OthersStay, IsOpen, keeps-all, keeps-fewer}
 use Rattle.dp_sim.proofs.LawLemmas.{keeps-both}
 use Rattle.dp_sim.proofs.LawLemmas.{Joins, Leading, keeps-say, keeps-close, joins-open}
@@ -53,8 +55,6 @@ pub record IsPast (past : Past) : Type 0 where
   pub quiet : past.quiet ≡ []
   pub before : ShutBefore past
   pub events : length past.journal ≤ event_limit
-  pub ended : (state_of past).ended ≡ []
-  pub history : IsHistory 0 (state_of past).live
 
 step-first_fault : (past : Past) (e : Event) → (sure_step past e).first_fault ≡ past.first_fault
 step-first_fault past e =
@@ -83,16 +83,12 @@ step-events past e few =
     (λ no. few)
 
 past-step : Leading → (past : Past) (e : Event) → IsPast past
-    → Grows (state_of past) (state_of (sure_step past e))
     → IsPast (sure_step past e)
-past-step laws past e h grows = record {
+past-step laws past e h = record {
   first_fault = step-first_fault past e ∙ h.first_fault;
   quiet = step-quiet past e ∙ h.quiet;
   before = laws.before past e h.before;
   events = step-events past e h.events;
-  ended = grows.ended ∙ h.ended;
-  history = subst (IsHistory 0) (sym grows.live) (history-more (state_of past).live grows.more
-      h.history grows.clean);
 }
 
 -- ---- a client
@@ -102,21 +98,23 @@ running-still : (b : Bool) (P Q : Type 0) → (P → Q) → MatchBool b (Unit {0
 running-still true P Q f h = tt
 running-still false P Q f h = f h
 
--- the history has grown
+-- the histories have grown
 participant-stays : (s t : State) (number : ℕ) (participant : Participant) → Grows s t
     → MatchBool (is_closed participant.link) (Unit {0}) (IsOpen t number)
     → IsParticipant s number participant → IsParticipant t number participant
 participant-stays s t number participant grows running h =
-    let longer : length t.live ≡ length s.live + length grows.more =
-    ap length grows.live ∙ length-append s.live grows.more in
+    let c = participant.state in
+    let before = history_of s c.epoch in
+    let more = grows.histories c.epoch in
     record {
       conn = h.conn;
       running = running;
-      joined = h.joined;
-      epoch = h.epoch;
-      few = omega (arith, h.few, longer);
-      front = h.front ∙ sym (ap (take (length participant.state.taken)) grows.live
-          ∙ take-append-le (length participant.state.taken) s.live grows.more h.few);
+      began = h.began;
+      known = omega (arith, h.known, grows.epochs);
+      few = omega (arith, h.few, ap length more.1, length-append before more.0);
+      front = h.front ∙ sym (ap (take (length c.taken)) more.1
+          ∙ take-append-le (length c.taken) before more.0 h.few);
+      entered = h.entered;
     }
 
 -- the client is what it was but for its uplink, its fork and its link
@@ -133,69 +131,127 @@ participant-made : (s : State) (number : ℕ) (participant : Participant) (fork 
 participant-made s number participant fork uplink now running h = record {
   conn = h.conn;
   running = running;
-  joined = h.joined;
-  epoch = h.epoch;
+  began = h.began;
+  known = h.known;
   few = h.few;
   front = h.front;
+  entered = h.entered;
 }
 
 -- ---- taking
 
--- the client has taken a prefix of the history of epoch 0
-record HasTaken (live : List Entry) (c : client.State) : Type 0 where
-  pub joined : c.joined_epoch ≡ 0
-  pub epoch : c.epoch ≡ 0
-  pub few : length c.taken ≤ length live
-  pub front : c.taken ≡ take (length c.taken) live
+last-false : (a b : Bool) → b ≡ false → (a && b) ≡ false
+last-false true b is = is
+last-false false b is = refl
 
-took-first : (live : List Entry) (c : client.State) (entry : Entry) → IsHistory 0 live
-    → HasTaken live c
-    → slice_get live 0 ≡ Some entry → length c.taken ≡ 0 → HasTaken live (client.took c entry)
-took-first live c entry history h there none =
-    let mark : marked entry.msg ≡ Some 0 = mark-first live entry history there in
-    let first : client.is_first_mark c 0 ≡ true =
-    and_from (length c.taken == 0) (0 == c.joined_epoch) (eq-eqb (length c.taken) 0 none)
-    (eq-eqb 0 c.joined_epoch (sym h.joined)) in
-    let one : client.State = record c { taken = entry ∷ [] } in
-    let other : client.State = record c { epoch = 0; taken = entry ∷ []; fork = [] } in
-    let is : client.took c entry ≡ one =
-    ap (λ m. client.took_at m c entry) mark ∙ ap (λ b. if b then one else other) first in
-    subst (HasTaken live) (sym is) (record {
-      joined = h.joined;
-      epoch = h.epoch;
-      few = slice_get_within live 0 entry there;
-      front = sym (take_one live 0 entry there);
-    })
+-- the client has taken a prefix of the history of its epoch
+record HasTaken (s : State) (c : client.State) : Type 0 where
+  pub began : c.joined_epoch ≤ c.epoch
+  pub known : c.epoch ≤ epoch_of s
+  pub few : length c.taken ≤ length (history_of s c.epoch)
+  pub front : c.taken ≡ take (length c.taken) (history_of s c.epoch)
+  pub entered : c.joined_epoch < c.epoch → 0 < length c.taken
 
-took-next : (live : List Entry) (c : client.State) (entry : Entry) (k : ℕ) → IsHistory 0 live
-    → HasTaken live c
-    → slice_get live (suc k) ≡ Some entry → length c.taken ≡ suc k
-    → HasTaken live (client.took c entry)
-took-next live c entry k history h there some =
-    let mark : marked entry.msg ≡ None = mark-none live k entry history there in
-    let within : suc k < length live = slice_get_within live (suc k) entry there in
-    let longer : length (c.taken ++ entry ∷ []) ≡ suc (suc k) = omega
-    (arith, length-append c.taken (entry ∷ []), some) in
-    let more : client.State =
-    record c {
-      taken = c.taken ++ entry ∷ [];
-      fork = client.fork_after (client.own_of c entry)
-          c.fork;
-    } in
-    let is : client.took c entry ≡ more = ap (λ m. client.took_at m c entry) mark in
-    subst (HasTaken live) (sym is) (record {
-      joined = h.joined;
-      epoch = h.epoch;
-      few = omega (arith, longer, within);
-      front = ap (λ xs. xs ++ entry ∷ []) (h.front ∙ ap (λ n. take n live) some)
-          ∙ sym (take_one live (suc k) entry there) ∙ ap (λ n. take n live) (sym longer);
-    })
+module _ (s : State) (c : client.State) (entry : Entry) (h : HasTaken s c)
+    (history : IsHistory (epoch_of s) s.live) where
+  -- the mark of the live epoch, for a client of this epoch that has taken nothing
+  took-first : c.epoch ≡ epoch_of s → length c.taken ≡ 0 → slice_get s.live 0 ≡ Some entry
+      → HasTaken s (client.took c entry)
+  took-first here none there =
+      let mark : marked entry.msg ≡ Some c.epoch =
+      mark-first (epoch_of s) s.live entry history there ∙ ap (λ n. Some n) (sym here) in
+      let joined : c.joined_epoch ≡ c.epoch =
+      ⊎_elim (λ (less : c.joined_epoch < c.epoch). absurd (omega (arith, h.entered less, none)))
+      (λ (more : c.epoch ≤ c.joined_epoch). omega (arith, more, h.began))
+      (cases_lt c.joined_epoch c.epoch) in
+      let first : client.is_first_mark c c.epoch ≡ true =
+      and_from (length c.taken == 0) (c.epoch == c.joined_epoch) (eq-eqb (length c.taken) 0 none)
+      (eq-eqb c.epoch c.joined_epoch (sym joined)) in
+      let one : client.State = record c { taken = entry ∷ [] } in
+      let other : client.State = record c { taken = entry ∷ []; fork = [] } in
+      let is : client.took c entry ≡ one =
+      ap (λ m. client.took_at m c entry) mark ∙ ap (λ b. if b then one else other) first in
+      let at : slice_get (history_of s c.epoch) 0 ≡ Some entry =
+      ap (λ xs. slice_get xs 0) (ap (history_of s) here ∙ live-is s) ∙ there in
+      subst (HasTaken s) (sym is) (record {
+        began = h.began;
+        known = h.known;
+        few = slice_get_within (history_of s c.epoch) 0 entry at;
+        front = sym (take_one (history_of s c.epoch) 0 entry at);
+        entered = λ later. omega arith;
+      })
 
-took-taken : (live : List Entry) (c : client.State) (entry : Entry) (n : ℕ) → IsHistory 0 live
-    → HasTaken live c
-    → slice_get live n ≡ Some entry → length c.taken ≡ n → HasTaken live (client.took c entry)
-took-taken live c entry zero history h there is = took-first live c entry history h there is
-took-taken live c entry (suc k) history h there is = took-next live c entry k history h there is
+  -- an entry after others of the live epoch
+  took-next : (k : ℕ) → c.epoch ≡ epoch_of s → length c.taken ≡ suc k
+      → slice_get s.live (suc k) ≡ Some entry → HasTaken s (client.took c entry)
+  took-next k here some there =
+      let mark : marked entry.msg ≡ None = mark-none (epoch_of s) s.live k entry history there in
+      let at : slice_get (history_of s c.epoch) (suc k) ≡ Some entry =
+      ap (λ xs. slice_get xs (suc k)) (ap (history_of s) here ∙ live-is s) ∙ there in
+      let within : suc k < length (history_of s c.epoch) =
+      slice_get_within (history_of s c.epoch) (suc k) entry at in
+      let longer : length (c.taken ++ entry ∷ []) ≡ suc (suc k) = omega
+      (arith, length-append c.taken (entry ∷ []), some) in
+      let more : client.State =
+      record c {
+        taken = c.taken ++ entry ∷ [];
+        fork = client.fork_after (client.own_of c entry)
+            c.fork;
+      } in
+      let is : client.took c entry ≡ more = ap (λ m. client.took_at m c entry) mark in
+      subst (HasTaken s) (sym is) (record {
+        began = h.began;
+        known = h.known;
+        few = omega (arith, longer, within);
+        front = ap (λ xs. xs ++ entry ∷ []) (h.front
+            ∙ ap (λ n. take n (history_of s c.epoch)) some)
+            ∙ sym (take_one (history_of s c.epoch) (suc k) entry at)
+            ∙ ap (λ n. take n (history_of s c.epoch)) (sym longer);
+        entered = λ later. omega (arith, longer);
+      })
+
+  -- the mark of the live epoch, for a client of an earlier one
+  took-later : c.epoch < epoch_of s → slice_get s.live 0 ≡ Some entry
+      → HasTaken s (client.took c entry)
+  took-later before there =
+      let mark : marked entry.msg ≡ Some (epoch_of s) =
+      mark-first (epoch_of s) s.live entry history there in
+      let other : client.is_first_mark c (epoch_of s) ≡ false =
+      last-false (length c.taken == 0) (epoch_of s == c.joined_epoch)
+      (ne_eqb (epoch_of s) c.joined_epoch (λ same. omega (arith, same, before, h.began))) in
+      let one : client.State = record c { taken = entry ∷ [] } in
+      let new : client.State = record c { epoch = epoch_of s; taken = entry ∷ []; fork = [] } in
+      let is : client.took c entry ≡ new =
+      ap (λ m. client.took_at m c entry) mark ∙ ap (λ b. if b then one else new) other in
+      let at : slice_get (history_of s (epoch_of s)) 0 ≡ Some entry =
+      ap (λ xs. slice_get xs 0) (live-is s) ∙ there in
+      subst (HasTaken s) (sym is) (record {
+        began = omega (arith, h.began, before);
+        known = omega arith;
+        few = slice_get_within (history_of s (epoch_of s)) 0 entry at;
+        front = sym (take_one (history_of s (epoch_of s)) 0 entry at);
+        entered = λ later. omega arith;
+      })
+
+  -- the entry after those that are taken
+  took-here : (n : ℕ) → c.epoch ≡ epoch_of s → length c.taken ≡ n
+      → slice_get s.live n ≡ Some entry → HasTaken s (client.took c entry)
+  took-here zero here is there = took-first here is there
+  took-here (suc k) here is there = took-next k here is there
+
+  -- the entry that comes next
+  took-taken : slice_get s.live (if c.epoch == epoch_of s then length c.taken else 0) ≡ Some entry
+      → HasTaken s (client.took c entry)
+  took-taken there =
+      ⊎_elim (λ (here : c.epoch ≡ epoch_of s).
+      took-here (length c.taken) here refl
+      (sym (ap (λ b. slice_get s.live (if b then length c.taken else 0))
+      (eq-eqb c.epoch (epoch_of s) here)) ∙ there))
+      (λ (ne : c.epoch ≡ epoch_of s → ⊥).
+      took-later (omega (arith, ne, h.known))
+      (sym (ap (λ b. slice_get s.live (if b then length c.taken else 0))
+      (ne_eqb c.epoch (epoch_of s) ne)) ∙ there))
+      (cases_eq c.epoch (epoch_of s))
 
 -- ---- exchanges
 
@@ -229,7 +285,7 @@ hung-exchanged laws number t h hp =
     let gone = participant-made (state_of t.past) number t.participant t.participant.state.fork []
     Closed tt hp in
     record {
-      past = past-step laws t.past (event.Close t.participant.conn) h keeps.grows;
+      past = past-step laws t.past (event.Close t.participant.conn) h;
       keeps = subst (λ conn. Keeps (state_of t.past) (OthersStay conn)
           (state_of (disconnected t).past)) hp.conn keeps;
       participant = participant-stays (state_of t.past) (state_of (disconnected t).past) number
@@ -245,7 +301,7 @@ heard-exchanged laws number t m rest h hp =
     let waits = participant-made s number t.participant t.participant.state.fork rest
     t.participant.link hp.running hp in
     record {
-      past = past-step laws t.past (event.Say t.participant.conn m) h keeps.grows;
+      past = past-step laws t.past (event.Say t.participant.conn m) h;
       keeps = keeps-fewer s u (OthersStay number) keeps;
       participant = participant-stays s u number (heard t m rest).participant keeps.grows
           (running-still (is_closed t.participant.link) (IsOpen s number) (IsOpen u number)
@@ -265,34 +321,34 @@ up-exchanged laws number t (m ∷ rest) h hp =
     (hung-exchanged laws number (heard t m rest) taken.past taken.participant))
     (λ no. taken)
 
-next-exchanged : (number : ℕ) (t : Exchange) (o : Option Entry) → IsPast t.past
-    → IsParticipant (state_of t.past) number t.participant
-    → slice_get (state_of t.past).live (length t.participant.state.taken) ≡ o
+next-exchanged : Leading → (number : ℕ) (t : Exchange) (o : Option Entry) → IsPast t.past
+    → IsParticipant (state_of t.past) number t.participant → next_entry t ≡ o
     → Turned number t.past (took_next t o)
-next-exchanged number t None h hp there = exchanged-participant number t t.participant h hp
-next-exchanged number t (Some entry) h hp there =
+next-exchanged laws number t None h hp there =
+    exchanged-participant number t t.participant h hp
+next-exchanged laws number t (Some entry) h hp there =
+    let s = state_of t.past in
     let c = t.participant.state in
-    let has : HasTaken (state_of t.past).live c =
-    record { joined = hp.joined; epoch = hp.epoch; few = hp.few; front = hp.front } in
-    let new = took-taken (state_of t.past).live c entry (length c.taken) h.history has there refl in
+    let has : HasTaken s c =
+    record {
+      began = hp.began;
+      known = hp.known;
+      few = hp.few;
+      front = hp.front;
+      entered = hp.entered;
+    } in
+    let history : IsHistory (epoch_of s) s.live =
+    subst (IsHistory (epoch_of s)) (live-is s) (laws.marked t.past (epoch_of s) (omega arith)) in
+    let new = took-taken s c entry has history there in
     exchanged-participant number t (took_next t (Some entry)).participant h (record {
       conn = hp.conn;
       running = hp.running;
-      joined = new.joined;
-      epoch = new.epoch;
+      began = new.began;
+      known = new.known;
       few = new.few;
       front = new.front;
+      entered = new.entered;
     })
-
--- the entry after those that are taken is the next one
-next-is : (t : Exchange) → t.participant.state.epoch ≡ 0 → (state_of t.past).ended ≡ []
-    → slice_get (state_of t.past).live (length t.participant.state.taken) ≡ next_entry t
-next-is t epoch ended =
-    let same : t.participant.state.epoch ≡ epoch_of (state_of t.past) = epoch
-    ∙ sym (ap length ended) in
-    sym (ap (λ b. slice_get (state_of t.past).live (if b then length t.participant.state.taken
-    else 0))
-    (eq-eqb t.participant.state.epoch (epoch_of (state_of t.past)) same))
 
 done-exchanged : Leading → (number : ℕ) (t : Exchange) (instruction : Instruction) → IsPast t.past
     → IsParticipant (state_of t.past) number t.participant
@@ -303,8 +359,12 @@ done-exchanged laws number t (Say m) h hp here =
     (t.participant.uplink ++ m ∷ []) t.participant.link
     hp.running hp)
 done-exchanged laws number t Up h hp here = up-exchanged laws number t t.participant.uplink h hp
-done-exchanged laws number t Take h hp here = next-exchanged number t (next_entry t) h hp
-    (next-is t hp.epoch h.ended)
+done-exchanged laws number t Take h hp here =
+    next-exchanged laws number t (next_entry t) h hp refl
+done-exchanged laws number t Reset h hp here =
+    exchanged-participant number t (done t Reset).participant h
+    (participant-made (state_of t.past) number t.participant t.participant.state.fork
+    (done t Reset).participant.uplink t.participant.link hp.running hp)
 done-exchanged laws number t Leave h hp here =
     exchanged-participant number t (done t Leave).participant h
     (participant-made (state_of t.past) number t.participant t.participant.state.fork
@@ -334,8 +394,6 @@ past-of w h = record {
   quiet = h.quiet;
   before = h.before;
   events = h.events;
-  ended = h.ended;
-  history = h.history;
 }
 
 world-made : (w : World) → IsPast w.past → length (state_of w.past).connections
@@ -347,8 +405,6 @@ world-made w h connections participants = record {
   quiet = h.quiet;
   before = h.before;
   events = h.events;
-  ended = h.ended;
-  history = h.history;
   connections = connections;
   participants = participants;
 }
@@ -432,15 +488,16 @@ none-joined w past h hp grows stay count =
     (λ participant is. participants-stay w (state_of past) h grows stay n participant is))
 
 -- a client that was just welcomed
-participant-new : (s : State) (conn user at : ℕ) → IsOpen s conn
-    → IsParticipant s conn (new_participant conn user 0 at)
-participant-new s conn user at up = record {
+participant-new : (s : State) (conn user epoch at : ℕ) → IsOpen s conn → epoch ≤ epoch_of s
+    → IsParticipant s conn (new_participant conn user epoch at)
+participant-new s conn user epoch at up known = record {
   conn = refl;
   running = up;
-  joined = refl;
-  epoch = refl;
+  began = omega arith;
+  known = known;
   few = omega arith;
   front = refl;
+  entered = λ later. absurd (omega (arith, later));
 }
 
 -- one more
@@ -480,13 +537,11 @@ one-joined w past conn user epoch at h hp grows stay count is_conn is_epoch up =
         → participant ≡ new_participant conn user epoch at
         → IsParticipant (state_of past) n participant
     last n participant at_end is =
-        let zero_is : epoch ≡ 0 = is_epoch ∙ ap length h.ended in
         let same : conn ≡ n = omega (arith, is_conn, at_end, h.connections) in
-        let new : participant ≡ new_participant conn user 0 at = is
-        ∙ ap (λ e. new_participant conn user e at) zero_is in
         subst (λ k. IsParticipant (state_of past) k participant) same
-        (subst (IsParticipant (state_of past) conn) (sym new)
-        (participant-new (state_of past) conn user at up))
+        (subst (IsParticipant (state_of past) conn) (sym is)
+        (participant-new (state_of past) conn user epoch at up
+        (omega (arith, is_epoch, grows.epochs))))
 
 answered-world : (w : World) (past : Past) (r : Reply) → IsWorld w → IsPast past
     → Joins (state_of w.past) r (state_of past)
@@ -502,7 +557,7 @@ joined-world laws w registered name h =
     let j = joins-open laws w.past name registered h.before in
     answered-world w (sure_step w.past (event.Open name registered))
     (sure_answer w.past (event.Open name registered)) h
-    (past-step laws w.past (event.Open name registered) (past-of w h) j.grows) j
+    (past-step laws w.past (event.Open name registered) (past-of w h)) j
 
 -- what is true of a world is so after an action
 pub action-world : Leading → (w : World) (action : Action) → IsWorld w → IsWorld (after w action)
@@ -518,20 +573,15 @@ actions-world stays w [] h = h
 actions-world stays w (action ∷ actions) h = actions-world stays (after w action) actions
     (stays w action h)
 
-shows-front : (s : State) (number : ℕ) (participant : Participant) → s.ended ≡ []
+shows-front : (s : State) (number : ℕ) (participant : Participant)
     → IsParticipant s number participant → ShowsPrefix s participant.state
-shows-front s number participant ended h =
+shows-front s number participant h =
     let c = participant.state in
-    let live : history_of s c.epoch ≡ s.live =
-    ap (λ epoch. history_of s epoch) h.epoch ∙ ap (λ xs. slice_index_or (xs ++ s.live ∷ []) 0 [])
-    ended in
-    let front : c.taken ≡ take (length c.taken) (history_of s c.epoch) =
-    h.front ∙ ap (take (length c.taken)) (sym live) in
     record {
       count = length c.taken;
-      taken = front;
-      confirmed = ap replay front;
-      view = ap (λ board. draw_all board (filter_map command_of c.fork)) (ap replay front);
+      taken = h.front;
+      confirmed = ap replay h.front;
+      view = ap (λ board. draw_all board (filter_map command_of c.fork)) (ap replay h.front);
     }
 
 pub all-show : ((w : World) (action : Action) → IsWorld w → IsWorld (after w action))
@@ -544,6 +594,6 @@ all-show stays first actions =
     let w = world_after actions in
     λ number. if_some (participant_of w number) (λ participant. ShowsPrefix (state_of w.past)
     participant.state)
-    (λ participant is. shows-front (state_of w.past) number participant h.ended
+    (λ participant is. shows-front (state_of w.past) number participant
     (at_some (participant_of w number) (IsParticipant (state_of w.past) number) participant
     (h.participants number) is))

@@ -4,4 +4,5 @@ pub mod LawWorlds
 pub mod LawRenaming
 pub mod LawStrokes
 pub mod LawForbidden
+pub mod LawOpenings
 pub mod CallLemmas

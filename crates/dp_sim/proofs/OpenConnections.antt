@@ -1,6 +1,7 @@
 -- Open connections, and histories.
-use Rattle.std.proofs.Common.{◌≡◌, ◌⊎◌, ℕ, zero, suc, Bool, true, false, if◌then◌else◌}
-use Rattle.std.proofs.Common.{List, [], ◌∷◌, ◌++◌, Option, None, Some, is_some}
+use Rattle.std.proofs.Common.{◌≡◌, ℕ, zero, suc, true, false, if◌then◌else◌}
+use Rattle.std.specs.Prelude.{slice_index_or}
+use Rattle.std.proofs.Common.{List, [], ◌∷◌, ◌++◌, length, Option, None, Some, is_some}
 use Rattle.std.proofs.Common.{refl, sym, ap, subst, ◌∙◌, ⊎_elim}
 use Rattle.std.specs.List.{slice_get}
 use Rattle.std.proofs.lemmas.Bool.{cases_Bool}
@@ -9,8 +10,8 @@ use Rattle.dp_messages.specs.Properties.{marked}
 use Rattle.dp_messages.specs.declared.message.Entry.{Entry}
 use Rattle.dp_events.specs.declared.connection.Connection.{Connection}
 use Rattle.dp_events.specs.Connections.{is_open}
-use Rattle.dp_epochs.specs.State.{connection_in, where_open, open_in}
-use Rattle.dp_sim.specs.Invariant.{HasNoMark, IsHistory}
+use Rattle.dp_epochs.specs.State.{State, connection_in, where_open, open_in, epoch_of, history_of}
+use Rattle.dp_epochs.specs.Laws.{HasNoMark, IsHistory}
 
 -- ---- open connections
 
@@ -43,15 +44,14 @@ some_open c o is up = ap (λ p. is_some (where_open p)) is
 
 -- ---- histories
 
-pub unmarked-append : (xs ys : List Entry) → HasNoMark xs → HasNoMark ys → HasNoMark (xs ++ ys)
-unmarked-append [] ys hx hy = hy
-unmarked-append (x ∷ xs) ys hx hy = (hx.0, unmarked-append xs ys hx.1 hy)
-
--- a history with more entries that are no marks
-pub history-more : (live more : List Entry) → IsHistory 0 live → HasNoMark more
-    → IsHistory 0 (live ++ more)
-history-more [] more h clean = absurd h
-history-more (first ∷ behind) more h clean = (h.0, unmarked-append behind more h.1 clean)
+-- the live history is that of the live epoch
+pub live-is : (s : State) → history_of s (epoch_of s) ≡ s.live
+live-is s = last_item s.ended s.live
+  where
+    last_item : (hs : List (List Entry)) (h : List Entry)
+        → slice_index_or (hs ++ h ∷ []) (length hs) [] ≡ h
+    last_item [] h = refl
+    last_item (x ∷ hs) h = last_item hs h
 
 unmarked-at : (xs : List Entry) (i : ℕ) (x : Entry) → HasNoMark xs → slice_get xs i ≡ Some x
     → marked x.msg ≡ None
@@ -61,14 +61,14 @@ unmarked-at (y ∷ xs) zero x h is = let same : y ≡ x = cc in subst (λ z. mar
 unmarked-at (y ∷ xs) (suc i) x h is = unmarked-at xs i x h.1 is
 
 -- the first entry of a history is its mark
-pub mark-first : (live : List Entry) (x : Entry) → IsHistory 0 live → slice_get live 0 ≡ Some x
-    → marked x.msg ≡ Some 0
-mark-first [] x h is = absurd h
-mark-first (y ∷ live) x h is = let same : y ≡ x = cc in subst (λ z. marked z.msg ≡ Some 0) same h.0
+pub mark-first : (epoch : ℕ) (live : List Entry) (x : Entry) → IsHistory epoch live
+    → slice_get live 0 ≡ Some x → marked x.msg ≡ Some epoch
+mark-first epoch [] x h is = absurd h
+mark-first epoch (y ∷ live) x h is =
+    let same : y ≡ x = cc in subst (λ z. marked z.msg ≡ Some epoch) same h.0
 
 -- and no other entry is a mark
-pub mark-none : (live : List Entry) (i : ℕ) (x : Entry) → IsHistory 0 live
-    → slice_get live (suc i) ≡ Some x
-    → marked x.msg ≡ None
-mark-none [] i x h is = absurd h
-mark-none (y ∷ live) i x h is = unmarked-at live i x h.1 is
+pub mark-none : (epoch : ℕ) (live : List Entry) (i : ℕ) (x : Entry) → IsHistory epoch live
+    → slice_get live (suc i) ≡ Some x → marked x.msg ≡ None
+mark-none epoch [] i x h is = absurd h
+mark-none epoch (y ∷ live) i x h is = unmarked-at live i x h.1 is

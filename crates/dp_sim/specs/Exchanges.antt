@@ -14,7 +14,10 @@ use Rattle.dp_events.specs.declared.event.Reply.TheVariants as reply
 use Rattle.dp_epochs.specs.State.{epoch_of}
 use Rattle.dp_epochs.specs.Past.{Past, state_of, sure_answer, sure_step}
 use Rattle.dp_schedule.specs.declared.action.Instruction.{Instruction}
-use Rattle.dp_schedule.specs.declared.action.Instruction.TheVariants.{Say, Up, Take, Leave, Cut}
+use Rattle.dp_schedule.specs.declared.action.Instruction.TheVariants.{Say, Up, Take, Reset}
+use Rattle.dp_schedule.specs.declared.action.Instruction.TheVariants.{Leave, Cut}
+use Rattle.dp_snap.specs.Snapshot.{snapshot}
+use Rattle.dp_snap.specs.Resets.{reset_messages}
 use Rattle.dp_schedule.specs.declared.report_line.ReportLine.{ReportLine}
 use Rattle.dp_schedule.specs.declared.report_line.ReportLine.TheVariants as report
 use Rattle.dp_sim.specs.declared.participant.LinkState.{LinkState}
@@ -33,12 +36,13 @@ pub record Exchange : Type 0 where
   pub participant : Participant
 
 -- Which instructions a client does no more: one that is closed none, and one that is leaving says
--- nothing and doesn't leave again.
+-- nothing, resets nothing and doesn't leave again.
 abbrev pub is_gone : LinkState → Instruction → Bool
 is_gone Connected instruction = false
 is_gone Leaving (Say m) = true
 is_gone Leaving Up = false
 is_gone Leaving Take = false
+is_gone Leaving Reset = true
 is_gone Leaving Leave = true
 is_gone Leaving Cut = false
 is_gone Closed instruction = true
@@ -141,6 +145,15 @@ abbrev pub next_taken_line : Exchange → Option Entry → ReportLine
 next_taken_line t None = report.Nothing
 next_taken_line t (Some entry) = took_line (client.taken_of t.participant.state entry)
 
+-- the reset to what the client has taken
+abbrev pub reset_of : Participant → List Msg
+reset_of participant = reset_messages (snapshot (client.confirmed participant.state))
+
+-- the client with messages that join its uplink
+abbrev pub with_sent : Participant → List Msg → Participant
+with_sent participant messages =
+    record participant { uplink = participant.uplink ++ messages }
+
 -- the exchange after an instruction that the client still does
 abbrev pub done : Exchange → Instruction → Exchange
 done t (Say m) = record t {
@@ -152,6 +165,8 @@ done t (Say m) = record t {
 }
 done t Up = uplink_sent t t.participant.uplink
 done t Take = took_next t (next_entry t)
+done t Reset =
+    record t { participant = with_sent t.participant (reset_of t.participant) }
 done t Leave = record t {
   participant = record t.participant {
     uplink = t.participant.uplink ++ msg.Control (Disconnect 0) ∷ [];
@@ -165,6 +180,7 @@ abbrev pub performed_line : Exchange → Instruction → ReportLine
 performed_line t (Say m) = report.Said (length t.participant.state.fork + 1)
 performed_line t Up = up_line t t.participant.uplink
 performed_line t Take = next_taken_line t (next_entry t)
+performed_line t Reset = report.Sent (length (reset_of t.participant))
 performed_line t Leave = report.Leaving
 performed_line t Cut = cut_line (sure_answer t.past (event.Close t.participant.conn))
 

@@ -1,18 +1,16 @@
 -- What is true of every world.
-use Rattle.std.specs.Prelude.{◌≡◌, ℕ, ◌≤◌, Bool, true, false, is_some, MatchBool, IfSome}
-use Rattle.std.specs.Prelude.{None, Some, List, [], ◌∷◌, length, take, ⊤}
-use Rattle.std.specs.List.{AllByRecursion}
+use Rattle.std.specs.Prelude.{◌≡◌, ℕ, ◌<◌, ◌≤◌, Bool, true, false, is_some, MatchBool, IfSome}
+use Rattle.std.specs.Prelude.{None, [], length, take, ⊤}
 use Rattle.dp_messages.specs.Messages.{kind_of}
-use Rattle.dp_messages.specs.declared.message.Entry.{Entry}
-use Rattle.dp_messages.specs.Properties.{marked}
 use Rattle.dp_events.specs.Rows.{event_limit}
-use Rattle.dp_epochs.specs.State.{State, open_connection}
+use Rattle.dp_epochs.specs.State.{State, open_connection, epoch_of, history_of}
 use Rattle.dp_epochs.specs.Past.{state_of}
 use Rattle.dp_epochs.specs.Laws.{ShutBefore}
 use Rattle.dp_schedule.specs.declared.action.Action.{Action}
 use Rattle.dp_schedule.specs.declared.action.Action.TheVariants.{Join, Act, Show}
 use Rattle.dp_schedule.specs.declared.action.Instruction.{Instruction}
-use Rattle.dp_schedule.specs.declared.action.Instruction.TheVariants.{Say, Up, Take, Leave, Cut}
+use Rattle.dp_schedule.specs.declared.action.Instruction.TheVariants.{Say, Up, Take, Reset}
+use Rattle.dp_schedule.specs.declared.action.Instruction.TheVariants.{Leave, Cut}
 use Rattle.dp_sim.specs.declared.participant.LinkState.{LinkState}
 use Rattle.dp_sim.specs.declared.participant.LinkState.TheVariants.{Connected, Leaving, Closed}
 use Rattle.dp_sim.specs.Exchanges.{Participant}
@@ -23,6 +21,7 @@ abbrev pub IsSayable : Instruction → Type 0
 IsSayable (Say m) = 32 ≤ kind_of m
 IsSayable Up = Unit {0}
 IsSayable Take = Unit {0}
+IsSayable Reset = Unit {0}
 IsSayable Leave = Unit {0}
 IsSayable Cut = Unit {0}
 
@@ -38,35 +37,28 @@ is_closed Connected = false
 is_closed Leaving = false
 is_closed Closed = true
 
--- no entry is a mark of an epoch
-abbrev pub HasNoMark : List Entry → Type 0
-HasNoMark entries = AllByRecursion (λ entry. marked entry.msg ≡ None) entries
-
--- a history begins with the mark of its epoch, and has no other
-abbrev pub IsHistory : ℕ → List Entry → Type 0
-IsHistory epoch [] = ⊥
-IsHistory epoch (first ∷ behind) = (marked first.msg ≡ Some epoch) × HasNoMark behind
-
 -- the client of a number: its connection has the same number and is open unless the client is
--- closed, and it has taken a prefix of the live history
+-- closed, and it has taken a prefix of the history of its epoch, which is that of its join or a
+-- later one
 pub record IsParticipant (s : State) (number : ℕ) (participant : Participant) : Type 0 where
   pub conn : participant.conn ≡ number
   pub running : MatchBool (is_closed participant.link) (Unit {0})
       (is_some (open_connection s number) ≡ true)
-  pub joined : participant.state.joined_epoch ≡ 0
-  pub epoch : participant.state.epoch ≡ 0
-  pub few : length participant.state.taken ≤ length s.live
-  pub front : participant.state.taken ≡ take (length participant.state.taken) s.live
+  pub began : participant.state.joined_epoch ≤ participant.state.epoch
+  pub known : participant.state.epoch ≤ epoch_of s
+  pub few : length participant.state.taken ≤ length (history_of s participant.state.epoch)
+  pub front : participant.state.taken
+      ≡ take (length participant.state.taken) (history_of s participant.state.epoch)
+  pub entered : participant.state.joined_epoch < participant.state.epoch
+      → 0 < length participant.state.taken
 
 -- the world is one that a schedule leads to, as far as its calls need it: no store failed and no
--- connection is quiet, there is one epoch, and each connection is a client's
+-- connection is quiet, and each connection is a client's
 pub record IsWorld (w : World) : Type 0 where
   pub first_fault : w.past.first_fault ≡ None
   pub quiet : w.past.quiet ≡ []
   pub before : ShutBefore w.past
   pub events : length w.past.journal ≤ event_limit
-  pub ended : (state_of w.past).ended ≡ []
-  pub history : IsHistory 0 (state_of w.past).live
   pub connections : length (state_of w.past).connections ≡ length w.participants
   pub participants : (number : ℕ) → IfSome (participant_of w number)
       (IsParticipant (state_of w.past) number)

@@ -1,6 +1,12 @@
 //! Laws of worlds, each the contract of a function that does nothing but call others.
 
-ghost use Rattle.std.specs.Prelude.{List};
+ghost use Rattle.std.specs.Prelude.{◌≡◌, ℕ, List};
+ghost use Rattle.dp_acl.specs.Opening.{opening};
+ghost use Rattle.dp_messages.specs.declared.message.Entry.{Entry};
+ghost use Rattle.dp_msg_draw.specs.declared.draw.Draw.{Draw};
+ghost use Rattle.dp_plain.specs.Board.{empty_board};
+ghost use Rattle.dp_plain.specs.Commands.{draw_all};
+ghost use Rattle.dp_plain.specs.Replay.{replay};
 ghost use Rattle.dp_schedule.specs.declared.action.Action.{Action};
 ghost use Rattle.dp_sim.specs.World.{World, first_world, after, world_after};
 ghost use Rattle.dp_sim.specs.Invariant.{IsWorld};
@@ -8,7 +14,9 @@ ghost use Rattle.dp_sim.specs.Headline.{Headline, ForbiddenChangesNothing};
 ghost use Rattle.dp_epochs.specs.State.{State};
 
 use dp_acl::forbidden_changes_no_right;
-use dp_epochs::{events_have_effects, steps_lead_on};
+use dp_epochs::{
+    epochs_rise, events_have_effects, histories_are_marked, histories_grow, steps_lead_on,
+};
 
 /// What is true of every world: of the first one, and of the one after any action.
 pub fn worlds_stay_worlds()
@@ -18,6 +26,9 @@ pub fn worlds_stay_worlds()
 {
     steps_lead_on();
     events_have_effects();
+    histories_grow();
+    epochs_rise();
+    histories_are_marked();
 }
 
 /// In every state of a session a message that is answered Filtered changes no canvas and no right,
@@ -28,6 +39,13 @@ pub fn forbidden_changes_nothing()
     forbidden_changes_no_right();
     events_have_effects();
 }
+
+/// What an epoch opens with shows the commands of its reset, drawn in order on the empty board: of
+/// the epoch before nothing is seen but what they draw.
+pub fn resets_show_their_commands()
+    ensures { (epoch : ℕ) (history : List Entry) (present : List ℕ) (commands : List Draw)
+        → replay (opening epoch history present commands) ≡ draw_all empty_board commands }
+{}
 
 /// After every schedule each client has taken a prefix of the history of its epoch; its confirmed
 /// canvas is that prefix replayed, and its view the same with its unanswered sends drawn after it.

@@ -8,6 +8,8 @@ mod participant;
 mod reply_line;
 mod world;
 
-pub use laws::{forbidden_changes_nothing, headline, worlds_stay_worlds};
+pub use laws::{
+    forbidden_changes_nothing, headline, resets_show_their_commands, worlds_stay_worlds,
+};
 pub use participant::{LinkState, Participant};
 pub use world::World;

@@ -1,7 +1,7 @@
 //! A client with its connection.
 
 ghost use Rattle.std.specs.Prelude.{◌≡◌, ◌≤◌, ◌<◌, ◌+◌, ◌-◌, ◌^◌, ◌++◌, ◌∷◌, [], None, length};
-ghost use Rattle.std.specs.Prelude.{slice_get, IfOk, OnOk};
+ghost use Rattle.std.specs.Prelude.{slice_get, map, IfOk, OnOk};
 ghost use Rattle.dp_msg_meta.specs.declared.message.Control.TheVariants.{Disconnect};
 ghost use Rattle.dp_messages.specs.declared.message.Msg.TheVariants as msg;
 ghost use Rattle.dp_messages.specs.Messages.{kind_of};
@@ -22,7 +22,10 @@ ghost use Rattle.dp_sim.specs.Exchanges.{
   next_taken_line,
   exchanged,
   exchange_line,
+  reset_of,
+  with_sent,
 };
+ghost use Rattle.dp_snap.specs.Resets.{reset_messages};
 ghost use Rattle.dp_sim.specs.World.{new_participant};
 ghost use Rattle.dp_sim.specs.Invariant.{IsSayable};
 ghost use Rattle.dp_sim.specs.Calls.{exchange, took_entry, CanTake, CanAct};
@@ -33,12 +36,16 @@ use dp_events::{Answer, Entries, Event, Query, Reply};
 use dp_keeper::SureKeeper;
 use dp_machine::Machine;
 use dp_messages::{Entry, Msg};
+use dp_msg_draw::Draw;
 use dp_msg_meta::Control;
 use dp_schedule::{Instruction, ReportLine};
 use dp_session::Session;
+use dp_snap::snapshot;
+use dp_steps::Steps;
 use std::alloc::{AllocError, Global};
 use std::collections::VecDeque;
 use std::marker::Model;
+use std::sync::ledger::Ledger;
 
 /// Whether a client still sends.
 #[derive(Clone, Copy, Debug, PartialEq, Eq)]
@@ -84,6 +91,16 @@ pub(crate) fn serve(session: &mut Session<SureKeeper>, event: Event) -> Result<R
     session.step_surely(&event)
 }
 
+/// The commands join an uplink, each as a part of a reset.
+fn put_parts(uplink: &mut VecDeque<Msg>, commands: &[Draw]) -> Result<(), AllocError>
+    ensures { OnOk result (uplink.new.items ≡ uplink.old.items ++ map msg.Part commands.now) }
+{
+    for command in commands {
+        uplink.push_back(Msg::Part(command.copy()?))?;
+    }
+    Ok(())
+}
+
 impl Participant {
     /// A client that has joined.
     pub(crate) fn new(alloc: Global, conn: u32, user: u8, epoch: u32, at: u32) -> Participant
@@ -110,7 +127,10 @@ impl Participant {
     {
         match self.link {
             LinkState::Connected => false,
-            LinkState::Leaving => matches!(instruction, Instruction::Say(_) | Instruction::Leave),
+            LinkState::Leaving => matches!(
+                instruction,
+                Instruction::Say(_) | Instruction::Reset | Instruction::Leave
+            ),
             LinkState::Closed => true,
         }
     }
@@ -216,6 +236,33 @@ impl Participant {
         })
     }
 
+    /// A reset to what the client has taken joins the uplink.
+    fn reset<D: Ledger, T: Ledger>(
+        &mut self,
+        alloc: Global,
+        draws: &mut Steps<D>,
+        tiles: &mut Steps<T>,
+    ) -> Result<ReportLine, AllocError>
+        ensures line { IfOk result (λ line. line ≡ report.Sent (length (reset_of self.old))) }
+        ensures ok { OnOk result (self.new ≡ with_sent self.old (reset_of self.old)) }
+    {
+        let board = self.client.confirmed(draws, tiles)?;
+        let commands = snapshot(alloc, &board)?;
+        self.send_reset(commands.as_slice())
+    }
+
+    /// A reset to these commands joins the uplink.
+    fn send_reset(&mut self, commands: &[Draw]) -> Result<ReportLine, AllocError>
+        ensures line { IfOk result (λ line. line
+            ≡ report.Sent (length (reset_messages commands.now))) }
+        ensures ok { OnOk result (self.new ≡ with_sent self.old (reset_messages commands.now)) }
+    {
+        self.uplink.push_back(Msg::Control(Control::ResetBegin))?;
+        put_parts(&mut self.uplink, commands)?;
+        self.uplink.push_back(Msg::Control(Control::ResetEnd))?;
+        Ok(ReportLine::Sent(commands.len() + 2))
+    }
+
     /// A Disconnect joins the uplink, and the client is leaving.
     fn leave(&mut self) -> Result<ReportLine, AllocError>
         ensures line { IfOk result (λ line. line ≡ report.Leaving) }
@@ -243,10 +290,13 @@ impl Participant {
 
     /// The client does an instruction. After an error nothing is promised of
     /// the client and the session then.
-    pub(crate) fn act(
+    pub(crate) fn act<D: Ledger, T: Ledger>(
         &mut self,
+        alloc: Global,
         session: &mut Session<SureKeeper>,
         instruction: &Instruction,
+        draws: &mut Steps<D>,
+        tiles: &mut Steps<T>,
     ) -> Result<ReportLine, AllocError>
         requires able { CanAct session.old self.old }
         requires sayable { IsSayable instruction.now }
@@ -262,6 +312,7 @@ impl Participant {
             Instruction::Say(msg) => self.say(msg),
             Instruction::Up => self.up(session),
             Instruction::Take => self.take(session),
+            Instruction::Reset => self.reset(alloc, draws, tiles),
             Instruction::Leave => self.leave(),
             Instruction::Cut => self.cut(session),
         }

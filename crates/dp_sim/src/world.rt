@@ -4,18 +4,17 @@ ghost use Rattle.std.specs.Prelude.{◌≡◌, is_some, IsSome, IfSome, IfOk, On
 ghost use Rattle.dp_schedule.specs.declared.action.Action.TheVariants.{Join, Act};
 ghost use Rattle.dp_events.specs.declared.event.Event.TheVariants.{Open};
 ghost use Rattle.dp_epochs.specs.Past.{sure_answer};
-ghost use Rattle.dp_client.specs.Client.{confirmed, view};
 ghost use Rattle.dp_sim.specs.World.{first_world, after, participant_of, join_line, acted_line};
 ghost use Rattle.dp_sim.specs.World.{length_of};
 ghost use Rattle.dp_sim.specs.Invariant.{IsWorld, IsSayable};
 
 use crate::laws::worlds_stay_worlds;
 use crate::participant::{Participant, serve};
+use dp_client::Client;
 use dp_epochs::histories_are_short;
 use dp_events::{Event, Reply};
 use dp_frame::Octets;
 use dp_keeper::{Rows, SureKeeper};
-use dp_plain::PlainBoard;
 use dp_schedule::{Instruction, ReportLine};
 use dp_session::Session;
 use dp_steps::Steps;
@@ -99,7 +98,13 @@ impl World {
     }
 
     /// A client does an instruction.
-    fn play(&mut self, client: u32, instruction: &Instruction) -> Result<ReportLine, AllocError>
+    fn play<D: Ledger, T: Ledger>(
+        &mut self,
+        client: u32,
+        instruction: &Instruction,
+        draws: &mut Steps<D>,
+        tiles: &mut Steps<T>,
+    ) -> Result<ReportLine, AllocError>
         requires world { IsWorld self.old }
         requires client { IsSome (participant_of self.old client) }
         requires sayable { IsSayable instruction.now }
@@ -108,7 +113,8 @@ impl World {
         ensures ok { OnOk result (self.new ≡ after self.old (Act client instruction.now)) }
     {
         histories_are_short();
-        self.participants[client as usize - 1].act(&mut self.session, instruction)
+        let participant = &mut self.participants[client as usize - 1];
+        participant.act(self.alloc, &mut self.session, instruction, draws, tiles)
     }
 
     /// A user asks to join.
@@ -132,7 +138,13 @@ impl World {
     /// # Errors
     ///
     /// Where memory runs out. Nothing is promised of the world then.
-    pub fn act(&mut self, client: u32, instruction: &Instruction) -> Result<ReportLine, AllocError>
+    pub fn act<D: Ledger, T: Ledger>(
+        &mut self,
+        client: u32,
+        instruction: &Instruction,
+        draws: &mut Steps<D>,
+        tiles: &mut Steps<T>,
+    ) -> Result<ReportLine, AllocError>
         requires world { IsWorld self.old }
         requires client { IsSome (participant_of self.old client) }
         requires sayable { IsSayable instruction.now }
@@ -142,36 +154,15 @@ impl World {
         ensures world { OnOk result (IsWorld self.new) }
     {
         worlds_stay_worlds();
-        self.play(client, instruction)
+        self.play(client, instruction, draws, tiles)
     }
 
-    /// The view of the client of this number.
-    pub fn view<D: Ledger, T: Ledger>(
-        &self,
-        client: u32,
-        draws: &mut Steps<D>,
-        tiles: &mut Steps<T>,
-    ) -> Result<PlainBoard, AllocError>
+    /// What the client of this number has taken and said.
+    pub fn client(&self, client: u32) -> &Client
         requires { IsSome (participant_of self.now client) }
-        ensures { IfOk result (λ board. IfSome (participant_of self.now client)
-            (λ participant. board ≡ view participant.state)) }
+        ensures { IfSome (participant_of self.now client)
+            (λ participant. result.now ≡ participant.state) }
     {
-        let participant = &self.participants[client as usize - 1];
-        participant.client().view(draws, tiles)
-    }
-
-    /// The confirmed canvas of the client of this number.
-    pub fn confirmed<D: Ledger, T: Ledger>(
-        &self,
-        client: u32,
-        draws: &mut Steps<D>,
-        tiles: &mut Steps<T>,
-    ) -> Result<PlainBoard, AllocError>
-        requires { IsSome (participant_of self.now client) }
-        ensures { IfOk result (λ board. IfSome (participant_of self.now client)
-            (λ participant. board ≡ confirmed participant.state)) }
-    {
-        let participant = &self.participants[client as usize - 1];
-        participant.client().confirmed(draws, tiles)
+        self.participants[client as usize - 1].client()
     }
 }

@@ -114,6 +114,14 @@ answers-own user at xs m may above =
     (ap (λ b. b && may_answer m && nat_lt at (length xs)) (eq-eqb user user refl)
     ∙ ap (λ b. true && b && nat_lt at (length xs)) may ∙ lt-ltb at (length xs) above)
 
+-- the user's own entry alone, which may answer, after the index
+pub answers-one : (user at n : ℕ) (m : Msg) → may_answer m ≡ true → at < n
+    → answers_from user at n (entry_of user m ∷ []) ≡ m ∷ []
+answers-one user at n m may above =
+    ap (λ b. (if b && may_answer m && nat_lt at n then m ∷ [] else []) ++ []) (eq-eqb user user refl)
+    ∙ ap (λ b. (if true && b && nat_lt at n then m ∷ [] else []) ++ []) may
+    ∙ ap (λ b. (if true && true && b then m ∷ [] else []) ++ []) (lt-ltb at n above)
+
 -- entries that are none of the user's answers leave them
 pub answers-same : (user at : ℕ) (xs ys : List Entry) → NoAnswers user ys
     → answers_from user at 0 (xs ++ ys) ≡ answers_from user at 0 xs
@@ -158,12 +166,18 @@ Answer [] (send ∷ sends) = ⊥
 Answer (m ∷ ms) [] = ⊥
 Answer (m ∷ ms) (send ∷ sends) = AnswersTo m send × Answer ms sends
 
-pub answer-push : (ms sends : List Msg) (m send : Msg) → Answer ms sends → AnswersTo m send
-    → Answer (ms ++ m ∷ []) (sends ++ send ∷ [])
-answer-push [] [] m send h one = (one, tt)
-answer-push [] (s ∷ sends) m send h one = absurd h
-answer-push (n ∷ ms) [] m send h one = absurd h
-answer-push (n ∷ ms) (s ∷ sends) m send h one = (h.0, answer-push ms sends m send h.1 one)
+pub answer-both : (ms sends more others : List Msg) → Answer ms sends → Answer more others
+    → Answer (ms ++ more) (sends ++ others)
+answer-both [] [] more others h k = k
+answer-both [] (s ∷ sends) more others h k = absurd h
+answer-both (n ∷ ms) [] more others h k = absurd h
+answer-both (n ∷ ms) (s ∷ sends) more others h k =
+    (h.0, answer-both ms sends more others h.1 k)
+
+-- what answers nothing is nothing
+pub answer-none : (ms : List Msg) → Answer ms [] → ms ≡ []
+answer-none [] h = refl
+answer-none (m ∷ ms) h = absurd h
 
 -- the send that the next answer answers, and what was said after it
 pub record Front (forked : List Msg) (m : Msg) : Type 0 where

@@ -1,73 +1,92 @@
 -- What is true of a client and the answers to its sends, and that its instructions keep it so.
 use Rattle.std.proofs.Common.{◌≡◌, ◌⊎◌, ℕ, zero, suc, ◌+◌, ◌<◌, ◌≤◌, ◌==◌, Bool, true, false, ◌&&◌}
-use Rattle.std.proofs.Common.{if◌then◌else◌}
-use Rattle.std.proofs.Common.{List, [], ◌∷◌, ◌++◌, length, drop, map, Option, None, Some, is_some}
+use Rattle.std.proofs.Common.{◌||◌, if◌then◌else◌}
+use Rattle.std.proofs.Common.{List, [], ◌∷◌, ◌++◌, length, take, drop, map, Option, None, Some}
+use Rattle.std.proofs.Common.{is_some}
 use Rattle.std.proofs.Common.{refl, sym, ap, subst, ◌∙◌, ⊎_elim, inl, inr, arith, append-nil}
 use Rattle.std.proofs.Common.{append_assoc, length-append, add-one}
-use Rattle.std.specs.Prelude.{option_to_list, nat_lt}
+use Rattle.std.specs.Prelude.{option_to_list, nat_lt, slice_index_or}
 use Rattle.std.specs.List.{slice_get, AllByRecursion}
-use Rattle.std.proofs.lemmas.Bool.{cases_Bool, eq-eqb, le-ltb, and_from}
+use Rattle.std.proofs.lemmas.Bool.{cases_Bool, cases_eq, cases_lt, eq-eqb, ne_eqb, le-ltb}
+use Rattle.std.proofs.lemmas.Bool.{and_from}
 use Rattle.std.proofs.lemmas.List.{drop-append-le}
-use Rattle.dp_msg_meta.specs.declared.message.Control.TheVariants.{Disconnect}
+use Rattle.dp_msg_draw.specs.declared.draw.Draw.{Draw}
+use Rattle.dp_msg_meta.specs.declared.message.Control.TheVariants.{Disconnect, Ack}
+use Rattle.dp_snap.specs.Resets.{reset_messages}
+use Rattle.dp_snap.specs.Snapshot.{snapshot}
 use Rattle.dp_messages.specs.declared.message.Msg.{Msg}
 use Rattle.dp_messages.specs.declared.message.Msg.TheVariants as msg
 use Rattle.dp_messages.specs.declared.message.Entry.{Entry}
 use Rattle.dp_messages.specs.Messages.{kind_of}
-use Rattle.dp_messages.specs.Properties.{is_disconnect, is_filtered, marked}
+use Rattle.dp_messages.specs.Properties.{is_disconnect, is_filtered, marked, carried_by}
 use Rattle.dp_messages.specs.Equality.{same_message}
 use Rattle.dp_client.specs.Client as client
-use Rattle.dp_client.specs.Client.{Took, is_first_mark, last_before, is_own_answer}
+use Rattle.dp_client.specs.Client.{Took, is_first_mark, carried_in, last_before, is_own_answer}
 use Rattle.dp_client.specs.Client.{may_answer, answered, own_of, fork_after}
 use Rattle.dp_client.specs.declared.own.Own.TheVariants.{Stranger, Echo, Dropped, Lost}
 use Rattle.dp_events.specs.declared.connection.Connection.{Connection}
 use Rattle.dp_events.specs.declared.event.Event.TheVariants as event
 use Rattle.dp_events.specs.declared.event.Reply.{Reply}
 use Rattle.dp_events.specs.declared.event.Reply.TheVariants as reply
-use Rattle.dp_epochs.specs.State.{State, open_connection, open_in, entry_of, epoch_of}
+use Rattle.dp_epochs.specs.State.{State, open_connection, has_acknowledged, epoch_of, history_of}
 use Rattle.dp_epochs.specs.Past.{state_of, sure_answer}
-use Rattle.dp_epochs.specs.Laws.{ShutBefore}
+use Rattle.dp_epochs.specs.Laws.{HasNoMark, IsHistory, AreHistories, ShutBefore}
 use Rattle.dp_schedule.specs.declared.action.Instruction.{Instruction}
-use Rattle.dp_schedule.specs.declared.action.Instruction.TheVariants.{Say, Up, Take, Leave, Cut}
+use Rattle.dp_schedule.specs.declared.action.Instruction.TheVariants.{Say, Up, Take, Reset}
+use Rattle.dp_schedule.specs.declared.action.Instruction.TheVariants.{Leave, Cut}
 use Rattle.dp_sim.specs.declared.participant.LinkState.{LinkState}
 use Rattle.dp_sim.specs.declared.participant.LinkState.TheVariants.{Connected, Leaving, Closed}
 use Rattle.dp_sim.specs.Exchanges.{Participant, Exchange, is_gone, disconnected, heard, uplink_sent}
 use Rattle.dp_sim.specs.Exchanges.{next_entry, acks, took_next, done, exchanged}
-use Rattle.dp_sim.specs.Invariant.{HasNoMark, IsHistory, IsParticipant, IsSayable, is_closed}
+use Rattle.dp_sim.specs.Invariant.{IsParticipant, IsSayable, is_closed}
 use Rattle.dp_sim_laws.specs.OwnSteps.{steps_of_deed, steps_of_turn}
 use Rattle.dp_sim_laws.specs.Tally.{Tally, no_sends, tally_step, tally_from, up_replies}
 use Rattle.dp_sim_laws.specs.Tally.{deed_replies, turn_replies}
-use Rattle.dp_sim_laws.proofs.Answering.{last_false, answers_from, answers-same, answers-own}
-use Rattle.dp_sim_laws.proofs.Answering.{answers-push, answers-at, NoAnswers}
-use Rattle.dp_sim_laws.proofs.Answering.{AnswersTo, Answer, answer-push, Front, front-of, split-at}
-use Rattle.dp_sim_laws.proofs.Answering.{drop-front}
-use Rattle.dp_sim_laws.proofs.Events.{HasPeople, Passes, NotThis, passes-not, passes-both}
-use Rattle.dp_sim_laws.proofs.Events.{Leading, NotEnded, passes-say, passes-close, answered-say}
+use Rattle.dp_sim_laws.proofs.Answering.{last_false, answers_from, answers-append, answers-same}
+use Rattle.dp_sim_laws.proofs.Answering.{answers-before, answers-none, answers-push, answers-at}
+use Rattle.dp_sim_laws.proofs.Answering.{NoAnswers, AnswersTo, Answer, answer-both, answer-none}
+use Rattle.dp_sim_laws.proofs.Answering.{Front, front-of, split-at, drop-front}
+use Rattle.dp_sim_laws.proofs.Events.{HasPeople, IsServerFirst, Passes, Grown, NotThis, Unheard}
+use Rattle.dp_sim_laws.proofs.Events.{unheard-more, passes-not, passes-both, Hears, HeardHere}
+use Rattle.dp_sim_laws.proofs.Events.{is_ack, is_send, sends_of}
+use Rattle.dp_sim_laws.proofs.Events.{Leading, passes-say, passes-close, hears-say}
+use Rattle.dp_sim_laws.proofs.Uplinks.{due, hears_more, MayStand, HasNoEnd, stands-high, high-send}
+use Rattle.dp_sim_laws.proofs.Uplinks.{no-ack, all-later, all-push, due-first, hears-first}
+use Rattle.dp_sim_laws.proofs.Uplinks.{all-both, all-reset, reset-messages, due-reset, hears-reset}
+use Rattle.dp_sim_laws.proofs.Uplinks.{due-push, hears-push, due-end, due-ack, hears-ack}
 
 -- no reply is Ended
 abbrev pub NeverEnds : List Reply → Type 0
 NeverEnds replies = AllByRecursion (λ answer. answer ≡ reply.Ended → ⊥) replies
 
--- what stands on the uplink of a client after its messages
-abbrev pub farewell : LinkState → List Msg
-farewell Connected = []
-farewell Leaving = msg.Control (Disconnect 0) ∷ []
-farewell Closed = []
+-- The sends of a client of the live epoch: those that the session has heard, each with its own
+-- answer in the history, and those that it is to hear from the uplink. Of the answers it has seen
+-- those that it has taken.
+pub record IsHere (epoch : ℕ) (live : List Entry) (ready : Bool) (p : Participant) (t : Tally)
+    : Type 0 where
+  pub base : last_before p.state < length live
+  pub sent : List Msg
+  pub sends : t.sends ≡ sent ++ due epoch ready p.uplink
+  pub answered : Answer (answers_from p.state.user (last_before p.state) 0 live) sent
+  pub taken : t.answers ≡ length (answers_from p.state.user (last_before p.state) 0 p.state.taken)
+  pub more : p.link ≡ Connected → hears_more epoch ready p.uplink ≡ true
 
--- The sends of a client that isn't closed: those that the session has heard, each with its own
--- answer in the history, and those that wait on the uplink. Of the answers it has seen those that
--- it has taken.
+-- a client of an earlier epoch: nothing that it says is heard, nor was since the live one opened
+pub record IsBehind (live : List Entry) (ready : Bool) (p : Participant) : Type 0 where
+  pub late : ready ≡ false
+  pub unheard : Unheard p.state.user live
+
+-- A client that isn't closed: its connection is open, and it is of the live epoch or behind.
 pub record Live (s : State) (number : ℕ) (p : Participant) (t : Tally) : Type 0 where
   pub connection : Connection
   pub found : open_connection s number ≡ Some connection
   pub user : connection.user ≡ p.state.user
-  pub joined : p.state.joined_at < length s.live
-  pub heard : List Msg
-  pub waits : List Msg
-  pub sends : t.sends ≡ heard ++ waits
-  pub uplink : p.uplink ≡ waits ++ farewell p.link
-  pub sayable : AllByRecursion (λ m. 32 ≤ kind_of m) waits
-  pub answered : Answer (answers_from p.state.user p.state.joined_at 0 s.live) heard
-  pub taken : t.answers ≡ length (answers_from p.state.user p.state.joined_at 0 p.state.taken)
+  pub known : p.state.epoch ≤ epoch_of s
+  pub stands : AllByRecursion (MayStand p.state.epoch) p.uplink
+  pub endless : p.link ≡ Connected → HasNoEnd p.uplink
+  pub here : p.state.epoch ≡ epoch_of s
+      → IsHere (epoch_of s) s.live (has_acknowledged s connection) p t
+  pub behind : p.state.epoch < epoch_of s → IsBehind s.live (has_acknowledged s connection) p
 
 -- the fork is the sends after as many as answers
 pub record Holds (s : State) (number : ℕ) (p : Participant) (t : Tally) : Type 0 where
@@ -80,40 +99,87 @@ pub record Holds (s : State) (number : ℕ) (p : Participant) (t : Tally) : Type
 longer : (xs ys zs : List Entry) (n : ℕ) → zs ≡ xs ++ ys → n < length xs → n < length zs
 longer xs ys zs n is below = omega (arith, ap length is, length-append xs ys)
 
-live-passes : (s u : State) (Others : ℕ → Type 0) (number : ℕ) (p : Participant) (t : Tally)
-    → Passes s Others u → Others number
-    → Live s number p t → Live u number p t
-live-passes s u Others number p t passes other h =
-    let strange : NoAnswers p.state.user passes.more =
-    subst (λ user. NoAnswers user passes.more) h.user (passes.strange number h.connection other
-    h.found) in
-    let same : answers_from p.state.user p.state.joined_at 0 u.live
-    ≡ answers_from p.state.user p.state.joined_at 0 s.live =
-    ap (answers_from p.state.user p.state.joined_at 0) passes.live
-    ∙ answers-same p.state.user p.state.joined_at s.live passes.more strange in
+here-grown : (epoch : ℕ) (live more now : List Entry) (ready : Bool) (p : Participant) (t : Tally)
+    → now ≡ live ++ more → NoAnswers p.state.user more → IsHere epoch live ready p t
+    → IsHere epoch now ready p t
+here-grown epoch live more now ready p t is strange h =
+    let same : answers_from p.state.user (last_before p.state) 0 now
+    ≡ answers_from p.state.user (last_before p.state) 0 live =
+    ap (answers_from p.state.user (last_before p.state) 0) is
+    ∙ answers-same p.state.user (last_before p.state) live more strange in
     record {
-      connection = h.connection;
-      found = passes.stay number h.connection other h.found;
-      user = h.user;
-      joined = longer s.live passes.more u.live p.state.joined_at passes.live h.joined;
-      heard = h.heard;
-      waits = h.waits;
+      base = longer live more now (last_before p.state) is h.base;
+      sent = h.sent;
       sends = h.sends;
-      uplink = h.uplink;
-      sayable = h.sayable;
-      answered = subst (λ ms. Answer ms h.heard) (sym same) h.answered;
+      answered = subst (λ ms. Answer ms h.sent) (sym same) h.answered;
       taken = h.taken;
+      more = h.more;
     }
 
+behind-grown : (live more now : List Entry) (ready : Bool) (p : Participant)
+    → now ≡ live ++ more → NoAnswers p.state.user more → IsBehind live ready p
+    → IsBehind now ready p
+behind-grown live more now ready p is strange h = record {
+  late = h.late;
+  unheard = subst (Unheard p.state.user) (sym is)
+      (unheard-more p.state.user live more h.unheard
+      (λ at n below. answers-none p.state.user at n more strange));
+}
+
+module _ (s u : State) (Others : ℕ → Type 0) (number : ℕ) (p : Participant) (t : Tally)
+    (people : HasPeople s) (passes : Passes s Others u) (other : Others number)
+    (h : Live s number p t) where
+  -- none of the entries that come while the epoch stays answers the client
+  strange-here : (grown : Grown s Others u) → NoAnswers p.state.user grown.more
+  strange-here grown = subst (λ user. NoAnswers user grown.more) h.user
+      (grown.strange number h.connection other h.found)
+
+  here-passes : p.state.epoch ≡ epoch_of u
+      → IsHere (epoch_of u) u.live (has_acknowledged u h.connection) p t
+  here-passes at =
+      let same : epoch_of u ≡ epoch_of s = omega (arith, at, h.known, passes.epochs) in
+      let grown = passes.same same in
+      subst (λ epoch. IsHere epoch u.live (h.connection.acknowledged == epoch) p t) (sym same)
+      (here-grown (epoch_of s) s.live grown.more u.live (has_acknowledged s h.connection) p t
+      grown.live (strange-here grown) (h.here (at ∙ same)))
+
+  behind-passes : p.state.epoch < epoch_of u
+      → IsBehind u.live (has_acknowledged u h.connection) p
+  behind-passes below =
+      ⊎_elim (λ (same : epoch_of u ≡ epoch_of s).
+      let grown = passes.same same in
+      subst (λ epoch. IsBehind u.live (h.connection.acknowledged == epoch) p) (sym same)
+      (behind-grown s.live grown.more u.live (has_acknowledged s h.connection) p grown.live
+      (strange-here grown) (h.behind (omega (arith, below, same)))))
+      (λ (ne : epoch_of u ≡ epoch_of s → ⊥).
+      let less : epoch_of s < epoch_of u = omega (arith, ne, passes.epochs) in
+      record {
+        late = ne_eqb h.connection.acknowledged (epoch_of u) (λ same. omega
+            (arith, same, less, people.connections.known number h.connection h.found));
+        unheard = subst (λ user. Unheard user u.live) h.user
+            (passes.later less number h.connection other h.found);
+      })
+      (cases_eq (epoch_of u) (epoch_of s))
+
+  live-passes : Live u number p t
+  live-passes = record {
+    connection = h.connection;
+    found = passes.stay number h.connection other h.found;
+    user = h.user;
+    known = omega (arith, h.known, passes.epochs);
+    stands = h.stands;
+    endless = h.endless;
+    here = here-passes;
+    behind = behind-passes;
+  }
+
 pub holds-passes : (s u : State) (Others : ℕ → Type 0) (number : ℕ) (p : Participant) (t : Tally)
-    → Passes s Others u → Others number
-    → Holds s number p t → Holds u number p t
-holds-passes s u Others number p t passes other h =
+    → HasPeople s → Passes s Others u → Others number → Holds s number p t → Holds u number p t
+holds-passes s u Others number p t people passes other h =
     record {
       few = h.few;
       fork = h.fork;
-      live = λ here. live-passes s u Others number p t passes
-          other (h.live here);
+      live = λ here. live-passes s u Others number p t people passes other (h.live here);
     }
 
 -- ---- the events of an exchange
@@ -157,6 +223,8 @@ done-passes laws t Take before people goes =
     subst (λ past. Passes (state_of t.past) (NotThis t.participant.conn) (state_of past))
     (sym (next-past t (next_entry t)))
     (passes-not (state_of t.past) (NotThis t.participant.conn) people)
+done-passes laws t Reset before people goes = passes-not (state_of t.past)
+    (NotThis t.participant.conn) people
 done-passes laws t Leave before people goes = passes-not (state_of t.past)
     (NotThis t.participant.conn) people
 done-passes laws t Cut before people goes = passes-close laws t.past t.participant.conn before
@@ -185,37 +253,46 @@ unmarked-at (y ∷ xs) zero x h is = let same : y ≡ x = cc in subst (λ z. mar
     h.0
 unmarked-at (y ∷ xs) (suc i) x h is = unmarked-at xs i x h.1 is
 
-mark-first : (live : List Entry) (x : Entry) → IsHistory 0 live → slice_get live 0 ≡ Some x
-    → marked x.msg ≡ Some 0
-mark-first [] x h is = absurd h
-mark-first (y ∷ live) x h is = let same : y ≡ x = cc in subst (λ z. marked z.msg ≡ Some 0) same h.0
+live-is : (s : State) → history_of s (epoch_of s) ≡ s.live
+live-is s = last_item s.ended s.live
+  where
+    last_item : (hs : List (List Entry)) (h : List Entry)
+        → slice_index_or (hs ++ h ∷ []) (length hs) [] ≡ h
+    last_item [] h = refl
+    last_item (x ∷ hs) h = last_item hs h
 
-mark-none : (live : List Entry) (i : ℕ) (x : Entry) → IsHistory 0 live
+-- the live history is that of the live epoch, so it begins with its mark and has no other
+live-history : (s : State) → AreHistories s → IsHistory (epoch_of s) s.live
+live-history s marked =
+    subst (IsHistory (epoch_of s)) (live-is s) (marked (epoch_of s) (omega arith))
+
+mark-first : (epoch : ℕ) (live : List Entry) (x : Entry) → IsHistory epoch live
+    → slice_get live 0 ≡ Some x → marked x.msg ≡ Some epoch
+mark-first epoch [] x h is = absurd h
+mark-first epoch (y ∷ live) x h is =
+    let same : y ≡ x = cc in subst (λ z. marked z.msg ≡ Some epoch) same h.0
+
+mark-none : (epoch : ℕ) (live : List Entry) (i : ℕ) (x : Entry) → IsHistory epoch live
     → slice_get live (suc i) ≡ Some x → marked x.msg ≡ None
-mark-none [] i x h is = absurd h
-mark-none (y ∷ live) i x h is = unmarked-at live i x h.1 is
+mark-none epoch [] i x h is = absurd h
+mark-none epoch (y ∷ live) i x h is = unmarked-at live i x h.1 is
 
--- the entry after those that are taken is the next one
-pub next-is : (t : Exchange) → t.participant.state.epoch ≡ 0 → (state_of t.past).ended ≡ []
-    → slice_get (state_of t.past).live (length t.participant.state.taken) ≡ next_entry t
-next-is t epoch ended =
-    let same : t.participant.state.epoch ≡ epoch_of (state_of t.past) = epoch
-    ∙ sym (ap length ended) in
-    sym (ap (λ b. slice_get (state_of t.past).live (if b then length t.participant.state.taken
-    else 0))
-    (eq-eqb t.participant.state.epoch (epoch_of (state_of t.past)) same))
+-- the next entry, by whether the client is of the live epoch
+next-here : (s : State) (c : client.State) (o : Option Entry) → c.epoch ≡ epoch_of s
+    → slice_get s.live (if c.epoch == epoch_of s then length c.taken else 0) ≡ o
+    → slice_get s.live (length c.taken) ≡ o
+next-here s c o here is =
+    sym (ap (λ b. slice_get s.live (if b then length c.taken else 0))
+    (eq-eqb c.epoch (epoch_of s) here)) ∙ is
+
+next-behind : (s : State) (c : client.State) (o : Option Entry) → c.epoch < epoch_of s
+    → slice_get s.live (if c.epoch == epoch_of s then length c.taken else 0) ≡ o
+    → slice_get s.live 0 ≡ o
+next-behind s c o less is =
+    sym (ap (λ b. slice_get s.live (if b then length c.taken else 0))
+    (ne_eqb c.epoch (epoch_of s) (λ same. omega (arith, same, less)))) ∙ is
 
 -- ---- taking
-
--- what an entry is to a client of epoch 0
-own-is : (c : client.State) (entry : Entry) → c.epoch ≡ 0 → c.joined_epoch ≡ 0
-    → is_own_answer c entry ≡ (entry.user == c.user && may_answer entry.msg
-    && nat_lt c.joined_at (length c.taken))
-own-is c entry epoch joined =
-    let same : last_before c ≡ c.joined_at =
-    ap (λ b. if b then c.joined_at else client.carried_in c.taken)
-    (eq-eqb c.epoch c.joined_epoch (epoch ∙ sym joined)) in
-    ap (λ n. entry.user == c.user && may_answer entry.msg && nat_lt n (length c.taken)) same
 
 -- the client with one more entry
 abbrev more_of : client.State → Entry → client.State
@@ -225,20 +302,54 @@ more_of c entry = record c {
       c.fork;
 }
 
-took-first : (c : client.State) (entry : Entry) → c.epoch ≡ 0 → c.joined_epoch ≡ 0 → c.taken ≡ []
-    → marked entry.msg ≡ Some 0
+-- the client that has taken the mark of a later epoch
+abbrev opened_of : client.State → ℕ → Entry → client.State
+opened_of c epoch entry = record c { epoch = epoch; taken = entry ∷ []; fork = [] }
+
+-- what is known of a client's epoch
+record IsOf (c : client.State) : Type 0 where
+  began : c.joined_epoch ≤ c.epoch
+  entered : c.joined_epoch < c.epoch → 0 < length c.taken
+
+first-joined : (c : client.State) → IsOf c → c.taken ≡ [] → c.joined_epoch ≡ c.epoch
+first-joined c h none =
+    ⊎_elim (λ (less : c.joined_epoch < c.epoch).
+    absurd (omega (arith, h.entered less, ap length none)))
+    (λ (more : c.epoch ≤ c.joined_epoch). omega (arith, more, h.began))
+    (cases_lt c.joined_epoch c.epoch)
+
+-- one more entry leaves where own answers stand
+base-stays : (c : client.State) (entry : Entry) → IsOf c
+    → last_before (more_of c entry) ≡ last_before c
+base-stays c entry h = by_taken c.taken refl
+  where
+    by_taken : (taken : List Entry) → c.taken ≡ taken
+        → (if c.epoch == c.joined_epoch then c.joined_at else carried_in (c.taken ++ entry ∷ []))
+        ≡ (if c.epoch == c.joined_epoch then c.joined_at else carried_in c.taken)
+    by_taken [] is =
+        let same : (c.epoch == c.joined_epoch) ≡ true =
+        eq-eqb c.epoch c.joined_epoch (sym (first-joined c h is)) in
+        ap (λ b. if b then c.joined_at else carried_in (c.taken ++ entry ∷ [])) same
+        ∙ sym (ap (λ b. if b then c.joined_at else carried_in c.taken) same)
+    by_taken (x ∷ xs) is =
+        ap (λ ys. if c.epoch == c.joined_epoch then c.joined_at
+        else carried_in (ys ++ entry ∷ [])) is
+        ∙ sym (ap (λ ys. if c.epoch == c.joined_epoch then c.joined_at else carried_in ys) is)
+
+took-first : (c : client.State) (entry : Entry) → IsOf c → c.taken ≡ []
+    → marked entry.msg ≡ Some c.epoch
     → (client.took c entry ≡ more_of c entry) × ((client.taken_of c entry).ack ≡ None)
-took-first c entry epoch joined none mark =
+took-first c entry h none mark =
     let empty : length c.taken ≡ 0 = ap length none in
-    let first : is_first_mark c 0 ≡ true =
-    and_from (length c.taken == 0) (0 == c.joined_epoch) (eq-eqb (length c.taken) 0 empty)
-    (eq-eqb 0 c.joined_epoch (sym joined)) in
+    let first : is_first_mark c c.epoch ≡ true =
+    and_from (length c.taken == 0) (c.epoch == c.joined_epoch) (eq-eqb (length c.taken) 0 empty)
+    (eq-eqb c.epoch c.joined_epoch (sym (first-joined c h none))) in
     let strange : is_own_answer c entry ≡ false =
-    own-is c entry epoch joined
-    ∙ last_false (entry.user == c.user) (may_answer entry.msg) (nat_lt c.joined_at (length c.taken))
-    (le-ltb c.joined_at (length c.taken) (omega (arith, empty))) in
+    last_false (entry.user == c.user) (may_answer entry.msg)
+    (nat_lt (last_before c) (length c.taken))
+    (le-ltb (last_before c) (length c.taken) (omega (arith, empty))) in
     let one : client.State = record c { taken = entry ∷ [] } in
-    let other : client.State = record c { epoch = 0; taken = entry ∷ []; fork = [] } in
+    let other : client.State = record c { taken = entry ∷ []; fork = [] } in
     let is : client.took c entry ≡ one =
     ap (λ m. client.took_at m c entry) mark ∙ ap (λ b. if b then one else other) first in
     let more : more_of c entry ≡ one =
@@ -249,25 +360,44 @@ took-first c entry epoch joined none mark =
     ∙ ap (λ taken. record c { taken = taken ++ entry ∷ [] }) none in (
       is ∙ sym more,
       ap (λ m. (client.taken_at m c).ack) mark
-          ∙ ap (λ b. if b then None else Some 0) first,
+          ∙ ap (λ b. if b then None else Some c.epoch) first,
     )
 
-took-is : (live : List Entry) (c : client.State) (entry : Entry) → IsHistory 0 live → c.epoch ≡ 0
-    → c.joined_epoch ≡ 0
+-- the next entry of the client's epoch
+took-is : (live : List Entry) (c : client.State) (entry : Entry) → IsHistory c.epoch live → IsOf c
     → slice_get live (length c.taken) ≡ Some entry
     → (client.took c entry ≡ more_of c entry) × ((client.taken_of c entry).ack ≡ None)
-took-is live c entry history epoch joined there = by_taken c.taken refl
+took-is live c entry history h there = by_taken c.taken refl
   where
     by_taken : (taken : List Entry) → c.taken ≡ taken → (client.took c entry ≡ more_of c entry)
         × ((client.taken_of c entry).ack ≡ None)
     by_taken [] is =
-        took-first c entry epoch joined is
-        (mark-first live entry history (subst (λ xs. slice_get live (length xs) ≡ Some entry) is
-        there))
+        took-first c entry h is
+        (mark-first c.epoch live entry history
+        (subst (λ xs. slice_get live (length xs) ≡ Some entry) is there))
     by_taken (x ∷ xs) is =
-        let mark = mark-none live (length xs) entry history
+        let mark = mark-none c.epoch live (length xs) entry history
         (subst (λ ys. slice_get live (length ys) ≡ Some entry) is there) in
         (ap (λ m. client.took_at m c entry) mark, ap (λ m. (client.taken_at m c).ack) mark)
+
+-- the mark of a later epoch
+took-later : (c : client.State) (epoch : ℕ) (entry : Entry) → IsOf c → c.epoch < epoch
+    → marked entry.msg ≡ Some epoch
+    → (client.took c entry ≡ opened_of c epoch entry)
+    × ((client.taken_of c entry).ack ≡ Some epoch)
+took-later c epoch entry h less mark =
+    let other : is_first_mark c epoch ≡ false =
+    second_false (length c.taken == 0) (epoch == c.joined_epoch)
+    (ne_eqb epoch c.joined_epoch (λ same. omega (arith, same, less, h.began))) in
+    let one : client.State = record c { taken = entry ∷ [] } in (
+      ap (λ m. client.took_at m c entry) mark
+          ∙ ap (λ b. if b then one else opened_of c epoch entry) other,
+      ap (λ m. (client.taken_at m c).ack) mark ∙ ap (λ b. if b then None else Some epoch) other,
+    )
+  where
+    second_false : (a b : Bool) → b ≡ false → (a && b) ≡ false
+    second_false true b is = is
+    second_false false b is = refl
 
 -- the answer to the first send of a fork
 own-front : Leading → (fork : List Msg) (m send : Msg) (rest : List Msg) → fork ≡ send ∷ rest
@@ -288,26 +418,27 @@ own-front laws fork m send rest is answers =
     (cases_Bool (is_filtered m))
 
 -- the send that an own answer answers is the first of the fork
-next-front : (s : State) (number : ℕ) (p : Participant) (t : Tally) (entry : Entry)
-    → IsParticipant s number p → Live s number p t
-    → slice_get s.live (length p.state.taken) ≡ Some entry → is_own_answer p.state entry ≡ true
+next-front : (epoch : ℕ) (live : List Entry) (ready : Bool) (p : Participant) (t : Tally)
+    (entry : Entry) → p.state.taken ≡ take (length p.state.taken) live
+    → IsHere epoch live ready p t
+    → slice_get live (length p.state.taken) ≡ Some entry → is_own_answer p.state entry ≡ true
     → Front (drop t.answers t.sends) entry.msg
-next-front s number p t entry hp h there own =
+next-front epoch live ready p t entry front h there own =
     let c = p.state in
-    let behind = drop (suc (length c.taken)) s.live in
-    let whole : s.live ≡ c.taken ++ entry ∷ behind =
-    split-at s.live (length c.taken) entry there ∙ ap (λ xs. xs ++ entry ∷ behind) (sym hp.front) in
-    let before = answers_from c.user c.joined_at 0 c.taken in
-    let more = answers_from c.user c.joined_at (length c.taken + 1) behind in
-    let all : answers_from c.user c.joined_at 0 s.live ≡ before ++ entry.msg ∷ more =
-    ap (answers_from c.user c.joined_at 0) whole
-    ∙ answers-at c.user c.joined_at c.taken entry behind
-    (sym (own-is c entry hp.epoch hp.joined) ∙ own) in
-    let front : Front (drop (length before) (h.heard ++ h.waits)) entry.msg =
-    front-of before entry.msg more h.heard h.waits (subst (λ ms. Answer ms h.heard) all h.answered)
+    let at = last_before c in
+    let behind = drop (suc (length c.taken)) live in
+    let whole : live ≡ c.taken ++ entry ∷ behind =
+    split-at live (length c.taken) entry there ∙ ap (λ xs. xs ++ entry ∷ behind) (sym front) in
+    let before = answers_from c.user at 0 c.taken in
+    let more = answers_from c.user at (length c.taken + 1) behind in
+    let all : answers_from c.user at 0 live ≡ before ++ entry.msg ∷ more =
+    ap (answers_from c.user at 0) whole ∙ answers-at c.user at c.taken entry behind own in
+    let waits = due epoch ready p.uplink in
+    let first : Front (drop (length before) (h.sent ++ waits)) entry.msg =
+    front-of before entry.msg more h.sent waits (subst (λ ms. Answer ms h.sent) all h.answered)
     in
     subst (λ n. Front (drop n t.sends) entry.msg) (sym h.taken)
-    (subst (λ sends. Front (drop (length before) sends) entry.msg) (sym h.sends) front)
+    (subst (λ sends. Front (drop (length before) sends) entry.msg) (sym h.sends) first)
 
 -- the tally after an own answer, or another entry
 abbrev tally_if : Bool → Tally → Tally
@@ -323,26 +454,22 @@ peer_if b p entry = record p {
   uplink = p.uplink ++ [];
 }
 
-live-took : (s : State) (number : ℕ) (p : Participant) (t : Tally) (entry : Entry) (b : Bool)
-    → IsParticipant s number p
-    → is_own_answer p.state entry ≡ b → Live s number p t
-    → Live s number (peer_if b p entry) (tally_if b t)
-live-took s number p t entry b hp own h =
+here-took : (epoch : ℕ) (live : List Entry) (ready : Bool) (p : Participant) (t : Tally)
+    (entry : Entry) (b : Bool) → IsOf p.state → is_own_answer p.state entry ≡ b
+    → IsHere epoch live ready p t → IsHere epoch live ready (peer_if b p entry) (tally_if b t)
+here-took epoch live ready p t entry b of own h =
     let c = p.state in
-    let push = answers-push c.user c.joined_at c.taken entry b
-    (sym (own-is c entry hp.epoch hp.joined) ∙ own) in
+    let at = last_before c in
+    let stays : last_before (peer_if b p entry).state ≡ at = base-stays c entry of in
+    let push = answers-push c.user at c.taken entry b own in
     record {
-      connection = h.connection;
-      found = h.found;
-      user = h.user;
-      joined = h.joined;
-      heard = h.heard;
-      waits = h.waits;
-      sends = sends b ∙ h.sends;
-      uplink = append-nil p.uplink ∙ h.uplink;
-      sayable = h.sayable;
-      answered = h.answered;
-      taken = counted b (answers_from c.user c.joined_at 0 c.taken) h.taken ∙ sym (ap length push);
+      base = omega (arith, stays, h.base);
+      sent = h.sent;
+      sends = sends b ∙ h.sends ∙ sym (ap (λ ms. h.sent ++ due epoch ready ms) (append-nil p.uplink));
+      answered = subst (λ n. Answer (answers_from c.user n 0 live) h.sent) (sym stays) h.answered;
+      taken = counted b (answers_from c.user at 0 c.taken) h.taken ∙ sym (ap length push)
+          ∙ sym (ap (λ n. length (answers_from c.user n 0 (c.taken ++ entry ∷ []))) stays);
+      more = λ on. ap (hears_more epoch ready) (append-nil p.uplink) ∙ h.more on;
     }
   where
     sends : (b : Bool) → (tally_if b t).sends ≡ t.sends
@@ -354,6 +481,21 @@ live-took s number p t entry b hp own h =
     counted true ms is = omega (arith, is, length-append ms (entry.msg ∷ []))
     counted false ms is = is ∙ sym (ap length (append-nil ms))
 
+live-took : (s : State) (number : ℕ) (p : Participant) (t : Tally) (entry : Entry) (b : Bool)
+    → IsOf p.state → p.state.epoch ≡ epoch_of s → is_own_answer p.state entry ≡ b
+    → Live s number p t → Live s number (peer_if b p entry) (tally_if b t)
+live-took s number p t entry b of at own h = record {
+  connection = h.connection;
+  found = h.found;
+  user = h.user;
+  known = h.known;
+  stands = subst (AllByRecursion (MayStand p.state.epoch)) (sym (append-nil p.uplink)) h.stands;
+  endless = λ on. subst HasNoEnd (sym (append-nil p.uplink)) (h.endless on);
+  here = λ same. here-took (epoch_of s) s.live (has_acknowledged s h.connection) p t entry b of own
+      (h.here at);
+  behind = λ less. absurd (omega (arith, less, at));
+}
+
 fork-front : (fork : List Msg) (m send : Msg) (rest : List Msg) → fork ≡ send ∷ rest
     → (answered fork m ≡ Dropped) ⊎ (answered fork m ≡ Echo)
     → fork_after (answered fork m) fork ≡ rest
@@ -363,13 +505,15 @@ fork-front fork m send rest is own =
     (λ (echo : answered fork m ≡ Echo). ap (λ o. fork_after o fork) echo ∙ ap (drop 1) is) own
 
 holds-own : Leading → (s : State) (number : ℕ) (p : Participant) (t : Tally) (entry : Entry)
-    (b : Bool) → IsParticipant s number p
-    → is_closed p.link ≡ false → slice_get s.live (length p.state.taken) ≡ Some entry
+    (b : Bool) → IsOf p.state → p.state.taken ≡ take (length p.state.taken) s.live
+    → is_closed p.link ≡ false → p.state.epoch ≡ epoch_of s
+    → slice_get s.live (length p.state.taken) ≡ Some entry
     → is_own_answer p.state entry ≡ b → Holds s number p t
     → Holds s number (peer_if b p entry) (tally_if b t)
-holds-own laws s number p t entry true hp here there own h =
-    let live = h.live here in
-    let front = next-front s number p t entry hp live there own in
+holds-own laws s number p t entry true of prefix up at there own h =
+    let live = h.live up in
+    let front = next-front (epoch_of s) s.live (has_acknowledged s live.connection) p t entry prefix
+    (live.here at) there own in
     let fork : p.state.fork ≡ front.send ∷ front.rest = h.fork ∙ front.is in
     let rest = drop-front t.answers t.sends front.send front.rest front.is in
     record {
@@ -377,45 +521,135 @@ holds-own laws s number p t entry true hp here there own h =
       fork = fork-front p.state.fork entry.msg front.send front.rest fork
           (own-front laws p.state.fork entry.msg front.send front.rest fork front.answers)
           ∙ sym rest.1 ∙ ap (λ n. drop n t.sends) (sym (add-one t.answers));
-      live = λ up. live-took s number p t entry true hp own live;
+      live = λ still. live-took s number p t entry true of at own live;
     }
-holds-own laws s number p t entry false hp here there own h =
+holds-own laws s number p t entry false of prefix up at there own h =
     record {
       few = h.few;
       fork = h.fork;
-      live = λ up. live-took s number p t entry false hp own
-          (h.live here);
+      live = λ still. live-took s number p t entry false of at own (h.live up);
     }
 
-holds-took : Leading → (s : State) (number : ℕ) (p : Participant) (t : Tally) (entry : Entry)
-    → IsHistory 0 s.live
-    → IsParticipant s number p → is_closed p.link ≡ false
-    → slice_get s.live (length p.state.taken) ≡ Some entry
+-- the client that takes an entry, and acknowledges this
+abbrev took_with : Participant → client.State → Option ℕ → Participant
+took_with p c ack = record p { state = c; uplink = p.uplink ++ acks ack }
+
+is-of : (s : State) (number : ℕ) (p : Participant) → IsParticipant s number p → IsOf p.state
+is-of s number p hp = record { began = hp.began; entered = hp.entered }
+
+-- what a client of the live epoch has taken is a prefix of the live history
+prefix-here : (s : State) (number : ℕ) (p : Participant) → IsParticipant s number p
+    → p.state.epoch ≡ epoch_of s → p.state.taken ≡ take (length p.state.taken) s.live
+prefix-here s number p hp at =
+    hp.front ∙ ap (take (length p.state.taken)) (ap (history_of s) at ∙ live-is s)
+
+-- an entry of the client's epoch
+holds-took-here : Leading → (s : State) (number : ℕ) (p : Participant) (t : Tally) (entry : Entry)
+    → AreHistories s → IsParticipant s number p → is_closed p.link ≡ false
+    → p.state.epoch ≡ epoch_of s → slice_get s.live (length p.state.taken) ≡ Some entry
     → Holds s number p t
-    → Holds s number (record p {
-      state = client.took p.state entry;
-      uplink = p.uplink ++ acks (client.taken_of p.state entry).ack;
-    }) (tally_step p.state t (Took entry))
-holds-took laws s number p t entry history hp here there h =
+    → Holds s number (took_with p (client.took p.state entry) (client.taken_of p.state entry).ack)
+    (tally_step p.state t (Took entry))
+holds-took-here laws s number p t entry marked hp up at there h =
     let c = p.state in
-    let is = took-is s.live c entry history hp.epoch hp.joined there in
+    let history = subst (λ n. IsHistory n s.live) (sym at) (live-history s marked) in
+    let of = is-of s number p hp in
+    let is = took-is s.live c entry history of there in
     let Goal : Option ℕ → client.State → Type 0 =
-    λ ack d. Holds s number (record p { state = d; uplink = p.uplink ++ acks ack })
+    λ ack d. Holds s number (took_with p d ack)
     (if is_some ack then no_sends else tally_if (is_own_answer c entry) t) in
     subst (λ ack. Goal ack (client.took c entry)) (sym is.1)
-    (subst (Goal None) (sym is.0) (holds-own laws s number p t entry (is_own_answer c entry) hp here
-    there refl h))
+    (subst (Goal None) (sym is.0) (holds-own laws s number p t entry (is_own_answer c entry) of
+    (prefix-here s number p hp at) up at there refl h))
+
+-- the mark of the live epoch, which is new to the client
+here-opened : (s : State) (connection : Connection) (p : Participant) (entry : Entry)
+    → IsOf p.state → p.state.epoch < epoch_of s → slice_get s.live 0 ≡ Some entry
+    → AllByRecursion (MayStand p.state.epoch) p.uplink
+    → (p.link ≡ Connected → HasNoEnd p.uplink)
+    → IsBehind s.live (has_acknowledged s connection) p
+    → IsHere (epoch_of s) s.live (has_acknowledged s connection)
+    (took_with p (opened_of p.state (epoch_of s) entry) (Some (epoch_of s))) no_sends
+here-opened s connection p entry of less there stands endless h =
+    let c = p.state in
+    let e = epoch_of s in
+    let ready = has_acknowledged s connection in
+    let d = opened_of c e entry in
+    let base : last_before d ≡ carried_in s.live =
+    ap (λ b. if b then c.joined_at else carried_in (entry ∷ []))
+    (ne_eqb e c.joined_epoch (λ same. omega (arith, same, less, of.began)))
+    ∙ carried-first s.live entry there in
+    record {
+      base = omega (arith, base, h.unheard.base);
+      sent = [];
+      sends = sym (ap (λ b. due e b (p.uplink ++ acks (Some e))) h.late
+          ∙ due-ack e c.epoch p.uplink less stands);
+      answered = subst (λ ms. Answer ms []) (sym (ap (λ n. answers_from c.user n 0 s.live) base
+          ∙ h.unheard.none)) tt;
+      taken = sym (ap length (answers-before c.user (last_before d) 0 (entry ∷ []) (omega arith)));
+      more = λ on. hears-ack e ready p.uplink (endless on);
+    }
+  where
+    carried-first : (live : List Entry) (x : Entry) → slice_get live 0 ≡ Some x
+        → carried_in (x ∷ []) ≡ carried_in live
+    carried-first [] x is = cc
+    carried-first (y ∷ live) x is = let same : y ≡ x = cc in
+        sym (ap (λ z. carried_by z.msg) same)
+
+holds-took-later : (s : State) (number : ℕ) (p : Participant) (t : Tally) (entry : Entry)
+    → AreHistories s → IsParticipant s number p → is_closed p.link ≡ false
+    → p.state.epoch < epoch_of s → slice_get s.live 0 ≡ Some entry → Holds s number p t
+    → Holds s number (took_with p (client.took p.state entry) (client.taken_of p.state entry).ack)
+    (tally_step p.state t (Took entry))
+holds-took-later s number p t entry marked hp up less there h =
+    let c = p.state in
+    let e = epoch_of s in
+    let of = is-of s number p hp in
+    let mark = mark-first e s.live entry (live-history s marked) there in
+    let is = took-later c e entry of less mark in
+    let Goal : Option ℕ → client.State → Type 0 =
+    λ ack d. Holds s number (took_with p d ack)
+    (if is_some ack then no_sends else tally_if (is_own_answer c entry) t) in
+    let live = h.live up in
+    let new : Goal (Some e) (opened_of c e entry) =
+    record {
+      few = omega arith;
+      fork = refl;
+      live = λ still. record {
+        connection = live.connection;
+        found = live.found;
+        user = live.user;
+        known = omega arith;
+        stands = all-push (MayStand e) p.uplink (msg.Control (Ack e))
+            (all-later c.epoch e p.uplink (omega (arith, less)) live.stands) (omega arith);
+        endless = λ on. all-push (λ m. is_disconnect m ≡ false) p.uplink (msg.Control (Ack e))
+            (live.endless on) refl;
+        here = λ same. here-opened s live.connection p entry of less there live.stands
+            live.endless (live.behind less);
+        behind = λ below. absurd (omega (arith, below));
+      };
+    } in
+    subst (λ ack. Goal ack (client.took c entry)) (sym is.1)
+    (subst (Goal (Some e)) (sym is.0) new)
 
 holds-next : Leading → (number : ℕ) (t : Exchange) (tally : Tally) (o : Option Entry)
-    → IsHistory 0 (state_of t.past).live
     → IsParticipant (state_of t.past) number t.participant → is_closed t.participant.link ≡ false
-    → slice_get (state_of t.past).live (length t.participant.state.taken) ≡ o
-    → Holds (state_of t.past) number t.participant tally
+    → next_entry t ≡ o → Holds (state_of t.past) number t.participant tally
     → Holds (state_of (took_next t o).past) number (took_next t o).participant
     (tally_from t.participant.state tally (map Took (option_to_list o)))
-holds-next laws number t tally None history hp here there h = h
-holds-next laws number t tally (Some entry) history hp here there h =
-    holds-took laws (state_of t.past) number t.participant tally entry history hp here there h
+holds-next laws number t tally None hp up there h = h
+holds-next laws number t tally (Some entry) hp up there h =
+    let s = state_of t.past in
+    let p = t.participant in
+    let marked = laws.marked t.past in
+    ⊎_elim (λ (at : p.state.epoch ≡ epoch_of s).
+    holds-took-here laws s number p tally entry marked hp up at
+    (next-here s p.state (Some entry) at there) h)
+    (λ (ne : p.state.epoch ≡ epoch_of s → ⊥).
+    let less : p.state.epoch < epoch_of s = omega (arith, ne, hp.known) in
+    holds-took-later s number p tally entry marked hp up less
+    (next-behind s p.state (Some entry) less there) h)
+    (cases_eq p.state.epoch (epoch_of s))
 
 -- ---- saying
 
@@ -423,6 +657,11 @@ gone-say : (p : LinkState) (m : Msg) → is_gone p (Say m) ≡ false → p ≡ C
 gone-say Connected m h = refl
 gone-say Leaving m h = cc
 gone-say Closed m h = cc
+
+gone-reset : (p : LinkState) → is_gone p Reset ≡ false → p ≡ Connected
+gone-reset Connected h = refl
+gone-reset Leaving h = cc
+gone-reset Closed h = cc
 
 gone-leave : (p : LinkState) → is_gone p Leave ≡ false → p ≡ Connected
 gone-leave Connected h = refl
@@ -434,70 +673,127 @@ not-gone Connected d h = refl
 not-gone Leaving d h = refl
 not-gone Closed d h = cc
 
-sayable-push : (ms : List Msg) (m : Msg) → AllByRecursion (λ n. 32 ≤ kind_of n) ms → 32 ≤ kind_of m
-    → AllByRecursion (λ n. 32 ≤ kind_of n) (ms ++ m ∷ [])
-sayable-push [] m h one = (one, tt)
-sayable-push (n ∷ ms) m h one = (h.0, sayable-push ms m h.1 one)
-
--- the messages on the uplink of a client that is present
-present-uplink : (s : State) (number : ℕ) (p : Participant) (t : Tally) (h : Live s number p t)
-    → p.link ≡ Connected
-    → p.uplink ≡ h.waits
-present-uplink s number p t h here = h.uplink ∙ ap (λ now. h.waits ++ farewell now) here
-    ∙ append-nil h.waits
+here-said : (epoch : ℕ) (live : List Entry) (ready : Bool) (p : Participant) (t : Tally) (m : Msg)
+    → p.link ≡ Connected → is_send m ≡ true → is_disconnect m ≡ false
+    → IsHere epoch live ready p t
+    → IsHere epoch live ready
+    (record p { state = client.said p.state m; uplink = p.uplink ++ m ∷ [] })
+    (record t { sends = t.sends ++ m ∷ [] })
+here-said epoch live ready p t m on send goes h = record {
+  base = h.base;
+  sent = h.sent;
+  sends = ap (λ ms. ms ++ m ∷ []) h.sends
+      ∙ append_assoc h.sent (due epoch ready p.uplink) (m ∷ [])
+      ∙ ap (λ ms. h.sent ++ ms) (sym (due-push epoch ready p.uplink m (h.more on) send goes));
+  answered = h.answered;
+  taken = h.taken;
+  more = λ still. hears-push epoch ready p.uplink m (h.more on) goes;
+}
 
 holds-said : (s : State) (number : ℕ) (p : Participant) (t : Tally) (m : Msg) → p.link ≡ Connected
     → 32 ≤ kind_of m
     → Holds s number p t
     → Holds s number (record p { state = client.said p.state m; uplink = p.uplink ++ m ∷ [] })
     (record t { sends = t.sends ++ m ∷ [] })
-holds-said s number p t m here high h = record {
+holds-said s number p t m on high h = record {
   few = omega (arith, h.few, length-append t.sends (m ∷ []));
   fork = ap (λ fork. fork ++ m ∷ []) h.fork ∙ sym (drop-append-le t.answers t.sends (m ∷ []) h.few);
   live = λ up.
       let l = h.live up in
+      let send = high-send p.state.epoch m high in
       record {
         connection = l.connection;
         found = l.found;
         user = l.user;
-        joined = l.joined;
-        heard = l.heard;
-        waits = l.waits ++ m ∷ [];
-        sends = ap (λ ms. ms ++ m ∷ []) l.sends ∙ append_assoc l.heard l.waits (m ∷ []);
-        uplink = ap (λ ms. ms ++ m ∷ []) (present-uplink s number p t l here)
-            ∙ sym (append-nil (l.waits ++ m ∷ []))
-            ∙ sym (ap (λ now. (l.waits ++ m ∷ []) ++ farewell now) here);
-        sayable = sayable-push l.waits m l.sayable high;
-        answered = l.answered;
-        taken = l.taken;
+        known = l.known;
+        stands = all-push (MayStand p.state.epoch) p.uplink m l.stands send.0;
+        endless = λ still. all-push (λ n. is_disconnect n ≡ false) p.uplink m (l.endless on) send.2;
+        here = λ at. here-said (epoch_of s) s.live (has_acknowledged s l.connection) p t m on send.1
+            send.2 (l.here at);
+        behind = λ less. let b = l.behind less in record { late = b.late; unheard = b.unheard };
       };
 }
 
-holds-leaving : (s : State) (number : ℕ) (p : Participant) (t : Tally) → p.link ≡ Connected
-    → Holds s number p t
-    → Holds s number (record p {
-      uplink = p.uplink ++ msg.Control (Disconnect 0)
-          ∷ [];
-      link = Leaving;
-    }) t
-holds-leaving s number p t here h = record {
+-- the client that resets
+abbrev resetting_of : Participant → List Draw → Participant
+resetting_of p commands = record p { uplink = p.uplink ++ reset_messages commands }
+
+here-reset : (epoch : ℕ) (live : List Entry) (ready : Bool) (p : Participant) (t : Tally)
+    (commands : List Draw) → p.link ≡ Connected → IsHere epoch live ready p t
+    → IsHere epoch live ready (resetting_of p commands) t
+here-reset epoch live ready p t commands on h =
+    let all = reset-messages commands in
+    record {
+      base = h.base;
+      sent = h.sent;
+      sends = h.sends ∙ ap (λ ms. h.sent ++ ms)
+          (sym (due-reset epoch ready p.uplink (reset_messages commands) all));
+      answered = h.answered;
+      taken = h.taken;
+      more = λ still. hears-reset epoch ready p.uplink (reset_messages commands) all (h.more on);
+    }
+
+holds-reset : (s : State) (number : ℕ) (p : Participant) (t : Tally) (commands : List Draw)
+    → p.link ≡ Connected → Holds s number p t → Holds s number (resetting_of p commands) t
+holds-reset s number p t commands on h = record {
   few = h.few;
   fork = h.fork;
   live = λ up.
-      let l = h.live (ap is_closed here) in
+      let l = h.live up in
+      let more = reset_messages commands in
+      let all = reset-messages commands in
       record {
         connection = l.connection;
         found = l.found;
         user = l.user;
-        joined = l.joined;
-        heard = l.heard;
-        waits = l.waits;
-        sends = l.sends;
-        uplink = ap (λ ms. ms ++ msg.Control (Disconnect 0) ∷ [])
-            (present-uplink s number p t l here);
-        sayable = l.sayable;
-        answered = l.answered;
-        taken = l.taken;
+        known = l.known;
+        stands = all-both (MayStand p.state.epoch) p.uplink more l.stands
+            (all-reset (MayStand p.state.epoch) more (λ m of. of.stands p.state.epoch) all);
+        endless = λ still. all-both (λ m. is_disconnect m ≡ false) p.uplink more (l.endless on)
+            (all-reset (λ m. is_disconnect m ≡ false) more (λ m of. of.endless) all);
+        here = λ at. here-reset (epoch_of s) s.live (has_acknowledged s l.connection) p t commands
+            on (l.here at);
+        behind = λ less. let b = l.behind less in record { late = b.late; unheard = b.unheard };
+      };
+}
+
+-- the client that leaves
+abbrev leaving_of : Participant → Participant
+leaving_of p = record p {
+  uplink = p.uplink ++ msg.Control (Disconnect 0) ∷ [];
+  link = Leaving;
+}
+
+here-leaving : (epoch : ℕ) (live : List Entry) (ready : Bool) (p : Participant) (t : Tally)
+    → IsHere epoch live ready p t → IsHere epoch live ready (leaving_of p) t
+here-leaving epoch live ready p t h = record {
+  base = h.base;
+  sent = h.sent;
+  sends = h.sends ∙ ap (λ ms. h.sent ++ ms)
+      (sym (due-end epoch ready p.uplink (msg.Control (Disconnect 0)) refl));
+  answered = h.answered;
+  taken = h.taken;
+  more = λ on. let not_so : Leaving ≡ Connected = on in cc;
+}
+
+holds-leaving : (s : State) (number : ℕ) (p : Participant) (t : Tally) → p.link ≡ Connected
+    → Holds s number p t → Holds s number (leaving_of p) t
+holds-leaving s number p t on h = record {
+  few = h.few;
+  fork = h.fork;
+  live = λ up.
+      let l = h.live (ap is_closed on) in
+      record {
+        connection = l.connection;
+        found = l.found;
+        user = l.user;
+        known = l.known;
+        stands = all-push (MayStand p.state.epoch) p.uplink (msg.Control (Disconnect 0)) l.stands
+            tt;
+        endless = λ still. let not_so : Leaving ≡ Connected = still in cc;
+        here = λ at. here-leaving (epoch_of s) s.live (has_acknowledged s l.connection) p t
+            (l.here at);
+        behind = λ less. let b = l.behind less in record { late = b.late; unheard = b.unheard };
       };
 }
 
@@ -510,63 +806,103 @@ holds-closed s u number p t uplink h =
 
 -- ---- what the session hears
 
--- the first message on the uplink, which isn't a Disconnect, is the first send that waits
-pub record First (m : Msg) (rest all : List Msg) (now : LinkState) : Type 0 where
-  pub behind : List Msg
-  pub waits : all ≡ m ∷ behind
-  pub left : rest ≡ behind ++ farewell now
+-- the client whose next message the session takes
+abbrev heard_of : Participant → List Msg → Participant
+heard_of p rest = record p { uplink = rest }
 
-first-of : (m : Msg) (rest waits : List Msg) (now : LinkState) → is_disconnect m ≡ false
-    → m ∷ rest ≡ waits ++ farewell now
-    → First m rest waits now
-first-of m rest [] Connected other is = cc
-first-of m rest [] Leaving other is =
-    let same : m ≡ msg.Control (Disconnect 0) = cc in
-    let e : true ≡ false = sym (ap is_disconnect same) ∙ other in cc
-first-of m rest [] Closed other is = cc
-first-of m rest (w ∷ waits) now other is =
-    let same : m ≡ w = cc in
-    record { behind = waits; waits = ap (λ n. n ∷ waits) (sym same); left = cc }
-
-live-heard : Leading → (number : ℕ) (t : Exchange) (m : Msg) (rest : List Msg) (tally : Tally)
-    → ShutBefore t.past
-    → HasPeople (state_of t.past) → IsParticipant (state_of t.past) number t.participant
-    → NotEnded t.past (event.Say t.participant.conn m) → t.participant.uplink ≡ m ∷ rest
-    → is_disconnect m ≡ false
-    → Live (state_of t.past) number t.participant tally
-    → Live (state_of (heard t m rest).past) number (heard t m rest).participant tally
-live-heard laws number t m rest tally before people hp goes up other h =
-    let s = state_of t.past in
-    let u = state_of (heard t m rest).past in
-    let c = t.participant.state in
-    let first = first-of m rest h.waits t.participant.link other (sym up ∙ h.uplink) in
-    let high = subst (AllByRecursion (λ n. 32 ≤ kind_of n)) first.waits h.sayable in
-    let there : open_connection s t.participant.conn ≡ Some h.connection = ap (open_connection s)
-    hp.conn ∙ h.found in
-    let a = answered-say laws t.past t.participant.conn m h.connection before goes people there
-    high.0 in
-    let live : u.live ≡ s.live ++ entry_of c.user a.answer ∷ [] =
-    a.live ∙ ap (λ user. s.live ++ entry_of user a.answer ∷ []) h.user in
-    let all : answers_from c.user c.joined_at 0 u.live ≡ answers_from c.user c.joined_at 0 s.live
-    ++ a.answer ∷ [] =
-    ap (answers_from c.user c.joined_at 0) live ∙ answers-own c.user c.joined_at s.live a.answer
-    a.may h.joined in
-    record {
-      connection = h.connection;
-      found = ap (λ cs. open_in cs number) a.connections ∙ h.found;
-      user = h.user;
-      joined = longer s.live (entry_of c.user a.answer ∷ []) u.live c.joined_at live h.joined;
-      heard = h.heard ++ m ∷ [];
-      waits = first.behind;
-      sends = h.sends ∙ ap (λ ms. h.heard ++ ms) first.waits
-          ∙ sym (append_assoc h.heard (m ∷ []) first.behind);
-      uplink = first.left;
-      sayable = high.1;
-      answered = subst (λ ms. Answer ms (h.heard ++ m ∷ [])) (sym all)
-          (answer-push (answers_from c.user c.joined_at 0 s.live) h.heard a.answer m h.answered
-          a.answers);
+-- the epoch stays
+here-heard : (s u : State) (c d : Connection) (p : Participant) (t : Tally) (m : Msg)
+    (rest : List Msg) → epoch_of u ≡ epoch_of s → c.user ≡ p.state.user → p.uplink ≡ m ∷ rest
+    → is_disconnect m ≡ false → HeardHere s c m u d
+    → IsHere (epoch_of s) s.live (has_acknowledged s c) p t
+    → IsHere (epoch_of u) u.live (has_acknowledged u d) (heard_of p rest) t
+here-heard s u c d p t m rest same user up goes x h =
+    let e = epoch_of s in
+    let at = last_before p.state in
+    let ready = has_acknowledged s c in
+    let all : answers_from p.state.user at 0 u.live
+    ≡ answers_from p.state.user at 0 s.live
+    ++ answers_from p.state.user at (0 + length s.live) x.more =
+    ap (answers_from p.state.user at 0) x.live
+    ∙ answers-append p.state.user at 0 s.live x.more in
+    let new : Answer (answers_from p.state.user at (0 + length s.live) x.more)
+    (sends_of ready m) =
+    subst (λ id. Answer (answers_from id at (0 + length s.live) x.more) (sends_of ready m)) user
+    (x.answers at (0 + length s.live) (omega (arith, h.base))) in
+    let it : IsHere e u.live (ready || is_ack e m) (heard_of p rest) t = record {
+      base = longer s.live x.more u.live at x.live h.base;
+      sent = h.sent ++ sends_of ready m;
+      sends = h.sends ∙ ap (λ ms. h.sent ++ due e ready ms) up
+          ∙ ap (λ ms. h.sent ++ ms) (due-first e ready m rest goes)
+          ∙ sym (append_assoc h.sent (sends_of ready m) (due e (ready || is_ack e m) rest));
+      answered = subst (λ ms. Answer ms (h.sent ++ sends_of ready m)) (sym all)
+          (answer-both (answers_from p.state.user at 0 s.live) h.sent
+          (answers_from p.state.user at (0 + length s.live) x.more) (sends_of ready m) h.answered
+          new);
       taken = h.taken;
-    }
+      more = λ on. sym (ap (hears_more e ready) up ∙ hears-first e ready m rest goes) ∙ h.more on;
+    } in
+    subst (λ n. IsHere n u.live (has_acknowledged u d) (heard_of p rest) t) (sym same)
+    (subst (λ b. IsHere e u.live b (heard_of p rest) t) (sym x.ready) it)
+
+behind-heard : (s u : State) (c d : Connection) (p : Participant) (m : Msg) (rest : List Msg)
+    → p.state.epoch < epoch_of s → c.user ≡ p.state.user → MayStand p.state.epoch m
+    → HeardHere s c m u d → IsBehind s.live (has_acknowledged s c) p
+    → IsBehind u.live (has_acknowledged u d) (heard_of p rest)
+behind-heard s u c d p m rest less user stands x h = record {
+  late = x.ready ∙ ap (λ b. b || is_ack (epoch_of s) m) h.late
+      ∙ no-ack p.state.epoch (epoch_of s) m less stands;
+  unheard = subst (Unheard p.state.user) (sym x.live)
+      (unheard-more p.state.user s.live x.more h.unheard
+      (λ at n below. answer-none (answers_from p.state.user at n x.more)
+      (subst (λ b. Answer (answers_from p.state.user at n x.more)
+      (if b && is_send m then m ∷ [] else [])) h.late
+      (subst (λ id. Answer (answers_from id at n x.more) (sends_of (has_acknowledged s c) m)) user
+      (x.answers at n below)))));
+}
+
+module _ (s u : State) (number : ℕ) (p : Participant) (t : Tally) (m : Msg) (rest : List Msg)
+    (people : HasPeople s) (up : p.uplink ≡ m ∷ rest) (goes : is_disconnect m ≡ false)
+    (h : Live s number p t) (x : Hears s number h.connection m u) where
+  stands-first : AllByRecursion (MayStand p.state.epoch) (m ∷ rest)
+  stands-first = subst (AllByRecursion (MayStand p.state.epoch)) up h.stands
+
+  behind-after : p.state.epoch < epoch_of u
+      → IsBehind u.live (has_acknowledged u x.connection) (heard_of p rest)
+  behind-after below =
+      ⊎_elim (λ (same : epoch_of u ≡ epoch_of s).
+      let less : p.state.epoch < epoch_of s = omega (arith, below, same) in
+      behind-heard s u h.connection x.connection p m rest less h.user stands-first.0
+      (x.same same) (h.behind less))
+      (λ (ne : epoch_of u ≡ epoch_of s → ⊥).
+      let less : epoch_of s < epoch_of u = omega (arith, ne, x.epochs) in
+      let new = x.later less in
+      record {
+        late = ne_eqb x.connection.acknowledged (epoch_of u) (λ same. omega (
+          arith,
+          same,
+          less,
+          ap (λ d. d.acknowledged) new.0,
+          people.connections.known number h.connection h.found,
+        ));
+        unheard = new.1 p.state.user;
+      })
+      (cases_eq (epoch_of u) (epoch_of s))
+
+  live-heard : Live u number (heard_of p rest) t
+  live-heard = record {
+    connection = x.connection;
+    found = x.found;
+    user = x.user ∙ h.user;
+    known = omega (arith, h.known, x.epochs);
+    stands = stands-first.1;
+    endless = λ on. let all : HasNoEnd (m ∷ rest) = subst HasNoEnd up (h.endless on) in all.1;
+    here = λ at.
+        let same : epoch_of u ≡ epoch_of s = omega (arith, at, h.known, x.epochs) in
+        here-heard s u h.connection x.connection p t m rest same h.user up goes (x.same same)
+        (h.here (at ∙ same));
+    behind = behind-after;
+  }
 
 holds-up : Leading → (number : ℕ) (t : Exchange) (uplink : List Msg) (tally : Tally)
     → ShutBefore t.past
@@ -577,6 +913,17 @@ holds-up : Leading → (number : ℕ) (t : Exchange) (uplink : List Msg) (tally 
 holds-up laws number t [] tally before people hp up goes h = h
 holds-up laws number t (m ∷ rest) tally before people hp up goes h = by_leave (is_disconnect m) refl
   where
+    hears-it : (l : Live (state_of t.past) number t.participant tally)
+        → Hears (state_of t.past) number l.connection m (state_of (heard t m rest).past)
+    hears-it l =
+        let s = state_of t.past in
+        let stands = subst (AllByRecursion (MayStand t.participant.state.epoch)) up l.stands in
+        let high = stands-high t.participant.state.epoch m stands.0 in
+        let there : open_connection s t.participant.conn ≡ Some l.connection =
+        ap (open_connection s) hp.conn ∙ l.found in
+        subst (λ n. Hears s n l.connection m (state_of (heard t m rest).past)) hp.conn
+        (hears-say laws t.past t.participant.conn m l.connection before goes.0 there high)
+
     by_leave : (b : Bool) → is_disconnect m ≡ b
         → Holds (state_of (if b then disconnected (heard t m rest) else heard t m rest).past) number
         (if b then disconnected (heard t m rest) else heard t m rest).participant tally
@@ -586,46 +933,46 @@ holds-up laws number t (m ∷ rest) tally before people hp up goes h = by_leave 
     by_leave false is = record {
       few = h.few;
       fork = h.fork;
-      live = λ here. live-heard laws number t m rest tally before people hp goes.0 up is
-          (h.live here);
+      live = λ here.
+          let l = h.live here in
+          live-heard (state_of t.past) (state_of (heard t m rest).past) number t.participant tally m
+          rest people up is l (hears-it l);
     }
 
 -- ---- exchanges
 
 holds-done : Leading → (number : ℕ) (t : Exchange) (instruction : Instruction) (tally : Tally)
     → ShutBefore t.past
-    → HasPeople (state_of t.past) → IsHistory 0 (state_of t.past).live
-    → (state_of t.past).ended ≡ []
-    → IsParticipant (state_of t.past) number t.participant
+    → HasPeople (state_of t.past) → IsParticipant (state_of t.past) number t.participant
     → is_gone t.participant.link instruction ≡ false → IsSayable instruction
     → NeverEnds (deed_replies t instruction) → Holds (state_of t.past) number t.participant tally
     → Holds (state_of (done t instruction).past) number (done t instruction).participant
     (tally_from t.participant.state tally (steps_of_deed t instruction))
-holds-done laws number t (Say m) tally before people history ended hp there may goes h =
+holds-done laws number t (Say m) tally before people hp there may goes h =
     holds-said (state_of t.past) number t.participant tally m (gone-say t.participant.link m there)
     may h
-holds-done laws number t Up tally before people history ended hp there may goes h =
+holds-done laws number t Up tally before people hp there may goes h =
     holds-up laws number t t.participant.uplink tally before people hp refl goes h
-holds-done laws number t Take tally before people history ended hp there may goes h =
-    holds-next laws number t tally (next_entry t) history hp
-    (not-gone t.participant.link Take there) (next-is t hp.epoch ended) h
-holds-done laws number t Leave tally before people history ended hp there may goes h =
+holds-done laws number t Take tally before people hp there may goes h =
+    holds-next laws number t tally (next_entry t) hp (not-gone t.participant.link Take there) refl h
+holds-done laws number t Reset tally before people hp there may goes h =
+    holds-reset (state_of t.past) number t.participant tally (snapshot
+    (client.confirmed t.participant.state)) (gone-reset t.participant.link there) h
+holds-done laws number t Leave tally before people hp there may goes h =
     holds-leaving (state_of t.past) number t.participant tally (gone-leave t.participant.link there)
     h
-holds-done laws number t Cut tally before people history ended hp there may goes h =
+holds-done laws number t Cut tally before people hp there may goes h =
     holds-closed (state_of t.past) (state_of (disconnected t).past) number t.participant tally [] h
 
 -- what holds of a client holds of it after its exchange
 pub holds-exchanged : Leading → (number : ℕ) (t : Exchange) (instruction : Instruction)
     (tally : Tally) → ShutBefore t.past
-    → HasPeople (state_of t.past) → IsHistory 0 (state_of t.past).live
-    → (state_of t.past).ended ≡ []
-    → IsParticipant (state_of t.past) number t.participant → IsSayable instruction
+    → HasPeople (state_of t.past) → IsParticipant (state_of t.past) number t.participant → IsSayable instruction
     → NeverEnds (turn_replies t instruction)
     → Holds (state_of t.past) number t.participant tally
     → Holds (state_of (exchanged t instruction).past) number (exchanged t instruction).participant
     (tally_from t.participant.state tally (steps_of_turn t instruction))
-holds-exchanged laws number t instruction tally before people history ended hp may goes h =
+holds-exchanged laws number t instruction tally before people hp may goes h =
     by_gone (is_gone t.participant.link instruction) refl goes
   where
     by_gone : (b : Bool) → is_gone t.participant.link instruction ≡ b
@@ -634,27 +981,60 @@ holds-exchanged laws number t instruction tally before people history ended hp m
         (if b then t else done t instruction).participant
         (tally_from t.participant.state tally (if b then [] else steps_of_deed t instruction))
     by_gone true is goes = h
-    by_gone false is goes = holds-done laws number t instruction tally before people history ended
-        hp is may goes h
+    by_gone false is goes =
+        holds-done laws number t instruction tally before people hp is may goes h
 
 -- ---- the next entry
 
--- it doesn't lose the fork
-pub next-kept : Leading → (s : State) (number : ℕ) (p : Participant) (t : Tally) (entry : Entry)
-    → IsParticipant s number p
-    → Holds s number p t → is_closed p.link ≡ false → slice_get s.live (length p.state.taken)
-    ≡ Some entry
-    → own_of p.state entry ≡ Lost → ⊥
-next-kept laws s number p t entry hp h here there = by_own (is_own_answer p.state entry) refl
+-- the mark that heads a history is the server's, and answers nobody
+server-at : (c : client.State) (live : List Entry) (x : Entry) → 1 ≤ c.user → IsServerFirst live
+    → slice_get live 0 ≡ Some x → own_of c x ≡ Stranger
+server-at c [] x above h is = cc
+server-at c (y ∷ live) x above h is =
+    let same : y ≡ x = cc in
+    let server : x.user ≡ 0 = ap (λ z. z.user) (sym same) ∙ h in
+    ap (λ b. if b && may_answer x.msg && nat_lt (last_before c) (length c.taken)
+    then answered c.fork x.msg else Stranger)
+    (ne_eqb x.user c.user (λ e. omega (arith, e, server, above)))
+
+kept-here : Leading → (epoch : ℕ) (live : List Entry) (ready : Bool) (p : Participant) (t : Tally)
+    (entry : Entry) → p.state.taken ≡ take (length p.state.taken) live
+    → IsHere epoch live ready p t → p.state.fork ≡ drop t.answers t.sends
+    → slice_get live (length p.state.taken) ≡ Some entry → own_of p.state entry ≡ Lost → ⊥
+kept-here laws epoch live ready p t entry prefix h fork there =
+    by_own (is_own_answer p.state entry) refl
   where
     by_own : (b : Bool) → is_own_answer p.state entry ≡ b
         → (if b then answered p.state.fork entry.msg else Stranger) ≡ Lost → ⊥
     by_own true own lost =
-        let front = next-front s number p t entry hp (h.live here) there own in
+        let front = next-front epoch live ready p t entry prefix h there own in
         ⊎_elim (λ (dropped : answered p.state.fork entry.msg ≡ Dropped). let e : Dropped
         ≡ Lost = sym dropped ∙ lost in cc)
         (λ (echo : answered p.state.fork entry.msg ≡ Echo). let e : Echo ≡ Lost = sym echo
         ∙ lost in cc)
-        (own-front laws p.state.fork entry.msg front.send front.rest (h.fork ∙ front.is)
+        (own-front laws p.state.fork entry.msg front.send front.rest (fork ∙ front.is)
         front.answers)
     by_own false own lost = cc
+
+-- it doesn't lose the fork
+pub next-kept : Leading → (number : ℕ) (t : Exchange) (tally : Tally) (entry : Entry)
+    → HasPeople (state_of t.past) → IsParticipant (state_of t.past) number t.participant
+    → Holds (state_of t.past) number t.participant tally
+    → is_closed t.participant.link ≡ false → next_entry t ≡ Some entry
+    → own_of t.participant.state entry ≡ Lost → ⊥
+next-kept laws number t tally entry people hp h up there lost =
+    let s = state_of t.past in
+    let p = t.participant in
+    let l = h.live up in
+    ⊎_elim (λ (at : p.state.epoch ≡ epoch_of s).
+    kept-here laws (epoch_of s) s.live (has_acknowledged s l.connection) p tally entry
+    (prefix-here s number p hp at) (l.here at) h.fork (next-here s p.state (Some entry) at there)
+    lost)
+    (λ (ne : p.state.epoch ≡ epoch_of s → ⊥).
+    let less : p.state.epoch < epoch_of s = omega (arith, ne, hp.known) in
+    let user : 1 ≤ p.state.user =
+    omega (arith, l.user, people.connections.users number l.connection l.found) in
+    let strange = server-at p.state s.live entry user people.server
+    (next-behind s p.state (Some entry) less there) in
+    let e : Stranger ≡ Lost = sym strange ∙ lost in cc)
+    (cases_eq p.state.epoch (epoch_of s))

@@ -1,24 +1,27 @@
 -- What one event does to the users and their answers: open connections are of users that differ,
 -- and an event of one connection places no answers of others.
 use Rattle.std.proofs.Common.{◌≡◌, ◌⊎◌, ℕ, zero, suc, ◌+◌, ◌-◌, ◌<◌, ◌≤◌, ◌==◌, Bool, true, false}
-use Rattle.std.proofs.Common.{not, ◌&&◌, cond, if◌then◌else◌}
-use Rattle.std.proofs.Common.{List, [], ◌∷◌, ◌++◌, length, Option, None, Some}
+use Rattle.std.proofs.Common.{not, ◌&&◌, ◌||◌, nat_le, cond, if◌then◌else◌}
+use Rattle.std.proofs.Common.{List, [], ◌∷◌, ◌++◌, length, Option, None, Some, is_some}
 use Rattle.std.proofs.Common.{refl, sym, ap, subst, ◌∙◌, ⊎_elim, inl, inr, arith, append-nil}
 use Rattle.std.proofs.Common.{append_assoc, length-append}
 use Rattle.std.specs.Prelude.{slice_set}
 use Rattle.std.specs.List.{find, list_any, range_with_len, slice_get}
 use Rattle.std.specs.Option.{option_map_or}
-use Rattle.std.proofs.lemmas.Bool.{cases_eq, cases_Bool, eq-eqb, or_parts, le-leb}
-use Rattle.std.proofs.lemmas.Bool.{not-true}
-use Rattle.dp_client.specs.Client.{may_answer}
+use Rattle.std.proofs.lemmas.Bool.{cases_eq, cases_Bool, cond_both, eq-eqb, eqb-true, or_parts}
+use Rattle.std.proofs.lemmas.Bool.{and_parts, le-leb, not-true, false≢true}
+use Rattle.dp_client.specs.Client.{carried_in, may_answer}
+use Rattle.dp_msg_draw.specs.declared.draw.Draw.{Draw}
 use Rattle.dp_msg_meta.specs.declared.message.Control.TheVariants as control
 use Rattle.dp_msg_meta.specs.declared.message.Meta.TheVariants as meta
 use Rattle.dp_messages.specs.declared.message.Msg.{Msg}
 use Rattle.dp_messages.specs.declared.message.Msg.TheVariants as msg
 use Rattle.dp_messages.specs.declared.message.Entry.{Entry}
 use Rattle.dp_messages.specs.Messages.{kind_of}
+use Rattle.dp_messages.specs.Properties.{carried_by}
 use Rattle.dp_messages.specs.Equality.{same_message}
 use Rattle.dp_acl.specs.Permitted.{permitted}
+use Rattle.dp_acl.specs.Opening.{server_entry, carried_entries, opening}
 use Rattle.dp_events.specs.declared.connection.Connection.{Connection}
 use Rattle.dp_events.specs.declared.connection.Ending.TheVariants as ending
 use Rattle.dp_events.specs.declared.decision.Decision.{Decision}
@@ -27,23 +30,26 @@ use Rattle.dp_events.specs.declared.event.Event.{Event}
 use Rattle.dp_events.specs.declared.event.Event.TheVariants as event
 use Rattle.dp_events.specs.declared.event.Reply.{Reply}
 use Rattle.dp_events.specs.declared.event.Reply.TheVariants as reply
-use Rattle.dp_epochs.specs.State.{State, acted, stays, noted, after_event, epoch_of, here}
-use Rattle.dp_epochs.specs.State.{entry_of, server_entry, filtered_entry}
+use Rattle.dp_epochs.specs.State.{State, first_state, acted, stays, noted, after_event, epoch_of}
+use Rattle.dp_epochs.specs.State.{here, entry_of, filtered_entry, epoch_opened, present_users}
 use Rattle.dp_epochs.specs.State.{is_present, user_ids, free_id, new_connection, next_owner}
 use Rattle.dp_events.specs.Connections.{is_open}
-use Rattle.dp_epochs.specs.State.{where_open, open_in, open_connection}
-use Rattle.dp_epochs.specs.State.{has_acknowledged, judged, heard, decided, acted_by, says_by}
-use Rattle.dp_epochs.specs.Effects.{Effect, Nothing, TakesUp, Placed, Filtered, Joined, Left, made}
-use Rattle.dp_epochs.specs.Effects.{entries_of, connections_after, answer_of, IsStill, IsSaid}
+use Rattle.dp_epochs.specs.State.{where_open, open_in, open_connection, has_acknowledged}
+use Rattle.dp_epochs.specs.State.{judged, heard, decided, acted_by, says_by, fits_reset}
+use Rattle.dp_epochs.specs.State.{part_decided, may_begin, reset_of, sent_commands}
+use Rattle.dp_epochs.specs.Effects.{Effect, Nothing, TakesUp, Placed, Filtered, Joined, Left}
+use Rattle.dp_epochs.specs.Effects.{Dropped, Reopened, made, entries_of, ended_after, live_after}
+use Rattle.dp_epochs.specs.Effects.{connections_after, answer_of, IsStill, IsSaid}
 use Rattle.dp_epochs.specs.Effects.{IsEffect, EventsHaveEffects}
 use Rattle.dp_events.specs.Rows.{has_room}
 use Rattle.dp_epochs.specs.Past.{Past, state_of, kept, refused, answer_to, sure_step, sure_answer}
-use Rattle.dp_epochs.specs.Laws.{ShutBefore}
+use Rattle.dp_epochs.specs.Laws.{ShutBefore, AreHistories}
 use Rattle.dp_lists.specs.Numbered.{numbered}
 use Rattle.dp_lists.proofs.Numbered.{number-found, numbered-other, numbered-same, numbered-old}
 use Rattle.dp_lists.proofs.Numbered.{numbered-either, numbered-new}
-use Rattle.dp_sim_laws.proofs.Answering.{answers_from, NoAnswers, answers-same, answers-before}
-use Rattle.dp_sim_laws.proofs.Answering.{none-append, none-other, none-mute, AnswersTo}
+use Rattle.dp_sim_laws.proofs.Answering.{answers_from, NoAnswers, answers-append, answers-none}
+use Rattle.dp_sim_laws.proofs.Answering.{answers-same, answers-before, answers-one, none-append}
+use Rattle.dp_sim_laws.proofs.Answering.{none-other, none-mute, AnswersTo, Answer}
 
 -- ---- open connections
 
@@ -78,11 +84,11 @@ open-other cs conn c d n x found ne is =
     let h = open-found cs n x is in
     open-from (slice_set cs (conn - 1) d) n x (numbered-other cs conn n d above.0 ne ∙ h.0) h.1
 
--- what is open where one was shut was open
-open-back : (cs : List Connection) (conn : ℕ) (c d : Connection) (n : ℕ) (x : Connection)
-    → open_in cs conn ≡ Some c
-    → is_open d ≡ false → open_in (slice_set cs (conn - 1) d) n ≡ Some x → open_in cs n ≡ Some x
-open-back cs conn c d n x found shut is =
+-- what is open where one has become another is the other, or was open
+open-set : (cs : List Connection) (conn : ℕ) (c d : Connection) (n : ℕ) (x : Connection)
+    → open_in cs conn ≡ Some c → open_in (slice_set cs (conn - 1) d) n ≡ Some x
+    → ((n ≡ conn) × (x ≡ d)) ⊎ (open_in cs n ≡ Some x)
+open-set cs conn c d n x found is =
     let there = (open-found cs conn c found).0 in
     let above = number-found cs conn c there in
     let h = open-found (slice_set cs (conn - 1) d) n x is in
@@ -90,18 +96,18 @@ open-back cs conn c d n x found shut is =
     let at : numbered (slice_set cs (conn - 1) d) conn ≡ Some x =
     subst (λ k. numbered (slice_set cs (conn - 1) d) k ≡ Some x) same h.0 in
     let e : Some d ≡ Some x = sym (numbered-same cs conn c d there) ∙ at in
-    let it : d ≡ x = cc in
-    let no : false ≡ true = sym shut ∙ subst (λ y. is_open y ≡ true) (sym it) h.1 in cc)
-    (λ (ne : n ≡ conn → ⊥). open-from cs n x (sym (numbered-other cs conn n d above.0 ne) ∙ h.0)
-    h.1)
+    let it : x ≡ d = cc in
+    inl (same, it))
+    (λ (ne : n ≡ conn → ⊥). inr (open-from cs n x
+    (sym (numbered-other cs conn n d above.0 ne) ∙ h.0) h.1))
     (cases_eq n conn)
 
 -- ---- people
 
--- the users of open connections are above 0 and differ, and each has taken up the epoch
+-- the users of open connections are above 0 and differ, and none has taken up a later epoch
 pub record ArePeople (epoch : ℕ) (cs : List Connection) : Type 0 where
   pub users : (n : ℕ) (c : Connection) → open_in cs n ≡ Some c → 1 ≤ c.user
-  pub ready : (n : ℕ) (c : Connection) → open_in cs n ≡ Some c → c.acknowledged ≡ epoch
+  pub known : (n : ℕ) (c : Connection) → open_in cs n ≡ Some c → c.acknowledged ≤ epoch
   pub apart : (n m : ℕ) (c d : Connection) → open_in cs n ≡ Some c → open_in cs m ≡ Some d
       → c.user ≡ d.user → n ≡ m
 
@@ -111,20 +117,30 @@ none-open n c is =
     ≡ Some c = found.1 in cc
 
 -- where there are no connections
-pub no-people : ArePeople 0 []
-no-people = record {
+none-people : ArePeople 0 []
+none-people = record {
   users = λ n c is. absurd (none-open n c is);
-  ready = λ n c is. absurd (none-open n c is);
+  known = λ n c is. absurd (none-open n c is);
   apart = λ n m c d is it same. absurd (none-open n c is);
 }
 
-people-fewer : (epoch : ℕ) (cs ds : List Connection)
-    → ((n : ℕ) (x : Connection) → open_in ds n ≡ Some x → open_in cs n ≡ Some x)
-    → ArePeople epoch cs → ArePeople epoch ds
-people-fewer epoch cs ds back h = record {
-  users = λ n c is. h.users n c (back n c is);
-  ready = λ n c is. h.ready n c (back n c is);
-  apart = λ n m c d is it same. h.apart n m c d (back n c is) (back m d it) same;
+-- the connection of this number was one of the same user, and has taken up no later epoch
+record Was (epoch : ℕ) (cs : List Connection) (n : ℕ) (x : Connection) : Type 0 where
+  old : Connection
+  found : open_in cs n ≡ Some old
+  user : x.user ≡ old.user
+  known : x.acknowledged ≤ epoch
+
+people-from : (epoch later : ℕ) (cs ds : List Connection)
+    → ((n : ℕ) (x : Connection) → open_in ds n ≡ Some x → Was later cs n x)
+    → ArePeople epoch cs → ArePeople later ds
+people-from epoch later cs ds back h = record {
+  users = λ n c is. let w = back n c is in omega (arith, w.user, h.users n w.old w.found);
+  known = λ n c is. (back n c is).known;
+  apart = λ n m c d is it same.
+      let v = back n c is in
+      let w = back m d it in
+      h.apart n m v.old w.old v.found w.found (sym v.user ∙ same ∙ w.user);
 }
 
 -- the last of connections, or another
@@ -147,9 +163,10 @@ people-more epoch cs d user ready fresh h = record {
       ⊎_elim (λ (old : open_in cs n ≡ Some c). h.users n c old)
       (λ (new : (n ≡ length cs + 1) × (c ≡ d)). subst (λ x. 1 ≤ x.user) (sym new.1) user)
       (open-either cs d n c is);
-  ready = λ n c is.
-      ⊎_elim (λ (old : open_in cs n ≡ Some c). h.ready n c old)
-      (λ (new : (n ≡ length cs + 1) × (c ≡ d)). ap (λ x. x.acknowledged) new.1 ∙ ready)
+  known = λ n c is.
+      ⊎_elim (λ (old : open_in cs n ≡ Some c). h.known n c old)
+      (λ (new : (n ≡ length cs + 1) × (c ≡ d)).
+      subst (λ x. x.acknowledged ≤ epoch) (sym new.1) (omega (arith, ready)))
       (open-either cs d n c is);
   apart = λ n m c e is it same.
       ⊎_elim (λ (old : open_in cs n ≡ Some c).
@@ -165,22 +182,48 @@ people-more epoch cs d user ready fresh h = record {
       (open-either cs d n c is);
 }
 
--- those of a state
-abbrev pub HasPeople : State → Type 0
-HasPeople s = ArePeople (epoch_of s) s.connections
+-- the first entry is the server's
+abbrev pub IsServerFirst : List Entry → Type 0
+IsServerFirst [] = ⊥
+IsServerFirst (entry ∷ entries) = entry.user ≡ 0
+
+server-more : (xs ys : List Entry) → IsServerFirst xs → IsServerFirst (xs ++ ys)
+server-more [] ys h = absurd h
+server-more (x ∷ xs) ys h = h
+
+-- the users of a state, and the server
+pub record HasPeople (s : State) : Type 0 where
+  pub connections : ArePeople (epoch_of s) s.connections
+  pub server : IsServerFirst s.live
+
+-- those of a session to which nothing has come
+pub first-people : HasPeople first_state
+first-people = record { connections = none-people; server = refl }
 
 -- ---- events
 
--- The users are people after it, these connections stay, and no entry that is placed answers their
--- users.
-pub record Passes (s : State) (Others : ℕ → Type 0) (t : State) : Type 0 where
-  pub people : HasPeople t
+-- entries stand after the live history, and none of them answers the users of these connections
+pub record Grown (s : State) (Others : ℕ → Type 0) (t : State) : Type 0 where
   pub more : List Entry
   pub live : t.live ≡ s.live ++ more
-  pub stay : (n : ℕ) (c : Connection) → Others n → open_connection s n ≡ Some c
-      → open_connection t n ≡ Some c
   pub strange : (n : ℕ) (c : Connection) → Others n → open_connection s n ≡ Some c
       → NoAnswers c.user more
+
+-- no answer of the user's stands after what the history carried
+pub record Unheard (user : ℕ) (live : List Entry) : Type 0 where
+  pub base : carried_in live < length live
+  pub none : answers_from user (carried_in live) 0 live ≡ []
+
+-- The users are people after it, and these connections stay. While the epoch is the same, no entry
+-- that is placed answers their users; and in a later epoch none has answered them yet.
+pub record Passes (s : State) (Others : ℕ → Type 0) (t : State) : Type 0 where
+  pub people : HasPeople t
+  pub epochs : epoch_of s ≤ epoch_of t
+  pub same : epoch_of t ≡ epoch_of s → Grown s Others t
+  pub later : epoch_of s < epoch_of t → (n : ℕ) (c : Connection) → Others n
+      → open_connection s n ≡ Some c → Unheard c.user t.live
+  pub stay : (n : ℕ) (c : Connection) → Others n → open_connection s n ≡ Some c
+      → open_connection t n ≡ Some c
 
 -- all connections, and all but one
 abbrev pub Everyone : ℕ → Type 0
@@ -189,35 +232,112 @@ Everyone n = Unit {0}
 abbrev pub NotThis : ℕ → ℕ → Type 0
 NotThis conn n = n ≡ conn → ⊥
 
+-- entries that don't answer the user come after it
+pub unheard-more : (user : ℕ) (live more : List Entry) → Unheard user live
+    → ((at n : ℕ) → at < n → answers_from user at n more ≡ []) → Unheard user (live ++ more)
+unheard-more user [] more h none = absurd (omega (arith, h.base))
+unheard-more user (x ∷ live) more h none =
+    let at = carried_by x.msg in
+    let base : at < suc (length live) = h.base in
+    record {
+      base = omega (arith, length-append live more, base);
+      none = answers-append user at 0 (x ∷ live) more
+          ∙ ap (λ ms. answers_from user at 0 (x ∷ live) ++ ms)
+          (none at (0 + suc (length live)) (omega (arith, base)))
+          ∙ append-nil (answers_from user at 0 (x ∷ live)) ∙ h.none;
+    }
+
+unheard-opening : (user epoch : ℕ) (history : List Entry) (present : List ℕ) (commands : List Draw)
+    → Unheard user (opening epoch history present commands)
+unheard-opening user epoch history present commands =
+    let rest = carried_entries history present commands in
+    record {
+      base = omega arith;
+      none = answers-before user (length rest) 0 (opening epoch history present commands)
+          (omega arith);
+    }
+
 pub passes-not : (s : State) (Others : ℕ → Type 0) → HasPeople s → Passes s Others s
 passes-not s Others h = record {
   people = h;
-  more = [];
-  live = sym (append-nil s.live);
+  epochs = omega arith;
+  same = λ is. record {
+    more = [];
+    live = sym (append-nil s.live);
+    strange = λ n c other is. tt;
+  };
+  later = λ less. absurd (omega (arith, less));
   stay = λ n c other is. is;
-  strange = λ n c other is. tt;
+}
+
+grown-both : (s t u : State) (Others : ℕ → Type 0)
+    → ((n : ℕ) (c : Connection) → Others n → open_connection s n ≡ Some c
+    → open_connection t n ≡ Some c)
+    → Grown s Others t → Grown t Others u → Grown s Others u
+grown-both s t u Others stay h k = record {
+  more = h.more ++ k.more;
+  live = k.live ∙ ap (λ live. live ++ k.more) h.live ∙ append_assoc s.live h.more k.more;
+  strange = λ n c other is. none-append c.user h.more k.more (h.strange n c other is)
+      (k.strange n c other (stay n c other is));
 }
 
 pub passes-both : (s t u : State) (Others : ℕ → Type 0) → Passes s Others t → Passes t Others u
     → Passes s Others u
 passes-both s t u Others h k = record {
   people = k.people;
-  more = h.more ++ k.more;
-  live = k.live ∙ ap (λ live. live ++ k.more) h.live ∙ append_assoc s.live h.more k.more;
+  epochs = omega (arith, h.epochs, k.epochs);
+  same = λ is. grown-both s t u Others h.stay
+      (h.same (omega (arith, is, h.epochs, k.epochs)))
+      (k.same (omega (arith, is, h.epochs, k.epochs)));
+  later = λ less n c other is.
+      ⊎_elim (λ (same : epoch_of u ≡ epoch_of t).
+      let before = h.later (omega (arith, same, less)) n c other is in
+      let grown = k.same same in
+      subst (Unheard c.user) (sym grown.live) (unheard-more c.user t.live grown.more before
+      (λ at m below. answers-none c.user at m grown.more
+      (grown.strange n c other (h.stay n c other is)))))
+      (λ (ne : epoch_of u ≡ epoch_of t → ⊥).
+      k.later (omega (arith, ne, k.epochs)) n c other (h.stay n c other is))
+      (cases_eq (epoch_of u) (epoch_of t));
   stay = λ n c other is. k.stay n c other (h.stay n c other is);
-  strange = λ n c other is. none-append c.user h.more k.more (h.strange n c other is)
-      (k.strange n c other (h.stay n c other is));
 }
 
--- ---- a message that isn't a control message has one answer
+-- ---- what a connection's message makes of it
 
--- the answer to a send is placed
-pub record Answered (s : State) (user : ℕ) (send : Msg) (t : State) : Type 0 where
-  pub answer : Msg
-  pub connections : t.connections ≡ s.connections
-  pub live : t.live ≡ s.live ++ entry_of user answer ∷ []
-  pub may : may_answer answer ≡ true
-  pub answers : AnswersTo answer send
+-- the message is an acknowledgement of the epoch
+abbrev pub is_ack : ℕ → Msg → Bool
+is_ack epoch (msg.Control (control.Ack other)) = other == epoch
+is_ack epoch m = false
+
+-- the message is the user's own affair, and has an answer
+abbrev pub is_send : Msg → Bool
+is_send (msg.Control m) = false
+is_send (msg.Part command) = false
+is_send m = true
+
+-- the message, if it is such a one and the connection has taken up the live epoch
+abbrev pub sends_of : Bool → Msg → List Msg
+sends_of ready m = if ready && is_send m then m ∷ [] else []
+
+-- the epoch is the same: entries stand after the live history, and of them those that may answer
+-- the user answer the message
+pub record HeardHere (s : State) (c : Connection) (m : Msg) (u : State) (d : Connection) : Type 0
+  where
+    pub more : List Entry
+    pub live : u.live ≡ s.live ++ more
+    pub ready : has_acknowledged u d ≡ (has_acknowledged s c || is_ack (epoch_of s) m)
+    pub answers : (at n : ℕ) → at < n
+        → Answer (answers_from c.user at n more) (sends_of (has_acknowledged s c) m)
+
+-- the connection after its message
+pub record Hears (s : State) (conn : ℕ) (c : Connection) (m : Msg) (u : State) : Type 0 where
+  pub connection : Connection
+  pub found : open_connection u conn ≡ Some connection
+  pub user : connection.user ≡ c.user
+  pub epochs : epoch_of s ≤ epoch_of u
+  pub same : epoch_of u ≡ epoch_of s → HeardHere s c m u connection
+  pub later : epoch_of s < epoch_of u
+      → (connection ≡ c) × ((user : ℕ) → Unheard user u.live)
 
 may-permitted : (h : List Entry) (user : ℕ) (m : Msg) → permitted h user m ≡ true
     → may_answer m ≡ true
@@ -240,47 +360,256 @@ may-permitted h user (msg.Undo target redo) may = refl
 may-permitted h user (msg.Draw command) may = refl
 may-permitted h user (msg.Opaque kind body) may = refl
 
--- where the live epoch is taken up, what becomes of such a message goes by what is permitted
-decided-judged : (s : State) (conn : ℕ) (c : Connection) (m : Msg) → has_acknowledged s c ≡ true
-    → 32 ≤ kind_of m → decided s conn c m ≡ judged s c m
-decided-judged s conn c (msg.Control (control.Ping pong)) ready high = absurd (omega arith)
-decided-judged s conn c (msg.Control (control.Disconnect reason)) ready high =
-    absurd (omega arith)
-decided-judged s conn c (msg.Control (control.Ack epoch)) ready high = absurd (omega arith)
-decided-judged s conn c (msg.Control control.ResetBegin) ready high = absurd (omega arith)
-decided-judged s conn c (msg.Control control.ResetEnd) ready high = absurd (omega arith)
-decided-judged s conn c (msg.Part command) ready high = absurd (omega arith)
-decided-judged s conn c m ready high =
-    ap (λ b. if b then heard s conn c m else decision.Ignore) ready
+-- the last of a test of two parts fails
+pub and_no : (a : Bool) → (a && false) ≡ false
+and_no true = refl
+and_no false = refl
 
-answered-judged : (s : State) (conn : ℕ) (c : Connection) (m : Msg) (b : Bool)
-    → permitted s.live c.user m ≡ b → 32 ≤ kind_of m
-    → Answered s c.user m
-    (noted s (acted_by s conn c m (if b then decision.Place else decision.Filter)))
-answered-judged s conn c m true may high = record {
-  answer = m;
-  connections = refl;
-  live = refl;
-  may = may-permitted s.live c.user m may;
-  answers = inr refl;
-}
-answered-judged s conn c m false refused high = record {
-  answer = msg.Meta (meta.Filtered (kind_of m));
-  connections = refl;
-  live = refl;
-  may = le-leb 32 (kind_of m) high;
-  answers = inl refl;
-}
+or_no : (a : Bool) → (a || false) ≡ a
+or_no true = refl
+or_no false = refl
 
-answered-event : (s : State) (conn : ℕ) (c : Connection) (m : Msg)
-    → open_connection s conn ≡ Some c → has_acknowledged s c ≡ true → 32 ≤ kind_of m
-    → Answered s c.user m (after_event s (event.Say conn m))
-answered-event s conn c m found ready high =
-    let is : acted s (event.Say conn m) ≡ acted_by s conn c m (judged s c m) =
-    ap (λ o. option_map_or (says_by s conn m) o (stays s reply.Ignored)) found
-    ∙ ap (acted_by s conn c m) (decided-judged s conn c m ready high) in
-    subst (λ a. Answered s c.user m (noted s a)) (sym is)
-    (answered-judged s conn c m (permitted s.live c.user m) refl high)
+module _ (s : State) (conn : ℕ) (c : Connection) (m : Msg)
+    (found : open_connection s conn ≡ Some c) where
+  -- the epoch and the connection stay, and the history grows by entries that answer so
+  hears-here : (u : State) (more : List Entry) → u.ended ≡ s.ended → u.connections ≡ s.connections
+      → u.live ≡ s.live ++ more → (has_acknowledged s c || is_ack (epoch_of s) m)
+      ≡ has_acknowledged s c
+      → ((at n : ℕ) → at < n
+      → Answer (answers_from c.user at n more) (sends_of (has_acknowledged s c) m))
+      → Hears s conn c m u
+  hears-here u more ended connections live ready answers = record {
+    connection = c;
+    found = ap (λ cs. open_in cs conn) connections ∙ found;
+    user = refl;
+    epochs = omega (arith, ap length ended);
+    same = λ same. record {
+      more = more;
+      live = live;
+      ready = ap (λ n. c.acknowledged == n) same ∙ sym ready;
+      answers = answers;
+    };
+    later = λ less. absurd (omega (arith, less, ap length ended));
+  }
+
+  -- nothing is placed
+  hears-still : (u : State) → u.ended ≡ s.ended → u.connections ≡ s.connections → u.live ≡ s.live
+      → (has_acknowledged s c || is_ack (epoch_of s) m) ≡ has_acknowledged s c
+      → (has_acknowledged s c && is_send m) ≡ false → Hears s conn c m u
+  hears-still u ended connections live ready none =
+      hears-here u [] ended connections (live ∙ sym (append-nil s.live)) ready
+      (λ at n below. subst (λ b. Answer [] (if b then m ∷ [] else [])) (sym none) tt)
+
+  -- an entry stands in place of a message that is no send
+  hears-filtered : (u : State) → u.ended ≡ s.ended → u.connections ≡ s.connections
+      → u.live ≡ s.live ++ filtered_entry c.user m ∷ []
+      → is_ack (epoch_of s) m ≡ false → is_send m ≡ false → nat_le 32 (kind_of m) ≡ false
+      → Hears s conn c m u
+  hears-filtered u ended connections live ack send low =
+      let b = has_acknowledged s c in
+      let entry = filtered_entry c.user m in
+      hears-here u (entry ∷ []) ended connections live (ap (λ a. b || a) ack ∙ or_no b)
+      (λ at n below.
+      let none : answers_from c.user at n (entry ∷ []) ≡ [] =
+      answers-none c.user at n (entry ∷ []) (none-mute c.user entry [] low tt) in
+      let no : (b && is_send m) ≡ false = ap (λ a. b && a) send ∙ and_no b in
+      subst (λ ms. Answer ms (sends_of b m)) (sym none)
+      (subst (λ a. Answer [] (if a then m ∷ [] else [])) (sym no) tt))
+
+  -- the user's own entry answers a send
+  hears-answered : (u : State) (answer : Msg) → u.ended ≡ s.ended
+      → u.connections ≡ s.connections → u.live ≡ s.live ++ entry_of c.user answer ∷ []
+      → has_acknowledged s c ≡ true → is_send m ≡ true → may_answer answer ≡ true
+      → AnswersTo answer m → Hears s conn c m u
+  hears-answered u answer ended connections live ready send may answers =
+      let entry = entry_of c.user answer in
+      hears-here u (entry ∷ []) ended connections live
+      (ap (λ b. b || is_ack (epoch_of s) m) ready ∙ sym ready)
+      (λ at n below.
+      let one : answers_from c.user at n (entry ∷ []) ≡ answer ∷ [] =
+      answers-one c.user at n answer may below in
+      let yes : (has_acknowledged s c && is_send m) ≡ true =
+      ap (λ b. b && is_send m) ready ∙ send in
+      subst (λ ms. Answer ms (sends_of (has_acknowledged s c) m)) (sym one)
+      (subst (λ b. Answer (answer ∷ []) (if b then m ∷ [] else [])) (sym yes) (answers, tt)))
+
+  -- the epoch is taken up
+  hears-takes : (epoch : ℕ) → m ≡ msg.Control (control.Ack epoch) → epoch ≡ epoch_of s
+      → has_acknowledged s c ≡ false
+      → Hears s conn c m (noted s (acted_by s conn c m decision.Acknowledge))
+  hears-takes epoch is here late =
+      let d : Connection = record c { acknowledged = epoch_of s } in
+      let h = open-found s.connections conn c found in
+      let ack : is_ack (epoch_of s) m ≡ true =
+      ap (is_ack (epoch_of s)) is ∙ eq-eqb epoch (epoch_of s) here in
+      let send : is_send m ≡ false = ap is_send is in
+      record {
+        connection = d;
+        found = open-from (slice_set s.connections (conn - 1) d) conn d
+            (numbered-same s.connections conn c d h.0) h.1;
+        user = refl;
+        epochs = omega arith;
+        same = λ same. record {
+          more = [];
+          live = sym (append-nil s.live);
+          ready = eq-eqb (epoch_of s) (epoch_of s) refl
+              ∙ sym (ap (λ b. b || is_ack (epoch_of s) m) late ∙ ack);
+          answers = λ at n below. subst (λ b. Answer [] (if b then m ∷ [] else []))
+              (sym (ap (λ b. b && is_send m) late)) tt;
+        };
+        later = λ less. absurd (omega (arith, less));
+      }
+
+  -- the next epoch opens
+  hears-opened : (commands : List Draw) (answers : List Reply)
+      → Hears s conn c m (record (epoch_opened s commands) { answers = answers })
+  hears-opened commands answers = record {
+    connection = c;
+    found = found;
+    user = refl;
+    epochs = omega (arith, length-append s.ended (s.live ∷ []));
+    same = λ same. absurd (omega (arith, same, length-append s.ended (s.live ∷ [])));
+    later = λ less. (
+      refl,
+      λ user. unheard-opening user (epoch_of s + 1) s.live (present_users s) commands,
+    );
+  }
+
+  -- what is ignored, since the connection hasn't taken up the epoch
+  hears-ready : (d : Decision) → is_ack (epoch_of s) m ≡ false
+      → (has_acknowledged s c ≡ true → Hears s conn c m (noted s (acted_by s conn c m d)))
+      → Hears s conn c m (noted s (acted_by s conn c m
+      (if has_acknowledged s c then d else decision.Ignore)))
+  hears-ready d ack h =
+      cond_both (has_acknowledged s c) d decision.Ignore
+      (λ e. Hears s conn c m (noted s (acted_by s conn c m e)))
+      h
+      (λ late. hears-still (noted s (acted_by s conn c m decision.Ignore)) refl refl refl
+      (ap (λ a. has_acknowledged s c || a) ack ∙ or_no (has_acknowledged s c))
+      (ap (λ b. b && is_send m) late))
+
+  -- a send
+  hears-judged : is_ack (epoch_of s) m ≡ false → is_send m ≡ true → 32 ≤ kind_of m
+      → Hears s conn c m (noted s (acted_by s conn c m
+      (if has_acknowledged s c then judged s c m else decision.Ignore)))
+  hears-judged ack send high =
+      hears-ready (judged s c m) ack
+      (λ ready. cond_both (permitted s.live c.user m) decision.Place decision.Filter
+      (λ e. Hears s conn c m (noted s (acted_by s conn c m e)))
+      (λ may. hears-answered (noted s (acted_by s conn c m decision.Place)) m refl refl refl ready
+      send (may-permitted s.live c.user m may) (inr refl))
+      (λ no. hears-answered (noted s (acted_by s conn c m decision.Filter))
+      (msg.Meta (meta.Filtered (kind_of m))) refl refl refl ready send (le-leb 32 (kind_of m) high)
+      (inl refl)))
+
+-- an acknowledgement, by whether it is that of the live epoch, and the connection has none
+hears-ack : (s : State) (conn : ℕ) (c : Connection) (epoch : ℕ)
+    → open_connection s conn ≡ Some c
+    → let m = msg.Control (control.Ack epoch) in
+    Hears s conn c m (noted s (acted_by s conn c m (decided s conn c m)))
+hears-ack s conn c epoch found =
+    let m = msg.Control (control.Ack epoch) in
+    let b = has_acknowledged s c in
+    let stays : (b || is_ack (epoch_of s) m) ≡ b
+    → Hears s conn c m (noted s (acted_by s conn c m decision.Ignore)) =
+    λ ready. hears-still s conn c m found (noted s (acted_by s conn c m decision.Ignore)) refl refl
+    refl ready (and_no b) in
+    cond_both (epoch == epoch_of s && not b) decision.Acknowledge decision.Ignore
+    (λ e. Hears s conn c m (noted s (acted_by s conn c m e)))
+    (λ yes.
+    let two = and_parts (epoch == epoch_of s) (not b) yes in
+    hears-takes s conn c m found epoch refl (eqb-true epoch (epoch_of s) two.0) (not-true b two.1))
+    (λ no.
+    ⊎_elim (λ (ready : b ≡ true). stays (ap (λ a. a || is_ack (epoch_of s) m) ready ∙ sym ready))
+    (λ (late : b ≡ false).
+    let other : (epoch == epoch_of s) ≡ false =
+    not_both (epoch == epoch_of s) b late no in
+    stays (ap (λ a. b || a) other ∙ or_no b))
+    (cases_Bool b))
+  where
+    not_both : (a b : Bool) → b ≡ false → (a && not b) ≡ false → a ≡ false
+    not_both true true late is = cc
+    not_both true false late is = cc
+    not_both false b late is = refl
+
+-- a part, by the reset that it would join
+hears-part : (s : State) (conn : ℕ) (c : Connection) (command : Draw) (o : Option (List Draw))
+    → open_connection s conn ≡ Some c
+    → Hears s conn c (msg.Part command) (noted s (acted_by s conn c (msg.Part command)
+    (part_decided command o)))
+hears-part s conn c command None found =
+    hears-filtered s conn c (msg.Part command) found (noted s (acted_by s conn c (msg.Part command)
+    decision.Filter)) refl refl refl refl refl refl
+hears-part s conn c command (Some commands) found =
+    let m = msg.Part command in
+    let b = has_acknowledged s c in
+    cond_both (fits_reset commands command) decision.AddPart decision.DropReset
+    (λ e. Hears s conn c m (noted s (acted_by s conn c m e)))
+    (λ fits. hears-still s conn c m found (noted s (acted_by s conn c m decision.AddPart)) refl refl
+    refl (or_no b) (and_no b))
+    (λ full. hears-filtered s conn c m found (noted s (acted_by s conn c m decision.DropReset)) refl
+    refl refl refl refl refl)
+
+-- a send has a kind from 32 on
+abbrev pub IsHigh : Msg → Type 0
+IsHigh (msg.Control m) = Unit {0}
+IsHigh (msg.Part command) = Unit {0}
+IsHigh m = 32 ≤ kind_of m
+
+hears-decided : (s : State) (conn : ℕ) (c : Connection) (m : Msg)
+    → open_connection s conn ≡ Some c → IsHigh m
+    → Hears s conn c m (noted s (acted_by s conn c m (decided s conn c m)))
+hears-decided s conn c (msg.Control (control.Ping pong)) found high =
+    let m = msg.Control (control.Ping pong) in
+    hears-still s conn c m found (noted s (acted_by s conn c m decision.Ignore)) refl refl refl
+    (or_no (has_acknowledged s c)) (and_no (has_acknowledged s c))
+hears-decided s conn c (msg.Control (control.Disconnect reason)) found high =
+    let m = msg.Control (control.Disconnect reason) in
+    hears-still s conn c m found (noted s (acted_by s conn c m decision.Ignore)) refl refl refl
+    (or_no (has_acknowledged s c)) (and_no (has_acknowledged s c))
+hears-decided s conn c (msg.Control (control.Ack epoch)) found high =
+    hears-ack s conn c epoch found
+hears-decided s conn c (msg.Control control.ResetBegin) found high =
+    let m = msg.Control control.ResetBegin in
+    hears-ready s conn c m found (heard s conn c m) refl
+    (λ ready. cond_both (may_begin s conn c) decision.BeginReset decision.Filter
+    (λ e. Hears s conn c m (noted s (acted_by s conn c m e)))
+    (λ yes. hears-still s conn c m found (noted s (acted_by s conn c m decision.BeginReset)) refl
+    refl refl (or_no (has_acknowledged s c)) (and_no (has_acknowledged s c)))
+    (λ no. hears-filtered s conn c m found (noted s (acted_by s conn c m decision.Filter)) refl refl
+    refl refl refl refl))
+hears-decided s conn c (msg.Control control.ResetEnd) found high =
+    let m = msg.Control control.ResetEnd in
+    hears-ready s conn c m found (heard s conn c m) refl
+    (λ ready. cond_both (is_some (reset_of s conn c)) decision.OpenEpoch decision.Filter
+    (λ e. Hears s conn c m (noted s (acted_by s conn c m e)))
+    (λ yes. hears-opened s conn c m found (sent_commands s.stream)
+    (s.answers ++ reply.Placed (epoch_of s + 1) 0 ∷ []))
+    (λ no. hears-filtered s conn c m found (noted s (acted_by s conn c m decision.Filter)) refl refl
+    refl refl refl refl))
+hears-decided s conn c (msg.Control (control.Hello name)) found high =
+    let m = msg.Control (control.Hello name) in
+    hears-ready s conn c m found decision.Filter refl
+    (λ ready. hears-filtered s conn c m found (noted s (acted_by s conn c m decision.Filter)) refl
+    refl refl refl refl refl)
+hears-decided s conn c (msg.Control (control.Welcome version user epoch at)) found high =
+    let m = msg.Control (control.Welcome version user epoch at) in
+    hears-ready s conn c m found decision.Filter refl
+    (λ ready. hears-filtered s conn c m found (noted s (acted_by s conn c m decision.Filter)) refl
+    refl refl refl refl refl)
+hears-decided s conn c (msg.Part command) found high =
+    let m = msg.Part command in
+    hears-ready s conn c m found (heard s conn c m) refl
+    (λ ready. hears-part s conn c command (reset_of s conn c) found)
+hears-decided s conn c m found high = hears-judged s conn c m found refl refl high
+
+hears-event : (s : State) (conn : ℕ) (c : Connection) (m : Msg)
+    → open_connection s conn ≡ Some c → IsHigh m
+    → Hears s conn c m (after_event s (event.Say conn m))
+hears-event s conn c m found high =
+    let is : acted s (event.Say conn m) ≡ acted_by s conn c m (decided s conn c m) =
+    ap (λ o. option_map_or (says_by s conn m) o (stays s reply.Ignored)) found in
+    subst (λ a. Hears s conn c m (noted s a)) (sym is) (hears-decided s conn c m found high)
 
 -- ---- ids
 
@@ -334,47 +663,70 @@ Spares (event.Open name registered) n = Unit {0}
 Spares (event.Say conn m) n = n ≡ conn → ⊥
 Spares (event.Close conn) n = n ≡ conn → ⊥
 
-people-ready : (s : State) (conn : ℕ) (c : Connection) → HasPeople s
-    → open_connection s conn ≡ Some c → has_acknowledged s c ≡ true
-people-ready s conn c h found = eq-eqb c.acknowledged (epoch_of s) (h.ready conn c found)
-
--- nobody takes up an epoch any more
-none-late : (s : State) (conn : ℕ) (c : Connection) → HasPeople s
-    → open_connection s conn ≡ Some c → has_acknowledged s c ≡ false → ⊥
-none-late s conn c h found late =
-    let no : true ≡ false = sym (people-ready s conn c h found) ∙ late in cc
-
 effect-people : (s : State) (e : Event) (effect : Effect) → IsEffect s e effect → HasPeople s
-    → ArePeople (epoch_of s) (connections_after s effect)
-effect-people s e (Nothing answer) cause h = h
+    → ArePeople (length (ended_after s effect)) (connections_after s effect)
 effect-people s e (TakesUp conn c) cause h =
-    absurd (none-late s conn c h cause.1.at.found cause.2)
-effect-people s e (Placed conn c m) cause h = h
-effect-people s e (Filtered conn c m) cause h = h
+    let d : Connection = record c { acknowledged = epoch_of s } in
+    people-from (epoch_of s) (epoch_of s) s.connections (slice_set s.connections (conn - 1) d)
+    (λ n x is.
+    ⊎_elim (λ (new : (n ≡ conn) × (x ≡ d)). record {
+      old = c;
+      found = ap (λ k. open_in s.connections k) new.0 ∙ cause.1.at.found;
+      user = ap (λ y. y.user) new.1;
+      known = omega (arith, ap (λ y. y.acknowledged) new.1);
+    })
+    (λ (old : open_in s.connections n ≡ Some x).
+    record { old = x; found = old; user = refl; known = h.connections.known n x old })
+    (open-set s.connections conn c d n x cause.1.at.found is))
+    h.connections
 effect-people s e (Joined user registered name next) cause h =
     let free = free-id s user cause.free in
     people-more (epoch_of s) s.connections (new_connection s user) free.0 refl
-    (fresh-id s user free.1) h
+    (fresh-id s user free.1) h.connections
 effect-people s e (Left conn c next) cause h =
     let d : Connection = record c { ending = ending.Left (here s) } in
-    people-fewer (epoch_of s) s.connections (slice_set s.connections (conn - 1) d)
-    (λ n x is. open-back s.connections conn c d n x cause.at.found refl is) h
+    people-from (epoch_of s) (epoch_of s) s.connections (slice_set s.connections (conn - 1) d)
+    (λ n x is.
+    ⊎_elim (λ (new : (n ≡ conn) × (x ≡ d)).
+    let up : is_open d ≡ true =
+    subst (λ y. is_open y ≡ true) new.1
+    (open-found (slice_set s.connections (conn - 1) d) n x is).1 in
+    absurd (false≢true up))
+    (λ (old : open_in s.connections n ≡ Some x).
+    record { old = x; found = old; user = refl; known = h.connections.known n x old })
+    (open-set s.connections conn c d n x cause.at.found is))
+    h.connections
+effect-people s e (Reopened conn c commands) cause h =
+    people-from (epoch_of s) (length (s.ended ++ s.live ∷ [])) s.connections s.connections
+    (λ n x is. record {
+      old = x;
+      found = is;
+      user = refl;
+      known = omega
+          (arith, length-append s.ended (s.live ∷ []), h.connections.known n x is);
+    })
+    h.connections
+effect-people s e effect cause h = h.connections
 
-effect-stay : (s : State) (e : Event) (effect : Effect) → IsEffect s e effect → HasPeople s
+effect-server : (s : State) (effect : Effect) → IsServerFirst s.live
+    → IsServerFirst (live_after s effect)
+effect-server s (Reopened conn c commands) h = refl
+effect-server s effect h = server-more s.live (entries_of effect) h
+
+effect-stay : (s : State) (e : Event) (effect : Effect) → IsEffect s e effect
     → (n : ℕ) (x : Connection) → Spares e n → open_connection s n ≡ Some x
     → open_in (connections_after s effect) n ≡ Some x
-effect-stay s e (Nothing answer) cause h n x other is = is
-effect-stay s e (TakesUp conn c) cause h n x other is =
-    absurd (none-late s conn c h cause.1.at.found cause.2)
-effect-stay s e (Placed conn c m) cause h n x other is = is
-effect-stay s e (Filtered conn c m) cause h n x other is = is
-effect-stay s e (Joined user registered name next) cause h n x other is =
+effect-stay s e (TakesUp conn c) cause n x other is =
+    open-other s.connections conn c (record c { acknowledged = epoch_of s }) n x
+    cause.1.at.found (subst (λ k. Spares k n) cause.1.came other) is
+effect-stay s e (Joined user registered name next) cause n x other is =
     let d = new_connection s user in
     let f = open-found s.connections n x is in
     open-from (s.connections ++ d ∷ []) n x (numbered-old s.connections (d ∷ []) n x f.0) f.1
-effect-stay s e (Left conn c next) cause h n x other is =
+effect-stay s e (Left conn c next) cause n x other is =
     open-other s.connections conn c (record c { ending = ending.Left (here s) }) n x
     cause.at.found (subst (λ k. Spares k n) cause.came other) is
+effect-stay s e effect cause n x other is = is
 
 none-owner : (user : ℕ) (o : Option ℕ) → 1 ≤ user → NoAnswers user (next_owner o)
 none-owner user None above = tt
@@ -389,40 +741,73 @@ none-said : (s : State) (e : Event) (conn : ℕ) (c : Connection) (m : Msg) (d :
 none-said s e conn c m d entry said whose h n x other is =
     let far : n ≡ conn → ⊥ = subst (λ k. Spares k n) said.came other in
     none-other x.user entry []
-    (λ same. far (h.apart n conn x c is said.at.found (sym same ∙ whose))) tt
+    (λ same. far (h.connections.apart n conn x c is said.at.found (sym same ∙ whose))) tt
 
 effect-strange : (s : State) (e : Event) (effect : Effect) → IsEffect s e effect → HasPeople s
     → (n : ℕ) (x : Connection) → Spares e n → open_connection s n ≡ Some x
     → NoAnswers x.user (entries_of effect)
-effect-strange s e (Nothing answer) cause h n x other is = tt
-effect-strange s e (TakesUp conn c) cause h n x other is = tt
 effect-strange s e (Placed conn c m) cause h n x other is =
     none-said s e conn c m decision.Place (entry_of c.user m) cause.0 refl h n x other is
 effect-strange s e (Filtered conn c m) cause h n x other is =
     none-said s e conn c m decision.Filter (filtered_entry c.user m) cause.0 refl h n x other is
 effect-strange s e (Joined user registered name next) cause h n x other is =
     none-mute x.user (entry_of user (msg.Meta (meta.Join registered name))) (next_owner next) refl
-    (none-owner x.user next (h.users n x is))
+    (none-owner x.user next (h.connections.users n x is))
 effect-strange s e (Left conn c next) cause h n x other is =
     none-mute x.user (entry_of c.user (msg.Meta meta.Leave)) (next_owner next) refl
-    (none-owner x.user next (h.users n x is))
+    (none-owner x.user next (h.connections.users n x is))
+effect-strange s e (Dropped conn c command) cause h n x other is =
+    none-said s e conn c (msg.Part command) decision.DropReset
+    (filtered_entry c.user (msg.Part command)) cause.said refl h n x other is
+effect-strange s e effect cause h n x other is = tt
+
+effect-grown : (s : State) (e : Event) (effect : Effect) → IsEffect s e effect → HasPeople s
+    → length (ended_after s effect) ≡ epoch_of s → Grown s (Spares e) (noted s (made s effect))
+effect-grown s e (Reopened conn c commands) cause h same =
+    absurd (omega (arith, same, length-append s.ended (s.live ∷ [])))
+effect-grown s e effect cause h same = record {
+  more = entries_of effect;
+  live = refl;
+  strange = effect-strange s e effect cause h;
+}
+
+effect-later : (s : State) (effect : Effect) → epoch_of s < length (ended_after s effect)
+    → (user : ℕ) → Unheard user (live_after s effect)
+effect-later s (Reopened conn c commands) less user =
+    unheard-opening user (epoch_of s + 1) s.live (present_users s) commands
+effect-later s effect less user = absurd (omega (arith, less))
+
+effect-epochs : (s : State) (effect : Effect) → epoch_of s ≤ length (ended_after s effect)
+effect-epochs s (Reopened conn c commands) = omega (arith, length-append s.ended (s.live ∷ []))
+effect-epochs s effect = omega arith
 
 passes-effect : (s : State) (e : Event) (effect : Effect) → IsEffect s e effect → HasPeople s
     → Passes s (Spares e) (noted s (made s effect))
 passes-effect s e effect cause h = record {
-  people = effect-people s e effect cause h;
-  more = entries_of effect;
-  live = refl;
-  stay = effect-stay s e effect cause h;
-  strange = effect-strange s e effect cause h;
+  people = record {
+    connections = effect-people s e effect cause h;
+    server = effect-server s effect h.server;
+  };
+  epochs = effect-epochs s effect;
+  same = effect-grown s e effect cause h;
+  later = λ less n c other is. effect-later s effect less c.user;
+  stay = effect-stay s e effect cause;
 }
 
--- what the answer to an Open says: its connection is open and of the user, and no answer of the
--- user's stands after the place of the Join
+-- Its connection is open, of the user, and has taken up the live epoch, in which the Join stands;
+-- no answer of the user's stands after that.
+pub record Welcomes (conn user epoch at : ℕ) (t : State) : Type 0 where
+  pub connection : Connection
+  pub found : open_connection t conn ≡ Some connection
+  pub whose : connection.user ≡ user
+  pub ready : has_acknowledged t connection ≡ true
+  pub opened : epoch ≡ epoch_of t
+  pub base : at < length t.live
+  pub none : answers_from user at 0 t.live ≡ []
+
+-- what the answer to an Open says
 abbrev pub Tells : State → State → Reply → Type 0
-Tells s t (reply.Opened conn user epoch at) =
-    (c : Connection) × (open_connection t conn ≡ Some c) × (c.user ≡ user) × (at < length t.live)
-    × (answers_from user at 0 t.live ≡ [])
+Tells s t (reply.Opened conn user epoch at) = Welcomes conn user epoch at t
 Tells s t other = Unit {0}
 
 pub record Opens (s : State) (r : Reply) (t : State) : Type 0 where
@@ -433,28 +818,28 @@ still-tells : (s t : State) (r : Reply) → IsStill r → Tells s t r
 still-tells s t (reply.Opened conn user epoch at) still = absurd still
 still-tells s t r still = tt
 
-effect-tells : (s : State) (e : Event) (effect : Effect) → IsEffect s e effect → HasPeople s
+effect-tells : (s : State) (e : Event) (effect : Effect) → IsEffect s e effect
     → Tells s (noted s (made s effect)) (answer_of s effect)
-effect-tells s e (Nothing answer) cause h =
+effect-tells s e (Nothing answer) cause =
     still-tells s (noted s (made s (Nothing answer))) answer cause
-effect-tells s e (TakesUp conn c) cause h = tt
-effect-tells s e (Placed conn c m) cause h = tt
-effect-tells s e (Filtered conn c m) cause h = tt
-effect-tells s e (Joined user registered name next) cause h =
+effect-tells s e (Joined user registered name next) cause =
     let join = entry_of user (msg.Meta (meta.Join registered name)) in
     let more : List Entry = join ∷ next_owner next in
     let d = new_connection s user in
-    let above = (free-id s user cause.free).0 in (
-      d,
-      open-from (s.connections ++ d ∷ []) (length s.connections + 1) d
-          (numbered-new s.connections d) refl,
-      refl,
-      omega (arith, length-append s.live more),
-      answers-same user (length s.live) s.live more
+    let above = (free-id s user cause.free).0 in
+    record {
+      connection = d;
+      found = open-from (s.connections ++ d ∷ []) (length s.connections + 1) d
+          (numbered-new s.connections d) refl;
+      whose = refl;
+      ready = eq-eqb (epoch_of s) (epoch_of s) refl;
+      opened = refl;
+      base = omega (arith, length-append s.live more);
+      none = answers-same user (length s.live) s.live more
           (none-mute user join (next_owner next) refl (none-owner user next above))
-          ∙ answers-before user (length s.live) 0 s.live (omega arith),
-    )
-effect-tells s e (Left conn c next) cause h = tt
+          ∙ answers-before user (length s.live) 0 s.live (omega arith);
+    }
+effect-tells s e effect cause = tt
 
 -- ---- where one more event leads
 
@@ -464,6 +849,7 @@ pub record Leading : Type 0 where
       → state_of (kept past e) ≡ after_event (state_of past) e
   pub before : (past : Past) (e : Event) → ShutBefore past → ShutBefore (sure_step past e)
   pub effects : EventsHaveEffects
+  pub marked : (past : Past) → AreHistories (state_of past)
   pub same : (m : Msg) → same_message m m ≡ true
 
 -- the event was not answered Ended
@@ -505,14 +891,12 @@ pub passes-close : Leading → (past : Past) (conn : ℕ) → ShutBefore past
 passes-close laws past conn before goes people =
     passes-step laws past (event.Close conn) before goes people
 
-pub answered-say : Leading → (past : Past) (conn : ℕ) (m : Msg) (c : Connection) → ShutBefore past
-    → NotEnded past (event.Say conn m) → HasPeople (state_of past)
-    → open_connection (state_of past) conn ≡ Some c → 32 ≤ kind_of m
-    → Answered (state_of past) c.user m (state_of (sure_step past (event.Say conn m)))
-answered-say laws past conn m c before goes people found high =
-    let s = state_of past in
-    subst (Answered s c.user m) (sym (step-kept laws past (event.Say conn m) before goes))
-    (answered-event s conn c m found (people-ready s conn c people found) high)
+pub hears-say : Leading → (past : Past) (conn : ℕ) (m : Msg) (c : Connection) → ShutBefore past
+    → NotEnded past (event.Say conn m) → open_connection (state_of past) conn ≡ Some c → IsHigh m
+    → Hears (state_of past) conn c m (state_of (sure_step past (event.Say conn m)))
+hears-say laws past conn m c before goes found high =
+    subst (Hears (state_of past) conn c m) (sym (step-kept laws past (event.Say conn m) before goes))
+    (hears-event (state_of past) conn c m found high)
 
 pub opens-open : Leading → (past : Past) (name : List ℕ) (registered : Bool) → ShutBefore past
     → NotEnded past (event.Open name registered) → HasPeople (state_of past)
@@ -528,5 +912,5 @@ opens-open laws past name registered before goes people =
     (subst (Opens s (answer_to past e)) (sym (step-kept laws past e before goes))
     (subst (λ a. Opens s a.reply (noted s a)) (sym h.made) (record {
       passes = passes-effect s e h.effect h.cause people;
-      tells = effect-tells s e h.effect h.cause people;
+      tells = effect-tells s e h.effect h.cause;
     })))

@@ -1,5 +1,5 @@
 -- Worlds: what holds of a client and its sends holds after each action.
-use Rattle.std.proofs.Common.{◌≡◌, ℕ, ◌+◌, ◌<◌, ◌≤◌, ◌==◌, Bool, true, false, if◌then◌else◌}
+use Rattle.std.proofs.Common.{◌≡◌, ℕ, ◌+◌, ◌≤◌, ◌==◌, Bool, true, false, if◌then◌else◌}
 use Rattle.std.proofs.Common.{List, [], ◌∷◌, ◌++◌, length, drop, fold, Option, None, Some}
 use Rattle.std.proofs.Common.{refl, sym, ap, subst, ◌∙◌, ⊎_elim, arith, append-nil, append_assoc}
 use Rattle.std.specs.Prelude.{◌↔◌, IsTrue, IfSome}
@@ -11,9 +11,8 @@ use Rattle.dp_messages.specs.declared.message.Msg.{Msg}
 use Rattle.dp_messages.specs.declared.message.Entry.{Entry}
 use Rattle.dp_messages.specs.Equality.{same_message}
 use Rattle.dp_client.specs.Client as client
-use Rattle.dp_client.specs.Client.{Step, Said, Took, after_step, after_steps, own_of}
+use Rattle.dp_client.specs.Client.{Step, Said, Took, after_step, after_steps, last_before, own_of}
 use Rattle.dp_client.specs.declared.own.Own.TheVariants.{Lost}
-use Rattle.dp_events.specs.declared.connection.Connection.{Connection}
 use Rattle.dp_events.specs.declared.event.Event.{Event}
 use Rattle.dp_events.specs.declared.event.Event.TheVariants as event
 use Rattle.dp_events.specs.declared.event.Reply.{Reply}
@@ -21,7 +20,7 @@ use Rattle.dp_events.specs.declared.event.Reply.TheVariants as reply
 use Rattle.dp_epochs.specs.State.{open_connection, after_event}
 use Rattle.dp_epochs.specs.Past.{Past, state_of, kept, sure_step, sure_answer}
 use Rattle.dp_epochs.specs.Effects.{EventsHaveEffects}
-use Rattle.dp_epochs.specs.Laws.{ShutBefore}
+use Rattle.dp_epochs.specs.Laws.{AreHistories, ShutBefore}
 use Rattle.dp_schedule.specs.declared.action.Instruction.{Instruction}
 use Rattle.dp_schedule.specs.declared.action.Instruction.TheVariants.{Take}
 use Rattle.dp_schedule.specs.declared.action.Action.{Action}
@@ -42,10 +41,10 @@ use Rattle.dp_lists.proofs.Numbered.{numbered-past}
 use Rattle.dp_sim_laws.proofs.Steps.{none-if, Goes, goes-after, goes-first, welcome-steps}
 use Rattle.dp_sim_laws.proofs.Steps.{exchange-steps}
 use Rattle.dp_sim_laws.proofs.Answering.{answers_from, Answer}
-use Rattle.dp_sim_laws.proofs.Events.{HasPeople, no-people, Everyone, NotThis, Passes, Opens}
-use Rattle.dp_sim_laws.proofs.Events.{Leading, opens-open}
+use Rattle.dp_sim_laws.proofs.Events.{HasPeople, first-people, Everyone, NotThis, Passes, Opens}
+use Rattle.dp_sim_laws.proofs.Events.{Welcomes, Leading, opens-open}
 use Rattle.dp_sim_laws.proofs.Clients.{NeverEnds, Holds, holds-passes, exchange-passes}
-use Rattle.dp_sim_laws.proofs.Clients.{holds-exchanged, not-gone, next-is, next-kept}
+use Rattle.dp_sim_laws.proofs.Clients.{holds-exchanged, not-gone, next-kept}
 
 -- ---- tallies
 
@@ -83,28 +82,36 @@ record Leaves (v : World) (number : ℕ) (steps : List Step) : Type 0 where
 -- ---- joining
 
 -- a client that was just welcomed
-holds-new : (past : Past) (number conn user epoch at : ℕ) (c : Connection)
-    → open_connection (state_of past) conn ≡ Some c → c.user ≡ user
-    → at < length (state_of past).live
-    → answers_from user at 0 (state_of past).live ≡ [] → conn ≡ number
+holds-new : (past : Past) (number conn user epoch at : ℕ)
+    → Welcomes conn user epoch at (state_of past) → conn ≡ number
     → Holds (state_of past) number (new_participant conn user epoch at) no_sends
-holds-new past number conn user epoch at c found same behind none is = record {
-  few = omega arith;
-  fork = refl;
-  live = λ here. record {
-    connection = c;
-    found = subst (λ n. open_connection (state_of past) n ≡ Some c) is found;
-    user = same;
-    joined = behind;
-    heard = [];
-    waits = [];
-    sends = refl;
-    uplink = refl;
-    sayable = tt;
-    answered = subst (λ ms. Answer ms []) (sym none) tt;
-    taken = refl;
-  };
-}
+holds-new past number conn user epoch at w is =
+    let s = state_of past in
+    let p = new_participant conn user epoch at in
+    let base : last_before p.state ≡ at =
+    ap (λ b. if b then at else 0) (eq-eqb epoch epoch refl) in
+    record {
+      few = omega arith;
+      fork = refl;
+      live = λ here. record {
+        connection = w.connection;
+        found = subst (λ n. open_connection s n ≡ Some w.connection) is w.found;
+        user = w.whose;
+        known = omega (arith, w.opened);
+        stands = tt;
+        endless = λ on. tt;
+        here = λ same. record {
+          base = omega (arith, base, w.base);
+          sent = [];
+          sends = refl;
+          answered = subst (λ ms. Answer ms []) (sym (ap (λ n. answers_from user n 0 s.live) base
+              ∙ w.none)) tt;
+          taken = refl;
+          more = λ on. w.ready;
+        };
+        behind = λ less. absurd (omega (arith, less, w.opened));
+      };
+    }
 
 holds-joined : (w : World) (past : Past) (r : Reply) (number : ℕ) (steps : List Step)
     → Good w number steps
@@ -115,21 +122,20 @@ holds-joined : (w : World) (past : Past) (r : Reply) (number : ℕ) (steps : Lis
 holds-joined w past (reply.Opened conn user epoch at) number steps h opens world p is =
     ⊎_elim (λ (old : numbered w.participants number ≡ Some p).
     holds-passes (state_of w.past) (state_of past) Everyone number p (tally_of p.state steps)
-    opens.passes tt (h.holds p old))
+    h.people opens.passes tt (h.holds p old))
     (λ (new : (number ≡ length w.participants + 1) × (p ≡ new_participant conn user epoch at)).
     let none : steps ≡ [] = h.goes.none (numbered-past w.participants number new.0) in
     let hp = at_some (numbered (w.participants ++ new_participant conn user epoch at ∷ []) number)
     (IsParticipant (state_of past) number) p
     (world.participants number) is in
     let same : conn ≡ number = ap (λ q. q.conn) (sym new.1) ∙ hp.conn in
-    let t = opens.tells in
     subst (λ s. Holds (state_of past) number p (tally_of p.state s)) (sym none)
     (subst (λ q. Holds (state_of past) number q no_sends) (sym new.1)
-    (holds-new past number conn user epoch at t.0 t.1 t.2 t.3 t.4 same)))
+    (holds-new past number conn user epoch at opens.tells same)))
     (numbered-either w.participants (new_participant conn user epoch at) number p is)
 holds-joined w past r number steps h opens world p is =
     holds-passes (state_of w.past) (state_of past) Everyone number p (tally_of p.state steps)
-    opens.passes tt (h.holds p is)
+    h.people opens.passes tt (h.holds p is)
 
 leaves-joined : Leading → (w : World) (number : ℕ) (registered : Bool) (name : List ℕ)
     (steps : List Step) → Good w number steps
@@ -159,7 +165,7 @@ holds-other w number actor participant t steps h found passes ne p is =
     let hp = at_some (participant_of w actor) (IsParticipant (state_of w.past) actor) participant
     (h.world.participants actor) found in
     holds-passes (state_of w.past) (state_of t.past) (NotThis participant.conn) number p
-    (tally_of p.state steps) passes
+    (tally_of p.state steps) h.people passes
     (λ same. ne (same ∙ hp.conn)) (h.holds p before)
 
 -- and of the client itself
@@ -184,8 +190,8 @@ holds-own laws w number participant instruction steps h found may goes p is =
     subst (λ q. Holds (state_of t.past) number q (tally_of q.state (steps ++ more))) same
     (subst (Holds (state_of t.past) number t.participant) (sym tally)
     (holds-exchanged laws number (turn_of w participant) instruction
-    (tally_of participant.state steps) h.world.before h.people h.world.history
-    h.world.ended hp may goes (h.holds participant found)))
+    (tally_of participant.state steps) h.world.before h.people hp may goes
+    (h.holds participant found)))
 
 leaves-acted : Leading → (w : World) (number actor : ℕ) (instruction : Instruction)
     (steps : List Step) → Good w number steps
@@ -257,14 +263,15 @@ pub record Staying : Type 0 where
 pub staying : ((past : Past) (e : Event) → ShutBefore past
     → state_of (kept past e) ≡ after_event (state_of past) e)
     → ((past : Past) (e : Event) → ShutBefore past → ShutBefore (sure_step past e))
-    → EventsHaveEffects
+    → EventsHaveEffects → ((past : Past) → AreHistories (state_of past))
     → ((m n : Msg) → IsTrue (same_message m n) ↔ (m ≡ n)) → IsWorld first_world
     → ((w : World) (action : Action) → IsWorld w → IsWorld (after w action)) → Staying
-staying on_kept before effects equality first stays = record {
+staying on_kept before effects marked equality first stays = record {
   leading = record {
     on_kept = on_kept;
     before = before;
     effects = effects;
+    marked = marked;
     same = λ m. (equality m m).1 refl;
   };
   first = first;
@@ -309,7 +316,7 @@ none-first number x is = let found = number-found [] number x is in let no : Non
 good-first : Staying → (number : ℕ) → Good first_world number []
 good-first laws number = record {
   world = laws.first;
-  people = no-people;
+  people = first-people;
   goes = goes-first number;
   holds = λ p is. absurd (none-first number p is);
 }
@@ -369,6 +376,5 @@ fork-kept laws actions number h =
     let hp = at_some (participant_of w number) (IsParticipant (state_of w.past) number) p
     (g.world.participants number) is in
     let some = next-some w p entry next in
-    next-kept laws.leading (state_of w.past) number p (tally_of p.state (own_steps number actions))
-    entry hp (g.holds p is)
-    (not-gone p.link Take some.0) (next-is (turn_of w p) hp.epoch g.world.ended ∙ some.1)))
+    next-kept laws.leading number (turn_of w p) (tally_of p.state (own_steps number actions)) entry
+    g.people hp (g.holds p is) (not-gone p.link Take some.0) some.1))

@@ -5,7 +5,8 @@ use Rattle.std.specs.Option.{option_map_or}
 use Rattle.dp_messages.specs.declared.message.Entry.{Entry}
 use Rattle.dp_client.specs.Client.{State, Step, Said, Took, welcomed, after_steps}
 use Rattle.dp_schedule.specs.declared.action.Instruction.{Instruction}
-use Rattle.dp_schedule.specs.declared.action.Instruction.TheVariants.{Say, Up, Take, Leave, Cut}
+use Rattle.dp_schedule.specs.declared.action.Instruction.TheVariants.{Say, Up, Take, Reset}
+use Rattle.dp_schedule.specs.declared.action.Instruction.TheVariants.{Leave, Cut}
 use Rattle.dp_schedule.specs.declared.action.Action.{Action}
 use Rattle.dp_schedule.specs.declared.action.Action.TheVariants.{Join, Act, Show}
 use Rattle.dp_sim.specs.Exchanges.{Participant, Exchange, is_gone, next_entry}
@@ -26,6 +27,7 @@ abbrev pub steps_of_deed : Exchange → Instruction → List Step
 steps_of_deed t (Say m) = Said m ∷ []
 steps_of_deed t Take = map Took (option_to_list (next_entry t))
 steps_of_deed t Up = []
+steps_of_deed t Reset = []
 steps_of_deed t Leave = []
 steps_of_deed t Cut = []
 

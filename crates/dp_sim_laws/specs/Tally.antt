@@ -10,7 +10,8 @@ use Rattle.dp_events.specs.declared.event.Reply.{Reply}
 use Rattle.dp_events.specs.declared.event.Reply.TheVariants.{Ended}
 use Rattle.dp_epochs.specs.Past.{sure_answer}
 use Rattle.dp_schedule.specs.declared.action.Instruction.{Instruction}
-use Rattle.dp_schedule.specs.declared.action.Instruction.TheVariants.{Say, Up, Take, Leave, Cut}
+use Rattle.dp_schedule.specs.declared.action.Instruction.TheVariants.{Say, Up, Take, Reset}
+use Rattle.dp_schedule.specs.declared.action.Instruction.TheVariants.{Leave, Cut}
 use Rattle.dp_schedule.specs.declared.action.Action.{Action}
 use Rattle.dp_schedule.specs.declared.action.Action.TheVariants.{Join, Act, Show}
 use Rattle.dp_sim.specs.Exchanges.{Exchange, is_gone, heard}
@@ -59,6 +60,7 @@ abbrev pub deed_replies : Exchange → Instruction → List Reply
 deed_replies t (Say m) = []
 deed_replies t Up = up_replies t t.participant.uplink
 deed_replies t Take = []
+deed_replies t Reset = []
 deed_replies t Leave = []
 deed_replies t Cut = sure_answer t.past (event.Close t.participant.conn) ∷ []
 

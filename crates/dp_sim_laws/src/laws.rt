@@ -8,7 +8,7 @@ ghost use Rattle.dp_sim.specs.World.{world_after, participant_of};
 ghost use Rattle.dp_sim_laws.specs.OwnSteps.{own_steps, GoesBy, next_of};
 ghost use Rattle.dp_sim_laws.specs.Tally.{IsUnended, tally_of};
 
-use dp_epochs::{events_have_effects, steps_lead_on};
+use dp_epochs::{events_have_effects, histories_are_marked, steps_lead_on};
 use dp_messages::one_equality;
 use dp_sim::worlds_stay_worlds;
 
@@ -34,6 +34,7 @@ pub fn forks_are_plain()
     worlds_stay_worlds();
     steps_lead_on();
     events_have_effects();
+    histories_are_marked();
     one_equality();
 }
 
@@ -47,5 +48,6 @@ pub fn no_fork_is_lost()
     worlds_stay_worlds();
     steps_lead_on();
     events_have_effects();
+    histories_are_marked();
     one_equality();
 }

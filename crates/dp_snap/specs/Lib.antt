@@ -1,3 +1,4 @@
 pub mod Tiles
 pub mod Snapshot
 pub mod Spelled
+pub mod Resets

@@ -40,11 +40,11 @@ none-count p xs none =
     let h = ltb-false 0 (count_by p xs) (sym (any-count p xs) ∙ none) in omega arith
 
 -- the mark after another is set
-mark-set_same : (present : List Bool) (user : ℕ) (b : Bool) → user < length present
+pub mark-set_same : (present : List Bool) (user : ℕ) (b : Bool) → user < length present
     → mark (set present user b) user ≡ b
 mark-set_same present user b within = get_or-set_same present user b false within
 
-mark-set_other : (present : List Bool) (user other : ℕ) (b : Bool) → (user ≡ other → ⊥)
+pub mark-set_other : (present : List Bool) (user other : ℕ) (b : Bool) → (user ≡ other → ⊥)
     → mark (set present user b) other ≡ mark present other
 mark-set_other present user other b apart = get_or-set_other present user other b false
     (λ e. apart (sym e))

@@ -1,6 +1,7 @@
 pub mod Ranges
 pub mod Holders
 pub mod TableLemmas
+pub mod ResetLemmas
 pub mod PlanLemmas
 pub mod QuietLemmas
 pub mod ReadLemmas

@@ -1,8 +1,9 @@
 -- Tests of the numbers of a range.
 use Rattle.std.proofs.Common.{◌≡◌, ℕ, zero, suc, ◌+◌, ◌<◌, ◌≤◌, Bool, true, false, ◌&&◌, ◌||◌, cond}
-use Rattle.std.proofs.Common.{List, [], ◌∷◌, None, Some, is_some, refl, sym, ap, ◌∙◌, ⊎_elim, arith}
+use Rattle.std.proofs.Common.{List, [], ◌∷◌, ◌++◌, None, Some, is_some, refl, sym, ap, ◌∙◌, ⊎_elim, arith}
 use Rattle.std.specs.List.{find, filter, list_any, range_with_len}
-use Rattle.std.proofs.lemmas.Bool.{cases_lt, cases_Bool}
+use Rattle.std.proofs.lemmas.Bool.{cases_lt, cases_Bool, cases_eq, eq-eqb, ne_eqb}
+use Rattle.dp_acl.specs.LookBack.{lists}
 use Rattle.dp_epochs.specs.State.{user_ids}
 
 -- the first number that passes is found
@@ -121,3 +122,59 @@ any_user-same p q same =
 -- both tests are passed
 pub both : {a b : Bool} → a ≡ true → b ≡ true → (a && b) ≡ true
 both {a} {b} x y = ap (λ t. t && b) x ∙ y
+
+-- ---- lists of ids
+
+listed-range : (p : ℕ → Bool) (low n user : ℕ) → low ≤ user → user < low + n
+    → lists (filter p (range_with_len low n)) user ≡ p user
+listed-range p low zero user above below = absurd (omega arith)
+listed-range p low (suc n) user above below =
+    ⊎_elim (λ (same : low ≡ user). first same (p low) refl)
+    (λ (other : low ≡ user → ⊥).
+    elim (p low) as (λ b. lists (cond b (low ∷ filter p (range_with_len (low + 1) n))
+    (filter p (range_with_len (low + 1) n))) user ≡ p user) [
+      | true ↦
+          ap (λ b. b || lists (filter p (range_with_len (low + 1) n)) user) (ne_eqb low user other)
+          ∙ listed-range p (low + 1) n user (omega arith) (omega arith)
+      | false ↦ listed-range p (low + 1) n user (omega arith) (omega arith)
+    ])
+    (cases_eq low user)
+  where
+    none : (k m : ℕ) → user < k → lists (filter p (range_with_len k m)) user ≡ false
+    none k zero apart = refl
+    none k (suc m) apart =
+        elim (p k) as (λ b. lists (cond b (k ∷ filter p (range_with_len (k + 1) m))
+        (filter p (range_with_len (k + 1) m))) user ≡ false) [
+          | true ↦
+              ap (λ b. b || lists (filter p (range_with_len (k + 1) m)) user)
+              (ne_eqb k user (λ e. omega arith))
+              ∙ none (k + 1) m (omega arith)
+          | false ↦ none (k + 1) m (omega arith)
+        ]
+
+    first : low ≡ user → (b : Bool) → p low ≡ b
+        → lists (cond (p low) (low ∷ filter p (range_with_len (low + 1) n))
+        (filter p (range_with_len (low + 1) n))) user ≡ p user
+    first same true is =
+        ap (λ b. lists (cond b (low ∷ filter p (range_with_len (low + 1) n))
+        (filter p (range_with_len (low + 1) n))) user) is
+        ∙ ap (λ b. b || lists (filter p (range_with_len (low + 1) n)) user) (eq-eqb low user same)
+        ∙ sym is ∙ ap p same
+    first same false is =
+        ap (λ b. lists (cond b (low ∷ filter p (range_with_len (low + 1) n))
+        (filter p (range_with_len (low + 1) n))) user) is
+        ∙ none (low + 1) n (omega (arith, same))
+        ∙ sym is ∙ ap p same
+
+-- an id of a user is among those that pass exactly where it passes
+pub lists-user : (p : ℕ → Bool) (user : ℕ) → 1 ≤ user → user ≤ 254
+    → lists (filter p user_ids) user ≡ p user
+unfolding user_ids
+lists-user p user above below = listed-range p 1 254 user above (omega arith)
+
+-- one more number of a range
+pub range-more : (low n : ℕ) → range_with_len low (suc n) ≡ range_with_len low n ++ (low + n) ∷ []
+range-more low zero = ap (λ k. k ∷ []) (omega arith)
+range-more low (suc n) =
+    ap (λ xs. low ∷ xs) (range-more (low + 1) n ∙ ap (λ k. range_with_len (low + 1) n ++ k ∷ [])
+    (omega arith))

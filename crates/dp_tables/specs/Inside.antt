@@ -13,6 +13,7 @@ is_ready t =
     && nat_lt (vec_len t.shut) (vec_capacity t.shut)
     && nat_lt (vec_len t.connections) (vec_capacity t.connections)
     && nat_lt (vec_len t.quiet) (vec_capacity t.quiet)
+    && nat_lt (vec_len t.parts) (vec_capacity t.parts)
     && nat_le (vec_len t.live + 2) (vec_capacity t.live)
     && nat_le 2 t.rights.room
 
@@ -30,9 +31,14 @@ abbrev pub seen : Inside → Seen
 seen t = record {
   journal = t.journal.items;
   connections = t.connections.items;
+  epoch = t.epoch;
   live = t.live.items;
   rights = t.rights;
   present = t.present;
+  opens = t.opens;
+  owner = t.owner;
+  parts = t.parts.items;
+  part_bytes = t.part_bytes;
 }
 
 -- the tables are those of the state to which the ledger leads, and lie within the limits

@@ -1,4 +1,5 @@
 pub mod Ledger
 pub mod Tables
+pub mod Openings
 pub mod Plans
 pub mod Inside

@@ -24,14 +24,16 @@ ghost use Rattle.dp_epochs.specs.State.{acted, open_in};
 ghost use Rattle.dp_epochs.specs.Past.{shut_with, quiet_with};
 ghost use Rattle.dp_tables.specs.Ledger.{state_in};
 ghost use Rattle.dp_tables.specs.Tables.{flagged};
-ghost use Rattle.dp_tables.specs.Plans.{event_of, entries_of, items_of, changed, marks_after};
-ghost use Rattle.dp_tables.specs.Plans.{quiet_after, event_in, shut_change, IsChange, IsReady};
+ghost use Rattle.dp_tables.specs.Plans.{event_of, epoch_after, items_after, history_after};
+ghost use Rattle.dp_tables.specs.Plans.{IsOpening, owner_after, parts_after, bytes_after};
+ghost use Rattle.dp_tables.specs.Plans.{changed, marks_after, opens_after, quiet_after, event_in};
+ghost use Rattle.dp_tables.specs.Plans.{shut_change, IsChange, IsReady};
 
 use crate::history_item::HistoryItem;
-use crate::plan::{Change, Placing, Plan, Ready};
+use crate::plan::{Change, Placing, Plan, Ready, StreamChange};
 use crate::tables::{Tables, open_connection};
 use dp_acl::Rights;
-use dp_epochs::steps_lead_on;
+use dp_epochs::{epochs_are_few, joins_stay, steps_lead_on};
 use dp_events::{Connection, Ending, Event, Reply, ShutAt};
 use dp_messages::Entry;
 
@@ -53,21 +55,26 @@ fn place_server(live: &mut Vec<HistoryItem>, rights: &mut Rights, entry: Option<
     }
 }
 
-/// Journals an event, and places its entries.
+/// Journals an event, and places its entries, or opens the next epoch.
 fn place(
     journal: &mut Vec<Event>,
+    epoch: &mut u32,
     live: &mut Vec<HistoryItem>,
     rights: &mut Rights,
     placing: Placing,
 )
     requires few { length journal.old.items < 2 ^ 32 }
+    requires next { epoch.old < 2 ^ 32 - 1 }
     requires journal { vec_len journal.old < vec_capacity journal.old }
     requires live { vec_len live.old + 2 ≤ vec_capacity live.old }
     requires rights { 2 ≤ rights.old.room }
     ensures journal { journal.new.items ≡ journal.old.items ++ event_of placing ∷ [] }
-    ensures live { live.new.items ≡ live.old.items ++ items_of (length journal.old.items) placing }
+    ensures epoch { epoch.new ≡ epoch_after placing epoch.old }
+    ensures live { live.new.items
+        ≡ items_after (length journal.old.items) placing live.old.items }
     ensures stands { (history : List Piece) → StandsFor rights.old history
-        → StandsFor rights.new (history ++ entries_of placing) }
+        → IsOpening journal.old.items placing
+        → StandsFor rights.new (history_after journal.old.items placing history) }
 {
     match placing {
         Placing::Said { conn, entry } => {
@@ -86,15 +93,59 @@ fn place(
             place_server(live, rights, second);
             journal.push_reserved(event);
         }
+        Placing::Opens { event, opening } => {
+            *epoch += 1;
+            *live = opening.live;
+            *rights = opening.rights;
+            journal.push_reserved(event);
+        }
     }
 }
 
-/// Makes a change of the connections.
+/// Changes the reset that is being sent by the event of this number, which has a payload of this
+/// size.
+fn follow(
+    owner: &mut Option<u32>,
+    parts: &mut Vec<u32>,
+    part_bytes: &mut u64,
+    change: StreamChange,
+    event: u32,
+    size: u64,
+)
+    requires parts { vec_len parts.old < vec_capacity parts.old }
+    requires within { part_bytes.old ≤ 2 ^ 28 }
+    requires size { size ≤ 2 ^ 30 }
+    ensures owner { owner.new ≡ owner_after change owner.old }
+    ensures parts { parts.new.items ≡ parts_after event change parts.old.items }
+    ensures bytes { part_bytes.new ≡ bytes_after size change part_bytes.old }
+{
+    match change {
+        StreamChange::Stays => {}
+        StreamChange::Begins(conn) => {
+            *owner = Some(conn);
+            parts.clear();
+            *part_bytes = 0;
+        }
+        StreamChange::Grows => {
+            parts.push_reserved(event);
+            *part_bytes += size;
+        }
+        StreamChange::Ends => {
+            *owner = None;
+            parts.clear();
+            *part_bytes = 0;
+        }
+    }
+}
+
+/// Makes a change of the connections, by the event of this number.
 fn make(
     connections: &mut Vec<Connection>,
     quiet: &mut Vec<bool>,
     present: &mut [bool; 256],
+    opens: &mut [u32; 256],
     change: Change,
+    event: u32,
 )
     requires connections { vec_len connections.old < vec_capacity connections.old }
     requires quiet { vec_len quiet.old < vec_capacity quiet.old }
@@ -102,6 +153,7 @@ fn make(
     ensures connections { connections.new.items ≡ changed change connections.old.items }
     ensures quiet { quiet.new.items ≡ quiet_after change quiet.old.items }
     ensures present { present.new ≡ marks_after change present.old }
+    ensures opens { opens.new ≡ opens_after event change opens.old }
 {
     match change {
         Change::Stays => {}
@@ -109,6 +161,7 @@ fn make(
             connections.push_reserved(connection);
             quiet.push_reserved(false);
             present[connection.user as usize] = true;
+            opens[connection.user as usize] = event;
         }
         Change::Becomes { conn, connection } => {
             connections[conn as usize - 1] = connection;
@@ -156,19 +209,40 @@ impl Tables {
         ensures reply { result ≡ (acted (state_in self.old) (event_in ready)).reply }
     {
         steps_lead_on();
+        joins_stay();
+        epochs_are_few();
         let Ready { plan, row } = ready;
         let Plan {
             reply,
             change,
+            stream,
             placing,
         } = plan;
-        self.row_bytes += row.bytes.as_slice().len() as u64;
-        place(&mut self.journal, &mut self.live, &mut self.rights, placing);
+        let event = self.journal.len() as u32;
+        let row_bytes = row.bytes.as_slice().len() as u64;
+        self.row_bytes += row_bytes;
+        follow(
+            &mut self.owner,
+            &mut self.parts,
+            &mut self.part_bytes,
+            stream,
+            event,
+            row_bytes.saturating_sub(6),
+        );
+        place(
+            &mut self.journal,
+            &mut self.epoch,
+            &mut self.live,
+            &mut self.rights,
+            placing,
+        );
         make(
             &mut self.connections,
             &mut self.quiet,
             &mut self.present,
+            &mut self.opens,
             change,
+            event,
         );
         reply
     }
@@ -189,7 +263,9 @@ impl Tables {
             &mut self.connections,
             &mut self.quiet,
             &mut self.present,
+            &mut self.opens,
             change,
+            n as u32,
         );
     }
 

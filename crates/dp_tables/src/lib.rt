@@ -5,10 +5,12 @@
 
 mod commit;
 mod history_item;
+mod opening;
 mod pages;
 mod plan;
 mod planner;
 mod presence;
+mod resets;
 mod tables;
 
 pub use plan::Ready;

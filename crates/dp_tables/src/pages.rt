@@ -8,36 +8,97 @@ ghost use Rattle.std.specs.Prelude.{
   true,
   is_some,
   map,
+  slice_get,
   take,
   All,
   IfOk,
+  Some,
 };
 ghost use Rattle.std.specs.List.{list_any};
-ghost use Rattle.dp_epochs.specs.State.{connection_of};
+ghost use Rattle.std.specs.Option.{option_map};
+ghost use Rattle.dp_acl.specs.Opening.{command_entry};
+ghost use Rattle.dp_epochs.specs.State.{connection_of, entry_of};
 ghost use Rattle.dp_epochs.specs.Pull.{page, pulled_from, pulled_by_left, pulled_where};
 ghost use Rattle.dp_tables.specs.Ledger.{state_in};
-ghost use Rattle.dp_tables.specs.Tables.{entry_in, IsIn, mark};
+ghost use Rattle.dp_tables.specs.Tables.{entry_in, IsIn, IsSay, join_of, mark, message_of, part_of};
 
 use crate::history_item::HistoryItem;
+use crate::planner::name_text;
 use crate::tables::Tables;
 use dp_events::{Answer, Ending, Entries, Event, Place};
 use dp_lists::{prefix_of, rest_of};
-use dp_messages::Entry;
+use dp_messages::{Entry, Msg};
+use dp_msg_meta::Meta;
 use std::alloc::{AllocError, Global};
 
+/// The message that the event says.
+fn said(journal: &[Event], event: u32, user: u8) -> Result<Entry, AllocError>
+    requires { IsSay (slice_get journal.now event) }
+    ensures { IfOk result (λ entry. entry
+        ≡ entry_of user (message_of (slice_get journal.now event))) }
+{
+    match journal.get(event as usize) {
+        Some(Event::Say { msg, .. }) => Ok(Entry {
+            user,
+            msg: msg.copy()?,
+        }),
+        _ => unreachable!(),
+    }
+}
+
+/// The command of the part that the event says.
+fn command(journal: &[Event], event: u32) -> Result<Entry, AllocError>
+    requires { is_some (part_of (slice_get journal.now event)) ≡ true }
+    ensures { IfOk result (λ entry. Some entry
+        ≡ option_map command_entry (part_of (slice_get journal.now event))) }
+{
+    match journal.get(event as usize) {
+        Some(
+            Event::Say {
+                msg: Msg::Part(command),
+                ..
+            },
+        ) => Ok(Entry {
+            user: 0,
+            msg: Msg::Draw(command.copy()?),
+        }),
+        _ => unreachable!(),
+    }
+}
+
+/// The user's Join by the Open that the event is.
+fn join(alloc: Global, journal: &[Event], event: u32, user: u8) -> Result<Entry, AllocError>
+    requires { is_some (join_of user (slice_get journal.now event)) ≡ true }
+    ensures { IfOk result (λ entry. Some entry ≡ join_of user (slice_get journal.now event)) }
+{
+    match journal.get(event as usize) {
+        Some(Event::Open { name, registered }) => match name_text(alloc, name.as_slice())? {
+            Some(name) => Ok(Entry {
+                user,
+                msg: Msg::Meta(Meta::Join {
+                    registered: *registered,
+                    name,
+                }),
+            }),
+            None => unreachable!(),
+        },
+        _ => unreachable!(),
+    }
+}
+
 /// A copy of an entry that is kept beside the journal.
-fn entry(journal: &[Event], item: &HistoryItem) -> Result<Entry, AllocError>
+pub(crate) fn entry(
+    alloc: Global,
+    journal: &[Event],
+    item: &HistoryItem,
+) -> Result<Entry, AllocError>
     requires { IsIn journal.now item.now }
     ensures { IfOk result (λ entry. entry ≡ entry_in journal.now item.now) }
 {
     match item {
-        HistoryItem::Said { event, user } => match journal.get(*event as usize) {
-            Some(Event::Say { msg, .. }) => Ok(Entry {
-                user: *user,
-                msg: msg.copy()?,
-            }),
-            _ => unreachable!(),
-        },
+        HistoryItem::Said { event, user } => said(journal, *event, *user),
+        HistoryItem::Joined { event, user } => join(alloc, journal, *event, *user),
+        HistoryItem::Command { event } => command(journal, *event),
         HistoryItem::Server(entry) => entry.copy(),
     }
 }
@@ -49,7 +110,7 @@ fn copies(alloc: Global, journal: &[Event], items: &[HistoryItem]) -> Result<Ent
 {
     let mut entries = Vec::new(alloc);
     for item in items {
-        entries.push(entry(journal, item)?)?;
+        entries.push(entry(alloc, journal, item)?)?;
     }
     Ok(Entries::from_vec(entries))
 }

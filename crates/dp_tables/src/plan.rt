@@ -1,5 +1,6 @@
 //! What is ready to be kept of an event.
 
+use crate::opening::Opening;
 use dp_events::{Connection, Event, Reply};
 use dp_keeper::Row;
 use dp_messages::Entry;
@@ -13,6 +14,19 @@ pub(crate) enum Change {
     Adds(Connection),
     /// The connection of this number becomes this one.
     Becomes { conn: u32, connection: Connection },
+}
+
+/// How an event changes the reset that is being sent.
+#[derive(Clone, Copy, Debug)]
+pub(crate) enum StreamChange {
+    /// It stays.
+    Stays,
+    /// The connection of this number begins one, in place of any other.
+    Begins(u32),
+    /// The event is one more part of it.
+    Grows,
+    /// It is no more.
+    Ends,
 }
 
 /// An event, and the entries that it places.
@@ -29,6 +43,11 @@ pub(crate) enum Placing {
         first: Option<Entry>,
         second: Option<Entry>,
     },
+    /// An event that opens the next epoch.
+    Opens {
+        event: Event,
+        opening: Opening,
+    },
 }
 
 /// An event with all that it makes of a session.
@@ -36,6 +55,7 @@ pub(crate) enum Placing {
 pub(crate) struct Plan {
     pub(crate) reply: Reply,
     pub(crate) change: Change,
+    pub(crate) stream: StreamChange,
     pub(crate) placing: Placing,
 }
 

@@ -1,18 +1,22 @@
 //! What an event makes of a session, with the memory that it needs.
 
 ghost use Rattle.std.specs.Prelude.{◌≡◌, Some, None, is_some, option_to_list, false, IfOk};
-ghost use Rattle.std.specs.Prelude.{IfSome, MatchOption};
+ghost use Rattle.std.specs.Prelude.{IfSome, MatchOption, length};
+ghost use Rattle.dp_messages.specs.Messages.{payload_of};
 ghost use Rattle.dp_epochs.specs.State.{is_name, open_connection, next_owner, decided, heard};
 ghost use Rattle.dp_epochs.specs.State.{has_acknowledged};
-ghost use Rattle.dp_events.specs.Rows.{has_room};
+ghost use Rattle.dp_events.specs.Rows.{has_room, row_of};
 ghost use Rattle.dp_tables.specs.Ledger.{state_in};
 ghost use Rattle.dp_tables.specs.Plans.{still_plan, join_plan, leave_plan, ack_plan, placed_plan};
-ghost use Rattle.dp_tables.specs.Plans.{filtered_plan, IsPlan, IsReady};
+ghost use Rattle.dp_tables.specs.Plans.{filtered_plan, noted_plan, epoch_plan, IsPlan, IsReady};
 
-use crate::plan::{Change, Placing, Plan, Ready};
+use crate::opening::Opening;
+use crate::plan::{Change, Placing, Plan, Ready, StreamChange};
 use crate::presence::{first_operator, free_id, next_operator};
+use crate::resets::stream_left;
 use crate::tables::Tables;
 use dp_acl::operators_stay;
+use dp_epochs::parts_fit;
 use dp_events::{Connection, Decision, Ending, Event, Place, Reply, make_row};
 use dp_frame::Octets;
 use dp_keeper::{Row, RowBytes};
@@ -37,7 +41,7 @@ fn owner_entry(alloc: Global, user: Option<u8>) -> Result<Option<Entry>, AllocEr
 }
 
 /// The name as a text, if it is a name.
-fn name_text(alloc: Global, name: &[u8]) -> Result<Option<Text>, AllocError>
+pub(crate) fn name_text(alloc: Global, name: &[u8]) -> Result<Option<Text>, AllocError>
     ensures named { IfOk result (λ text. is_some text ≡ is_name name.now) }
     ensures text { IfOk result (λ found. IfSome found (λ text. text ≡ name.now)) }
 {
@@ -54,6 +58,7 @@ fn still(event: Event, reply: Reply) -> Plan
     Plan {
         reply,
         change: Change::Stays,
+        stream: StreamChange::Stays,
         placing: Placing::Server {
             event,
             first: None,
@@ -82,6 +87,7 @@ fn acknowledged(conn: u32, connection: &Connection, epoch: u32, msg: Msg) -> Pla
                 ..*connection
             },
         },
+        stream: StreamChange::Stays,
         placing: Placing::Server {
             event: Event::Say { conn, msg },
             first: None,
@@ -115,6 +121,7 @@ fn joined(
             joined: here,
             ending: Ending::Running,
         }),
+        stream: StreamChange::Stays,
         placing: Placing::Server {
             event: Event::Open { name, registered },
             first: Some(Entry {
@@ -130,8 +137,14 @@ fn joined(
 }
 
 /// The plan of a Close by which the connection's user leaves here, and another entry may follow.
-fn leaves(conn: u32, connection: &Connection, here: Place, second: Option<Entry>) -> Plan
-    ensures { result ≡ leave_plan conn connection.now here second }
+fn leaves(
+    conn: u32,
+    connection: &Connection,
+    here: Place,
+    second: Option<Entry>,
+    stream: StreamChange,
+) -> Plan
+    ensures { result ≡ leave_plan conn connection.now here second stream }
 {
     Plan {
         reply: Reply::Placed {
@@ -145,6 +158,7 @@ fn leaves(conn: u32, connection: &Connection, here: Place, second: Option<Entry>
                 ..*connection
             },
         },
+        stream,
         placing: Placing::Server {
             event: Event::Close { conn },
             first: Some(Entry {
@@ -166,6 +180,7 @@ fn placed(conn: u32, user: u8, msg: Msg, here: Place) -> Plan
             at: here.index,
         },
         change: Change::Stays,
+        stream: StreamChange::Stays,
         placing: Placing::Said {
             conn,
             entry: Entry { user, msg },
@@ -174,8 +189,8 @@ fn placed(conn: u32, user: u8, msg: Msg, here: Place) -> Plan
 }
 
 /// The plan of a message in whose stead an entry is placed here that says of what kind it was.
-fn filtered(conn: u32, user: u8, msg: Msg, here: Place) -> Plan
-    ensures { result ≡ filtered_plan conn user msg here }
+fn filtered(conn: u32, user: u8, msg: Msg, here: Place, stream: StreamChange) -> Plan
+    ensures { result ≡ filtered_plan conn user msg here stream }
 {
     let kind = msg.kind();
     Plan {
@@ -184,6 +199,7 @@ fn filtered(conn: u32, user: u8, msg: Msg, here: Place) -> Plan
             at: here.index,
         },
         change: Change::Stays,
+        stream,
         placing: Placing::Server {
             event: Event::Say { conn, msg },
             first: Some(Entry {
@@ -195,20 +211,53 @@ fn filtered(conn: u32, user: u8, msg: Msg, here: Place) -> Plan
     }
 }
 
+/// The plan of a message about resets that places nothing.
+fn noted(conn: u32, msg: Msg, stream: StreamChange) -> Plan
+    ensures { result ≡ noted_plan conn msg stream }
+{
+    Plan {
+        reply: Reply::Noted,
+        change: Change::Stays,
+        stream,
+        placing: Placing::Server {
+            event: Event::Say { conn, msg },
+            first: None,
+            second: None,
+        },
+    }
+}
+
+/// The plan of a message that ends a reset, and opens the epoch of this number.
+fn opens(conn: u32, msg: Msg, epoch: u32, opening: Opening) -> Plan
+    ensures { result ≡ epoch_plan conn msg epoch opening }
+{
+    Plan {
+        reply: Reply::Placed { epoch, at: 0 },
+        change: Change::Stays,
+        stream: StreamChange::Ends,
+        placing: Placing::Opens {
+            event: Event::Say { conn, msg },
+            opening,
+        },
+    }
+}
+
 impl Tables {
-    /// What the event makes of the session.
-    fn plan(&self, event: &Event) -> Result<Plan, AllocError>
-        ensures { IfOk result (IsPlan (state_in self.now) event.now) }
+    /// What the event, whose row has this length, makes of the session.
+    fn plan(&self, event: &Event, row: usize) -> Result<Plan, AllocError>
+        requires { row ≡ length (row_of event.now) }
+        ensures { IfOk result (IsPlan self.now.journal (state_in self.now) event.now) }
     {
         match event {
             Event::Open { name, registered } => self.plan_open(name, *registered),
-            Event::Say { conn, msg } => self.plan_say(*conn, msg),
+            Event::Say { conn, msg } => self.plan_say(*conn, msg, row.saturating_sub(6) as u64),
             Event::Close { conn } => self.plan_close(*conn),
         }
     }
 
     fn plan_open(&self, name: &Octets, registered: bool) -> Result<Plan, AllocError>
-        ensures { IfOk result (IsPlan (state_in self.now) (Event.Open name.now registered)) }
+        ensures { IfOk result (IsPlan self.now.journal (state_in self.now)
+            (Event.Open name.now registered)) }
     {
         let copy = name.copy()?;
         let Some(text) = name_text(self.allocator(), name.as_slice())? else {
@@ -225,7 +274,7 @@ impl Tables {
     }
 
     fn plan_close(&self, conn: u32) -> Result<Plan, AllocError>
-        ensures { IfOk result (IsPlan (state_in self.now) (Event.Close conn)) }
+        ensures { IfOk result (IsPlan self.now.journal (state_in self.now) (Event.Close conn)) }
     {
         let Some(connection) = self.open_connection(conn) else {
             return Ok(still(Event::Close { conn }, Reply::Ignored));
@@ -234,7 +283,8 @@ impl Tables {
         operators_stay();
         let next = next_operator(&self.rights, &self.present, connection.user);
         let second = owner_entry(self.allocator(), next)?;
-        Ok(leaves(conn, &connection, here, second))
+        let stream = stream_left(conn, self.owner);
+        Ok(leaves(conn, &connection, here, second, stream))
     }
 
     /// Whether the connection has taken up the live epoch.
@@ -244,8 +294,10 @@ impl Tables {
         connection.acknowledged == self.here().epoch
     }
 
-    /// What becomes of a message of the open connection of this number. It takes no memory.
-    fn decide(&self, conn: u32, connection: &Connection, msg: &Msg) -> Decision
+    /// What becomes of a message of the open connection of this number, whose payload has this
+    /// size. It takes no memory.
+    fn decide(&self, conn: u32, connection: &Connection, msg: &Msg, size: u64) -> Decision
+        requires { size ≡ length (payload_of msg.now) }
         ensures { result ≡ decided (state_in self.now) conn connection.now msg.now }
     {
         match msg {
@@ -260,7 +312,7 @@ impl Tables {
             }
             _ => {
                 if self.has_acknowledged(connection) {
-                    self.hear(conn, connection, msg)
+                    self.hear(conn, connection, msg, size)
                 } else {
                     Decision::Ignore
                 }
@@ -270,13 +322,14 @@ impl Tables {
 
     /// What becomes of a message of a connection that has taken up the live epoch. It takes no
     /// memory.
-    fn hear(&self, conn: u32, connection: &Connection, msg: &Msg) -> Decision
+    fn hear(&self, conn: u32, connection: &Connection, msg: &Msg, size: u64) -> Decision
+        requires { size ≡ length (payload_of msg.now) }
         ensures { result ≡ heard (state_in self.now) conn connection.now msg.now }
     {
         match msg {
-            Msg::Control(Control::ResetBegin) => Decision::Filter,
-            Msg::Control(Control::ResetEnd) => Decision::Filter,
-            Msg::Part(_) => Decision::Filter,
+            Msg::Control(Control::ResetBegin) => self.hear_begin(conn, connection),
+            Msg::Control(Control::ResetEnd) => self.hear_end(conn, connection),
+            Msg::Part(command) => self.hear_part(conn, connection, command, size),
             _ => {
                 if self.permits(connection.user, msg) {
                     Decision::Place
@@ -287,28 +340,46 @@ impl Tables {
         }
     }
 
-    /// The plan of a message of an open connection.
-    fn plan_decided(&self, conn: u32, connection: &Connection, msg: Msg) -> Plan
-        requires { open_connection (state_in self.now) conn ≡ Some connection.now }
-        ensures { IsPlan (state_in self.now) (Event.Say conn msg) result }
+    /// The plan of a message of an open connection, whose payload has this size.
+    fn plan_decided(
+        &self,
+        conn: u32,
+        connection: &Connection,
+        msg: Msg,
+        size: u64,
+    ) -> Result<Plan, AllocError>
+        requires found { open_connection (state_in self.now) conn ≡ Some connection.now }
+        requires size { size ≡ length (payload_of msg) }
+        ensures { IfOk result (IsPlan self.now.journal (state_in self.now) (Event.Say conn msg)) }
     {
+        parts_fit();
         let here = self.here();
-        match self.decide(conn, connection, &msg) {
-            Decision::Ignore => still(Event::Say { conn, msg }, Reply::Ignored),
-            Decision::Acknowledge => acknowledged(conn, connection, here.epoch, msg),
-            Decision::Place => placed(conn, connection.user, msg, here),
-            Decision::Filter => filtered(conn, connection.user, msg, here),
+        let user = connection.user;
+        match self.decide(conn, connection, &msg, size) {
+            Decision::Ignore => Ok(still(Event::Say { conn, msg }, Reply::Ignored)),
+            Decision::Acknowledge => Ok(acknowledged(conn, connection, here.epoch, msg)),
+            Decision::Place => Ok(placed(conn, user, msg, here)),
+            Decision::Filter => Ok(filtered(conn, user, msg, here, StreamChange::Stays)),
+            Decision::BeginReset => Ok(noted(conn, msg, StreamChange::Begins(conn))),
+            Decision::AddPart => Ok(noted(conn, msg, StreamChange::Grows)),
+            Decision::DropReset => Ok(filtered(conn, user, msg, here, StreamChange::Ends)),
+            Decision::OpenEpoch => {
+                let opening = self.open_epoch()?;
+                Ok(opens(conn, msg, self.next_epoch(), opening))
+            }
         }
     }
 
-    fn plan_say(&self, conn: u32, msg: &Msg) -> Result<Plan, AllocError>
-        ensures { IfOk result (IsPlan (state_in self.now) (Event.Say conn msg.now)) }
+    fn plan_say(&self, conn: u32, msg: &Msg, size: u64) -> Result<Plan, AllocError>
+        requires { size ≡ length (payload_of msg.now) }
+        ensures { IfOk result (IsPlan self.now.journal (state_in self.now)
+            (Event.Say conn msg.now)) }
     {
         let copy = msg.copy()?;
         let Some(connection) = self.open_connection(conn) else {
             return Ok(still(Event::Say { conn, msg: copy }, Reply::Ignored));
         };
-        Ok(self.plan_decided(conn, &connection, copy))
+        self.plan_decided(conn, &connection, copy, size)
     }
 
     /// The event as it is ready to be kept; `None` where there is no room for it.
@@ -320,7 +391,7 @@ impl Tables {
         if !self.has_room(bytes.len()) {
             return Ok(None);
         }
-        let plan = self.plan(event)?;
+        let plan = self.plan(event, bytes.len())?;
         let row = Row {
             n: self.events(),
             bytes: RowBytes::from_vec(bytes),

@@ -1,7 +1,7 @@
 //! Which ids are held.
 
-ghost use Rattle.std.specs.Prelude.{◌≡◌, ◌&&◌, not, List, slice_set, false};
-ghost use Rattle.std.specs.List.{find};
+ghost use Rattle.std.specs.Prelude.{◌≡◌, ◌&&◌, not, List, slice_set, false, IfOk};
+ghost use Rattle.std.specs.List.{filter, find};
 ghost use Rattle.dp_messages.specs.declared.message.Entry.{Entry};
 ghost use Rattle.dp_acl.specs.Rights.{is_operator};
 ghost use Rattle.dp_acl.specs.Table.{StandsFor};
@@ -10,6 +10,8 @@ ghost use Rattle.dp_tables.specs.Tables.{mark};
 ghost use Rattle.dp_tables.specs.Plans.{first_operator, next_operator};
 
 use dp_acl::Rights;
+use dp_msg_meta::Ids;
+use std::alloc::{AllocError, Global};
 
 /// The lowest id that no one holds.
 pub(crate) fn free_id(present: &[bool; 256]) -> Option<u8>
@@ -33,6 +35,19 @@ fn lowest_present(present: &[bool; 256]) -> Option<u8>
         }
     }
     None
+}
+
+/// The ids that are held.
+pub(crate) fn present_ids(alloc: Global, present: &[bool; 256]) -> Result<Ids, AllocError>
+    ensures { IfOk result (λ ids. ids ≡ filter (mark present.now) user_ids) }
+{
+    let mut ids = Vec::new(alloc);
+    for user in 1..255u8 {
+        if present[user as usize] {
+            ids.push(user)?;
+        }
+    }
+    Ok(Ids::from_vec(ids))
 }
 
 /// The user, who joins, as the first operator, where no one is present.

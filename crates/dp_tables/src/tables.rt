@@ -30,14 +30,12 @@ ghost use Rattle.dp_tables.specs.Ledger.{state_in};
 
 use crate::history_item::HistoryItem;
 use dp_acl::Rights;
+use dp_epochs::histories_are_short;
 use dp_events::{Connection, Ending, Event, Place, ShutAt};
 use dp_messages::{Entry, Msg};
 use dp_msg_meta::Meta;
 use std::alloc::{AllocError, Global};
 use std::marker::Model;
-
-/// The number of the live epoch.
-const EPOCH: u32 = 0;
 
 /// The most events of a journal.
 const EVENT_LIMIT: usize = 1 << 24;
@@ -54,9 +52,18 @@ pub struct Tables {
     pub(crate) shut: Vec<ShutAt>,
     pub(crate) connections: Vec<Connection>,
     pub(crate) quiet: Vec<bool>,
+    pub(crate) epoch: u32,
     pub(crate) live: Vec<HistoryItem>,
     pub(crate) rights: Rights,
     pub(crate) present: [bool; 256],
+    /// For each id, the event of the journal by which its user joined last.
+    pub(crate) opens: [u32; 256],
+    /// The connection that sends a reset.
+    pub(crate) owner: Option<u32>,
+    /// The events of the journal that say the parts of the reset.
+    pub(crate) parts: Vec<u32>,
+    /// How many bytes the payloads of the parts have.
+    pub(crate) part_bytes: u64,
 }
 
 impl Model for Tables {
@@ -113,12 +120,20 @@ fn no_marks() -> [bool; 256]
     [false; 256]
 }
 
+/// No user has joined.
+fn no_opens() -> [u32; 256]
+    ensures { result ≡ replicate 256 0 }
+{
+    [0; 256]
+}
+
 /// Makes the memory ready that any one event needs.
 fn reserve(
     journal: &mut Vec<Event>,
     shut: &mut Vec<ShutAt>,
     connections: &mut Vec<Connection>,
     quiet: &mut Vec<bool>,
+    parts: &mut Vec<u32>,
     live: &mut Vec<HistoryItem>,
     rights: &mut Rights,
 ) -> Result<(), AllocError>
@@ -126,6 +141,7 @@ fn reserve(
     ensures shut { shut.new.items ≡ shut.old.items }
     ensures connections { connections.new.items ≡ connections.old.items }
     ensures quiet { quiet.new.items ≡ quiet.old.items }
+    ensures parts { parts.new.items ≡ parts.old.items }
     ensures live { live.new.items ≡ live.old.items }
     ensures stands { (history : List Piece) → StandsFor rights.old history
         → StandsFor rights.new history }
@@ -134,6 +150,7 @@ fn reserve(
     ensures connections_room { OnOk result (vec_len connections.new
         < vec_capacity connections.new) }
     ensures quiet_room { OnOk result (vec_len quiet.new < vec_capacity quiet.new) }
+    ensures parts_room { OnOk result (vec_len parts.new < vec_capacity parts.new) }
     ensures live_room { OnOk result (vec_len live.new + 2 ≤ vec_capacity live.new) }
     ensures rights_room { OnOk result (2 ≤ rights.new.room) }
 {
@@ -141,6 +158,7 @@ fn reserve(
     shut.reserve(1)?;
     connections.reserve(1)?;
     quiet.reserve(1)?;
+    parts.reserve(1)?;
     live.reserve(2)?;
     rights.reserve(2)
 }
@@ -155,7 +173,7 @@ impl Tables {
         let mark = Entry {
             user: 0,
             msg: Msg::Meta(Meta::ResetMark {
-                epoch: EPOCH,
+                epoch: 0,
                 carried: 0,
             }),
         };
@@ -169,9 +187,14 @@ impl Tables {
             shut: Vec::new(alloc),
             connections: Vec::new(alloc),
             quiet: Vec::new(alloc),
+            epoch: 0,
             live,
             rights,
             present: no_marks(),
+            opens: no_opens(),
+            owner: None,
+            parts: Vec::new(alloc),
+            part_bytes: 0,
         })
     }
 
@@ -186,9 +209,14 @@ impl Tables {
             shut,
             connections: _,
             quiet: _,
+            epoch: _,
             live: _,
             rights: _,
             present: _,
+            opens: _,
+            owner: _,
+            parts: _,
+            part_bytes: _,
         } = self;
         (journal, shut)
     }
@@ -201,8 +229,9 @@ impl Tables {
     pub(crate) fn here(&self) -> Place
         ensures { result ≡ here (state_in self.now) }
     {
+        histories_are_short();
         Place {
-            epoch: EPOCH,
+            epoch: self.epoch,
             index: self.live.len() as u32,
         }
     }
@@ -260,6 +289,7 @@ impl Tables {
             &mut self.shut,
             &mut self.connections,
             &mut self.quiet,
+            &mut self.parts,
             &mut self.live,
             &mut self.rights,
         )

@@ -7,7 +7,8 @@ use Rattle.std.proofs.lemmas.List.Sums.{fold_push}
 use Rattle.dp_lines.specs.declared.line.Line.{Line}
 use Rattle.dp_schedule.specs.declared.action.Action.{Action}
 use Rattle.dp_schedule.specs.declared.action.Action.TheVariants.{Join, Act, Show}
-use Rattle.dp_schedule.specs.declared.action.Instruction.TheVariants.{Say, Up, Take, Leave, Cut}
+use Rattle.dp_schedule.specs.declared.action.Instruction.TheVariants.{Say, Up, Take, Reset}
+use Rattle.dp_schedule.specs.declared.action.Instruction.TheVariants.{Leave, Cut}
 use Rattle.dp_schedule.specs.LineGrammar.{MaySay, Parses}
 use Rattle.dp_messages.specs.declared.message.Msg.{Msg}
 use Rattle.dp_messages.specs.Messages.{kind_of}
@@ -98,6 +99,7 @@ allowed high line (Act client (Say m)) (tail, names, (word, parts, spells)) =
     high spells.bytes m spells.may
 allowed high line (Act client Up) asks = tt
 allowed high line (Act client Take) asks = tt
+allowed high line (Act client Reset) asks = tt
 allowed high line (Act client Leave) asks = tt
 allowed high line (Act client Cut) asks = tt
 allowed high line (Show client kind) asks = tt

@@ -1,15 +1,19 @@
--- What a line that shows a canvas prints.
-use Rattle.std.proofs.Common.{◌≡◌, [], ap}
+-- What a line that shows a client prints.
+use Rattle.std.proofs.Common.{◌≡◌, [], ap, ◌∙◌}
 use Rattle.std.specs.Prelude.{Option, Some, None, IsSome, IfSome}
 use Rattle.std.specs.Option.{option_map_or}
-use Rattle.dp_plain.specs.Board.{Board}
-use Rattle.dp_plain.specs.Picture.{p3}
+use Rattle.dp_client.specs.Client.{State}
 use Rattle.dp_schedule.specs.declared.action.CanvasKind.{CanvasKind}
+use Rattle.dp_showing.specs.declared.showing.Shown.{Shown}
+use Rattle.dp_showing.specs.Showing.{shown_text}
 use Rattle.dp_sim.specs.Exchanges.{Participant}
-use Rattle.dp_sim.specs.Report.{canvas_of}
+use Rattle.dp_sim.specs.Report.{shown_of}
 
-pub shown_text : (found : Option Participant) (kind : CanvasKind) (board : Board) → IsSome found
-    → IfSome found (λ participant. board ≡ canvas_of kind participant.state)
-    → p3 board ≡ option_map_or (λ participant. p3 (canvas_of kind participant.state)) found []
-shown_text None kind board some is = cc (some)
-shown_text (Some participant) kind board some is = ap p3 is
+pub text_shown : (found : Option Participant) (kind : CanvasKind) (shown : Shown) (client : State)
+    → IsSome found → shown ≡ shown_of kind
+    → IfSome found (λ participant. client ≡ participant.state)
+    → shown_text shown client
+    ≡ option_map_or (λ participant. shown_text (shown_of kind) participant.state) found []
+text_shown None kind shown client some same is = cc (some)
+text_shown (Some participant) kind shown client some same is =
+    ap (λ s. shown_text s client) same ∙ ap (shown_text (shown_of kind)) is

@@ -1,7 +1,7 @@
 //! The lines of a schedule, done one at a time.
 
 ghost use Rattle.std.specs.Prelude.{◌≡◌, ◌≤◌, ℕ, List};
-ghost use Rattle.std.specs.Prelude.{IsErrOf, IsTrue, IfOk, IfErr, IfSome, OnOk, IsSome, ◌↔◌};
+ghost use Rattle.std.specs.Prelude.{IsErrOf, IsTrue, IfOk, IfErr, OnOk, IsSome, ◌↔◌};
 ghost use Rattle.std.specs.Io.KnownBytes.{Appends};
 ghost use Rattle.dp_io.specs.Faults.{HasCause};
 ghost use Rattle.dp_io.specs.Streams.{GrowsByPrefix};
@@ -10,17 +10,17 @@ ghost use Rattle.dp_schedule.specs.declared.action.Action.TheVariants.{Show as S
 ghost use Rattle.dp_schedule.specs.LineGrammar.{Parses};
 ghost use Rattle.dp_schedule.specs.ReportText.{text_of};
 ghost use Rattle.dp_sim.specs.Invariant.{IsWorld, SaysNoControl};
-ghost use Rattle.dp_sim.specs.Report.{canvas_of, printed};
+ghost use Rattle.dp_sim.specs.Report.{printed, shown_of};
 ghost use Rattle.dp_sim.specs.World.{after, first_world, participant_of};
 ghost use Rattle.dp_world.specs.Schedule.{IsPossible};
 ghost use Rattle.dp_world.specs.Progress.{IsRefused};
 
-use dp_flat::{PictureEnd, write_p3};
+use dp_flat::PictureEnd;
 use dp_io::{Sink, put_all};
 use dp_lines::Line;
-use dp_plain::PlainBoard;
 use dp_schedule::{Action, CanvasKind, ReportLine, one_action, read_action};
 use dp_script::{LineMachine, Undone};
+use dp_showing::{Shown, show};
 use dp_sim::World;
 use dp_steps::Steps;
 use std::alloc::{AllocError, Global};
@@ -134,14 +134,14 @@ impl WorldRun {
                 client,
                 instruction,
             } => {
-                let line = self.world.act(client, &instruction)?;
+                let line = self.world.act(client, &instruction, draws, tiles)?;
                 put_line(self.alloc, line, output)
             }
             Action::Show { client, kind } => self.show(client, kind, output, draws, tiles),
         }
     }
 
-    /// Writes the picture of a canvas of the client of this number.
+    /// Writes what is printed of the client of this number.
     fn show<O: Sink, D: Ledger, T: Ledger>(
         &self,
         client: u32,
@@ -159,26 +159,20 @@ impl WorldRun {
             → O.faults output.new ≡ O.faults output.old }
         ensures cause { HasCause is_sink_fault (O.faults output.old) (O.faults output.new) result }
     {
-        let board = self.canvas(client, kind, draws, tiles)?;
-        write_p3(self.alloc, &board, output)
+        let client = self.world.client(client);
+        show(self.alloc, client, shown_of(kind), output, draws, tiles)
     }
+}
 
-    /// A canvas of the client of this number.
-    fn canvas<D: Ledger, T: Ledger>(
-        &self,
-        client: u32,
-        kind: CanvasKind,
-        draws: &mut Steps<D>,
-        tiles: &mut Steps<T>,
-    ) -> Result<PlainBoard, AllocError>
-        requires { IsSome (participant_of self.now.world client) }
-        ensures { IfOk result (λ board. IfSome (participant_of self.now.world client)
-            (λ participant. board ≡ canvas_of kind participant.state)) }
-    {
-        match kind {
-            CanvasKind::View => self.world.view(client, draws, tiles),
-            CanvasKind::Confirmed => self.world.confirmed(client, draws, tiles),
-        }
+/// What is printed of a client, as it is shown.
+fn shown_of(kind: CanvasKind) -> Shown
+    ensures { result ≡ shown_of kind }
+{
+    match kind {
+        CanvasKind::View => Shown::View,
+        CanvasKind::Confirmed => Shown::Confirmed,
+        CanvasKind::Snapshot => Shown::Snapshot,
+        CanvasKind::Recording => Shown::Recording,
     }
 }
 

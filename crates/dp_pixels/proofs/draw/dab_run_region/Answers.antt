@@ -1,4 +1,4 @@
-use Rattle.std.proofs.Common.{◌≡◌, ℤ, List, take, Option, Some, ap, ◌∙◌, sym, subst, arith}
+use Rattle.std.proofs.Common.{ℤ, List, Option, ◌∙◌, sym, subst, arith}
 use Rattle.std.specs.Option.{option_map_or}
 use Rattle.std.proofs.lemmas.List.{take_all}
 use Rattle.dp_blend.specs.Color.{Channels}

@@ -1,4 +1,4 @@
-use Rattle.std.proofs.Common.{◌≡◌, ◌∙◌, ap, sym, subst, rules, List, ℕ}
+use Rattle.std.proofs.Common.{◌∙◌, ap, sym, subst, rules, List, ℕ}
 use Rattle.std.specs.Prelude.{ℤ, pos}
 use Rattle.dp_blend.specs.Color.{Channels}
 use Rattle.dp_msg_draw.specs.declared.draw.Draw.{Draw}

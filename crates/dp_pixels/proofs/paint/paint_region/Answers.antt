@@ -1,16 +1,12 @@
-use Rattle.std.proofs.Common.{ℕ, ◌^◌, ◌≡◌, ◌+◌, ◌-◌, ◌*◌, ◌<◌, ◌≤◌, ap, ◌∙◌, sym, subst, arith}
-use Rattle.std.proofs.Common.{length, get_or, to_z, of_z, w64, Bool, false}
-use Rattle.std.specs.Prelude.{ℤ, pos, ◌+ℤ◌, List}
+use Rattle.std.proofs.Common.{ℕ, ◌^◌, ◌≡◌, ◌+◌, ◌-◌, ◌*◌, ◌<◌, ◌≤◌, ap, ◌∙◌, subst, arith}
+use Rattle.std.proofs.Common.{length, get_or, to_z, of_z, w64}
+use Rattle.std.specs.Prelude.{ℤ, pos, ◌+ℤ◌}
 use Rattle.std.proofs.lemmas.Int.{ints}
-use Rattle.std.proofs.lemmas.List.{length-take, length-drop}
-use Rattle.dp_blend.specs.Color.{Channels}
 use Rattle.dp_pixels.specs.declared.rect.Rect.{Rect}
 use Rattle.dp_pixels.specs.declared.rect.Place.{Place}
-use Rattle.dp_pixels.specs.Rectangles.{is_in}
 use Rattle.dp_pixels.specs.Regions.{IsRowIn}
 use Rattle.dp_pixels.proofs.Clips.{part_empty, part_start, part_more, part_end, part_row}
 use Rattle.dp_pixels.proofs.Regions.{length-row}
-use Rattle.dp_pixels.proofs.paint.paint_region.Given.{Over}
 use borrow.Rule.Slice.PartMut.{mid_of}
 use Rattle.dp_pixels.proofs.paint.paint_region.Goals as goal
 

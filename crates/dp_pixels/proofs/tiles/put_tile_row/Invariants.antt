@@ -1,4 +1,4 @@
-use Rattle.std.proofs.Common.{◌≡◌, ℕ, ◌+◌, ◌%◌, ◌<◌, ◌≤◌, length, get_or, cond, ltb}
+use Rattle.std.proofs.Common.{◌≡◌, ℕ, ◌+◌, ◌%◌, ◌<◌, length, get_or, cond, ltb}
 use Rattle.dp_blend.specs.Color.{Channels}
 use Rattle.dp_pixels.specs.Tiles.{replaced_by}
 use Rattle.dp_pixels.proofs.TileLemmas.{no_pixel}

@@ -8,4 +8,7 @@ returns-clause-stays c =
       on_refused = c.steps_lead_on.ensures.refused;
       before = c.steps_lead_on.ensures.before;
       effects = c.events_have_effects.ensures;
+      histories = c.histories_grow.ensures;
+      epochs = c.epochs_rise.ensures.rise;
+      marked = c.histories_are_marked.ensures;
     })

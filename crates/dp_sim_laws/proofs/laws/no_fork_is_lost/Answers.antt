@@ -5,5 +5,5 @@ pub returns : goal.returns
 returns c =
     let worlds = c.worlds_stay_worlds.ensures in
     let steps = c.steps_lead_on.ensures in
-    fork-kept (staying steps.kept steps.before c.events_have_effects.ensures c.one_equality.ensures
-    worlds.first worlds.stays)
+    fork-kept (staying steps.kept steps.before c.events_have_effects.ensures
+    c.histories_are_marked.ensures c.one_equality.ensures worlds.first worlds.stays)

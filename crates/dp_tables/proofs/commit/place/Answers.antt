@@ -1,14 +1,15 @@
 use Rattle.std.proofs.Common.{◌++◌, sym, subst, append_assoc}
 use Rattle.std.specs.Prelude.{option_to_list}
 use Rattle.dp_acl.specs.Table.{StandsFor}
-use Rattle.dp_tables.specs.Plans.{entries_of}
+use Rattle.dp_tables.specs.Plans.{history_after}
 use Rattle.dp_tables.proofs.commit.place.Goals as goal
 
 pub returns-in-Server-clause-stands : goal.returns-in-Server-clause-stands
-returns-in-Server-clause-stands c = λ history stands.
+returns-in-Server-clause-stands c = λ history stands opening.
     let first = option_to_list c.in-Server.first in
     let second = option_to_list c.in-Server.second in
-    subst (λ p. StandsFor c.place_server-in-Server.new.rights (history ++ entries_of p))
+    subst (λ p. StandsFor c.place_server-in-Server.new.rights
+    (history_after c.args.journal.now.items p history))
     (sym c.in-Server.is)
     (subst (StandsFor c.place_server-in-Server.new.rights) (append_assoc history first second)
     (c.place_server-in-Server.ensures.stands (history ++ first)

@@ -1,11 +1,19 @@
 use Rattle.std.proofs.Common.{◌≡◌, ◌+◌, ◌<◌, ◌++◌, ◌∷◌, [], ap, sym, ◌∙◌, take, length, subst}
 use Rattle.std.specs.List.{All}
-use Rattle.std.proofs.lemmas.List.Elements.{All-push}
+use Rattle.std.proofs.lemmas.List.Elements.{All-push, All-nil}
 use Rattle.std.proofs.lemmas.List.{take_all, drop_all, append-nil}
 use Rattle.dp_board.specs.Joins.{joins_from}
-use Rattle.dp_board.specs.Table.{IsTableBehind}
-use Rattle.dp_board.proofs.TableLemmas.{IsTableBehind-push, joins_from-step, take-step}
+use Rattle.dp_board.specs.Table.{HasStrokes}
+use Rattle.dp_board.proofs.TableLemmas.{HasStrokes-push, joins_from-step, take-step}
 use Rattle.dp_board.proofs.table.StrokeTable.read.Goals as goal
+
+pub loop-act-init : goal.loop-act-init
+loop-act-init g c = record {
+  in_range = All-nil (λ act. act.user < 256);
+  position = ap (λ s. s.position) (c.in_ok-table.ensures.empty 0);
+  strokes = λ user small. c.in_ok-table.ensures.empty user;
+  joins = ap (λ js. js ++ joins_from c.args.depth [] c.args.acts.now) c.in_ok-joins.ensures.items;
+}
 
 pub loop-act-preserved : goal.loop-act-preserved
 loop-act-preserved g c =
@@ -19,10 +27,10 @@ loop-act-preserved g c =
     record {
       in_range = subst (All (λ act. act.user < 256)) (sym taken)
           (All-push (λ act. act.user < 256) (take i xs) a was.in_range c.join_of.ensures.user);
-      position = c.in_ok-take.ensures.position ∙ ap (λ n. n + 1) was.position;
-      strokes = subst (λ before. IsTableBehind c.args.depth before c.take.new.self) (sym taken)
-          (IsTableBehind-push c.args.depth (take i xs) a old c.take.new.self was.strokes
-          c.in_ok-take.ensures.strokes);
+      position = c.in_ok-add.ensures.position ∙ ap (λ n. n + 1) was.position;
+      strokes = subst (λ before. HasStrokes c.args.depth before c.add.new.self) (sym taken)
+          (HasStrokes-push c.args.depth (take i xs) a old c.add.new.self was.strokes
+          c.in_ok-add.ensures.strokes);
       joins = joins_from-step c.args.depth xs i a old c.loop-act.joins.items c.push.new.self.items
           c.join_of.result _ inside c.act-item.is was.strokes c.join_of.ensures.user
           c.join_of.ensures.value c.in_ok-push.ensures.items was.joins;
@@ -31,7 +39,7 @@ loop-act-preserved g c =
 pub returns-clause-strokes : goal.returns-clause-strokes
 returns-clause-strokes g c =
     let all = take_all c.loop-act.act-index c.args.acts.now c.loop-act-test.false in
-    subst (λ before. IsTableBehind c.args.depth before c.loop-act.table) all
+    subst (λ before. HasStrokes c.args.depth before c.loop-act.table) all
     c.loop-act.invariant.strokes
 
 pub returns-clause-joins : goal.returns-clause-joins

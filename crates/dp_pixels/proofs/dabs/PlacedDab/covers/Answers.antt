@@ -1,4 +1,4 @@
-use Rattle.std.proofs.Common.{◌≡◌, true, arith, ap, ◌∙◌, sym, rules, SFits, w64, Fits}
+use Rattle.std.proofs.Common.{arith, ap, ◌∙◌, sym, rules, SFits, w64}
 use Rattle.std.proofs.lemmas.Int.{ints}
 use Rattle.dp_pixels.specs.declared.rect.Rect.{Rect}
 use Rattle.dp_pixels.specs.declared.dabs.Shape.{Shape}

@@ -1,6 +1,5 @@
-use Rattle.std.proofs.Common.{arith, ap, ◌∙◌, to_z, of_z, w64}
-use Rattle.std.specs.Prelude.{ℤ, pos, ◌-ℤ◌, ◌/◌}
-use Rattle.dp_pixels.specs.Rectangles.{rect_at}
+use Rattle.std.proofs.Common.{arith}
+use Rattle.std.specs.Prelude.{◌/◌}
 use Rattle.dp_pixels.proofs.Cells.{less_small}
 use Rattle.dp_pixels.proofs.dabs.PlacedDab.rect.Goals as goal
 

@@ -1,13 +1,12 @@
-use Rattle.std.proofs.Common.{◌≡◌, ℕ, ◌+◌, ◌-◌, ◌^◌, ◌<◌, refl, drop, length, get_or, cond, Bool}
-use Rattle.std.proofs.Common.{true, ◌&&◌, leb, ltb, ap, ◌∙◌, sym, subst, arith}
+use Rattle.std.proofs.Common.{◌≡◌, ℕ, ◌+◌, ◌-◌, ◌^◌, refl, drop, length, get_or, cond, Bool}
+use Rattle.std.proofs.Common.{◌&&◌, leb, ltb, ap, ◌∙◌, sym, subst, arith}
 use Rattle.std.specs.Prelude.{ℤ, pos, ◌+ℤ◌, ◌-ℤ◌, ◌≤ℤ◌}
 use Rattle.std.proofs.lemmas.List.{length-take, length-drop}
 use borrow.Rule.Slice.PartMut.{mid_of}
 use Rattle.dp_blend.specs.Color.{Channels}
 use Rattle.dp_blend.specs.Blending.{blend}
 use Rattle.dp_pixels.specs.declared.rect.Rect.{Rect}
-use Rattle.dp_pixels.specs.declared.dabs.Shape.TheVariants.{Round}
-use Rattle.dp_pixels.specs.Dabs.{dab_rect, dab_covers, is_in_disc}
+use Rattle.dp_pixels.specs.Dabs.{dab_rect, is_in_disc}
 use Rattle.dp_pixels.proofs.Rectangles.{row_in}
 use Rattle.dp_pixels.proofs.Cells.{round_covers_cell, near_corner, near_corner_below, row_cell}
 use Rattle.dp_pixels.proofs.Cells.{cell_row}

@@ -1,5 +1,5 @@
 use Rattle.std.proofs.Common.{◌*◌, ◌+◌, ap, ◌∙◌, arith, rules, SFits, w64}
-use Rattle.std.specs.Prelude.{ℕ, ℤ, pos, ◌-ℤ◌, unsigned_abs}
+use Rattle.std.specs.Prelude.{ℕ, pos, ◌-ℤ◌, unsigned_abs}
 use Rattle.dp_pixels.specs.Rectangles.{rect_at}
 use Rattle.dp_pixels.proofs.Rectangles.{is_in-true}
 use Rattle.dp_pixels.proofs.Images.{IsOffset, offset, offset_is, index_fits}

@@ -1,5 +1,5 @@
-use Rattle.std.proofs.Common.{◌≡◌, ℕ, ◌+◌, ◌*◌, ◌<◌, ◌≤◌, length, ap, ◌∙◌, arith, Fits, w64}
-use Rattle.std.specs.Prelude.{ℤ, pos, ◌-ℤ◌, unsigned_abs}
+use Rattle.std.proofs.Common.{ℕ, ◌+◌, ◌*◌, ◌<◌, ◌≤◌, length, ap, ◌∙◌, arith}
+use Rattle.std.specs.Prelude.{◌-ℤ◌, unsigned_abs}
 use Rattle.dp_pixels.specs.declared.rect.Rect.{Rect}
 use Rattle.dp_pixels.proofs.Images.{index_fits}
 use Rattle.dp_pixels.proofs.Cells.{cell_row, row_fits, row_in_list}

@@ -1,9 +1,9 @@
-use Rattle.std.proofs.Common.{◌≡◌, ℕ, ◌+◌, ◌-◌, ◌*◌, ◌<◌, ◌≤◌, length, get_or, take, drop, cond}
-use Rattle.std.proofs.Common.{true, ap, ◌∙◌, sym, arith}
-use Rattle.std.specs.Prelude.{ℤ, pos, ◌+ℤ◌}
+use Rattle.std.proofs.Common.{◌≡◌, ℕ, ◌+◌, ◌-◌, length, get_or, take, drop}
+use Rattle.std.proofs.Common.{ap, ◌∙◌, sym, arith}
+use Rattle.std.specs.Prelude.{pos, ◌+ℤ◌}
 use Rattle.std.proofs.lemmas.Bool.{cond-true}
 use Rattle.std.proofs.lemmas.List.{get_or-take, get_or-drop}
-use Rattle.dp_blend.specs.Color.{Channels, clear, fade}
+use Rattle.dp_blend.specs.Color.{Channels, clear}
 use Rattle.dp_blend.specs.Blending.{blend}
 use Rattle.dp_blend.specs.declared.modes.Mode.TheVariants.{Normal}
 use Rattle.dp_pixels.specs.Rectangles.{is_in, rect_at}

@@ -1,5 +1,5 @@
-use Rattle.std.proofs.Common.{arith, SFits, w64, rules}
-use Rattle.std.proofs.lemmas.Int.{ints, to_z-of_z}
+use Rattle.std.proofs.Common.{arith}
+use Rattle.std.proofs.lemmas.Int.{to_z-of_z}
 use Rattle.dp_pixels.proofs.rect.Rect.clipped.Goals as goal
 
 pub returns : goal.returns

@@ -1,4 +1,4 @@
-use Rattle.std.proofs.Common.{◌≡◌, ap, ◌∙◌, subst, rules, SFits, w64}
+use Rattle.std.proofs.Common.{ap, ◌∙◌, subst, rules, SFits, w64}
 use Rattle.std.specs.Prelude.{ℤ}
 use Rattle.std.proofs.lemmas.Int.{to_z-of_z}
 use Rattle.dp_pixels.specs.declared.rect.Rect.{Rect}

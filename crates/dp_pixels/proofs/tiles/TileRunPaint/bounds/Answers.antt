@@ -1,6 +1,6 @@
-use Rattle.std.proofs.Common.{◌≡◌, ap, ◌∙◌, sym}
+use Rattle.std.proofs.Common.{ap, ◌∙◌, sym}
 use Rattle.dp_pixels.specs.declared.rect.Rect.{Rect}
-use Rattle.dp_pixels.specs.Rectangles.{canvas_rect, clipped, is_in}
+use Rattle.dp_pixels.specs.Rectangles.{clipped, is_in}
 use Rattle.dp_pixels.specs.Tiles.{tiles_rect}
 use Rattle.dp_pixels.proofs.TileLaws.{tiles_stay}
 use Rattle.dp_pixels.proofs.tiles.TileRunPaint.bounds.Goals as goal

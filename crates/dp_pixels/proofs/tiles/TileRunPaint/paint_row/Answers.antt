@@ -1,5 +1,5 @@
-use Rattle.std.proofs.Common.{◌≡◌, ℕ, ◌+◌, ◌-◌, ◌/◌, ◌<◌, ◌≤◌, length, get_or, drop, cond, Bool}
-use Rattle.std.proofs.Common.{true, ◌&&◌, leb, ltb, refl, ap, ◌∙◌, sym, arith, rules, SFits, w64}
+use Rattle.std.proofs.Common.{◌≡◌, ℕ, ◌+◌, ◌-◌, length, get_or, drop}
+use Rattle.std.proofs.Common.{◌&&◌, leb, ltb, ap, ◌∙◌, arith, rules, SFits, w64}
 use Rattle.std.proofs.Common.{to_z, of_z}
 use Rattle.std.specs.Prelude.{ℤ, pos, ◌+ℤ◌, ◌≤ℤ◌, unsigned_abs}
 use Rattle.std.specs.Option.{option_map_or}
@@ -7,9 +7,8 @@ use Rattle.std.proofs.lemmas.Int.{ints}
 use Rattle.std.proofs.lemmas.List.{length-take, length-drop}
 use Rattle.dp_blend.specs.Color.{Channels}
 use Rattle.dp_msg_draw.specs.declared.lists.TilePixel.{TilePixel}
-use Rattle.dp_pixels.specs.Rectangles.{canvas_rect, clipped, is_in}
-use Rattle.dp_pixels.specs.Tiles.{content_at, replaced_by, is_in_tiles, tile_put, tiles_rect}
-use Rattle.dp_pixels.specs.Tiles.{tile_number}
+use Rattle.dp_pixels.specs.Rectangles.{canvas_rect, clipped}
+use Rattle.dp_pixels.specs.Tiles.{content_at, replaced_by, tiles_rect}
 use Rattle.dp_pixels.proofs.Rectangles.{is_in-true, is_in_by, clipped_in, row_in, row_start}
 use Rattle.dp_pixels.proofs.TileLaws.{tiles_put_by}
 use Rattle.dp_pixels.proofs.SpanLemmas.{in_span}

@@ -4,7 +4,7 @@ use Rattle.dp_sim.proofs.CallLemmas.{on-ok-world}
 use Rattle.dp_sim.proofs.world.World.act.Goals as goal
 
 pub returns-clause-world : goal.returns-clause-world
-returns-clause-world c =
+returns-clause-world g c =
     let w = c.args.self.now in
     let action = Act c.args.client c.args.instruction.now in
     on-ok-world c.play.result c.play.new.self (after w action)

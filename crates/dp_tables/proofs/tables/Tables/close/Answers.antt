@@ -1,7 +1,7 @@
 use Rattle.std.proofs.Common.{◌≡◌, length, arith, refl, ap, ◌∙◌, ◌++◌, ◌∷◌, []}
 use Rattle.dp_epochs.specs.State.{open_in}
-use Rattle.dp_tables.specs.Plans.{shut_change}
-use Rattle.dp_tables.proofs.PlanLemmas.{tables-closed}
+use Rattle.dp_tables.specs.Plans.{opens_after, shut_change}
+use Rattle.dp_tables.proofs.PlanLemmas.{shut-opens, tables-closed}
 use Rattle.dp_tables.proofs.tables.Tables.close.Goals as goal
 
 pub invariant_of-self : goal.invariant_of-self
@@ -19,7 +19,13 @@ invariant_of-self c =
           ∙ ap (λ n. t.shut.items ++ record { conn = conn; n = n } ∷ []) count;
       connections = c.make.ensures.connections;
       quiet = c.make.ensures.quiet;
+      epoch = refl;
       live = refl;
       rights = refl;
       present = c.make.ensures.present;
+      opens = c.make.ensures.opens ∙ ap (λ x. opens_after c.len-n.result x t.opens) c.shut_change-change.ensures
+          ∙ shut-opens c.len-n.result conn (open_in c.deref.result.now conn) t.opens;
+      owner = refl;
+      parts = refl;
+      part_bytes = refl;
     }))

@@ -1,6 +1,6 @@
 use Rattle.std.proofs.Common.{[], ◌++◌, ◌∷◌, refl, ap, ◌∙◌}
 use Rattle.dp_msg_meta.specs.declared.message.Meta.TheVariants.{ResetMark}
-use Rattle.dp_epochs.specs.State.{server_entry}
+use Rattle.dp_acl.specs.Opening.{server_entry}
 use Rattle.dp_tables.specs.declared.history_item.HistoryItem.TheVariants as item
 use Rattle.dp_tables.proofs.TableLemmas.{tables-first}
 use Rattle.dp_tables.proofs.tables.Tables.new.Goals as goal
@@ -12,4 +12,5 @@ invariant_of-result c =
     (c.in_ok-push.ensures.items
     ∙ ap (λ items. items ++ item.Server (server_entry (ResetMark 0 0)) ∷ [])
     c.new-live.ensures.items) refl
-    (c.in_ok-note.ensures.stands [] c.new-rights.ensures) c.no_marks.ensures
+    (c.in_ok-note.ensures.stands [] c.new-rights.ensures) c.no_marks.ensures refl
+    c.no_opens.ensures refl c.new-5.ensures.items refl

@@ -1,0 +1,47 @@
+-- How an epoch opens.
+use Rattle.std.specs.Prelude.{ℕ, ◌-◌, Option, List, ◌∷◌, ◌++◌, length, map, slice_get}
+use Rattle.std.specs.List.{filter, filter_map}
+use Rattle.dp_msg_draw.specs.declared.draw.Draw.{Draw}
+use Rattle.dp_msg_meta.specs.declared.message.Meta.{Meta}
+use Rattle.dp_msg_meta.specs.declared.message.Meta.TheVariants.{ResetMark}
+use Rattle.dp_messages.specs.declared.message.Msg.TheVariants as msg
+use Rattle.dp_messages.specs.declared.message.Entry.{Entry}
+use Rattle.dp_acl.specs.LookBack.{is_join_of}
+use Rattle.dp_acl.specs.Carried.{carried}
+
+-- an entry of the server's own
+abbrev pub server_entry : Meta → Entry
+server_entry m = record { user = 0; msg = msg.Meta m }
+
+-- a command of a reset, as it stands in the history
+abbrev pub command_entry : Draw → Entry
+command_entry command = record { user = 0; msg = msg.Draw command }
+
+-- the user's last Join in a history, if there is one
+abbrev pub last_join : List Entry → ℕ → Option Entry
+last_join history user =
+    let joins = filter (is_join_of user) history in slice_get joins (length joins - 1)
+
+-- What stands after the mark of a new epoch: the last Joins of the present users, what is carried of
+-- the rights, and the commands of the reset.
+abbrev pub carried_entries : List Entry → List ℕ → List Draw → List Entry
+carried_entries history present commands =
+    filter_map (last_join history) present
+    ++ map server_entry (carried history present)
+    ++ map command_entry commands
+
+-- The history that the epoch of this number opens with, after the history of the one before, where
+-- these users are present.
+abbrev pub opening : ℕ → List Entry → List ℕ → List Draw → List Entry
+opening epoch history present commands =
+    let rest = carried_entries history present commands in
+    server_entry (ResetMark epoch (length rest)) ∷ rest
+
+-- the most commands of a reset
+abbrev pub part_limit : ℕ
+part_limit = 262144
+
+-- No opening is longer: the mark, 254 Joins, four entries of rights and the rules of 65,536 layers,
+-- and the commands.
+abbrev pub opening_limit : ℕ
+opening_limit = 327939

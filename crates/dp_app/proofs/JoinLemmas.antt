@@ -1,0 +1,241 @@
+-- A run over a link gives the clauses of the top call.
+use Rattle.std.proofs.Common.{◌≡◌, ◌≢◌, ℕ, ◌<◌, ◌⊎◌, List, [], ◌∷◌, refl, sym, ap, ◌∙◌, subst}
+use Rattle.std.proofs.Common.{⊎_elim, arith, inl, inr, length, take, drop}
+use Rattle.std.proofs.lemmas.List.{take_at}
+use Rattle.std.specs.Prelude.{Option, Some, None, ◌++◌, map, string_bytes}
+use Rattle.std.specs.declared.string.String.{String}
+use Rattle.std.specs.Io.KnownBytes.{IsAtEnd}
+use Rattle.dp_io.specs.Faults.{Rose}
+use Rattle.dp_joining.specs.Leaves.{BlamesJoin, Counts, JoinLeaves, Traffic}
+use Rattle.dp_joining.specs.Runs.{RunLeaves}
+use Rattle.dp_lines.specs.declared.run_end.RunEnd.{RunEnd}
+use Rattle.dp_lines.specs.declared.run_end.RunEnd.TheVariants.{Done, BadLine, ReadFault, WriteFault}
+use Rattle.dp_lines.specs.declared.run_end.RunEnd.TheVariants.{Memory, Long, Truncated, BadMessage}
+use Rattle.dp_lines.specs.declared.run_end.RunEnd.TheVariants.{BadHeader, Closed, LinkFault}
+use Rattle.dp_wire.specs.Links.{Links}
+use Rattle.dp_world.specs.RunEnds.{Blames}
+use Rattle.dp_words.specs.declared.command_line.CommandLine.{CommandLine}
+use Rattle.dp_words.specs.declared.command_line.CommandLine.TheVariants.{Join}
+use Rattle.dp_app.specs.declared.ending.Ending.{Ending}
+use Rattle.dp_app.specs.declared.ending.Ending.TheVariants.{Usage, NoLink, NoWords, Run}
+use Rattle.dp_app.specs.Answer.{Says, SaysLine, status_of, line_of}
+use Rattle.dp_app.specs.Commands.{AskForLink, Asks, IsCommand, Runs}
+use Rattle.dp_app.specs.Endings.{EndsCommand, EndsWords, Streams, Untouched, code_of, ending_line}
+use Rattle.dp_app.specs.Joins.{EndsLocally, HasJoined, HasLink, HasShortName, JoinsBy, JoinsOn}
+use Rattle.dp_app.specs.Joins.{ends_of}
+use Rattle.clap.specs.Walk.{Row, Text}
+use Rattle.dp_words.specs.CommandLines.{AsksIn}
+use Rattle.dp_words.specs.declared.command_line.CommandLine.TheVariants.{Replay, World, Play}
+use Rattle.dp_app.proofs.Completeness.{IsOfBytes, OneCommand, neither, run_not_one, run_read_told}
+use Rattle.dp_app.proofs.Completeness.{run_told, run_uncounted, run_write_told}
+
+-- of the script and the output alone
+blames-of : (old now : Counts) (end : RunEnd) → BlamesJoin old now end
+    → Blames old.input now.input old.output now.output end
+blames-of old now ReadFault b = (b.0, b.1.output)
+blames-of old now WriteFault b = (b.0, b.1)
+blames-of old now LinkFault b = (b.0, b.1)
+blames-of old now Done b = (b.0, b.1.output)
+blames-of old now (BadLine n) b = (b.0, b.1.output)
+blames-of old now Memory b = (b.0, b.1.output)
+blames-of old now Long b = (b.0, b.1.output)
+blames-of old now (Truncated n) b = (b.0, b.1.output)
+blames-of old now (BadMessage n) b = (b.0, b.1.output)
+blames-of old now Closed b = (b.0, b.1.output)
+blames-of old now BadHeader b = (b.0, b.1.output)
+
+-- a run that says it is done has read its script to the end
+at-end : (name : List ℕ) (t : Traffic) (end : RunEnd) → JoinLeaves name t end
+    → (status_of end ≡ 0) ⊎ (status_of end ≡ 9) → IsAtEnd t.left
+at-end name t Done leaves h = leaves.0
+at-end name t (Truncated n) leaves h = absurd leaves
+at-end name t BadHeader leaves h = absurd leaves
+at-end name t (BadLine n) leaves h =
+    absurd (neither 2 2 refl (λ e. omega (arith, e)) (λ e. omega (arith, e)) h)
+at-end name t ReadFault leaves h =
+    absurd (neither 3 3 refl (λ e. omega (arith, e)) (λ e. omega (arith, e)) h)
+at-end name t WriteFault leaves h =
+    absurd (neither 4 4 refl (λ e. omega (arith, e)) (λ e. omega (arith, e)) h)
+at-end name t LinkFault leaves h =
+    absurd (neither 5 5 refl (λ e. omega (arith, e)) (λ e. omega (arith, e)) h)
+at-end name t Memory leaves h =
+    absurd (neither 7 7 refl (λ e. omega (arith, e)) (λ e. omega (arith, e)) h)
+at-end name t Long leaves h =
+    absurd (neither 8 8 refl (λ e. omega (arith, e)) (λ e. omega (arith, e)) h)
+at-end name t (BadMessage n) leaves h =
+    absurd (neither 10 10 refl (λ e. omega (arith, e)) (λ e. omega (arith, e)) h)
+at-end name t Closed leaves h =
+    absurd (neither 11 11 refl (λ e. omega (arith, e)) (λ e. omega (arith, e)) h)
+
+-- how a run over a link has ended, as far as the script, the output and the end that is said go
+pub record Ended (s : Streams) (dold dnew : Option (List ℕ)) (before now status : ℕ) : Type 0 where
+  pub end : RunEnd
+  pub blames : Blames s.read s.read_now s.written s.written_now end
+  pub says : Says dold dnew before now status end
+  pub at_end : (status_of end ≡ 0) ⊎ (status_of end ≡ 9) → IsAtEnd s.left
+
+module _ {W R T : Type 0} (links : W → Option (Links R T)) (faults : W → ℕ)
+    (left : R → Option (List ℕ)) (read_faults : R → ℕ) (held : T → Option (List ℕ))
+    (write_faults : T → ℕ) where
+  leaves-blames : (name : List ℕ) (old new : Option (Links R T)) (before after : ℕ) (s : Streams)
+      (end : RunEnd)
+      → RunLeaves left read_faults held write_faults name old new before after (ends_of s) end
+      → Blames s.read s.read_now s.written s.written_now end
+      × ((status_of end ≡ 0) ⊎ (status_of end ≡ 9) → IsAtEnd s.left)
+  leaves-blames name old new before after s end (inl (is, rose, same)) =
+      subst (λ (e : RunEnd). Blames s.read s.read_now s.written s.written_now e
+      × ((status_of e ≡ 0) ⊎ (status_of e ≡ 9) → IsAtEnd s.left)) (sym is) (
+        (same.input_faults, same.output_faults),
+        λ h. absurd (neither 5 5 refl (λ e. omega (arith, e)) (λ e. omega (arith, e)) h),
+      )
+  leaves-blames name old new before after s end (inr (inl (is, stays, same))) =
+      subst (λ (e : RunEnd). Blames s.read s.read_now s.written s.written_now e
+      × ((status_of e ≡ 0) ⊎ (status_of e ≡ 9) → IsAtEnd s.left)) (sym is) (
+        (same.input_faults, same.output_faults),
+        λ h. absurd (neither 7 7 refl (λ e. omega (arith, e)) (λ e. omega (arith, e)) h),
+      )
+  leaves-blames name old new before after s end (inr (inr (stays, over))) =
+      (blames-of _ _ end over.blames, at-end name _ end over.leaves)
+
+  pub ended-of : (name : List ℕ) (old new : List W) (s : Streams) (ending : Ending)
+      (dold dnew : Option (List ℕ)) (before now status : ℕ)
+      → JoinsOn links faults left read_faults held write_faults name old new s ending
+      → SaysLine (code_of ending) (ending_line ending) dold dnew before now status
+      → Ended s dold dnew before now status
+  ended-of name old new s ending dold dnew before now status joins says =
+      let h = leaves-blames name (links joins.wire) (links joins.now) (faults joins.wire)
+      (faults joins.now) s joins.end joins.leaves in
+      record {
+        end = joins.end;
+        blames = h.0;
+        says = subst (λ (e : Ending). SaysLine (code_of e) (ending_line e) dold dnew before now
+            status) joins.ends says;
+        at_end = h.1;
+      }
+
+-- ---- words
+
+-- the vector whose slice became that
+abbrev pub sliced : {W : Type 0} → List W → List W → ℕ → List W
+sliced old new n = take n (new ++ drop (length new) old)
+
+module _ {A W R T : Type 0} (links : W → Option (Links R T)) (faults : W → ℕ)
+    (left : R → Option (List ℕ)) (read_faults : R → ℕ) (held : T → Option (List ℕ))
+    (write_faults : T → ℕ) where
+  abbrev pub EndsProgram : List (String A) → List W → List W → Streams → Ending → Type 0
+  EndsProgram words old new s ending =
+      EndsLocally (EndsWords words s ending) old new ending
+      ⊎ JoinsBy links faults left read_faults held write_faults words old new s ending
+
+  wires-last : (words : List (String A)) (old new : List W) (s : Streams) (ending : Ending)
+      → EndsProgram words old new s ending → length new ≡ length old
+  wires-last words old new s ending (inl local) = ap length local.wires
+  wires-last words old new s ending (inr by) =
+      ap length by.joins.after ∙ sym (ap length by.joins.before)
+
+  -- the same of the vector as of the slice
+  pub in-vector : (words : List (String A)) (old mid new : List W) (n : ℕ) (s : Streams)
+      (ending : Ending) → mid ≡ old → n ≡ length old → EndsProgram words mid new s ending
+      → EndsProgram words old (sliced old new n) s ending
+  in-vector words old mid new n s ending same long h =
+      let last = wires-last words mid new s ending h ∙ ap length same ∙ sym long in
+      subst (λ news. EndsProgram words old news s ending)
+      (sym (take_at new (drop (length new) old) n last))
+      (subst (λ olds. EndsProgram words olds new s ending) same h)
+
+  -- the words that ask for it ask for a link, and there is one
+  pub has-link : (words : List (String A)) (old new : List W) (s : Streams) (ending : Ending)
+      → JoinsBy links faults left read_faults held write_faults words old new s ending
+      → HasLink words old
+  has-link words old new s ending by = (
+    (Join by.addr by.name, by.asks, λ runs. runs),
+    λ none. let e : [] ≡ by.joins.wire ∷ by.joins.others = sym none ∙ by.joins.before in cc,
+  )
+
+  -- what is left where the words ask to join, and there is a wire
+  pub joined-of : OneCommand → (words : List (String A)) (old new : List W) (s : Streams)
+      (ending : Ending) (dold dnew : Option (List ℕ)) (before now status : ℕ)
+      → EndsProgram words old new s ending
+      → SaysLine (code_of ending) (ending_line ending) dold dnew before now status
+      → (addr name : List ℕ) → Asks words (Join addr name) → old ≢ []
+      → HasJoined links faults left read_faults held write_faults name old new s dold dnew before
+      now status
+  joined-of law words old new s Usage dold dnew before now status (inl local) says addr name asks
+      some = absurd (local.ended.0 (Join addr name, asks))
+  joined-of law words old new s NoLink dold dnew before now status (inl local) says addr name asks
+      some = absurd (some (local.none refl))
+  joined-of law words old new s NoWords dold dnew before now status (inl local) says addr name asks
+      some = record {
+        ending = NoWords;
+        joins = inr (refl, local.wires, local.ended);
+        says = says;
+      }
+  joined-of law words old new s (Run end) dold dnew before now status (inl local) says addr name
+      asks some =
+      absurd (subst Runs (law (map string_bytes words) local.ended.0 (Join addr name)
+      local.ended.1 asks) local.ended.2.0)
+  joined-of law words old new s ending dold dnew before now status (inr by) says addr name asks
+      some =
+      let one = law (map string_bytes words) (Join by.addr by.name) (Join addr name) by.asks asks in
+      let same : by.name ≡ name = cc in
+      record {
+        ending = ending;
+        joins = inl (subst (λ n. JoinsOn links faults left read_faults held write_faults n old new s
+            ending) same by.joins);
+        says = says;
+      }
+
+-- ---- one command
+
+pub locally : {W : Type 0} (P Q : Type 0) (old new : List W) (ending : Ending) → (P → Q)
+    → EndsLocally P old new ending → EndsLocally Q old new ending
+locally P Q old new ending f h =
+    record { ended = f h.ended; wires = h.wires; none = h.none }
+
+pub short-name : (o : Option (Text × List Row)) (command : CommandLine) → AsksIn o command
+    → HasShortName command
+short-name None command asks = absurd asks
+short-name (Some entered) Replay asks = tt
+short-name (Some entered) World asks = tt
+short-name (Some entered) (Play at) asks = tt
+short-name (Some entered) (Join addr name) asks = asks.4
+
+-- a command that needs a link, where there is none
+pub no-link : (addr name : List ℕ) (s : Streams) (ending : Ending)
+    → (ending ≡ NoLink) × Untouched s → EndsCommand (Join addr name) s ending
+no-link addr name s ending h =
+    subst (λ (e : Ending). EndsCommand (Join addr name) s e) (sym h.0) ((λ runs. runs), h.1)
+
+module _ (s : Streams) (dold dnew : Option (List ℕ)) (before now status : ℕ)
+    (e : Ended s dold dnew before now status) where
+  pub not-usage : status ≡ 1 → ⊥
+  not-usage is =
+      ⊎_elim (λ says. run_not_one e.end (sym says.0 ∙ is))
+      (λ failed. omega (arith, failed.0, is)) e.says
+
+  pub joined-end : (status ≡ 0) ⊎ (status ≡ 9) → IsAtEnd s.left
+  joined-end h =
+      ⊎_elim (λ says. e.at_end (subst (λ (n : ℕ). (n ≡ 0) ⊎ (n ≡ 9)) says.0 h))
+      (λ failed. absurd (neither status 4 failed.0 (λ x. omega (arith, x))
+      (λ x. omega (arith, x)) h))
+      e.says
+
+  pub joined-told : s.read < s.read_now → (status ≡ 3) ⊎ ((status ≡ 4) × Rose before now)
+  joined-told rose =
+      run_told dold dnew s.read s.read_now s.written s.written_now before now status e.end e.blames
+      e.says rose
+
+  pub joined-uncounted : IsOfBytes status → (s.read_now ≡ s.read) × (s.written_now ≡ s.written)
+  joined-uncounted h =
+      run_uncounted dold dnew s.read s.read_now s.written s.written_now before now status e.end
+      e.blames e.says h
+
+  pub joined-read : status ≡ 3 → Rose s.read s.read_now
+  joined-read is =
+      run_read_told dold dnew s.read s.read_now s.written s.written_now before now status e.end
+      e.blames e.says is
+
+  pub joined-write : status ≡ 4 → Rose s.written s.written_now ⊎ Rose before now
+  joined-write is =
+      run_write_told dold dnew s.read s.read_now s.written s.written_now before now status e.end
+      e.blames e.says is

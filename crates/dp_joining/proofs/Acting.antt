@@ -1,0 +1,80 @@
+-- Lines that ask for no entry.
+use Rattle.std.proofs.Common.{◌≡◌, ℕ, ◌≤◌, List, [], ◌∷◌, ◌++◌, length, refl, sym, ap, ◌∙◌, subst, arith}
+use Rattle.std.proofs.Common.{Ok, Err, OnOk}
+use Rattle.std.specs.Prelude.{Option, IfErr}
+use Rattle.std.specs.declared.result.Result.{Result}
+use Rattle.std.proofs.lemmas.List.{append-nil}
+use Rattle.dp_entries.specs.Reader.{Reader}
+use Rattle.dp_client.specs.Client.{State}
+use Rattle.dp_messages.specs.declared.message.Entry.{Entry}
+use Rattle.dp_schedule.specs.declared.join_action.JoinAction.{JoinAction}
+use Rattle.dp_joining.specs.declared.stops.JoinStop.{JoinStop}
+use Rattle.dp_joining.specs.Joining.{Joining, acted, asked_by, after_line, takeable}
+use Rattle.dp_joining.specs.Steps.{Fails, Halts, IsReadable, IsReady, Moves, Passes, Seen, Source}
+use Rattle.dp_joining.specs.Outcomes.{BeginsWith}
+use Rattle.dp_joining.specs.Steps.{ReadsOn, source_at}
+use Rattle.dp_joining.proofs.Reading.{gave_begins, reads_none}
+use Rattle.dp_joining.proofs.Taking.{shows_other}
+
+pub passes_alone : (old now : Seen) (action : JoinAction) → asked_by action ≡ 0
+    → IsReady old.client old.source → now.source ≡ old.source → Moves old now (acted action)
+    → Passes old now action
+passes_alone old now action none ready same moves = record {
+  given = [];
+  reads =
+      subst (λ (s : Source). ReadsOn old.source s []) (sym same)
+      (reads_none old.source ready.readable);
+  many = sym none;
+  moves = moves;
+}
+
+pub halts_alone : (old now : Seen) (action : JoinAction) (stop : JoinStop)
+    → IsReady old.client old.source → Fails old now (acted action) stop → Halts old now action stop
+halts_alone old now action stop ready fails = record {
+  given = [];
+  reads = λ bytes before gave still.
+      shows_other stop bytes (before ++ []) fails.not_for_entry
+      (subst (BeginsWith bytes) (sym (append-nil before))
+      (gave_begins old.source bytes before ready.readable gave));
+  few = omega arith;
+  waits = λ is. absurd (fails.not_for_entry is);
+  stops = fails.stops;
+}
+
+-- the client may still take an entry
+pub ready_alone : (client now : State) (source source_now : Source) → IsReady client source
+    → source_now ≡ source → now.taken ≡ client.taken → IsReady now source_now
+ready_alone client now source source_now ready same taken =
+    subst (IsReady now) (sym same) (record {
+      few = subst (λ (es : List Entry). length es ≤ source.reader.stream.at) (sym taken) ready.few;
+      readable = ready.readable;
+    })
+
+-- the same reader and the same source
+pub source_same : {R : Type 0} (left : R → Option (List ℕ)) (faults : R → ℕ) (r s : Reader)
+    (x y : R) → s ≡ r → y ≡ x → source_at left faults s y ≡ source_at left faults r x
+source_same {R} left faults r s x y readers sources =
+    ap (λ (q : Reader). source_at left faults q y) readers
+    ∙ ap (λ (z : R). source_at left faults r z) sources
+
+-- ---- as a call answers
+
+pub ok_alone : (r : Result Unit JoinStop) (old now : Seen) (action : JoinAction)
+    → asked_by action ≡ 0 → IsReady old.client old.source → now.source ≡ old.source
+    → OnOk r (Moves old now (acted action)) → OnOk r (Passes old now action)
+ok_alone (Err e) old now action none ready same moves = tt
+ok_alone (Ok done) old now action none ready same moves =
+    passes_alone old now action none ready same moves
+
+pub err_alone : (r : Result Unit JoinStop) (old now : Seen) (action : JoinAction)
+    → IsReady old.client old.source
+    → IfErr r (Fails old now (acted action)) → IfErr r (Halts old now action)
+err_alone (Ok done) old now action ready fails = tt
+err_alone (Err stop) old now action ready fails = halts_alone old now action stop ready fails
+
+pub ready_ok : (r : Result Unit JoinStop) (client now : State) (source source_now : Source)
+    → IsReady client source → source_now ≡ source → OnOk r (now.taken ≡ client.taken)
+    → OnOk r (IsReady now source_now)
+ready_ok (Err e) client now source source_now ready same taken = tt
+ready_ok (Ok done) client now source source_now ready same taken =
+    ready_alone client now source source_now ready same taken

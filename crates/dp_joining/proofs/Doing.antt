@@ -1,0 +1,183 @@
+-- Lines that are done one after the other, and the line that ends a run.
+use Rattle.std.proofs.Common.{◌≡◌, ◌⊎◌, inl, inr, ℕ, ◌≤◌, List, [], ◌∷◌, ◌++◌, length, refl, sym, ap}
+use Rattle.std.proofs.Common.{◌∙◌, subst, arith}
+use Rattle.std.specs.Prelude.{Option}
+use Rattle.std.specs.Io.KnownBytes.{Appends}
+use Rattle.dp_io.specs.Streams.{GrowsByPrefix}
+use Rattle.dp_io.proofs.Prefixes.{grows_whole}
+use Rattle.dp_lines.specs.declared.line.Line.{Line}
+use Rattle.dp_messages.specs.declared.message.Entry.{Entry}
+use Rattle.dp_schedule.specs.declared.join_action.JoinAction.{JoinAction}
+use Rattle.dp_schedule.specs.JoinGrammar.{Asks}
+use Rattle.dp_script.specs.declared.machine.Undone.{Undone}
+use Rattle.dp_script.specs.declared.machine.Undone.TheVariants as undone
+use Rattle.dp_script.specs.Ends.{IfEnded, IfNoStep}
+use Rattle.dp_script.specs.Moments.{Moment}
+use Rattle.dp_joining.specs.declared.stops.JoinStop.{JoinStop}
+use Rattle.dp_joining.specs.declared.stops.JoinStop.TheVariants.{WriteFault, LinkFault, Memory}
+use Rattle.dp_joining.specs.declared.stops.JoinStop.TheVariants.{NoEntry}
+use Rattle.dp_joining.specs.Joining.{Joining, Went, Goes, Waits, after_line, along, takeable}
+use Rattle.dp_joining.specs.Outcomes.{AllAsk, IsJoinStep}
+use Rattle.dp_joining.specs.Scripts.{GoesTo, HasDone, HasEnded, IsRefused, StopsAlong, went_text}
+use Rattle.dp_joining.specs.Scripts.{went_written}
+use Rattle.dp_joining.specs.Steps.{Began, Halts, IsNoEntry, IsReadable, Passes, Seen, Stands, Stops}
+use Rattle.dp_joining.specs.Steps.{Wrote}
+use Rattle.dp_joining.proofs.Along.{along_exact, along_next, along_short, line_text, line_written}
+use Rattle.dp_joining.proofs.Along.{takeable-append}
+use Rattle.dp_joining.proofs.Reading.{reads_none, reads_then, reads_twice, stops_here}
+
+-- ---- asking
+
+-- one line more asks for one action more
+pub asked_more : (done : List Line) (actions : List JoinAction) (line : Line) (action : JoinAction)
+    → AllAsk done actions → Asks line.bytes action
+    → AllAsk (done ++ line ∷ []) (actions ++ action ∷ [])
+asked_more [] [] line action asked asks = (asks, tt)
+asked_more [] (first ∷ actions) line action asked asks = absurd asked
+asked_more (first ∷ done) [] line action asked asks = absurd asked
+asked_more (first ∷ done) (one ∷ actions) line action (here, asked) asks =
+    (here, asked_more done actions line action asked asks)
+
+-- ---- doing
+
+-- what was written on the way to the next line
+wrote_along : (first now : Seen) (went : Went) (j : Joining) (stop : JoinStop)
+    → went_text went ≡ j.text → went_written went ≡ j.written
+    → Wrote first now j.text j.written stop
+    → Wrote first now (went_text went) (went_written went) stop
+wrote_along first now went j stop text written wrote =
+    subst (λ t. Wrote first now t (went_written went) stop) (sym text)
+    (subst (λ w. Wrote first now j.text w stop) (sym written) wrote)
+
+-- what stands is written whole, and is a prefix
+pub began_whole : (first now : Seen) (j : Joining) → Stands first now j
+    → Began first now j.text j.written
+began_whole first now j stands = record {
+  printed = grows_whole first.printed now.printed j.text stands.text;
+  sent = grows_whole first.written now.written j.written stands.written;
+}
+
+module _ {M O D T : Type 0} (see : M → O → Seen) where
+  abbrev at : Moment M O D T → Seen
+  at m = see m.machine m.output
+
+  -- the line is done
+  pub done_further : (start old now : Moment M O D T) (done : List Line) (line : Line)
+      (action : JoinAction) → Asks line.bytes action → Passes (at old) (at now) action
+      → HasDone see start done old → HasDone see start (done ++ line ∷ []) now
+  done_further start old now done line action asks passes has = record {
+    actions = has.actions ++ action ∷ [];
+    asked = asked_more done has.actions line action has.asked asks;
+    given = has.given ++ passes.given;
+    reads =
+        reads_twice (at start).source (at old).source (at now).source has.given passes.given
+        has.reads passes.reads;
+    goes = λ first j stands.
+        let before = has.goes first j stands in record {
+          joining = after_line action (takeable passes.given) before.joining;
+          goes =
+              ap (λ es. along (has.actions ++ action ∷ []) es j)
+              (takeable-append has.given passes.given has.reads.still)
+              ∙ along_next has.actions action (takeable has.given) (takeable passes.given) j
+              before.joining before.goes
+              ∙ along_exact action (takeable passes.given) before.joining passes.many;
+          stands = passes.moves first before.joining before.stands;
+        };
+  }
+
+  -- the next line ends the run
+  pub halts_at : (start old now : Moment M O D T) (done : List Line) (line : Line)
+      (action : JoinAction) (stop : JoinStop) → Asks line.bytes action
+      → Halts (at old) (at now) action stop
+      → HasDone see start done old → HasEnded see start done line now stop
+  halts_at start old now done line action stop asks halts has = record {
+    begun = done ++ line ∷ [];
+    is_begun = inr (refl, (action, asks));
+    actions = has.actions ++ action ∷ [];
+    asked = asked_more done has.actions line action has.asked asks;
+    given = has.given ++ halts.given;
+    reads = reads_then (at start).source (at old).source has.given halts.given stop has.reads
+        halts.reads;
+    stops = λ first j stands.
+        let before = has.goes first j stands in
+        let went = along (has.actions ++ action ∷ []) (takeable (has.given ++ halts.given)) j in
+        let is : went ≡ along (action ∷ []) (takeable halts.given) before.joining =
+        ap (λ es. along (has.actions ++ action ∷ []) es j)
+        (takeable-append has.given halts.given has.reads.still)
+        ∙ along_next has.actions action (takeable has.given) (takeable halts.given) j
+        before.joining before.goes in
+        let next = after_line action (takeable halts.given) before.joining in
+        let text : went_text went ≡ next.text =
+        ap went_text is ∙ line_text action (takeable halts.given) before.joining halts.few in
+        let written : went_written went ≡ next.written =
+        ap went_written is ∙ line_written action (takeable halts.given) before.joining halts.few in
+        let stopped = halts.stops first before.joining before.stands in
+        record {
+          wrote = wrote_along first (at now) went next stop text written stopped.wrote;
+          blames = stopped.blames;
+          waits = λ none.
+              is ∙ along_short action (takeable halts.given) before.joining (halts.waits none)
+              ∙ ap (λ t. Waits t next.written) (sym text)
+              ∙ ap (λ w. Waits (went_text went) w) (sym written);
+        };
+  }
+
+  -- memory ran out before the next line
+  pub ran_out_at : (start now : Moment M O D T) (done : List Line) (line : Line)
+      → HasDone see start done now → HasEnded see start done line now Memory
+  ran_out_at start now done line has = record {
+    begun = done;
+    is_begun = inl refl;
+    actions = has.actions;
+    asked = has.asked;
+    given = has.given;
+    reads = λ bytes before gave still.
+        stops_here (at start).source (at now).source has.given has.reads bytes before gave;
+    stops = λ first j stands.
+        let before = has.goes first j stands in
+        let went = along has.actions (takeable has.given) j in
+        record {
+          wrote = wrote_along first (at now) went before.joining Memory (ap went_text before.goes)
+              (ap went_written before.goes) (began_whole first (at now) before.joining
+              before.stands);
+          blames = before.stands.faultless;
+          waits = λ none. absurd none;
+        };
+  }
+
+  -- nothing is done yet
+  pub nothing_done : (start : Moment M O D T) → IsReadable (at start).source
+      → HasDone see start [] start
+  nothing_done start readable = record {
+    actions = [];
+    asked = tt;
+    given = [];
+    reads = reads_none (at start).source readable;
+    goes = λ first j stands. record { joining = j; goes = refl; stands = stands };
+  }
+
+-- ---- lines that ask for nothing, and memory
+
+module _ {M O D T : Type 0} (see : M → O → Seen) where
+  pub refused_by : (now : Moment M O D T) (line : Line) (u : Undone JoinStop) → IsRefused line u
+      → IfNoStep ((start : Moment M O D T) (done : List Line) → HasDone see start done now
+      → ¬ IsJoinStep done line) u
+  refused_by now line undone.NoStep refused =
+      λ start done has step. refused step.0 step.1
+  refused_by now line (undone.Ended why) refused = tt
+
+  pub kept_by : (now : Moment M O D T) (u : Undone JoinStop)
+      → IfNoStep ((start : Moment M O D T) (done : List Line) → HasDone see start done now
+      → HasDone see start done now) u
+  kept_by now undone.NoStep = λ start done has. has
+  kept_by now (undone.Ended why) = tt
+
+  pub ran_out_by : (now : Moment M O D T) (line : Line) (u : Undone JoinStop) → IsRefused line u
+      → IfEnded (λ why. (start : Moment M O D T) (done : List Line) → HasDone see start done now
+      → HasEnded see start done line now why) u
+  ran_out_by now line undone.NoStep refused = tt
+  ran_out_by now line (undone.Ended WriteFault) refused = absurd refused
+  ran_out_by now line (undone.Ended LinkFault) refused = absurd refused
+  ran_out_by now line (undone.Ended Memory) refused =
+      λ start done has. ran_out_at see start now done line has
+  ran_out_by now line (undone.Ended (NoEntry why)) refused = absurd refused

@@ -1,0 +1,12 @@
+pub mod Along
+pub mod Reading
+pub mod Moving
+pub mod Taking
+pub mod Acting
+pub mod Doing
+pub mod Welcoming
+pub mod Leaving
+pub mod Starting
+pub mod Prefixes
+pub mod Unique
+pub mod OneOutcome

@@ -1,0 +1,272 @@
+-- What a link gave, and how it goes on.
+use Rattle.std.proofs.Common.{◌≡◌, ◌⊎◌, inl, inr, ℕ, ◌+◌, ◌<◌, ◌≤◌, true, false, List, [], ◌∷◌, ◌++◌}
+use Rattle.std.proofs.Common.{length, refl, sym, ap, ◌∙◌, subst, arith, ◌||◌, if◌then◌else◌}
+use Rattle.std.specs.Prelude.{Option, Some, None, IfSome, IsTrue}
+use Rattle.std.specs.List.{flat_map}
+use Rattle.std.proofs.lemmas.List.{append_assoc, append-nil, nil_from_length, length-append}
+use Rattle.dp_frame.specs.Frames.{spelling}
+use Rattle.dp_io.specs.Faults.{Rose}
+use Rattle.dp_lines.specs.declared.run_end.RunEnd.{RunEnd}
+use Rattle.dp_lines.specs.declared.run_end.RunEnd.TheVariants as run
+use Rattle.dp_messages.specs.declared.message.Entry.{Entry}
+use Rattle.dp_messages.specs.Properties.{is_disconnect}
+use Rattle.dp_entries.specs.declared.ends.ReadEnd.{ReadEnd}
+use Rattle.dp_entries.specs.declared.ends.ReadEnd.TheVariants.{ReadFault, Truncated, BadMessage}
+use Rattle.dp_entries.specs.declared.ends.ReadEnd.TheVariants as read
+use Rattle.dp_entries.specs.Input.{ComesTo}
+use Rattle.dp_entries.specs.Reader.{Reader, HasRead}
+use Rattle.dp_entries.specs.Reading.{Blames, EndsReading}
+use Rattle.dp_joining.specs.declared.linked.LinkFlaw.{LinkFlaw}
+use Rattle.dp_joining.specs.declared.stops.LinkCause.TheVariants as cause
+use Rattle.dp_joining.specs.declared.stops.JoinStop.{JoinStop}
+use Rattle.dp_joining.specs.declared.stops.JoinStop.TheVariants.{WriteFault, LinkFault, Memory}
+use Rattle.dp_joining.specs.declared.stops.JoinStop.TheVariants.{NoEntry}
+use Rattle.dp_joining.specs.Joining.{is_closed, takeable}
+use Rattle.dp_joining.specs.Linked.{IsFlaw, StandsOnLink, is_ping}
+use Rattle.dp_joining.specs.Outcomes.{BeginsWith, EndsLink, link_limit}
+use Rattle.dp_joining.specs.Steps.{BlamesReading, Gave, GivesEntry, GivesNone, IsReadable, ReadsOn}
+use Rattle.dp_joining.specs.Steps.{ReadsUpTo, Shows, Source}
+use Rattle.dp_joining.specs.Stops.{stop_of}
+use Rattle.dp_joining.proofs.Along.{closed-append, either_false, still-append, takeable-append}
+
+-- the bytes begin with the entries that they gave
+pub gave_begins : (s : Source) (bytes : List ℕ) (entries : List Entry) → IsReadable s
+    → Gave s bytes entries → BeginsWith bytes entries
+gave_begins s bytes entries readable gave =
+    let none : gave.head ≡ [] = nil_from_length gave.head (gave.place ∙ readable.first) in
+    let front = flat_map spelling gave.follows.frames in
+    let held = s.reader.stream.held in
+    let rest = gave.cut ++ gave.untaken in
+    record {
+      frames = gave.follows.frames;
+      more = held ++ rest;
+      each = gave.follows.each;
+      stand = gave.follows.stand;
+      whole =
+          gave.whole
+          ∙ ap (λ xs. xs ++ ((gave.earlier ++ gave.piece) ++ rest)) none
+          ∙ ap (λ xs. xs ++ rest) gave.follows.whole
+          ∙ append_assoc front held rest;
+      counts =
+          subst (λ n. n ≤ link_limit) gave.follows.at readable.within;
+    }
+
+-- reading goes on twice
+pub reads_twice : (a b c : Source) (xs ys : List Entry) → ReadsOn a b xs → ReadsOn b c ys
+    → ReadsOn a c (xs ++ ys)
+reads_twice a b c xs ys first second = record {
+  more = λ bytes before gave.
+      subst (Gave c bytes) (append_assoc before xs ys)
+      (second.more bytes (before ++ xs) (first.more bytes before gave));
+  still = still-append xs ys first.still second.still;
+  further = omega (arith, length-append xs ys, first.further, second.further);
+  kept = second.kept ∙ first.kept;
+  readable = second.readable;
+}
+
+-- nothing was read yet
+pub reads_none : (s : Source) → IsReadable s → ReadsOn s s []
+reads_none s readable = record {
+  more = λ bytes before gave. subst (Gave s bytes) (sym (append-nil before)) gave;
+  still = refl;
+  further = omega arith;
+  kept = refl;
+  readable = readable;
+}
+
+-- reading goes on, and then stops
+pub reads_then : (a b : Source) (xs ys : List Entry) (stop : JoinStop) → ReadsOn a b xs
+    → ReadsUpTo b ys stop → ReadsUpTo a (xs ++ ys) stop
+reads_then a b xs ys stop first second = λ bytes before gave still.
+    subst (λ es. Shows bytes es stop) (append_assoc before xs ys)
+    (second bytes (before ++ xs) (first.more bytes before gave)
+    (still-append before xs still first.still))
+
+-- the client stops for another reason than the link
+pub stops_here : (a b : Source) (xs : List Entry) → ReadsOn a b xs
+    → (bytes : List ℕ) (before : List Entry) → Gave a bytes before
+    → BeginsWith bytes (before ++ xs)
+stops_here a b xs reads bytes before gave =
+    gave_begins b bytes (before ++ xs) reads.readable (reads.more bytes before gave)
+
+-- ---- one entry
+
+-- what the bytes come to, by what the reader counts
+comes_to : (s : Source) (bytes : List ℕ) (entries : List Entry) → IsReadable s → (end : RunEnd)
+    → ComesTo StandsOnLink s.reader.first s.reader.limit bytes entries end
+    → ComesTo StandsOnLink 0 link_limit bytes entries end
+comes_to s bytes entries readable end comes =
+    subst (λ n. ComesTo StandsOnLink n link_limit bytes entries end) readable.first
+    (subst (λ n. ComesTo StandsOnLink s.reader.first n bytes entries end) readable.limit comes)
+
+-- what is taken of one entry that is no Disconnect
+taken_one : (e : Entry) → is_closed (e ∷ []) ≡ false
+    → takeable (e ∷ []) ≡ (if is_ping e.msg then [] else e ∷ [])
+taken_one e still =
+    ap (λ d. if d then [] else (if is_ping e.msg then [] else e ∷ []))
+    (either_false (is_disconnect e.msg) false still).0
+
+-- an entry that is no Disconnect
+pub pulled : (old now : Source) (e : Entry) → IsReadable old
+    → ((bytes : List ℕ) (before : List Entry) → Gave old bytes before
+    → Gave now bytes (before ++ e ∷ []))
+    → old.reader.stream.at < now.reader.stream.at
+    → now.reader.first + now.reader.stream.at + length now.reader.stream.held ≤ now.reader.limit
+    → now.reader.first ≡ old.reader.first → now.reader.limit ≡ old.reader.limit
+    → ¬ IsTrue now.reader.ended → now.faults ≡ old.faults → is_disconnect e.msg ≡ false
+    → ReadsOn old now (e ∷ [])
+pulled old now e readable more further within first limit going kept open_ = record {
+  more = more;
+  still = ap (λ b. b || false) open_;
+  further = omega arith;
+  kept = kept;
+  readable = record {
+    within = omega (arith, readable.limit);
+    first = first ∙ readable.first;
+    limit = limit ∙ readable.limit;
+    going = going;
+  };
+}
+
+-- a Disconnect
+pub pulled_last : (old now : Source) (e : Entry) → IsReadable old
+    → ((bytes : List ℕ) (before : List Entry) → Gave old bytes before
+    → Gave now bytes (before ++ e ∷ []))
+    → now.reader.first + now.reader.stream.at + length now.reader.stream.held ≤ now.reader.limit
+    → now.reader.first ≡ old.reader.first → now.reader.limit ≡ old.reader.limit
+    → ¬ IsTrue now.reader.ended → now.faults ≡ old.faults → is_disconnect e.msg ≡ true
+    → GivesNone old now (NoEntry cause.Closed)
+pulled_last old now e readable more within first limit going kept last = record {
+  given = e ∷ [];
+  none = ap (λ d. if d then [] else (if is_ping e.msg then [] else e ∷ [])) last;
+  reads = λ bytes before gave still.
+      inl (
+        gave_begins now bytes (before ++ e ∷ []) (record {
+          within = omega (arith, readable.limit);
+          first = first ∙ readable.first;
+          limit = limit ∙ readable.limit;
+          going = going;
+        }) (more bytes before gave),
+        closed-append before (e ∷ []) still (ap (λ b. b || false) last),
+      );
+  blames = kept;
+}
+
+-- the link has ended
+pub pulled_none : (old now : Source) → IsReadable old
+    → ((bytes : List ℕ) (before : List Entry) → Gave old bytes before
+    → ComesTo StandsOnLink old.reader.first old.reader.limit bytes before run.Done)
+    → now.faults ≡ old.faults
+    → GivesNone old now (NoEntry cause.Closed)
+pulled_none old now readable done kept = record {
+  given = [];
+  none = refl;
+  reads = λ bytes before gave still.
+      subst (λ es. EndsLink bytes es cause.Closed) (sym (append-nil before))
+      (inr (inl (still, comes_to old bytes before readable run.Done (done bytes before gave))));
+  blames = kept;
+}
+
+-- reading it ended so
+shows_end : (s : Source) (bytes : List ℕ) (left : Option (List ℕ)) (before : List Entry)
+    (end : ReadEnd LinkFlaw) → IsReadable s → Gave s bytes before → is_closed before ≡ false
+    → EndsReading StandsOnLink IsFlaw s.reader.first s.reader.limit bytes left before end
+    → Shows bytes before (stop_of end)
+shows_end s bytes left before ReadFault readable gave still ends =
+    gave_begins s bytes before readable gave
+shows_end s bytes left before (Truncated n) readable gave still ends =
+    inr (inr (still, n, comes_to s bytes before readable (run.Truncated n) ends.0))
+shows_end s bytes left before (BadMessage n flaw) readable gave still ends =
+    (still, comes_to s bytes before readable (run.BadMessage n) ends.0)
+shows_end s bytes left before read.Long readable gave still ends =
+    (still, comes_to s bytes before readable run.Long ends.0)
+shows_end s bytes left before read.Memory readable gave still ends =
+    gave_begins s bytes before readable gave
+
+blames_end : (before now : ℕ) (end : ReadEnd LinkFlaw) → before ≤ now → Blames before now end
+    → BlamesReading before now (stop_of end)
+blames_end before now ReadFault later blames = (blames, later)
+blames_end before now (Truncated n) later blames = blames
+blames_end before now (BadMessage n flaw) later blames = blames
+blames_end before now read.Long later blames = blames
+blames_end before now read.Memory later blames = blames
+
+pub pulled_end : (old now : Source) (left : Option (List ℕ)) (end : ReadEnd LinkFlaw)
+    → IsReadable old
+    → ((bytes : List ℕ) (before : List Entry) → Gave old bytes before
+    → EndsReading StandsOnLink IsFlaw old.reader.first old.reader.limit bytes left before end)
+    → old.faults ≤ now.faults → Blames old.faults now.faults end
+    → GivesNone old now (stop_of end)
+pulled_end old now left end readable ends later blames = record {
+  given = [];
+  none = refl;
+  reads = λ bytes before gave still.
+      subst (λ es. Shows bytes es (stop_of end)) (sym (append-nil before))
+      (shows_end old bytes left before end readable gave still (ends bytes before gave));
+  blames = blames_end old.faults now.faults end later blames;
+}
+
+-- ---- Pings
+
+-- a Ping more
+pub ping_more : (a b c : Source) (xs : List Entry) (e : Entry) → ReadsOn a b xs
+    → takeable xs ≡ [] → ReadsOn b c (e ∷ []) → is_ping e.msg ≡ true
+    → takeable (xs ++ e ∷ []) ≡ []
+ping_more a b c xs e first none next ping =
+    takeable-append xs (e ∷ []) first.still
+    ∙ ap (λ es. es ++ takeable (e ∷ [])) none
+    ∙ taken_one e next.still
+    ∙ ap (λ p. if p then [] else e ∷ []) ping
+
+-- an entry that is taken, after Pings
+pub gives_entry : (a b c : Source) (xs : List Entry) (e : Entry) → ReadsOn a b xs
+    → takeable xs ≡ [] → ReadsOn b c (e ∷ []) → is_ping e.msg ≡ false
+    → GivesEntry a c e
+gives_entry a b c xs e first none next ping = record {
+  given = xs ++ e ∷ [];
+  reads = reads_twice a b c xs (e ∷ []) first next;
+  only =
+      takeable-append xs (e ∷ []) first.still
+      ∙ ap (λ es. es ++ takeable (e ∷ [])) none
+      ∙ taken_one e next.still
+      ∙ ap (λ p. if p then [] else e ∷ []) ping;
+}
+
+-- none, after Pings
+pub gives_none : (a b c : Source) (xs : List Entry) (stop : JoinStop) → ReadsOn a b xs
+    → takeable xs ≡ [] → GivesNone b c stop → GivesNone a c stop
+gives_none a b c xs stop first none next = record {
+  given = xs ++ next.given;
+  none =
+      takeable-append xs next.given first.still
+      ∙ ap (λ es. es ++ takeable next.given) none
+      ∙ next.none;
+  reads = reads_then a b xs next.given stop first next.reads;
+  blames = subst (λ n. BlamesReading n c.faults stop) first.kept next.blames;
+}
+
+-- only Pings were read
+pub record Pings (old now : Source) : Type 0 where
+  pub given : List Entry
+  pub reads : ReadsOn old now given
+  pub none : takeable given ≡ []
+
+pub pings_none : (s : Source) → IsReadable s → Pings s s
+pings_none s readable = record { given = []; reads = reads_none s readable; none = refl }
+
+pub pings_more : (a b c : Source) (e : Entry) → Pings a b → ReadsOn b c (e ∷ [])
+    → is_ping e.msg ≡ true → Pings a c
+pings_more a b c e pings next ping = record {
+  given = pings.given ++ e ∷ [];
+  reads = reads_twice a b c pings.given (e ∷ []) pings.reads next;
+  none = ping_more a b c pings.given e pings.reads pings.none next ping;
+}
+
+pub pings_entry : (a b c : Source) (e : Entry) → Pings a b → ReadsOn b c (e ∷ [])
+    → is_ping e.msg ≡ false → GivesEntry a c e
+pings_entry a b c e pings next other =
+    gives_entry a b c pings.given e pings.reads pings.none next other
+
+pub pings_end : (a b c : Source) (stop : JoinStop) → Pings a b → GivesNone b c stop
+    → GivesNone a c stop
+pings_end a b c stop pings next = gives_none a b c pings.given stop pings.reads pings.none next

@@ -1,0 +1,195 @@
+-- How a run over a link begins.
+use Rattle.std.proofs.Common.{◌≡◌, ◌⊎◌, inl, inr, ℕ, ◌≤◌, List, [], ◌∷◌, ◌++◌, refl, sym, ap, ◌∙◌, subst}
+use Rattle.std.specs.Prelude.{Option, Some, None, IfSome}
+use Rattle.std.specs.Io.KnownBytes.{Appends}
+use Rattle.std.proofs.KnownBytes.{Appends-nil}
+use Rattle.std.proofs.lemmas.List.{append-nil}
+use Rattle.circular_buffer.specs.Buffer.{buffer}
+use Rattle.dp_client.specs.Client.{State}
+use Rattle.dp_io.specs.Streams.{GrowsByPrefix}
+use Rattle.dp_lines.specs.declared.line.Line.{Line}
+use Rattle.dp_lines.specs.Ends.{AreSteps, IsDoable, seen}
+use Rattle.dp_script.specs.Leaves.{IsFrontOf}
+use Rattle.dp_wire.specs.Links.{HandsOut, Links, WhereKnown as WhereLinks}
+use Rattle.dp_joining.specs.Runs.{Returns}
+use Rattle.dp_joining.specs.declared.stops.JoinStop.{JoinStop}
+use Rattle.dp_joining.specs.declared.stops.JoinStop.TheVariants.{WriteFault, LinkFault, Memory}
+use Rattle.dp_joining.specs.declared.stops.JoinStop.TheVariants.{NoEntry}
+use Rattle.dp_joining.specs.declared.stops.LinkCause.{LinkCause}
+use Rattle.dp_joining.specs.declared.stops.LinkCause.TheVariants as cause
+use Rattle.dp_joining.specs.Greetings.{GreetingFails, Welcomes, newcomer}
+use Rattle.dp_joining.specs.Joining.{Went, Waits, chat_limit, hello_bytes, joined}
+use Rattle.dp_joining.specs.Leaves.{BlamesJoin, Counts, IsWelcome, JoinLeaves, OthersStay, Traffic}
+use Rattle.dp_joining.specs.Leaves.{WritesAll, WritesPart, WhereKnown}
+use Rattle.dp_joining.specs.Outcomes.{IsJoinStep, BeginsWith, JoinComesTo, Outcome, link_end}
+use Rattle.dp_joining.specs.Outcomes.{script_limit}
+use Rattle.dp_joining.specs.Scripts.{went_text, went_written}
+use Rattle.dp_joining.specs.Steps.{Seen, Shows, Source, Stands}
+use Rattle.dp_joining.specs.Stops.{end_of}
+use Rattle.dp_joining.proofs.Moving.{grows_not}
+
+-- ---- welcomed
+
+pub welcome_stands : (name : List ℕ) (left : Option (List ℕ)) (faults : ℕ) (first start : Seen)
+    (welcomes : Welcomes left faults start.source start.client)
+    → start.chats ≡ buffer [] chat_limit
+    → start.printed ≡ first.printed → start.print_faults ≡ first.print_faults
+    → Appends first.written start.written (hello_bytes name)
+    → start.write_faults ≡ first.write_faults → first.source.faults ≡ faults
+    → IsWelcome name left first start welcomes.first
+welcome_stands name left faults first start welcomes chats same print wrote write read = record {
+  greets = welcomes.welcome name;
+  stands = record {
+    client = refl;
+    chats = chats;
+    text = subst (λ (p : Option (List ℕ)). Appends first.printed p []) (sym same)
+        (Appends-nil first.printed);
+    written = wrote;
+    faultless = record {
+      print = print;
+      write = write;
+      read = welcomes.kept ∙ sym read;
+    };
+  };
+  gave = welcomes.gave;
+  still = welcomes.still;
+}
+
+-- the same welcome
+pub welcomes_as : (left : Option (List ℕ)) (faults : ℕ) (s t : Source) (c d : State) → t ≡ s
+    → d ≡ c → Welcomes left faults s c → Welcomes left faults t d
+welcomes_as left faults s t c d sources clients welcomes =
+    subst (λ (x : Source). Welcomes left faults x d) (sym sources)
+    (subst (λ (x : State). Welcomes left faults s x) (sym clients) welcomes)
+
+-- ---- not welcomed
+
+no_parts : (before : List Line) (line : Line) (behind : List Line) → [] ≡ before ++ line ∷ behind
+    → ⊥
+no_parts [] line behind is = cc (is)
+no_parts (other ∷ before) line behind is = cc (is)
+
+no_lines : (input : List ℕ) → IsFrontOf IsJoinStep (seen script_limit input) []
+no_lines input = record {
+  behind = seen script_limit input;
+  parts = refl;
+  steps = λ before line behind is. absurd (no_parts before line behind is);
+}
+
+both_known : (input link : Option (List ℕ)) (P : List ℕ → List ℕ → Type 0)
+    (Q : List ℕ → Type 0) → IfSome link Q → ((i l : List ℕ) → Q l → P i l)
+    → IfSome input (λ i. IfSome link (λ l. P i l))
+both_known None link P Q known holds = tt
+both_known (Some i) None P Q known holds = tt
+both_known (Some i) (Some l) P Q known holds = holds i l known
+
+module _ (name : List ℕ) (t : Traffic) (source source_now sink sink_now : ℕ) where
+  -- nothing was printed, and a part of the Hello was written
+  hello_part : (stop : JoinStop)
+      (fails : GreetingFails name t.link t.sent_old t.sent_now source source_now sink sink_now stop)
+      → t.print_now ≡ t.print_old
+      → ((bytes : List ℕ) → Shows bytes fails.given stop → BeginsWith bytes fails.given)
+      → GrowsByPrefix t.sent_old t.sent_now (hello_bytes name)
+      → WhereKnown t (WritesPart name t)
+  hello_part stop fails same begins wrote =
+      both_known t.input t.link (WritesPart name t) (λ bytes. Shows bytes fails.given stop)
+      fails.reads (λ i l shows. record {
+        begun = [];
+        front = no_lines i;
+        actions = [];
+        asked = tt;
+        entries = fails.given;
+        begins = begins l shows;
+        text =
+            subst (λ (w : Went). GrowsByPrefix t.print_old t.print_now (went_text w))
+            (sym (fails.waits []))
+            (subst (λ (p : Option (List ℕ)). GrowsByPrefix t.print_old p []) (sym same)
+            (grows_not t.print_old []));
+        parting = [];
+        is_parting = inl refl;
+        written =
+            subst (λ (w : Went). GrowsByPrefix t.sent_old t.sent_now (went_written w ++ []))
+            (sym (fails.waits []))
+            (subst (GrowsByPrefix t.sent_old t.sent_now) (sym (append-nil (hello_bytes name)))
+            wrote);
+      })
+
+  hello_all : (why : LinkCause)
+      (fails : GreetingFails name t.link t.sent_old t.sent_now source source_now sink sink_now
+      (NoEntry why))
+      → t.print_now ≡ t.print_old → WritesAll name t (link_end why)
+  hello_all why fails same =
+      both_known t.input t.link (λ i l. (outcome : Outcome) × JoinComesTo name i l outcome
+      × (outcome.end ≡ link_end why) × Appends t.print_old t.print_now outcome.text
+      × Appends t.sent_old t.sent_now outcome.written)
+      (λ bytes. Shows bytes fails.given (NoEntry why)) fails.reads (λ i l shows. (
+        record { text = []; written = hello_bytes name; end = link_end why },
+        inr (record {
+          begun = [];
+          front = no_lines i;
+          actions = [];
+          asked = tt;
+          entries = fails.given;
+          waits = fails.waits [];
+          why = why;
+          ends = shows;
+          end_is = refl;
+        }),
+        refl,
+        subst (λ (p : Option (List ℕ)). Appends t.print_old p []) (sym same)
+            (Appends-nil t.print_old),
+        fails.wrote,
+      ))
+
+  link_leaves : (why : LinkCause) → WritesAll name t (link_end why)
+      → JoinLeaves name t (link_end why)
+  link_leaves cause.Closed all = all
+  link_leaves (cause.BadMessage n) all = all
+  link_leaves cause.Long all = all
+
+  pub failed_leaves : (stop : JoinStop)
+      → GreetingFails name t.link t.sent_old t.sent_now source source_now sink sink_now stop
+      → t.print_now ≡ t.print_old → JoinLeaves name t (end_of stop)
+  failed_leaves WriteFault fails same =
+      hello_part WriteFault fails same (λ bytes shows. shows) fails.wrote
+  failed_leaves LinkFault fails same =
+      hello_part LinkFault fails same (λ bytes shows. shows) fails.wrote
+  failed_leaves Memory fails same =
+      hello_part Memory fails same (λ bytes shows. shows) fails.wrote
+  failed_leaves (NoEntry why) fails same = link_leaves why (hello_all why fails same)
+
+  module _ (input output : ℕ) where
+    abbrev counts : ℕ → ℕ → Counts
+    counts source sink =
+        record { input = input; output = output; source = source; sink = sink }
+
+    link_blames : (why : LinkCause) → source_now ≡ source → sink_now ≡ sink
+        → BlamesJoin (counts source sink) (counts source_now sink_now) (link_end why)
+    link_blames cause.Closed r w = (refl, record { output = refl; source = r; sink = w })
+    link_blames (cause.BadMessage n) r w = (refl, record { output = refl; source = r; sink = w })
+    link_blames cause.Long r w = (refl, record { output = refl; source = r; sink = w })
+
+    pub failed_blames : (stop : JoinStop)
+        → GreetingFails name t.link t.sent_old t.sent_now source source_now sink sink_now stop
+        → BlamesJoin (counts source sink) (counts source_now sink_now) (end_of stop)
+    failed_blames WriteFault fails = absurd fails.blames
+    failed_blames LinkFault fails = (refl, refl, fails.blames.2)
+    failed_blames Memory fails =
+        (refl, record { output = refl; source = fails.blames.0; sink = fails.blames.1 })
+    failed_blames (NoEntry why) fails = link_blames why fails.blames.0 fails.blames.1
+
+-- ---- the wire
+
+-- a link that was handed out came back
+pub returned : {R T : Type 0} (link now : R × T) (old mid new : Option (Links R T))
+    → WhereLinks old (λ a b. HandsOut a link b) mid
+    → WhereLinks mid (λ a b. b ≡ record a { back = a.back ++ now ∷ [] }) new
+    → WhereLinks old (λ a b. Returns link now a b) new
+returned link now None mid new out back = tt
+returned link now (Some a) None new out back = absurd out
+returned link now (Some a) (Some b) None out back = absurd back
+returned link now (Some a) (Some b) (Some c) out back = record {
+  next = out.next ∙ ap (λ l. link ∷ l.to_come) (sym back);
+  given = ap (λ l. l.given) back ∙ out.given;
+  back = ap (λ l. l.back) back ∙ ap (λ l. l ++ now ∷ []) out.back;
+}

@@ -1,0 +1,228 @@
+-- Entries that are taken one after the other.
+use Rattle.std.proofs.Common.{◌≡◌, ℕ, ◌+◌, ◌<◌, ◌≤◌, Bool, true, false, if◌then◌else◌, List, [], ◌∷◌}
+use Rattle.std.proofs.Common.{◌++◌, length, refl, sym, ap, ◌∙◌, subst, arith, length-append}
+use Rattle.std.specs.Prelude.{Option}
+use Rattle.std.specs.List.{fold}
+use Rattle.std.specs.Io.KnownBytes.{Appends}
+use Rattle.std.proofs.lemmas.List.{append-nil}
+use Rattle.std.proofs.lemmas.List.Sums.{fold-append}
+use Rattle.circular_buffer.specs.Buffer.{buffer, keep_last}
+use Rattle.dp_client.specs.Client.{State}
+use Rattle.dp_io.proofs.Prefixes.{grows_whole}
+use Rattle.dp_messages.specs.declared.message.Entry.{Entry}
+use Rattle.dp_messages.specs.Properties.{is_disconnect}
+use Rattle.dp_schedule.specs.declared.join_action.JoinAction.TheVariants.{Take}
+use Rattle.dp_joining.specs.declared.stops.JoinStop.{JoinStop}
+use Rattle.dp_joining.specs.declared.stops.JoinStop.TheVariants.{WriteFault, LinkFault, Memory}
+use Rattle.dp_joining.specs.declared.stops.JoinStop.TheVariants.{NoEntry}
+use Rattle.dp_joining.specs.Joining.{Joining, chat_limit, takeable, took_entry}
+use Rattle.dp_joining.specs.Linked.{is_ping}
+use Rattle.dp_joining.specs.Steps.{Began, BlamesReading, Fails, GivesEntry, GivesNone, Halts}
+use Rattle.dp_joining.specs.Steps.{IsFaultless, IsNoEntry, IsReady, Moves, Passes, ReadsOn, Seen}
+use Rattle.dp_joining.specs.Outcomes.{BeginsWith}
+use Rattle.dp_joining.specs.Steps.{Shows, Source, Stands, Stops, Wrote}
+use Rattle.dp_joining.proofs.Along.{takeable-append}
+use Rattle.dp_joining.proofs.Moving.{blames_from, faultless_twice, reading_blames}
+use Rattle.dp_joining.proofs.Reading.{reads_none, reads_then, reads_twice, stops_here}
+
+-- so many entries are taken
+pub record Taking (old now : Seen) (count : ℕ) : Type 0 where
+  pub given : List Entry
+  pub reads : ReadsOn old.source now.source given
+  pub many : length (takeable given) ≡ count
+  pub moves : Moves old now (λ j. fold took_entry j (takeable given))
+  pub ready : IsReady now.client now.source
+
+pub taking_none : (s : Seen) → IsReady s.client s.source → Taking s s 0
+taking_none s ready = record {
+  given = [];
+  reads = reads_none s.source ready.readable;
+  many = refl;
+  moves = λ start j stands. stands;
+  ready = ready;
+}
+
+-- all that is asked for is taken
+pub taking_all : (old now : Seen) (count n : ℕ) → n ≡ count → Taking old now n
+    → Passes old now (Take count)
+taking_all old now count n all taking = record {
+  given = taking.given;
+  reads = taking.reads;
+  many = taking.many ∙ all;
+  moves = taking.moves;
+}
+
+-- ---- reading alone
+
+-- reading the link leaves the client, and what was printed and written
+pub record IsRead (old now : Seen) : Type 0 where
+  pub client : now.client ≡ old.client
+  pub chats : now.chats ≡ old.chats
+  pub printed : now.printed ≡ old.printed
+  pub print_faults : now.print_faults ≡ old.print_faults
+  pub written : now.written ≡ old.written
+  pub write_faults : now.write_faults ≡ old.write_faults
+
+read_stands : (start old now : Seen) (j : Joining) → IsRead old now
+    → now.source.faults ≡ old.source.faults → Stands start old j → Stands start now j
+read_stands start old now j read kept stands = record {
+  client = read.client ∙ stands.client;
+  chats = read.chats ∙ stands.chats;
+  text =
+      subst (λ (p : Option (List ℕ)). Appends start.printed p j.text) (sym read.printed)
+      stands.text;
+  written =
+      subst (λ (p : Option (List ℕ)). Appends start.written p j.written) (sym read.written)
+      stands.written;
+  faultless = faultless_twice start old now stands.faultless
+      (record { print = read.print_faults; write = read.write_faults; read = kept });
+}
+
+wrote_whole : (start now : Seen) (text written : List ℕ) (stop : JoinStop)
+    → Appends start.printed now.printed text → Appends start.written now.written written
+    → Wrote start now text written stop
+wrote_whole start now text written WriteFault t w = record {
+  printed = grows_whole start.printed now.printed text t;
+  sent = grows_whole start.written now.written written w;
+}
+wrote_whole start now text written LinkFault t w = record {
+  printed = grows_whole start.printed now.printed text t;
+  sent = grows_whole start.written now.written written w;
+}
+wrote_whole start now text written Memory t w = record {
+  printed = grows_whole start.printed now.printed text t;
+  sent = grows_whole start.written now.written written w;
+}
+wrote_whole start now text written (NoEntry why) t w = (t, w)
+
+wrote_read : (start old now : Seen) (j : Joining) (stop : JoinStop) → IsRead old now
+    → Stands start old j → Wrote start now j.text j.written stop
+wrote_read start old now j stop read stands =
+    let text =
+    subst (λ (p : Option (List ℕ)). Appends start.printed p j.text) (sym read.printed) stands.text
+    in
+    let written =
+    subst (λ (p : Option (List ℕ)). Appends start.written p j.written) (sym read.written)
+    stands.written in
+    wrote_whole start now j.text j.written stop text written
+
+-- ---- one entry more
+
+taken_by : (d p : Bool) (e : Entry) (xs ys : List Entry) → length xs ≤ length ys
+    → length (if d then [] else (if p then xs else e ∷ xs)) ≤ length (e ∷ ys)
+taken_by true p e xs ys short = omega arith
+taken_by false true e xs ys short = omega arith
+taken_by false false e xs ys short = omega arith
+
+-- no more is taken than comes
+pub takeable-short : (xs : List Entry) → length (takeable xs) ≤ length xs
+takeable-short [] = omega arith
+takeable-short (e ∷ xs) =
+    taken_by (is_disconnect e.msg) (is_ping e.msg) e (takeable xs) xs (takeable-short xs)
+
+took_more : (j : Joining) (e : Entry) (given more : List Entry)
+    → takeable (given ++ more) ≡ takeable given ++ e ∷ []
+    → fold took_entry j (takeable (given ++ more))
+    ≡ took_entry (fold took_entry j (takeable given)) e
+took_more j e given more is =
+    ap (fold took_entry j) is ∙ fold-append took_entry j (takeable given) (e ∷ [])
+
+-- where the client stops for another reason than the link, that is all there is to show
+pub shows_other : (stop : JoinStop) (bytes : List ℕ) (es : List Entry) → (IsNoEntry stop → ⊥)
+    → BeginsWith bytes es → Shows bytes es stop
+shows_other WriteFault bytes es other begins = begins
+shows_other LinkFault bytes es other begins = begins
+shows_other Memory bytes es other begins = begins
+shows_other (NoEntry why) bytes es other begins = absurd (other tt)
+
+-- what is taken after an entry more
+taken_more : (given : List Entry) (old now : Source) (e : Entry) (gives : GivesEntry old now e)
+    (first : Source) → ReadsOn first old given
+    → takeable (given ++ gives.given) ≡ takeable given ++ e ∷ []
+taken_more given old now e gives first reads =
+    takeable-append given gives.given reads.still
+    ∙ ap (λ (es : List Entry). takeable given ++ es) gives.only
+
+-- an entry is given and taken
+pub taking_more : (a b m c : Seen) (n : ℕ) (e : Entry) → Taking a b n
+    → GivesEntry b.source m.source e → IsRead b m
+    → Moves m c (λ j. took_entry j e)
+    → length c.client.taken ≤ length m.client.taken + 1
+    → c.source ≡ m.source
+    → Taking a c (n + 1)
+taking_more a b m c n e taking gives read moves few same =
+    let taken = taken_more taking.given b.source m.source e gives a.source taking.reads in
+    let reads = reads_twice a.source b.source m.source taking.given gives.given taking.reads
+    gives.reads in
+    let some : 1 ≤ length gives.given =
+    omega (arith, takeable-short gives.given, ap length gives.only) in
+    let shorter : length m.client.taken ≡ length b.client.taken =
+    ap (λ (s : State). length s.taken) read.client in
+    record {
+      given = taking.given ++ gives.given;
+      reads = subst (λ (s : Source). ReadsOn a.source s (taking.given ++ gives.given)) (sym same)
+          reads;
+      many = ap length taken ∙ length-append (takeable taking.given) (e ∷ [])
+          ∙ ap (λ (k : ℕ). k + 1) taking.many;
+      moves = λ start j stands.
+          let before = fold took_entry j (takeable taking.given) in
+          let there = taking.moves start j stands in
+          subst (Stands start c) (sym (took_more j e taking.given gives.given taken))
+          (moves start before
+          (read_stands start b m before read gives.reads.kept there));
+      ready = subst (IsReady c.client) (sym same) (record {
+        few = omega (arith, few, shorter, some, taking.ready.few, gives.reads.further);
+        readable = gives.reads.readable;
+      });
+    }
+
+-- the link gives no entry more
+pub taking_ends : (a b c : Seen) (count n : ℕ) (stop : JoinStop) → n < count → Taking a b n
+    → GivesNone b.source c.source stop → IsRead b c → Halts a c (Take count) stop
+taking_ends a b c count n stop within taking none read =
+    let taken : takeable (taking.given ++ none.given) ≡ takeable taking.given =
+    takeable-append taking.given none.given taking.reads.still
+    ∙ ap (λ (es : List Entry). takeable taking.given ++ es) none.none
+    ∙ append-nil (takeable taking.given) in
+    record {
+      given = taking.given ++ none.given;
+      reads = reads_then a.source b.source taking.given none.given stop taking.reads none.reads;
+      few = omega (arith, ap length taken, taking.many);
+      waits = λ is. omega (arith, ap length taken, taking.many);
+      stops = λ start j stands.
+          let before = fold took_entry j (takeable taking.given) in
+          let there = taking.moves start j stands in
+          subst (λ (es : List Entry). Stops start c (fold took_entry j es) stop) (sym taken)
+          (record {
+            wrote = wrote_read start b c before stop read there;
+            blames = blames_from start b c stop there.faultless
+                (reading_blames b c stop none.blames read.print_faults read.write_faults);
+          });
+    }
+
+-- an entry that is given is not taken whole
+pub taking_fails : (a b m c : Seen) (count n : ℕ) (e : Entry) (stop : JoinStop) → n < count
+    → Taking a b n → GivesEntry b.source m.source e → IsRead b m
+    → Fails m c (λ j. took_entry j e) stop → Halts a c (Take count) stop
+taking_fails a b m c count n e stop within taking gives read fails =
+    let taken = taken_more taking.given b.source m.source e gives a.source taking.reads in
+    let reads = reads_twice a.source b.source m.source taking.given gives.given taking.reads
+    gives.reads in
+    let many : length (takeable (taking.given ++ gives.given)) ≡ n + 1 =
+    ap length taken ∙ length-append (takeable taking.given) (e ∷ [])
+    ∙ ap (λ (k : ℕ). k + 1) taking.many in
+    record {
+      given = taking.given ++ gives.given;
+      reads = λ bytes before gave still.
+          shows_other stop bytes (before ++ (taking.given ++ gives.given)) fails.not_for_entry
+          (stops_here a.source m.source (taking.given ++ gives.given) reads bytes before gave);
+      few = omega (arith, many);
+      waits = λ is. absurd (fails.not_for_entry is);
+      stops = λ start j stands.
+          let before = fold took_entry j (takeable taking.given) in
+          let there = taking.moves start j stands in
+          subst (λ (k : Joining). Stops start c k stop)
+          (sym (took_more j e taking.given gives.given taken))
+          (fails.stops start before
+          (read_stands start b m before read gives.reads.kept there));
+    }

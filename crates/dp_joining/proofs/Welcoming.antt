@@ -1,0 +1,229 @@
+-- How a client greets its server.
+use Rattle.std.proofs.Common.{◌≡◌, ◌⊎◌, inl, inr, ℕ, ◌≤◌, true, false, Bool, ◌||◌, List, [], ◌∷◌, ◌++◌, length}
+use Rattle.std.proofs.Common.{refl, sym, ap, ◌∙◌, arith, if◌then◌else◌}
+use Rattle.std.specs.Prelude.{Option, Some, None, IfSome, IsTrue}
+use Rattle.std.specs.Option.{option_map_or}
+use Rattle.std.specs.Io.KnownBytes.{Appends}
+use Rattle.dp_client.specs.Client.{State, welcomed}
+use Rattle.dp_entries.specs.Input.{StandFor}
+use Rattle.dp_entries.specs.Reader.{HasRead, Reader}
+use Rattle.dp_frame.specs.Frames.{FrameParts}
+use Rattle.dp_io.specs.Streams.{GrowsByPrefix}
+use Rattle.dp_io.proofs.Prefixes.{grows_whole}
+use Rattle.dp_msg_meta.specs.declared.message.Control.TheVariants as control
+use Rattle.dp_messages.specs.declared.message.Entry.{Entry}
+use Rattle.dp_messages.specs.declared.message.Msg.{Msg}
+use Rattle.dp_messages.specs.declared.message.Msg.TheVariants as msg
+use Rattle.dp_messages.specs.Properties.{is_disconnect}
+use Rattle.dp_schedule.specs.declared.join_action.JoinAction.{JoinAction}
+use Rattle.dp_joining.specs.declared.stops.LinkCause.TheVariants as cause
+use Rattle.dp_joining.specs.declared.stops.JoinStop.{JoinStop}
+use Rattle.dp_joining.specs.declared.stops.JoinStop.TheVariants.{WriteFault, LinkFault, Memory}
+use Rattle.dp_joining.specs.declared.stops.JoinStop.TheVariants.{NoEntry}
+use Rattle.dp_joining.specs.Greetings.{BlamesGreeting, GreetingFails, NoWelcome, Welcomes, WroteHello}
+use Rattle.dp_joining.specs.Greetings.{newcomer}
+use Rattle.dp_joining.specs.Joining.{Joining, Waits, along, greeted, hello_bytes, is_closed, joined}
+use Rattle.dp_joining.specs.Joining.{takeable}
+use Rattle.dp_joining.specs.Linked.{StandsOnLink, is_ping, is_welcome}
+use Rattle.dp_joining.specs.Outcomes.{BeginsWith, EndsLink}
+use Rattle.dp_joining.specs.Steps.{BlamesReading, BlamesWriting, Gave, GivesNone, IsReadable, ReadsOn}
+use Rattle.dp_joining.specs.Steps.{ReadsUpTo, Shows, Source}
+use Rattle.dp_joining.proofs.Along.{either_false}
+use Rattle.dp_joining.proofs.Moving.{grows_not}
+use Rattle.dp_joining.proofs.Reading.{gave_begins}
+
+-- what was read of a link that is known
+known_gave : (left : Option (List ℕ)) (old now : Source) (es : List Entry)
+    → IfSome left (λ bytes. Gave old bytes []) → ReadsOn old now es
+    → IfSome left (λ bytes. Gave now bytes es)
+known_gave None old now es begun reads = tt
+known_gave (Some bytes) old now es begun reads = reads.more bytes [] begun
+
+-- the link welcomes the client
+pub welcomes : (left : Option (List ℕ)) (old now : Source) (first : Entry) (user epoch at : ℕ)
+    → IfSome left (λ bytes. Gave old bytes []) → ReadsOn old now (first ∷ [])
+    → ((name : List ℕ) → greeted name first.msg ≡ Some (newcomer (welcomed user epoch at) name))
+    → Welcomes left old.faults now (welcomed user epoch at)
+welcomes left old now first user epoch at begun reads welcome = record {
+  first = first;
+  welcome = welcome;
+  fresh = refl;
+  gave = known_gave left old now (first ∷ []) begun reads;
+  still = reads.still;
+  readable = reads.readable;
+  kept = reads.kept;
+}
+
+-- the first entry is a Welcome or a Disconnect
+first_stands : (frames : List FrameParts) (first : Entry)
+    → StandFor StandsOnLink 0 frames (first ∷ [])
+    → IsTrue (is_welcome first.msg || is_disconnect first.msg)
+first_stands [] first stand = absurd stand
+first_stands (frame ∷ frames) first stand = stand.0.1
+
+neither : (a b : Bool) → IsTrue (a || b) → a ≡ false → b ≡ false → ⊥
+neither true b either first second = cc (first)
+neither false true either first second = cc (second)
+neither false false either first second = cc (either)
+
+no_other : (left : Option (List ℕ)) (old now : Source) (first : Entry) (stop : JoinStop)
+    → IfSome left (λ bytes. Gave old bytes []) → ReadsOn old now (first ∷ [])
+    → is_welcome first.msg ≡ false
+    → IfSome left (λ bytes. Shows bytes (first ∷ []) stop)
+no_other None old now first stop begun reads other = tt
+no_other (Some bytes) old now first stop begun reads other =
+    let begins = gave_begins now bytes (first ∷ []) reads.readable (reads.more bytes [] begun) in
+    absurd (neither (is_welcome first.msg) (is_disconnect first.msg)
+    (first_stands begins.frames first begins.stand) other
+    (either_false (is_disconnect first.msg) false reads.still).0)
+
+-- another first entry, which never comes
+pub no_welcome : (left : Option (List ℕ)) (old now : Source) (first : Entry)
+    → IfSome left (λ bytes. Gave old bytes []) → ReadsOn old now (first ∷ [])
+    → ((name : List ℕ) → greeted name first.msg ≡ None) → is_welcome first.msg ≡ false
+    → NoWelcome left old.faults now.faults (NoEntry cause.Closed)
+no_welcome left old now first begun reads none other = record {
+  given = first ∷ [];
+  waits = λ name actions.
+      ap (λ (o : Option Joining). option_map_or (λ j. along actions (takeable []) j) o
+      (Waits [] (hello_bytes name))) (none name);
+  reads = no_other left old now first (NoEntry cause.Closed) begun reads other;
+  blames = reads.kept;
+}
+
+-- a message that is passed over, or closes the link, greets nobody
+none_greeted : (name : List ℕ) (m : Msg) → (is_disconnect m ≡ true) ⊎ (is_ping m ≡ true)
+    → greeted name m ≡ None
+none_greeted name (msg.Control (control.Welcome version user epoch at)) (inl is) =
+    absurd (cc (is))
+none_greeted name (msg.Control (control.Welcome version user epoch at)) (inr is) =
+    absurd (cc (is))
+none_greeted name (msg.Control (control.Disconnect reason)) is = refl
+none_greeted name (msg.Control (control.Hello title)) is = refl
+none_greeted name (msg.Control (control.Ping pong)) is = refl
+none_greeted name (msg.Control (control.Ack epoch)) is = refl
+none_greeted name (msg.Control control.ResetBegin) is = refl
+none_greeted name (msg.Control control.ResetEnd) is = refl
+none_greeted name (msg.Meta m) is = refl
+none_greeted name (msg.Part op) is = refl
+none_greeted name msg.Point is = refl
+none_greeted name (msg.Undo target redo) is = refl
+none_greeted name (msg.Draw op) is = refl
+none_greeted name (msg.Opaque kind body) is = refl
+
+untaken : (d p : Bool) (e : Entry) (xs : List Entry)
+    → (if d then [] else (if p then xs else e ∷ xs)) ≡ [] → (d ≡ true) ⊎ (p ≡ true)
+untaken true p e xs none = inl refl
+untaken false true e xs none = inr refl
+untaken false false e xs none = absurd (cc (none))
+
+-- where nothing is taken of what the link gave, nobody is welcomed
+waits_for : (name : List ℕ) (actions : List JoinAction) (given : List Entry) → takeable given ≡ []
+    → joined name actions given ≡ Waits [] (hello_bytes name)
+waits_for name actions [] none = refl
+waits_for name actions (e ∷ more) none =
+    ap (λ (o : Option Joining). option_map_or (λ j. along actions (takeable more) j) o
+    (Waits [] (hello_bytes name)))
+    (none_greeted name e.msg (untaken (is_disconnect e.msg) (is_ping e.msg) e (takeable more)
+    none))
+
+known_shows : (left : Option (List ℕ)) (old : Source) (given : List Entry) (stop : JoinStop)
+    → IfSome left (λ bytes. Gave old bytes []) → ReadsUpTo old given stop
+    → IfSome left (λ bytes. Shows bytes given stop)
+known_shows None old given stop begun reads = tt
+known_shows (Some bytes) old given stop begun reads = reads bytes [] begun refl
+
+-- no first entry
+pub not_welcomed : (left : Option (List ℕ)) (old now : Source) (stop : JoinStop)
+    → IfSome left (λ bytes. Gave old bytes []) → GivesNone old now stop
+    → NoWelcome left old.faults now.faults stop
+not_welcomed left old now stop begun none = record {
+  given = none.given;
+  waits = λ name actions. waits_for name actions none.given none.none;
+  reads = known_shows left old none.given stop begun none.reads;
+  blames = none.blames;
+}
+
+-- ---- the Hello
+
+begins_with_nothing : (left : Option (List ℕ)) → IfSome left (λ bytes. BeginsWith bytes [])
+begins_with_nothing None = tt
+begins_with_nothing (Some bytes) = record {
+  frames = [];
+  more = bytes;
+  each = tt;
+  stand = tt;
+  whole = refl;
+  counts = omega arith;
+}
+
+-- memory ran out before the Hello
+pub hello_refused : (name : List ℕ) (left held : Option (List ℕ)) (source sink : ℕ)
+    → GreetingFails name left held held source source sink sink Memory
+hello_refused name left held source sink = record {
+  given = [];
+  waits = λ actions. refl;
+  reads = begins_with_nothing left;
+  wrote = grows_not held (hello_bytes name);
+  blames = (refl, refl);
+}
+
+-- a part of the Hello was written
+pub hello_cut : (name : List ℕ) (left old now : Option (List ℕ)) (source sink sink_now : ℕ)
+    (stop : JoinStop) → GrowsByPrefix old now (hello_bytes name)
+    → BlamesWriting sink sink_now stop
+    → GreetingFails name left old now source source sink sink_now stop
+hello_cut name left old now source sink sink_now WriteFault wrote blames = absurd blames
+hello_cut name left old now source sink sink_now LinkFault wrote blames = record {
+  given = [];
+  waits = λ actions. refl;
+  reads = begins_with_nothing left;
+  wrote = wrote;
+  blames = (omega arith, blames.1, inl blames.0);
+}
+hello_cut name left old now source sink sink_now Memory wrote blames = record {
+  given = [];
+  waits = λ actions. refl;
+  reads = begins_with_nothing left;
+  wrote = wrote;
+  blames = (refl, blames);
+}
+hello_cut name left old now source sink sink_now (NoEntry why) wrote blames = absurd blames
+
+wrote_hello : (old now : Option (List ℕ)) (hello : List ℕ) (stop : JoinStop)
+    → Appends old now hello → WroteHello old now hello stop
+wrote_hello old now hello WriteFault wrote = grows_whole old now hello wrote
+wrote_hello old now hello LinkFault wrote = grows_whole old now hello wrote
+wrote_hello old now hello Memory wrote = grows_whole old now hello wrote
+wrote_hello old now hello (NoEntry why) wrote = wrote
+
+greeting_blames : (source source_now sink sink_now : ℕ) (stop : JoinStop)
+    → BlamesReading source source_now stop → sink_now ≡ sink
+    → BlamesGreeting source source_now sink sink_now stop
+greeting_blames source source_now sink sink_now WriteFault blames kept = blames
+greeting_blames source source_now sink sink_now LinkFault blames kept =
+    (blames.1, omega arith, inr blames.0)
+greeting_blames source source_now sink sink_now Memory blames kept = (blames, kept)
+greeting_blames source source_now sink sink_now (NoEntry why) blames kept = (blames, kept)
+
+-- the Hello was written, and no Welcome came
+pub not_greeted : (name : List ℕ) (left old now : Option (List ℕ))
+    (source source_now sink sink_now : ℕ) (stop : JoinStop)
+    → Appends old now (hello_bytes name) → sink_now ≡ sink
+    → NoWelcome left source source_now stop
+    → GreetingFails name left old now source source_now sink sink_now stop
+not_greeted name left old now source source_now sink sink_now stop wrote kept none = record {
+  given = none.given;
+  waits = λ actions. none.waits name actions;
+  reads = none.reads;
+  wrote = wrote_hello old now (hello_bytes name) stop wrote;
+  blames = greeting_blames source source_now sink sink_now stop none.blames kept;
+}
+
+-- nothing was read of the link yet
+pub begun_first : (left : Option (List ℕ)) (faults : ℕ) (reader : Reader)
+    → ((bytes head untaken : List ℕ) → bytes ≡ head ++ untaken → length head ≡ 0
+    → HasRead StandsOnLink bytes (Some untaken) [] reader)
+    → IfSome left (λ bytes. HasRead StandsOnLink bytes left [] reader)
+begun_first None faults reader begun = tt
+begun_first (Some bytes) faults reader begun = begun bytes [] bytes refl refl

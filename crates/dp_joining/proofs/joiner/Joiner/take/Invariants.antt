@@ -1,0 +1,12 @@
+use Rattle.dp_joining.specs.Steps.{seen}
+use Rattle.dp_joining.proofs.Taking.{Taking}
+use Rattle.dp_joining.proofs.joiner.Joiner.take.Given as goal
+
+-- so many entries are taken
+abbrev pub invariant-loop-taken : goal.invariant-loop-taken
+invariant-loop-taken g l =
+    Taking
+    (seen g.R.Source.left g.R.Source.faults g.S.Sink.held g.S.Sink.faults g.O.Sink.held
+    g.O.Sink.faults l.initial.self l.initial.output)
+    (seen g.R.Source.left g.R.Source.faults g.S.Sink.held g.S.Sink.faults g.O.Sink.held
+    g.O.Sink.faults l.self l.output) l._taken

@@ -1,0 +1,13 @@
+use Rattle.dp_joining.specs.Outcomes.{link_limit, script_limit}
+use Rattle.dp_joining.proofs.OneOutcome.{one_outcome}
+use Rattle.dp_joining.proofs.laws.one_outcome.Goals as goal
+
+pub returns : goal.returns
+returns c = one_outcome (record {
+  frames = record { first = c.one_front.ensures; entry = c.one_standing.ensures.one };
+  action = c.one_join_action.ensures;
+  lines = c.one_end.ensures.lines script_limit;
+  last = c.one_end.ensures.end script_limit;
+  entries = c.one_reading.ensures.entries 0 link_limit;
+  end = c.one_reading.ensures.end 0 link_limit;
+})

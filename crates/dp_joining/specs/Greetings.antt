@@ -1,0 +1,67 @@
+-- How a client greets its server.
+use Rattle.std.specs.Prelude.{◌≡◌, ◌⊎◌, ℕ, ◌≤◌, false, List, [], ◌∷◌, Option, Some, IfSome}
+use Rattle.std.specs.Io.KnownBytes.{Appends}
+use Rattle.circular_buffer.specs.Buffer.{buffer}
+use Rattle.dp_client.specs.Client.{State}
+use Rattle.dp_io.specs.Faults.{Rose}
+use Rattle.dp_io.specs.Streams.{GrowsByPrefix}
+use Rattle.dp_messages.specs.declared.message.Entry.{Entry}
+use Rattle.dp_schedule.specs.declared.join_action.JoinAction.{JoinAction}
+use Rattle.dp_joining.specs.declared.greeting.Greeting.{Greeting}
+use Rattle.dp_joining.specs.declared.stops.JoinStop.{JoinStop}
+use Rattle.dp_joining.specs.declared.stops.JoinStop.TheVariants.{WriteFault, LinkFault, Memory}
+use Rattle.dp_joining.specs.declared.stops.JoinStop.TheVariants.{NoEntry}
+use Rattle.dp_joining.specs.Joining.{Joining, Waits, chat_limit, greeted, hello_bytes, is_closed}
+use Rattle.dp_joining.specs.Joining.{joined}
+use Rattle.dp_joining.specs.Steps.{BlamesReading, Gave, IsReadable, Shows, Source}
+
+-- the client that was greeted by a Welcome
+abbrev pub newcomer : State → List ℕ → Joining
+newcomer client name =
+    record { client = client; chats = []; text = []; written = hello_bytes name }
+
+-- the link's first entry welcomes this client
+pub record Welcomes (left : Option (List ℕ)) (faults : ℕ) (now : Source) (client : State) : Type 0
+  where
+    pub first : Entry
+    pub welcome : (name : List ℕ) → greeted name first.msg ≡ Some (newcomer client name)
+    pub fresh : client.taken ≡ []
+    pub gave : IfSome left (λ bytes. Gave now bytes (first ∷ []))
+    pub still : is_closed (first ∷ []) ≡ false
+    pub readable : IsReadable now
+    pub kept : now.faults ≡ faults
+
+-- the link gives no Welcome, and the client stops so
+pub record NoWelcome (left : Option (List ℕ)) (before now : ℕ) (stop : JoinStop) : Type 0 where
+  pub given : List Entry
+  pub waits : (name : List ℕ) (actions : List JoinAction)
+      → joined name actions given ≡ Waits [] (hello_bytes name)
+  pub reads : IfSome left (λ bytes. Shows bytes given stop)
+  pub blames : BlamesReading before now stop
+
+-- what was written of the Hello where the client stops so: a prefix, or all
+abbrev pub WroteHello : Option (List ℕ) → Option (List ℕ) → List ℕ → JoinStop → Type 0
+WroteHello old now hello WriteFault = GrowsByPrefix old now hello
+WroteHello old now hello LinkFault = GrowsByPrefix old now hello
+WroteHello old now hello Memory = GrowsByPrefix old now hello
+WroteHello old now hello (NoEntry why) = Appends old now hello
+
+-- the counts of faults of the link's source and its sink where the client stops so
+abbrev pub BlamesGreeting : ℕ → ℕ → ℕ → ℕ → JoinStop → Type 0
+BlamesGreeting source source_now sink sink_now WriteFault = ⊥
+BlamesGreeting source source_now sink sink_now LinkFault =
+    (source ≤ source_now) × (sink ≤ sink_now) × (Rose sink sink_now ⊎ Rose source source_now)
+BlamesGreeting source source_now sink sink_now Memory =
+    (source_now ≡ source) × (sink_now ≡ sink)
+BlamesGreeting source source_now sink sink_now (NoEntry why) =
+    (source_now ≡ source) × (sink_now ≡ sink)
+
+-- the client stops so before it is welcomed
+pub record GreetingFails (name : List ℕ) (left old now : Option (List ℕ))
+    (source source_now sink sink_now : ℕ) (stop : JoinStop) : Type 0 where
+  pub given : List Entry
+  pub waits : (actions : List JoinAction)
+      → joined name actions given ≡ Waits [] (hello_bytes name)
+  pub reads : IfSome left (λ bytes. Shows bytes given stop)
+  pub wrote : WroteHello old now (hello_bytes name) stop
+  pub blames : BlamesGreeting source source_now sink sink_now stop

@@ -1,0 +1,135 @@
+-- What a run of `join` over a link leaves.
+use Rattle.std.specs.Prelude.{◌≡◌, ◌⊎◌, ℕ, false, List, [], ◌∷◌, ◌++◌, Option, Some, IfSome}
+use Rattle.std.specs.Io.KnownBytes.{Appends, IsAtEnd}
+use Rattle.dp_io.specs.Faults.{Rose}
+use Rattle.dp_io.specs.Streams.{GrowsByPrefix}
+use Rattle.dp_messages.specs.declared.message.Entry.{Entry}
+use Rattle.dp_lines.specs.declared.line.Line.{Line}
+use Rattle.dp_lines.specs.declared.run_end.RunEnd.{RunEnd}
+use Rattle.dp_lines.specs.declared.run_end.RunEnd.TheVariants.{Done, BadLine, ReadFault, WriteFault}
+use Rattle.dp_lines.specs.declared.run_end.RunEnd.TheVariants.{LinkFault, Memory, Long, Truncated}
+use Rattle.dp_lines.specs.declared.run_end.RunEnd.TheVariants.{BadMessage, Closed, BadHeader}
+use Rattle.dp_lines.specs.Ends.{LinesComeTo, seen}
+use Rattle.dp_lines.specs.Ends as ends
+use Rattle.dp_schedule.specs.declared.join_action.JoinAction.{JoinAction}
+use Rattle.dp_script.specs.Leaves.{HoldsLines, IsFrontOf}
+use Rattle.dp_script.specs.TakenParts.{TookWithin}
+use Rattle.dp_joining.specs.Greetings.{newcomer}
+use Rattle.dp_joining.specs.Joining.{Joining, Went, Goes, farewell_bytes, greeted, is_closed, joined}
+use Rattle.dp_joining.specs.Outcomes.{AllAsk, BeginsWith, IsJoinStep, JoinComesTo, Outcome}
+use Rattle.dp_joining.specs.Outcomes.{script_limit}
+use Rattle.dp_joining.specs.Scripts.{went_text, went_written}
+use Rattle.dp_joining.specs.Steps.{Gave, Seen, Stands}
+
+-- What a run sees of its devices before and after it: the bytes that are left of the script, and
+-- those of the link at the start; the bytes on the output and those written to the link.
+pub record Traffic : Type 0 where
+  pub input : Option (List ℕ)
+  pub left : Option (List ℕ)
+  pub link : Option (List ℕ)
+  pub print_old : Option (List ℕ)
+  pub print_now : Option (List ℕ)
+  pub sent_old : Option (List ℕ)
+  pub sent_now : Option (List ℕ)
+
+-- P holds of the bytes of the script and of the link, where both are known
+abbrev pub WhereKnown : Traffic → (List ℕ → List ℕ → Type 0) → Type 0
+WhereKnown t P = IfSome t.input (λ input. IfSome t.link (λ link. P input link))
+
+-- the text and the bytes of what the script and the link come to were written, which ends so
+abbrev pub WritesAll : List ℕ → Traffic → RunEnd → Type 0
+WritesAll name t end =
+    WhereKnown t (λ input link. (outcome : Outcome) × JoinComesTo name input link outcome
+    × (outcome.end ≡ end) × Appends t.print_old t.print_now outcome.text
+    × Appends t.sent_old t.sent_now outcome.written)
+
+-- what is written after what lines write: nothing, or the Disconnect where they are all lines of the
+-- script
+abbrev pub IsParting : List ℕ → List Line → Went → List ℕ → Type 0
+IsParting input begun went parting =
+    (parting ≡ [])
+    ⊎ (LinesComeTo IsJoinStep script_limit input begun ends.AllDone
+    × (j : Joining) × (left : List Entry) × (went ≡ Goes j left)
+    × (parting ≡ farewell_bytes j.client.user))
+
+-- prefixes of them were written: of what some of the first lines come to, with some of the first
+-- entries of the link
+pub record WritesPart (name : List ℕ) (t : Traffic) (input link : List ℕ) : Type 0 where
+  pub begun : List Line
+  pub front : IsFrontOf IsJoinStep (seen script_limit input) begun
+  pub actions : List JoinAction
+  pub asked : AllAsk begun actions
+  pub entries : List Entry
+  pub begins : BeginsWith link entries
+  pub text : GrowsByPrefix t.print_old t.print_now (went_text (joined name actions entries))
+  pub parting : List ℕ
+  pub is_parting : IsParting input begun (joined name actions entries) parting
+  pub written : GrowsByPrefix t.sent_old t.sent_now
+      (went_written (joined name actions entries) ++ parting)
+
+-- the lines that are whole in what was taken of the script were done, and nothing more was written
+pub record WritesTaken (name : List ℕ) (t : Traffic) (input link : List ℕ) : Type 0 where
+  pub done : List Line
+  pub took : TookWithin (HoldsLines IsJoinStep script_limit done) 0 input t.left
+  pub actions : List JoinAction
+  pub asked : AllAsk done actions
+  pub entries : List Entry
+  pub begins : BeginsWith link entries
+  pub joining : Joining
+  pub goes : joined name actions entries ≡ Goes joining []
+  pub text : Appends t.print_old t.print_now joining.text
+  pub written : Appends t.sent_old t.sent_now joining.written
+
+-- the client was welcomed by this entry, and stands where it has greeted the server
+pub record IsWelcome (name : List ℕ) (link : Option (List ℕ)) (first start : Seen)
+    (welcome : Entry) : Type 0 where
+  pub greets : greeted name welcome.msg ≡ Some (newcomer start.client name)
+  pub stands : Stands first start (newcomer start.client name)
+  pub gave : IfSome link (λ bytes. Gave start.source bytes (welcome ∷ []))
+  pub still : is_closed (welcome ∷ []) ≡ false
+
+-- What a run that ends so leaves.
+abbrev pub JoinLeaves : List ℕ → Traffic → RunEnd → Type 0
+JoinLeaves name t Done = IsAtEnd t.left × WritesAll name t Done
+JoinLeaves name t (BadLine n) = WritesAll name t (BadLine n)
+JoinLeaves name t Long = WritesAll name t Long
+JoinLeaves name t Closed = WritesAll name t Closed
+JoinLeaves name t (BadMessage n) = WritesAll name t (BadMessage n)
+JoinLeaves name t ReadFault = WhereKnown t (WritesTaken name t)
+JoinLeaves name t WriteFault = WhereKnown t (WritesPart name t)
+JoinLeaves name t LinkFault = WhereKnown t (WritesPart name t)
+JoinLeaves name t Memory = WhereKnown t (WritesPart name t)
+JoinLeaves name t (Truncated n) = ⊥
+JoinLeaves name t BadHeader = ⊥
+
+-- the counts of faults of the script, the output, the link's source and its sink
+pub record Counts : Type 0 where
+  pub input : ℕ
+  pub output : ℕ
+  pub source : ℕ
+  pub sink : ℕ
+
+-- no count but that of the script has changed
+pub record OthersStay (old now : Counts) : Type 0 where
+  pub output : now.output ≡ old.output
+  pub source : now.source ≡ old.source
+  pub sink : now.sink ≡ old.sink
+
+-- Which counts of faults change in a run that ends so: that of the fault rises, and each other
+-- stays.
+abbrev pub BlamesJoin : Counts → Counts → RunEnd → Type 0
+BlamesJoin old now ReadFault = Rose old.input now.input × OthersStay old now
+BlamesJoin old now WriteFault =
+    (now.input ≡ old.input) × Rose old.output now.output × (now.source ≡ old.source)
+    × (now.sink ≡ old.sink)
+BlamesJoin old now LinkFault =
+    (now.input ≡ old.input) × (now.output ≡ old.output)
+    × (Rose old.sink now.sink ⊎ Rose old.source now.source)
+BlamesJoin old now Done = (now.input ≡ old.input) × OthersStay old now
+BlamesJoin old now (BadLine n) = (now.input ≡ old.input) × OthersStay old now
+BlamesJoin old now Memory = (now.input ≡ old.input) × OthersStay old now
+BlamesJoin old now Long = (now.input ≡ old.input) × OthersStay old now
+BlamesJoin old now (Truncated n) = (now.input ≡ old.input) × OthersStay old now
+BlamesJoin old now (BadMessage n) = (now.input ≡ old.input) × OthersStay old now
+BlamesJoin old now Closed = (now.input ≡ old.input) × OthersStay old now
+BlamesJoin old now BadHeader = (now.input ≡ old.input) × OthersStay old now

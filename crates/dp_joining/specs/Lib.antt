@@ -1,0 +1,10 @@
+pub mod Linked
+pub mod Joining
+pub mod Outcomes
+pub mod Stops
+pub mod Steps
+pub mod Greetings
+pub mod Scripts
+pub mod Partings
+pub mod Leaves
+pub mod Runs

@@ -1,0 +1,123 @@
+-- What a run of `join` comes to.
+use Rattle.std.specs.Prelude.{◌≡◌, ◌⊎◌, ℕ, ◌^◌, ◌≤◌, false, IsTrue, List, [], ◌∷◌, ◌++◌, length}
+use Rattle.std.specs.List.{AllByRecursion, flat_map}
+use Rattle.dp_frame.specs.Frames.{FrameParts, IsFrame, spelling}
+use Rattle.dp_messages.specs.declared.message.Entry.{Entry}
+use Rattle.dp_lines.specs.declared.line.Line.{Line}
+use Rattle.dp_lines.specs.declared.run_end.RunEnd.{RunEnd}
+use Rattle.dp_lines.specs.declared.run_end.RunEnd.TheVariants as run
+use Rattle.dp_lines.specs.Ends.{LinesComeTo, LinesEnd, seen}
+use Rattle.dp_lines.specs.Ends as ends
+use Rattle.dp_entries.specs.Input.{ComesTo, StandFor}
+use Rattle.dp_schedule.specs.declared.join_action.JoinAction.{JoinAction}
+use Rattle.dp_schedule.specs.JoinGrammar.{Asks}
+use Rattle.dp_script.specs.Leaves.{IsFrontOf}
+use Rattle.dp_joining.specs.declared.stops.LinkCause.{LinkCause}
+use Rattle.dp_joining.specs.declared.stops.LinkCause.TheVariants as cause
+use Rattle.dp_joining.specs.Joining.{Joining, Went, Goes, Waits, farewell_bytes, is_closed, joined}
+use Rattle.dp_joining.specs.Linked.{StandsOnLink}
+
+-- ---- the script
+
+-- how many bytes of a script count: 64 MiB
+abbrev pub script_limit : ℕ
+script_limit = 2 ^ 26
+
+-- a line is a step where it asks for something, whatever the lines before it are
+abbrev pub IsJoinStep : List Line → Line → Type 0
+IsJoinStep done line = (action : JoinAction) × Asks line.bytes action
+
+-- the lines ask for these actions, one each
+abbrev pub AllAsk : List Line → List JoinAction → Type 0
+AllAsk [] [] = Unit {0}
+AllAsk [] (action ∷ actions) = ⊥
+AllAsk (line ∷ lines) [] = ⊥
+AllAsk (line ∷ lines) (action ∷ actions) = Asks line.bytes action × AllAsk lines actions
+
+-- ---- the link
+
+-- how many bytes of a link count: 1 GiB
+abbrev pub link_limit : ℕ
+link_limit = 2 ^ 30
+
+-- the link's bytes begin with whole frames, within those that count, that stand for the entries
+pub record BeginsWith (link : List ℕ) (entries : List Entry) : Type 0 where
+  pub frames : List FrameParts
+  pub more : List ℕ
+  pub each : AllByRecursion IsFrame frames
+  pub stand : StandFor StandsOnLink 0 frames entries
+  pub whole : link ≡ flat_map spelling frames ++ more
+  pub counts : length (flat_map spelling frames) ≤ link_limit
+
+-- the link's bytes come to these entries and this end
+abbrev pub LinkComesTo : List ℕ → List Entry → RunEnd → Type 0
+LinkComesTo link entries end = ComesTo StandsOnLink 0 link_limit link entries end
+
+-- Why a link gives no entry more after these: a Disconnect came, or the link ended, also inside a
+-- frame; or a frame came that may not stand, or more bytes than count.
+abbrev pub EndsLink : List ℕ → List Entry → LinkCause → Type 0
+EndsLink link entries cause.Closed =
+    (BeginsWith link entries × IsTrue (is_closed entries))
+    ⊎ ((is_closed entries ≡ false) × LinkComesTo link entries run.Done)
+    ⊎ ((is_closed entries ≡ false) × (n : ℕ) × LinkComesTo link entries (run.Truncated n))
+EndsLink link entries (cause.BadMessage n) =
+    (is_closed entries ≡ false) × LinkComesTo link entries (run.BadMessage n)
+EndsLink link entries cause.Long =
+    (is_closed entries ≡ false) × LinkComesTo link entries run.Long
+
+-- how a run ends where its link gives no entry more
+abbrev pub link_end : LinkCause → RunEnd
+link_end cause.Closed = run.Closed
+link_end (cause.BadMessage n) = run.BadMessage n
+link_end cause.Long = run.Long
+
+-- ---- the run
+
+-- what is printed, what is written to the link, and how the run ends
+pub record Outcome : Type 0 where
+  pub text : List ℕ
+  pub written : List ℕ
+  pub end : RunEnd
+
+-- where the script comes to its end with all lines done, a Disconnect is written
+abbrev pub script_outcome : LinesEnd → Joining → Outcome
+script_outcome ends.AllDone j = record {
+  text = j.text;
+  written = j.written ++ farewell_bytes j.client.user;
+  end = run.Done;
+}
+script_outcome (ends.BadLine n) j =
+    record { text = j.text; written = j.written; end = run.BadLine n }
+script_outcome ends.TooLong j = record { text = j.text; written = j.written; end = run.Long }
+
+-- The script ends the run: these are its lines that are done, and the entries of the link are as
+-- many as they ask for, or more.
+pub record EndsByScript (name input link : List ℕ) (outcome : Outcome) : Type 0 where
+  pub done : List Line
+  pub last : LinesEnd
+  pub comes : LinesComeTo IsJoinStep script_limit input done last
+  pub actions : List JoinAction
+  pub asked : AllAsk done actions
+  pub entries : List Entry
+  pub begins : BeginsWith link entries
+  pub joining : Joining
+  pub left : List Entry
+  pub goes : joined name actions entries ≡ Goes joining left
+  pub outcome_is : outcome ≡ script_outcome last joining
+
+-- The link ends the run: one of the first lines asks for an entry more than it gives.
+pub record EndsByLink (name input link : List ℕ) (outcome : Outcome) : Type 0 where
+  pub begun : List Line
+  pub front : IsFrontOf IsJoinStep (seen script_limit input) begun
+  pub actions : List JoinAction
+  pub asked : AllAsk begun actions
+  pub entries : List Entry
+  pub waits : joined name actions entries ≡ Waits outcome.text outcome.written
+  pub why : LinkCause
+  pub ends : EndsLink link entries why
+  pub end_is : outcome.end ≡ link_end why
+
+-- what a script and a link come to for a client of this name
+abbrev pub JoinComesTo : List ℕ → List ℕ → List ℕ → Outcome → Type 0
+JoinComesTo name input link outcome =
+    EndsByScript name input link outcome ⊎ EndsByLink name input link outcome

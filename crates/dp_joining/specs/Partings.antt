@@ -1,0 +1,40 @@
+-- How a client leaves its server.
+use Rattle.std.specs.Prelude.{◌≡◌, ◌⊎◌, ℕ, ◌≤◌, List, Option}
+use Rattle.std.specs.Io.KnownBytes.{Appends}
+use Rattle.dp_io.specs.Faults.{Rose}
+use Rattle.dp_io.specs.Streams.{GrowsByPrefix}
+use Rattle.dp_lines.specs.declared.run_end.RunEnd.{RunEnd}
+use Rattle.dp_lines.specs.declared.run_end.RunEnd.TheVariants as run
+use Rattle.dp_script.specs.declared.machine.ScriptEnd.{ScriptEnd}
+use Rattle.dp_script.specs.declared.machine.ScriptEnd.TheVariants.{Done, BadLine, ReadFault, Long}
+use Rattle.dp_script.specs.declared.machine.ScriptEnd.TheVariants.{Memory, Ended}
+use Rattle.dp_joining.specs.declared.stops.JoinStop.{JoinStop}
+use Rattle.dp_joining.specs.Joining.{farewell_bytes}
+use Rattle.dp_joining.specs.Stops.{end_of}
+
+-- the Disconnect was written, or a prefix of it, where the link failed or memory ran out
+abbrev pub SaysFarewell : Option (List ℕ) → Option (List ℕ) → ℕ → ℕ → ℕ → RunEnd → Type 0
+SaysFarewell old now before after user end =
+    ((end ≡ run.Done) × Appends old now (farewell_bytes user) × (after ≡ before))
+    ⊎ ((end ≡ run.LinkFault) × GrowsByPrefix old now (farewell_bytes user)
+    × Rose before after × (before ≤ after))
+    ⊎ ((end ≡ run.Memory) × GrowsByPrefix old now (farewell_bytes user) × (after ≡ before))
+
+-- nothing more is written, and the run ends so
+pub record IsSilent (old now : Option (List ℕ)) (before after : ℕ) (due end : RunEnd) : Type 0 where
+  pub end_is : end ≡ due
+  pub bytes : now ≡ old
+  pub kept : after ≡ before
+
+-- What is written to the link after the lines, and how the run ends: where all lines are done, the
+-- client says that it leaves.
+abbrev pub Parts : Option (List ℕ) → Option (List ℕ) → ℕ → ℕ → ℕ → ScriptEnd JoinStop → RunEnd
+    → Type 0
+Parts old now before after user Done end = SaysFarewell old now before after user end
+Parts old now before after user (BadLine n) end =
+    IsSilent old now before after (run.BadLine n) end
+Parts old now before after user ReadFault end = IsSilent old now before after run.ReadFault end
+Parts old now before after user Long end = IsSilent old now before after run.Long end
+Parts old now before after user Memory end = IsSilent old now before after run.Memory end
+Parts old now before after user (Ended stop) end =
+    IsSilent old now before after (end_of stop) end

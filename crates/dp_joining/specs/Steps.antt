@@ -1,0 +1,214 @@
+-- How a client over a link goes on.
+use Rattle.std.specs.Prelude.{◌≡◌, ◌⊎◌, ℕ, ◌+◌, ◌<◌, ◌≤◌, false, IsTrue, List, [], ◌∷◌, ◌++◌, length, Option}
+use Rattle.std.specs.Io.KnownBytes.{Appends}
+use Rattle.circular_buffer.specs.Buffer.{Buffer, buffer, keep_last}
+use Rattle.dp_client.specs.Client.{State}
+use Rattle.dp_entries.specs.Reader.{HasRead, Reader}
+use Rattle.dp_io.specs.Faults.{Rose}
+use Rattle.dp_io.specs.Streams.{GrowsByPrefix}
+use Rattle.dp_messages.specs.declared.message.Entry.{Entry}
+use Rattle.dp_schedule.specs.declared.join_action.JoinAction.{JoinAction}
+use Rattle.dp_joining.specs.declared.chats.ChatLine.{ChatLine}
+use Rattle.dp_joining.specs.declared.joiner.Joiner.{Joiner}
+use Rattle.dp_joining.specs.declared.stops.JoinStop.{JoinStop}
+use Rattle.dp_joining.specs.declared.stops.JoinStop.TheVariants.{WriteFault, LinkFault, Memory}
+use Rattle.dp_joining.specs.declared.stops.JoinStop.TheVariants.{NoEntry}
+use Rattle.dp_joining.specs.Joining.{Joining, after_line, asked_by, chat_limit, is_closed, takeable}
+use Rattle.dp_joining.specs.Linked.{StandsOnLink}
+use Rattle.dp_joining.specs.Outcomes.{BeginsWith, EndsLink, link_limit}
+
+-- ---- the link
+
+-- what clauses see of the source of a link: its bytes that are left, where they are known, its count
+-- of faults, and the reader of its entries
+pub record Source : Type 0 where
+  pub left : Option (List ℕ)
+  pub faults : ℕ
+  pub reader : Reader
+
+-- the link's bytes gave these entries
+abbrev pub Gave : Source → List ℕ → List Entry → Type 0
+Gave s bytes entries = HasRead StandsOnLink bytes s.left entries s.reader
+
+-- a further entry can be read: of the link's bytes from the first on the limit counts
+pub record IsReadable (s : Source) : Type 0 where
+  pub within : s.reader.stream.at ≤ link_limit
+  pub first : s.reader.first ≡ 0
+  pub limit : s.reader.limit ≡ link_limit
+  pub going : ¬ IsTrue s.reader.ended
+
+-- what the link gave goes on by these entries, none of which closes it
+pub record ReadsOn (old now : Source) (given : List Entry) : Type 0 where
+  pub more : (bytes : List ℕ) (before : List Entry)
+      → Gave old bytes before → Gave now bytes (before ++ given)
+  pub still : is_closed given ≡ false
+  pub further : old.reader.stream.at + length given ≤ now.reader.stream.at
+  pub kept : now.faults ≡ old.faults
+  pub readable : IsReadable now
+
+-- the link's bytes begin with these entries, and after them it gives none where the client stops
+-- for that
+abbrev pub Shows : List ℕ → List Entry → JoinStop → Type 0
+Shows bytes entries WriteFault = BeginsWith bytes entries
+Shows bytes entries LinkFault = BeginsWith bytes entries
+Shows bytes entries Memory = BeginsWith bytes entries
+Shows bytes entries (NoEntry why) = EndsLink bytes entries why
+
+-- what the link gave goes on by these entries, and then the client stops so
+abbrev pub ReadsUpTo : Source → List Entry → JoinStop → Type 0
+ReadsUpTo old given stop =
+    (bytes : List ℕ) (before : List Entry) → Gave old bytes before → is_closed before ≡ false
+    → Shows bytes (before ++ given) stop
+
+-- the count of the source's faults where reading stops so
+abbrev pub BlamesReading : ℕ → ℕ → JoinStop → Type 0
+BlamesReading before now WriteFault = ⊥
+BlamesReading before now LinkFault = Rose before now × (before ≤ now)
+BlamesReading before now Memory = now ≡ before
+BlamesReading before now (NoEntry why) = now ≡ before
+
+-- the count of the sink's faults where writing to the link stops so
+abbrev pub BlamesWriting : ℕ → ℕ → JoinStop → Type 0
+BlamesWriting before now WriteFault = ⊥
+BlamesWriting before now LinkFault = Rose before now × (before ≤ now)
+BlamesWriting before now Memory = now ≡ before
+BlamesWriting before now (NoEntry why) = ⊥
+
+-- the count of the output's faults where printing stops so
+abbrev pub BlamesPrinting : ℕ → ℕ → JoinStop → Type 0
+BlamesPrinting before now WriteFault = Rose before now × (before ≤ now)
+BlamesPrinting before now LinkFault = ⊥
+BlamesPrinting before now Memory = now ≡ before
+BlamesPrinting before now (NoEntry why) = ⊥
+
+-- the link gives an entry that is taken, after Pings
+pub record GivesEntry (old now : Source) (entry : Entry) : Type 0 where
+  pub given : List Entry
+  pub reads : ReadsOn old now given
+  pub only : takeable given ≡ entry ∷ []
+
+-- the link gives none, after Pings
+pub record GivesNone (old now : Source) (stop : JoinStop) : Type 0 where
+  pub given : List Entry
+  pub none : takeable given ≡ []
+  pub reads : ReadsUpTo old given stop
+  pub blames : BlamesReading old.faults now.faults stop
+
+-- ---- the client
+
+-- What clauses see of a client over a link and of its output: the client, the lines of chat that it
+-- keeps, what was printed and what was written to the link, where that is known, with counts of
+-- faults, and the link's source.
+pub record Seen : Type 0 where
+  pub client : State
+  pub chats : Buffer ChatLine
+  pub printed : Option (List ℕ)
+  pub print_faults : ℕ
+  pub written : Option (List ℕ)
+  pub write_faults : ℕ
+  pub source : Source
+
+abbrev pub source_at : {R : Type 0} → (R → Option (List ℕ)) → (R → ℕ) → Reader → R → Source
+source_at left faults reader rx = record { left = left rx; faults = faults rx; reader = reader }
+
+abbrev pub source_of : {R S : Type 0} → (R → Option (List ℕ)) → (R → ℕ) → Joiner R S → Source
+source_of left faults joiner = source_at left faults joiner.reader joiner.rx
+
+abbrev pub seen : {R S O : Type 0} → (R → Option (List ℕ)) → (R → ℕ) → (S → Option (List ℕ))
+    → (S → ℕ) → (O → Option (List ℕ)) → (O → ℕ) → Joiner R S → O → Seen
+seen left read_faults held faults printed print_faults joiner output = record {
+  client = joiner.client;
+  chats = joiner.chats;
+  printed = printed output;
+  print_faults = print_faults output;
+  written = held joiner.tx;
+  write_faults = faults joiner.tx;
+  source = source_of left read_faults joiner;
+}
+
+-- no count of faults has changed
+pub record IsFaultless (start now : Seen) : Type 0 where
+  pub print : now.print_faults ≡ start.print_faults
+  pub write : now.write_faults ≡ start.write_faults
+  pub read : now.source.faults ≡ start.source.faults
+
+-- since the start the client has come to this, and nothing failed
+pub record Stands (start now : Seen) (j : Joining) : Type 0 where
+  pub client : now.client ≡ j.client
+  pub chats : now.chats ≡ buffer (keep_last chat_limit j.chats) chat_limit
+  pub text : Appends start.printed now.printed j.text
+  pub written : Appends start.written now.written j.written
+  pub faultless : IsFaultless start now
+
+-- which counts of faults have changed where the client stops so
+abbrev pub BlamesStop : Seen → Seen → JoinStop → Type 0
+BlamesStop start now WriteFault =
+    Rose start.print_faults now.print_faults × (start.print_faults ≤ now.print_faults)
+    × (now.write_faults ≡ start.write_faults) × (now.source.faults ≡ start.source.faults)
+BlamesStop start now LinkFault =
+    (now.print_faults ≡ start.print_faults)
+    × (start.write_faults ≤ now.write_faults) × (start.source.faults ≤ now.source.faults)
+    × (Rose start.write_faults now.write_faults ⊎ Rose start.source.faults now.source.faults)
+BlamesStop start now Memory = IsFaultless start now
+BlamesStop start now (NoEntry why) = IsFaultless start now
+
+-- prefixes of a text and of bytes for the link were written
+pub record Began (start now : Seen) (text written : List ℕ) : Type 0 where
+  pub printed : GrowsByPrefix start.printed now.printed text
+  pub sent : GrowsByPrefix start.written now.written written
+
+-- what was written where the client stops so on the way to this text and these bytes: prefixes, or
+-- all
+abbrev pub Wrote : Seen → Seen → List ℕ → List ℕ → JoinStop → Type 0
+Wrote start now text written WriteFault = Began start now text written
+Wrote start now text written LinkFault = Began start now text written
+Wrote start now text written Memory = Began start now text written
+Wrote start now text written (NoEntry why) =
+    Appends start.printed now.printed text × Appends start.written now.written written
+
+-- on the way to this the client has stopped so
+pub record Stops (start now : Seen) (j : Joining) (stop : JoinStop) : Type 0 where
+  pub wrote : Wrote start now j.text j.written stop
+  pub blames : BlamesStop start now stop
+
+-- the link gives no entry more
+abbrev pub IsNoEntry : JoinStop → Type 0
+IsNoEntry WriteFault = ⊥
+IsNoEntry LinkFault = ⊥
+IsNoEntry Memory = ⊥
+IsNoEntry (NoEntry why) = Unit {0}
+
+-- the client goes on by this change
+abbrev pub Moves : Seen → Seen → (Joining → Joining) → Type 0
+Moves old now change =
+    (start : Seen) (j : Joining) → Stands start old j → Stands start now (change j)
+
+-- on the way to this change it stops so
+abbrev pub StopsOn : Seen → Seen → (Joining → Joining) → JoinStop → Type 0
+StopsOn old now change stop =
+    (start : Seen) (j : Joining) → Stands start old j → Stops start now (change j) stop
+
+-- the same where it reads no entry
+pub record Fails (old now : Seen) (change : Joining → Joining) (stop : JoinStop) : Type 0 where
+  pub not_for_entry : ¬ IsNoEntry stop
+  pub stops : StopsOn old now change stop
+
+-- the client may take a further entry: it has taken no more than the link's bytes held
+pub record IsReady (client : State) (source : Source) : Type 0 where
+  pub few : length client.taken ≤ source.reader.stream.at
+  pub readable : IsReadable source
+
+-- a line is done, with these entries of the link
+pub record Passes (old now : Seen) (action : JoinAction) : Type 0 where
+  pub given : List Entry
+  pub reads : ReadsOn old.source now.source given
+  pub many : length (takeable given) ≡ asked_by action
+  pub moves : Moves old now (after_line action (takeable given))
+
+-- a line is stopped so, after these entries of the link
+pub record Halts (old now : Seen) (action : JoinAction) (stop : JoinStop) : Type 0 where
+  pub given : List Entry
+  pub reads : ReadsUpTo old.source given stop
+  pub few : length (takeable given) ≤ asked_by action
+  pub waits : IsNoEntry stop → length (takeable given) < asked_by action
+  pub stops : StopsOn old now (after_line action (takeable given)) stop

@@ -1,0 +1,74 @@
+//! Lines of chat.
+
+ghost use Rattle.std.specs.Prelude.{◌≡◌, ◌++◌, length, IfOk, OnOk};
+ghost use Rattle.std.specs.Prelude.{option_to_list};
+ghost use Rattle.std.specs.List.{flat_map};
+ghost use Rattle.dp_joining.specs.Joining.{chat_by, chat_line, chats_text};
+
+use circular_buffer::HeapCircularBuffer;
+use dp_lines::{put_hex, put_number};
+use dp_messages::{Entry, Msg};
+use dp_msg_meta::{Meta, Text};
+use itoa::Buffer;
+use std::alloc::{AllocError, Global};
+
+/// How many lines of chat are kept.
+pub(crate) const CHAT_LIMIT: usize = 64;
+
+/// What a user has said.
+#[derive(Debug, Drop)]
+pub(crate) struct ChatLine {
+    pub user: u8,
+    pub text: Text,
+}
+
+/// The line of chat of an entry, if it is one.
+pub(crate) fn chat_of(entry: &Entry) -> Result<Option<ChatLine>, AllocError>
+    ensures { IfOk result (λ line. option_to_list line ≡ chat_by entry.now.user entry.now.msg) }
+{
+    match &entry.msg {
+        Msg::Meta(Meta::Chat { text }) => Ok(Some(ChatLine {
+            user: entry.user,
+            text: text.copy()?,
+        })),
+        _ => Ok(None),
+    }
+}
+
+/// The text of the lines that are kept.
+pub(crate) fn chats_text(
+    alloc: Global,
+    chats: &HeapCircularBuffer<ChatLine>,
+) -> Result<Vec<u8>, AllocError>
+    ensures { IfOk result (λ text. text.items ≡ chats_text chats.now.items) }
+{
+    let mut digits = Buffer::new();
+    let mut text = Vec::from_slice(alloc, b"chats ")?;
+    text.extend_from_slice(digits.format(chats.len()).as_bytes())?;
+    text.extend_from_slice(b"\n")?;
+    let (first, second) = chats.as_slices();
+    put_lines(first, &mut text)?;
+    put_lines(second, &mut text)?;
+    Ok(text)
+}
+
+/// Adds the texts of the lines at the end.
+fn put_lines(lines: &[ChatLine], text: &mut Vec<u8>) -> Result<(), AllocError>
+    ensures { OnOk result (text.new.items ≡ text.old.items ++ flat_map chat_line lines.now) }
+{
+    for line in lines {
+        put_line(line, text)?;
+    }
+    Ok(())
+}
+
+/// Adds the text of the line at the end.
+fn put_line(line: &ChatLine, text: &mut Vec<u8>) -> Result<(), AllocError>
+    ensures { OnOk result (text.new.items ≡ text.old.items ++ chat_line line.now) }
+{
+    text.extend_from_slice(b"chat ")?;
+    put_number(u32::from(line.user), text)?;
+    text.extend_from_slice(b" ")?;
+    put_hex(line.text.as_slice(), text)?;
+    text.extend_from_slice(b"\n")
+}

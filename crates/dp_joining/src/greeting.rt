@@ -1,0 +1,118 @@
+//! Greeting a server.
+
+ghost use Rattle.std.specs.Prelude.{◌≡◌, ◌≤◌, ℕ, false, List, [], length, Some, None};
+ghost use Rattle.std.specs.Prelude.{IfOk, IfErr, IfSome, IfNone, OnOk};
+ghost use Rattle.std.specs.Io.KnownBytes.{Appends};
+ghost use Rattle.circular_buffer.specs.Buffer.{buffer};
+ghost use Rattle.dp_client.specs.Client.{welcomed};
+ghost use Rattle.dp_joining.specs.Greetings.{GreetingFails, NoWelcome, Welcomes, newcomer};
+ghost use Rattle.dp_joining.specs.Joining.{chat_limit, greeted, hello_bytes};
+ghost use Rattle.dp_joining.specs.Linked.{is_welcome};
+ghost use Rattle.dp_joining.specs.Steps.{Gave, IsReadable, source_at};
+
+use crate::chats::{CHAT_LIMIT, ChatLine};
+use crate::linked::Linked;
+use crate::pulling::pull;
+use crate::sending::send;
+use crate::stops::{JoinStop, LinkCause};
+use circular_buffer::HeapCircularBuffer;
+use dp_client::Client;
+use dp_entries::EntryReader;
+use dp_io::{Sink, Source};
+use dp_messages::Msg;
+use dp_msg_meta::{Control, NameBytes, Text};
+use std::alloc::Global;
+
+/// How many bytes of a link count: 1 GiB.
+const LINK_LIMIT: u64 = 1 << 30;
+
+/// A client that a server has welcomed, with the reader of the link's further entries.
+#[derive(Drop)]
+pub(crate) struct Greeting {
+    pub client: Client,
+    pub chats: HeapCircularBuffer<ChatLine>,
+    pub reader: EntryReader<Linked>,
+}
+
+/// The user's id of a Welcome, and the place of the user's Join.
+#[derive(Clone, Copy)]
+struct Welcome {
+    user: u8,
+    epoch: u32,
+    at: u32,
+}
+
+/// Says the name in a Hello, and takes the Welcome.
+pub(crate) fn greet<R: Source, S: Sink>(
+    alloc: Global,
+    name: &Text,
+    rx: &mut R,
+    tx: &mut S,
+) -> Result<Greeting, JoinStop>
+    requires { length name.now ≤ 32 }
+    ensures hello { OnOk result
+        (Appends (S.held tx.old) (S.held tx.new) (hello_bytes name.now)) }
+    ensures sink { OnOk result (S.faults tx.new ≡ S.faults tx.old) }
+    ensures welcome { IfOk result (λ greeting. Welcomes (R.left rx.old) (R.faults rx.old)
+        (source_at R.left R.faults greeting.reader rx.new) greeting.client) }
+    ensures chats { IfOk result (λ greeting. greeting.chats ≡ buffer [] chat_limit) }
+    ensures err { IfErr result (GreetingFails name.now (R.left rx.old)
+        (S.held tx.old) (S.held tx.new) (R.faults rx.old) (R.faults rx.new)
+        (S.faults tx.old) (S.faults tx.new)) }
+{
+    let chats = HeapCircularBuffer::with_capacity(alloc, CHAT_LIMIT)?;
+    let name = NameBytes::from_vec(Vec::from_slice(alloc, name.as_slice())?);
+    send(alloc, 0, Msg::Control(Control::Hello { name }), tx)?;
+    let mut reader = EntryReader::new(alloc, 0, LINK_LIMIT);
+    let client = welcomed(alloc, &mut reader, rx)?;
+    Ok(Greeting {
+        client,
+        chats,
+        reader,
+    })
+}
+
+/// The client that the link's first entry welcomes.
+fn welcomed<R: Source>(
+    alloc: Global,
+    reader: &mut EntryReader<Linked>,
+    rx: &mut R,
+) -> Result<Client, JoinStop>
+    requires readable { IsReadable (source_at R.left R.faults reader.old rx.old) }
+    requires begun { IfSome (R.left rx.old) (λ bytes.
+        Gave (source_at R.left R.faults reader.old rx.old) bytes []) }
+    ensures ok { IfOk result (Welcomes (R.left rx.old) (R.faults rx.old)
+        (source_at R.left R.faults reader.new rx.new)) }
+    ensures err { IfErr result
+        (NoWelcome (R.left rx.old) (R.faults rx.old) (R.faults rx.new)) }
+{
+    let first = pull(alloc, reader, rx)?;
+    match welcome_of(&first.msg) {
+        Some(welcome) => Ok(Client::new(alloc, welcome.user, welcome.epoch, welcome.at)),
+        None => Err(JoinStop::NoEntry(LinkCause::Closed)),
+    }
+}
+
+/// What the message says, where it is a Welcome.
+fn welcome_of(msg: &Msg) -> Option<Welcome>
+    ensures some { IfSome result (λ welcome. (name : List ℕ) → greeted name msg.now ≡ Some
+        (newcomer (welcomed welcome.user welcome.epoch welcome.at) name)) }
+    ensures none { IfNone result ((name : List ℕ) → greeted name msg.now ≡ None) }
+    ensures other { IfNone result (is_welcome msg.now ≡ false) }
+{
+    match msg {
+        Msg::Control(
+            Control::Welcome {
+                user,
+                epoch,
+                at,
+                ..
+            },
+        ) => Some(Welcome {
+            user: *user,
+            epoch: *epoch,
+            at: *at,
+        }),
+        _ => None,
+    }
+}

@@ -1,0 +1,270 @@
+//! A client over a link.
+
+ghost use Rattle.std.specs.Prelude.{◌≡◌, ◌+◌, ◌-◌, ◌^◌, ◌<◌, ◌≤◌, List, [], ◌∷◌, ◌++◌, length};
+ghost use Rattle.std.specs.Prelude.{IfOk, IfErr, OnOk};
+ghost use Rattle.std.specs.Io.KnownBytes.{Appends};
+ghost use Rattle.circular_buffer.specs.Buffer.{buffer, keep_last};
+ghost use Rattle.dp_client.specs.Client.{confirmed};
+ghost use Rattle.dp_io.specs.Streams.{GrowsByPrefix};
+ghost use Rattle.dp_messages.specs.Messages.{kind_of};
+ghost use Rattle.dp_schedule.specs.declared.join_action.JoinAction.TheVariants as action;
+ghost use Rattle.dp_showing.specs.Showing.{shown_text};
+ghost use Rattle.dp_snap.specs.Snapshot.{snapshot};
+ghost use Rattle.dp_joining.specs.declared.chats.ChatLine.{ChatLine as Chat};
+ghost use Rattle.dp_joining.specs.Joining.{ack_bytes, chat_by, chat_limit, chats_text, printed};
+ghost use Rattle.dp_joining.specs.Joining.{reset_by, said_by, took_entry};
+ghost use Rattle.dp_snap.specs.Resets.{reset_messages};
+ghost use Rattle.dp_joining.specs.Scripts.{IsSendable};
+ghost use Rattle.dp_joining.specs.Steps.{BlamesWriting, Fails, GivesEntry, GivesNone, Halts};
+ghost use Rattle.dp_joining.specs.Steps.{IsReadable, IsReady, Moves, Passes, ReadsOn, seen};
+ghost use Rattle.dp_joining.specs.Steps.{source_of};
+
+use crate::chats::{ChatLine, chat_of};
+use crate::linked::{Linked, is_ping};
+use crate::printing::{print_chats, print_line, print_sent, print_shown};
+use crate::pulling::pull;
+use crate::sending::{send, send_entry, send_reset};
+use crate::stops::JoinStop;
+use circular_buffer::HeapCircularBuffer;
+use dp_client::Client;
+use dp_entries::EntryReader;
+use dp_io::{Sink, Source};
+use dp_messages::{Entry, Msg};
+use dp_msg_meta::Control;
+use dp_schedule::{JoinAction, ReportLine};
+use dp_showing::Shown;
+use dp_snap::snapshot;
+use dp_steps::Steps;
+use std::alloc::Global;
+use std::sync::ledger::Ledger;
+
+/// A client over a link, of which the source and the sink are its own.
+#[derive(Drop)]
+pub(crate) struct Joiner<R, S> {
+    pub alloc: Global,
+    pub client: Client,
+    pub chats: HeapCircularBuffer<ChatLine>,
+    pub reader: EntryReader<Linked>,
+    pub rx: R,
+    pub tx: S,
+}
+
+impl<R: Source, S: Sink> Joiner<R, S> {
+    /// Does what a line asks for.
+    pub fn act<O: Sink, D: Ledger, T: Ledger>(
+        &mut self,
+        action: JoinAction,
+        output: &mut O,
+        draws: &mut Steps<D>,
+        tiles: &mut Steps<T>,
+    ) -> Result<(), JoinStop>
+        requires ready { IsReady self.old.client (source_of R.left R.faults self.old) }
+        requires sendable { IsSendable action }
+        ensures ready { OnOk result
+            (IsReady self.new.client (source_of R.left R.faults self.new)) }
+        ensures ok { OnOk result (Passes
+            (seen R.left R.faults S.held S.faults O.held O.faults self.old output.old)
+            (seen R.left R.faults S.held S.faults O.held O.faults self.new output.new)
+            action) }
+        ensures err { IfErr result (Halts
+            (seen R.left R.faults S.held S.faults O.held O.faults self.old output.old)
+            (seen R.left R.faults S.held S.faults O.held O.faults self.new output.new)
+            action) }
+    {
+        match action {
+            JoinAction::Say(msg) => self.say(msg, output),
+            JoinAction::Take { count } => self.take(count, output),
+            JoinAction::View => self.show(Shown::View, output, draws, tiles),
+            JoinAction::Confirmed => self.show(Shown::Confirmed, output, draws, tiles),
+            JoinAction::Snapshot => self.show(Shown::Snapshot, output, draws, tiles),
+            JoinAction::Reset => self.reset(output, draws, tiles),
+            JoinAction::Chat => self.print_chats(output),
+        }
+    }
+
+    /// Says a message: it goes out over the link first.
+    fn say<O: Sink>(&mut self, msg: Msg, output: &mut O) -> Result<(), JoinStop>
+        requires { 32 ≤ kind_of msg }
+        ensures ok { OnOk result (Moves
+            (seen R.left R.faults S.held S.faults O.held O.faults self.old output.old)
+            (seen R.left R.faults S.held S.faults O.held O.faults self.new output.new)
+            (λ j. said_by j msg)) }
+        ensures err { IfErr result (Fails
+            (seen R.left R.faults S.held S.faults O.held O.faults self.old output.old)
+            (seen R.left R.faults S.held S.faults O.held O.faults self.new output.new)
+            (λ j. said_by j msg)) }
+        ensures taken { OnOk result (self.new.client.taken ≡ self.old.client.taken) }
+        ensures reader { self.new.reader ≡ self.old.reader }
+        ensures rx { self.new.rx ≡ self.old.rx }
+    {
+        let user = self.client.user();
+        let entry = Entry { user, msg };
+        send_entry(self.alloc, &entry, &mut self.tx)?;
+        self.client.say(&entry.msg)?;
+        let line = ReportLine::Said(self.client.pending_len());
+        print_line(self.alloc, line, output)
+    }
+
+    /// Takes so many entries of the link.
+    fn take<O: Sink>(&mut self, count: u32, output: &mut O) -> Result<(), JoinStop>
+        requires { IsReady self.old.client (source_of R.left R.faults self.old) }
+        ensures ready { OnOk result
+            (IsReady self.new.client (source_of R.left R.faults self.new)) }
+        ensures ok { OnOk result (Passes
+            (seen R.left R.faults S.held S.faults O.held O.faults self.old output.old)
+            (seen R.left R.faults S.held S.faults O.held O.faults self.new output.new)
+            (action.Take count)) }
+        ensures err { IfErr result (Halts
+            (seen R.left R.faults S.held S.faults O.held O.faults self.old output.old)
+            (seen R.left R.faults S.held S.faults O.held O.faults self.new output.new)
+            (action.Take count)) }
+    {
+        for _taken in 0..count {
+            let entry = self.next_entry()?;
+            self.take_entry(&entry, output)?;
+        }
+        Ok(())
+    }
+
+    /// Takes an entry. Where it opens an epoch, the Ack goes out over the link first.
+    fn take_entry<O: Sink>(&mut self, entry: &Entry, output: &mut O) -> Result<(), JoinStop>
+        requires { length self.old.client.taken < 2 ^ 32 - 1 }
+        ensures ok { OnOk result (Moves
+            (seen R.left R.faults S.held S.faults O.held O.faults self.old output.old)
+            (seen R.left R.faults S.held S.faults O.held O.faults self.new output.new)
+            (λ j. took_entry j entry.now)) }
+        ensures err { IfErr result (Fails
+            (seen R.left R.faults S.held S.faults O.held O.faults self.old output.old)
+            (seen R.left R.faults S.held S.faults O.held O.faults self.new output.new)
+            (λ j. took_entry j entry.now)) }
+        ensures taken { OnOk result
+            (length self.new.client.taken ≤ length self.old.client.taken + 1) }
+        ensures reader { self.new.reader ≡ self.old.reader }
+        ensures rx { self.new.rx ≡ self.old.rx }
+    {
+        let user = self.client.user();
+        let taken = self.client.take(entry)?;
+        self.acknowledge(user, taken.ack)?;
+        self.keep_chat(entry)?;
+        let line = ReportLine::Took {
+            epoch: taken.epoch,
+            at: taken.at,
+        };
+        print_line(self.alloc, line, output)
+    }
+
+    /// Acknowledges the epoch, where one is to be.
+    fn acknowledge(&mut self, user: u8, ack: Option<u32>) -> Result<(), JoinStop>
+        ensures written { OnOk result
+            (Appends (S.held self.old.tx) (S.held self.new.tx) (ack_bytes user ack)) }
+        ensures prefix { GrowsByPrefix (S.held self.old.tx) (S.held self.new.tx)
+            (ack_bytes user ack) }
+        ensures kept { OnOk result (S.faults self.new.tx ≡ S.faults self.old.tx) }
+        ensures blames { IfErr result
+            (BlamesWriting (S.faults self.old.tx) (S.faults self.new.tx)) }
+        ensures same { self.new ≡ record self.old { tx = self.new.tx } }
+    {
+        match ack {
+            Some(epoch) => {
+                let msg = Msg::Control(Control::Ack { epoch });
+                send(self.alloc, user, msg, &mut self.tx)
+            }
+            None => Ok(()),
+        }
+    }
+
+    /// Keeps the line of chat of an entry, if it is one.
+    fn keep_chat(&mut self, entry: &Entry) -> Result<(), JoinStop>
+        ensures kept { OnOk result ((chats : List Chat)
+            → self.old.chats ≡ buffer (keep_last chat_limit chats) chat_limit
+            → self.new.chats ≡ buffer
+            (keep_last chat_limit (chats ++ chat_by entry.now.user entry.now.msg)) chat_limit) }
+        ensures memory { IfErr result (λ stop. stop ≡ JoinStop.Memory) }
+        ensures same { self.new ≡ record self.old { chats = self.new.chats } }
+    {
+        if let Some(line) = chat_of(entry)? {
+            let _oldest = self.chats.push_back(line);
+        }
+        Ok(())
+    }
+
+    /// The next entry of the link that is no Ping.
+    fn next_entry(&mut self) -> Result<Entry, JoinStop>
+        requires { IsReadable (source_of R.left R.faults self.old) }
+        ensures ok { IfOk result (GivesEntry (source_of R.left R.faults self.old)
+            (source_of R.left R.faults self.new)) }
+        ensures err { IfErr result (GivesNone (source_of R.left R.faults self.old)
+            (source_of R.left R.faults self.new)) }
+        ensures client { self.new.client ≡ self.old.client }
+        ensures chats { self.new.chats ≡ self.old.chats }
+        ensures sink { self.new.tx ≡ self.old.tx }
+    {
+        'pings: loop {
+            let entry = pull(self.alloc, &mut self.reader, &mut self.rx)?;
+            if !is_ping(&entry.msg) {
+                return Ok(entry);
+            }
+        }
+    }
+
+    /// Prints what is shown of the client.
+    fn show<O: Sink, D: Ledger, T: Ledger>(
+        &self,
+        shown: Shown,
+        output: &mut O,
+        draws: &mut Steps<D>,
+        tiles: &mut Steps<T>,
+    ) -> Result<(), JoinStop>
+        ensures ok { OnOk result (Moves
+            (seen R.left R.faults S.held S.faults O.held O.faults self.now output.old)
+            (seen R.left R.faults S.held S.faults O.held O.faults self.now output.new)
+            (λ j. printed j (shown_text shown j.client))) }
+        ensures err { IfErr result (Fails
+            (seen R.left R.faults S.held S.faults O.held O.faults self.now output.old)
+            (seen R.left R.faults S.held S.faults O.held O.faults self.now output.new)
+            (λ j. printed j (shown_text shown j.client))) }
+    {
+        print_shown(self.alloc, &self.client, shown, output, draws, tiles)
+    }
+
+    /// Sends the confirmed canvas as a reset.
+    fn reset<O: Sink, D: Ledger, T: Ledger>(
+        &mut self,
+        output: &mut O,
+        draws: &mut Steps<D>,
+        tiles: &mut Steps<T>,
+    ) -> Result<(), JoinStop>
+        ensures ok { OnOk result (Moves
+            (seen R.left R.faults S.held S.faults O.held O.faults self.old output.old)
+            (seen R.left R.faults S.held S.faults O.held O.faults self.new output.new)
+            (λ j. reset_by j (reset_messages (snapshot (confirmed j.client))))) }
+        ensures err { IfErr result (Fails
+            (seen R.left R.faults S.held S.faults O.held O.faults self.old output.old)
+            (seen R.left R.faults S.held S.faults O.held O.faults self.new output.new)
+            (λ j. reset_by j (reset_messages (snapshot (confirmed j.client))))) }
+        ensures client { self.new.client ≡ self.old.client }
+        ensures reader { self.new.reader ≡ self.old.reader }
+        ensures rx { self.new.rx ≡ self.old.rx }
+    {
+        let user = self.client.user();
+        let board = self.client.confirmed(draws, tiles)?;
+        let commands = snapshot(self.alloc, &board)?;
+        let commands = commands.as_slice();
+        send_reset(self.alloc, user, commands, &mut self.tx)?;
+        print_sent(self.alloc, commands.len() + 2, output)
+    }
+
+    /// Prints the lines of chat that are kept.
+    fn print_chats<O: Sink>(&self, output: &mut O) -> Result<(), JoinStop>
+        ensures ok { OnOk result (Moves
+            (seen R.left R.faults S.held S.faults O.held O.faults self.now output.old)
+            (seen R.left R.faults S.held S.faults O.held O.faults self.now output.new)
+            (λ j. printed j (chats_text (keep_last chat_limit j.chats)))) }
+        ensures err { IfErr result (Fails
+            (seen R.left R.faults S.held S.faults O.held O.faults self.now output.old)
+            (seen R.left R.faults S.held S.faults O.held O.faults self.now output.new)
+            (λ j. printed j (chats_text (keep_last chat_limit j.chats)))) }
+    {
+        print_chats(self.alloc, &self.chats, output)
+    }
+}

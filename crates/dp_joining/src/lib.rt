@@ -1,0 +1,23 @@
+//! A client over a link: it greets the server, does the lines of a script, and leaves.
+//!
+//! The rule: docs/protocol.md, "Joining".
+#![tactic(auto)]
+
+mod chats;
+mod greeting;
+mod joiner;
+mod laws;
+mod link;
+mod linked;
+mod machine;
+mod printing;
+mod pulling;
+mod run;
+mod sending;
+mod stops;
+
+pub use laws::one_outcome;
+pub use link::{Joined, join_link};
+pub use linked::LinkFlaw;
+pub use run::run_join;
+pub use stops::LinkCause;

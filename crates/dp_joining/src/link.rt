@@ -1,0 +1,204 @@
+//! A run of `join` over a link.
+
+ghost use Rattle.std.specs.Prelude.{◌≡◌, ℕ, ◌≤◌, List, length};
+ghost use Rattle.std.specs.declared.option.Option.{Option};
+ghost use Rattle.dp_messages.specs.declared.message.Entry.{Entry as Item};
+ghost use Rattle.dp_joining.specs.Leaves.{BlamesJoin, IsWelcome, JoinLeaves};
+ghost use Rattle.dp_joining.specs.Partings.{Parts, SaysFarewell};
+ghost use Rattle.dp_joining.specs.Steps.{IsReady, Seen, seen, source_of};
+
+use crate::greeting::{Greeting, greet};
+use crate::joiner::Joiner;
+use crate::sending::send;
+use crate::stops::JoinStop;
+use dp_io::{Sink, Source};
+use dp_lines::{RunEnd, further_step};
+use dp_messages::Msg;
+use dp_msg_meta::{Control, Text};
+use dp_script::{ScriptEnd, run_lines};
+use dp_steps::Steps;
+use std::alloc::Global;
+use std::sync::ledger::Ledger;
+
+/// How many bytes of a script count: 64 MiB.
+const SCRIPT_LIMIT: usize = 1 << 26;
+
+/// The reason of a Disconnect by which a client leaves.
+const LEAVING: u8 = 0;
+
+/// How a run over a link has ended, and the link.
+#[derive(Drop)]
+pub struct Joined<R, S> {
+    pub end: RunEnd,
+    pub rx: R,
+    pub tx: S,
+}
+
+/// Greets the server at the other end of a link by a name of at most 32 bytes, and does the lines of
+/// a script, one after the other. What a line writes to the link is written before what it prints,
+/// and both before the next line is done. At the script's end it says that it leaves.
+///
+/// # Errors
+///
+/// It ends with `BadLine` at the first line that asks for nothing, with `Closed`, `BadMessage` or
+/// `Long` where a line asks for an entry more than the link gives, with `Long` also where the script
+/// has more than 64 MiB, with `ReadFault`, `WriteFault` and `LinkFault` where the script, the output
+/// and the link failed, and with `Memory` where memory ran out.
+///
+/// The rule: docs/protocol.md, "Joining".
+pub fn join_link<I: Source, O: Sink, R: Source + Drop, S: Sink + Drop, D: Ledger, T: Ledger>(
+    alloc: Global,
+    name: &Text,
+    link: (R, S),
+    input: &mut I,
+    output: &mut O,
+    draws: &mut Steps<D>,
+    tiles: &mut Steps<T>,
+) -> Joined<R, S>
+    requires { length name.now ≤ 32 }
+    ensures leaves { JoinLeaves name.now (record {
+      input = I.left input.old;
+      left = I.left input.new;
+      link = R.left link.0;
+      print_old = O.held output.old;
+      print_now = O.held output.new;
+      sent_old = S.held link.1;
+      sent_now = S.held result.tx;
+    }) result.end }
+    ensures blames { BlamesJoin (record {
+      input = I.faults input.old;
+      output = O.faults output.old;
+      source = R.faults link.0;
+      sink = S.faults link.1;
+    }) (record {
+      input = I.faults input.new;
+      output = O.faults output.new;
+      source = R.faults result.rx;
+      sink = S.faults result.tx;
+    }) result.end }
+    ensures input_later { I.faults input.old ≤ I.faults input.new }
+    ensures output_later { O.faults output.old ≤ O.faults output.new }
+{
+    let (mut rx, mut tx) = link;
+    match greet(alloc, name, &mut rx, &mut tx) {
+        Ok(greeting) => {
+            let joiner = joiner_of(alloc, greeting, rx, tx);
+            do_script(joiner, input, output, draws, tiles)
+        }
+        Err(stop) => {
+            let end = stop.run_end();
+            Joined { end, rx, tx }
+        }
+    }
+}
+
+/// The client over its link.
+fn joiner_of<R, S>(alloc: Global, greeting: Greeting, rx: R, tx: S) -> Joiner<R, S>
+    ensures client { result.client ≡ greeting.client }
+    ensures chats { result.chats ≡ greeting.chats }
+    ensures reader { result.reader ≡ greeting.reader }
+    ensures rx { result.rx ≡ rx }
+    ensures tx { result.tx ≡ tx }
+{
+    let Greeting {
+        client,
+        chats,
+        reader,
+    } = greeting;
+    Joiner {
+        alloc,
+        client,
+        chats,
+        reader,
+        rx,
+        tx,
+    }
+}
+
+/// Does the lines of the script, and says that the client leaves.
+fn do_script<I: Source, O: Sink, R: Source + Drop, S: Sink + Drop, D: Ledger, T: Ledger>(
+    joiner: Joiner<R, S>,
+    input: &mut I,
+    output: &mut O,
+    draws: &mut Steps<D>,
+    tiles: &mut Steps<T>,
+) -> Joined<R, S>
+    requires { IsReady joiner.client (source_of R.left R.faults joiner) }
+    ensures leaves { (name : List ℕ) (link : Option (List ℕ)) (first : Seen) (welcome : Item)
+        → IsWelcome name link first
+        (seen R.left R.faults S.held S.faults O.held O.faults joiner output.old) welcome
+        → JoinLeaves name (record {
+          input = I.left input.old;
+          left = I.left input.new;
+          link = link;
+          print_old = first.printed;
+          print_now = O.held output.new;
+          sent_old = first.written;
+          sent_now = S.held result.tx;
+        }) result.end }
+    ensures blames { (name : List ℕ) (link : Option (List ℕ)) (first : Seen) (welcome : Item)
+        → IsWelcome name link first
+        (seen R.left R.faults S.held S.faults O.held O.faults joiner output.old) welcome
+        → BlamesJoin (record {
+          input = I.faults input.old;
+          output = first.print_faults;
+          source = first.source.faults;
+          sink = first.write_faults;
+        }) (record {
+          input = I.faults input.new;
+          output = O.faults output.new;
+          source = R.faults result.rx;
+          sink = S.faults result.tx;
+        }) result.end }
+    ensures input_later { I.faults input.old ≤ I.faults input.new }
+    ensures output_later { (name : List ℕ) (link : Option (List ℕ)) (first : Seen) (welcome : Item)
+        → IsWelcome name link first
+        (seen R.left R.faults S.held S.faults O.held O.faults joiner output.old) welcome
+        → first.print_faults ≤ O.faults output.new }
+{
+    further_step::<Joiner<R, S>>();
+    let mut joiner = joiner;
+    let alloc = joiner.alloc;
+    let ended = run_lines(
+        alloc,
+        SCRIPT_LIMIT,
+        input,
+        &mut joiner,
+        output,
+        draws,
+        tiles,
+    );
+    let end = leave(&mut joiner, ended);
+    let Joiner { rx, tx, .. } = joiner;
+    Joined { end, rx, tx }
+}
+
+/// Says that the client leaves, where all lines are done. How the run ends.
+fn leave<R: Source, S: Sink>(joiner: &mut Joiner<R, S>, ended: ScriptEnd<JoinStop>) -> RunEnd
+    ensures parts { Parts (S.held joiner.old.tx) (S.held joiner.new.tx) (S.faults joiner.old.tx)
+        (S.faults joiner.new.tx) joiner.old.client.user ended result }
+    ensures source { joiner.new.rx ≡ joiner.old.rx }
+{
+    match ended {
+        ScriptEnd::Done => farewell(joiner),
+        ScriptEnd::BadLine(number) => RunEnd::BadLine(number),
+        ScriptEnd::ReadFault => RunEnd::ReadFault,
+        ScriptEnd::Long => RunEnd::Long,
+        ScriptEnd::Memory => RunEnd::Memory,
+        ScriptEnd::Ended(stop) => stop.run_end(),
+    }
+}
+
+/// Says that the client leaves. How the run ends.
+fn farewell<R: Source, S: Sink>(joiner: &mut Joiner<R, S>) -> RunEnd
+    ensures says { SaysFarewell (S.held joiner.old.tx) (S.held joiner.new.tx)
+        (S.faults joiner.old.tx) (S.faults joiner.new.tx) joiner.old.client.user result }
+    ensures source { joiner.new.rx ≡ joiner.old.rx }
+{
+    let user = joiner.client.user();
+    let msg = Msg::Control(Control::Disconnect { reason: LEAVING });
+    match send(joiner.alloc, user, msg, &mut joiner.tx) {
+        Ok(()) => RunEnd::Done,
+        Err(stop) => stop.run_end(),
+    }
+}

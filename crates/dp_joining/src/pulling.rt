@@ -1,0 +1,36 @@
+//! Entries of a link.
+
+ghost use Rattle.std.specs.Prelude.{[], ◌∷◌, IfOk, IfErr};
+ghost use Rattle.dp_joining.specs.Steps.{GivesNone, IsReadable, ReadsOn, source_at};
+
+use crate::linked::Linked;
+use crate::stops::{JoinStop, LinkCause, stop_of};
+use dp_entries::EntryReader;
+use dp_io::Source;
+use dp_messages::Entry;
+use std::alloc::Global;
+
+/// The next entry of the link, which is no Disconnect.
+pub(crate) fn pull<R: Source>(
+    alloc: Global,
+    reader: &mut EntryReader<Linked>,
+    rx: &mut R,
+) -> Result<Entry, JoinStop>
+    requires { IsReadable (source_at R.left R.faults reader.old rx.old) }
+    ensures ok { IfOk result (λ entry. ReadsOn (source_at R.left R.faults reader.old rx.old)
+        (source_at R.left R.faults reader.new rx.new) (entry ∷ [])) }
+    ensures err { IfErr result (GivesNone (source_at R.left R.faults reader.old rx.old)
+        (source_at R.left R.faults reader.new rx.new)) }
+{
+    match reader.next(alloc, rx) {
+        Ok(Some(entry)) => {
+            if entry.msg.is_disconnect() {
+                Err(JoinStop::NoEntry(LinkCause::Closed))
+            } else {
+                Ok(entry)
+            }
+        }
+        Ok(None) => Err(JoinStop::NoEntry(LinkCause::Closed)),
+        Err(end) => Err(stop_of(&end)),
+    }
+}

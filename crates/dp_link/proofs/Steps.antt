@@ -1,0 +1,149 @@
+-- What an act on the hall tells of the step.
+use Rattle.std.proofs.Common.{◌≡◌, ◌⊎◌, ℕ, Bool, true, false, List, [], ◌∷◌, ◌++◌, Option, None, Some}
+use Rattle.std.proofs.Common.{Result, Ok, Err, if◌then◌else◌, refl, sym, ap, subst, ◌∙◌, inl, inr}
+use Rattle.std.specs.Prelude.{MatchBool}
+use Rattle.std.proofs.lemmas.Bool.{cond_both}
+use Rattle.dp_hall.specs.Logs.{IsLegal, left_by}
+use Rattle.dp_hall.specs.Calls.{Acts, IsSound}
+use Rattle.dp_events.specs.declared.event.Event.{Event}
+use Rattle.dp_events.specs.declared.event.Event.TheVariants as event
+use Rattle.dp_events.specs.declared.event.Reply.{Reply}
+use Rattle.dp_events.specs.declared.event.Reply.TheVariants as reply
+use Rattle.dp_events.specs.Rows.{has_room}
+use Rattle.dp_epochs.specs.State.{State, acted, opened_as, stays, is_name, free_id}
+use Rattle.dp_epochs.specs.Past.{Past, Step, Serves, Accepts, FailsFirst, Refuses, state_of}
+use Rattle.std.specs.Io.KnownBytes.{Keeps}
+use Rattle.dp_frame.specs.Stream.{Stream}
+use Rattle.dp_hall.specs.Laws.{Continues}
+use Rattle.dp_link.specs.declared.ends.Greeting.{Greeting}
+use Rattle.dp_link.specs.declared.ends.GreetEnd.{GreetEnd}
+use Rattle.dp_link.specs.declared.ends.GreetEnd.TheVariants as greet
+use Rattle.dp_link.specs.Acts.{Outcome, Act, SeatView, ActsOnce}
+use Rattle.dp_link.specs.Answers.{OpensWith, opened_as as reply_of}
+use Rattle.dp_link.specs.Hello.{Answers, AnswersBy, Welcomes, ReadsName, NamesBy}
+use Rattle.dp_link.specs.Hello.{Greets, GreetsBy}
+
+-- the last act of a legal log is a step
+last-step : (m : Past) (log : List Act) (act : Act) → IsLegal Step m (log ++ act ∷ [])
+    → Step (left_by m log) act.event act.outcome act.left
+last-step m [] act legal = legal.0
+last-step m (first ∷ log) act legal = last-step first.left log act legal.1
+
+-- an act is a step of the session
+pub acted-step : (v w : SeatView) (e : Event) (outcome : Outcome) → Acts v e outcome w
+    → IsSound Step w → (old new : Past) × Step old e outcome new
+acted-step v w e outcome acts sound =
+    let legal = subst (IsLegal Step sound.legal.0) acts.seen sound.legal.2 in
+    let step = last-step sound.legal.0 (v.seen ++ acts.between) acts.entry legal in (
+      left_by sound.legal.0 (v.seen ++ acts.between),
+      acts.entry.left,
+      subst (λ (o : Outcome). Step (left_by sound.legal.0 (v.seen ++ acts.between)) e o
+          acts.entry.left) acts.outcome_is
+          (subst (λ (d : Event). Step (left_by sound.legal.0 (v.seen ++ acts.between)) d
+          acts.entry.outcome acts.entry.left) acts.event_is step),
+    )
+
+-- ---- an Open
+
+-- the own answer to an Open
+own-answer : (s : State) (name : List ℕ) (registered : Bool)
+    → OpensWith (acted s (event.Open name registered)).reply
+own-answer s name registered =
+    cond_both (is_name name) (opened_as s registered name (free_id s)) (stays s reply.NameRefused)
+    (λ a. OpensWith a.reply) (λ named. by_id (free_id s)) (λ other. tt)
+  where
+    by_id : (o : Option ℕ) → OpensWith (opened_as s registered name o).reply
+    by_id None = tt
+    by_id (Some user) = tt
+
+serves-open : (old : Past) (name : List ℕ) (registered : Bool) (answer : Reply) (new : Past)
+    (fault : Option ℕ) → Serves fault old (event.Open name registered) answer new
+    → OpensWith answer
+serves-open old name registered answer new (Some first) h = subst OpensWith (sym h.reply) tt
+serves-open old name registered answer new None h =
+    by_room (has_room old.journal (event.Open name registered)) h
+  where
+    by_room : (b : Bool)
+        → MatchBool b (Accepts old (event.Open name registered) answer new
+        ⊎ FailsFirst old (event.Open name registered) answer new)
+        (Refuses old (event.Open name registered) reply.Ended answer new) → OpensWith answer
+    by_room true (inl accepts) =
+        subst OpensWith (sym accepts.reply) (own-answer (state_of old) name registered)
+    by_room true (inr fails) = subst OpensWith (sym fails.reply) tt
+    by_room false refuses = subst OpensWith (sym refuses.reply) tt
+
+-- what an Open is answered
+pub opens-with : (name : List ℕ) (registered : Bool) (answer : Reply)
+    → ((old new : Past) × Step old (event.Open name registered) (Ok answer) new)
+    → OpensWith answer
+opens-with name registered answer (old, new, step) =
+    serves-open old name registered answer new old.first_fault step
+
+-- ---- the answer
+
+-- the Welcome could not be written
+pub welcome-fails : (u v w : SeatView) (held taken : Option (List ℕ)) (name : List ℕ)
+    (greeting : Greeting) (end : GreetEnd)
+    → ((xs ys : List Act) → Continues u xs v → Continues v ys w → Continues u (xs ++ ys) w)
+    → ActsOnce u (event.Open name false) (Ok (reply_of greeting)) v
+    → Welcomes v w held taken greeting (Err end) → Answers u w held taken name (Err end)
+welcome-fails u v w held taken name greeting greet.WriteFault both once h =
+    let acts : List Act = once.act ∷ h.acts in
+    record {
+      acts = acts;
+      goes = both (once.act ∷ []) h.acts once.goes h.goes;
+      by = inl (
+        greeting,
+        (once.act, h.by.0, ap (λ l. once.act ∷ l) h.by.1, once.is, h.by.2),
+        h.by.3,
+      );
+    }
+welcome-fails u v w held taken name greeting greet.ReadFault both once h = absurd (h.by)
+welcome-fails u v w held taken name greeting greet.End both once h = absurd (h.by)
+welcome-fails u v w held taken name greeting (greet.BadMessage at) both once h = absurd (h.by)
+welcome-fails u v w held taken name greeting (greet.Refused r) both once h = absurd (h.by)
+welcome-fails u v w held taken name greeting greet.Memory both once h = absurd (h.by)
+
+-- ---- the whole
+
+keeps-same : (held : Option (List ℕ)) → Keeps held held
+keeps-same None = tt
+keeps-same (Some xs) = refl
+
+-- no Hello came
+pub unnamed-greets : (v : SeatView) (left unread held : Option (List ℕ)) (stream : Stream)
+    (end : GreetEnd) → Continues v [] v → ReadsName left unread stream (Err end)
+    → Greets v v left unread held held stream (Err end)
+unnamed-greets v left unread held stream end none h =
+    record { read = h.read; acts = []; gave = h.gave; goes = none; by = by_end end h.by }
+  where
+    by_end : (end : GreetEnd) → NamesBy (Err end) h.read stream
+        → GreetsBy (Err end) h.read stream [] held held
+    by_end greet.ReadFault k = (k, (refl, keeps-same held))
+    by_end greet.End k = (k, (refl, keeps-same held))
+    by_end (greet.BadMessage at) k = (k.0, k.1, (refl, keeps-same held))
+    by_end greet.Memory k = inl (refl, keeps-same held)
+    by_end (greet.Refused answer) k = absurd k
+    by_end greet.WriteFault k = absurd k
+
+-- a Hello came, and was answered
+pub named-greets : (v w : SeatView) (left unread held taken : Option (List ℕ)) (stream : Stream)
+    (name : List ℕ) (result : Result Greeting GreetEnd) → ReadsName left unread stream (Ok name)
+    → Answers v w held taken name result → Greets v w left unread held taken stream result
+named-greets v w left unread held taken stream name result h a = record {
+  read = h.read;
+  acts = a.acts;
+  gave = h.gave;
+  goes = a.goes;
+  by = by_result result a.by;
+}
+  where
+    by_result : (result : Result Greeting GreetEnd) → AnswersBy result name a.acts held taken
+        → GreetsBy result h.read stream a.acts held taken
+    by_result (Ok greeting) k = (name, h.by.0, h.by.1, k)
+    by_result (Err greet.ReadFault) k = absurd k
+    by_result (Err greet.End) k = absurd k
+    by_result (Err (greet.BadMessage at)) k = absurd k
+    by_result (Err greet.Memory) k = inr (name, stream.held, h.by.0, k)
+    by_result (Err (greet.Refused answer)) k = (name, stream.held, h.by.0, k)
+    by_result (Err greet.WriteFault) k = (name, stream.held, h.by.0, k)

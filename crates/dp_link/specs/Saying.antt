@@ -1,0 +1,215 @@
+-- What the messages of a link lead to.
+use Rattle.std.specs.Prelude.{◌≡◌, ◌⊎◌, ℕ, ◌+◌, ◌-◌, ◌<◌, ◌≤◌, Bool, true, false, IsTrue, ◌↔◌}
+use Rattle.std.specs.Prelude.{List, [], ◌∷◌, ◌++◌, length, take, Option, Result, Ok, Err, IsErr, ⊤}
+use Rattle.std.specs.List.{AllByRecursion, flat_map}
+use Rattle.std.specs.Io.KnownBytes.{Consumes}
+use Rattle.dp_io.specs.Faults.{Rose}
+use Rattle.dp_frame.specs.Frames.{FrameParts, IsFrame, spelling, HoldsNoFrame}
+use Rattle.dp_frame.specs.Stream.{Stream}
+use Rattle.dp_hall.specs.Laws.{Continues}
+use Rattle.dp_messages.specs.declared.message.Msg.{Msg}
+use Rattle.dp_messages.specs.Messages.{Spells}
+use Rattle.dp_messages.specs.Properties.{is_disconnect}
+use Rattle.dp_events.specs.declared.event.Event.TheVariants.{Say, Close}
+use Rattle.dp_events.specs.declared.event.Reply.{Reply}
+use Rattle.dp_events.specs.declared.event.Reply.TheVariants as reply
+use Rattle.dp_link.specs.declared.ends.UpEnd.{UpEnd}
+use Rattle.dp_link.specs.declared.ends.UpEnd.TheVariants as up
+use Rattle.dp_link.specs.Acts.{Outcome, Act, SeatView, IsAct, ActsOnce}
+use Rattle.dp_link.specs.Bytes.{link_limit, BeginsWithNoMessage}
+
+-- ---- the messages that are said
+
+-- after this reply nothing more is said: the session has ended, or its store has failed
+abbrev pub stops : Reply → Bool
+stops reply.Ended = true
+stops (reply.StoreFault count) = true
+stops other = false
+
+-- it was answered, and more may be said
+abbrev pub WentOn : Outcome → Type 0
+WentOn (Ok answer) = stops answer ≡ false
+WentOn (Err error) = ⊥
+
+-- the act is a Say of the message by the connection, after which more may be said; no Disconnect
+pub record IsSaid (conn : ℕ) (m : Msg) (act : Act) : Type 0 where
+  pub event_is : act.event ≡ Say conn m
+  pub went_on : WentOn act.outcome
+  pub stays : is_disconnect m ≡ false
+
+-- the acts are such Says of the messages, in order
+abbrev pub AreSaid : ℕ → List Msg → List Act → Type 0
+AreSaid conn [] [] = ⊤
+AreSaid conn [] (act ∷ acts) = ⊥
+AreSaid conn (m ∷ messages) [] = ⊥
+AreSaid conn (m ∷ messages) (act ∷ acts) = IsSaid conn m act × AreSaid conn messages acts
+
+-- the same up to a last Say, of whose message and outcome P holds
+pub record AreSaidTo (P : Msg → Outcome → Type 0) (conn : ℕ) (messages : List Msg)
+    (acts : List Act) : Type 0 where
+  pub earlier : List Msg
+  pub before : List Act
+  pub last : Msg
+  pub act : Act
+  pub messages_are : messages ≡ earlier ++ last ∷ []
+  pub acts_are : acts ≡ before ++ act ∷ []
+  pub said : AreSaid conn earlier before
+  pub event_is : act.event ≡ Say conn last
+  pub meets : P last act.outcome
+
+-- How the last Say ended a link, by the end: a Disconnect was said, the reply stops it, or it was
+-- refused because memory ran out. The other ends come after Says that all went on.
+abbrev pub SaidBy : UpEnd → ℕ → List Msg → List Act → Type 0
+SaidBy up.Left conn messages acts =
+    AreSaidTo (λ m outcome. (is_disconnect m ≡ true) × WentOn outcome) conn messages acts
+SaidBy (up.Refused answer) conn messages acts =
+    AreSaidTo (λ m outcome. (outcome ≡ Ok answer) × (stops answer ≡ true)) conn messages acts
+SaidBy up.Memory conn messages acts =
+    AreSaid conn messages acts ⊎ AreSaidTo (λ m outcome. IsErr outcome) conn messages acts
+SaidBy up.End conn messages acts = AreSaid conn messages acts
+SaidBy up.ReadFault conn messages acts = AreSaid conn messages acts
+SaidBy (up.BadMessage at) conn messages acts = AreSaid conn messages acts
+SaidBy up.Long conn messages acts = AreSaid conn messages acts
+SaidBy (up.NotGreeted end) conn messages acts = ⊥
+
+-- ---- the bytes
+
+-- the frames spell the messages, one each
+abbrev pub AreSpelled : List FrameParts → List Msg → Type 0
+AreSpelled [] [] = ⊤
+AreSpelled [] (m ∷ messages) = ⊥
+AreSpelled (frame ∷ frames) [] = ⊥
+AreSpelled (frame ∷ frames) (m ∷ messages) =
+    Spells frame.kind frame.body m × AreSpelled frames messages
+
+-- the bytes are frames that spell the messages, and then the rest
+pub record SpellFirst (bytes : List ℕ) (messages : List Msg) (rest : List ℕ) : Type 0 where
+  pub frames : List FrameParts
+  pub each : AllByRecursion IsFrame frames
+  pub spelled : AreSpelled frames messages
+  pub whole : bytes ≡ flat_map spelling frames ++ rest
+
+-- the bytes of a link from where a splitter stands on, of which these were read later
+abbrev pub link_bytes : Stream → List ℕ → List ℕ
+link_bytes stream read = stream.held ++ read
+
+-- those of them that count
+abbrev pub counted : Stream → List ℕ → List ℕ
+counted stream read = take (link_limit - stream.at) (link_bytes stream read)
+
+-- how many bytes the link has given so
+abbrev pub given_count : Stream → List ℕ → ℕ
+given_count stream read = stream.at + length (link_bytes stream read)
+
+-- What is after the messages that were said, by the end: no whole frame, where all bytes count or
+-- where others were read; or a frame that spells no message and begins at that byte of the link.
+abbrev pub RestBy : UpEnd → Stream → List ℕ → List ℕ → Type 0
+RestBy up.End stream read rest = HoldsNoFrame rest × (given_count stream read ≤ link_limit)
+RestBy up.ReadFault stream read rest = HoldsNoFrame rest × (given_count stream read ≤ link_limit)
+RestBy up.Long stream read rest = HoldsNoFrame rest × (link_limit < given_count stream read)
+RestBy (up.BadMessage at) stream read rest =
+    BeginsWithNoMessage rest × (at + length rest ≡ stream.at + length (counted stream read))
+RestBy up.Left stream read rest = ⊤
+RestBy (up.Refused answer) stream read rest = ⊤
+RestBy up.Memory stream read rest = ⊤
+RestBy (up.NotGreeted end) stream read rest = ⊥
+
+-- ---- the whole
+
+-- What saying the messages of a link did: it read these bytes where the link's are known, and acted
+-- Says of the first messages, and then a Close, of which that came.
+pub record SaysAll (v w : SeatView) (left unread : Option (List ℕ)) (stream : Stream) (conn : ℕ)
+    (end : UpEnd) (outcome : Outcome) : Type 0 where
+  pub read : List ℕ
+  pub messages : List Msg
+  pub rest : List ℕ
+  pub says : List Act
+  pub close : Act
+  pub gave : Consumes left unread read
+  pub heard : SpellFirst (counted stream read) messages rest
+  pub goes : Continues v (says ++ close ∷ []) w
+  pub closes : IsAct close (Close conn) outcome
+  pub said : SaidBy end conn messages says
+  pub rests : RestBy end stream read rest
+
+-- the count of faults of the link's source: ReadFault comes only where it rose, and else it stays
+abbrev pub BlamesUp : UpEnd → ℕ → ℕ → Type 0
+BlamesUp up.ReadFault before now = Rose before now
+BlamesUp up.Left before now = now ≡ before
+BlamesUp up.End before now = now ≡ before
+BlamesUp (up.BadMessage at) before now = now ≡ before
+BlamesUp up.Long before now = now ≡ before
+BlamesUp (up.Refused answer) before now = now ≡ before
+BlamesUp (up.NotGreeted end) before now = now ≡ before
+BlamesUp up.Memory before now = now ≡ before
+
+-- ---- parts of it
+
+-- The end comes from a message that is held: it ended the link, or the frame spells none.
+abbrev pub RestHeld : UpEnd → Stream → List ℕ → Type 0
+RestHeld (up.BadMessage at) stream rest =
+    BeginsWithNoMessage rest × (at + length rest ≡ stream.at + length stream.held)
+RestHeld up.Left stream rest = ⊤
+RestHeld (up.Refused answer) stream rest = ⊤
+RestHeld up.Memory stream rest = ⊤
+RestHeld other stream rest = ⊥
+
+-- how a Say of which that came ends a link, by whether it was a Disconnect
+abbrev pub EndsBy : Result Bool UpEnd → Outcome → Bool → Type 0
+EndsBy (Ok more) outcome leaves = (more ≡ true) × WentOn outcome × (leaves ≡ false)
+EndsBy (Err up.Left) outcome leaves = WentOn outcome × (leaves ≡ true)
+EndsBy (Err (up.Refused answer)) outcome leaves = (outcome ≡ Ok answer) × (stops answer ≡ true)
+EndsBy (Err up.Memory) outcome leaves = IsErr outcome
+EndsBy (Err other) outcome leaves = ⊥
+
+-- a message was said, and that is how it ends the link, if it does
+pub record SaysOne (v w : SeatView) (conn : ℕ) (m : Msg) (result : Result Bool UpEnd)
+    : Type 0 where
+  pub outcome : Outcome
+  pub acts : ActsOnce v (Say conn m) outcome w
+  pub ends : EndsBy result outcome (is_disconnect m)
+
+-- By what came of it: all went on so far, and the rest is held; or it ended so.
+abbrev pub HeldBy : {T : Type 0} → Result T UpEnd → Stream → Stream → ℕ → List Msg → List Act
+    → List ℕ → Type 0
+HeldBy (Ok value) old new conn messages says rest =
+    AreSaid conn messages says × (rest ≡ new.held)
+    × (new.at + length new.held ≡ old.at + length old.held)
+HeldBy (Err end) old new conn messages says rest =
+    SaidBy end conn messages says × RestHeld end old rest
+
+-- messages that are held were said
+pub record SaysHeld {T : Type 0} (v w : SeatView) (old new : Stream) (conn : ℕ)
+    (result : Result T UpEnd) : Type 0 where
+  pub messages : List Msg
+  pub rest : List ℕ
+  pub says : List Act
+  pub heard : SpellFirst old.held messages rest
+  pub goes : Continues v says w
+  pub by : HeldBy result old new conn messages says rest
+
+-- the messages of the bytes that were read so far were said, and all went on
+pub record SaidSoFar (v w : SeatView) (left unread : Option (List ℕ)) (old new : Stream) (conn : ℕ)
+    (over : Bool) : Type 0 where
+  pub read : List ℕ
+  pub messages : List Msg
+  pub says : List Act
+  pub gave : Consumes left unread read
+  pub heard : SpellFirst (counted old read) messages new.held
+  pub goes : Continues v says w
+  pub said : AreSaid conn messages says
+  pub place : new.at + length new.held ≡ old.at + length (counted old read)
+  pub others : IsTrue over ↔ (link_limit < given_count old read)
+
+-- the same up to the end of the link
+pub record SaidToEnd (v w : SeatView) (left unread : Option (List ℕ)) (stream : Stream) (conn : ℕ)
+    (end : UpEnd) : Type 0 where
+  pub read : List ℕ
+  pub messages : List Msg
+  pub rest : List ℕ
+  pub says : List Act
+  pub gave : Consumes left unread read
+  pub heard : SpellFirst (counted stream read) messages rest
+  pub goes : Continues v says w
+  pub said : SaidBy end conn messages says
+  pub rests : RestBy end stream read rest

@@ -1,0 +1,113 @@
+-- What a link writes to its peer after the Welcome.
+use Rattle.std.specs.Prelude.{◌≡◌, ℕ, ◌+◌, List, [], ◌∷◌, ◌++◌, length, Option, Result}
+use Rattle.std.specs.Prelude.{Ok, Err}
+use Rattle.std.specs.List.{flat_map}
+use Rattle.std.specs.Io.KnownBytes.{Appends}
+use Rattle.dp_io.specs.Faults.{Rose}
+use Rattle.dp_io.specs.Streams.{GrowsByPrefix}
+use Rattle.dp_messages.specs.declared.message.Entry.{Entry}
+use Rattle.dp_messages.specs.Messages.{entry_bytes}
+use Rattle.dp_hall.specs.Logs.{left_by}
+use Rattle.dp_epochs.specs.Past.{Past, state_of}
+use Rattle.dp_session_laws.specs.Feeds.{Segment, IsFeed, feed_entries, IsGone}
+use Rattle.dp_link.specs.declared.ends.DownEnd.{DownEnd}
+use Rattle.dp_link.specs.declared.ends.DownEnd.TheVariants as down
+use Rattle.dp_link.specs.declared.pages.Cursor.{Cursor}
+use Rattle.dp_link.specs.Acts.{SeatView}
+
+-- the session that what a seat has seen leaves, where the hall began with this one
+abbrev pub session_of : Past → SeatView → Past
+session_of start view = left_by start view.seen
+
+-- the frames of entries, one after another
+abbrev pub frames_of : List Entry → List ℕ
+frames_of entries = flat_map entry_bytes entries
+
+-- By the end, the peer took these bytes: all of them where nothing more is to come, and else the
+-- first of them.
+abbrev pub TookBy : DownEnd → Option (List ℕ) → Option (List ℕ) → List ℕ → Type 0
+TookBy down.Gone held taken bytes = Appends held taken bytes
+TookBy down.WriteFault held taken bytes = GrowsByPrefix held taken bytes
+TookBy down.Memory held taken bytes = GrowsByPrefix held taken bytes
+TookBy down.NotGreeted held taken bytes = ⊥
+
+-- The peer took the frames of a feed of the connection, or the first of them. Where nothing more is
+-- to come the feed has ended.
+pub record Sends (past : Past) (conn : ℕ) (held taken : Option (List ℕ)) (end : DownEnd)
+    : Type 0 where
+  pub earlier : List Segment
+  pub last : Segment
+  pub feed : IsFeed (state_of past) conn (earlier ++ last ∷ [])
+  pub took : TookBy end held taken (frames_of (feed_entries (earlier ++ last ∷ [])))
+  pub gone : end ≡ down.Gone → IsGone past conn last
+
+-- the count of faults of the link's sink: WriteFault comes only where it rose, and else it stays
+abbrev pub BlamesDown : DownEnd → ℕ → ℕ → Type 0
+BlamesDown down.WriteFault before now = Rose before now
+BlamesDown down.Gone before now = now ≡ before
+BlamesDown down.NotGreeted before now = now ≡ before
+BlamesDown down.Memory before now = now ≡ before
+
+-- ---- parts of it
+
+-- the peer took the frames of a feed up to the cursor
+pub record SentTo (past : Past) (conn : ℕ) (held taken : Option (List ℕ)) (cursor : Cursor)
+    : Type 0 where
+  pub earlier : List Segment
+  pub last : Segment
+  pub feed : IsFeed (state_of past) conn (earlier ++ last ∷ [])
+  pub epoch_is : cursor.epoch ≡ last.epoch
+  pub at_is : cursor.at ≡ length last.entries
+  pub took : Appends held taken (frames_of (feed_entries (earlier ++ last ∷ [])))
+
+-- by what came of a page
+abbrev pub SendsPage : {T : Type 0} → Past → ℕ → Option (List ℕ) → Option (List ℕ) → Cursor
+    → Result T DownEnd → Type 0
+SendsPage past conn held taken cursor (Ok more) = SentTo past conn held taken cursor
+SendsPage past conn held taken cursor (Err end) = Sends past conn held taken end
+
+-- By what came of writing a page of an epoch from this place on: it was written, and the cursor
+-- stands after it; or the first bytes of it were.
+abbrev pub WritesPage : {T : Type 0} → Result T DownEnd → Option (List ℕ) → Option (List ℕ) → ℕ
+    → ℕ → List Entry → Cursor → Type 0
+WritesPage (Ok more) held taken epoch at list cursor =
+    Appends held taken (frames_of list) × (cursor.epoch ≡ epoch)
+    × (cursor.at ≡ at + length list)
+WritesPage (Err down.WriteFault) held taken epoch at list cursor =
+    GrowsByPrefix held taken (frames_of list)
+WritesPage (Err down.Memory) held taken epoch at list cursor =
+    GrowsByPrefix held taken (frames_of list)
+WritesPage (Err down.Gone) held taken epoch at list cursor = ⊥
+WritesPage (Err down.NotGreeted) held taken epoch at list cursor = ⊥
+
+-- by what came of the frames of a list: all were written, or the first of them
+abbrev pub PutsBy : {T : Type 0} → Result T DownEnd → Option (List ℕ) → Option (List ℕ) → List ℕ
+    → Type 0
+PutsBy (Ok done) held taken bytes = Appends held taken bytes
+PutsBy (Err down.WriteFault) held taken bytes = GrowsByPrefix held taken bytes
+PutsBy (Err down.Memory) held taken bytes = GrowsByPrefix held taken bytes
+PutsBy (Err down.Gone) held taken bytes = ⊥
+PutsBy (Err down.NotGreeted) held taken bytes = ⊥
+
+-- the same count where a page was written, or was not
+abbrev pub BlamesPage : {T : Type 0} → Result T DownEnd → ℕ → ℕ → Type 0
+BlamesPage (Ok more) before now = now ≡ before
+BlamesPage (Err end) before now = BlamesDown end before now
+
+-- bytes were written, and together with those that are buffered they are these
+pub record PutSoFar (held taken : Option (List ℕ)) (buffer whole : List ℕ) : Type 0 where
+  pub written : List ℕ
+  pub took : Appends held taken written
+  pub are : written ++ buffer ≡ whole
+
+-- By what came of the frame of an entry after what was buffered: they were written or are
+-- buffered; or the first of them were written.
+abbrev pub PutsNext : {T : Type 0} → Result T DownEnd → Option (List ℕ) → Option (List ℕ) → List ℕ
+    → List ℕ → Entry → Type 0
+PutsNext (Ok done) held taken old new entry = PutSoFar held taken new (old ++ entry_bytes entry)
+PutsNext (Err down.WriteFault) held taken old new entry =
+    GrowsByPrefix held taken (old ++ entry_bytes entry)
+PutsNext (Err down.Memory) held taken old new entry =
+    GrowsByPrefix held taken (old ++ entry_bytes entry)
+PutsNext (Err down.Gone) held taken old new entry = ⊥
+PutsNext (Err down.NotGreeted) held taken old new entry = ⊥

@@ -1,0 +1,231 @@
+//! A painter is greeted.
+
+ghost use Rattle.std.specs.Prelude.{◌≡◌, ◌≢◌, ◌+◌, ◌≤◌, [], false, None, Ok, Err, IfOk, OnOk, length};
+ghost use Rattle.std.specs.Io.KnownBytes.{IsAtEnd};
+ghost use Rattle.dp_hall.specs.Calls.{IsOf};
+ghost use Rattle.dp_link.specs.Bytes.{link_limit};
+ghost use Rattle.dp_link.specs.Acts.{ActsOnce};
+ghost use Rattle.dp_link.specs.Answers.{reason_of, OpensWith};
+ghost use Rattle.dp_link.specs.Hello.{Greets, BlamesHello, Answers, ReadsName, TakesName};
+ghost use Rattle.dp_link.specs.Hello.{NameOf, Welcomes, RefusesBy, BlamesRefusal};
+
+use crate::acting::act_once;
+use crate::answers::{put_goodbye, put_welcome, reason_of};
+use crate::messages::{BadFrame, take_message};
+use crate::pieces::{PieceEnd, read_piece};
+use crate::{GreetEnd, Greeting};
+use dp_events::{Event, Reply};
+use dp_frame::{Octets, Splitter};
+use dp_hall::{Hall, Seat, calls_add_up};
+use dp_io::{Failed, Sink, Source};
+use dp_keeper::Keeper;
+use dp_messages::{Entry, Msg, one_answer};
+use dp_msg_meta::Control;
+use dp_session::Session;
+use dp_wire::Gate;
+use std::alloc::{AllocError, Global};
+use std::sync::Wait;
+
+/// Reads the Hello of a link, acts an Open by its name, and answers with a Welcome, or with a
+/// Disconnect where the session refuses. It reads pieces of at most 4096 bytes. What was read after
+/// the Hello is held.
+///
+/// # Errors
+///
+/// The link is done with then. `ReadFault`, `End` and `BadMessage` come before any act, and nothing
+/// is written. `Refused` carries the answer to the Open. After `WriteFault` a painter who had joined
+/// has left again, and a prefix of the answer was written. `Memory` comes before the Open, or where
+/// the Open was refused for it, and nothing is written.
+pub fn greet<W: Wait, K: Keeper, R: Source, S: Sink, G: Gate>(
+    rt: &W,
+    alloc: Global,
+    hall: &Hall<Session<K>>,
+    seat: &mut Seat<Session<K>>,
+    rx: &mut R,
+    tx: &mut S,
+    split: &mut Splitter,
+    who: u32,
+    gate: &G,
+) -> Result<Greeting, GreetEnd>
+    requires of { IsOf hall.now seat.old }
+    requires fresh { split.old ≡ record { held = []; at = 0 } }
+    ensures of { IsOf hall.now seat.new }
+    ensures greets { Greets seat.old.view seat.new.view (R.left rx.old) (R.left rx.new)
+        (S.held tx.old) (S.held tx.new) split.new result }
+    ensures within { OnOk result (split.new.at + length split.new.held ≤ link_limit) }
+    ensures at_end { result ≡ Err GreetEnd.End → IsAtEnd (R.left rx.new) }
+    ensures blames { BlamesHello result (R.faults rx.old) (R.faults rx.new)
+        (S.faults tx.old) (S.faults tx.new) }
+{
+    calls_add_up::<Event, Result<Reply, AllocError>, Session<K>>();
+    match read_name(alloc, rx, split) {
+        Ok(name) => answer(rt, hall, seat, tx, name, who, gate),
+        Err(end) => Err(end),
+    }
+}
+
+/// Reads until a whole frame is held, and takes the name of the Hello that it carries.
+fn read_name<R: Source>(alloc: Global, rx: &mut R, split: &mut Splitter) -> Result<Octets, GreetEnd>
+    requires fresh { split.old ≡ record { held = []; at = 0 } }
+    ensures reads { ReadsName (R.left rx.old) (R.left rx.new) split.new result }
+    ensures within { OnOk result (split.new.at + length split.new.held ≤ link_limit) }
+    ensures at_end { result ≡ Err GreetEnd.End → IsAtEnd (R.left rx.new) }
+    ensures blames { BlamesHello result (R.faults rx.old) (R.faults rx.new) 0 0 }
+{
+    'pieces: loop {
+        match take_name(alloc, split)? {
+            Some(name) => return Ok(name),
+            None => match read_piece(rx, split) {
+                Ok(_) => {}
+                Err(PieceEnd::ReadFault) => return Err(GreetEnd::ReadFault),
+                Err(PieceEnd::End) => return Err(GreetEnd::End),
+                Err(PieceEnd::Memory) => return Err(GreetEnd::Memory),
+            },
+        }
+    }
+}
+
+/// Takes the first frame that is held, if it is whole, and gives the name of the Hello that it
+/// carries.
+fn take_name(alloc: Global, split: &mut Splitter) -> Result<Option<Octets>, GreetEnd>
+    ensures { TakesName result split.old split.new }
+{
+    one_answer();
+    let start = split.at();
+    match take_message(alloc, split) {
+        Ok(None) => Ok(None),
+        Ok(Some(entry)) => match name_in(alloc, entry, start) {
+            Ok(name) => Ok(Some(name)),
+            Err(end) => Err(end),
+        },
+        Err(BadFrame::At(at)) => Err(GreetEnd::BadMessage { at }),
+        Err(BadFrame::Memory) => Err(GreetEnd::Memory),
+    }
+}
+
+/// The name of the Hello that an entry is, whose frame begins at this byte.
+fn name_in(alloc: Global, entry: Entry, start: u64) -> Result<Octets, GreetEnd>
+    ensures { NameOf result entry.msg start }
+{
+    name_of(alloc, &entry.msg, start)
+}
+
+/// The same of its message.
+fn name_of(alloc: Global, msg: &Msg, start: u64) -> Result<Octets, GreetEnd>
+    ensures { NameOf result msg.now start }
+{
+    let Msg::Control(Control::Hello { name }) = msg else {
+        return Err(GreetEnd::BadMessage { at: start });
+    };
+    let mut bytes = Octets::new(alloc);
+    match bytes.append(name.as_slice()) {
+        Ok(()) => Ok(bytes),
+        Err(AllocError) => Err(GreetEnd::Memory),
+    }
+}
+
+/// Acts an Open by the name, and writes the answer.
+fn answer<W: Wait, K: Keeper, S: Sink, G: Gate>(
+    rt: &W,
+    hall: &Hall<Session<K>>,
+    seat: &mut Seat<Session<K>>,
+    tx: &mut S,
+    name: Octets,
+    who: u32,
+    gate: &G,
+) -> Result<Greeting, GreetEnd>
+    requires { IsOf hall.now seat.old }
+    ensures of { IsOf hall.now seat.new }
+    ensures answers { Answers seat.old.view seat.new.view (S.held tx.old) (S.held tx.new)
+        name result }
+    ensures blames { BlamesHello result 0 0 (S.faults tx.old) (S.faults tx.new) }
+{
+    calls_add_up::<Event, Result<Reply, AllocError>, Session<K>>();
+    let Ok(reply) = open(rt, hall, seat, name, who, gate) else {
+        return Err(GreetEnd::Memory);
+    };
+    match reply {
+        Reply::Opened {
+            conn,
+            user,
+            epoch,
+            at,
+        } => {
+            let greeting = Greeting {
+                conn,
+                user,
+                epoch,
+                at,
+            };
+            match welcome(rt, hall, seat, tx, &greeting, who, gate) {
+                Ok(()) => Ok(greeting),
+                Err(end) => Err(end),
+            }
+        }
+        other => Err(refuse(tx, other)),
+    }
+}
+
+/// Acts an Open by the name.
+fn open<W: Wait, K: Keeper, G: Gate>(
+    rt: &W,
+    hall: &Hall<Session<K>>,
+    seat: &mut Seat<Session<K>>,
+    name: Octets,
+    who: u32,
+    gate: &G,
+) -> Result<Reply, AllocError>
+    requires { IsOf hall.now seat.old }
+    ensures of { IsOf hall.now seat.new }
+    ensures acts { ActsOnce seat.old.view (Event.Open name false) result seat.new.view }
+    ensures answer { IfOk result OpensWith }
+{
+    let event = Event::Open {
+        name,
+        registered: false,
+    };
+    act_once(rt, hall, seat, &event, who, 1, gate)
+}
+
+/// Writes the Welcome. Where that fails the connection is closed.
+fn welcome<W: Wait, K: Keeper, S: Sink, G: Gate>(
+    rt: &W,
+    hall: &Hall<Session<K>>,
+    seat: &mut Seat<Session<K>>,
+    tx: &mut S,
+    greeting: &Greeting,
+    who: u32,
+    gate: &G,
+) -> Result<(), GreetEnd>
+    requires { IsOf hall.now seat.old }
+    ensures of { IsOf hall.now seat.new }
+    ensures welcomes { Welcomes seat.old.view seat.new.view (S.held tx.old) (S.held tx.new)
+        greeting.now result }
+    ensures blames { BlamesHello result 0 0 (S.faults tx.old) (S.faults tx.new) }
+{
+    match put_welcome(tx, greeting) {
+        Ok(()) => Ok(()),
+        Err(Failed) => {
+            let event = Event::Close {
+                conn: greeting.conn,
+            };
+            let _ = act_once(rt, hall, seat, &event, who, 2, gate);
+            Err(GreetEnd::WriteFault)
+        }
+    }
+}
+
+/// Writes the Disconnect after an Open that was refused.
+fn refuse<S: Sink>(tx: &mut S, reply: Reply) -> GreetEnd
+    requires { reason_of reply ≢ None }
+    ensures refuses { RefusesBy result reply (S.held tx.old) (S.held tx.new) }
+    ensures blames { BlamesRefusal result (S.faults tx.old) (S.faults tx.new) }
+{
+    let Some(reason) = reason_of(&reply) else {
+        unreachable!()
+    };
+    match put_goodbye(tx, reason) {
+        Ok(()) => GreetEnd::Refused(reply),
+        Err(Failed) => GreetEnd::WriteFault,
+    }
+}

@@ -1,0 +1,86 @@
+//! A hall whose one link is served to its end.
+
+ghost use Rattle.std.specs.Prelude.{List};
+ghost use Rattle.dp_hall.specs.Calls.{IsOf};
+ghost use Rattle.dp_hall.specs.Laws.{Continues};
+ghost use Rattle.dp_epochs.specs.Laws.{ShutBefore};
+ghost use Rattle.dp_link.specs.Acts.{Act};
+
+use dp_events::{Event, Journal, Reply, Shut};
+use dp_frame::Splitter;
+use dp_hall::{Hall, HallError, Seat, calls_add_up, seats_come_back};
+use dp_io::{Sink, Source};
+use dp_keeper::Keeper;
+use dp_link::{DownEnd, GreetEnd, UpEnd, UpRun, greet, greetings_are_seen, pump_down, run_up};
+use dp_session::Session;
+use dp_wire::OpenGate;
+use std::alloc::{AllocError, Global};
+use std::sync::Wait;
+
+/// How a link ended.
+#[derive(Clone, Copy, Debug, PartialEq)]
+pub enum LinkEnd {
+    NotGreeted(GreetEnd),
+    Served(UpEnd, bool, DownEnd),
+}
+
+/// Serves one link to its end, with the two pumps one after the other.
+pub fn serve_link<W: Wait, K: Keeper, R: Source, S: Sink>(
+    rt: &W,
+    alloc: Global,
+    hall: &Hall<Session<K>>,
+    seat: &mut Seat<Session<K>>,
+    rx: &mut R,
+    tx: &mut S,
+) -> LinkEnd
+    requires of { IsOf hall.now seat.old }
+    requires start { ShutBefore hall.now.start }
+    ensures of { IsOf hall.now seat.new }
+    ensures calls { (acts : List Act) × Continues seat.old.view acts seat.new.view }
+{
+    calls_add_up::<Event, Result<Reply, AllocError>, Session<K>>();
+    let mut split = Splitter::new(alloc);
+    match greet(rt, alloc, hall, seat, rx, tx, &mut split, 0, &OpenGate) {
+        Ok(greeting) => {
+            greetings_are_seen(seat);
+            let UpRun { end, close } = run_up(
+                rt,
+                alloc,
+                hall,
+                seat,
+                rx,
+                &mut split,
+                greeting.conn,
+                0,
+                &OpenGate,
+            );
+            let down = pump_down(rt, alloc, hall, seat, tx, &greeting);
+            LinkEnd::Served(end, close.is_ok(), down)
+        }
+        Err(end) => LinkEnd::NotGreeted(end),
+    }
+}
+
+/// A session over a store, with a hall that lives as long as one link.
+pub fn run_link<W: Wait, K: Keeper + Drop, R: Source, S: Sink>(
+    rt: &W,
+    alloc: Global,
+    keeper: K,
+    rx: &mut R,
+    tx: &mut S,
+) -> Result<(LinkEnd, Journal, Shut), AllocError> {
+    seats_come_back::<Event, Result<Reply, AllocError>, Session<K>>();
+    let session = Session::new(alloc, keeper)?;
+    match Hall::start(alloc, session) {
+        Ok((hall, mut seat)) => {
+            let end = serve_link(rt, alloc, &hall, &mut seat, rx, tx);
+            let (keeper, journal, shut) = hall.close(seat).into_parts();
+            drop(keeper);
+            Ok((end, journal, shut))
+        }
+        Err(HallError { machine }) => {
+            drop(machine);
+            Err(AllocError)
+        }
+    }
+}

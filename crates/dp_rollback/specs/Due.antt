@@ -1,0 +1,49 @@
+-- What an act that comes next may draw.
+use Rattle.std.specs.Prelude.{◌≡◌, ℕ, ◌+◌, ◌-◌, ◌≤◌, length, true, Option, Some, None, List, []}
+use Rattle.std.specs.Prelude.{◌∷◌, drop}
+use Rattle.std.specs.List.{flat_map}
+use Rattle.dp_board.specs.declared.act.Act.{Act}
+use Rattle.dp_board.specs.declared.act.Act.TheVariants.{Draw}
+use Rattle.dp_board.specs.declared.act.UserAct.{UserAct}
+use Rattle.dp_board.specs.declared.act.Change.{Change}
+use Rattle.dp_board.specs.declared.act.Change.TheVariants.{Drew, Rebuilt, Nothing}
+use Rattle.dp_board.specs.Strokes.{moved_by}
+use Rattle.dp_board.specs.Commands.{command_of}
+
+-- the commands of some acts, drawn or not
+abbrev pub all_commands : {Op : Type 0} → List (UserAct Op) → List Op
+all_commands acts = flat_map (λ a. command_of a.act true) acts
+
+-- the commands that an act after others may draw, where it moves the group `moved`: its own, or
+-- those that come at most 64 acts before the Point of that group, or later
+abbrev pub due_by : {Op : Type 0} → List (UserAct Op) → Act Op → Option ℕ → List Op
+due_by acts (Draw op) moved = op ∷ []
+due_by acts act None = []
+due_by acts act (Some group) = all_commands (drop (group - 64) acts)
+
+-- the commands that an act after a history may draw
+abbrev pub due_commands : {Op : Type 0} → ℕ → List (UserAct Op) → UserAct Op → List Op
+due_commands depth acts a = due_by acts a.act (moved_by depth acts a)
+
+-- what an act does to the board, where it moves the group `moved`
+abbrev pub change_by : {Op : Type 0} → Act Op → Option ℕ → Change
+change_by (Draw op) moved = Drew
+change_by act None = Nothing
+change_by act (Some group) = Rebuilt
+
+-- what an act after a history does to the board
+abbrev pub change_of : {Op : Type 0} → ℕ → List (UserAct Op) → UserAct Op → Change
+change_of depth acts a = change_by a.act (moved_by depth acts a)
+
+-- an act that moves no group may draw its own command alone
+abbrev pub OwnCommandIsDue : Type 0 → Type 0
+OwnCommandIsDue Op =
+    (depth : ℕ) (acts : List (UserAct Op)) (a : UserAct Op) → moved_by depth acts a ≡ None
+    → due_commands depth acts a ≡ command_of a.act true
+
+-- one that moves a group may draw at most 64 more commands than there are acts from its Point on
+abbrev pub FewAreDue : Type 0 → Type 0
+FewAreDue Op =
+    (depth : ℕ) (acts : List (UserAct Op)) (a : UserAct Op) (group : ℕ)
+    → moved_by depth acts a ≡ Some group
+    → length (due_commands depth acts a) ≤ (length acts - group) + 64

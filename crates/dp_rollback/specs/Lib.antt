@@ -1,0 +1,5 @@
+pub mod Kept
+pub mod Due
+pub mod Rollback
+pub mod Moves
+pub mod Laws

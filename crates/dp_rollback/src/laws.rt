@@ -1,0 +1,23 @@
+//! Laws of the definitions. The functions do nothing: their contracts are the laws.
+
+ghost use Rattle.dp_rollback.specs.Due.{OwnCommandIsDue, FewAreDue};
+ghost use Rattle.dp_rollback.specs.Laws.{Laws};
+
+use dp_board::{each_act_has_a_flag, flags_go_on, groups_come_first, tables_follow};
+
+/// An act that moves no group may draw its own command alone. One that moves a group draws at most
+/// 64 more commands than there are acts after the point of that group.
+pub fn few_are_due<Op>()
+    ensures unmoved { OwnCommandIsDue Op }
+    ensures moved { FewAreDue Op }
+{}
+
+/// The laws of strokes and flags.
+pub(crate) fn stroke_laws<Op>()
+    ensures { Laws Op }
+{
+    flags_go_on::<Op>();
+    groups_come_first::<Op>();
+    each_act_has_a_flag::<Op>();
+    tables_follow::<Op>();
+}

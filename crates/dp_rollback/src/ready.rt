@@ -1,0 +1,56 @@
+//! What an act makes of a rollback.
+
+ghost use Rattle.std.specs.Prelude.{◌≡◌};
+ghost use Rattle.dp_rollback.specs.Rollback.{change_in};
+
+use crate::kept::{KeptAct, Mark};
+use dp_board::{Board, Change, NextStrokes};
+use std::marker::Model;
+
+/// What an act makes of a rollback, with all the memory that it takes.
+#[derive(Drop)]
+pub struct Ready<B: Board> {
+    pub(crate) act: KeptAct<B::Op>,
+    pub(crate) mark: Option<Mark>,
+    pub(crate) stays: usize,
+    pub(crate) strokes: NextStrokes,
+    pub(crate) board: B,
+    pub(crate) saves: Vec<B>,
+}
+
+impl<B: Board> Model for Ready<B> {
+    ghost use Rattle.dp_rollback.specs.Rollback.{Next};
+
+    ghost Value = { Next B B.Op };
+
+    ghost view = { λ r. record {
+      act = r.act;
+      mark = r.mark;
+      stays = r.stays;
+      strokes = r.strokes;
+      board = r.board;
+      saves = r.saves.items;
+    } };
+}
+
+impl<B: Board> Ready<B> {
+    /// The board after the act.
+    pub fn board(&self) -> &B
+        ensures { result.now ≡ self.now.board }
+    {
+        &self.board
+    }
+
+    /// What the act did to the board.
+    pub fn change(&self) -> Change
+        ensures { result ≡ change_in self.now }
+    {
+        if self.act.drawn {
+            Change::Drew
+        } else if self.mark.is_some() {
+            Change::Rebuilt
+        } else {
+            Change::Nothing
+        }
+    }
+}

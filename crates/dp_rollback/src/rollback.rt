@@ -1,0 +1,419 @@
+//! A board that goes on act by act, and back to savepoints.
+
+ghost use Rattle.std.specs.Prelude.{◌≡◌, ℕ, ◌+◌, ◌-◌, ◌*◌, ◌/◌, ◌<◌, ◌≤◌, List, [], ◌∷◌, ◌++◌};
+ghost use Rattle.std.specs.Prelude.{true, Some, length, drop, take, map, slice_index_or};
+ghost use Rattle.std.specs.Prelude.{IfOk, OnOk, OnErr, IfSome};
+ghost use Rattle.std.specs.Option.{ForSome};
+ghost use Rattle.std.specs.List.{fold, sum_by};
+ghost use Rattle.dp_board.specs.declared.act.UserAct.{UserAct as UserActOf};
+ghost use Rattle.dp_board.specs.Replay.{replay};
+ghost use Rattle.dp_board.specs.Table.{oldest_in};
+ghost use Rattle.dp_board.specs.Moves.{is_draw};
+ghost use Rattle.dp_board.specs.Strokes.{concerned};
+ghost use Rattle.dp_board.specs.Commands.{command_of};
+ghost use Rattle.dp_rollback.specs.Kept.{marked, drawn_among, commands_among};
+ghost use Rattle.dp_rollback.specs.Due.{due_commands, change_of};
+ghost use Rattle.dp_rollback.specs.Rollback.{StandsFor, FitsOn, put_on, change_in};
+ghost use Rattle.dp_rollback.specs.Moves.{mark_in, save_before, kept_from, due_in};
+ghost use Rattle.dp_rollback.specs.Moves.{IsRedrawn, IsDrawnLast, IsMade, IsKnown, IsNext};
+
+use crate::kept::{KeptAct, Mark};
+use crate::laws::stroke_laws;
+use crate::ready::Ready;
+use crate::redraw::{SPACING, draw_act, redraw};
+use crate::room::{add_act, drop_first, replace_last};
+use dp_board::{Act, Board, Change, StrokeTable, UserAct, concerned, tables_follow};
+use dp_steps::Steps;
+use std::alloc::{AllocError, Global};
+use std::marker::Model;
+use std::sync::ledger::Ledger;
+
+/// A board, drawn on act by act, that can go back: it holds the acts that an undo or a redo may
+/// still need, with a savepoint before each 64th.
+#[derive(Drop)]
+pub struct Rollback<B: Board> {
+    board: B,
+    table: StrokeTable,
+    base: usize,
+    kept: Vec<KeptAct<B::Op>>,
+    saves: Vec<B>,
+    alloc: Global,
+}
+
+impl<B: Board> Model for Rollback<B> {
+    ghost use Rattle.std.specs.Prelude.{◌-◌, min};
+    ghost use Rattle.std.specs.Vec.{vec_len, vec_capacity};
+    ghost use Rattle.dp_board.specs.Table.{oldest_in};
+    ghost use Rattle.dp_rollback.specs.Rollback.{Rolled, IsSpaced};
+
+    ghost Value = { Rolled B B.Op };
+
+    ghost view = { λ r. record {
+      board = r.board;
+      table = r.table;
+      base = r.base;
+      kept = r.kept.items;
+      saves = r.saves.items;
+      spare = min (vec_capacity r.kept - vec_len r.kept) (vec_capacity r.saves - vec_len r.saves);
+    } };
+
+    ghost invariant = { λ r.
+        IsSpaced r.table.position (oldest_in r.table) r.base (vec_len r.kept) (vec_len r.saves) };
+}
+
+/// An equal act.
+fn copy_act<B: Board>(alloc: Global, act: &Act<B::Op>) -> Result<Act<B::Op>, AllocError>
+    ensures { IfOk result (λ copy. copy ≡ act.now) }
+{
+    Ok(match act {
+        Act::Point => Act::Point,
+        Act::Undo { who } => Act::Undo { who: *who },
+        Act::Redo { who } => Act::Redo { who: *who },
+        Act::Draw(op) => Act::Draw(B::copy_op(alloc, op)?),
+        Act::Other => Act::Other,
+    })
+}
+
+/// Whether an act is a command.
+fn is_draw<Op>(act: &Act<Op>) -> bool
+    ensures { result ≡ is_draw act.now }
+{
+    matches!(act, Act::Draw(_))
+}
+
+/// The mark of an act, where it moves a group.
+fn mark_of<Op>(table: &StrokeTable, act: &UserAct<Op>) -> Option<Mark>
+    ensures value { result ≡ mark_in table.now act.now }
+    ensures reach { IfSome result (λ mark. oldest_in table.now ≤ mark.group) }
+    ensures before { IfSome result (λ mark. mark.group < table.now.position) }
+{
+    let group = table.moved(act)?;
+    Some(Mark {
+        user: concerned(act),
+        group,
+        drawn: matches!(act.act, Act::Redo { .. }),
+    })
+}
+
+/// What is drawn for an act: the board, the savepoints after those that stay, and how many stay.
+#[derive(Drop)]
+struct Drawn<B> {
+    board: B,
+    saves: Vec<B>,
+    stays: usize,
+}
+
+impl<B: Board> Rollback<B> {
+    /// A board on which nothing was drawn yet, where undo and redo reach the last `depth` points.
+    pub fn new<D: Ledger, T: Ledger>(
+        alloc: Global,
+        blank: B,
+        depth: u32,
+        draws: &mut Steps<D>,
+        tiles: &mut Steps<T>,
+    ) -> Result<Self, AllocError>
+        ensures stands { IfOk result (StandsFor B.drawn blank depth []) }
+        ensures no_draw { draws.new ≡ draws.old }
+        ensures no_tile { tiles.new ≡ tiles.old }
+    {
+        tables_follow::<B::Op>();
+        let table = StrokeTable::new(alloc, depth)?;
+        let mut saves = Vec::new(alloc);
+        saves.push(blank.share(draws, tiles)?)?;
+        Ok(Rollback {
+            board: blank,
+            table,
+            base: 0,
+            kept: Vec::new(alloc),
+            saves,
+            alloc,
+        })
+    }
+
+    /// The board after the acts so far.
+    pub fn board(&self) -> &B
+        ensures value { result.now ≡ self.now.board }
+        ensures replay { (blank : B) (depth : ℕ) (acts : List (UserActOf B.Op))
+            → StandsFor B.drawn blank depth acts self.now
+            → result.now ≡ replay B.drawn blank depth acts }
+    {
+        &self.board
+    }
+
+    /// How many acts are held, in case an undo or a redo comes to need them.
+    pub fn kept(&self) -> usize
+        ensures value { result ≡ length self.now.kept }
+        ensures few { result < (self.now.table.position - oldest_in self.now.table) + 64 }
+    {
+        let _ = &self.base;
+        self.kept.len()
+    }
+
+    /// Adds an act to those that the board stands for.
+    ///
+    /// # Errors
+    ///
+    /// The board stands for the same acts as before. Some commands may have been drawn on a copy.
+    pub fn take<D: Ledger, T: Ledger>(
+        &mut self,
+        user: u8,
+        act: &Act<B::Op>,
+        draws: &mut Steps<D>,
+        tiles: &mut Steps<T>,
+    ) -> Result<Change, AllocError>
+        ensures stands { OnOk result ((blank : B) (depth : ℕ) (acts : List (UserActOf B.Op))
+            → StandsFor B.drawn blank depth acts self.old
+            → StandsFor B.drawn blank depth
+            (acts ++ (record { user = user; act = act.now }) ∷ []) self.new) }
+        ensures change { IfOk result (λ change. (blank : B) (depth : ℕ)
+            (acts : List (UserActOf B.Op)) → StandsFor B.drawn blank depth acts self.old
+            → change ≡ change_of depth acts (record { user = user; act = act.now })) }
+        ensures err { OnErr result (self.new ≡ record self.old { spare = self.new.spare }) }
+        ensures still { OnErr result ((blank : B) (depth : ℕ) (acts : List (UserActOf B.Op))
+            → StandsFor B.drawn blank depth acts self.old
+            → StandsFor B.drawn blank depth acts self.new) }
+        ensures draws_rise { draws.old ≤ draws.new }
+        ensures few_draws { (blank : B) (depth : ℕ) (acts : List (UserActOf B.Op))
+            → StandsFor B.drawn blank depth acts self.old → draws.new ≤ draws.old
+            + length (due_commands depth acts (record { user = user; act = act.now })) }
+        ensures tiles_rise { tiles.old ≤ tiles.new }
+        ensures few_tiles { (blank : B) (depth : ℕ) (acts : List (UserActOf B.Op))
+            → StandsFor B.drawn blank depth acts self.old → tiles.new ≤ tiles.old
+            + sum_by B.weight (due_commands depth acts (record { user = user; act = act.now })) }
+    {
+        let ready = self.ready(user, act, draws, tiles)?;
+        let change = ready.change();
+        self.put(ready);
+        Ok(change)
+    }
+
+    /// What an act that comes next makes of the board, with all memory that it takes. The board
+    /// still stands for the acts before it.
+    ///
+    /// # Errors
+    ///
+    /// Some commands may have been drawn on a copy.
+    pub fn ready<D: Ledger, T: Ledger>(
+        &mut self,
+        user: u8,
+        act: &Act<B::Op>,
+        draws: &mut Steps<D>,
+        tiles: &mut Steps<T>,
+    ) -> Result<Ready<B>, AllocError>
+        ensures same { self.new ≡ record self.old { spare = self.new.spare } }
+        ensures still { (blank : B) (depth : ℕ) (acts : List (UserActOf B.Op))
+            → StandsFor B.drawn blank depth acts self.old
+            → StandsFor B.drawn blank depth acts self.new }
+        ensures fits { IfOk result (λ ready. FitsOn ready self.new) }
+        ensures stands { IfOk result (λ ready. (blank : B) (depth : ℕ)
+            (acts : List (UserActOf B.Op)) → StandsFor B.drawn blank depth acts self.old
+            → StandsFor B.drawn blank depth
+            (acts ++ (record { user = user; act = act.now }) ∷ []) (put_on ready self.new)) }
+        ensures change { IfOk result (λ ready. (blank : B) (depth : ℕ)
+            (acts : List (UserActOf B.Op)) → StandsFor B.drawn blank depth acts self.old
+            → change_in ready ≡ change_of depth acts (record { user = user; act = act.now })) }
+        ensures draws_rise { draws.old ≤ draws.new }
+        ensures few_draws { (blank : B) (depth : ℕ) (acts : List (UserActOf B.Op))
+            → StandsFor B.drawn blank depth acts self.old → draws.new ≤ draws.old
+            + length (due_commands depth acts (record { user = user; act = act.now })) }
+        ensures tiles_rise { tiles.old ≤ tiles.new }
+        ensures few_tiles { (blank : B) (depth : ℕ) (acts : List (UserActOf B.Op))
+            → StandsFor B.drawn blank depth acts self.old → tiles.new ≤ tiles.old
+            + sum_by B.weight (due_commands depth acts (record { user = user; act = act.now })) }
+    {
+        stroke_laws::<B::Op>();
+        let act = UserAct {
+            user,
+            act: copy_act::<B>(self.alloc, act)?,
+        };
+        self.make_room()?;
+        self.made(act, draws, tiles)
+    }
+
+    /// What an act makes of the board.
+    fn made<D: Ledger, T: Ledger>(
+        &self,
+        act: UserAct<B::Op>,
+        draws: &mut Steps<D>,
+        tiles: &mut Steps<T>,
+    ) -> Result<Ready<B>, AllocError>
+        ensures known { IsKnown self.now act }
+        ensures next { IfOk result (IsNext B.drawn self.now act) }
+        ensures draws_rise { draws.old ≤ draws.new }
+        ensures few_draws { draws.new ≤ draws.old
+            + length (due_in self.now act.act (mark_in self.now.table act)) }
+        ensures tiles_rise { tiles.old ≤ tiles.new }
+        ensures few_tiles { tiles.new ≤ tiles.old
+            + sum_by B.weight (due_in self.now act.act (mark_in self.now.table act)) }
+    {
+        let join = self.table.join_of(&act);
+        let mark = mark_of(&self.table, &act);
+        let strokes = self.table.next(self.alloc, &act)?;
+        let drawn = is_draw(&act.act);
+        let Drawn {
+            board,
+            saves,
+            stays,
+        } = self.drawn(&act.act, mark, draws, tiles)?;
+        Ok(Ready {
+            act: KeptAct { act, join, drawn },
+            mark,
+            stays,
+            strokes,
+            board,
+            saves,
+        })
+    }
+
+    /// Makes room for one more act. The board stands for the same acts.
+    fn make_room(&mut self) -> Result<(), AllocError>
+        ensures same { self.new ≡ record self.old { spare = self.new.spare } }
+        ensures room { OnOk result (1 ≤ self.new.spare) }
+        ensures still { (blank : B) (depth : ℕ) (acts : List (UserActOf B.Op))
+            → StandsFor B.drawn blank depth acts self.old
+            → StandsFor B.drawn blank depth acts self.new }
+    {
+        self.reserve()
+    }
+
+    /// Makes room for one more act.
+    fn reserve(&mut self) -> Result<(), AllocError>
+        ensures same { self.new ≡ record self.old { spare = self.new.spare } }
+        ensures room { OnOk result (1 ≤ self.new.spare) }
+    {
+        self.kept.reserve(1)?;
+        self.saves.reserve(1)?;
+        Ok(())
+    }
+
+    /// What is drawn for an act, which moves the group of the mark.
+    fn drawn<D: Ledger, T: Ledger>(
+        &self,
+        act: &Act<B::Op>,
+        mark: Option<Mark>,
+        draws: &mut Steps<D>,
+        tiles: &mut Steps<T>,
+    ) -> Result<Drawn<B>, AllocError>
+        requires reach { ForSome mark (λ mark. self.now.base ≤ mark.group) }
+        requires before { ForSome mark (λ mark. mark.group < self.now.table.position) }
+        ensures made { IfOk result (λ drawn. IsMade B.drawn self.now act.now mark
+            drawn.board drawn.saves.items drawn.stays) }
+        ensures draws_rise { draws.old ≤ draws.new }
+        ensures few_draws { draws.new ≤ draws.old + length (due_in self.now act.now mark) }
+        ensures tiles_rise { tiles.old ≤ tiles.new }
+        ensures few_tiles { tiles.new
+            ≤ tiles.old + sum_by B.weight (due_in self.now act.now mark) }
+    {
+        let Drawn {
+            board,
+            mut saves,
+            stays,
+        } = match mark {
+            None => self.drawn_last(act, draws, tiles)?,
+            Some(mark) => self.redrawn(mark, draws, tiles)?,
+        };
+        if (self.kept.len() + 1) % SPACING == 0 {
+            let save = board.share(draws, tiles)?;
+            saves.push(save)?;
+        }
+        Ok(Drawn {
+            board,
+            saves,
+            stays,
+        })
+    }
+
+    /// The board with the command of an act, where it is one.
+    fn drawn_last<D: Ledger, T: Ledger>(
+        &self,
+        act: &Act<B::Op>,
+        draws: &mut Steps<D>,
+        tiles: &mut Steps<T>,
+    ) -> Result<Drawn<B>, AllocError>
+        ensures made { IfOk result (λ drawn. IsDrawnLast B.drawn self.now act.now
+            drawn.board drawn.saves.items drawn.stays) }
+        ensures draws_rise { draws.old ≤ draws.new }
+        ensures few_draws { draws.new ≤ draws.old + length (command_of act.now true) }
+        ensures tiles_rise { tiles.old ≤ tiles.new }
+        ensures few_tiles { tiles.new ≤ tiles.old + sum_by B.weight (command_of act.now true) }
+    {
+        let mut board = self.board.share(draws, tiles)?;
+        draw_act(&mut board, act, true, draws, tiles)?;
+        Ok(Drawn {
+            board,
+            saves: Vec::new(self.alloc),
+            stays: self.saves.len(),
+        })
+    }
+
+    /// The board drawn anew from the last savepoint at or before the group of the mark.
+    fn redrawn<D: Ledger, T: Ledger>(
+        &self,
+        mark: Mark,
+        draws: &mut Steps<D>,
+        tiles: &mut Steps<T>,
+    ) -> Result<Drawn<B>, AllocError>
+        requires reach { self.now.base ≤ mark.group }
+        requires before { mark.group < self.now.table.position }
+        ensures made { IfOk result (λ drawn. IsRedrawn B.drawn self.now mark
+            drawn.board drawn.saves.items drawn.stays) }
+        ensures draws_rise { draws.old ≤ draws.new }
+        ensures few_draws { draws.new ≤ draws.old
+            + length (commands_among (kept_from self.now (save_before self.now mark))) }
+        ensures tiles_rise { tiles.old ≤ tiles.new }
+        ensures few_tiles { tiles.new ≤ tiles.old + sum_by B.weight
+            (commands_among (kept_from self.now (save_before self.now mark))) }
+    {
+        let place = (mark.group - self.base) / SPACING;
+        let mut board = self.saves[place].share(draws, tiles)?;
+        let kept = &self.kept[SPACING * place..];
+        let saves = redraw(self.alloc, &mut board, kept, mark, draws, tiles)?;
+        Ok(Drawn {
+            board,
+            saves,
+            stays: place + 1,
+        })
+    }
+
+    /// Adds the act that was made ready. It takes no memory.
+    pub fn put(&mut self, ready: Ready<B>)
+        requires { FitsOn ready self.old }
+        ensures after { self.new ≡ record (put_on ready self.old) { spare = self.new.spare } }
+        ensures stands { (blank : B) (depth : ℕ) (acts : List (UserActOf B.Op))
+            → StandsFor B.drawn blank depth acts (put_on ready self.old)
+            → StandsFor B.drawn blank depth acts self.new }
+    {
+        self.settle(ready);
+    }
+
+    /// Adds the act that was made ready, and lets go of what no act may need any more.
+    fn settle(&mut self, ready: Ready<B>)
+        requires { FitsOn ready self.old }
+        ensures { self.new ≡ record (put_on ready self.old) { spare = self.new.spare } }
+    {
+        let Ready {
+            act,
+            mark,
+            stays,
+            strokes,
+            board,
+            saves,
+        } = ready;
+        add_act(&mut self.kept, mark, act);
+        replace_last(&mut self.saves, stays, saves);
+        self.table.put(strokes);
+        self.board = board;
+        let needless = (self.table.oldest() - self.base) / SPACING;
+        drop_first(&mut self.kept, SPACING * needless);
+        drop_first(&mut self.saves, needless);
+        self.base += SPACING * needless;
+    }
+
+    /// How many more acts there is room for.
+    pub fn spare(&self) -> usize
+        ensures { result ≡ self.now.spare }
+    {
+        let kept = self.kept.capacity() - self.kept.len();
+        kept.min(self.saves.capacity() - self.saves.len())
+    }
+}

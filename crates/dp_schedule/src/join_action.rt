@@ -1,0 +1,22 @@
+//! What a line of a script of `join` asks for.
+
+use dp_messages::Msg;
+
+/// What a line of a script of `join` asks of its client.
+#[derive(Debug, Drop)]
+pub enum JoinAction {
+    /// It says a message, which joins its unanswered sends and goes out over the link.
+    Say(Msg),
+    /// It takes so many entries of the link.
+    Take { count: u32 },
+    /// The picture of its view is printed.
+    View,
+    /// The picture of its confirmed canvas is printed.
+    Confirmed,
+    /// The snapshot of its confirmed canvas is printed.
+    Snapshot,
+    /// Its confirmed canvas goes out over the link as a reset.
+    Reset,
+    /// The last texts of chat that it has taken are printed.
+    Chat,
+}

@@ -1,0 +1,4 @@
+pub mod Growth
+pub mod JournalLemmas
+pub mod Openings
+pub mod Pulls

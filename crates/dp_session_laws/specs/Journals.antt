@@ -1,0 +1,27 @@
+-- Which acts of a log are in the journal.
+use Rattle.std.specs.Prelude.{◌≡◌, ℕ, Bool, true, false, if◌then◌else◌, List, [], ◌∷◌, Ok, Err}
+use Rattle.std.specs.Prelude.{Some}
+use Rattle.dp_io.specs.Faults.{Rose}
+use Rattle.dp_events.specs.declared.event.Event.{Event}
+use Rattle.dp_events.specs.declared.event.Reply.TheVariants.{Ended, StoreFault}
+use Rattle.dp_epochs.specs.Past.{Past}
+use Rattle.dp_session_laws.specs.Logs.{Outcome, Act}
+
+-- the event of an act of which that came is kept
+abbrev pub is_kept : Outcome → Bool
+is_kept (Ok Ended) = false
+is_kept (Ok (StoreFault count)) = false
+is_kept (Ok answer) = true
+is_kept (Err error) = false
+
+-- the events of a log that are kept, in order
+abbrev pub kept_events : List Act → List Event
+kept_events [] = []
+kept_events (act ∷ log) =
+    if is_kept act.outcome then act.event ∷ kept_events log else kept_events log
+
+-- a put has failed from the one session on to the other, and the store has counted it
+pub record HasBroken (old new : Past) : Type 0 where
+  pub count : ℕ
+  pub fault : new.first_fault ≡ Some count
+  pub rose : Rose old.count new.count

@@ -1,0 +1,4 @@
+pub mod Growing
+pub mod Feeds
+pub mod Logs
+pub mod Journals

@@ -1,0 +1,71 @@
+//! What is shown of a client.
+
+ghost use Rattle.std.specs.Prelude.{◌≡◌, IsErrOf, OnOk};
+ghost use Rattle.std.specs.Io.KnownBytes.{Appends};
+ghost use Rattle.dp_io.specs.Faults.{HasCause};
+ghost use Rattle.dp_io.specs.Streams.{GrowsByPrefix};
+ghost use Rattle.dp_flat.specs.Ends.{is_sink_fault};
+ghost use Rattle.dp_showing.specs.Showing.{shown_text};
+
+use crate::recording::write_recording;
+use crate::snapshot::write_snapshot;
+use dp_client::Client;
+use dp_flat::{PictureEnd, write_p3};
+use dp_io::Sink;
+use dp_steps::Steps;
+use std::alloc::Global;
+use std::sync::ledger::Ledger;
+
+/// What is shown of a client.
+#[derive(Clone, Copy, Debug, PartialEq, Eq)]
+pub enum Shown {
+    /// The picture of its view.
+    View,
+    /// The picture of its confirmed canvas.
+    Confirmed,
+    /// The snapshot of its confirmed canvas.
+    Snapshot,
+    /// The recording of the entries that it has taken in its epoch.
+    Recording,
+}
+
+/// Writes what is shown of a client. A snapshot and a recording are written a frame at a time.
+///
+/// # Errors
+///
+/// `Memory` where memory ran out, and `Failed` where the sink failed. A prefix of the text was
+/// written then.
+///
+/// The rule: docs/protocol.md, "Showing a client".
+pub fn show<O: Sink, D: Ledger, T: Ledger>(
+    alloc: Global,
+    client: &Client,
+    shown: Shown,
+    output: &mut O,
+    draws: &mut Steps<D>,
+    tiles: &mut Steps<T>,
+) -> Result<(), PictureEnd>
+    ensures written { OnOk result
+        (Appends (O.held output.old) (O.held output.new) (shown_text shown client.now)) }
+    ensures prefix { GrowsByPrefix (O.held output.old) (O.held output.new)
+        (shown_text shown client.now) }
+    ensures uncounted { IsErrOf result PictureEnd.Memory
+        → O.faults output.new ≡ O.faults output.old }
+    ensures cause { HasCause is_sink_fault (O.faults output.old) (O.faults output.new) result }
+{
+    match shown {
+        Shown::View => {
+            let board = client.view(draws, tiles)?;
+            write_p3(alloc, &board, output)
+        }
+        Shown::Confirmed => {
+            let board = client.confirmed(draws, tiles)?;
+            write_p3(alloc, &board, output)
+        }
+        Shown::Snapshot => {
+            let board = client.confirmed(draws, tiles)?;
+            write_snapshot(alloc, &board, output)
+        }
+        Shown::Recording => write_recording(alloc, client.taken(), output),
+    }
+}

@@ -1,0 +1,9 @@
+use Rattle.std.proofs.Common.{refl}
+use Rattle.dp_tables.specs.declared.history_item.HistoryItem.TheVariants as item
+use Rattle.dp_tables.proofs.ResetLemmas.{holds-one}
+use Rattle.dp_tables.proofs.opening.Opening.add.Goals as goal
+
+pub returns : goal.returns
+returns c = λ journal history h.
+    holds-one journal c.args.self.now _ history (item.Server c.args.entry) c.args.entry h
+    c.in_ok-push.ensures.items refl tt (c.in_ok-note.ensures.stands history h.stands)

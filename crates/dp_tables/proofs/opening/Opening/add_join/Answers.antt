@@ -1,0 +1,18 @@
+use Rattle.std.proofs.Common.{◌≡◌, ◌++◌, ◌∷◌, [], sym, ap, subst, ◌∙◌, refl}
+use Rattle.dp_tables.specs.declared.history_item.HistoryItem.TheVariants as item
+use Rattle.dp_tables.specs.declared.opening.Opening.{Opening}
+use Rattle.dp_tables.specs.Openings.{Holds}
+use Rattle.dp_tables.specs.Tables.{entry_in}
+use Rattle.dp_tables.proofs.ResetLemmas.{holds-one, join-entries}
+use Rattle.dp_tables.proofs.opening.Opening.add_join.Goals as goal
+
+pub returns : goal.returns
+returns c = λ history live last h.
+    let journal = c.args.journal.now in
+    let i = item.Joined c.args.event c.args.user in
+    let new : Opening = record { live = c.push.new.self; rights = c.note.new.self } in
+    subst (λ es. Holds journal new (history ++ es))
+    (sym (join-entries journal live c.args.user c.args.event c.requires last))
+    (holds-one journal c.args.self.now new history i (entry_in journal i) h
+    c.in_ok-push.ensures.items refl c.requires
+    (rw c.in_ok-join.ensures at (c.in_ok-note.ensures.stands history h.stands)))

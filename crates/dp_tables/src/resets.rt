@@ -1,0 +1,163 @@
+//! Resets: who may send one, what becomes of its messages, and how it opens the next epoch.
+
+ghost use Rattle.std.specs.Prelude.{◌≡◌, ◌+◌, Some, false, is_some, IfOk};
+ghost use Rattle.std.specs.Option.{option_map_or};
+ghost use Rattle.dp_acl.specs.Opening.{opening, server_entry};
+ghost use Rattle.dp_messages.specs.declared.message.Msg.TheVariants as msg;
+ghost use Rattle.dp_epochs.specs.State.{
+  epoch_of,
+  fits_reset,
+  heard,
+  is_held_by_other,
+  part_bytes,
+  present_users,
+  reset_of,
+  sent_commands,
+  Stream,
+};
+ghost use Rattle.dp_msg_draw.specs.declared.draw.Draw.{Draw as Drawn};
+ghost use Rattle.dp_msg_meta.specs.declared.message.Meta.TheVariants.{ResetMark};
+ghost use Rattle.dp_msg_meta.specs.declared.message.Control.TheVariants.{ResetBegin, ResetEnd};
+ghost use Rattle.dp_tables.specs.Ledger.{state_in};
+ghost use Rattle.dp_tables.specs.Plans.{stream_left};
+ghost use Rattle.dp_tables.specs.Openings.{Holds};
+
+use crate::opening::Opening;
+use crate::plan::StreamChange;
+use crate::presence::present_ids;
+use crate::tables::Tables;
+use dp_epochs::{epochs_are_few, openings, present_users_rise};
+use dp_events::{Connection, Decision};
+use dp_messages::{Entry, Msg};
+use dp_msg_draw::Draw;
+use dp_msg_meta::Meta;
+use std::alloc::AllocError;
+
+/// The most commands of a reset.
+const PART_LIMIT: usize = 262_144;
+
+/// The most bytes that the payloads of its parts have.
+const BYTE_LIMIT: u64 = 1 << 28;
+
+/// How the reset changes where the connection of this number leaves: one that it sends is dropped.
+pub(crate) fn stream_left(conn: u32, owner: Option<u32>) -> StreamChange
+    ensures { result ≡ stream_left conn owner }
+{
+    match owner {
+        Some(owner) if owner == conn => StreamChange::Ends,
+        _ => StreamChange::Stays,
+    }
+}
+
+impl Tables {
+    /// Whether a connection other than this one, whose user is present and operator, sends a reset.
+    fn is_held_by_other(&self, conn: u32) -> bool
+        ensures { result ≡ option_map_or (is_held_by_other (state_in self.now) conn)
+            (state_in self.now).stream false }
+    {
+        match self.owner {
+            Some(owner) if owner != conn => match self.open_connection(owner) {
+                Some(other) => self.rights.is_operator(other.user),
+                None => false,
+            },
+            _ => false,
+        }
+    }
+
+    /// Whether the connection sends a reset, and its user is operator.
+    fn sends_reset(&self, conn: u32, connection: &Connection) -> bool
+        ensures { result ≡ is_some (reset_of (state_in self.now) conn connection.now) }
+    {
+        self.rights.is_operator(connection.user) && self.owner == Some(conn)
+    }
+
+    /// Whether the reset may have one more part, whose payload has this size.
+    fn fits_reset(&self, size: u64) -> bool
+        ensures { (stream : Stream) (command : Drawn) → (state_in self.now).stream ≡ Some stream
+            → size ≡ part_bytes command → result ≡ fits_reset stream.commands command }
+    {
+        self.parts.len() < PART_LIMIT && size <= BYTE_LIMIT - self.part_bytes
+    }
+
+    /// What becomes of a message that begins a reset.
+    pub(crate) fn hear_begin(&self, conn: u32, connection: &Connection) -> Decision
+        ensures { result ≡ heard (state_in self.now) conn connection.now
+            (msg.Control ResetBegin) }
+    {
+        if self.rights.is_operator(connection.user) && !self.is_held_by_other(conn) {
+            Decision::BeginReset
+        } else {
+            Decision::Filter
+        }
+    }
+
+    /// What becomes of a message that ends a reset.
+    pub(crate) fn hear_end(&self, conn: u32, connection: &Connection) -> Decision
+        ensures { result ≡ heard (state_in self.now) conn connection.now (msg.Control ResetEnd) }
+    {
+        if self.sends_reset(conn, connection) {
+            Decision::OpenEpoch
+        } else {
+            Decision::Filter
+        }
+    }
+
+    /// What becomes of a part of a reset, whose payload has this size.
+    pub(crate) fn hear_part(
+        &self,
+        conn: u32,
+        connection: &Connection,
+        command: &Draw,
+        size: u64,
+    ) -> Decision
+        requires { size ≡ part_bytes command.now }
+        ensures { result ≡ heard (state_in self.now) conn connection.now (msg.Part command.now) }
+    {
+        if !self.sends_reset(conn, connection) {
+            return Decision::Filter;
+        }
+        if self.fits_reset(size) {
+            Decision::AddPart
+        } else {
+            Decision::DropReset
+        }
+    }
+
+    /// The number of the epoch after the live one.
+    pub(crate) fn next_epoch(&self) -> u32
+        ensures { result ≡ epoch_of (state_in self.now) + 1 }
+    {
+        epochs_are_few();
+        self.epoch + 1
+    }
+
+    /// How the next epoch opens, with the commands of the reset that is being sent.
+    pub(crate) fn open_epoch(&self) -> Result<Opening, AllocError>
+        ensures { IfOk result (λ o. Holds self.now.journal o
+            (opening (epoch_of (state_in self.now) + 1) (state_in self.now).live
+            (present_users (state_in self.now)) (sent_commands (state_in self.now).stream))) }
+    {
+        openings();
+        present_users_rise();
+        let alloc = self.allocator();
+        let present = present_ids(alloc, &self.present)?;
+        let metas = self.rights.carry(&present)?;
+        let carried = present.as_slice().len() + metas.len() + self.parts.len();
+        let mut opening = Opening::new(alloc);
+        opening.add(mark(self.next_epoch(), carried as u32))?;
+        opening.add_joins(&self.journal, &self.opens, &self.present)?;
+        opening.add_metas(&metas)?;
+        opening.add_commands(&self.parts)?;
+        Ok(opening)
+    }
+}
+
+/// The mark of an epoch that opens with this number of entries after it.
+fn mark(epoch: u32, carried: u32) -> Entry
+    ensures { result ≡ server_entry (ResetMark epoch carried) }
+{
+    Entry {
+        user: 0,
+        msg: Msg::Meta(Meta::ResetMark { epoch, carried }),
+    }
+}
