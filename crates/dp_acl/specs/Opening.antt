@@ -22,8 +22,8 @@ abbrev pub last_join : List Entry → ℕ → Option Entry
 last_join history user =
     let joins = filter (is_join_of user) history in slice_get joins (length joins - 1)
 
--- What stands after the mark of a new epoch: the last Joins of the present users, what is carried of
--- the rights, and the commands of the reset.
+-- What stands after the mark of a new epoch: the last Joins of the present users, what is carried
+-- of the rights, and the commands of the reset.
 abbrev pub carried_entries : List Entry → List ℕ → List Draw → List Entry
 carried_entries history present commands =
     filter_map (last_join history) present

@@ -29,7 +29,8 @@ use Rattle.dp_app.specs.declared.ending.Ending.{Ending}
 use Rattle.dp_app.specs.declared.ending.Ending.TheVariants.{Usage, NoLink, NoWords, Run}
 use Rattle.dp_app.specs.Answer.{Answer, CommandLeaves, DueOf, HasHeadline, IsDue, IsGiven, Says}
 use Rattle.dp_app.specs.Answer.{SaysLine, SaysNoLink, SaysUsage, line_of, no_link_answer}
-use Rattle.dp_app.specs.Answer.{IsDuePicture, picture_answer, run_end_of, status_of, usage_answer, world_answer}
+use Rattle.dp_app.specs.Answer.{IsDuePicture, picture_answer, run_end_of, status_of, usage_answer}
+use Rattle.dp_app.specs.Answer.world_answer
 use Rattle.dp_app.specs.Commands.{AskForLink, AskForRun, Asks, IsCommand, Runs}
 use Rattle.dp_app.specs.Endings.{EndsCommand, EndsWords, Streams, Untouched, code_of, ending_line}
 
@@ -164,7 +165,8 @@ complete_ending words bytes s dold dnew status NoLink (command, asks, (runs, sam
     )
 complete_ending words bytes s dold dnew status NoWords same told read write memory code line =
     absurd (memory code)
-complete_ending words bytes s dold dnew status (Run end) (command, asks, (runs, leaves, blames)) told
+complete_ending words bytes s dold dnew status (Run end)
+    (command, asks, (runs, leaves, blames)) told
     read write memory code line =
     let due = complete_told bytes s.left s.old s.new dold dnew status command end
     (subst (λ (o : Option (List ℕ)). CommandLeaves command o s.left s.old s.new end) told leaves)
@@ -304,31 +306,39 @@ run_uncounted dold dnew input input_now output output_now before now status Writ
 run_uncounted dold dnew input input_now output output_now before now status _ b (inl says) h = b
 
 -- a fault that is reported was counted
-pub run_read_told : (dold dnew : Option (List ℕ)) (input input_now output output_now before now status :
+pub run_read_told : (dold dnew : Option (List ℕ)) (input input_now output output_now before now
+    status :
     ℕ) (end : RunEnd) →
     Blames input input_now output output_now end → Says dold dnew before now status end → status ≡ 3
     → Rose input input_now
 run_read_told dold dnew input input_now output output_now before now status end b (inr failed) h =
     absurd (omega (arith, failed.0, h))
-run_read_told dold dnew input input_now output output_now before now status ReadFault b (inl says) h =
+run_read_told dold dnew input input_now output output_now before now status ReadFault b
+    (inl says) h =
     b.0
-run_read_told dold dnew input input_now output output_now before now status _ b (inl says) h = absurd
+run_read_told dold dnew input input_now output output_now before now status _ b (inl says) h =
+    absurd
     (omega (arith, says.0, h))
 
-pub run_write_told : (dold dnew : Option (List ℕ)) (input input_now output output_now before now status
+pub run_write_told : (dold dnew : Option (List ℕ)) (input input_now output output_now before now
+    status
     : ℕ) (end : RunEnd) →
     Blames input input_now output output_now end → Says dold dnew before now status end → status ≡ 4
     →
     Rose output output_now ⊎ Rose before now
-run_write_told dold dnew input input_now output output_now before now status end b (inr failed) h = inr
+run_write_told dold dnew input input_now output output_now before now status end b (inr failed) h =
+    inr
     failed.1
-run_write_told dold dnew input input_now output output_now before now status WriteFault b (inl says) h =
+run_write_told dold dnew input input_now output output_now before now status WriteFault b
+    (inl says) h =
     inl b.1
-run_write_told dold dnew input input_now output output_now before now status _ b (inl says) h = absurd
+run_write_told dold dnew input input_now output output_now before now status _ b (inl says) h =
+    absurd
     (omega (arith, says.0, h))
 
 -- a status that is neither 0 nor 9
-pub neither : (status n : ℕ) → status ≡ n → (n ≡ 0 → ⊥) → (n ≡ 9 → ⊥) → (status ≡ 0) ⊎ (status ≡ 9) → ⊥
+pub neither : (status n : ℕ) → status ≡ n → (n ≡ 0 → ⊥) → (n ≡ 9 → ⊥) → (status ≡ 0) ⊎ (status ≡ 9)
+    → ⊥
 neither status n e zero nine (inl h) = zero (sym e ∙ h)
 neither status n e zero nine (inr h) = nine (sym e ∙ h)
 
@@ -339,7 +349,8 @@ picture_at_end : (way : Way) (told left old new : Option (List ℕ)) (end : RunE
 picture_at_end way told left old new Done l h = l.0
 picture_at_end way told left old new (Truncated n) l h = l.0
 picture_at_end way told left old new WriteFault l h = l.0
-picture_at_end way told left old new ReadFault l h = absurd (neither 3 3 refl (λ e. omega (arith, e))
+picture_at_end way told left old new ReadFault l h =
+    absurd (neither 3 3 refl (λ e. omega (arith, e))
     (λ e. omega (arith, e)) h)
 picture_at_end way told left old new Memory l h = absurd (neither 7 7 refl (λ e. omega (arith, e))
     (λ e. omega (arith, e)) h)

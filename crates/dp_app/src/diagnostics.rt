@@ -16,8 +16,8 @@ use itoa::Buffer;
 
 /// Says how the program ended, and answers its status: 4 where diag fails.
 pub(crate) fn say<E: Sink>(diag: &mut E, ending: Ending) -> u8
-    ensures says { SaysLine (code_of ending) (ending_line ending) (E.held diag.old) (E.held diag.new)
-        (E.faults diag.old) (E.faults diag.new) result }
+    ensures says { SaysLine (code_of ending) (ending_line ending)
+        (E.held diag.old) (E.held diag.new) (E.faults diag.old) (E.faults diag.new) result }
     ensures later { E.faults diag.old ≤ E.faults diag.new }
 {
     match put_ending(diag, ending) {

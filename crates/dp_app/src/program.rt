@@ -79,8 +79,8 @@ pub fn drawpile<I: Source, O: Sink, E: Sink, W: Wire + Drop, D: Ledger, T: Ledge
         result.status end }
 
     // `join` dials on the first wire, and ends in one of the ways of a run over a link: what the
-    // script and the link come to decides what is printed and what is written to the link. Or memory
-    // ran out before the words were read. The link is handed back, and other wires stay.
+    // script and the link come to decides what is printed and what is written to the link. Or
+    // memory ran out before the words were read. The link is handed back, and other wires stay.
     ensures joins { (addr name : List ℕ) → Asks words.now (Join addr name) → wires.items ≢ []
         → HasJoined W.links W.faults W.Rx.left W.Rx.faults W.Tx.held W.Tx.faults name
         wires.items result.wires.items (record {

@@ -300,7 +300,8 @@ pub reads_piece : (M : ℕ → FrameParts → Entry → Type 0) (input rest : Li
     → later.count ≡ old.count → later.first ≡ old.first → later.limit ≡ old.limit
     → IsTrue later.over ↔ (room_of old < length chunk)
     → HasRead M input (Some (chunk ++ rest)) entries old → HasRead M input (Some rest) entries later
-reads_piece M input rest entries old later chunk within none not_over few held at count first limit over
+reads_piece M input rest entries old later chunk within none not_over few held at count first limit
+    over
     h =
     let piece : List ℕ = take (room_of old) chunk in
     let cut : List ℕ = drop (room_of old) chunk in

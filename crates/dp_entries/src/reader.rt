@@ -87,8 +87,8 @@ impl<S: Standing> EntryReader<S> {
     ///
     /// # Errors
     ///
-    /// `ReadFault` where the input failed, `Truncated` where it ends inside a frame, `BadMessage` at
-    /// the first frame that may not stand, `Long` where more bytes than count were taken, and
+    /// `ReadFault` where the input failed, `Truncated` where it ends inside a frame, `BadMessage`
+    /// at the first frame that may not stand, `Long` where more bytes than count were taken, and
     /// `Memory` where memory ran out.
     pub fn next<I: Source>(
         &mut self,

@@ -6,7 +6,8 @@ use Rattle.std.proofs.Common.{refl, sym, ap, subst, ◌∙◌, ⊎_elim, arith, 
 use Rattle.std.specs.Prelude.{option_to_list}
 use Rattle.std.specs.List.{AllByRecursion, filter, filter_map, cons_option, range_with_len}
 use Rattle.std.specs.Option.{option_map}
-use Rattle.std.proofs.lemmas.Bool.{cond_both, cond-true, cond-false, cases_Bool, cases_eq, and_parts}
+use Rattle.std.proofs.lemmas.Bool.{cond_both, cond-true, cond-false, cases_Bool, cases_eq}
+use Rattle.std.proofs.lemmas.Bool.and_parts
 use Rattle.std.proofs.lemmas.Bool.{eq-eqb, ne_eqb, eqb-true}
 use Rattle.std.proofs.lemmas.List.{length-map}
 use Rattle.std.proofs.lemmas.List.Elements.{filter-append}
@@ -49,7 +50,8 @@ length-numbers : (n : ℕ) → length (numbers_below n) ≡ n
 unfolding numbers_below
 length-numbers n = length-range_with_len 0 n
 
-length-carried : (history : List Entry) (present : List ℕ) → length (carried history present) ≤ 65540
+length-carried : (history : List Entry) (present : List ℕ)
+    → length (carried history present) ≤ 65540
 length-carried history present =
     omega (
       arith,

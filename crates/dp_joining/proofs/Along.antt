@@ -1,5 +1,6 @@
 -- Lines one after the other, with the entries of a link.
-use Rattle.std.proofs.Common.{◌≡◌, ℕ, ◌+◌, ◌<◌, ◌≤◌, true, false, Bool, ◌||◌, if◌then◌else◌, List, []}
+use Rattle.std.proofs.Common.{◌≡◌, ℕ, ◌+◌, ◌<◌, ◌≤◌, true, false, Bool, ◌||◌, if◌then◌else◌, List}
+use Rattle.std.proofs.Common.[]
 use Rattle.std.proofs.Common.{◌∷◌, ◌++◌, length, take, drop, refl, sym, ap, ◌∙◌, arith, inl, inr}
 use Rattle.std.proofs.lemmas.Bool.{cases_lt}
 use Rattle.std.specs.Prelude.{nat_le}
@@ -78,7 +79,8 @@ along_turn action actions coming j =
     ≡ turn b action actions coming j) [ true ↦ refl | false ↦ refl ]
 
 -- a line that has enough entries
-pub along_enough : (action : JoinAction) (actions : List JoinAction) (coming : List Entry) (j : Joining)
+pub along_enough : (action : JoinAction) (actions : List JoinAction) (coming : List Entry)
+    (j : Joining)
     → asked_by action ≤ length coming
     → along (action ∷ actions) coming j ≡ along actions (drop (asked_by action) coming)
     (after_line action (take (asked_by action) coming) j)
@@ -88,7 +90,8 @@ along_enough action actions coming j enough =
     along_turn action actions coming j ∙ ap (λ b. turn b action actions coming j) test
 
 -- a line that has too few
-pub along_few : (action : JoinAction) (actions : List JoinAction) (coming : List Entry) (j : Joining)
+pub along_few : (action : JoinAction) (actions : List JoinAction) (coming : List Entry)
+    (j : Joining)
     → length coming < asked_by action
     → along (action ∷ actions) coming j
     ≡ Waits (after_line action coming j).text (after_line action coming j).written

@@ -1,5 +1,6 @@
 -- What a run leaves, from what its lines do.
-use Rattle.std.proofs.Common.{◌≡◌, ◌⊎◌, inl, inr, ℕ, ◌≤◌, false, List, [], ◌∷◌, ◌++◌, length, refl, sym}
+use Rattle.std.proofs.Common.{◌≡◌, ◌⊎◌, inl, inr, ℕ, ◌≤◌, false, List, [], ◌∷◌, ◌++◌, length, refl}
+use Rattle.std.proofs.Common.sym
 use Rattle.std.proofs.Common.{ap, ◌∙◌, subst, append_assoc, arith}
 use Rattle.std.specs.Prelude.{Option, Some, None, IfSome}
 use Rattle.std.specs.Option.{option_map_or}
@@ -148,7 +149,8 @@ module _ {M O D T : Type 0} (see : M → O → Seen) where
           → LinesComeTo IsJoinStep script_limit input done last
           → Appends (at now).written sent more
           → ((j : Joining) → (at now).client ≡ j.client
-          → script_outcome last j ≡ record { text = j.text; written = j.written ++ more; end = end })
+          → script_outcome last j
+          ≡ record { text = j.text; written = j.written ++ more; end = end })
           → (outcome : Outcome) × JoinComesTo name input bytes outcome × (outcome.end ≡ end)
           × Appends first.printed (at now).printed outcome.text
           × Appends first.written sent outcome.written
@@ -260,7 +262,8 @@ module _ {M O D T : Type 0} (see : M → O → Seen) where
           → IfSome input (λ bytes. LinesComeTo IsJoinStep script_limit bytes done last)
           → Appends (at now).written sent more
           → ((j : Joining) → (at now).client ≡ j.client
-          → script_outcome last j ≡ record { text = j.text; written = j.written ++ more; end = end })
+          → script_outcome last j
+          ≡ record { text = j.text; written = j.written ++ more; end = end })
           → WritesAll name over end
       all_of done last more end is has comes writes due =
           when_known input link (λ i l. (outcome : Outcome) × JoinComesTo name i l outcome
@@ -320,7 +323,8 @@ module _ {M O D T : Type 0} (see : M → O → Seen) where
                   end = run.Done;
                 }) (sym client)),
           )
-      says_farewell done before after end at_end is has comes (inr (inl (end_is, writes, rose, later)))
+      says_farewell done before after end at_end is has comes
+          (inr (inl (end_is, writes, rose, later)))
           =
           subst (JoinLeaves name over) (sym end_is)
           (some_of done (λ b. LinesComeTo IsJoinStep script_limit b done ends.AllDone)
@@ -540,7 +544,8 @@ module _ {M O D T : Type 0} (see : M → O → Seen) where
           (input, rose, read, same ∙ write)
       stop_blames stop.LinkFault input same (print, write, read, inl rose) =
           (input, print, inl (subst (Rose first.write_faults) (sym same) rose))
-      stop_blames stop.LinkFault input same (print, write, read, inr rose) = (input, print, inr rose)
+      stop_blames stop.LinkFault input same (print, write, read, inr rose) =
+          (input, print, inr rose)
       stop_blames stop.Memory input same faultless = (input, others_stay faultless same)
       stop_blames (stop.NoEntry why) input same faultless =
           link_blames why input (others_stay faultless same)
@@ -559,25 +564,29 @@ module _ {M O D T : Type 0} (see : M → O → Seen) where
           subst (BlamesJoin counted counts) (sym parts.end_is) (
             blames,
             others_stay
-                (has.goes first (newcomer (at start).client name) is.stands).stands.faultless parts.kept,
+                (has.goes first (newcomer (at start).client name) is.stands).stands.faultless
+                parts.kept,
           )
       blames_of input left link sent ReadFault user end is (done, has, took) blames parts =
           subst (BlamesJoin counted counts) (sym parts.end_is) (
             blames,
             others_stay
-                (has.goes first (newcomer (at start).client name) is.stands).stands.faultless parts.kept,
+                (has.goes first (newcomer (at start).client name) is.stands).stands.faultless
+                parts.kept,
           )
       blames_of input left link sent Long user end is (done, has, comes) blames parts =
           subst (BlamesJoin counted counts) (sym parts.end_is) (
             blames,
             others_stay
-                (has.goes first (newcomer (at start).client name) is.stands).stands.faultless parts.kept,
+                (has.goes first (newcomer (at start).client name) is.stands).stands.faultless
+                parts.kept,
           )
       blames_of input left link sent Memory user end is (done, has, front) blames parts =
           subst (BlamesJoin counted counts) (sym parts.end_is) (
             blames,
             others_stay
-                (has.goes first (newcomer (at start).client name) is.stands).stands.faultless parts.kept,
+                (has.goes first (newcomer (at start).client name) is.stands).stands.faultless
+                parts.kept,
           )
       blames_of input left link sent (Ended why) user end is (done, line, has, next) blames parts =
           subst (BlamesJoin counted counts) (sym parts.end_is)

@@ -1,5 +1,6 @@
 -- What a client prints and writes in a line.
-use Rattle.std.proofs.Common.{◌≡◌, ◌⊎◌, inl, inr, ℕ, ◌+◌, ◌≤◌, map, List, [], ◌∷◌, ◌++◌, length, refl, sym, ap}
+use Rattle.std.proofs.Common.{◌≡◌, ◌⊎◌, inl, inr, ℕ, ◌+◌, ◌≤◌, map, List, [], ◌∷◌, ◌++◌, length}
+use Rattle.std.proofs.Common.{refl, sym, ap}
 use Rattle.std.proofs.Common.{◌∙◌, subst, arith, Ok, Err, OnOk}
 use Rattle.std.specs.Prelude.{Option, IfErr}
 use Rattle.std.specs.declared.result.Result.{Result}
@@ -331,7 +332,8 @@ pub reset_bytes : (user : ℕ) (commands : List Draw)
     ≡ flat_map (sent_by user) (reset_messages commands)
 reset_bytes user commands =
     sym (ap (λ (t : List ℕ). sent_by user (msg.Control control.ResetBegin) ++ t)
-    (flat_map-append (sent_by user) (map (λ (op : Draw). msg.Part op) commands) (msg.Control control.ResetEnd ∷ [])
+    (flat_map-append (sent_by user) (map (λ (op : Draw). msg.Part op) commands)
+    (msg.Control control.ResetEnd ∷ [])
     ∙ ap (λ (t : List ℕ). t ++ flat_map (sent_by user) (msg.Control control.ResetEnd ∷ []))
     (flat_map-map (sent_by user) (λ (op : Draw). msg.Part op) commands)
     ∙ ap (λ (t : List ℕ). flat_map (λ command. sent_by user (msg.Part command)) commands ++ t)

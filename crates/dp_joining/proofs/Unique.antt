@@ -1,6 +1,8 @@
 -- A script and a link come to one outcome.
-use Rattle.std.proofs.Common.{◌≡◌, ◌⊎◌, inl, inr, ℕ, true, false, Bool, ◌||◌, if◌then◌else◌, List, []}
-use Rattle.std.proofs.Common.{◌∷◌, ◌++◌, length, take, drop, refl, sym, ap, ◌∙◌, subst, append_assoc}
+use Rattle.std.proofs.Common.{◌≡◌, ◌⊎◌, inl, inr, ℕ, true, false, Bool, ◌||◌, if◌then◌else◌, List}
+use Rattle.std.proofs.Common.[]
+use Rattle.std.proofs.Common.{◌∷◌, ◌++◌, length, take, drop, refl, sym, ap, ◌∙◌, subst}
+use Rattle.std.proofs.Common.append_assoc
 use Rattle.std.proofs.Common.{arith}
 use Rattle.std.specs.Prelude.{Option, Some, None, IsTrue}
 use Rattle.std.specs.Option.{option_map_or}
@@ -12,7 +14,8 @@ use Rattle.dp_messages.specs.declared.message.Msg.{Msg}
 use Rattle.dp_messages.specs.declared.message.Msg.TheVariants as msg
 use Rattle.dp_messages.specs.Properties.{is_disconnect}
 use Rattle.dp_schedule.specs.declared.join_action.JoinAction.{JoinAction}
-use Rattle.dp_joining.specs.Joining.{Joining, Went, Goes, Waits, after_line, along, asked_by, greeted}
+use Rattle.dp_joining.specs.Joining.{Joining, Went, Goes, Waits, after_line, along, asked_by}
+use Rattle.dp_joining.specs.Joining.greeted
 use Rattle.dp_joining.specs.Joining.{hello_bytes, is_closed, joined, takeable}
 use Rattle.dp_joining.specs.Linked.{is_ping}
 use Rattle.dp_joining.proofs.Along.{along_enough, along_few, along_more}
@@ -47,7 +50,8 @@ longer (e ∷ xs) ys =
 
 -- nothing more is taken of a list that is closed
 closed_by : (d p : Bool) (e : Entry) (xs ys : List Entry) → (d ≡ false → xs ≡ ys)
-    → (if d then [] else (if p then xs else e ∷ xs)) ≡ (if d then [] else (if p then ys else e ∷ ys))
+    → (if d then [] else (if p then xs else e ∷ xs))
+    ≡ (if d then [] else (if p then ys else e ∷ ys))
 closed_by true p e xs ys same = refl
 closed_by false true e xs ys same = same refl
 closed_by false false e xs ys same = ap (λ (r : List Entry). e ∷ r) (same refl)

@@ -1,5 +1,5 @@
--- What a client prints and writes over a link, by its name, the lines of its script, and the entries
--- that the link gives.
+-- What a client prints and writes over a link, by its name, the lines of its script, and the
+-- entries that the link gives.
 use Rattle.std.specs.Prelude.{ℕ, Bool, true, false, if◌then◌else◌, nat_le}
 use Rattle.std.specs.Prelude.{Option, None, Some, List, [], ◌∷◌, ◌++◌, length, take, drop}
 use Rattle.std.specs.Prelude.{codes, decimal}

@@ -15,7 +15,8 @@ use Rattle.dp_schedule.specs.declared.join_action.JoinAction.{JoinAction}
 use Rattle.dp_script.specs.Leaves.{HoldsLines, IsFrontOf}
 use Rattle.dp_script.specs.TakenParts.{TookWithin}
 use Rattle.dp_joining.specs.Greetings.{newcomer}
-use Rattle.dp_joining.specs.Joining.{Joining, Went, Goes, farewell_bytes, greeted, is_closed, joined}
+use Rattle.dp_joining.specs.Joining.{Joining, Went, Goes, farewell_bytes, greeted, is_closed}
+use Rattle.dp_joining.specs.Joining.joined
 use Rattle.dp_joining.specs.Outcomes.{AllAsk, BeginsWith, IsJoinStep, JoinComesTo, Outcome}
 use Rattle.dp_joining.specs.Outcomes.{script_limit}
 use Rattle.dp_joining.specs.Scripts.{went_text, went_written}
@@ -43,8 +44,8 @@ WritesAll name t end =
     × (outcome.end ≡ end) × Appends t.print_old t.print_now outcome.text
     × Appends t.sent_old t.sent_now outcome.written)
 
--- what is written after what lines write: nothing, or the Disconnect where they are all lines of the
--- script
+-- what is written after what lines write: nothing, or the Disconnect where they are all lines of
+-- the script
 abbrev pub IsParting : List ℕ → List Line → Went → List ℕ → Type 0
 IsParting input begun went parting =
     (parting ≡ [])

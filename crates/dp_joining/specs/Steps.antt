@@ -1,5 +1,6 @@
 -- How a client over a link goes on.
-use Rattle.std.specs.Prelude.{◌≡◌, ◌⊎◌, ℕ, ◌+◌, ◌<◌, ◌≤◌, false, IsTrue, List, [], ◌∷◌, ◌++◌, length, Option}
+use Rattle.std.specs.Prelude.{◌≡◌, ◌⊎◌, ℕ, ◌+◌, ◌<◌, ◌≤◌, false, IsTrue, List, [], ◌∷◌, ◌++◌}
+use Rattle.std.specs.Prelude.{length, Option}
 use Rattle.std.specs.Io.KnownBytes.{Appends}
 use Rattle.circular_buffer.specs.Buffer.{Buffer, buffer, keep_last}
 use Rattle.dp_client.specs.Client.{State}
@@ -19,8 +20,8 @@ use Rattle.dp_joining.specs.Outcomes.{BeginsWith, EndsLink, link_limit}
 
 -- ---- the link
 
--- what clauses see of the source of a link: its bytes that are left, where they are known, its count
--- of faults, and the reader of its entries
+-- what clauses see of the source of a link: its bytes that are left, where they are known, its
+-- count of faults, and the reader of its entries
 pub record Source : Type 0 where
   pub left : Option (List ℕ)
   pub faults : ℕ

@@ -34,16 +34,16 @@ pub struct Joined<R, S> {
     pub tx: S,
 }
 
-/// Greets the server at the other end of a link by a name of at most 32 bytes, and does the lines of
-/// a script, one after the other. What a line writes to the link is written before what it prints,
-/// and both before the next line is done. At the script's end it says that it leaves.
+/// Greets the server at the other end of a link by a name of at most 32 bytes, and does the lines
+/// of a script, one after the other. What a line writes to the link is written before what it
+/// prints, and both before the next line is done. At the script's end it says that it leaves.
 ///
 /// # Errors
 ///
 /// It ends with `BadLine` at the first line that asks for nothing, with `Closed`, `BadMessage` or
-/// `Long` where a line asks for an entry more than the link gives, with `Long` also where the script
-/// has more than 64 MiB, with `ReadFault`, `WriteFault` and `LinkFault` where the script, the output
-/// and the link failed, and with `Memory` where memory ran out.
+/// `Long` where a line asks for an entry more than the link gives, with `Long` also where the
+/// script has more than 64 MiB, with `ReadFault`, `WriteFault` and `LinkFault` where the script,
+/// the output and the link failed, and with `Memory` where memory ran out.
 ///
 /// The rule: docs/protocol.md, "Joining".
 pub fn join_link<I: Source, O: Sink, R: Source + Drop, S: Sink + Drop, D: Ledger, T: Ledger>(

@@ -17,8 +17,8 @@ use std::sync::ledger::Ledger;
 ///
 /// # Errors
 ///
-/// Where no link is given it ends with `LinkFault` or `Memory`, and nothing is read or written. Else
-/// it ends as `join_link`.
+/// Where no link is given it ends with `LinkFault` or `Memory`, and nothing is read or written.
+/// Else it ends as `join_link`.
 ///
 /// The rule: docs/protocol.md, "Joining".
 pub fn run_join<I: Source, O: Sink, W: Wire, D: Ledger, T: Ledger>(

@@ -70,7 +70,8 @@ module _ {X : Type 0} where
   pub layers_of-changed : (rows : List (Row X)) (id : ℕ) (change : LayerRow → LayerRow)
       → layers_of (rows_changed rows id change) ≡ map (change_row id change) (layers_of rows)
   layers_of-changed rows id change =
-      map-map (λ (r : Row X). r.layer) (λ (r : Row X). with_layer r (change_row id change r.layer)) rows
+      map-map (λ (r : Row X). r.layer) (λ (r : Row X). with_layer r (change_row id change r.layer))
+      rows
       ∙ sym (map-map (change_row id change) (λ (r : Row X). r.layer) rows)
 
   pub layers_of-deleted : (rows : List (Row X)) (id : ℕ)

@@ -1,6 +1,8 @@
 -- Messages that are said, and the bytes that spell them.
-use Rattle.std.proofs.Common.{◌≡◌, ◌↔◌, ◌⊎◌, ℕ, ◌+◌, ◌-◌, ◌<◌, ◌≤◌, Bool, true, false, IsTrue, IsFalse}
-use Rattle.std.proofs.Common.{List, [], ◌∷◌, ◌++◌, length, take, drop, Option, None, Some, Result, Ok}
+use Rattle.std.proofs.Common.{◌≡◌, ◌↔◌, ◌⊎◌, ℕ, ◌+◌, ◌-◌, ◌<◌, ◌≤◌, Bool, true, false, IsTrue}
+use Rattle.std.proofs.Common.IsFalse
+use Rattle.std.proofs.Common.{List, [], ◌∷◌, ◌++◌, length, take, drop, Option, None, Some, Result}
+use Rattle.std.proofs.Common.Ok
 use Rattle.std.proofs.Common.{Err, refl, sym, ap, subst, ◌∙◌, inl, inr, arith, append_assoc}
 use Rattle.std.proofs.Common.{append-nil, length-append}
 use Rattle.std.specs.Prelude.{IsErr}
@@ -181,7 +183,8 @@ says-one-held v w old new conn entry result taken says = record {
   says = says.acts.act ∷ [];
   heard = spell-one old.held new.held taken.0 entry.msg taken.1 taken.2.spelled;
   goes = says.acts.goes;
-  by = one-by conn entry.msg says.acts.act says.outcome old new result says.acts.is says.ends taken.3;
+  by = one-by conn entry.msg says.acts.act says.outcome old new result says.acts.is says.ends
+      taken.3;
 }
 
 pub shorter-held : (old new : Stream) (entry : Entry) → TakesMessage (Ok (Some entry)) old new

@@ -12,8 +12,8 @@ use crate::Greeting;
 use dp_events::Reply;
 use dp_io::{Failed, Sink, put_all};
 
-/// The bytes of a Welcome's frame: its length, its kind, the context 0, the version 1, the user, the
-/// epoch and the place.
+/// The bytes of a Welcome's frame: its length, its kind, the context 0, the version 1, the user,
+/// the epoch and the place.
 fn welcome_bytes(greeting: &Greeting) -> [u8; 15]
     ensures { result ≡ entry_bytes (welcome greeting.now) }
 {

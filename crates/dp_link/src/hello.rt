@@ -1,6 +1,7 @@
 //! A painter is greeted.
 
-ghost use Rattle.std.specs.Prelude.{◌≡◌, ◌≢◌, ◌+◌, ◌≤◌, [], false, None, Ok, Err, IfOk, OnOk, length};
+ghost use Rattle.std.specs.Prelude.{◌≡◌, ◌≢◌, ◌+◌, ◌≤◌, [], false, None, Ok, Err, IfOk, OnOk};
+ghost use Rattle.std.specs.Prelude.length;
 ghost use Rattle.std.specs.Io.KnownBytes.{IsAtEnd};
 ghost use Rattle.dp_hall.specs.Calls.{IsOf};
 ghost use Rattle.dp_link.specs.Bytes.{link_limit};
@@ -33,9 +34,9 @@ use std::sync::Wait;
 /// # Errors
 ///
 /// The link is done with then. `ReadFault`, `End` and `BadMessage` come before any act, and nothing
-/// is written. `Refused` carries the answer to the Open. After `WriteFault` a painter who had joined
-/// has left again, and a prefix of the answer was written. `Memory` comes before the Open, or where
-/// the Open was refused for it, and nothing is written.
+/// is written. `Refused` carries the answer to the Open. After `WriteFault` a painter who had
+/// joined has left again, and a prefix of the answer was written. `Memory` comes before the Open,
+/// or where the Open was refused for it, and nothing is written.
 pub fn greet<W: Wait, K: Keeper, R: Source, S: Sink, G: Gate>(
     rt: &W,
     alloc: Global,

@@ -49,8 +49,8 @@ fn pieces_do_not_matter(rt: HostRuntime) -> Result<(), Fail> {
     Ok(())
 }
 
-/// Each read fails in turn. Before the Hello is whole nothing is acted; after it the painter leaves,
-/// and gets what was placed.
+/// Each read fails in turn. Before the Hello is whole nothing is acted; after it the painter
+/// leaves, and gets what was placed.
 #[test]
 fn each_read_fails_in_turn(rt: HostRuntime) -> Result<(), Fail> {
     let alloc = rt.alloc();

@@ -57,7 +57,8 @@ draws_compare (PutTile layer col row repeat content) (PutTile layer' col' row' r
 draws_compare (Background color) (Background color') = grind arith
 draws_compare (DabsRound layer x y r g b mode dabs) (DabsRound layer' x' y' r' g' b' mode' dabs') =
     grind (arith, Decides-int_eq, dabs_compare dabs dabs')
-draws_compare (DabsSquare layer x y r g b mode dabs) (DabsSquare layer' x' y' r' g' b' mode' dabs') =
+draws_compare (DabsSquare layer x y r g b mode dabs) (DabsSquare layer' x' y' r' g' b' mode' dabs')
+    =
     grind (arith, Decides-int_eq, dabs_compare dabs dabs')
 draws_compare (MoveRect layer sx sy w h tx ty) (MoveRect layer' sx' sy' w' h' tx' ty') = grind
     (arith, Decides-int_eq)

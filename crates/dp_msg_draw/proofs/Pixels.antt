@@ -35,7 +35,8 @@ repeats_if_equal p (q ∷ qs) all =
       rest.0,
       ap (λ (r : TilePixel). pixel_bytes p ++ (pixel_bytes r ++ flat_map pixel_bytes qs))
           first ∙ ap (λ (b : List ℕ). pixel_bytes p ++ b) rest.1
-          ∙ ap (λ (r : TilePixel). pixel_bytes r ++ (flat_map pixel_bytes qs ++ rest.0)) (sym first),
+          ∙ ap (λ (r : TilePixel). pixel_bytes r ++ (flat_map pixel_bytes qs ++ rest.0))
+          (sym first),
     )
 
 -- whether the bytes after the first pixel are a prefix of all the bytes
@@ -82,7 +83,8 @@ not_all_equal {bytes = bytes} (p ∷ ps) some e f all =
     let again = repeats_if_equal p ps others in
     let whole : bytes ≡ after_first bytes ++ again.0 = e ∙ again.1
     ∙ ap (λ (b : List ℕ). b ++ again.0) (sym (after_first_is p ps e)) in
-    false≢true (sym f ∙ (starts_is Decides-eqb bytes (after_first bytes) (repeats bytes) refl).1 again.0
+    false≢true (sym f ∙ (starts_is Decides-eqb bytes (after_first bytes) (repeats bytes) refl).1
+    again.0
     whole)
 
 -- bytes that are 4096 pixels and don't repeat are a tile's

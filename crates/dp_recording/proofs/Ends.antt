@@ -42,7 +42,8 @@ two-ways input entries run.Closed x = inr x
 
 -- the laws of one header and of one reading
 abbrev pub OneHeader : Type 0
-OneHeader = (bytes : List ℕ) (len other : ℕ) → IsHeader bytes len → IsHeader bytes other → len ≡ other
+OneHeader = (bytes : List ℕ) (len other : ℕ) → IsHeader bytes len → IsHeader bytes other
+    → len ≡ other
 
 abbrev pub OneReading : {X : Type 0} → (List Entry → RunEnd → X) → Type 0
 OneReading {X} part = (first limit : ℕ) (input : List ℕ) (entries others : List Entry)

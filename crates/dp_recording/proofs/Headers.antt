@@ -15,7 +15,10 @@ take-past xs n long =
     sym (take_min n xs) ∙ ap (λ k. take k xs) all ∙ take-length xs
 
 not-below : (m n : ℕ) → (m < n → ⊥) → n ≤ m
-not-below m n never = elim (cases_lt m n) as (λ _. n ≤ m) [ inl lt ↦ absurd (never lt) | inr le ↦ le ]
+not-below m n never = elim (cases_lt m n) as (λ _. n ≤ m) [
+  | inl lt ↦ absurd (never lt)
+  | inr le ↦ le
+]
 
 -- ---- what is announced
 
@@ -25,7 +28,8 @@ byte bytes more k lt =
     get_or-drop 6 (bytes ++ more) k 0 ∙ get_or_append_left bytes more 0 (6 + k) lt
     ∙ sym (get_or-drop 6 bytes k 0)
 
-announced-same : (bytes more : List ℕ) → 8 ≤ length bytes → announced (bytes ++ more) ≡ announced bytes
+announced-same : (bytes more : List ℕ) → 8 ≤ length bytes
+    → announced (bytes ++ more) ≡ announced bytes
 announced-same bytes more long =
     ap₂ (λ a b. 8 + (a * 256 + (b * 1 + 0))) (byte bytes more 0 (omega arith))
     (byte bytes more 1 (omega arith))
@@ -36,7 +40,8 @@ six : (bytes more : List ℕ) → 6 ≤ length bytes → take 6 (bytes ++ more) 
 six bytes more long = take-append-le 6 bytes more long
 
 -- bytes that agree with the first six after more came agree as far as they go
-agree : (bytes more : List ℕ) → take 6 (bytes ++ more) ≡ magic → take 6 bytes ≡ take (length bytes) magic
+agree : (bytes more : List ℕ) → take 6 (bytes ++ more) ≡ magic
+    → take 6 bytes ≡ take (length bytes) magic
 agree bytes more begins = by (cases_lt (length bytes) 6)
   where
     by : (length bytes < 6) ⊎ (6 ≤ length bytes) → take 6 bytes ≡ take (length bytes) magic
@@ -45,7 +50,8 @@ agree bytes more begins = by (cases_lt (length bytes) 6)
         let rest = 6 - length bytes in
         let whole : length bytes + rest ≡ 6 = omega (arith, few) in
         let joined : magic ≡ bytes ++ take rest more =
-        sym begins ∙ ap (λ n. take n (bytes ++ more)) (sym whole) ∙ take-append-add bytes more rest in
+        sym begins ∙ ap (λ n. take n (bytes ++ more)) (sym whole)
+        ∙ take-append-add bytes more rest in
         take-past bytes 6 (omega (arith, few)) ∙ sym (take-append_seam bytes (take rest more))
         ∙ ap (take (length bytes)) (sym joined)
 
@@ -74,7 +80,8 @@ pub none-stays : (bytes more : List ℕ) → HasNoHeader bytes → (IsShort byte
     → HasNoHeader (bytes ++ more)
 none-stays bytes more none enough len h =
     let begins = agree bytes more h.begins in
-    let long : 8 ≤ length bytes = not-below _ _ (λ few. enough (record { begins = begins; few = inl few })) in
+    let long : 8 ≤ length bytes =
+    not-below _ _ (λ few. enough (record { begins = begins; few = inl few })) in
     let whole : announced bytes ≤ length bytes =
     not-below _ _ (λ few. enough (record { begins = begins; few = inr few })) in
     let same = announced-same bytes more long in
@@ -91,10 +98,11 @@ none-stays bytes more none enough len h =
 pub header-goes-past : (short more : List ℕ) (len : ℕ) → IsShort short
     → IsHeader (short ++ more) len
     → length short < len
-header-goes-past short more len few h = elim (cases_lt (length short) len) as (λ _. length short < len) [
-  | inl lt ↦ lt
-  | inr le ↦ absurd (short-none short few len (cut short more len le h))
-]
+header-goes-past short more len few h = elim (cases_lt (length short) len) as (λ _.
+    length short < len) [
+      | inl lt ↦ lt
+      | inr le ↦ absurd (short-none short few len (cut short more len le h))
+    ]
   where
     cut : (bytes more : List ℕ) (len : ℕ) → len ≤ length bytes → IsHeader (bytes ++ more) len
         → IsHeader bytes len

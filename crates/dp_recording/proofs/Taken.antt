@@ -1,5 +1,6 @@
 -- Bytes that are held of an input, before its header is whole.
-use Rattle.std.proofs.Common.{◌≡◌, ◌<◌, ◌≤◌, ℕ, List, [], ◌++◌, length, take, drop, Option, Some, None}
+use Rattle.std.proofs.Common.{◌≡◌, ◌<◌, ◌≤◌, ℕ, List, [], ◌++◌, length, take, drop, Option, Some}
+use Rattle.std.proofs.Common.None
 use Rattle.std.proofs.Common.{ap, arith, refl, subst, sym, ◌∙◌}
 use Rattle.std.proofs.lemmas.List.{append_assoc, length-append, length-drop, take-append-drop}
 use Rattle.std.specs.Io.KnownBytes.{Consumes}
@@ -19,7 +20,8 @@ pub reads-piece : (input : List ℕ) (left new : Option (List ℕ)) (held later 
 reads-piece input left new held later chunk short small joined consumes h =
     at-new new (subst (λ (o : Option (List ℕ)). Consumes o new chunk) h.left_is consumes)
   where
-    at-new : (new : Option (List ℕ)) → Consumes (Some h.untaken) new chunk → HoldsHeader input new later
+    at-new : (new : Option (List ℕ)) → Consumes (Some h.untaken) new chunk
+        → HoldsHeader input new later
     at-new None impossible = absurd impossible
     at-new (Some rest) taken = record {
       short = held;
@@ -39,17 +41,26 @@ pub rest-is-small : {input : List ℕ} {left : Option (List ℕ)} (held : List �
 rest-is-small held len header h =
     let past : length h.short < len =
     header-goes-past h.short h.piece len h.few (subst (λ t. IsHeader t len) h.split header) in
-    omega (arith, past, h.small, length-drop len held, ap length h.split, length-append h.short h.piece)
+    omega (
+      arith,
+      past,
+      h.small,
+      length-drop len held,
+      ap length h.split,
+      length-append h.short h.piece,
+    )
 
 -- the input is the header, and then the rest of what is held with what is left
-pub parts : {input : List ℕ} {left : Option (List ℕ)} (held : List ℕ) (len : ℕ) (h : HoldsHeader input left held)
+pub parts : {input : List ℕ} {left : Option (List ℕ)} (held : List ℕ) (len : ℕ)
+    (h : HoldsHeader input left held)
     → input ≡ take len held ++ (drop len held ++ h.untaken)
 parts held len h =
     h.whole ∙ ap (λ t. t ++ h.untaken) (sym (take-append-drop len held))
     ∙ append_assoc (take len held) (drop len held) h.untaken
 
 -- what was taken is too few bytes, and then a piece
-pub took-a-piece : {input : List ℕ} {left : Option (List ℕ)} {held : List ℕ} → HoldsHeader input left held
+pub took-a-piece : {input : List ℕ} {left : Option (List ℕ)} {held : List ℕ}
+    → HoldsHeader input left held
     → TookWithin IsShort 4096 input left
 took-a-piece h = record {
   taken = h.short;

@@ -1,5 +1,6 @@
 -- What a recording comes to, and what was read of one.
-use Rattle.std.specs.Prelude.{◌≡◌, ◌⊎◌, ◌≤◌, ℕ, ◌+◌, ◌-◌, ◌^◌, IsTrue, List, [], ◌++◌, length, Option, Some}
+use Rattle.std.specs.Prelude.{◌≡◌, ◌⊎◌, ◌≤◌, ℕ, ◌+◌, ◌-◌, ◌^◌, IsTrue, List, [], ◌++◌, length}
+use Rattle.std.specs.Prelude.{Option, Some}
 use Rattle.std.specs.Io.KnownBytes.{IsAtEnd}
 use Rattle.dp_io.specs.Faults.{Rose}
 use Rattle.dp_messages.specs.declared.message.Entry.{Entry}

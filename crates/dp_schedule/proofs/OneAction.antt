@@ -121,7 +121,8 @@ OneMessage =
     → m ≡ n
 
 -- a word spells one message
-pub one_spelled : OneMessage → (word : List ℕ) (m n : Msg) → HexSpells word m → HexSpells word n → m ≡ n
+pub one_spelled : OneMessage → (word : List ℕ) (m n : Msg) → HexSpells word m → HexSpells word n
+    → m ≡ n
 one_spelled law word m n first second =
     let digits = first.digits in
     let others = second.digits in

@@ -118,7 +118,8 @@ answers-own user at xs m may above =
 pub answers-one : (user at n : ℕ) (m : Msg) → may_answer m ≡ true → at < n
     → answers_from user at n (entry_of user m ∷ []) ≡ m ∷ []
 answers-one user at n m may above =
-    ap (λ b. (if b && may_answer m && nat_lt at n then m ∷ [] else []) ++ []) (eq-eqb user user refl)
+    ap (λ b. (if b && may_answer m && nat_lt at n then m ∷ [] else []) ++ [])
+    (eq-eqb user user refl)
     ∙ ap (λ b. (if true && b && nat_lt at n then m ∷ [] else []) ++ []) may
     ∙ ap (λ b. (if true && true && b then m ∷ [] else []) ++ []) (lt-ltb at n above)
 

@@ -465,7 +465,8 @@ here-took epoch live ready p t entry b of own h =
     record {
       base = omega (arith, stays, h.base);
       sent = h.sent;
-      sends = sends b ∙ h.sends ∙ sym (ap (λ ms. h.sent ++ due epoch ready ms) (append-nil p.uplink));
+      sends = sends b ∙ h.sends ∙ sym (ap (λ ms. h.sent ++ due epoch ready ms)
+          (append-nil p.uplink));
       answered = subst (λ n. Answer (answers_from c.user n 0 live) h.sent) (sym stays) h.answered;
       taken = counted b (answers_from c.user at 0 c.taken) h.taken ∙ sym (ap length push)
           ∙ sym (ap (λ n. length (answers_from c.user n 0 (c.taken ++ entry ∷ []))) stays);
@@ -967,7 +968,8 @@ holds-done laws number t Cut tally before people hp there may goes h =
 -- what holds of a client holds of it after its exchange
 pub holds-exchanged : Leading → (number : ℕ) (t : Exchange) (instruction : Instruction)
     (tally : Tally) → ShutBefore t.past
-    → HasPeople (state_of t.past) → IsParticipant (state_of t.past) number t.participant → IsSayable instruction
+    → HasPeople (state_of t.past) → IsParticipant (state_of t.past) number t.participant
+    → IsSayable instruction
     → NeverEnds (turn_replies t instruction)
     → Holds (state_of t.past) number t.participant tally
     → Holds (state_of (exchanged t instruction).past) number (exchanged t instruction).participant

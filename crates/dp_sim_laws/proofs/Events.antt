@@ -895,7 +895,8 @@ pub hears-say : Leading → (past : Past) (conn : ℕ) (m : Msg) (c : Connection
     → NotEnded past (event.Say conn m) → open_connection (state_of past) conn ≡ Some c → IsHigh m
     → Hears (state_of past) conn c m (state_of (sure_step past (event.Say conn m)))
 hears-say laws past conn m c before goes found high =
-    subst (Hears (state_of past) conn c m) (sym (step-kept laws past (event.Say conn m) before goes))
+    subst (Hears (state_of past) conn c m)
+    (sym (step-kept laws past (event.Say conn m) before goes))
     (hears-event (state_of past) conn c m found high)
 
 pub opens-open : Leading → (past : Past) (name : List ℕ) (registered : Bool) → ShutBefore past

@@ -145,9 +145,11 @@ module _ (s : State) (t : Seen) (are : AreOf s t) where
   -- no id is free
   pub plan-full : (name : List ℕ) (registered : Bool) → is_name name ≡ true
       → None ≡ find (λ user. not (mark t.present user)) user_ids
-      → IsPlan t.journal s (event.Open name registered) (still_plan (event.Open name registered) reply.Full)
+      → IsPlan t.journal s (event.Open name registered)
+      (still_plan (event.Open name registered) reply.Full)
   plan-full name registered named found =
-      plan-still t.journal s (event.Open name registered) reply.Full (opens name registered None named found)
+      plan-still t.journal s (event.Open name registered) reply.Full
+      (opens name registered None named found)
 
   plan-joins : (name : List ℕ) (registered : Bool) (user : ℕ) (second : Option Entry)
       → is_name name ≡ true → Some user ≡ find (λ id. not (mark t.present id)) user_ids

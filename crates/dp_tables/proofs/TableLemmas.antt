@@ -224,7 +224,8 @@ pub sent-in : (owner : Option ℕ) (commands : List Draw) (stream : Stream)
     → stream.commands ≡ commands
 sent-in None commands stream is = cc
 sent-in (Some conn) commands stream is =
-    let same : ◌≡◌ {A = Stream} (record { owner = conn; commands = commands; place = None }) stream =
+    let same : ◌≡◌ {A = Stream} (record { owner = conn; commands = commands; place = None }) stream
+    =
     cc in
     sym (ap (λ x. x.commands) same)
 
@@ -304,7 +305,8 @@ module _ (sent : Option Stream) (journal : List Event) (owner : Option ℕ) (par
       let new : slice_get later (length journal) ≡ Some e = last_there journal e in
       let part : part_of (slice_get later (length journal)) ≡ Some growth.fitting.command =
       ap part_of new ∙ ap (λ x. part_of (Some x)) came in
-      let all : commands_in later (parts ++ length journal ∷ []) ≡ commands ++ growth.fitting.command ∷ [] =
+      let all : commands_in later (parts ++ length journal ∷ []) ≡ commands
+      ++ growth.fitting.command ∷ [] =
       filter_map-append (λ k. part_of (slice_get later k)) parts (length journal ∷ [])
       ∙ ap (λ xs. xs ++ commands_in later (length journal ∷ [])) commands-after
       ∙ ap (λ o. commands ++ cons_option o []) part in
@@ -314,7 +316,8 @@ module _ (sent : Option Stream) (journal : List Event) (owner : Option ℕ) (par
       (nat_le (sum_by part_bytes growth.fitting.stream.commands + part_bytes growth.fitting.command)
       reset_byte_limit) growth.fitting.fits in
       let count = ltb-true (length growth.fitting.stream.commands) part_limit room.0 in
-      let fits = leb-true (sum_by part_bytes growth.fitting.stream.commands + part_bytes growth.fitting.command)
+      let fits = leb-true (sum_by part_bytes growth.fitting.stream.commands + part_bytes
+      growth.fitting.command)
       reset_byte_limit room.1 in
       record {
         stream = ap (λ list. option_map (λ conn. record {
@@ -520,7 +523,8 @@ module _ (s : State) (t : Seen) (are : AreOf s t) where
           → IsJoinedBy (t.journal ++ e ∷ []) (after_event s e).live user (length t.journal)
       joined-now user new =
           let join = entry_of user (msg.Meta (Join new.registered new.name)) in
-          let found : join_of user (slice_get (t.journal ++ e ∷ []) (length t.journal)) ≡ Some join =
+          let found : join_of user (slice_get (t.journal ++ e ∷ []) (length t.journal)) ≡ Some join
+          =
           ap (join_of user) (last_there t.journal e ∙ ap Some new.came)
           ∙ ap (λ b. if b then Some join else None) new.named in
           record {
@@ -737,7 +741,8 @@ pub record IsKept (old : Inside) (plan : Plan) (row_length : ℕ) (new : Inside)
   pub parts : new.parts.items ≡ parts_after (length old.journal.items) plan.stream old.parts.items
   pub part_bytes : new.part_bytes ≡ bytes_after (row_length - 6) plan.stream old.part_bytes
 
-pub row-length : (conn : ℕ) (m : Msg) → length (row_of (event.Say conn m)) ≡ 6 + length (payload_of m)
+pub row-length : (conn : ℕ) (m : Msg) → length (row_of (event.Say conn m)) ≡ 6 + length
+    (payload_of m)
 row-length conn m = omega (arith, length-append {A = ℕ})
 
 -- the payload of a part has six bytes less than its row
@@ -791,7 +796,8 @@ tables-kept leads joins old new plan row_length are is row room keeps =
     ∙ leads (past_in (ledger_of old)) e are.before in
     record {
       of = subst (λ x. AreOf x (seen new)) (sym state_is) (subst (AreOf (after_event s e))
-          (sym seen_is) (AreOf-kept s (seen old) are.of (joins s) plan new.rights (row_length - 6) is
+          (sym seen_is) (AreOf-kept s (seen old) are.of (joins s) plan new.rights
+          (row_length - 6) is
           keeps.stands (size-is s e plan.stream row_length row)));
       before = subst (λ x. All (λ (y : ShutAt). y.n ≤ length new.journal.items) x) (sym keeps.shut)
           (λ k d lt. omega (arith, are.before k d lt, more, ap length keeps.journal));

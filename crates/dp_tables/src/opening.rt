@@ -1,6 +1,7 @@
 //! How the next epoch opens: its history so far, and the rights after that.
 
-ghost use Rattle.std.specs.Prelude.{◌≡◌, ◌≤◌, ◌++◌, ◌∷◌, [], ℕ, List, Bool, true, is_some, map, All};
+ghost use Rattle.std.specs.Prelude.{◌≡◌, ◌≤◌, ◌++◌, ◌∷◌, [], ℕ, List, Bool, true, is_some, map};
+ghost use Rattle.std.specs.Prelude.All;
 ghost use Rattle.std.specs.Prelude.{OnOk, slice_get, slice_index_or};
 ghost use Rattle.std.specs.List.{filter, filter_map};
 ghost use Rattle.dp_messages.specs.declared.message.Entry.{Entry as Piece};
@@ -104,7 +105,8 @@ impl Opening {
     pub(crate) fn add_commands(&mut self, parts: &[u32]) -> Result<(), AllocError>
         ensures { OnOk result ((journal : List Kept) (history : List Piece)
             → All (IsPart journal) parts.now → Holds journal self.old history
-            → Holds journal self.new (history ++ map command_entry (commands_in journal parts.now))) }
+            → Holds journal self.new
+            (history ++ map command_entry (commands_in journal parts.now))) }
     {
         commands_change_no_right();
         for part in parts {

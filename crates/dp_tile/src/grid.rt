@@ -135,8 +135,8 @@ impl Grid {
         self.cells.put(self.alloc, place, slot)
     }
 
-    /// Makes the tile at a column and a row this grid's alone, so that a `paint` of it takes no memory
-    /// while the grid isn't shared. It makes at most one tile, and the pixels stay.
+    /// Makes the tile at a column and a row this grid's alone, so that a `paint` of it takes no
+    /// memory while the grid isn't shared. It makes at most one tile, and the pixels stay.
     pub fn own<T: Ledger>(
         &mut self,
         col: u32,

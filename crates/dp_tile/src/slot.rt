@@ -93,7 +93,8 @@ impl Slot {
         }
     }
 
-    // Makes the tile this slot's alone: a new one where there is none, a copy where others have it too.
+    // Makes the tile this slot's alone: a new one where there is none, a copy where others have it
+    // too.
     pub(crate) fn own<T: Ledger>(
         &mut self,
         alloc: Global,

@@ -18,8 +18,8 @@ pub const SIDE: usize = 64;
 /// How many pixels a tile has.
 const COUNT: usize = SIDE * SIDE;
 
-/// A square of 64 by 64 pixels. It is seen as their list, row by row from the top, each row from the
-/// left.
+/// A square of 64 by 64 pixels. It is seen as their list, row by row from the top, each row from
+/// the left.
 #[derive(Drop)]
 pub struct Tile {
     pixels: Vec<Pixel>,

@@ -58,7 +58,8 @@ shown_leaves way told left old new before now entries end result h r at
     subst (λ (x : RunEnd). PictureLeaves way told left old new x) (sym e) keeps
 
 -- reading to the end raised no count
-kept_to_end : (way : Way) (before now : ℕ) (end : RunEnd) → BlamesReading way before now end → ReadsToEnd end
+kept_to_end : (way : Way) (before now : ℕ) (end : RunEnd) → BlamesReading way before now end
+    → ReadsToEnd end
     → now ≡ before
 kept_to_end way before now Done b r = b
 kept_to_end way before now (Truncated n) b r = b
@@ -80,7 +81,8 @@ pub shown_blames : (way : Way) (old new : Option (List ℕ)) (input input_now ou
 shown_blames way old new input input_now output output_now entries end result b r
     (inl (e, appends, kept)) =
     subst (λ (x : RunEnd). Blames input input_now output output_now x) (sym e)
-    (end_blames input input_now output output_now end r (kept_to_end way input input_now end b r) kept)
+    (end_blames input input_now output output_now end r (kept_to_end way input input_now end b r)
+    kept)
 shown_blames way old new input input_now output output_now entries end result b r
     (inr (inl (e, part, rose))) =
     subst (λ (x : RunEnd). Blames input input_now output output_now x) (sym e)

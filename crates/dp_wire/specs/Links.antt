@@ -40,4 +40,5 @@ module _ {R T E : Type 0} where
 
 -- what done does: the link stands after those that came back before
 abbrev pub GivesBack : {R T : Type 0} → Option (Links R T) → R → T → Option (Links R T) → Type 0
-GivesBack old rx tx new = WhereKnown old (λ a b. b ≡ record a { back = a.back ++ (rx, tx) ∷ [] }) new
+GivesBack old rx tx new = WhereKnown old (λ a b. b ≡ record a { back = a.back ++ (rx, tx) ∷ [] })
+    new

@@ -1,5 +1,6 @@
 -- What a command of a name can ask for.
-use Rattle.std.proofs.Common.{◌≡◌, ◌<◌, ℕ, zero, suc, ◌+◌, List, [], ◌∷◌, Option, Some, None, IfNone, ap, ap₂, arith, codes, decimal, length, refl}
+use Rattle.std.proofs.Common.{◌≡◌, ◌<◌, ℕ, zero, suc, ◌+◌, List, [], ◌∷◌, Option, Some, None}
+use Rattle.std.proofs.Common.{IfNone, ap, ap₂, arith, codes, decimal, length, refl}
 use Rattle.std.proofs.Common.{slice_index, subst, sym, ◌∙◌}
 use Rattle.std.proofs.lemmas.Fmt.{first_decimal}
 use Rattle.std.specs.Fmt.{digits}
@@ -78,7 +79,8 @@ one-in one (Some entered) a b x y =
 -- ---- words that ask for nothing
 
 -- what asks for nothing where the matches stand asks for nothing by the words
-pub none-asked : (words : List Text) (entered : Option (Text × List Row)) (line : Option CommandLine)
+pub none-asked : (words : List Text) (entered : Option (Text × List Row))
+    (line : Option CommandLine)
     → entered ≡ subcommand_of program words
     → IfNone line ((other : CommandLine) → AsksIn entered other → ⊥)
     → IfNone line (IsCommandLine words → ⊥)
@@ -87,7 +89,8 @@ none-asked words entered None same none =
 none-asked words entered (Some line) same none = none
 
 -- words in which a fault is found are no command line
-pub faulty : (words : List Text) (n : ℕ) → length (fault_of program words) ≡ n + 1 → IsCommandLine words → ⊥
+pub faulty : (words : List Text) (n : ℕ) → length (fault_of program words) ≡ n + 1
+    → IsCommandLine words → ⊥
 faulty words n found asked =
     let none : length (fault_of program words) ≡ 0 = ap length asked.1.0 in
     absurd (omega (arith, found, none))
@@ -100,7 +103,8 @@ plus rest zero is =
     absurd (omega (arith, first-byte text))
 plus rest (suc n) is =
     let first : 43 ≡ slice_index (decimal (suc n)) 0 = first-byte is.text in
-    let low : 48 < slice_index (decimal (suc n)) 0 = first_decimal (suc n) (omega arith) (omega (arith, is.fits)) in
+    let low : 48 < slice_index (decimal (suc n)) 0 =
+    first_decimal (suc n) (omega arith) (omega (arith, is.fits)) in
     absurd (omega (arith, first, low))
 
 no-plus-at : (rest : Text) (at : Option ℕ) → HasAt (Some (43 ∷ rest)) at → ⊥
@@ -113,7 +117,8 @@ signed : (rows : List Row) (rest : Text) → first_of (codes "at") rows ≡ Some
 signed rows rest e Replay x = absurd (omega (arith, begins (codes "play") rows Replay x))
 signed rows rest e World x = absurd (omega (arith, begins (codes "play") rows World x))
 signed rows rest e (Play at) x = no-plus-at rest at (subst (λ o. HasAt o at) e x.1)
-signed rows rest e (Join addr user) x = absurd (omega (arith, begins (codes "play") rows (Join addr user) x))
+signed rows rest e (Join addr user) x =
+    absurd (omega (arith, begins (codes "play") rows (Join addr user) x))
 
 pub signed-words : (words : List Text) (rows : List Row) (rest : Text)
     → subcommand_of program words ≡ Some (codes "play", rows)

@@ -1,6 +1,7 @@
 //! Reading a command line.
 
-ghost use Rattle.std.specs.Prelude.{◌≡◌, codes, map, option_map, string_bytes, IfOk, IfSome, IfNone};
+ghost use Rattle.std.specs.Prelude.{◌≡◌, codes, map, option_map, string_bytes, IfOk, IfSome};
+ghost use Rattle.std.specs.Prelude.IfNone;
 ghost use Rattle.clap.specs.Words.{first_of, found_of, rows_of, subcommand_rows_of};
 ghost use Rattle.dp_words.specs.declared.command_line.CommandLine.{CommandLine};
 ghost use Rattle.dp_words.specs.CommandLines.{AsksBy, AsksFor, AsksIn, IsCommandLine};
@@ -18,7 +19,8 @@ use std::alloc::{AllocError, Global};
 /// line; so are words that ask for help.
 pub fn read_words(alloc: Global, words: &[String]) -> Result<Option<CommandLine>, AllocError>
     ensures some { IfOk result (λ line. IfSome line (AsksFor (map string_bytes words.now))) }
-    ensures none { IfOk result (λ line. IfNone line (¬ IsCommandLine (map string_bytes words.now))) }
+    ensures none { IfOk result (λ line. IfNone line
+        (¬ IsCommandLine (map string_bytes words.now))) }
 {
     match program_of(alloc)?.try_get_matches_from(words) {
         Ok(matches) => line_of(alloc, &matches),

@@ -79,7 +79,8 @@ begun_due one bytes old now begun done actions end (comes, asked) =
     let front = front_of_done bytes begun.begun begun.behind done end begun.parts first.steps comes
     in
     let asked_whole = subst (λ (ls : List Line). AskFor ls actions) front.1 asked in
-    let begins = asked_front one begun.begun front.0 first.actions actions first.asked asked_whole in
+    let begins = asked_front one begun.begun front.0 first.actions actions first.asked
+    asked_whole in
     let reports : report actions ≡ report first.actions ++ along printed (world_after first.actions)
     begins.rest =
     ap report begins.whole ∙ report-append first.actions begins.rest in

@@ -26,7 +26,8 @@ returns-clause-leaves g c = λ name link first welcome is.
 
 pub returns-clause-blames : goal.returns-clause-blames
 returns-clause-blames g c = λ name link first welcome is.
-    rw c.leave-end.ensures.source (blames_of (seen g.R.Source.left g.R.Source.faults g.S.Sink.held g.S.Sink.faults g.O.Sink.held
+    rw c.leave-end.ensures.source (blames_of (seen g.R.Source.left g.R.Source.faults g.S.Sink.held
+    g.S.Sink.faults g.O.Sink.held
     g.O.Sink.faults) name first welcome
     (moment c.args.joiner c.args.output.now c.args.draws.now c.args.tiles.now)
     (moment c.run_lines-ended.new.machine c.run_lines-ended.new.output

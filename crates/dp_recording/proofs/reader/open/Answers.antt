@@ -18,7 +18,8 @@ pub returns-in-Err-Bad-clause-ends : goal.returns-in-Err-Bad-clause-ends
 returns-in-Err-Bad-clause-ends g c = λ bytes e.
     let h = c.pieces.invariant.0 bytes e in
     let held = c.as_slice.result.now in
-    let bad : IsRefused held Bad = subst (IsRefused held) c.in-Err-Bad.field-0-is c.in-Err-Bad.ensures.refused in
+    let bad : IsRefused held Bad = subst (IsRefused held) c.in-Err-Bad.field-0-is
+    c.in-Err-Bad.ensures.refused in
     let none = subst (λ t. HasNoHeader (t ++ h.untaken)) c.as_slice.ensures.value
     (none-stays held h.untaken bad.0 bad.1) in
     (subst HasNoHeader (sym h.whole) none, took-a-piece h)

@@ -9,16 +9,21 @@ use Rattle.dp_showing.proofs.snapshot.write_lines.Goals as goal
 pub loop-command-preserved : goal.loop-command-preserved
 loop-command-preserved g c = record {
   text =
-      written_more snapshot_line (g.O.Sink.held c.args.output.now) (g.O.Sink.held c.loop-command.output)
-      (g.O.Sink.held c.write_line.new.output) c.args.commands.now c.loop-command.command-index c.command-item.result
-      (omega arith) c.command-item.is c.loop-command.invariant.text c.in_ok-write_line.ensures.written;
+      written_more snapshot_line (g.O.Sink.held c.args.output.now)
+      (g.O.Sink.held c.loop-command.output)
+      (g.O.Sink.held c.write_line.new.output) c.args.commands.now c.loop-command.command-index
+      c.command-item.result
+      (omega arith) c.command-item.is c.loop-command.invariant.text
+      c.in_ok-write_line.ensures.written;
   kept = c.in_ok-write_line.ensures.cause.kept ∙ c.loop-command.invariant.kept;
 }
 
 pub returns-in_err-write_line-clause-prefix : goal.returns-in_err-write_line-clause-prefix
 returns-in_err-write_line-clause-prefix g c =
-    written_part snapshot_line (g.O.Sink.held c.args.output.now) (g.O.Sink.held c.loop-command.output)
-    (g.O.Sink.held c.write_line.new.output) c.args.commands.now c.loop-command.command-index c.command-item.result
+    written_part snapshot_line (g.O.Sink.held c.args.output.now)
+    (g.O.Sink.held c.loop-command.output)
+    (g.O.Sink.held c.write_line.new.output) c.args.commands.now c.loop-command.command-index
+    c.command-item.result
     (omega arith) c.command-item.is c.loop-command.invariant.text c.in_err-write_line.ensures.prefix
 
 pub returns-clause-prefix : goal.returns-clause-prefix

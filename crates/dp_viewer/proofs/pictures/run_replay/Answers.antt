@@ -22,7 +22,8 @@ returns-then-reads_to_end-clause-leaves g c =
 
 pub returns-then-reads_to_end-clause-blames : goal.returns-then-reads_to_end-clause-blames
 returns-then-reads_to_end-clause-blames g c =
-    shown_blames replay_way (g.O.Sink.held c.args.output.now) (g.O.Sink.held c.write_shown.new.output)
+    shown_blames replay_way (g.O.Sink.held c.args.output.now)
+    (g.O.Sink.held c.write_shown.new.output)
     (g.I.Source.faults c.args.input.now) (g.I.Source.faults c.read_frames-entries.new.input)
     (g.O.Sink.faults c.args.output.now) (g.O.Sink.faults c.write_shown.new.output)
     c.deref.result.now c.read_frames-entries.result.end c.write_shown.result

@@ -11,8 +11,10 @@ pub returns : goal.returns
 returns c =
     let replay = ap top_of c.new.ensures.app in
     let world = ap top_of c.new-2.ensures.app in
-    let one = c.in_ok-subcommand.ensures.shape c.new.ensures.local ∙ ap₂ with_subcommand c.bare_of.ensures replay in
-    let two = c.in_ok-subcommand-2.ensures.shape c.new-2.ensures.local ∙ ap₂ with_subcommand one world in
+    let one = c.in_ok-subcommand.ensures.shape c.new.ensures.local
+    ∙ ap₂ with_subcommand c.bare_of.ensures replay in
+    let two = c.in_ok-subcommand-2.ensures.shape c.new-2.ensures.local
+    ∙ ap₂ with_subcommand one world in
     let three = c.in_ok-subcommand-3.ensures.shape c.in_ok-play_of.ensures.plain
     ∙ ap₂ with_subcommand two (ap top_of c.in_ok-play_of.ensures.app) in
     IfOk-weaker c.subcommand-4.result _ _

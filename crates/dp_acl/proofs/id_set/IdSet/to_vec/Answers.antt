@@ -13,7 +13,8 @@ loop-number-preserved c =
     let n = c.loop-number.number in
     elim c.if-contains.branch [
       | then-contains+in_ok-push w ↦ rw w.ids-is
-          (filter-numbers_yes p n c.loop-number.ids.items w.push.new.self.items c.loop-number.invariant
+          (filter-numbers_yes p n c.loop-number.ids.items w.push.new.self.items
+          c.loop-number.invariant
           (sym c.contains.ensures ∙ w.if-contains.true) w.in_ok-push.ensures.items)
       | else-contains w ↦ rw w.ids-is
           (filter-numbers_no p n c.loop-number.ids.items c.loop-number.invariant

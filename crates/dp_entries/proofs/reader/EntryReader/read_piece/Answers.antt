@@ -17,7 +17,8 @@ returns-in-Err-clause-ends g c = λ bytes entries h.
     (g.I.Source.left c.args.input.now) (g.I.Source.left c.read.new.self) entries c.args.self.now
     c.requires.within c.requires.none
     (λ over. false≢true
-    (sym c.if-self.false ∙ ap (λ (r : Reader). r.over) c.self.view_is ∙ over)) c.in-Err.ensures.bytes h
+    (sym c.if-self.false ∙ ap (λ (r : Reader). r.over) c.self.view_is ∙ over))
+    c.in-Err.ensures.bytes h
 
 pub returns-then-count-eq0-clause-read : goal.returns-then-count-eq0-clause-read
 returns-then-count-eq0-clause-read g c = λ bytes entries h.

@@ -42,7 +42,8 @@ pub returns-in-Confirmed-clause-ok : goal.returns-in-Confirmed-clause-ok
 returns-in-Confirmed-clause-ok g c =
     let see = seen g.R.Source.left g.R.Source.faults g.S.Sink.held g.S.Sink.faults g.O.Sink.held
     g.O.Sink.faults in
-    rw c.in-Confirmed.is (ok_alone c.show-in-Confirmed.result (see c.args.self.now c.args.output.now)
+    rw c.in-Confirmed.is (ok_alone c.show-in-Confirmed.result
+    (see c.args.self.now c.args.output.now)
     (see c.args.self.now c.show-in-Confirmed.new.output) Confirmed refl c.requires.ready
     refl c.show-in-Confirmed.ensures.ok)
 
@@ -50,7 +51,8 @@ pub returns-in-Confirmed-clause-err : goal.returns-in-Confirmed-clause-err
 returns-in-Confirmed-clause-err g c =
     let see = seen g.R.Source.left g.R.Source.faults g.S.Sink.held g.S.Sink.faults g.O.Sink.held
     g.O.Sink.faults in
-    rw c.in-Confirmed.is (err_alone c.show-in-Confirmed.result (see c.args.self.now c.args.output.now)
+    rw c.in-Confirmed.is (err_alone c.show-in-Confirmed.result
+    (see c.args.self.now c.args.output.now)
     (see c.args.self.now c.show-in-Confirmed.new.output) Confirmed c.requires.ready
     c.show-in-Confirmed.ensures.err)
 
@@ -77,7 +79,8 @@ returns-in-Reset-clause-ok g c =
     rw c.in-Reset.is (ok_alone c.reset.result (see c.args.self.now c.args.output.now)
     (see c.reset.new.self c.reset.new.output) Reset refl c.requires.ready
     (source_same g.R.Source.left g.R.Source.faults c.args.self.now.reader c.reset.new.self.reader
-    c.args.self.now.rx c.reset.new.self.rx c.reset.ensures.reader c.reset.ensures.rx) c.reset.ensures.ok)
+    c.args.self.now.rx c.reset.new.self.rx c.reset.ensures.reader c.reset.ensures.rx)
+    c.reset.ensures.ok)
 
 pub returns-in-Reset-clause-err : goal.returns-in-Reset-clause-err
 returns-in-Reset-clause-err g c =

@@ -7,7 +7,8 @@ use Rattle.dp_joining.proofs.machine.JoinerLineMachineStepsSteps.do_line.Goals a
 pub returns-in_err-action-clause-refused : goal.returns-in_err-action-clause-refused
 returns-in_err-action-clause-refused g c =
     let p = err_from_is_err_and c.from_residual.result c.from_residual.ensures.1 in
-    rw (p.1, p.2) (refused_by (seen g.R.Source.left g.R.Source.faults g.S.Sink.held g.S.Sink.faults g.O.Sink.held
+    rw (p.1, p.2) (refused_by (seen g.R.Source.left g.R.Source.faults g.S.Sink.held g.S.Sink.faults
+    g.O.Sink.held
     g.O.Sink.faults)
     (moment c.args.self.now c.args.output.now c.args.draws.now c.args.tiles.now)
     c.args.line.now c.in_err-action.field-0.0 c.in_err-action.ensures.refused)
@@ -15,7 +16,8 @@ returns-in_err-action-clause-refused g c =
 pub returns-in_err-action-clause-kept : goal.returns-in_err-action-clause-kept
 returns-in_err-action-clause-kept g c =
     let p = err_from_is_err_and c.from_residual.result c.from_residual.ensures.1 in
-    rw (p.1, p.2) (kept_by (seen g.R.Source.left g.R.Source.faults g.S.Sink.held g.S.Sink.faults g.O.Sink.held
+    rw (p.1, p.2) (kept_by (seen g.R.Source.left g.R.Source.faults g.S.Sink.held g.S.Sink.faults
+    g.O.Sink.held
     g.O.Sink.faults)
     (moment c.args.self.now c.args.output.now c.args.draws.now c.args.tiles.now)
     c.in_err-action.field-0.0)
@@ -23,7 +25,8 @@ returns-in_err-action-clause-kept g c =
 pub returns-in_err-action-clause-ended : goal.returns-in_err-action-clause-ended
 returns-in_err-action-clause-ended g c =
     let p = err_from_is_err_and c.from_residual.result c.from_residual.ensures.1 in
-    rw (p.1, p.2) (ran_out_by (seen g.R.Source.left g.R.Source.faults g.S.Sink.held g.S.Sink.faults g.O.Sink.held
+    rw (p.1, p.2) (ran_out_by (seen g.R.Source.left g.R.Source.faults g.S.Sink.held g.S.Sink.faults
+    g.O.Sink.held
     g.O.Sink.faults)
     (moment c.args.self.now c.args.output.now c.args.draws.now c.args.tiles.now)
     c.args.line.now c.in_err-action.field-0.0 c.in_err-action.ensures.refused)

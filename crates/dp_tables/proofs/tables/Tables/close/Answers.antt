@@ -23,7 +23,8 @@ invariant_of-self c =
       live = refl;
       rights = refl;
       present = c.make.ensures.present;
-      opens = c.make.ensures.opens ∙ ap (λ x. opens_after c.len-n.result x t.opens) c.shut_change-change.ensures
+      opens = c.make.ensures.opens ∙ ap (λ x. opens_after c.len-n.result x t.opens)
+          c.shut_change-change.ensures
           ∙ shut-opens c.len-n.result conn (open_in c.deref.result.now conn) t.opens;
       owner = refl;
       parts = refl;

@@ -25,7 +25,10 @@ invariant_of-self c =
     let stream = c.args.ready.plan.stream in
     let row = ap length c.as_slice.ensures ∙ ap (λ r. length r.bytes) is.row in
     tables-kept c.steps_lead_on.ensures.kept
-    (λ s. record { present = c.joins_stay.ensures.present s; joined = c.joins_stay.ensures.joined s })
+    (λ s. record {
+      present = c.joins_stay.ensures.present s;
+      joined = c.joins_stay.ensures.joined s;
+    })
     t _ c.args.ready.plan _ c.self.invariant
     is.plan row is.room (record {
       journal = c.place.ensures.journal;
