@@ -30,7 +30,7 @@ use Rattle.dp_app.specs.declared.ending.Ending.TheVariants.{Usage, NoLink, NoWor
 use Rattle.dp_app.specs.Answer.{Answer, CommandLeaves, DueOf, HasHeadline, IsDue, IsGiven, Says}
 use Rattle.dp_app.specs.Answer.{SaysLine, SaysNoLink, SaysUsage, line_of, no_link_answer}
 use Rattle.dp_app.specs.Answer.{IsDuePicture, picture_answer, run_end_of, status_of, usage_answer}
-use Rattle.dp_app.specs.Answer.world_answer
+use Rattle.dp_app.specs.Answer.{world_answer}
 use Rattle.dp_app.specs.Commands.{AskForLink, AskForRun, Asks, IsCommand, Runs}
 use Rattle.dp_app.specs.Endings.{EndsCommand, EndsWords, Streams, Untouched, code_of, ending_line}
 

@@ -1,6 +1,6 @@
 -- Lines that ask for no entry.
 use Rattle.std.proofs.Common.{◌≡◌, ℕ, ◌≤◌, List, [], ◌∷◌, ◌++◌, length, refl, sym, ap, ◌∙◌, subst}
-use Rattle.std.proofs.Common.arith
+use Rattle.std.proofs.Common.{arith}
 use Rattle.std.proofs.Common.{Ok, Err, OnOk}
 use Rattle.std.specs.Prelude.{Option, IfErr}
 use Rattle.std.specs.declared.result.Result.{Result}

@@ -1,6 +1,6 @@
 -- Entries that are taken one after the other.
 use Rattle.std.proofs.Common.{◌≡◌, ℕ, ◌+◌, ◌<◌, ◌≤◌, Bool, true, false, if◌then◌else◌, List, []}
-use Rattle.std.proofs.Common.◌∷◌
+use Rattle.std.proofs.Common.{◌∷◌}
 use Rattle.std.proofs.Common.{◌++◌, length, refl, sym, ap, ◌∙◌, subst, arith, length-append}
 use Rattle.std.specs.Prelude.{Option}
 use Rattle.std.specs.List.{fold}

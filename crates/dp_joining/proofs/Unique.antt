@@ -1,8 +1,8 @@
 -- A script and a link come to one outcome.
 use Rattle.std.proofs.Common.{◌≡◌, ◌⊎◌, inl, inr, ℕ, true, false, Bool, ◌||◌, if◌then◌else◌, List}
-use Rattle.std.proofs.Common.[]
+use Rattle.std.proofs.Common.{[]}
 use Rattle.std.proofs.Common.{◌∷◌, ◌++◌, length, take, drop, refl, sym, ap, ◌∙◌, subst}
-use Rattle.std.proofs.Common.append_assoc
+use Rattle.std.proofs.Common.{append_assoc}
 use Rattle.std.proofs.Common.{arith}
 use Rattle.std.specs.Prelude.{Option, Some, None, IsTrue}
 use Rattle.std.specs.Option.{option_map_or}
@@ -15,7 +15,7 @@ use Rattle.dp_messages.specs.declared.message.Msg.TheVariants as msg
 use Rattle.dp_messages.specs.Properties.{is_disconnect}
 use Rattle.dp_schedule.specs.declared.join_action.JoinAction.{JoinAction}
 use Rattle.dp_joining.specs.Joining.{Joining, Went, Goes, Waits, after_line, along, asked_by}
-use Rattle.dp_joining.specs.Joining.greeted
+use Rattle.dp_joining.specs.Joining.{greeted}
 use Rattle.dp_joining.specs.Joining.{hello_bytes, is_closed, joined, takeable}
 use Rattle.dp_joining.specs.Linked.{is_ping}
 use Rattle.dp_joining.proofs.Along.{along_enough, along_few, along_more}

@@ -22,14 +22,14 @@ use Rattle.dp_joining.specs.declared.stops.JoinStop.{JoinStop}
 use Rattle.dp_joining.specs.declared.stops.JoinStop.TheVariants.{WriteFault, LinkFault, Memory}
 use Rattle.dp_joining.specs.declared.stops.JoinStop.TheVariants.{NoEntry}
 use Rattle.dp_joining.specs.Greetings.{BlamesGreeting, GreetingFails, NoWelcome, Welcomes}
-use Rattle.dp_joining.specs.Greetings.WroteHello
+use Rattle.dp_joining.specs.Greetings.{WroteHello}
 use Rattle.dp_joining.specs.Greetings.{newcomer}
 use Rattle.dp_joining.specs.Joining.{Joining, Waits, along, greeted, hello_bytes, is_closed, joined}
 use Rattle.dp_joining.specs.Joining.{takeable}
 use Rattle.dp_joining.specs.Linked.{StandsOnLink, is_ping, is_welcome}
 use Rattle.dp_joining.specs.Outcomes.{BeginsWith, EndsLink}
 use Rattle.dp_joining.specs.Steps.{BlamesReading, BlamesWriting, Gave, GivesNone, IsReadable}
-use Rattle.dp_joining.specs.Steps.ReadsOn
+use Rattle.dp_joining.specs.Steps.{ReadsOn}
 use Rattle.dp_joining.specs.Steps.{ReadsUpTo, Shows, Source}
 use Rattle.dp_joining.proofs.Along.{either_false}
 use Rattle.dp_joining.proofs.Moving.{grows_not}

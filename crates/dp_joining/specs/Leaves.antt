@@ -16,7 +16,7 @@ use Rattle.dp_script.specs.Leaves.{HoldsLines, IsFrontOf}
 use Rattle.dp_script.specs.TakenParts.{TookWithin}
 use Rattle.dp_joining.specs.Greetings.{newcomer}
 use Rattle.dp_joining.specs.Joining.{Joining, Went, Goes, farewell_bytes, greeted, is_closed}
-use Rattle.dp_joining.specs.Joining.joined
+use Rattle.dp_joining.specs.Joining.{joined}
 use Rattle.dp_joining.specs.Outcomes.{AllAsk, BeginsWith, IsJoinStep, JoinComesTo, Outcome}
 use Rattle.dp_joining.specs.Outcomes.{script_limit}
 use Rattle.dp_joining.specs.Scripts.{went_text, went_written}

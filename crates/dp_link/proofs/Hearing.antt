@@ -1,8 +1,8 @@
 -- Messages that are said, and the bytes that spell them.
 use Rattle.std.proofs.Common.{◌≡◌, ◌↔◌, ◌⊎◌, ℕ, ◌+◌, ◌-◌, ◌<◌, ◌≤◌, Bool, true, false, IsTrue}
-use Rattle.std.proofs.Common.IsFalse
+use Rattle.std.proofs.Common.{IsFalse}
 use Rattle.std.proofs.Common.{List, [], ◌∷◌, ◌++◌, length, take, drop, Option, None, Some, Result}
-use Rattle.std.proofs.Common.Ok
+use Rattle.std.proofs.Common.{Ok}
 use Rattle.std.proofs.Common.{Err, refl, sym, ap, subst, ◌∙◌, inl, inr, arith, append_assoc}
 use Rattle.std.proofs.Common.{append-nil, length-append}
 use Rattle.std.specs.Prelude.{IsErr}

@@ -1,8 +1,8 @@
 -- Pages of a feed.
 use Rattle.std.proofs.Common.{◌≡◌, ◌⊎◌, ℕ, ◌+◌, ◌≤◌, List, [], ◌∷◌, ◌++◌, length, Option, None}
-use Rattle.std.proofs.Common.Some
+use Rattle.std.proofs.Common.{Some}
 use Rattle.std.proofs.Common.{Result, Ok, Err, refl, sym, ap, subst, ◌∙◌, inl, inr, append-nil}
-use Rattle.std.proofs.Common.arith
+use Rattle.std.proofs.Common.{arith}
 use Rattle.std.proofs.Common.{append_assoc}
 use Rattle.std.specs.Io.KnownBytes.{Appends}
 use Rattle.dp_io.specs.Streams.{GrowsByPrefix}
@@ -28,7 +28,7 @@ use Rattle.dp_link.specs.Acts.{Act, SeatView}
 use Rattle.dp_link.specs.Sending.{session_of, frames_of, Sends, SentTo, SendsPage, WritesPage}
 use Rattle.dp_link.specs.Sending.{TookBy}
 use Rattle.dp_link.proofs.PageLemmas.{appends-none, appends-then, grows-all, grows-then}
-use Rattle.dp_link.proofs.PageLemmas.frames-then
+use Rattle.dp_link.proofs.PageLemmas.{frames-then}
 
 -- ---- what a seat has seen
 

@@ -7,7 +7,7 @@ ghost use Rattle.dp_hall.specs.Laws.{Continues};
 ghost use Rattle.dp_epochs.specs.Laws.{ShutBefore};
 ghost use Rattle.dp_session_laws.specs.Logs.{HasOpened};
 ghost use Rattle.dp_link.specs.Sending.{Sends, SentTo, SendsPage, WritesPage, BlamesDown};
-ghost use Rattle.dp_link.specs.Sending.BlamesPage;
+ghost use Rattle.dp_link.specs.Sending.{BlamesPage};
 ghost use Rattle.dp_link.specs.Sending.{session_of};
 
 use crate::pages::{Cursor, PAGE, put_page};

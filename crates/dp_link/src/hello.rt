@@ -1,7 +1,7 @@
 //! A painter is greeted.
 
 ghost use Rattle.std.specs.Prelude.{◌≡◌, ◌≢◌, ◌+◌, ◌≤◌, [], false, None, Ok, Err, IfOk, OnOk};
-ghost use Rattle.std.specs.Prelude.length;
+ghost use Rattle.std.specs.Prelude.{length};
 ghost use Rattle.std.specs.Io.KnownBytes.{IsAtEnd};
 ghost use Rattle.dp_hall.specs.Calls.{IsOf};
 ghost use Rattle.dp_link.specs.Bytes.{link_limit};

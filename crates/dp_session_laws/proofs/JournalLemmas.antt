@@ -1,7 +1,7 @@
 -- The journal has the events of a log that are kept.
 use Rattle.std.proofs.Common.{◌≡◌, ◌⊎◌, ℕ, Bool, true, false, if◌then◌else◌, List, [], ◌∷◌, ◌++◌}
 use Rattle.std.proofs.Common.{Option, None, Some, Result, Ok, Err, refl, sym, ap, subst, ◌∙◌, inl}
-use Rattle.std.proofs.Common.inr
+use Rattle.std.proofs.Common.{inr}
 use Rattle.std.proofs.Common.{append-nil, append_assoc}
 use Rattle.std.specs.Prelude.{MatchBool}
 use Rattle.dp_io.specs.Faults.{Rose}
@@ -17,7 +17,7 @@ use Rattle.dp_epochs.specs.Effects.{Effect, Nothing, TakesUp, Placed, Filtered, 
 use Rattle.dp_epochs.specs.Effects.{Began, Added, Dropped, Reopened}
 use Rattle.dp_epochs.specs.Effects.{EventsHaveEffects, IsEffect, IsStill, answer_of}
 use Rattle.dp_epochs.specs.Past.{Past, Step, Serves, Accepts, FailsFirst, Refuses, quieted}
-use Rattle.dp_epochs.specs.Past.state_of
+use Rattle.dp_epochs.specs.Past.{state_of}
 use Rattle.dp_session_laws.specs.Logs.{Outcome, Act, IsSessionLog}
 use Rattle.dp_session_laws.specs.Journals.{is_kept, kept_events, HasBroken}
 

@@ -13,7 +13,7 @@ use Rattle.dp_recording.specs.Headers.{header_bytes}
 use Rattle.dp_client.specs.Client.{State, confirmed, view}
 use Rattle.dp_showing.specs.declared.showing.Shown.{Shown}
 use Rattle.dp_showing.specs.declared.showing.Shown.TheVariants.{View, Confirmed, Snapshot}
-use Rattle.dp_showing.specs.declared.showing.Shown.TheVariants.Recording
+use Rattle.dp_showing.specs.declared.showing.Shown.TheVariants.{Recording}
 
 -- the frame of an entry, in hexadecimal
 abbrev pub hex_frame : Entry → List ℕ

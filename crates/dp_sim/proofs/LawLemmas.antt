@@ -1,6 +1,6 @@
 -- What one event leaves of a session: no history loses an entry, and connections stay open.
 use Rattle.std.proofs.Common.{◌≡◌, ℕ, ◌+◌, ◌-◌, ◌≤◌, Bool, true, false, if◌then◌else◌, List, []}
-use Rattle.std.proofs.Common.◌∷◌
+use Rattle.std.proofs.Common.{◌∷◌}
 use Rattle.std.proofs.Common.{◌++◌, length, All, arith}
 use Rattle.std.proofs.Common.{Some, is_some, refl, sym, ap, subst, ◌∙◌, ⊎_elim}
 use Rattle.std.proofs.Common.{append-nil, append_assoc, length-append}

@@ -1,7 +1,7 @@
 -- Tests of the numbers of a range.
 use Rattle.std.proofs.Common.{◌≡◌, ℕ, zero, suc, ◌+◌, ◌<◌, ◌≤◌, Bool, true, false, ◌&&◌, ◌||◌, cond}
 use Rattle.std.proofs.Common.{List, [], ◌∷◌, ◌++◌, None, Some, is_some, refl, sym, ap, ◌∙◌, ⊎_elim}
-use Rattle.std.proofs.Common.arith
+use Rattle.std.proofs.Common.{arith}
 use Rattle.std.specs.List.{find, filter, list_any, range_with_len}
 use Rattle.std.proofs.lemmas.Bool.{cases_lt, cases_Bool, cases_eq, eq-eqb, ne_eqb}
 use Rattle.dp_acl.specs.LookBack.{lists}

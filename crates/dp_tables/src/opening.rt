@@ -1,7 +1,7 @@
 //! How the next epoch opens: its history so far, and the rights after that.
 
 ghost use Rattle.std.specs.Prelude.{◌≡◌, ◌≤◌, ◌++◌, ◌∷◌, [], ℕ, List, Bool, true, is_some, map};
-ghost use Rattle.std.specs.Prelude.All;
+ghost use Rattle.std.specs.Prelude.{All};
 ghost use Rattle.std.specs.Prelude.{OnOk, slice_get, slice_index_or};
 ghost use Rattle.std.specs.List.{filter, filter_map};
 ghost use Rattle.dp_messages.specs.declared.message.Entry.{Entry as Piece};

@@ -1,7 +1,7 @@
 //! Reading a command line.
 
 ghost use Rattle.std.specs.Prelude.{◌≡◌, codes, map, option_map, string_bytes, IfOk, IfSome};
-ghost use Rattle.std.specs.Prelude.IfNone;
+ghost use Rattle.std.specs.Prelude.{IfNone};
 ghost use Rattle.clap.specs.Words.{first_of, found_of, rows_of, subcommand_rows_of};
 ghost use Rattle.dp_words.specs.declared.command_line.CommandLine.{CommandLine};
 ghost use Rattle.dp_words.specs.CommandLines.{AsksBy, AsksFor, AsksIn, IsCommandLine};
