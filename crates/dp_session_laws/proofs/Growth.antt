@@ -1,20 +1,17 @@
 -- The state of a session grows by each step of a log, and a feed stays one.
-use Rattle.std.proofs.Common.{◌≡◌, ◌⊎◌, ℕ, zero, suc, ◌+◌, ◌-◌, ◌<◌, ◌≤◌, Bool, true, false, not}
+use Rattle.std.proofs.Common.{◌≡◌, ◌⊎◌, ℕ, ◌-◌, ◌≤◌, Bool, true, false, not}
 use Rattle.std.proofs.Common.{if◌then◌else◌, List, [], ◌∷◌, ◌++◌, length, All, Option, None, Some}
-use Rattle.std.proofs.Common.{Result, Ok, Err}
+use Rattle.std.proofs.Common.{Ok, Err}
 use Rattle.std.proofs.Common.{refl, sym, ap, subst, ◌∙◌, ⊎_elim, inl, inr, arith, append_assoc}
 use Rattle.std.proofs.Common.{append-nil, length-append}
 use Rattle.std.specs.Prelude.{slice_set, slice_index_or, MatchBool}
 use Rattle.std.specs.Option.{option_map_or}
-use Rattle.std.specs.List.{AllByRecursion}
-use Rattle.std.specs.declared.alloc.AllocError.{AllocError}
 use Rattle.std.proofs.lemmas.Bool.{cases_eq, cases_Bool}
 use Rattle.std.proofs.lemmas.List.Elements.{All-weaker, All-push}
 use mathlib.Core.List.{IsPrefix}
 use Rattle.dp_lists.specs.Numbered.{numbered}
-use Rattle.dp_lists.proofs.Options.{cases_option}
 use Rattle.dp_lists.proofs.Numbered.{number-found, numbered-other, numbered-same, numbered-old}
-use Rattle.dp_hall.specs.Logs.{IsLegal, left_by}
+use Rattle.dp_hall.specs.Logs.{left_by}
 use Rattle.dp_messages.specs.declared.message.Entry.{Entry}
 use Rattle.dp_events.specs.Connections.{is_open, is_ended}
 use Rattle.dp_events.specs.declared.connection.Place.{Place}
@@ -28,13 +25,13 @@ use Rattle.dp_events.specs.declared.event.Reply.TheVariants.{Ended}
 use Rattle.dp_events.specs.declared.event.ShutAt.{ShutAt}
 use Rattle.dp_events.specs.Rows.{has_room}
 use Rattle.dp_epochs.specs.State.{State, epoch_of, here, history_of, connection_of, open_connection}
-use Rattle.dp_epochs.specs.State.{where_open, with_connection, new_connection, acted, noted}
-use Rattle.dp_epochs.specs.State.{after_event, after_shut}
+use Rattle.dp_epochs.specs.State.{where_open, with_connection, new_connection, noted}
+use Rattle.dp_epochs.specs.State.{after_event}
 use Rattle.dp_epochs.specs.Effects.{Began, Added, Dropped, Reopened}
 use Rattle.dp_epochs.specs.Effects.{Effect, Nothing, TakesUp, Placed, Filtered, Joined, Left, made}
-use Rattle.dp_epochs.specs.Effects.{connections_after, IsEffect, HasEffect, EventsHaveEffects}
+use Rattle.dp_epochs.specs.Effects.{connections_after, IsEffect, EventsHaveEffects}
 use Rattle.dp_epochs.specs.Past.{Past, Step, Serves, Accepts, FailsFirst, Refuses, kept, refused}
-use Rattle.dp_epochs.specs.Past.{quieted, shut_with, state_of, state_after}
+use Rattle.dp_epochs.specs.Past.{quieted, state_of, state_after}
 use Rattle.dp_epochs.specs.Laws.{Continues, ShutBefore, shut_by}
 use Rattle.dp_session_laws.specs.Growing.{IsAfter, EndsLater, ConnectionLater, GrowsInto}
 use Rattle.dp_session_laws.specs.Logs.{Outcome, Act, IsSessionLog}

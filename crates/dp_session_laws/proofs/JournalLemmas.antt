@@ -1,6 +1,6 @@
 -- The journal has the events of a log that are kept.
 use Rattle.std.proofs.Common.{◌≡◌, ◌⊎◌, ℕ, Bool, true, false, if◌then◌else◌, List, [], ◌∷◌, ◌++◌}
-use Rattle.std.proofs.Common.{Option, None, Some, Result, Ok, Err, refl, sym, ap, subst, ◌∙◌, inl}
+use Rattle.std.proofs.Common.{Option, None, Some, Ok, Err, refl, sym, ap, subst, ◌∙◌, inl}
 use Rattle.std.proofs.Common.{inr}
 use Rattle.std.proofs.Common.{append-nil, append_assoc}
 use Rattle.std.specs.Prelude.{MatchBool}
@@ -46,7 +46,7 @@ effect-kept s e (Added conn c stream command) cause = refl
 effect-kept s e (Dropped conn c command) cause = refl
 effect-kept s e (Reopened conn c commands) cause = refl
 
-own-kept : EventsHaveEffects → (s : State) (e : Event) → is_kept (Ok (acted s e).reply) ≡ true
+pub own-kept : EventsHaveEffects → (s : State) (e : Event) → is_kept (Ok (acted s e).reply) ≡ true
 own-kept effects s e =
     let h = effects s e in
     ap (λ a. is_kept (Ok a.reply)) h.made ∙ effect-kept s e h.effect h.cause
@@ -165,31 +165,34 @@ quiet-same old (event.Open name registered) = (refl, refl)
 quiet-same old (event.Say conn m) = (refl, refl)
 quiet-same old (event.Close conn) = (refl, refl)
 
-broken-step : (old : Past) (e : Event) (outcome : Outcome) (new : Past) (k : ℕ)
+pub broken-step : (old : Past) (e : Event) (outcome : Outcome) (new : Past) (k : ℕ)
     → old.first_fault ≡ Some k → Step old e outcome new
-    → (new.first_fault ≡ Some k) × (new.count ≡ old.count)
+    → (new.first_fault ≡ Some k) × (new.count ≡ old.count) × (new.journal ≡ old.journal)
 broken-step old e (Ok answer) new k broken h =
     let refuses : Serves (Some k) old e answer new =
     subst (λ b. Serves b old e answer new) broken h in (
       ap (λ (p : Past). p.first_fault) refuses.after ∙ broken,
       ap (λ (p : Past). p.count) refuses.after,
+      ap (λ (p : Past). p.journal) refuses.after,
     )
 broken-step old e (Err error) new k broken h = (
   ap (λ (p : Past). p.first_fault) h ∙ (quiet-same old e).0 ∙ broken,
   ap (λ (p : Past). p.count) h ∙ (quiet-same old e).1,
+  ap (λ (p : Past). p.journal) h ∙ quiet-adds old e,
 )
 
-broken-log : (old : Past) (log : List Act) (k : ℕ) → old.first_fault ≡ Some k
+pub broken-log : (old : Past) (log : List Act) (k : ℕ) → old.first_fault ≡ Some k
     → IsSessionLog old log
     → ((left_by old log).first_fault ≡ Some k) × ((left_by old log).count ≡ old.count)
-broken-log old [] k broken legal = (broken, refl)
+    × ((left_by old log).journal ≡ old.journal)
+broken-log old [] k broken legal = (broken, refl, refl)
 broken-log old (act ∷ log) k broken legal =
     let step = broken-step old act.event act.outcome act.left k broken legal.0 in
     let rest = broken-log act.left log k step.0 legal.1 in
-    (rest.0, rest.1 ∙ step.1)
+    (rest.0, rest.1 ∙ step.1, rest.2 ∙ step.2)
 
 -- what a step of a session leaves in which no put has failed: the same, or a first fault
-data Sound (old : Past) (outcome : Outcome) (new : Past) : Type 0 where
+pub data Sound (old : Past) (outcome : Outcome) (new : Past) : Type 0 where
   Same : new.first_fault ≡ None → new.count ≡ old.count
       → ((k : ℕ) → outcome ≡ Ok (reply.StoreFault k) → ⊥) → Sound old outcome new
   First : (k : ℕ) → new.first_fault ≡ Some k → Rose old.count new.count → Sound old outcome new
@@ -221,7 +224,7 @@ sound-served effects old e answer new none h = by_room (has_room old.journal e) 
         let wrong : reply.Ended ≡ reply.StoreFault k = sym refuses.reply ∙ said in
         cc)
 
-sound-step : EventsHaveEffects → (old : Past) (e : Event) (outcome : Outcome) (new : Past)
+pub sound-step : EventsHaveEffects → (old : Past) (e : Event) (outcome : Outcome) (new : Past)
     → old.first_fault ≡ None → Step old e outcome new → Sound old outcome new
 sound-step effects old e (Ok answer) new none h =
     sound-served effects old e answer new none

@@ -2,3 +2,8 @@ pub mod Growth
 pub mod JournalLemmas
 pub mod Openings
 pub mod Pulls
+pub mod Steps
+pub mod Given
+pub mod Replies
+pub mod Quiet
+pub mod ClosingLemmas

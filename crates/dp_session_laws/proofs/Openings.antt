@@ -1,16 +1,14 @@
 -- The feed of a connection begins with an empty segment of the epoch in which it joined, and a feed
 -- stays one while the session grows.
-use Rattle.std.proofs.Common.{◌≡◌, ◌⊎◌, ℕ, ◌+◌, ◌<◌, ◌≤◌, Bool, true, false, List, [], ◌∷◌, ◌++◌}
-use Rattle.std.proofs.Common.{length, Option, None, Some, Result, Ok, Err, refl, sym, ap, subst}
+use Rattle.std.proofs.Common.{◌≡◌, ◌⊎◌, ℕ, ◌+◌, ◌≤◌, Bool, true, false, List, [], ◌∷◌}
+use Rattle.std.proofs.Common.{length, Option, None, Some, Ok, Err, refl, sym, ap, subst}
 use Rattle.std.proofs.Common.{◌∙◌, ⊎_elim, inl, inr, arith}
 use Rattle.std.specs.Prelude.{MatchBool}
 use Rattle.std.specs.List.{AllByRecursion}
 use Rattle.std.proofs.lemmas.Bool.{cases_eq}
-use mathlib.Core.List.{IsPrefix}
 use Rattle.dp_lists.proofs.Numbered.{numbered-new}
-use Rattle.dp_hall.specs.Logs.{IsLegal, left_by}
+use Rattle.dp_hall.specs.Logs.{left_by}
 use Rattle.dp_hall.specs.Names.{IsIn}
-use Rattle.dp_messages.specs.declared.message.Entry.{Entry}
 use Rattle.dp_events.specs.declared.connection.Place.{Place}
 use Rattle.dp_events.specs.declared.connection.Ending.{Ending}
 use Rattle.dp_events.specs.declared.connection.Ending.TheVariants as ending
@@ -19,17 +17,17 @@ use Rattle.dp_events.specs.declared.event.Event.{Event}
 use Rattle.dp_events.specs.declared.event.Reply.{Reply}
 use Rattle.dp_events.specs.declared.event.Reply.TheVariants as reply
 use Rattle.dp_events.specs.Rows.{has_room}
-use Rattle.dp_epochs.specs.State.{State, epoch_of, here, history_of, connection_of, new_connection}
+use Rattle.dp_epochs.specs.State.{State, epoch_of, history_of, connection_of, new_connection}
 use Rattle.dp_epochs.specs.State.{acted, noted, after_event}
 use Rattle.dp_epochs.specs.Effects.{Began, Added, Dropped, Reopened}
 use Rattle.dp_epochs.specs.Effects.{Effect, Nothing, TakesUp, Placed, Filtered, Joined, Left, made}
-use Rattle.dp_epochs.specs.Effects.{answer_of, IsEffect, HasEffect, IsStill}
-use Rattle.dp_epochs.specs.Past.{Past, Step, Serves, Accepts, FailsFirst, Refuses, kept, state_of}
+use Rattle.dp_epochs.specs.Effects.{answer_of, IsEffect, IsStill}
+use Rattle.dp_epochs.specs.Past.{Past, Step, Serves, Accepts, FailsFirst, Refuses, state_of}
 use Rattle.dp_epochs.specs.Laws.{ShutBefore}
-use Rattle.dp_session_laws.specs.Growing.{IsAfter, EndsLater, ConnectionLater, GrowsInto}
+use Rattle.dp_session_laws.specs.Growing.{IsAfter, EndsLater, GrowsInto}
 use Rattle.dp_session_laws.specs.Feeds.{Segment, IsSegment, IsWithin, RisesFrom, IsFeed}
 use Rattle.dp_session_laws.specs.Logs.{Outcome, Act, IsSessionLog, HasOpened}
-use Rattle.dp_session_laws.proofs.Growth.{EpochLaws, Goes, step-goes, log-goes, prefix-then}
+use Rattle.dp_session_laws.proofs.Growth.{EpochLaws, step-goes, log-goes, prefix-then}
 use Rattle.dp_session_laws.proofs.Growth.{prefix-length, live-history}
 
 -- ---- a feed stays one

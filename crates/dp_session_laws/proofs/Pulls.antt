@@ -1,6 +1,6 @@
 -- A Pull at the end of a feed goes on with it, or says that it has ended.
-use Rattle.std.proofs.Common.{◌≡◌, ◌⊎◌, ℕ, suc, ◌+◌, ◌<◌, ◌≤◌, ◌==◌, ◌||◌, Bool, true, false, max}
-use Rattle.std.proofs.Common.{if◌then◌else◌, List, [], ◌∷◌, ◌++◌, length, take, drop, Option, None}
+use Rattle.std.proofs.Common.{◌≡◌, ℕ, suc, ◌+◌, ◌<◌, ◌≤◌, ◌==◌, ◌||◌, Bool, true, false, max}
+use Rattle.std.proofs.Common.{if◌then◌else◌, List, [], ◌∷◌, ◌++◌, length, take, drop}
 use Rattle.std.proofs.Common.{Some, refl, sym, ap, subst, ◌∙◌, ⊎_elim, inl, inr, arith}
 use Rattle.std.proofs.Common.{append_assoc}
 use Rattle.std.proofs.Common.{append-nil, length-append}
@@ -84,7 +84,7 @@ any-first x xs n is more =
     (suc found.0, omega (arith, found.1), found.2))
     (cases_Bool (x == n))
 
-any-contains : (xs : List ℕ) (n : ℕ) → list_any (λ other. other == n) xs ≡ true
+pub any-contains : (xs : List ℕ) (n : ℕ) → list_any (λ other. other == n) xs ≡ true
     → Contains xs n
 any-contains [] n is = cc
 any-contains (x ∷ xs) n is = any-first x xs n is (any-contains xs n)

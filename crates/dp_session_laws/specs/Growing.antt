@@ -1,5 +1,5 @@
 -- How the state of a session grows.
-use Rattle.std.specs.Prelude.{◌≡◌, ◌⊎◌, ℕ, ◌<◌, ◌≤◌, List, length, Some, ⊤}
+use Rattle.std.specs.Prelude.{◌≡◌, ◌⊎◌, ℕ, ◌<◌, ◌≤◌, length, Some, ⊤}
 use mathlib.Core.List.{IsPrefix}
 use Rattle.dp_events.specs.declared.connection.Place.{Place}
 use Rattle.dp_events.specs.declared.connection.Ending.{Ending}

@@ -2,3 +2,4 @@ pub mod Growing
 pub mod Feeds
 pub mod Logs
 pub mod Journals
+pub mod Closings

@@ -1,6 +1,7 @@
 //! The laws.
 
-ghost use Rattle.std.specs.Prelude.{◌≡◌, ◌∷◌, ◌++◌, [], ℕ, List, length, false, None, Ok};
+ghost use Rattle.std.specs.Prelude.{◌≡◌, ◌⊎◌, ◌∷◌, ◌++◌, [], ℕ, List, length, false, None, Ok};
+ghost use Rattle.std.specs.Prelude.{Contains};
 ghost use mathlib.Core.List.{IsPrefix};
 ghost use Rattle.dp_messages.specs.declared.message.Entry.{Entry};
 ghost use Rattle.dp_hall.specs.Logs.{left_by};
@@ -12,8 +13,11 @@ ghost use Rattle.dp_epochs.specs.Pull.{answered};
 ghost use Rattle.dp_epochs.specs.Laws.{ShutBefore};
 ghost use Rattle.dp_session_laws.specs.Growing.{GrowsInto};
 ghost use Rattle.dp_session_laws.specs.Logs.{Act, IsSessionLog, HasOpened};
-ghost use Rattle.dp_session_laws.specs.Journals.{kept_events, HasBroken};
-ghost use Rattle.dp_hall.specs.Names.{IsIn};
+ghost use Rattle.dp_session_laws.specs.Journals.{kept_events, kept_replies, HasBroken};
+ghost use Rattle.dp_session_laws.specs.Closings.{given_out, Rise, refused_closes, IsShutFor};
+ghost use Rattle.dp_session_laws.specs.Closings.{HasFailedClose};
+ghost use Rattle.dp_hall.specs.Names.{IsIn, AreDistinct};
+ghost use Rattle.dp_events.specs.declared.event.ShutAt.{ShutAt};
 ghost use Rattle.dp_events.specs.Rows.{has_room};
 ghost use Rattle.dp_events.specs.declared.event.Reply.TheVariants.{Ended, StoreFault};
 ghost use Rattle.dp_session_laws.specs.Feeds.{Segment, IsFeed, IsGone, PullsOn};
@@ -41,6 +45,48 @@ pub fn journals_are_logs()
         → (left_by past log).journal ≡ past.journal ++ kept_events log }
 {
     events_have_effects();
+}
+
+/// The session's answers go on by the replies to the events that are kept.
+pub fn answers_are_logs()
+    ensures { (past : Past) (log : List Act) → ShutBefore past → IsSessionLog past log
+        → (state_of (left_by past log)).answers ≡ (state_of past).answers ++ kept_replies log }
+{
+    events_have_effects();
+    histories_grow();
+    steps_lead_on();
+}
+
+/// The closings that were refused go on by the Closes of the log that were answered Ended or
+/// StoreFault, each with how many events were kept before it.
+pub fn shuts_are_logs()
+    ensures all { (past : Past) (log : List Act) → IsSessionLog past log
+        → (left_by past log).shut ≡ past.shut ++ refused_closes past log }
+    ensures cause { (past : Past) (log : List Act) (s : ShutAt) → past.first_fault ≡ None
+        → IsSessionLog past log → IsIn s (refused_closes past log)
+        → IsShutFor past (left_by past log) s }
+{
+    events_have_effects();
+}
+
+/// A connection is quiet only where it was so, or memory ran out in one of its Closes.
+pub fn quiets_are_logs()
+    ensures { (past : Past) (log : List Act) (conn : ℕ) → IsSessionLog past log
+        → Contains (left_by past log).quiet conn
+        → Contains past.quiet conn ⊎ HasFailedClose log conn }
+{}
+
+/// The connections that a log gives out rise from above those that were given out before, so no two
+/// are one.
+pub fn one_connection_each()
+    ensures rise { (past : Past) (log : List Act) → ShutBefore past → IsSessionLog past log
+        → Rise (length (state_of past).connections) (given_out log) }
+    ensures distinct { (past : Past) (log : List Act) → ShutBefore past → IsSessionLog past log
+        → AreDistinct (given_out log) }
+{
+    events_have_effects();
+    histories_grow();
+    steps_lead_on();
 }
 
 /// Ended is answered only where the limits leave no room for the event after the journal there.
@@ -77,6 +123,18 @@ pub fn feeds_go_on()
     ensures { (s t : State) (conn : ℕ) (segments : List Segment)
         → GrowsInto s t → IsFeed s conn segments → IsFeed t conn segments }
 {}
+
+/// A feed that has ended stays so while the session grows.
+pub fn gone_goes_on()
+    ensures { (past : Past) (log longer : List Act) (conn : ℕ) (earlier : List Segment)
+        (last : Segment) → ShutBefore past → IsSessionLog past longer → IsPrefix log longer
+        → IsFeed (state_of (left_by past log)) conn (earlier ++ last ∷ [])
+        → IsGone (left_by past log) conn last → IsGone (left_by past longer) conn last }
+{
+    events_have_effects();
+    histories_grow();
+    steps_lead_on();
+}
 
 /// The entries that a Pull at the end of a feed is answered go on with the feed.
 pub fn pulls_go_on()

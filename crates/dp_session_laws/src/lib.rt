@@ -6,6 +6,7 @@
 mod laws;
 
 pub use laws::{
-    ended_has_cause, faults_are_counted, feeds_begin, feeds_end, feeds_go_on, journals_are_logs,
-    pulls_go_on, sessions_go_on,
+    answers_are_logs, ended_has_cause, faults_are_counted, feeds_begin, feeds_end, feeds_go_on,
+    gone_goes_on, journals_are_logs, one_connection_each, pulls_go_on, quiets_are_logs,
+    sessions_go_on, shuts_are_logs,
 };
