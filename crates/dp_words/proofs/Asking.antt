@@ -11,7 +11,9 @@ use Rattle.clap.specs.Walk.{Row, Text, first_of}
 use Rattle.dp_lines.specs.Numbers.{IsNumber}
 use Rattle.dp_words.specs.declared.command_line.CommandLine.{CommandLine}
 use Rattle.dp_words.specs.declared.command_line.CommandLine.TheVariants.{Replay, World, Play, Join}
-use Rattle.dp_words.specs.CommandLines.{AsksBy, AsksFor, AsksIn, HasAt, IsCommandLine}
+use Rattle.dp_words.specs.declared.command_line.CommandLine.TheVariants.{Serve}
+use Rattle.dp_words.specs.CommandLines.{AsksBy, AsksIn, HasAt, HasWorkers}
+use Rattle.dp_words.specs.CommandLines.{IsCommandLine}
 use Rattle.dp_words.specs.Program.{program}
 
 -- ---- the name says which command it is
@@ -22,16 +24,25 @@ letter Replay = 114
 letter World = 119
 letter (Play at) = 112
 letter (Join addr user) = 106
+letter (Serve addr workers conns) = 115
 
 first-byte : {s t : Text} → s ≡ t → slice_index s 0 ≡ slice_index t 0
 first-byte e = ap (λ t. slice_index t 0) e
 
-pub begins : (name : Text) (rows : List Row) (line : CommandLine) → AsksBy name rows line
+begins : (name : Text) (rows : List Row) (line : CommandLine) → AsksBy name rows line
     → slice_index name 0 ≡ letter line
 begins name rows Replay e = first-byte e
 begins name rows World e = first-byte e
 begins name rows (Play at) asks = first-byte asks.0
 begins name rows (Join addr user) asks = first-byte asks.0
+begins name rows (Serve addr workers conns) asks = first-byte asks.0
+
+-- so all that words ask for has one letter
+pub same-letter : (entered : Option (Text × List Row)) (a b : CommandLine)
+    → AsksIn entered a → AsksIn entered b → letter a ≡ letter b
+same-letter None a b x y = absurd x
+same-letter (Some entered) a b x y =
+    sym (begins entered.0 entered.1 a x) ∙ begins entered.0 entered.1 b y
 
 -- ---- words ask for one thing
 
@@ -46,6 +57,11 @@ one-at one (Some word) None b x y = absurd x
 one-at one (Some word) (Some m) None x y = absurd y
 one-at one (Some word) (Some m) (Some n) x y = ap Some (one word m n x y)
 
+one-workers : OneNumber → (found : Option Text) (m n : ℕ)
+    → HasWorkers found m → HasWorkers found n → m ≡ n
+one-workers one None m n x y = absurd x
+one-workers one (Some word) m n x y = one word m n x.0 y.0
+
 some-same : {a b : Text} {found : Option Text} → found ≡ Some a → found ≡ Some b → a ≡ b
 some-same {a} x y = ap (λ o. unwrap_or o a) (sym x ∙ y)
 
@@ -56,25 +72,18 @@ one-line one name rows World World e x y = refl
 one-line one name rows (Play at) (Play other) e x y = ap Play (one-at one _ at other x.1 y.1)
 one-line one name rows (Join addr user) (Join other you) e x y =
     ap₂ Join (some-same x.1 y.1) (some-same x.2 y.2)
-one-line one name rows Replay World e x y = absurd (omega arith)
-one-line one name rows Replay (Play at) e x y = absurd (omega arith)
-one-line one name rows Replay (Join addr user) e x y = absurd (omega arith)
-one-line one name rows World Replay e x y = absurd (omega arith)
-one-line one name rows World (Play at) e x y = absurd (omega arith)
-one-line one name rows World (Join addr user) e x y = absurd (omega arith)
-one-line one name rows (Play at) Replay e x y = absurd (omega arith)
-one-line one name rows (Play at) World e x y = absurd (omega arith)
-one-line one name rows (Play at) (Join addr user) e x y = absurd (omega arith)
-one-line one name rows (Join addr user) Replay e x y = absurd (omega arith)
-one-line one name rows (Join addr user) World e x y = absurd (omega arith)
-one-line one name rows (Join addr user) (Play at) e x y = absurd (omega arith)
+one-line one name rows (Serve addr m at) (Serve other n more) e x y =
+    let addr-is : addr ≡ other = some-same x.1 y.1 in
+    let workers-are : m ≡ n = one-workers one _ m n x.2 y.2 in
+    let conns-are : at ≡ more = one-at one _ at more x.3 y.3 in
+    cc
+one-line one name rows a b e x y = absurd (omega arith)
 
 pub one-in : OneNumber → (entered : Option (Text × List Row)) (a b : CommandLine)
     → AsksIn entered a → AsksIn entered b → a ≡ b
 one-in one None a b x y = absurd x
 one-in one (Some entered) a b x y =
-    one-line one entered.0 entered.1 a b
-    (sym (begins entered.0 entered.1 a x) ∙ begins entered.0 entered.1 b y) x y
+    one-line one entered.0 entered.1 a b (same-letter (Some entered) a b x y) x y
 
 -- ---- words that ask for nothing
 
@@ -114,11 +123,8 @@ no-plus-at rest (Some n) x = plus rest n x
 -- so `play` with such a word is no command line
 signed : (rows : List Row) (rest : Text) → first_of (codes "at") rows ≡ Some (43 ∷ rest)
     → (line : CommandLine) → AsksBy (codes "play") rows line → ⊥
-signed rows rest e Replay x = absurd (omega (arith, begins (codes "play") rows Replay x))
-signed rows rest e World x = absurd (omega (arith, begins (codes "play") rows World x))
 signed rows rest e (Play at) x = no-plus-at rest at (subst (λ o. HasAt o at) e x.1)
-signed rows rest e (Join addr user) x =
-    absurd (omega (arith, begins (codes "play") rows (Join addr user) x))
+signed rows rest e line x = absurd (omega (arith, begins (codes "play") rows line x))
 
 pub signed-words : (words : List Text) (rows : List Row) (rest : Text)
     → subcommand_of program words ≡ Some (codes "play", rows)

@@ -6,6 +6,7 @@ use Rattle.clap.specs.Faults.{fault_of}
 use Rattle.dp_lines.specs.Numbers.{IsNumber}
 use Rattle.dp_words.specs.declared.command_line.CommandLine.{CommandLine}
 use Rattle.dp_words.specs.declared.command_line.CommandLine.TheVariants.{Replay, World, Play, Join}
+use Rattle.dp_words.specs.declared.command_line.CommandLine.TheVariants.{Serve}
 use Rattle.dp_words.specs.Program.{program}
 
 -- a number, where there is a word, is the one that the word is
@@ -13,6 +14,16 @@ abbrev pub HasAt : Option Text → Option ℕ → Type 0
 HasAt None None = Unit {0}
 HasAt (Some word) (Some n) = IsNumber word n
 HasAt _ _ = ⊥
+
+-- the number of workers that there is: from 1 to 64
+abbrev pub HasWorkers : Option Text → ℕ → Type 0
+HasWorkers None n = ⊥
+HasWorkers (Some word) n = IsNumber word n × (1 ≤ n) × (n ≤ 64)
+
+-- the number of links is at least 1, where there is one
+abbrev pub IsConns : Option ℕ → Type 0
+IsConns None = Unit {0}
+IsConns (Some n) = 1 ≤ n
 
 -- a command with the values of its options and words asks for this line
 abbrev pub AsksBy : Text → List Row → CommandLine → Type 0
@@ -22,6 +33,10 @@ AsksBy name rows (Play at) = (name ≡ codes "play") × HasAt (first_of (codes "
 AsksBy name rows (Join addr user) =
     (name ≡ codes "join") × (first_of (codes "addr") rows ≡ Some addr)
     × (first_of (codes "name") rows ≡ Some user) × (1 ≤ length user) × (length user ≤ 32)
+AsksBy name rows (Serve addr workers conns) =
+    (name ≡ codes "serve") × (first_of (codes "addr") rows ≡ Some addr)
+    × HasWorkers (first_of (codes "workers") rows) workers
+    × HasAt (first_of (codes "conns") rows) conns × IsConns conns
 
 -- the command that was named, with the values of its options and words, asks for this line
 abbrev pub AsksIn : Option (Text × List Row) → CommandLine → Type 0

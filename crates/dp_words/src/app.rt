@@ -4,6 +4,7 @@ ghost use Rattle.std.specs.Prelude.{◌≡◌, false, IfOk};
 ghost use Rattle.clap.specs.Words.{app_of};
 ghost use Rattle.clap.specs.declared.builder.command.Command.TheViews.{out-Command};
 ghost use Rattle.dp_words.specs.Program.{bare_program, program, play_command, join_command};
+ghost use Rattle.dp_words.specs.Program.{serve_command};
 
 use clap::{Arg, Command};
 use std::alloc::{AllocError, Global};
@@ -17,7 +18,8 @@ pub(crate) fn program_of<'a>(alloc: Global) -> Result<Command<'a>, AllocError>
         .subcommand(Command::new(alloc, "replay"))?
         .subcommand(Command::new(alloc, "world"))?
         .subcommand(play_of(alloc)?)?
-        .subcommand(join_of(alloc)?)
+        .subcommand(join_of(alloc)?)?
+        .subcommand(serve_of(alloc)?)
 }
 
 /// The program before it has commands.
@@ -48,4 +50,18 @@ fn join_of<'a>(alloc: Global) -> Result<Command<'a>, AllocError>
     let addr = Arg::new(alloc, "addr").required(true);
     let name = Arg::new(alloc, "name").required(true);
     Command::new(alloc, "join").arg(addr)?.arg(name)
+}
+
+/// `serve`, with its word and its options.
+fn serve_of<'a>(alloc: Global) -> Result<Command<'a>, AllocError>
+    ensures app { IfOk result (λ made. app_of made ≡ serve_command) }
+    ensures plain { IfOk result (λ made. (out-Command made).has_globals ≡ false) }
+{
+    let addr = Arg::new(alloc, "addr").required(true);
+    let workers = Arg::new(alloc, "workers").long("workers").required(true);
+    let conns = Arg::new(alloc, "conns").long("conns");
+    Command::new(alloc, "serve")
+        .arg(addr)?
+        .arg(workers)?
+        .arg(conns)
 }

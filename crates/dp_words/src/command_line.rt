@@ -11,7 +11,19 @@ pub enum CommandLine {
     /// A schedule on the input, its report on the output.
     World,
     /// A recording on the input, a picture on the output: of its first `at` entries, or of all.
-    Play { at: Option<u32> },
+    Play {
+        at: Option<u32>,
+    },
     /// A script on the input, for a client of this name at the server at `addr`.
-    Join { addr: Address, name: Text },
+    Join {
+        addr: Address,
+        name: Text,
+    },
+    /// The server of a session at `addr`, with so many workers, from 1 to 64. Each worker ends after
+    /// `conns` links, at least 1, or goes on where there is no such number.
+    Serve {
+        addr: Address,
+        workers: u32,
+        conns: Option<u32>,
+    },
 }

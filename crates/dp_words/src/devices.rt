@@ -15,6 +15,8 @@ pub enum Devices {
     Nothing,
     /// A link to the server at this address.
     Dial { addr: Address },
+    /// So many wires that hand out the links that are made to this address.
+    Listen { addr: Address, workers: u32 },
 }
 
 /// The devices that the words want. Words that are no command line want none.
@@ -23,6 +25,13 @@ pub fn wanted(alloc: Global, words: &[String]) -> Result<Devices, AllocError>
 {
     match read_words(alloc, words)? {
         Some(CommandLine::Join { addr, name: _ }) => Ok(Devices::Dial { addr }),
+        Some(
+            CommandLine::Serve {
+                addr,
+                workers,
+                conns: _,
+            },
+        ) => Ok(Devices::Listen { addr, workers }),
         _ => Ok(Devices::Nothing),
     }
 }

@@ -4,7 +4,7 @@ ghost use Rattle.std.specs.Prelude.{◌≡◌, List, [], ◌∷◌, Some, None, 
 ghost use Rattle.clap.specs.Walk.{Text};
 ghost use Rattle.dp_words.specs.declared.command_line.CommandLine.{CommandLine};
 ghost use Rattle.dp_words.specs.declared.command_line.CommandLine.TheVariants.{Replay, World, Play};
-ghost use Rattle.dp_words.specs.declared.command_line.CommandLine.TheVariants.{Join};
+ghost use Rattle.dp_words.specs.declared.command_line.CommandLine.TheVariants.{Join, Serve};
 ghost use Rattle.dp_words.specs.CommandLines.{AsksFor, IsCommandLine};
 
 use dp_lines::one_number;
@@ -26,6 +26,12 @@ pub fn some_command_lines()
     ensures play_at_one_word { AsksFor (codes "play" ∷ codes "--at=30" ∷ []) (Play (Some 30)) }
     ensures join { AsksFor (codes "join" ∷ codes "localhost:7" ∷ codes "ann" ∷ [])
         (Join (codes "localhost:7") (codes "ann")) }
+    ensures serve { AsksFor (codes "serve" ∷ codes "localhost:7" ∷ codes "--workers" ∷ codes "2"
+        ∷ []) (Serve (codes "localhost:7") 2 None) }
+    ensures serve_conns { AsksFor (codes "serve" ∷ codes "localhost:7" ∷ codes "--workers"
+        ∷ codes "64" ∷ codes "--conns" ∷ codes "1" ∷ [])
+        (Serve (codes "localhost:7") 64 (Some 1)) }
+    ensures no_workers { ¬ IsCommandLine (codes "serve" ∷ codes "localhost:7" ∷ []) }
     ensures no_word { ¬ IsCommandLine [] }
     ensures another_word { ¬ IsCommandLine (codes "paint" ∷ []) }
     ensures a_word_too_many { ¬ IsCommandLine (codes "replay" ∷ codes "replay" ∷ []) }

@@ -1,17 +1,18 @@
 //! Reading a command line.
 
-ghost use Rattle.std.specs.Prelude.{◌≡◌, codes, map, option_map, string_bytes, IfOk, IfSome};
-ghost use Rattle.std.specs.Prelude.{IfNone};
+ghost use Rattle.std.specs.Prelude.{◌≡◌, ℕ, Option, codes, map, option_map, string_bytes};
+ghost use Rattle.std.specs.Prelude.{IfNone, IfOk, IfSome};
 ghost use Rattle.clap.specs.Words.{first_of, found_of, rows_of, subcommand_rows_of};
 ghost use Rattle.dp_words.specs.declared.command_line.CommandLine.{CommandLine};
 ghost use Rattle.dp_words.specs.CommandLines.{AsksBy, AsksFor, AsksIn, IsCommandLine};
+ghost use Rattle.dp_words.specs.CommandLines.{HasAt, HasWorkers, IsConns};
 
 use crate::address::Address;
 use crate::app::program_of;
 use crate::command_line::CommandLine;
 use clap::ArgMatches;
 use clap::error::ErrorKind;
-use dp_lines::number;
+use dp_lines::{number, one_number};
 use dp_msg_meta::Text;
 use std::alloc::{AllocError, Global};
 
@@ -57,6 +58,7 @@ fn asked_by(
         "world" => Ok(Some(CommandLine::World)),
         "play" => Ok(played(given)),
         "join" => joined(alloc, given),
+        "serve" => served(alloc, given),
         _ => Ok(None),
     }
 }
@@ -91,6 +93,58 @@ fn joined(alloc: Global, given: &ArgMatches) -> Result<Option<CommandLine>, Allo
     let addr = Address::from_str(alloc, addr)?;
     let name = Text::from_str(alloc, name)?;
     Ok(Some(CommandLine::Join { addr, name }))
+}
+
+/// `serve` with its word and its options, if their numbers are ones that it takes.
+fn served(alloc: Global, given: &ArgMatches) -> Result<Option<CommandLine>, AllocError>
+    ensures some { IfOk result (λ line. IfSome line
+        (AsksBy (codes "serve") (rows_of (found_of given.now)))) }
+    ensures none { IfOk result (λ line. IfNone line ((other : CommandLine)
+        → ¬ AsksBy (codes "serve") (rows_of (found_of given.now)) other)) }
+{
+    let Some(addr) = value_of(given, "addr") else {
+        return Ok(None);
+    };
+    let (Some(workers), Some(conns)) = (workers_of(given), conns_of(given)) else {
+        return Ok(None);
+    };
+    let addr = Address::from_str(alloc, addr)?;
+    Ok(Some(CommandLine::Serve {
+        addr,
+        workers,
+        conns,
+    }))
+}
+
+/// The number of workers, if it is from 1 to 64.
+fn workers_of(given: &ArgMatches) -> Option<u32>
+    ensures some { IfSome result
+        (HasWorkers (first_of (codes "workers") (rows_of (found_of given.now)))) }
+    ensures none { IfNone result ((n : ℕ)
+        → ¬ HasWorkers (first_of (codes "workers") (rows_of (found_of given.now))) n) }
+{
+    one_number();
+    let workers = number(value_of(given, "workers")?.as_bytes())?;
+    if workers >= 1 && workers <= 64 {
+        Some(workers)
+    } else {
+        None
+    }
+}
+
+/// The number of links, where there is one. `None` if it is there and not at least 1.
+fn conns_of(given: &ArgMatches) -> Option<Option<u32>>
+    ensures some { IfSome result (λ conns. IsConns conns
+        × HasAt (first_of (codes "conns") (rows_of (found_of given.now))) conns) }
+    ensures none { IfNone result ((conns : Option ℕ) → IsConns conns
+        → ¬ HasAt (first_of (codes "conns") (rows_of (found_of given.now))) conns) }
+{
+    one_number();
+    let Some(word) = value_of(given, "conns") else {
+        return Some(None);
+    };
+    let conns = number(word.as_bytes())?;
+    if conns >= 1 { Some(Some(conns)) } else { None }
 }
 
 /// The value that an option or a word of this name was given.

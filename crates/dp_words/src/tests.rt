@@ -5,7 +5,7 @@ use std::alloc::{AllocError, Global};
 use std::test::Fail;
 
 /// Words that are separated by bars, and the command line that they are. A minus stands for none.
-const LINES: [(&str, &str); 34] = [
+const LINES: [(&str, &str); 55] = [
     ("replay", "replay"),
     ("replay|--", "replay"),
     ("world", "world"),
@@ -19,6 +19,13 @@ const LINES: [(&str, &str); 34] = [
     (
         "join|a|12345678901234567890123456789012",
         "join a 12345678901234567890123456789012",
+    ),
+    ("serve|a:1|--workers|2", "serve a:1 2"),
+    ("serve|a:1|--workers=2|--conns=1", "serve a:1 2 1"),
+    ("serve|--conns|3|--workers|1|a:1", "serve a:1 1 3"),
+    (
+        "serve|a:1|--workers|64|--conns|4294967295",
+        "serve a:1 64 4294967295",
     ),
     ("", "-"),
     ("paint", "-"),
@@ -40,6 +47,23 @@ const LINES: [(&str, &str); 34] = [
     ("join|a|", "-"),
     ("join|a|b|c", "-"),
     ("join|a|123456789012345678901234567890123", "-"),
+    ("serve", "-"),
+    ("serve|a:1", "-"),
+    ("serve|a:1|--conns|1", "-"),
+    ("serve|a:1|--workers", "-"),
+    ("serve|--workers|2", "-"),
+    ("serve|a:1|b|--workers|2", "-"),
+    ("serve|a:1|--workers|0", "-"),
+    ("serve|a:1|--workers|65", "-"),
+    ("serve|a:1|--workers|+3", "-"),
+    ("serve|a:1|--workers|03", "-"),
+    ("serve|a:1|--workers|2|--workers|2", "-"),
+    ("serve|a:1|--workers|2|--conns", "-"),
+    ("serve|a:1|--workers|2|--conns|0", "-"),
+    ("serve|a:1|--workers|2|--conns|+3", "-"),
+    ("serve|a:1|--workers|2|--conns|03", "-"),
+    ("serve|a:1|--workers|2|--conns|4294967296", "-"),
+    ("serve|a:1|--workers|2|--journal", "-"),
     ("--help", "-"),
     ("help", "-"),
     ("play|--version", "-"),
@@ -63,20 +87,25 @@ fn no_words(rt: HostRuntime) -> Result<(), Fail> {
 }
 
 #[test]
-fn only_join_wants_a_link(rt: HostRuntime) -> Result<(), Fail> {
+fn what_is_wanted(rt: HostRuntime) -> Result<(), Fail> {
     let alloc = rt.alloc();
     for (line, wants) in [
-        ("join|a:1|ann", "a:1"),
-        ("play|--at|3", "-"),
-        ("join|a:1", "-"),
+        ("join|a:1|ann", "a link to a:1"),
+        ("serve|a:1|--workers|2|--conns|3", "2 wires at a:1"),
+        ("play|--at|3", "nothing"),
+        ("join|a:1", "nothing"),
+        ("serve|a:1|--workers|0", "nothing"),
     ] {
         let words = words_of(alloc, line)?;
         let devices = wanted(alloc, words.as_slice())?;
-        let addr = match &devices {
-            Devices::Dial { addr } => addr.as_str(),
-            Devices::Nothing => "-",
-        };
-        assert_eq!(rt; addr, wants, "{line}");
+        let told = match &devices {
+            Devices::Dial { addr } => format!(in alloc; "a link to {}", addr.as_str()),
+            Devices::Listen { addr, workers } => {
+                format!(in alloc; "{workers} wires at {}", addr.as_str())
+            }
+            Devices::Nothing => String::from_str(alloc, "nothing"),
+        }?;
+        assert_eq!(rt; told.as_str(), wants, "{line}");
     }
     Ok(())
 }
@@ -98,6 +127,20 @@ fn text_of(alloc: Global, line: Option<CommandLine>) -> Result<String, AllocErro
         Some(CommandLine::Join { addr, name }) => {
             format!(in alloc; "join {} {}", addr.as_str(), name.as_str())
         }
+        Some(
+            CommandLine::Serve {
+                addr,
+                workers,
+                conns: Some(n),
+            },
+        ) => format!(in alloc; "serve {} {workers} {n}", addr.as_str()),
+        Some(
+            CommandLine::Serve {
+                addr,
+                workers,
+                conns: None,
+            },
+        ) => format!(in alloc; "serve {} {workers}", addr.as_str()),
         None => String::from_str(alloc, "-"),
     }
 }

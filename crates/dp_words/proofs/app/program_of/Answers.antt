@@ -17,6 +17,8 @@ returns c =
     ∙ ap₂ with_subcommand one world in
     let three = c.in_ok-subcommand-3.ensures.shape c.in_ok-play_of.ensures.plain
     ∙ ap₂ with_subcommand two (ap top_of c.in_ok-play_of.ensures.app) in
-    IfOk-weaker c.subcommand-4.result _ _
-    (λ made added. added.shape c.in_ok-join_of.ensures.plain
-    ∙ ap₂ with_subcommand three (ap top_of c.in_ok-join_of.ensures.app)) c.subcommand-4.ensures
+    let four = c.in_ok-subcommand-4.ensures.shape c.in_ok-join_of.ensures.plain
+    ∙ ap₂ with_subcommand three (ap top_of c.in_ok-join_of.ensures.app) in
+    IfOk-weaker c.subcommand-5.result _ _
+    (λ made added. added.shape c.in_ok-serve_of.ensures.plain
+    ∙ ap₂ with_subcommand four (ap top_of c.in_ok-serve_of.ensures.app)) c.subcommand-5.ensures

@@ -34,6 +34,30 @@ pub returns-clause-join : goal.returns-clause-join
 unfolding clap_on_literals
 returns-clause-join c = (refl, (refl, refl, refl, lit≤ tt, lit≤ tt))
 
+pub returns-clause-serve : goal.returns-clause-serve
+unfolding clap_on_literals digits
+returns-clause-serve c = (
+  refl,
+  (refl, refl, (record { fits = lit< tt; text = refl }, lit≤ tt, lit≤ tt), tt, tt),
+)
+
+pub returns-clause-serve_conns : goal.returns-clause-serve_conns
+unfolding clap_on_literals digits
+returns-clause-serve_conns c = (
+  refl,
+  (
+    refl,
+    refl,
+    (record { fits = lit< tt; text = refl }, lit≤ tt, lit≤ tt),
+    record { fits = lit< tt; text = refl },
+    lit≤ tt,
+  ),
+)
+
+pub returns-clause-no_workers : goal.returns-clause-no_workers
+unfolding clap_on_literals
+returns-clause-no_workers c = faulty (codes "serve" ∷ codes "localhost:7" ∷ []) 0 refl
+
 pub returns-clause-another_word : goal.returns-clause-another_word
 unfolding clap_on_literals
 returns-clause-another_word c = faulty (codes "paint" ∷ []) 1 refl

@@ -3,8 +3,6 @@ use Rattle.std.proofs.Common.{ap, map, refl, string_bytes, true, ◌≡◌, ◌�
 use Rattle.std.proofs.lemmas.Result.{IfOk-weaker}
 use Rattle.clap.specs.Simple.{is_simple, subcommand_of}
 use Rattle.clap.proofs.OnLiterals.{clap_on_literals}
-use Rattle.dp_words.specs.declared.command_line.CommandLine.{CommandLine}
-use Rattle.dp_words.specs.CommandLines.{AsksIn, IsCommandLine}
 use Rattle.dp_words.specs.Program.{program}
 use Rattle.dp_words.proofs.Asking.{none-asked}
 use Rattle.dp_words.proofs.parser.read_words.Goals as goal
