@@ -19,8 +19,8 @@ pub enum CommandLine {
         addr: Address,
         name: Text,
     },
-    /// The server of a session at `addr`, with so many workers, from 1 to 64. Each worker ends after
-    /// `conns` links, at least 1, or goes on where there is no such number.
+    /// The server of a session at `addr`, with so many workers, from 1 to 64. Each worker ends
+    /// after `conns` links, at least 1, or goes on where there is no such number.
     Serve {
         addr: Address,
         workers: u32,
