@@ -23,6 +23,7 @@ use Rattle.dp_viewer.specs.Ways.{Way, play_way, replay_way}
 use Rattle.dp_words.specs.CommandLines.{AsksFor}
 use Rattle.dp_words.specs.declared.command_line.CommandLine.{CommandLine}
 use Rattle.dp_words.specs.declared.command_line.CommandLine.TheVariants.{Replay, World, Play, Join}
+use Rattle.dp_words.specs.declared.command_line.CommandLine.TheVariants.{Serve}
 use Rattle.dp_world.specs.Schedule.{WorldComesTo, world_limit}
 use Rattle.dp_world.specs.RunEnds.{Blames, WorldLeaves}
 use Rattle.dp_app.specs.declared.ending.Ending.{Ending}
@@ -31,7 +32,7 @@ use Rattle.dp_app.specs.Answer.{Answer, CommandLeaves, DueOf, HasHeadline, IsDue
 use Rattle.dp_app.specs.Answer.{SaysLine, SaysNoLink, SaysUsage, line_of, no_link_answer}
 use Rattle.dp_app.specs.Answer.{IsDuePicture, picture_answer, run_end_of, status_of, usage_answer}
 use Rattle.dp_app.specs.Answer.{world_answer}
-use Rattle.dp_app.specs.Commands.{AskForLink, AskForRun, Asks, IsCommand, Runs}
+use Rattle.dp_app.specs.Commands.{AskForRun, Asks, IsCommand, Runs}
 use Rattle.dp_app.specs.Endings.{EndsCommand, EndsWords, Streams, Untouched, code_of, ending_line}
 
 -- what stays grows by nothing
@@ -137,6 +138,8 @@ complete_told bytes left old new dold dnew status World end leaves read write me
     )
 complete_told bytes left old new dold dnew status (Join addr user) end leaves read write memory
     code line = absurd leaves
+complete_told bytes left old new dold dnew status (Serve addr workers conns) end leaves read write
+    memory code line = absurd leaves
 
 -- a command of which no run happens is due the answer that there is no link
 due_link : (command : CommandLine) (bytes : List ℕ) → ¬ Runs command
@@ -145,6 +148,7 @@ due_link Replay bytes runs = absurd (runs tt)
 due_link World bytes runs = absurd (runs tt)
 due_link (Play at) bytes runs = absurd (runs tt)
 due_link (Join addr user) bytes runs = refl
+due_link (Serve addr workers conns) bytes runs = refl
 
 -- what the program answers to an input of these bytes is due
 complete_ending : {A : Type 0} (words : List (String A)) (bytes : List ℕ) (s : Streams)
@@ -152,11 +156,12 @@ complete_ending : {A : Type 0} (words : List (String A)) (bytes : List ℕ) (s :
     → s.input ≡ Some bytes → ¬ Rose s.read s.read_now → ¬ Rose s.written s.written_now
     → status ≢ 7 → status ≡ code_of ending → Appends dold dnew (ending_line ending) →
     (answer : Answer) × IsDue words bytes answer × IsGiven answer status s.old s.new dold dnew
-complete_ending words bytes s dold dnew status Usage (none, same) told read write memory code line = (
-  usage_answer,
-  inr (none, refl),
-  record { status = code; text = appends_nothing s.old s.new same.1; line = line },
-)
+complete_ending words bytes s dold dnew status Usage (none, same) told read write memory code
+    line = (
+      usage_answer,
+      inr (none, refl),
+      record { status = code; text = appends_nothing s.old s.new same.1; line = line },
+    )
 complete_ending words bytes s dold dnew status NoLink (command, asks, (runs, same)) told read write
     memory code line = (
       no_link_answer,
@@ -230,6 +235,7 @@ one_of law World bytes a b (done, actions, end, comes, is) (others, more, last, 
     is ∙ ap (λ (them : List Action). world_answer them end) same.0
     ∙ ap (λ (e : LinesEnd). world_answer more e) same.1 ∙ sym is_too
 one_of law (Join addr user) bytes a b due again = due ∙ sym again
+one_of law (Serve addr workers conns) bytes a b due again = due ∙ sym again
 
 -- the words and the input's bytes are due one answer
 one_due : OneDue → {A : Type 0} (words : List (String A)) (bytes : List ℕ) (a b : Answer)
@@ -387,6 +393,7 @@ command_at_end told left old new (Play at) end l h =
     picture_at_end (play_way at) told left old new end l h
 command_at_end told left old new World end l h = world_at_end told left old new end l h
 command_at_end told left old new (Join addr user) end l h = absurd l
+command_at_end told left old new (Serve addr workers conns) end l h = absurd l
 
 -- the headline, of an input whose bytes are known
 pub headline_of : ((actions : List Action) → Headline (world_after actions))
@@ -454,14 +461,14 @@ pub no_link_of : OneCommand → {A : Type 0} (words : List (String A)) (s : Stre
     (dold dnew : Option (List ℕ)) (before now status : ℕ) (ending : Ending)
     → EndsWords words s ending
     → SaysLine (code_of ending) (ending_line ending) dold dnew before now status
-    → AskForLink words
+    → (command : CommandLine) → Asks words command → ¬ Runs command
     → SaysNoLink dold dnew before now status ⊎ Says dold dnew before now status Memory
-no_link_of law words s dold dnew before now status Usage ends says link =
-    absurd (ends.0 (link.0, link.1))
-no_link_of law words s dold dnew before now status NoLink ends says link = inl says
-no_link_of law words s dold dnew before now status NoWords ends says link = inr says
-no_link_of law words s dold dnew before now status (Run end) ends says link =
-    absurd (not_both law words ends.0 link.0 ends.1 ends.2.0 link.1 link.2)
+no_link_of law words s dold dnew before now status Usage ends says command asks never =
+    absurd (ends.0 (command, asks))
+no_link_of law words s dold dnew before now status NoLink ends says command asks never = inl says
+no_link_of law words s dold dnew before now status NoWords ends says command asks never = inr says
+no_link_of law words s dold dnew before now status (Run end) ends says command asks never =
+    absurd (not_both law words ends.0 command ends.1 ends.2.0 asks never)
 
 pub untouched_of : {A : Type 0} (words : List (String A)) (s : Streams) (ending : Ending)
     → EndsWords words s ending → ¬ AskForRun words → Untouched s
@@ -497,6 +504,7 @@ refused Replay s runs same = same.1
 refused (Play at) s runs same = same.1
 refused World s runs same = world_refused s.input s.left s.old s.new same.1
 refused (Join addr user) s runs same = absurd runs
+refused (Serve addr workers conns) s runs same = absurd runs
 
 pub ends_of : OneCommand → {A : Type 0} (words : List (String A)) (s : Streams)
     (dold dnew : Option (List ℕ)) (before now status : ℕ) (ending : Ending)

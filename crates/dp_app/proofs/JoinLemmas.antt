@@ -1,6 +1,6 @@
 -- A run over a link gives the clauses of the top call.
 use Rattle.std.proofs.Common.{◌≡◌, ◌≢◌, ℕ, ◌<◌, ◌⊎◌, List, [], ◌∷◌, refl, sym, ap, ◌∙◌, subst}
-use Rattle.std.proofs.Common.{⊎_elim, arith, inl, inr, length, take, drop}
+use Rattle.std.proofs.Common.{⊎_elim, ◌≤◌, arith, codes, inl, inr, length, take, drop}
 use Rattle.std.proofs.lemmas.List.{take_at}
 use Rattle.std.specs.Prelude.{Option, Some, None, ◌++◌, map, string_bytes}
 use Rattle.std.specs.declared.string.String.{String}
@@ -19,13 +19,14 @@ use Rattle.dp_words.specs.declared.command_line.CommandLine.TheVariants.{Join}
 use Rattle.dp_app.specs.declared.ending.Ending.{Ending}
 use Rattle.dp_app.specs.declared.ending.Ending.TheVariants.{Usage, NoLink, NoWords, Run}
 use Rattle.dp_app.specs.Answer.{Says, SaysLine, status_of, line_of}
-use Rattle.dp_app.specs.Commands.{AskForLink, Asks, IsCommand, Runs}
+use Rattle.dp_app.specs.Commands.{Asks, IsCommand, Runs}
 use Rattle.dp_app.specs.Endings.{EndsCommand, EndsWords, Streams, Untouched, code_of, ending_line}
-use Rattle.dp_app.specs.Joins.{EndsLocally, HasJoined, HasLink, HasShortName, JoinsBy, JoinsOn}
+use Rattle.dp_app.specs.Joins.{AskAndLack, EndsJoin, EndsLocally, FitsLimits, HasJoined, HasLink}
+use Rattle.dp_app.specs.Joins.{JoinsBy, JoinsOn, LacksWires}
 use Rattle.dp_app.specs.Joins.{ends_of}
-use Rattle.clap.specs.Walk.{Row, Text}
-use Rattle.dp_words.specs.CommandLines.{AsksIn}
-use Rattle.dp_words.specs.declared.command_line.CommandLine.TheVariants.{Replay, World, Play}
+use Rattle.clap.specs.Walk.{Row, Text, first_of}
+use Rattle.dp_words.specs.CommandLines.{AsksIn, HasWorkers}
+use Rattle.dp_words.specs.declared.command_line.CommandLine.TheVariants.{Replay, World, Play, Serve}
 use Rattle.dp_app.proofs.Completeness.{IsOfBytes, OneCommand, neither, run_not_one, run_read_told}
 use Rattle.dp_app.proofs.Completeness.{run_told, run_uncounted, run_write_told}
 
@@ -119,38 +120,55 @@ module _ {W R T : Type 0} (links : W → Option (Links R T)) (faults : W → ℕ
 abbrev pub sliced : {W : Type 0} → List W → List W → ℕ → List W
 sliced old new n = take n (new ++ drop (length new) old)
 
+module _ {W R T : Type 0} (links : W → Option (Links R T)) (faults : W → ℕ)
+    (left : R → Option (List ℕ)) (read_faults : R → ℕ) (held : T → Option (List ℕ))
+    (write_faults : T → ℕ) where
+  wires-last : (name : List ℕ) (old new : List W) (s : Streams) (ending : Ending)
+      → EndsJoin links faults left read_faults held write_faults name old new s ending
+      → length new ≡ length old
+  wires-last name old new s ending (inl local) = ap length local.wires
+  wires-last name old new s ending (inr joins) =
+      ap length joins.after ∙ sym (ap length joins.before)
+
+  -- the same of the vector as of the slice
+  pub in-vector : (name : List ℕ) (old mid new : List W) (n : ℕ) (s : Streams) (ending : Ending)
+      → mid ≡ old → n ≡ length old
+      → EndsJoin links faults left read_faults held write_faults name mid new s ending
+      → EndsJoin links faults left read_faults held write_faults name old (sliced old new n) s
+      ending
+  in-vector name old mid new n s ending same long h =
+      let last = wires-last name mid new s ending h ∙ ap length same ∙ sym long in
+      subst (λ news. EndsJoin links faults left read_faults held write_faults name old news s
+      ending) (sym (take_at new (drop (length new) old) n last))
+      (subst (λ olds. EndsJoin links faults left read_faults held write_faults name olds new s
+      ending) same h)
+
 module _ {A W R T : Type 0} (links : W → Option (Links R T)) (faults : W → ℕ)
     (left : R → Option (List ℕ)) (read_faults : R → ℕ) (held : T → Option (List ℕ))
     (write_faults : T → ℕ) where
   abbrev pub EndsProgram : List (String A) → List W → List W → Streams → Ending → Type 0
   EndsProgram words old new s ending =
-      EndsLocally (EndsWords words s ending) old new ending
+      EndsLocally (EndsWords words s ending) (AskAndLack words old) old new ending
       ⊎ JoinsBy links faults left read_faults held write_faults words old new s ending
-
-  wires-last : (words : List (String A)) (old new : List W) (s : Streams) (ending : Ending)
-      → EndsProgram words old new s ending → length new ≡ length old
-  wires-last words old new s ending (inl local) = ap length local.wires
-  wires-last words old new s ending (inr by) =
-      ap length by.joins.after ∙ sym (ap length by.joins.before)
-
-  -- the same of the vector as of the slice
-  pub in-vector : (words : List (String A)) (old mid new : List W) (n : ℕ) (s : Streams)
-      (ending : Ending) → mid ≡ old → n ≡ length old → EndsProgram words mid new s ending
-      → EndsProgram words old (sliced old new n) s ending
-  in-vector words old mid new n s ending same long h =
-      let last = wires-last words mid new s ending h ∙ ap length same ∙ sym long in
-      subst (λ news. EndsProgram words old news s ending)
-      (sym (take_at new (drop (length new) old) n last))
-      (subst (λ olds. EndsProgram words olds new s ending) same h)
 
   -- the words that ask for it ask for a link, and there is one
   pub has-link : (words : List (String A)) (old new : List W) (s : Streams) (ending : Ending)
       → JoinsBy links faults left read_faults held write_faults words old new s ending
       → HasLink words old
   has-link words old new s ending by = (
-    (Join by.addr by.name, by.asks, λ runs. runs),
+    (by.addr, by.name, by.asks),
     λ none. let e : [] ≡ by.joins.wire ∷ by.joins.others = sym none ∙ by.joins.before in cc,
   )
+
+  -- words that ask to join ask for no server
+  pub no-server : OneCommand → (words : List (String A)) (old new : List W) (s : Streams)
+      (ending : Ending)
+      → JoinsBy links faults left read_faults held write_faults words old new s ending
+      → (addr : List ℕ) (workers : ℕ) (conns : Option ℕ) → Asks words (Serve addr workers conns)
+      → ⊥
+  no-server law words old new s ending by addr workers conns asks =
+      let same = law (map string_bytes words) (Join by.addr by.name) (Serve addr workers conns)
+      by.asks asks in cc
 
   -- what is left where the words ask to join, and there is a wire
   pub joined-of : OneCommand → (words : List (String A)) (old new : List W) (s : Streams)
@@ -163,7 +181,10 @@ module _ {A W R T : Type 0} (links : W → Option (Links R T)) (faults : W → �
   joined-of law words old new s Usage dold dnew before now status (inl local) says addr name asks
       some = absurd (local.ended.0 (Join addr name, asks))
   joined-of law words old new s NoLink dold dnew before now status (inl local) says addr name asks
-      some = absurd (some (local.none refl))
+      some =
+      let lacks = local.none refl in
+      absurd (some (subst (λ (c : CommandLine). LacksWires c old)
+      (law (map string_bytes words) lacks.0 (Join addr name) lacks.1 asks) lacks.2))
   joined-of law words old new s NoWords dold dnew before now status (inl local) says addr name asks
       some = record {
         ending = NoWords;
@@ -187,20 +208,26 @@ module _ {A W R T : Type 0} (links : W → Option (Links R T)) (faults : W → �
 
 -- ---- one command
 
-pub locally : {W : Type 0} (P Q : Type 0) (old new : List W) (ending : Ending) → (P → Q)
-    → EndsLocally P old new ending → EndsLocally Q old new ending
-locally P Q old new ending f h =
-    record { ended = f h.ended; wires = h.wires; none = h.none }
+pub locally : {W : Type 0} (P Q L M : Type 0) (old new : List W) (ending : Ending) → (P → Q)
+    → (L → M) → EndsLocally P L old new ending → EndsLocally Q M old new ending
+locally P Q L M old new ending f g h =
+    record { ended = f h.ended; wires = h.wires; none = λ e. g (h.none e) }
 
-pub short-name : (o : Option (Text × List Row)) (command : CommandLine) → AsksIn o command
-    → HasShortName command
-short-name None command asks = absurd asks
-short-name (Some entered) Replay asks = tt
-short-name (Some entered) World asks = tt
-short-name (Some entered) (Play at) asks = tt
-short-name (Some entered) (Join addr name) asks = asks.4
+pub within-limits : (o : Option (Text × List Row)) (command : CommandLine) → AsksIn o command
+    → FitsLimits command
+within-limits None command asks = absurd asks
+within-limits (Some entered) Replay asks = tt
+within-limits (Some entered) World asks = tt
+within-limits (Some entered) (Play at) asks = tt
+within-limits (Some entered) (Join addr name) asks = asks.4
+within-limits (Some entered) (Serve addr workers conns) asks =
+    by_word (first_of (codes "workers") entered.1) asks.2
+  where
+    by_word : (o : Option Text) → HasWorkers o workers → workers ≤ 64
+    by_word None h = absurd h
+    by_word (Some word) h = h.2
 
--- a command that needs a link, where there is none
+-- a client whose link isn't there
 pub no-link : (addr name : List ℕ) (s : Streams) (ending : Ending)
     → (ending ≡ NoLink) × Untouched s → EndsCommand (Join addr name) s ending
 no-link addr name s ending h =

@@ -1,2 +1,3 @@
 pub mod Completeness
 pub mod JoinLemmas
+pub mod ServerLemmas

@@ -21,6 +21,7 @@ use Rattle.dp_viewer.specs.Pictures.{PictureLeaves, picture_text}
 use Rattle.dp_viewer.specs.Ways.{Way, play_way, replay_way}
 use Rattle.dp_words.specs.declared.command_line.CommandLine.{CommandLine}
 use Rattle.dp_words.specs.declared.command_line.CommandLine.TheVariants.{Replay, World, Play, Join}
+use Rattle.dp_words.specs.declared.command_line.CommandLine.TheVariants.{Serve}
 use Rattle.dp_world.specs.Schedule.{AskFor, WorldComesTo, world_limit}
 use Rattle.dp_world.specs.RunEnds.{WorldLeaves}
 use Rattle.dp_app.specs.Commands.{Asks, IsCommand}
@@ -57,7 +58,7 @@ line_of BadHeader = codes "bad header\n"
 abbrev pub usage_line : List ℕ
 usage_line = codes "usage: drawpile replay, world, play, join, serve or drill\n"
 
--- the line that is said where a command needs a link, and there is none
+-- the line that is said where a command needs links, and the wires for them aren't there
 abbrev pub no_link_line : List ℕ
 no_link_line = codes "no link\n"
 
@@ -93,7 +94,7 @@ world_answer actions end = record {
 abbrev pub usage_answer : Answer
 usage_answer = record { status = 1; text = []; line = usage_line }
 
--- the answer where a command needs a link, and there is none
+-- the answer where a command needs links, and the wires for them aren't there
 abbrev pub no_link_answer : Answer
 no_link_answer = record { status = 13; text = []; line = no_link_line }
 
@@ -111,6 +112,7 @@ DueOf World input answer =
     (done : List Line) × (actions : List Action) × (end : LinesEnd)
     × WorldComesTo input done actions end × (answer ≡ world_answer actions end)
 DueOf (Join addr user) input answer = answer ≡ no_link_answer
+DueOf (Serve addr workers conns) input answer = answer ≡ no_link_answer
 
 -- The answer that the words and the input's bytes are due: that of the command for which they ask,
 -- and the line about the words where they ask for none.
@@ -153,6 +155,7 @@ CommandLeaves Replay input left old new end = PictureLeaves replay_way input lef
 CommandLeaves (Play at) input left old new end = PictureLeaves (play_way at) input left old new end
 CommandLeaves World input left old new end = WorldLeaves input left old new end
 CommandLeaves (Join addr user) input left old new end = ⊥
+CommandLeaves (Serve addr workers conns) input left old new end = ⊥
 
 -- the headline holds of the world after the first lines of an input of these bytes, however many:
 -- so of each world that is printed from

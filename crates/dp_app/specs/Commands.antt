@@ -1,8 +1,9 @@
 -- What the words ask for.
-use Rattle.std.specs.Prelude.{List, map, string_bytes, ⊤}
+use Rattle.std.specs.Prelude.{ℕ, List, map, string_bytes, ⊤}
 use Rattle.std.specs.declared.string.String.{String}
 use Rattle.dp_words.specs.declared.command_line.CommandLine.{CommandLine}
 use Rattle.dp_words.specs.declared.command_line.CommandLine.TheVariants.{Replay, World, Play, Join}
+use Rattle.dp_words.specs.declared.command_line.CommandLine.TheVariants.{Serve}
 use Rattle.dp_words.specs.CommandLines.{AsksFor, IsCommandLine}
 
 -- the words ask for the command
@@ -17,17 +18,18 @@ IsCommand words = IsCommandLine (map string_bytes words)
 abbrev pub IsWorld : {A : Type 0} → List (String A) → Type 0
 IsWorld words = Asks words World
 
--- a run happens of the command: it needs no link
+-- a run happens of the command: it needs no link and no wires
 abbrev pub Runs : CommandLine → Type 0
 Runs Replay = ⊤
 Runs World = ⊤
 Runs (Play at) = ⊤
 Runs (Join addr user) = ⊥
+Runs (Serve addr workers conns) = ⊥
 
 -- the words ask for a command of which a run happens
 abbrev pub AskForRun : {A : Type 0} → List (String A) → Type 0
 AskForRun words = (command : CommandLine) × Asks words command × Runs command
 
--- the words ask for a command that needs a link
+-- the words ask to join a session over a link
 abbrev pub AskForLink : {A : Type 0} → List (String A) → Type 0
-AskForLink words = (command : CommandLine) × Asks words command × ¬ Runs command
+AskForLink words = (addr name : List ℕ) × Asks words (Join addr name)

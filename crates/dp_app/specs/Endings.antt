@@ -36,6 +36,20 @@ pub record Streams : Type 0 where
   pub written : ℕ
   pub written_now : ℕ
 
+-- the same of an input and an output, by what is seen of them
+abbrev pub streams : {I O : Type 0} → (I → Option (List ℕ)) → (I → ℕ) → (O → Option (List ℕ))
+    → (O → ℕ) → I → I → O → O → Streams
+streams left read held written input input_now output output_now = record {
+  input = left input;
+  left = left input_now;
+  old = held output;
+  new = held output_now;
+  read = read input;
+  read_now = read input_now;
+  written = written output;
+  written_now = written output_now;
+}
+
 -- nothing was read or written
 abbrev pub Untouched : Streams → Type 0
 Untouched s =

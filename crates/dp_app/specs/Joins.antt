@@ -6,22 +6,24 @@ use Rattle.dp_lines.specs.declared.run_end.RunEnd.{RunEnd}
 use Rattle.dp_wire.specs.Links.{Links}
 use Rattle.dp_words.specs.declared.command_line.CommandLine.{CommandLine}
 use Rattle.dp_words.specs.declared.command_line.CommandLine.TheVariants.{Replay, World, Play, Join}
+use Rattle.dp_words.specs.declared.command_line.CommandLine.TheVariants.{Serve}
 use Rattle.dp_app.specs.declared.ending.Ending.{Ending}
 use Rattle.dp_app.specs.declared.ending.Ending.TheVariants.{NoLink, NoWords, Run}
 use Rattle.dp_app.specs.Commands.{AskForLink, Asks}
 use Rattle.dp_app.specs.Answer.{SaysLine}
 use Rattle.dp_app.specs.Endings.{Streams, Untouched, code_of, ending_line}
 
--- the words ask for a command that needs a link, and there is a wire on which to dial it
+-- the words ask to join a session, and there is a wire on which to dial
 abbrev pub HasLink : {A W : Type 0} → List (String A) → List W → Type 0
 HasLink words wires = AskForLink words × (wires ≢ [])
 
--- the name of a client has at most 32 bytes
-abbrev pub HasShortName : CommandLine → Type 0
-HasShortName Replay = Unit {0}
-HasShortName World = Unit {0}
-HasShortName (Play at) = Unit {0}
-HasShortName (Join addr name) = length name ≤ 32
+-- the name of a client has at most 32 bytes, and a server at most 64 workers
+abbrev pub FitsLimits : CommandLine → Type 0
+FitsLimits Replay = Unit {0}
+FitsLimits World = Unit {0}
+FitsLimits (Play at) = Unit {0}
+FitsLimits (Join addr name) = length name ≤ 32
+FitsLimits (Serve addr workers conns) = workers ≤ 64
 
 -- the streams as a run over a link sees them
 abbrev pub ends_of : Streams → Ends
@@ -36,12 +38,25 @@ ends_of s = record {
   output_faults_now = s.written_now;
 }
 
--- no wire was used: one that is needed isn't there
-pub record EndsLocally {W : Type 0} (Ended : Type 0) (old new : List W) (ending : Ending)
+-- the command needs wires that aren't there
+abbrev pub LacksWires : {W : Type 0} → CommandLine → List W → Type 0
+LacksWires Replay wires = ⊥
+LacksWires World wires = ⊥
+LacksWires (Play at) wires = ⊥
+LacksWires (Join addr name) wires = wires ≡ []
+LacksWires (Serve addr workers conns) wires = length wires ≢ workers
+
+-- the words ask for such a command
+abbrev pub AskAndLack : {A W : Type 0} → List (String A) → List W → Type 0
+AskAndLack words wires = (command : CommandLine) × Asks words command × LacksWires command wires
+
+-- no wire was used, and where the ending says that there is no link, wires that are needed aren't
+-- there
+pub record EndsLocally {W : Type 0} (Ended Lacks : Type 0) (old new : List W) (ending : Ending)
     : Type 0 where
   pub ended : Ended
   pub wires : new ≡ old
-  pub none : ending ≡ NoLink → old ≡ []
+  pub none : ending ≡ NoLink → Lacks
 
 -- the session was joined over the first of the wires by this name, and ended so
 pub record JoinsOn {W R T : Type 0} (links : W → Option (Links R T)) (faults : W → ℕ)
@@ -63,7 +78,7 @@ abbrev pub EndsJoin : {W R T : Type 0} → (W → Option (Links R T)) → (W →
     → (R → Option (List ℕ)) → (R → ℕ) → (T → Option (List ℕ)) → (T → ℕ) → List ℕ → List W
     → List W → Streams → Ending → Type 0
 EndsJoin links faults left read_faults held write_faults name old new s ending =
-    EndsLocally ((ending ≡ NoLink) × Untouched s) old new ending
+    EndsLocally ((ending ≡ NoLink) × Untouched s) (old ≡ []) old new ending
     ⊎ JoinsOn links faults left read_faults held write_faults name old new s ending
 
 -- the command is to join by a name, and the session was joined so

@@ -5,6 +5,7 @@ mod diagnostics;
 mod ending;
 mod program;
 mod running;
+mod server;
 mod status;
 
 pub use dp_lines::RunEnd;

@@ -1,29 +1,37 @@
 //! The program's top call.
 
-ghost use Rattle.std.specs.Prelude.{◌≡◌, ◌≢◌, ◌⊎◌, ◌<◌, ◌≤◌, [], ℕ, List, IfSome};
+ghost use Rattle.std.specs.Prelude.{◌≡◌, ◌≢◌, ◌⊎◌, ◌<◌, ◌≤◌, [], ℕ, List, Option, IfSome};
+ghost use Rattle.std.specs.Prelude.{length};
 ghost use Rattle.std.specs.Io.KnownBytes.{Keeps, IsAtEnd};
 ghost use Rattle.dp_io.specs.Faults.{Rose};
 ghost use Rattle.dp_lines.specs.declared.run_end.RunEnd.{RunEnd};
 ghost use Rattle.dp_lines.specs.declared.run_end.RunEnd.TheVariants.{Memory};
 ghost use Rattle.dp_words.specs.declared.command_line.CommandLine.{CommandLine};
-ghost use Rattle.dp_words.specs.declared.command_line.CommandLine.TheVariants.{Join};
+ghost use Rattle.dp_words.specs.declared.command_line.CommandLine.TheVariants.{Join, Serve};
 ghost use Rattle.dp_world.specs.RunEnds.{Blames};
 ghost use Rattle.dp_app.specs.Answer.{Answer, CommandLeaves, HasHeadline, IsDue, IsGiven};
 ghost use Rattle.dp_app.specs.Answer.{Says, SaysNoLink, SaysUsage};
 ghost use Rattle.dp_app.specs.Commands.{AskForLink, AskForRun, Asks, IsCommand, IsWorld, Runs};
+ghost use Rattle.dp_app.specs.Endings.{streams};
 ghost use Rattle.dp_app.specs.Joins.{HasJoined, HasLink};
+ghost use Rattle.dp_app.specs.Servers.{HasLinks, HasServed, HasWires, KeepsNothing};
+ghost use Rattle.dp_app.specs.Servers.{kept, wire_seen};
 
 use crate::diagnostics::say;
-use crate::running::run_words;
+use crate::running::{Ran, run_words};
+use dp_events::{Journal, Shut};
 use dp_io::{Sink, Source};
+use dp_serve::Reports;
 use dp_sim::headline;
 use dp_steps::Steps;
 use dp_viewer::{one_play, one_replay};
-use dp_wire::Wire;
+use dp_wire::{Gate, Wire};
 use dp_words::one_command_line;
 use dp_world::one_schedule;
 use std::alloc::Global;
+use std::sync::Wait;
 use std::sync::ledger::Ledger;
+use std::thread::Threads;
 
 /// What the program ends with.
 #[derive(Drop)]
@@ -32,23 +40,42 @@ pub struct Outcome<W> {
     pub status: u8,
     /// The wires that it was given.
     pub wires: Vec<W>,
+    /// The events that a server kept, in order. Like the next two it is empty for other commands.
+    pub journal: Journal,
+    /// The closings that a server refused.
+    pub shut: Shut,
+    /// A report of each link of a server.
+    pub reports: Reports,
 }
 
 /// The program: its words after its name, its input, its output, where it says why it ended, and
-/// the wires on which it may dial (`wanted` of dp_words says whether it needs one). The work on its
-/// canvas is counted. Nothing else is read or written.
-pub fn drawpile<I: Source, O: Sink, E: Sink, W: Wire + Drop, D: Ledger, T: Ledger>(
+/// the wires on which it may dial or that hand out the links of a server (`wanted` of dp_words says
+/// which it needs). The gate is passed by the workers of a server, outside the session's turn. The
+/// work on its canvas is counted. Nothing else is read or written.
+pub fn drawpile<
+    R: Threads + Wait + Sync,
+    I: Source,
+    O: Sink,
+    E: Sink,
+    W: Wire + Send,
+    G: Gate,
+    D: Ledger,
+    T: Ledger,
+>(
+    rt: &R,
     alloc: Global,
     words: &[String],
     input: &mut I,
     output: &mut O,
     diag: &mut E,
     wires: Vec<W>,
+    gate: &G,
     draws: &mut Steps<D>,
     tiles: &mut Steps<T>,
 ) -> Outcome<W>
-    // Words that are no command are refused, and so is a command that needs a link where there is
-    // no wire. Neither input nor output is touched then. Reading the words can run out of memory.
+    // Words that are no command are refused, and so is a command that needs links where the wires
+    // for them aren't there. Neither input nor output is touched then, nor by a server. Reading the
+    // words can run out of memory.
     ensures usage { result.status ≡ 1 → ¬ IsCommand words.now }
     ensures other_words { ¬ IsCommand words.now
         → SaysUsage (E.held diag.old) (E.held diag.new) (E.faults diag.old) (E.faults diag.new)
@@ -56,6 +83,12 @@ pub fn drawpile<I: Source, O: Sink, E: Sink, W: Wire + Drop, D: Ledger, T: Ledge
         ⊎ Says (E.held diag.old) (E.held diag.new) (E.faults diag.old) (E.faults diag.new)
         result.status Memory }
     ensures no_link { AskForLink words.now → wires.items ≡ []
+        → SaysNoLink (E.held diag.old) (E.held diag.new) (E.faults diag.old) (E.faults diag.new)
+        result.status
+        ⊎ Says (E.held diag.old) (E.held diag.new) (E.faults diag.old) (E.faults diag.new)
+        result.status Memory }
+    ensures no_wires { (addr : List ℕ) (workers : ℕ) (conns : Option ℕ)
+        → Asks words.now (Serve addr workers conns) → length wires.items ≢ workers
         → SaysNoLink (E.held diag.old) (E.held diag.new) (E.faults diag.old) (E.faults diag.new)
         result.status
         ⊎ Says (E.held diag.old) (E.held diag.new) (E.faults diag.old) (E.faults diag.new)
@@ -83,18 +116,23 @@ pub fn drawpile<I: Source, O: Sink, E: Sink, W: Wire + Drop, D: Ledger, T: Ledge
     // memory ran out before the words were read. The link is handed back, and other wires stay.
     ensures joins { (addr name : List ℕ) → Asks words.now (Join addr name) → wires.items ≢ []
         → HasJoined W.links W.faults W.Rx.left W.Rx.faults W.Tx.held W.Tx.faults name
-        wires.items result.wires.items (record {
-          input = I.left input.old;
-          left = I.left input.new;
-          old = O.held output.old;
-          new = O.held output.new;
-          read = I.faults input.old;
-          read_now = I.faults input.new;
-          written = O.faults output.old;
-          written_now = O.faults output.new;
-        }) (E.held diag.old) (E.held diag.new) (E.faults diag.old) (E.faults diag.new)
+        wires.items result.wires.items (streams I.left I.faults O.held O.faults input.old
+        input.new output.old output.new)
+        (E.held diag.old) (E.held diag.new) (E.faults diag.old) (E.faults diag.new)
         result.status }
-    ensures wires_stay { ¬ HasLink words.now wires.items → result.wires.items ≡ wires.items }
+
+    // `serve` runs a worker for each wire. What is left of the wires, and what was kept and
+    // reported, is what serving a new session over them leaves; the input and the output aren't
+    // touched. Or memory ran out before there was a session.
+    ensures serves { (addr : List ℕ) (conns : Option ℕ)
+        → Asks words.now (Serve addr (length wires.items) conns)
+        → HasServed (wire_seen W.links W.faults W.Rx.left W.Rx.faults W.Tx.held W.Tx.faults)
+        conns wires.items result.wires.items (kept result.journal result.shut result.reports)
+        (E.held diag.old) (E.held diag.new) (E.faults diag.old) (E.faults diag.new)
+        result.status }
+    ensures nothing_kept { ¬ HasWires words.now wires.items
+        → KeepsNothing (kept result.journal result.shut result.reports) }
+    ensures wires_stay { ¬ HasLinks words.now wires.items → result.wires.items ≡ wires.items }
 
     // And whatever the input comes to: after its first lines, however many, each client has taken a
     // prefix of the history of its epoch, its confirmed canvas is that prefix replayed, its view
@@ -102,8 +140,10 @@ pub fn drawpile<I: Source, O: Sink, E: Sink, W: Wire + Drop, D: Ledger, T: Ledge
     // nothing.
     ensures headline { IsWorld words.now → IfSome (I.left input.old) HasHeadline }
 
-    // Of all: the input is read to its end, faults are reported, and none is passed over.
-    ensures to_end { IsCommand words.now → (result.status ≡ 0) ⊎ (result.status ≡ 9)
+    // Of all but a server: the input is read to its end. Faults are reported, and none is passed
+    // over.
+    ensures to_end { IsCommand words.now → ¬ HasWires words.now wires.items
+        → (result.status ≡ 0) ⊎ (result.status ≡ 9)
         → IsAtEnd (I.left input.new) }
     ensures fault_told { IsCommand words.now → I.faults input.old < I.faults input.new
         → (result.status ≡ 3)
@@ -123,9 +163,9 @@ pub fn drawpile<I: Source, O: Sink, E: Sink, W: Wire + Drop, D: Ledger, T: Ledge
     ensures diag_later { E.faults diag.old ≤ E.faults diag.new }
 
     // Where nothing failed and memory sufficed, an answer is given that the words and the input's
-    // bytes are due, and they are due no other. (That of `join` over a link depends on the link's
-    // bytes, too: `joins` says it.)
-    ensures complete { ¬ HasLink words.now wires.items
+    // bytes are due, and they are due no other. (What `join` and `serve` do over links depends on
+    // the links' bytes, too: `joins` and `serves` say it.)
+    ensures complete { ¬ HasLinks words.now wires.items
         → ¬ Rose (I.faults input.old) (I.faults input.new)
         → ¬ Rose (O.faults output.old) (O.faults output.new)
         → ¬ Rose (E.faults diag.old) (E.faults diag.new)
@@ -133,7 +173,7 @@ pub fn drawpile<I: Source, O: Sink, E: Sink, W: Wire + Drop, D: Ledger, T: Ledge
         → IfSome (I.left input.old) (λ bytes. (answer : Answer) × IsDue words.now bytes answer
         × IsGiven answer result.status
         (O.held output.old) (O.held output.new) (E.held diag.old) (E.held diag.new)) }
-    ensures exact { ¬ HasLink words.now wires.items
+    ensures exact { ¬ HasLinks words.now wires.items
         → ¬ Rose (I.faults input.old) (I.faults input.new)
         → ¬ Rose (O.faults output.old) (O.faults output.new)
         → ¬ Rose (E.faults diag.old) (E.faults diag.new)
@@ -147,8 +187,19 @@ pub fn drawpile<I: Source, O: Sink, E: Sink, W: Wire + Drop, D: Ledger, T: Ledge
     one_play();
     one_schedule();
     headline();
-    let mut wires = wires;
-    let ending = run_words(alloc, words, input, output, &mut wires, draws, tiles);
+    let Ran {
+        ending,
+        wires,
+        journal,
+        shut,
+        reports,
+    } = run_words(rt, alloc, words, input, output, wires, gate, draws, tiles);
     let status = say(diag, ending);
-    Outcome { status, wires }
+    Outcome {
+        status,
+        wires,
+        journal,
+        shut,
+        reports,
+    }
 }

@@ -1,111 +1,184 @@
 //! Running what the words ask for.
 
-ghost use Rattle.std.specs.Prelude.{◌≡◌, ◌≤◌, ◌⊎◌, length};
-ghost use Rattle.dp_app.specs.Endings.{EndsCommand, EndsWords, Streams};
-ghost use Rattle.dp_app.specs.Joins.{EndsJoin, EndsLocally, HasShortName, JoinsAs, JoinsBy};
+ghost use Rattle.std.specs.Prelude.{◌≡◌, ◌≤◌, ◌⊎◌, [], length};
+ghost use Rattle.dp_app.specs.Endings.{EndsCommand, EndsWords, streams};
+ghost use Rattle.dp_app.specs.Joins.{AskAndLack, EndsJoin, EndsLocally, FitsLimits, JoinsAs};
+ghost use Rattle.dp_app.specs.Joins.{JoinsBy, LacksWires};
+ghost use Rattle.dp_app.specs.Servers.{KeepsNothing, ServesAs, ServesBy, kept, wire_seen};
 
 use crate::ending::Ending;
+use crate::server::run_server;
+use dp_events::{Journal, Shut};
 use dp_io::{Sink, Source};
 use dp_joining::run_join;
 use dp_msg_meta::Text;
+use dp_serve::Reports;
 use dp_steps::Steps;
 use dp_viewer::{run_play, run_replay};
-use dp_wire::Wire;
+use dp_wire::{Gate, Wire};
 use dp_words::{CommandLine, read_words};
 use dp_world::run_world;
 use std::alloc::{AllocError, Global};
+use std::sync::Wait;
 use std::sync::ledger::Ledger;
+use std::thread::Threads;
 
-/// Runs what the words ask for, with the first of the wires where that is a link.
-pub(crate) fn run_words<I: Source, O: Sink, W: Wire, D: Ledger, T: Ledger>(
+/// How the program ended, the wires, and what a server left beside them.
+#[derive(Drop)]
+pub(crate) struct Ran<W> {
+    pub(crate) ending: Ending,
+    pub(crate) wires: Vec<W>,
+    pub(crate) journal: Journal,
+    pub(crate) shut: Shut,
+    pub(crate) reports: Reports,
+}
+
+impl<W> Ran<W> {
+    /// There was no server.
+    pub(crate) fn without(alloc: Global, ending: Ending, wires: Vec<W>) -> Ran<W>
+        ensures ending { result.ending ≡ ending }
+        ensures wires { result.wires ≡ wires }
+        ensures nothing { KeepsNothing (kept result.journal result.shut result.reports) }
+    {
+        Ran {
+            ending,
+            wires,
+            journal: Journal::new(alloc),
+            shut: Shut::new(alloc),
+            reports: Reports::new(alloc),
+        }
+    }
+}
+
+/// Runs what the words ask for, with the wires where that takes links.
+pub(crate) fn run_words<
+    R: Threads + Wait + Sync,
+    I: Source,
+    O: Sink,
+    W: Wire + Send,
+    G: Gate,
+    D: Ledger,
+    T: Ledger,
+>(
+    rt: &R,
     alloc: Global,
     words: &[String],
     input: &mut I,
     output: &mut O,
-    wires: &mut [W],
+    wires: Vec<W>,
+    gate: &G,
     draws: &mut Steps<D>,
     tiles: &mut Steps<T>,
-) -> Ending
-    ensures ends { EndsLocally (EndsWords words.now (record {
-      input = I.left input.old;
-      left = I.left input.new;
-      old = O.held output.old;
-      new = O.held output.new;
-      read = I.faults input.old;
-      read_now = I.faults input.new;
-      written = O.faults output.old;
-      written_now = O.faults output.new;
-    }) result) wires.old wires.new result
+) -> Ran<W>
+    ensures ends { ((EndsLocally
+        (EndsWords words.now (streams I.left I.faults O.held O.faults input.old input.new
+        output.old output.new) result.ending)
+        (AskAndLack words.now wires.items) wires.items result.wires.items result.ending
         ⊎ JoinsBy W.links W.faults W.Rx.left W.Rx.faults W.Tx.held W.Tx.faults words.now
-        wires.old wires.new (record {
-          input = I.left input.old;
-          left = I.left input.new;
-          old = O.held output.old;
-          new = O.held output.new;
-          read = I.faults input.old;
-          read_now = I.faults input.new;
-          written = O.faults output.old;
-          written_now = O.faults output.new;
-        }) result }
+        wires.items result.wires.items (streams I.left I.faults O.held O.faults input.old
+        input.new output.old output.new) result.ending)
+        × KeepsNothing (kept result.journal result.shut result.reports))
+        ⊎ ServesBy (wire_seen W.links W.faults W.Rx.left W.Rx.faults W.Tx.held W.Tx.faults)
+        words.now wires.items result.wires.items (streams I.left I.faults O.held O.faults
+        input.old input.new output.old output.new)
+        (kept result.journal result.shut result.reports) result.ending }
     ensures input_later { I.faults input.old ≤ I.faults input.new }
     ensures output_later { O.faults output.old ≤ O.faults output.new }
 {
     match read_words(alloc, words) {
-        Ok(Some(command)) => run_command(alloc, &command, input, output, wires, draws, tiles),
-        Ok(None) => Ending::Usage,
-        Err(AllocError) => Ending::NoWords,
+        Ok(Some(command)) => run_command(
+            rt, alloc, &command, input, output, wires, gate, draws, tiles,
+        ),
+        Ok(None) => Ran::without(alloc, Ending::Usage, wires),
+        Err(AllocError) => Ran::without(alloc, Ending::NoWords, wires),
     }
 }
 
 /// Runs a command.
-fn run_command<I: Source, O: Sink, W: Wire, D: Ledger, T: Ledger>(
+fn run_command<
+    R: Threads + Wait + Sync,
+    I: Source,
+    O: Sink,
+    W: Wire + Send,
+    G: Gate,
+    D: Ledger,
+    T: Ledger,
+>(
+    rt: &R,
     alloc: Global,
     command: &CommandLine,
     input: &mut I,
     output: &mut O,
-    wires: &mut [W],
+    wires: Vec<W>,
+    gate: &G,
     draws: &mut Steps<D>,
     tiles: &mut Steps<T>,
-) -> Ending
-    requires { HasShortName command.now }
-    ensures ends { EndsLocally (EndsCommand command.now (record {
-      input = I.left input.old;
-      left = I.left input.new;
-      old = O.held output.old;
-      new = O.held output.new;
-      read = I.faults input.old;
-      read_now = I.faults input.new;
-      written = O.faults output.old;
-      written_now = O.faults output.new;
-    }) result) wires.old wires.new result
+) -> Ran<W>
+    requires { FitsLimits command.now }
+    ensures ends { ((EndsLocally
+        (EndsCommand command.now (streams I.left I.faults O.held O.faults input.old input.new
+        output.old output.new) result.ending)
+        (LacksWires command.now wires.items) wires.items result.wires.items result.ending
         ⊎ JoinsAs W.links W.faults W.Rx.left W.Rx.faults W.Tx.held W.Tx.faults command.now
-        wires.old wires.new (record {
-          input = I.left input.old;
-          left = I.left input.new;
-          old = O.held output.old;
-          new = O.held output.new;
-          read = I.faults input.old;
-          read_now = I.faults input.new;
-          written = O.faults output.old;
-          written_now = O.faults output.new;
-        }) result }
+        wires.items result.wires.items (streams I.left I.faults O.held O.faults input.old
+        input.new output.old output.new) result.ending)
+        × KeepsNothing (kept result.journal result.shut result.reports))
+        ⊎ ServesAs (wire_seen W.links W.faults W.Rx.left W.Rx.faults W.Tx.held W.Tx.faults)
+        command.now wires.items result.wires.items (streams I.left I.faults O.held O.faults
+        input.old input.new output.old output.new)
+        (kept result.journal result.shut result.reports) result.ending }
     ensures input_later { I.faults input.old ≤ I.faults input.new }
     ensures output_later { O.faults output.old ≤ O.faults output.new }
 {
     match command {
-        CommandLine::Replay => Ending::Run(run_replay(alloc, input, output, draws, tiles)),
-        CommandLine::World => Ending::Run(run_world(alloc, input, output, draws, tiles)),
+        CommandLine::Replay => {
+            let end = run_replay(alloc, input, output, draws, tiles);
+            Ran::without(alloc, Ending::Run(end), wires)
+        }
+        CommandLine::World => {
+            let end = run_world(alloc, input, output, draws, tiles);
+            Ran::without(alloc, Ending::Run(end), wires)
+        }
         CommandLine::Play { at } => {
-            Ending::Run(run_play(alloc, input, output, *at, draws, tiles))
+            let end = run_play(alloc, input, output, *at, draws, tiles);
+            Ran::without(alloc, Ending::Run(end), wires)
         }
         CommandLine::Join { addr: _, name } => {
             run_link(alloc, name, input, output, wires, draws, tiles)
         }
+        CommandLine::Serve {
+            addr: _,
+            workers,
+            conns,
+        } => run_server(rt, alloc, wires, *workers, *conns, gate),
     }
 }
 
-/// Joins a session over the first of the wires, where there is one.
+/// Joins a session over the first of the wires, where there is one, and gives the wires back.
 fn run_link<I: Source, O: Sink, W: Wire, D: Ledger, T: Ledger>(
+    alloc: Global,
+    name: &Text,
+    input: &mut I,
+    output: &mut O,
+    wires: Vec<W>,
+    draws: &mut Steps<D>,
+    tiles: &mut Steps<T>,
+) -> Ran<W>
+    requires { length name.now ≤ 32 }
+    ensures ends { EndsJoin W.links W.faults W.Rx.left W.Rx.faults W.Tx.held W.Tx.faults name.now
+        wires.items result.wires.items (streams I.left I.faults O.held O.faults input.old input.new
+        output.old output.new) result.ending }
+    ensures nothing { KeepsNothing (kept result.journal result.shut result.reports) }
+    ensures input_later { I.faults input.old ≤ I.faults input.new }
+    ensures output_later { O.faults output.old ≤ O.faults output.new }
+{
+    let mut wires = wires;
+    let ending = join_first(alloc, name, input, output, &mut wires, draws, tiles);
+    Ran::without(alloc, ending, wires)
+}
+
+/// Joins a session over the first of the wires, where there is one.
+fn join_first<I: Source, O: Sink, W: Wire, D: Ledger, T: Ledger>(
     alloc: Global,
     name: &Text,
     input: &mut I,
@@ -116,16 +189,8 @@ fn run_link<I: Source, O: Sink, W: Wire, D: Ledger, T: Ledger>(
 ) -> Ending
     requires { length name.now ≤ 32 }
     ensures ends { EndsJoin W.links W.faults W.Rx.left W.Rx.faults W.Tx.held W.Tx.faults name.now
-        wires.old wires.new (record {
-          input = I.left input.old;
-          left = I.left input.new;
-          old = O.held output.old;
-          new = O.held output.new;
-          read = I.faults input.old;
-          read_now = I.faults input.new;
-          written = O.faults output.old;
-          written_now = O.faults output.new;
-        }) result }
+        wires.old wires.new (streams I.left I.faults O.held O.faults input.old
+        input.new output.old output.new) result }
     ensures input_later { I.faults input.old ≤ I.faults input.new }
     ensures output_later { O.faults output.old ≤ O.faults output.new }
 {

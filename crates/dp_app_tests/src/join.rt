@@ -77,7 +77,15 @@ fn join_over_a_link(rt: HostRuntime) -> Result<(), Fail> {
         let mut output = MemSink::new(alloc, 1000, 7, Vec::new(alloc))?;
         let mut diag = MemSink::new(alloc, 1000, 7, Vec::new(alloc))?;
         let wires = wires_of(alloc, row.link, true)?;
-        let outcome = outcome_of(alloc, &words, &mut input, &mut output, &mut diag, wires);
+        let outcome = outcome_of(
+            &rt,
+            alloc,
+            &words,
+            &mut input,
+            &mut output,
+            &mut diag,
+            wires,
+        );
         assert_eq!(rt; outcome.status, row.status, "{}", row.script);
         assert_eq!(rt; output.as_slice(), row.text.as_bytes());
         assert_eq!(rt; diag.as_slice(), row.line.as_bytes());
@@ -98,7 +106,15 @@ fn join_that_cannot_dial(rt: HostRuntime) -> Result<(), Fail> {
     let mut output = MemSink::new(alloc, 1000, 7, Vec::new(alloc))?;
     let mut diag = MemSink::new(alloc, 1000, 7, Vec::new(alloc))?;
     let wires = wires_of(alloc, "", false)?;
-    let outcome = outcome_of(alloc, &words, &mut input, &mut output, &mut diag, wires);
+    let outcome = outcome_of(
+        &rt,
+        alloc,
+        &words,
+        &mut input,
+        &mut output,
+        &mut diag,
+        wires,
+    );
     assert_eq!(rt; outcome.status, 5);
     assert_eq!(rt; diag.as_slice(), b"link fault\n".as_slice());
     assert!(rt; output.as_slice().is_empty());

@@ -10,4 +10,6 @@ mod replay;
 #[cfg(test)]
 mod running;
 #[cfg(test)]
+mod serve;
+#[cfg(test)]
 mod world;

@@ -287,6 +287,7 @@ fn the_greatest_canvas(rt: HostRuntime) -> Result<(), Fail> {
     let mut output = MemSink::new(alloc, 50_400_000, 50_400_000, Vec::new(alloc))?;
     let mut diag = MemSink::new(alloc, 100, 100, Vec::new(alloc))?;
     let outcome = outcome_of(
+        &rt,
         alloc,
         &words,
         &mut source,
@@ -328,6 +329,7 @@ fn words_that_are_no_command(rt: HostRuntime) -> Result<(), Fail> {
         let mut output = MemSink::new(alloc, 100, 1, Vec::new(alloc))?;
         let mut diag = MemSink::new(alloc, 100, 1, Vec::new(alloc))?;
         let outcome = outcome_of(
+            &rt,
             alloc,
             &list,
             &mut source,
@@ -528,6 +530,7 @@ fn inputs_about_the_limit(rt: HostRuntime) -> Result<(), Fail> {
         let mut output = MemSink::new(alloc, 100, 100, Vec::new(alloc))?;
         let mut diag = MemSink::new(alloc, 100, 100, Vec::new(alloc))?;
         let outcome = outcome_of(
+            &rt,
             alloc,
             &words,
             &mut source,

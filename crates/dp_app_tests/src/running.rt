@@ -5,12 +5,14 @@ ghost use Rattle.std.specs.Prelude.{◌≡◌, ◌<◌};
 use dp_app::{Outcome, drawpile};
 use dp_io::{MemSink, MemSource, Sink, Source};
 use dp_steps::Steps;
-use dp_wire::MemWire;
+use dp_wire::{Gate, MemWire, OpenGate};
 use std::alloc::Global;
 use std::marker::Brand;
 use std::process::Abort;
+use std::sync::Wait;
 use std::sync::ledger::{Blank, Ledger};
 use std::test::Fail;
+use std::thread::Threads;
 
 /// The calls that fail, by their numbers from 1, of a run's input, output and diag.
 #[derive(Clone, Copy)]
@@ -35,8 +37,8 @@ pub struct Ran {
 }
 
 /// Runs words on the input in pieces of this length, and writes in pieces of this length.
-pub fn run(
-    rt: &impl Abort,
+pub fn run<R: Abort + Threads + Wait + Sync>(
+    rt: &R,
     alloc: Global,
     words: &str,
     input: &[u8],
@@ -58,7 +60,15 @@ pub fn run(
     )?;
     let mut diag = MemSink::new(alloc, 1000, piece, Vec::from_slice(alloc, faults.diag)?)?;
     let wires = Vec::new(alloc);
-    let outcome = outcome_of(alloc, &words, &mut source, &mut output, &mut diag, wires);
+    let outcome = outcome_of(
+        rt,
+        alloc,
+        &words,
+        &mut source,
+        &mut output,
+        &mut diag,
+        wires,
+    );
     let status = outcome.status;
     Ok(Ran {
         status,
@@ -76,8 +86,9 @@ pub fn words_of(alloc: Global, text: &str) -> Result<Vec<String>, Fail> {
     Ok(words)
 }
 
-/// Runs the program on these wires with new counters.
-pub fn outcome_of<I: Source, O: Sink, E: Sink>(
+/// Runs the program on these wires with new counters, and a gate that holds nobody.
+pub fn outcome_of<R: Threads + Wait + Sync, I: Source, O: Sink, E: Sink>(
+    rt: &R,
     alloc: Global,
     words: &[String],
     input: &mut I,
@@ -85,26 +96,44 @@ pub fn outcome_of<I: Source, O: Sink, E: Sink>(
     diag: &mut E,
     wires: Vec<MemWire>,
 ) -> Outcome<MemWire> {
-    counted::<_, _, _, Brand, Brand>(
-        alloc,
-        words,
-        input,
-        output,
-        diag,
-        wires,
-        Blank::new(1),
-        Blank::new(1),
-    )
+    gated(rt, alloc, words, input, output, diag, wires, &OpenGate)
 }
 
-/// Runs the program with counters over these blanks.
-fn counted<I: Source, O: Sink, E: Sink, D: Ledger, T: Ledger>(
+/// The same with a gate.
+pub fn gated<R: Threads + Wait + Sync, I: Source, O: Sink, E: Sink, G: Gate>(
+    rt: &R,
     alloc: Global,
     words: &[String],
     input: &mut I,
     output: &mut O,
     diag: &mut E,
     wires: Vec<MemWire>,
+    gate: &G,
+) -> Outcome<MemWire> {
+    counted::<_, _, _, _, _, Brand, Brand>(
+        rt,
+        alloc,
+        words,
+        input,
+        output,
+        diag,
+        wires,
+        gate,
+        Blank::new(1),
+        Blank::new(1),
+    )
+}
+
+/// Runs the program with counters over these blanks.
+fn counted<R: Threads + Wait + Sync, I: Source, O: Sink, E: Sink, G: Gate, D: Ledger, T: Ledger>(
+    rt: &R,
+    alloc: Global,
+    words: &[String],
+    input: &mut I,
+    output: &mut O,
+    diag: &mut E,
+    wires: Vec<MemWire>,
+    gate: &G,
     draws: Blank,
     tiles: Blank,
 ) -> Outcome<MemWire>
@@ -114,6 +143,6 @@ fn counted<I: Source, O: Sink, E: Sink, D: Ledger, T: Ledger>(
     let mut draws = Steps::<D>::new(draws);
     let mut tiles = Steps::<T>::new(tiles);
     drawpile(
-        alloc, words, input, output, diag, wires, &mut draws, &mut tiles,
+        rt, alloc, words, input, output, diag, wires, gate, &mut draws, &mut tiles,
     )
 }

@@ -539,15 +539,19 @@ pub says-all : (u v w : SeatView) (left unread : Option (List ℕ)) (stream : St
     (end : UpEnd) (outcome : Outcome) → AddUp u v w → SaidToEnd u v left unread stream conn end
     → ActsOnce v (Close conn) outcome w → SaysAll u w left unread stream conn end outcome
 says-all u v w left unread stream conn end outcome both p q = record {
-  read = p.read;
-  messages = p.messages;
-  rest = p.rest;
-  says = p.says;
-  close = q.act;
-  gave = p.gave;
-  heard = p.heard;
+  acts = p.says ++ q.act ∷ [];
   goes = both p.says (q.act ∷ []) p.goes q.goes;
-  closes = q.is;
-  said = p.said;
-  rests = p.rests;
+  are = record {
+    read = p.read;
+    messages = p.messages;
+    rest = p.rest;
+    says = p.says;
+    close = q.act;
+    gave = p.gave;
+    heard = p.heard;
+    acts_are = refl;
+    closes = q.is;
+    said = p.said;
+    rests = p.rests;
+  };
 }

@@ -19,9 +19,11 @@ use Rattle.dp_hall.specs.Laws.{Continues}
 use Rattle.dp_link.specs.declared.ends.Greeting.{Greeting}
 use Rattle.dp_link.specs.declared.ends.GreetEnd.{GreetEnd}
 use Rattle.dp_link.specs.declared.ends.GreetEnd.TheVariants as greet
-use Rattle.dp_link.specs.Acts.{Outcome, Act, SeatView, ActsOnce}
+use Rattle.dp_link.specs.Acts.{Outcome, Act, SeatView, ActsOnce, last_outcome}
 use Rattle.dp_link.specs.Answers.{OpensWith, opened_as as reply_of}
-use Rattle.dp_link.specs.Hello.{Answers, AnswersBy, Welcomes, ReadsName, NamesBy}
+use Rattle.dp_link.specs.Hello.{Answers, AnswersBy, Welcomes, ReadsName, NamesBy, RefusesBy}
+use Rattle.dp_link.specs.Hello.{BlamesHello, BlamesRefusal}
+use Rattle.std.specs.declared.alloc.AllocError.{AllocError}
 use Rattle.dp_link.specs.Hello.{Greets, GreetsBy}
 
 -- the last act of a legal log is a step
@@ -84,39 +86,106 @@ opens-with name registered answer (old, new, step) =
 
 -- the Welcome could not be written
 pub welcome-fails : (u v w : SeatView) (held taken : Option (List ℕ)) (name : List ℕ)
-    (greeting : Greeting) (end : GreetEnd)
+    (greeting : Greeting) (outcome : Outcome)
     → ((xs ys : List Act) → Continues u xs v → Continues v ys w → Continues u (xs ++ ys) w)
     → ActsOnce u (event.Open name false) (Ok (reply_of greeting)) v
-    → Welcomes v w held taken greeting (Err end) → Answers u w held taken name (Err end)
-welcome-fails u v w held taken name greeting greet.WriteFault both once h =
-    let acts : List Act = once.act ∷ h.acts in
-    record {
-      acts = acts;
-      goes = both (once.act ∷ []) h.acts once.goes h.goes;
-      by = inl (
-        greeting,
-        (once.act, h.by.0, ap (λ l. once.act ∷ l) h.by.1, once.is, h.by.2),
-        h.by.3,
-      );
-    }
-welcome-fails u v w held taken name greeting greet.ReadFault both once h = absurd (h.by)
-welcome-fails u v w held taken name greeting greet.End both once h = absurd (h.by)
-welcome-fails u v w held taken name greeting (greet.BadMessage at) both once h = absurd (h.by)
-welcome-fails u v w held taken name greeting (greet.Refused r) both once h = absurd (h.by)
-welcome-fails u v w held taken name greeting greet.Memory both once h = absurd (h.by)
-
--- ---- the whole
+    → Welcomes v w held taken greeting (Err outcome)
+    → (a : Answers u w held taken name (Err greet.WriteFault))
+    × (last_outcome a.acts ≡ Some outcome)
+welcome-fails u v w held taken name greeting outcome both once h = (
+  record {
+    acts = once.act ∷ h.acts;
+    goes = both (once.act ∷ []) h.acts once.goes h.goes;
+    by = inl (
+      greeting,
+      (once.act, h.by.0, ap (λ l. once.act ∷ l) h.by.1, once.is, h.by.2.event_is),
+      h.by.3,
+    );
+  },
+  ap (λ l. last_outcome (once.act ∷ l)) h.by.1 ∙ ap (λ o. Some o) h.by.2.outcome_is,
+)
 
 keeps-same : (held : Option (List ℕ)) → Keeps held held
 keeps-same None = tt
 keeps-same (Some xs) = refl
 
+-- the Welcome was written
+pub welcome-done : (u v w : SeatView) (held taken : Option (List ℕ)) (name : List ℕ)
+    (greeting : Greeting)
+    → ((xs ys : List Act) → Continues u xs v → Continues v ys w → Continues u (xs ++ ys) w)
+    → ActsOnce u (event.Open name false) (Ok (reply_of greeting)) v
+    → Welcomes v w held taken greeting (Ok tt)
+    → (a : Answers u w held taken name (Ok greeting))
+    × (last_outcome a.acts ≡ Some (Ok (reply_of greeting)))
+welcome-done u v w held taken name greeting both once h = (
+  record {
+    acts = once.act ∷ h.acts;
+    goes = both (once.act ∷ []) h.acts once.goes h.goes;
+    by = ((once.act, ap (λ l. once.act ∷ l) h.by.0, once.is), h.by.1);
+  },
+  ap (λ l. last_outcome (once.act ∷ l)) h.by.0 ∙ ap (λ o. Some o) once.is.outcome_is,
+)
+
+-- the session refused the Open
+pub refused-answers : (u v : SeatView) (held taken : Option (List ℕ)) (name : List ℕ)
+    (end : GreetEnd) (answer : Reply) → ActsOnce u (event.Open name false) (Ok answer) v
+    → RefusesBy end answer held taken
+    → (a : Answers u v held taken name (Err end)) × (last_outcome a.acts ≡ Some (Ok answer))
+refused-answers u v held taken name (greet.Refused other) answer once h =
+    subst (λ r. (a : Answers u v held taken name (Err (greet.Refused r)))
+    × (last_outcome a.acts ≡ Some (Ok answer))) (sym h.0) (
+      record {
+        acts = once.act ∷ [];
+        goes = once.goes;
+        by = (h.1, ((once.act, refl, once.is), h.2), h.3);
+      },
+      ap (λ o. Some o) once.is.outcome_is,
+    )
+refused-answers u v held taken name greet.WriteFault answer once h = (
+  record {
+    acts = once.act ∷ [];
+    goes = once.goes;
+    by = inr (answer, h.0, ((once.act, refl, once.is), h.1), h.2);
+  },
+  ap (λ o. Some o) once.is.outcome_is,
+)
+refused-answers u v held taken name greet.ReadFault answer once h = absurd h
+refused-answers u v held taken name greet.End answer once h = absurd h
+refused-answers u v held taken name (greet.BadMessage at) answer once h = absurd h
+refused-answers u v held taken name greet.Memory answer once h = absurd h
+
+pub refused-blames : (end : GreetEnd) (answer : Reply) (held taken : Option (List ℕ))
+    (before now : ℕ) → RefusesBy end answer held taken → BlamesRefusal end before now
+    → BlamesHello {T = Greeting} (Err end) 0 0 before now
+refused-blames (greet.Refused other) answer held taken before now h blames = (refl, blames)
+refused-blames greet.WriteFault answer held taken before now h blames = (refl, blames)
+refused-blames greet.ReadFault answer held taken before now h blames = absurd h
+refused-blames greet.End answer held taken before now h blames = absurd h
+refused-blames (greet.BadMessage at) answer held taken before now h blames = absurd h
+refused-blames greet.Memory answer held taken before now h blames = absurd h
+
+-- memory ran out in the Open
+pub memory-answers : (u v : SeatView) (held : Option (List ℕ)) (name : List ℕ)
+    (error : AllocError) → ActsOnce u (event.Open name false) (Err error) v
+    → (a : Answers u v held held name (Err greet.Memory))
+    × (last_outcome a.acts ≡ Some (Err error))
+memory-answers u v held name error once = (
+  record {
+    acts = once.act ∷ [];
+    goes = once.goes;
+    by = (error, (once.act, refl, once.is), keeps-same held);
+  },
+  ap (λ o. Some o) once.is.outcome_is,
+)
+
+-- ---- the whole
+
 -- no Hello came
 pub unnamed-greets : (v : SeatView) (left unread held : Option (List ℕ)) (stream : Stream)
     (end : GreetEnd) → Continues v [] v → ReadsName left unread stream (Err end)
-    → Greets v v left unread held held stream (Err end)
+    → (h : Greets v v left unread held held stream (Err end)) × (last_outcome h.acts ≡ None)
 unnamed-greets v left unread held stream end none h =
-    record { read = h.read; acts = []; gave = h.gave; goes = none; by = by_end end h.by }
+    (record { read = h.read; acts = []; gave = h.gave; goes = none; by = by_end end h.by }, refl)
   where
     by_end : (end : GreetEnd) → NamesBy (Err end) h.read stream
         → GreetsBy (Err end) h.read stream [] held held
@@ -129,15 +198,20 @@ unnamed-greets v left unread held stream end none h =
 
 -- a Hello came, and was answered
 pub named-greets : (v w : SeatView) (left unread held taken : Option (List ℕ)) (stream : Stream)
-    (name : List ℕ) (result : Result Greeting GreetEnd) → ReadsName left unread stream (Ok name)
-    → Answers v w held taken name result → Greets v w left unread held taken stream result
-named-greets v w left unread held taken stream name result h a = record {
-  read = h.read;
-  acts = a.acts;
-  gave = h.gave;
-  goes = a.goes;
-  by = by_result result a.by;
-}
+    (name : List ℕ) (result : Result Greeting GreetEnd) (last : Option Outcome)
+    → ReadsName left unread stream (Ok name)
+    → ((a : Answers v w held taken name result) × (last_outcome a.acts ≡ last))
+    → (h : Greets v w left unread held taken stream result) × (last_outcome h.acts ≡ last)
+named-greets v w left unread held taken stream name result last h (a, is) = (
+  record {
+    read = h.read;
+    acts = a.acts;
+    gave = h.gave;
+    goes = a.goes;
+    by = by_result result a.by;
+  },
+  is,
+)
   where
     by_result : (result : Result Greeting GreetEnd) → AnswersBy result name a.acts held taken
         → GreetsBy result h.read stream a.acts held taken

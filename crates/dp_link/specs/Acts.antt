@@ -1,5 +1,5 @@
 -- What a link acts on the hall of a session.
-use Rattle.std.specs.Prelude.{◌≡◌, List, [], ◌∷◌, Result}
+use Rattle.std.specs.Prelude.{◌≡◌, List, [], ◌∷◌, Result, Option, None, Some}
 use Rattle.std.specs.declared.alloc.AllocError.{AllocError}
 use Rattle.dp_hall.specs.declared.view.Entry.{Entry}
 use Rattle.dp_hall.specs.declared.view.View.{View}
@@ -30,3 +30,9 @@ pub record ActsOnce (v : SeatView) (event : Event) (outcome : Outcome) (w : Seat
   pub act : Act
   pub is : IsAct act event outcome
   pub goes : Continues v (act ∷ []) w
+
+-- what came of the last of these acts, if there is one
+abbrev pub last_outcome : List Act → Option Outcome
+last_outcome [] = None
+last_outcome (act ∷ []) = Some act.outcome
+last_outcome (act ∷ next ∷ acts) = last_outcome (next ∷ acts)

@@ -170,21 +170,25 @@ pub record ReadsName (left unread : Option (List ℕ)) (stream : Stream)
   pub gave : Consumes left unread read
   pub by : NamesBy result read stream
 
--- writing the Welcome: where it failed the connection was closed
-abbrev pub WelcomesBy : Result Unit GreetEnd → Greeting → List Act → Option (List ℕ)
+-- writing the Welcome: where it failed the connection was closed, and that came of the Close
+abbrev pub WelcomesBy : Result Unit Outcome → Greeting → List Act → Option (List ℕ)
     → Option (List ℕ) → Type 0
 WelcomesBy (Ok done) greeting acts held taken =
     (acts ≡ []) × Appends held taken (entry_bytes (welcome greeting))
-WelcomesBy (Err greet.WriteFault) greeting acts held taken =
-    (close : Act) × (acts ≡ close ∷ []) × (close.event ≡ Close greeting.conn)
+WelcomesBy (Err outcome) greeting acts held taken =
+    (close : Act) × (acts ≡ close ∷ []) × IsAct close (Close greeting.conn) outcome
     × GrowsByPrefix held taken (entry_bytes (welcome greeting))
-WelcomesBy (Err other) greeting acts held taken = ⊥
 
 pub record Welcomes (v w : SeatView) (held taken : Option (List ℕ)) (greeting : Greeting)
-    (result : Result Unit GreetEnd) : Type 0 where
+    (result : Result Unit Outcome) : Type 0 where
   pub acts : List Act
   pub goes : Continues v acts w
   pub by : WelcomesBy result greeting acts held taken
+
+-- the count of the sink's faults after the Welcome
+abbrev pub BlamesWelcome : Result Unit Outcome → ℕ → ℕ → Type 0
+BlamesWelcome (Ok done) before now = now ≡ before
+BlamesWelcome (Err outcome) before now = Rose before now
 
 -- the count of the sink's faults after the Disconnect
 abbrev pub BlamesRefusal : GreetEnd → ℕ → ℕ → Type 0

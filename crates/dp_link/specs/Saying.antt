@@ -116,10 +116,10 @@ RestBy (up.NotGreeted end) stream read rest = ⊥
 
 -- ---- the whole
 
--- What saying the messages of a link did: it read these bytes where the link's are known, and acted
--- Says of the first messages, and then a Close, of which that came.
-pub record SaysAll (v w : SeatView) (left unread : Option (List ℕ)) (stream : Stream) (conn : ℕ)
-    (end : UpEnd) (outcome : Outcome) : Type 0 where
+-- What saying the messages of a link did: it read these bytes where the link's are known, and these
+-- acts are Says of the first messages, and then a Close, of which that came.
+pub record AreSays (left unread : Option (List ℕ)) (stream : Stream) (conn : ℕ) (end : UpEnd)
+    (outcome : Outcome) (acts : List Act) : Type 0 where
   pub read : List ℕ
   pub messages : List Msg
   pub rest : List ℕ
@@ -127,10 +127,17 @@ pub record SaysAll (v w : SeatView) (left unread : Option (List ℕ)) (stream : 
   pub close : Act
   pub gave : Consumes left unread read
   pub heard : SpellFirst (counted stream read) messages rest
-  pub goes : Continues v (says ++ close ∷ []) w
+  pub acts_are : acts ≡ says ++ close ∷ []
   pub closes : IsAct close (Close conn) outcome
   pub said : SaidBy end conn messages says
   pub rests : RestBy end stream read rest
+
+-- a seat did that
+pub record SaysAll (v w : SeatView) (left unread : Option (List ℕ)) (stream : Stream) (conn : ℕ)
+    (end : UpEnd) (outcome : Outcome) : Type 0 where
+  pub acts : List Act
+  pub goes : Continues v acts w
+  pub are : AreSays left unread stream conn end outcome acts
 
 -- the count of faults of the link's source: ReadFault comes only where it rose, and else it stays
 abbrev pub BlamesUp : UpEnd → ℕ → ℕ → Type 0

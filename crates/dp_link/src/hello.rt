@@ -1,14 +1,14 @@
 //! A painter is greeted.
 
 ghost use Rattle.std.specs.Prelude.{◌≡◌, ◌≢◌, ◌+◌, ◌≤◌, [], false, None, Ok, Err, IfOk, OnOk};
-ghost use Rattle.std.specs.Prelude.{length};
+ghost use Rattle.std.specs.Prelude.{ℕ, List, length};
 ghost use Rattle.std.specs.Io.KnownBytes.{IsAtEnd};
 ghost use Rattle.dp_hall.specs.Calls.{IsOf};
 ghost use Rattle.dp_link.specs.Bytes.{link_limit};
-ghost use Rattle.dp_link.specs.Acts.{ActsOnce};
+ghost use Rattle.dp_link.specs.Acts.{ActsOnce, SeatView, last_outcome};
 ghost use Rattle.dp_link.specs.Answers.{reason_of, OpensWith};
 ghost use Rattle.dp_link.specs.Hello.{Greets, BlamesHello, Answers, ReadsName, TakesName};
-ghost use Rattle.dp_link.specs.Hello.{NameOf, Welcomes, RefusesBy, BlamesRefusal};
+ghost use Rattle.dp_link.specs.Hello.{NameOf, Welcomes, RefusesBy, BlamesRefusal, BlamesWelcome};
 
 use crate::acting::act_once;
 use crate::answers::{put_goodbye, put_welcome, reason_of};
@@ -58,10 +58,46 @@ pub fn greet<W: Wait, K: Keeper, R: Source, S: Sink, G: Gate>(
     ensures blames { BlamesHello result (R.faults rx.old) (R.faults rx.new)
         (S.faults tx.old) (S.faults tx.new) }
 {
+    run_greet(rt, alloc, hall, seat, rx, tx, split, who, gate).end
+}
+
+/// How greeting ended, and what came of its last act, if there was one.
+#[derive(Clone, Copy, Debug)]
+pub struct GreetRun {
+    pub end: Result<Greeting, GreetEnd>,
+    pub last: Option<Result<Reply, AllocError>>,
+}
+
+/// The same, with what came of the last act.
+pub fn run_greet<W: Wait, K: Keeper, R: Source, S: Sink, G: Gate>(
+    rt: &W,
+    alloc: Global,
+    hall: &Hall<Session<K>>,
+    seat: &mut Seat<Session<K>>,
+    rx: &mut R,
+    tx: &mut S,
+    split: &mut Splitter,
+    who: u32,
+    gate: &G,
+) -> GreetRun
+    requires of { IsOf hall.now seat.old }
+    requires fresh { split.old ≡ record { held = []; at = 0 } }
+    ensures of { IsOf hall.now seat.new }
+    ensures greets { (h : Greets seat.old.view seat.new.view (R.left rx.old) (R.left rx.new)
+        (S.held tx.old) (S.held tx.new) split.new result.end)
+        × (last_outcome h.acts ≡ result.last) }
+    ensures within { OnOk result.end (split.new.at + length split.new.held ≤ link_limit) }
+    ensures at_end { result.end ≡ Err GreetEnd.End → IsAtEnd (R.left rx.new) }
+    ensures blames { BlamesHello result.end (R.faults rx.old) (R.faults rx.new)
+        (S.faults tx.old) (S.faults tx.new) }
+{
     calls_add_up::<Event, Result<Reply, AllocError>, Session<K>>();
     match read_name(alloc, rx, split) {
         Ok(name) => answer(rt, hall, seat, tx, name, who, gate),
-        Err(end) => Err(end),
+        Err(end) => GreetRun {
+            end: Err(end),
+            last: None,
+        },
     }
 }
 
@@ -134,17 +170,43 @@ fn answer<W: Wait, K: Keeper, S: Sink, G: Gate>(
     name: Octets,
     who: u32,
     gate: &G,
-) -> Result<Greeting, GreetEnd>
+) -> GreetRun
     requires { IsOf hall.now seat.old }
     ensures of { IsOf hall.now seat.new }
-    ensures answers { Answers seat.old.view seat.new.view (S.held tx.old) (S.held tx.new)
-        name result }
-    ensures blames { BlamesHello result 0 0 (S.faults tx.old) (S.faults tx.new) }
+    ensures answers { (h : Answers seat.old.view seat.new.view (S.held tx.old) (S.held tx.new)
+        name result.end) × (last_outcome h.acts ≡ result.last) }
+    ensures blames { BlamesHello result.end 0 0 (S.faults tx.old) (S.faults tx.new) }
+{
+    match open(rt, hall, seat, name, who, gate) {
+        Ok(reply) => answer_reply(rt, hall, seat, tx, reply, who, gate),
+        Err(error) => GreetRun {
+            end: Err(GreetEnd::Memory),
+            last: Some(Err(error)),
+        },
+    }
+}
+
+/// Writes the answer to an Open that had this reply.
+fn answer_reply<W: Wait, K: Keeper, S: Sink, G: Gate>(
+    rt: &W,
+    hall: &Hall<Session<K>>,
+    seat: &mut Seat<Session<K>>,
+    tx: &mut S,
+    reply: Reply,
+    who: u32,
+    gate: &G,
+) -> GreetRun
+    requires of { IsOf hall.now seat.old }
+    requires reply { OpensWith reply }
+    ensures of { IsOf hall.now seat.new }
+    ensures answers { (before : SeatView) (name : List ℕ)
+        → ActsOnce before (Event.Open name false) (Ok reply) seat.old.view
+        → (h : Answers before seat.new.view (S.held tx.old) (S.held tx.new) name result.end)
+        × (last_outcome h.acts ≡ result.last) }
+    ensures blames { BlamesHello result.end 0 0 (S.faults tx.old) (S.faults tx.new) }
 {
     calls_add_up::<Event, Result<Reply, AllocError>, Session<K>>();
-    let Ok(reply) = open(rt, hall, seat, name, who, gate) else {
-        return Err(GreetEnd::Memory);
-    };
+    let last = Some(Ok(reply));
     match reply {
         Reply::Opened {
             conn,
@@ -159,11 +221,20 @@ fn answer<W: Wait, K: Keeper, S: Sink, G: Gate>(
                 at,
             };
             match welcome(rt, hall, seat, tx, &greeting, who, gate) {
-                Ok(()) => Ok(greeting),
-                Err(end) => Err(end),
+                Ok(()) => GreetRun {
+                    end: Ok(greeting),
+                    last,
+                },
+                Err(close) => GreetRun {
+                    end: Err(GreetEnd::WriteFault),
+                    last: Some(close),
+                },
             }
         }
-        other => Err(refuse(tx, other)),
+        other => GreetRun {
+            end: Err(refuse(tx, other)),
+            last,
+        },
     }
 }
 
@@ -188,7 +259,8 @@ fn open<W: Wait, K: Keeper, G: Gate>(
     act_once(rt, hall, seat, &event, who, 1, gate)
 }
 
-/// Writes the Welcome. Where that fails the connection is closed.
+/// Writes the Welcome. Where that fails the connection is closed, and the error is what came of
+/// the Close.
 fn welcome<W: Wait, K: Keeper, S: Sink, G: Gate>(
     rt: &W,
     hall: &Hall<Session<K>>,
@@ -197,21 +269,21 @@ fn welcome<W: Wait, K: Keeper, S: Sink, G: Gate>(
     greeting: &Greeting,
     who: u32,
     gate: &G,
-) -> Result<(), GreetEnd>
+) -> Result<(), Result<Reply, AllocError>>
     requires { IsOf hall.now seat.old }
     ensures of { IsOf hall.now seat.new }
     ensures welcomes { Welcomes seat.old.view seat.new.view (S.held tx.old) (S.held tx.new)
         greeting.now result }
-    ensures blames { BlamesHello result 0 0 (S.faults tx.old) (S.faults tx.new) }
+    ensures blames { BlamesWelcome result (S.faults tx.old) (S.faults tx.new) }
 {
+    calls_add_up::<Event, Result<Reply, AllocError>, Session<K>>();
     match put_welcome(tx, greeting) {
         Ok(()) => Ok(()),
         Err(Failed) => {
             let event = Event::Close {
                 conn: greeting.conn,
             };
-            let _ = act_once(rt, hall, seat, &event, who, 2, gate);
-            Err(GreetEnd::WriteFault)
+            Err(act_once(rt, hall, seat, &event, who, 2, gate))
         }
     }
 }

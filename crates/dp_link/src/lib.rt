@@ -17,6 +17,6 @@ mod up;
 
 pub use down::pump_down;
 pub use ends::{DownEnd, GreetEnd, Greeting, UpEnd};
-pub use hello::greet;
+pub use hello::{GreetRun, greet, run_greet};
 pub use laws::greetings_are_seen;
 pub use up::{UpRun, pump_up, run_up};

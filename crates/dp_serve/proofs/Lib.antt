@@ -1,0 +1,6 @@
+pub mod ReportLemmas
+pub mod Sending
+pub mod Making
+pub mod PartLemmas
+pub mod GatherLemmas
+pub mod ServeLemmas

@@ -1,0 +1,4 @@
+pub mod Reports
+pub mod Serving
+pub mod Jobs
+pub mod Gathering

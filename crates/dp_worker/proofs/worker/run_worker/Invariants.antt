@@ -1,0 +1,14 @@
+use Rattle.dp_hall.specs.Calls.{IsOf}
+use Rattle.dp_worker.specs.Links.{link_seen}
+use Rattle.dp_worker.specs.Works.{ServedSoFar}
+use Rattle.dp_worker.proofs.worker.run_worker.Given as goal
+
+-- the links before this one were served
+abbrev pub invariant-links : goal.invariant-links
+invariant-links g l = record {
+  of : IsOf l.hall l.seat;
+  far : ServedSoFar (link_seen g.W.Rx.Source.left g.W.Rx.Source.faults g.W.Tx.Sink.held
+      g.W.Tx.Sink.faults) l.hall.start l.who l.link l.initial.seat.view l.seat.view
+      (g.W.Wire.links l.initial.wire) (g.W.Wire.links l.wire) (g.W.Wire.faults l.initial.wire)
+      (g.W.Wire.faults l.wire) l.worked;
+}

@@ -1,0 +1,4 @@
+pub mod Links
+pub mod Seats
+pub mod Works
+pub mod Serving
