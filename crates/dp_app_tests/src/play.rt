@@ -4,7 +4,9 @@ use crate::replay::{input_of, picture_of};
 use crate::running::{NO_FAULTS, run};
 use std::alloc::Global;
 use std::process::Abort;
+use std::sync::Wait;
 use std::test::Fail;
+use std::thread::Threads;
 
 /// A header of 30 bytes: six bytes, the length of its text, and the text.
 const HEADER: &str = "445052454300 0016 7b2270726f66696c65223a2264702d696e742d31227d";
@@ -30,7 +32,11 @@ fn rows() -> &'static str {
 }
 
 /// One row, in pieces of every length.
-fn check_row(rt: &impl Abort, alloc: Global, row: &str) -> Result<(), Fail> {
+fn check_row<R: Abort + Threads + Wait + Sync>(
+    rt: &R,
+    alloc: Global,
+    row: &str,
+) -> Result<(), Fail> {
     let mut parts = row.split('|');
     let mut words = String::from_str(alloc, "play ")?;
     words.push_str(parts.next().unwrap_or(""))?;

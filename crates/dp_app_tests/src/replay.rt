@@ -6,7 +6,9 @@ use crate::running::{Faults, NO_FAULTS, outcome_of, run, words_of};
 use dp_io::{Failed, MemSink, MemSource, Source};
 use std::alloc::Global;
 use std::process::Abort;
+use std::sync::Wait;
 use std::test::Fail;
+use std::thread::Threads;
 
 /// The frame that a word of a row stands for, in hexadecimal. Other words stand for themselves.
 /// A 2 by 1 canvas, a layer, and fills of one pixel; `POINT2`, `BLUE2` and `UNDO1` are of user 2,
@@ -167,7 +169,11 @@ pub(crate) fn picture_of(alloc: Global, head: &str, pixels: &str) -> Result<Vec<
 }
 
 /// One row, in pieces of every length.
-fn check_row(rt: &impl Abort, alloc: Global, row: &str) -> Result<(), Fail> {
+fn check_row<R: Abort + Threads + Wait + Sync>(
+    rt: &R,
+    alloc: Global,
+    row: &str,
+) -> Result<(), Fail> {
     let mut parts = row.split('|');
     let status = parts.next().unwrap_or("").parse::<u8>()?;
     let line = parts.next().unwrap_or("");

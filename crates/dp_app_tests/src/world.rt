@@ -4,7 +4,9 @@ use crate::running::{Faults, NO_FAULTS, run};
 use dp_lines::put_number;
 use std::alloc::{AllocError, Global};
 use std::process::Abort;
+use std::sync::Wait;
 use std::test::Fail;
+use std::thread::Threads;
 
 /// What a word of a line stands for. Other words stand for themselves.
 fn word_of(word: &str) -> &str {
@@ -392,8 +394,8 @@ fn case_of(alloc: Global, parts: &[&str]) -> Result<Case, AllocError> {
 }
 
 /// The case gives its report in pieces of this length, and this line on diag.
-fn check(
-    rt: &impl Abort,
+fn check<R: Abort + Threads + Wait + Sync>(
+    rt: &R,
     alloc: Global,
     case: &Case,
     line: &str,

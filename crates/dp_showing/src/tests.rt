@@ -101,7 +101,8 @@ fn check_rows<D: Ledger, T: Ledger>(
         let mut output = MemSink::new(alloc, 4096, 2, fails)?;
         let done = show(alloc, &client, *shown, &mut output, draws, tiles);
         assert_eq!(rt; done, Err(PictureEnd::Failed));
-        assert_eq!(rt; Some(output.as_slice()), text.as_bytes().get(..4));
+        assert_eq!(rt; output.as_slice().len(), 4);
+        assert!(rt; text.as_bytes().starts_with(output.as_slice()));
     }
     Ok(())
 }
