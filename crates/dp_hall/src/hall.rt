@@ -6,6 +6,7 @@ ghost use Rattle.dp_hall.specs.Calls.{SplitsInto, JoinsInto, IsAlone, Closes};
 ghost use Rattle.dp_hall.specs.Logs.{left_by};
 ghost use Rattle.dp_hall.specs.Rule.{first_view};
 
+use crate::looking::Look;
 use crate::rule::HallRule;
 use crate::seat::Seat;
 use crate::slot::{SlotOf, Stored};
@@ -85,8 +86,8 @@ impl<M: Machine> Hall<M> {
     }
 
     /// One event is one step of the machine, and one entry of the log: the answer is its outcome.
-    /// It waits for the turn. The count of acts stops at the greatest `u64`: an act that finds it
-    /// there waits for good, and changes nothing.
+    /// It waits for the turn, and wakes those that wait for the count. The count of acts stops at
+    /// the greatest `u64`: an act that finds it there waits for good, and changes nothing.
     ///
     /// # Errors
     ///
@@ -102,7 +103,33 @@ impl<M: Machine> Hall<M> {
         ensures entry { Acts seat.old.view event.now result seat.new.view }
         ensures sound { IsSound M.may_step seat.new.view }
     {
+        let outcome = self.act_silently(rt, seat, event);
+        self.wake();
+        outcome
+    }
+
+    /// The same, but it wakes nobody: `wake` does. Several acts in a row need one wake.
+    ///
+    /// # Errors
+    ///
+    /// As those of `act`.
+    pub fn act_silently<R: Wait>(
+        &self,
+        rt: &R,
+        seat: &mut Seat<M>,
+        event: &M::Event,
+    ) -> Result<M::Reply, AllocError>
+        requires { IsOf self.now seat.old }
+        ensures of { IsOf self.now seat.new }
+        ensures entry { Acts seat.old.view event.now result seat.new.view }
+        ensures sound { IsSound M.may_step seat.new.view }
+    {
         turn::act(rt, &self.table.shared, &mut seat.token, event)
+    }
+
+    /// Wakes those that wait for the count.
+    pub fn wake(&self) {
+        turn::wake(&self.table.shared);
     }
 
     /// The answer of the machine that the log so far leaves. It waits for the turn.
@@ -124,6 +151,18 @@ impl<M: Machine> Hall<M> {
         ensures sound { IsSound M.may_step seat.new.view }
     {
         turn::ask(rt, &self.table.shared, &mut seat.token, query)
+    }
+
+    /// A look at the machine that the log so far leaves. It waits for the turn, and has it while
+    /// the looker looks.
+    pub fn look<R: Wait, L: Look<M>>(&self, rt: &R, seat: &mut Seat<M>, looker: &mut L)
+        requires { IsOf self.now seat.old }
+        ensures of { IsOf self.now seat.new }
+        ensures seen { Asks seat.old.view seat.new.view }
+        ensures sees { L.sees looker.old (left_by self.now.start seat.new.view.seen) looker.new }
+        ensures sound { IsSound M.may_step seat.new.view }
+    {
+        turn::look(rt, &self.table.shared, &mut seat.token, looker);
     }
 
     /// How many acts have ended, those that were refused too. It waits for nobody, and takes no

@@ -54,11 +54,11 @@ impl<M: Machine> Play<SlotOf<M>, ViewOf<M>> for Give<M> {
 }
 
 /// The count is read.
-pub struct Look<M> {
+pub struct ReadCount<M> {
     of: PhantomData<M>,
 }
 
-impl<M: Machine> Play<SlotOf<M>, ViewOf<M>> for Look<M> {
+impl<M: Machine> Play<SlotOf<M>, ViewOf<M>> for ReadCount<M> {
     ghost use Rattle.dp_hall.specs.Rule.{looked};
 
     ghost then = { looked };

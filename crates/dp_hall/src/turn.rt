@@ -7,12 +7,14 @@ ghost use Rattle.dp_hall.specs.Logs.{left_by};
 ghost use Rattle.dp_hall.specs.Calls.{Acts, Asks, IsSound, SplitsInto, JoinsInto};
 ghost use Rattle.dp_hall.specs.Holding.{IsAt, IsIdle, HasTurn, HasMachine, HasStepped};
 
-use crate::rule::{Confirm, Count, Give, HallRule, Look, Pairing, Take};
+use crate::looking::Look;
+use crate::rule::{Confirm, Count, Give, HallRule, Pairing, ReadCount, Take};
 use crate::slot::{SlotOf, Stored, StoredOf};
 use crate::view::{OutcomeOf, ViewOf};
 use atomic_table::{Seat, Shared};
 use dp_machine::Machine;
 use std::alloc::AllocError;
+use std::hint;
 use std::snapshot::Snapshot;
 use std::sync::Wait;
 
@@ -29,6 +31,21 @@ const TURN: usize = 1;
 /// The slot of the machine.
 const MACHINE: usize = 0;
 
+/// How often the turn is looked at before a seat sleeps. A turn is short, and a sleep is long.
+const LOOKS: u32 = 64;
+
+/// Looks at the turn until it is free, but not for long.
+fn linger<M: Machine>(table: &HallTable<M>)
+    requires { table.now.table_id.words ≡ 2 }
+{
+    for _look in 0..LOOKS {
+        if table.peek(TURN) == 0 {
+            return;
+        }
+        hint::spin_loop();
+    }
+}
+
 /// Waits for the turn, and takes it with the machine.
 fn take<M: Machine, R: Wait>(rt: &R, table: &HallTable<M>, token: &mut TableSeat<M>) -> StoredOf<M>
     requires table { IsAt table.now.table_id token.old.table_id }
@@ -41,6 +58,7 @@ fn take<M: Machine, R: Wait>(rt: &R, table: &HallTable<M>, token: &mut TableSeat
         if table.compare_exchange::<Take<M>>(token, TURN, 0, 1) == 0 {
             return table.exchange(token, MACHINE, None).unwrap();
         }
+        linger(table);
         table.park(rt, TURN, 1);
     }
     unreachable!()
@@ -92,7 +110,7 @@ pub(crate) fn count<M: Machine>(table: &HallTable<M>, token: &mut TableSeat<M>) 
     ensures held { token.old.me.0.holds ≡ true → result ≡ length token.old.me.0.seen }
     ensures hand { token.new.me.1 ≡ token.old.me.1 }
 {
-    table.load::<Look<M>>(token, COUNT)
+    table.load::<ReadCount<M>>(token, COUNT)
 }
 
 /// One step of the machine, and what is stored of it.
@@ -104,7 +122,8 @@ fn step<M: Machine>(mut machine: Box<M>, event: &M::Event) -> (StoredOf<M>, Outc
     (Stored { machine, last }, outcome)
 }
 
-/// One event. Where the count is at its end, the turn is given back and the call waits for good.
+/// One event. Where the count is at its end, the turn is given back and the call waits for good. It
+/// wakes nobody who waits for the count.
 pub(crate) fn act<M: Machine, R: Wait>(
     rt: &R,
     table: &HallTable<M>,
@@ -131,8 +150,14 @@ pub(crate) fn act<M: Machine, R: Wait>(
     put(table, token, stored);
     table.fetch_add::<Count<M>>(token, COUNT, 1);
     give(table, token);
-    table.wake_all(COUNT);
     outcome
+}
+
+/// Wakes those that wait for the count.
+pub(crate) fn wake<M: Machine>(table: &HallTable<M>)
+    requires { table.now.table_id.words ≡ 2 }
+{
+    table.wake_all(COUNT);
 }
 
 /// One query.
@@ -156,6 +181,28 @@ pub(crate) fn ask<M: Machine, R: Wait>(
     let answer = stored.machine.ask(query);
     give_back(table, token, stored);
     answer
+}
+
+/// One look.
+pub(crate) fn look<M: Machine, R: Wait, L: Look<M>>(
+    rt: &R,
+    table: &HallTable<M>,
+    token: &mut TableSeat<M>,
+    looker: &mut L,
+)
+    requires table { IsAt table.now.table_id token.old.table_id }
+    requires idle { IsIdle token.old }
+    requires sound { IsSound M.may_step token.old.me.0 }
+    ensures table { IsAt table.now.table_id token.new.table_id }
+    ensures seen { Asks token.old.me.0 token.new.me.0 }
+    ensures sees { (m : M) → token.old.me.0.start ≡ Some m
+        → L.sees looker.old (left_by m token.new.me.0.seen) looker.new }
+    ensures sound { IsSound M.may_step token.new.me.0 }
+    ensures hand { token.new.me.1 ≡ [] }
+{
+    let stored = take(rt, table, token);
+    looker.look(&stored.machine);
+    give_back(table, token, stored);
 }
 
 /// Waits until the count is above a number.

@@ -18,6 +18,9 @@ use Rattle.dp_events.specs.declared.event.Answer.{Answer}
 use Rattle.dp_epochs.specs.State.{State}
 use Rattle.dp_epochs.specs.Past.{Past, Step, state_of}
 use Rattle.dp_epochs.specs.Pull.{answered}
+use Rattle.dp_frame_log.specs.Frames.{frames_of}
+use Rattle.dp_tables.specs.declared.pages.Page.{Page}
+use Rattle.dp_tables.specs.Pages.{AnswersBy, IsPage}
 use Rattle.dp_session_laws.specs.Growing.{GrowsInto}
 use Rattle.dp_session_laws.specs.Logs.{IsSessionLog, HasOpened}
 use Rattle.dp_session_laws.specs.Feeds.{Segment, IsFeed, feed_entries, IsGone, PullsOn}
@@ -25,7 +28,7 @@ use Rattle.dp_link.specs.declared.ends.DownEnd.{DownEnd}
 use Rattle.dp_link.specs.declared.ends.DownEnd.TheVariants as down
 use Rattle.dp_link.specs.declared.pages.Cursor.{Cursor}
 use Rattle.dp_link.specs.Acts.{Act, SeatView}
-use Rattle.dp_link.specs.Sending.{session_of, frames_of, Sends, SentTo, SendsPage, WritesPage}
+use Rattle.dp_link.specs.Sending.{session_of, Sends, SentTo, SendsPage, WritesPage}
 use Rattle.dp_link.specs.Sending.{TookBy}
 use Rattle.dp_link.proofs.PageLemmas.{appends-none, appends-then, grows-all, grows-then}
 use Rattle.dp_link.proofs.PageLemmas.{frames-then}
@@ -179,6 +182,69 @@ sends-page (Err down.Memory) past conn held taken later old new epoch at list h 
 }
 sends-page (Err down.Gone) past conn held taken later old new epoch at list h p w = absurd w
 sends-page (Err down.NotGreeted) past conn held taken later old new epoch at list h p w = absurd w
+
+-- what a Pull at the cursor may be answered, as frames
+abbrev pub PageAt : Past → ℕ → Cursor → Option Page → List ℕ → Type 0
+PageAt past conn cursor page frames =
+    IsPage (λ most. answered past (Pull conn cursor.epoch cursor.at most)) page [] frames
+
+page-answer : {T : Type 0} (result : Result T DownEnd) (past : Past) (conn most : ℕ)
+    (held taken later : Option (List ℕ)) (old new : Cursor) (page : Page) (frames : List ℕ)
+    (answer : Answer)
+    → ((epoch at : ℕ) (list : List Entry) (h : SentTo past conn held taken old)
+    → answered past (Pull conn h.last.epoch (length h.last.entries) most) ≡ Entries epoch at list
+    → PullsOn (state_of past) conn h.earlier h.last epoch at list)
+    → SentTo past conn held taken old
+    → answer ≡ answered past (Pull conn old.epoch old.at most)
+    → AnswersBy answer (Some page) [] frames
+    → ((list : List Entry) → page.count ≡ length list → frames ≡ frames_of list
+    → WritesPage result taken later page.epoch page.at list new)
+    → SendsPage past conn held later new result
+page-answer result past conn most held taken later old new page frames Gone goes h is by writes =
+    absurd by
+page-answer result past conn most held taken later old new page frames (Entries epoch at list) goes
+    h is by writes =
+    sends-page result past conn held taken later old new epoch at list h
+    (goes epoch at list h (at-cursor past conn most held taken old (Entries epoch at list) h is))
+    (subst (λ e. WritesPage result taken later e at list new) by.0
+    (subst (λ a. WritesPage result taken later page.epoch a list new) by.1
+    (writes list by.2 by.3)))
+
+-- a page of frames was written, or its first bytes
+pub page-goes : {T : Type 0} (result : Result T DownEnd) (past : Past) (conn : ℕ)
+    (held taken later : Option (List ℕ)) (old new : Cursor) (page : Page) (frames : List ℕ)
+    → ((earlier : List Segment) (last : Segment) (most epoch at : ℕ) (list : List Entry)
+    → IsFeed (state_of past) conn (earlier ++ last ∷ [])
+    → answered past (Pull conn last.epoch (length last.entries) most) ≡ Entries epoch at list
+    → PullsOn (state_of past) conn earlier last epoch at list)
+    → SentTo past conn held taken old → PageAt past conn old (Some page) frames
+    → ((list : List Entry) → page.count ≡ length list → frames ≡ frames_of list
+    → WritesPage result taken later page.epoch page.at list new)
+    → SendsPage past conn held later new result
+page-goes result past conn held taken later old new page frames goes_on h is writes =
+    page-answer result past conn is.0 held taken later old new page frames
+    (answered past (Pull conn old.epoch old.at is.0))
+    (λ epoch at list s. goes_on s.earlier s.last is.0 epoch at list s.feed)
+    h refl is.1 writes
+
+gone-answer : (answer : Answer) (frames : List ℕ) → AnswersBy answer None [] frames
+    → answer ≡ Gone
+gone-answer Gone frames by = refl
+gone-answer (Entries epoch at list) frames by = absurd by
+
+-- nothing more is to come
+pub page-gone : (past : Past) (conn : ℕ) (held taken : Option (List ℕ)) (cursor : Cursor)
+    (frames : List ℕ)
+    → ((most : ℕ) (earlier : List Segment) (last : Segment)
+    → IsFeed (state_of past) conn (earlier ++ last ∷ [])
+    → answered past (Pull conn last.epoch (length last.entries) most) ≡ Gone
+    → IsGone past conn last)
+    → SentTo past conn held taken cursor → PageAt past conn cursor None frames
+    → Sends past conn held taken down.Gone
+page-gone past conn held taken cursor frames ends h is =
+    sends-gone past conn held taken cursor h
+    (ends is.0 h.earlier h.last h.feed (at-cursor past conn is.0 held taken cursor Gone h
+    (sym (gone-answer (answered past (Pull conn cursor.epoch cursor.at is.0)) frames is.1))))
 
 -- ---- views that differ in what they know
 

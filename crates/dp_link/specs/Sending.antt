@@ -1,27 +1,26 @@
 -- What a link writes to its peer after the Welcome.
 use Rattle.std.specs.Prelude.{◌≡◌, ℕ, ◌+◌, List, [], ◌∷◌, ◌++◌, length, Option, Result}
-use Rattle.std.specs.Prelude.{Ok, Err}
-use Rattle.std.specs.List.{flat_map}
+use Rattle.std.specs.Prelude.{Ok, Err, IfOk}
 use Rattle.std.specs.Io.KnownBytes.{Appends}
 use Rattle.dp_io.specs.Faults.{Rose}
 use Rattle.dp_io.specs.Streams.{GrowsByPrefix}
 use Rattle.dp_messages.specs.declared.message.Entry.{Entry}
-use Rattle.dp_messages.specs.Messages.{entry_bytes}
+use Rattle.dp_frame_log.specs.Frames.{frames_of}
 use Rattle.dp_hall.specs.Logs.{left_by}
+use Rattle.dp_events.specs.declared.event.Query.TheVariants.{Pull}
 use Rattle.dp_epochs.specs.Past.{Past, state_of}
+use Rattle.dp_epochs.specs.Pull.{answered}
+use Rattle.dp_tables.specs.Pages.{IsPage}
 use Rattle.dp_session_laws.specs.Feeds.{Segment, IsFeed, feed_entries, IsGone}
 use Rattle.dp_link.specs.declared.ends.DownEnd.{DownEnd}
 use Rattle.dp_link.specs.declared.ends.DownEnd.TheVariants as down
+use Rattle.dp_link.specs.declared.pages.Asked.{Asked}
 use Rattle.dp_link.specs.declared.pages.Cursor.{Cursor}
 use Rattle.dp_link.specs.Acts.{SeatView}
 
 -- the session that what a seat has seen leaves, where the hall began with this one
 abbrev pub session_of : Past → SeatView → Past
 session_of start view = left_by start view.seen
-
--- the frames of entries, one after another
-abbrev pub frames_of : List Entry → List ℕ
-frames_of entries = flat_map entry_bytes entries
 
 -- By the end, the peer took these bytes: all of them where nothing more is to come, and else the
 -- first of them.
@@ -80,34 +79,16 @@ WritesPage (Err down.Memory) held taken epoch at list cursor =
 WritesPage (Err down.Gone) held taken epoch at list cursor = ⊥
 WritesPage (Err down.NotGreeted) held taken epoch at list cursor = ⊥
 
--- by what came of the frames of a list: all were written, or the first of them
-abbrev pub PutsBy : {T : Type 0} → Result T DownEnd → Option (List ℕ) → Option (List ℕ) → List ℕ
-    → Type 0
-PutsBy (Ok done) held taken bytes = Appends held taken bytes
-PutsBy (Err down.WriteFault) held taken bytes = GrowsByPrefix held taken bytes
-PutsBy (Err down.Memory) held taken bytes = GrowsByPrefix held taken bytes
-PutsBy (Err down.Gone) held taken bytes = ⊥
-PutsBy (Err down.NotGreeted) held taken bytes = ⊥
-
 -- the same count where a page was written, or was not
 abbrev pub BlamesPage : {T : Type 0} → Result T DownEnd → ℕ → ℕ → Type 0
 BlamesPage (Ok more) before now = now ≡ before
 BlamesPage (Err end) before now = BlamesDown end before now
 
--- bytes were written, and together with those that are buffered they are these
-pub record PutSoFar (held taken : Option (List ℕ)) (buffer whole : List ℕ) : Type 0 where
-  pub written : List ℕ
-  pub took : Appends held taken written
-  pub are : written ++ buffer ≡ whole
-
--- By what came of the frame of an entry after what was buffered: they were written or are
--- buffered; or the first of them were written.
-abbrev pub PutsNext : {T : Type 0} → Result T DownEnd → Option (List ℕ) → Option (List ℕ) → List ℕ
-    → List ℕ → Entry → Type 0
-PutsNext (Ok done) held taken old new entry = PutSoFar held taken new (old ++ entry_bytes entry)
-PutsNext (Err down.WriteFault) held taken old new entry =
-    GrowsByPrefix held taken (old ++ entry_bytes entry)
-PutsNext (Err down.Memory) held taken old new entry =
-    GrowsByPrefix held taken (old ++ entry_bytes entry)
-PutsNext (Err down.Gone) held taken old new entry = ⊥
-PutsNext (Err down.NotGreeted) held taken old new entry = ⊥
+-- What was asked for a peer has come: a page that begins at its cursor, of some number of entries,
+-- as frames. Or memory ran out.
+pub record SeesPage (old : Asked) (past : Past) (new : Asked) : Type 0 where
+  pub conn : new.conn ≡ old.conn
+  pub cursor : new.cursor ≡ old.cursor
+  pub page : IfOk new.page (λ page. IsPage
+      (λ most. answered past (Pull old.conn old.cursor.epoch old.cursor.at most)) page []
+      new.frames.items)

@@ -1,8 +1,14 @@
 //! A painter is sent what the session places.
 
-ghost use Rattle.std.specs.Prelude.{◌≡◌, ◌+◌, ℕ, List, [], IfSome};
+ghost use Rattle.std.specs.Prelude.{◌≡◌, ◌+◌, ℕ, List, [], length, IfOk, IfSome};
 ghost use Rattle.std.specs.declared.option.Option.{Option};
-ghost use Rattle.dp_hall.specs.Calls.{IsOf};
+ghost use Rattle.dp_messages.specs.declared.message.Entry.{Entry as Piece};
+ghost use Rattle.dp_frame_log.specs.Frames.{frames_of};
+ghost use Rattle.dp_hall.specs.Calls.{IsOf, Asks, IsSound};
+ghost use Rattle.dp_events.specs.declared.event.Query.TheVariants.{Pull};
+ghost use Rattle.dp_epochs.specs.Past.{Step};
+ghost use Rattle.dp_epochs.specs.Pull.{answered};
+ghost use Rattle.dp_tables.specs.Pages.{IsPage};
 ghost use Rattle.dp_hall.specs.Laws.{Continues};
 ghost use Rattle.dp_epochs.specs.Laws.{ShutBefore};
 ghost use Rattle.dp_session_laws.specs.Logs.{HasOpened};
@@ -10,13 +16,13 @@ ghost use Rattle.dp_link.specs.Sending.{Sends, SentTo, SendsPage, WritesPage, Bl
 ghost use Rattle.dp_link.specs.Sending.{BlamesPage};
 ghost use Rattle.dp_link.specs.Sending.{session_of};
 
-use crate::pages::{Cursor, PAGE, put_page};
+use crate::pages::{Asked, Cursor};
 use crate::{DownEnd, Greeting};
-use dp_events::{Answer, Entries, Event, Query, Reply};
+use dp_events::{Event, Reply};
 use dp_hall::{Hall, Seat, calls_add_up, seats_are_sound};
-use dp_io::Sink;
+use dp_io::{Failed, Sink, put_all};
 use dp_keeper::Keeper;
-use dp_session::Session;
+use dp_session::{Page, Session};
 use dp_session_laws::{feeds_begin, feeds_end, feeds_go_on, pulls_go_on, sessions_go_on};
 use std::alloc::{AllocError, Global};
 use std::sync::Wait;
@@ -45,13 +51,17 @@ pub fn pump_down<W: Wait, K: Keeper, S: Sink>(
     calls_add_up::<Event, Result<Reply, AllocError>, Session<K>>();
     seats_are_sound(seat);
     feeds_begin();
-    let mut buffer = Vec::new(alloc);
-    let mut cursor = Cursor {
-        epoch: greeting.epoch,
-        at: 0,
+    let mut asked = Asked {
+        conn: greeting.conn,
+        cursor: Cursor {
+            epoch: greeting.epoch,
+            at: 0,
+        },
+        frames: Vec::new(alloc),
+        page: Ok(None),
     };
     'pages: for _ in rt.forever() {
-        match send_more(rt, hall, seat, tx, greeting, &mut cursor, &mut buffer) {
+        match send_more(rt, hall, seat, tx, greeting, &mut asked) {
             Ok(()) => {}
             Err(end) => return end,
         }
@@ -67,25 +77,26 @@ fn send_more<W: Wait, K: Keeper, S: Sink>(
     seat: &mut Seat<Session<K>>,
     tx: &mut S,
     greeting: &Greeting,
-    cursor: &mut Cursor,
-    buffer: &mut Vec<u8>,
+    asked: &mut Asked,
 ) -> Result<(), DownEnd>
     requires of { IsOf hall.now seat.old }
     requires start { ShutBefore hall.now.start }
     requires opened { HasOpened seat.old.view.seen greeting.now.conn greeting.now.user
         greeting.now.epoch greeting.now.at }
+    requires conn { asked.old.conn ≡ greeting.now.conn }
     ensures of { IsOf hall.now seat.new }
     ensures calls { Continues seat.old.view [] seat.new.view }
+    ensures conn { asked.new.conn ≡ greeting.now.conn }
     ensures sends { (held : Option (List ℕ))
         → SentTo (session_of hall.now.start seat.old.view) greeting.now.conn
-        held (S.held tx.old) cursor.old
+        held (S.held tx.old) asked.old.cursor
         → SendsPage (session_of hall.now.start seat.new.view) greeting.now.conn
-        held (S.held tx.new) cursor.new result }
+        held (S.held tx.new) asked.new.cursor result }
     ensures blames { BlamesPage result (S.faults tx.old) (S.faults tx.new) }
 {
     calls_add_up::<Event, Result<Reply, AllocError>, Session<K>>();
     let seen = hall.count(seat);
-    match send_page(rt, hall, seat, tx, greeting, cursor, buffer) {
+    match send_page(rt, hall, seat, tx, greeting, asked) {
         Ok(true) => Ok(()),
         Ok(false) => {
             hall.wait_past(rt, seat, seen);
@@ -102,20 +113,21 @@ fn send_page<W: Wait, K: Keeper, S: Sink>(
     seat: &mut Seat<Session<K>>,
     tx: &mut S,
     greeting: &Greeting,
-    cursor: &mut Cursor,
-    buffer: &mut Vec<u8>,
+    asked: &mut Asked,
 ) -> Result<bool, DownEnd>
     requires of { IsOf hall.now seat.old }
     requires start { ShutBefore hall.now.start }
     requires opened { HasOpened seat.old.view.seen greeting.now.conn greeting.now.user
         greeting.now.epoch greeting.now.at }
+    requires conn { asked.old.conn ≡ greeting.now.conn }
     ensures of { IsOf hall.now seat.new }
     ensures calls { Continues seat.old.view [] seat.new.view }
+    ensures conn { asked.new.conn ≡ greeting.now.conn }
     ensures sends { (held : Option (List ℕ))
         → SentTo (session_of hall.now.start seat.old.view) greeting.now.conn
-        held (S.held tx.old) cursor.old
+        held (S.held tx.old) asked.old.cursor
         → SendsPage (session_of hall.now.start seat.new.view) greeting.now.conn
-        held (S.held tx.new) cursor.new result }
+        held (S.held tx.new) asked.new.cursor result }
     ensures blames { BlamesPage result (S.faults tx.old) (S.faults tx.new) }
 {
     calls_add_up::<Event, Result<Reply, AllocError>, Session<K>>();
@@ -123,35 +135,48 @@ fn send_page<W: Wait, K: Keeper, S: Sink>(
     feeds_go_on();
     pulls_go_on();
     feeds_end();
-    let query = Query::Pull {
-        conn: greeting.conn,
-        epoch: cursor.epoch,
-        at: cursor.at,
-        max: PAGE,
-    };
-    match hall.ask(rt, seat, &query) {
-        Ok(Answer::Entries { epoch, at, list }) => {
-            write_page(tx, buffer, cursor, epoch, at, list)
-        }
-        Ok(Answer::Gone) => Err(DownEnd::Gone),
+    match ask_page(rt, hall, seat, asked) {
+        Ok(Some(page)) => write_page(tx, &asked.frames, &mut asked.cursor, page),
+        Ok(None) => Err(DownEnd::Gone),
         Err(AllocError) => Err(DownEnd::Memory),
     }
 }
 
-/// Writes a page of an epoch from this place on, and moves the cursor after it.
+/// Asks for the page that begins at the cursor.
+fn ask_page<W: Wait, K: Keeper>(
+    rt: &W,
+    hall: &Hall<Session<K>>,
+    seat: &mut Seat<Session<K>>,
+    asked: &mut Asked,
+) -> Result<Option<Page>, AllocError>
+    requires of { IsOf hall.now seat.old }
+    ensures of { IsOf hall.now seat.new }
+    ensures seen { Asks seat.old.view seat.new.view }
+    ensures sound { IsSound Step seat.new.view }
+    ensures conn { asked.new.conn ≡ asked.old.conn }
+    ensures cursor { asked.new.cursor ≡ asked.old.cursor }
+    ensures page { IfOk result (λ page. IsPage
+        (λ most. answered (session_of hall.now.start seat.new.view)
+        (Pull asked.old.conn asked.old.cursor.epoch asked.old.cursor.at most)) page []
+        asked.new.frames.items) }
+{
+    hall.look(rt, seat, asked);
+    asked.page
+}
+
+/// Writes the frames of a page, and moves the cursor after it. Whether it has an entry.
 fn write_page<S: Sink>(
     tx: &mut S,
-    buffer: &mut Vec<u8>,
+    frames: &[u8],
     cursor: &mut Cursor,
-    epoch: u32,
-    at: u32,
-    list: Entries,
+    page: Page,
 ) -> Result<bool, DownEnd>
-    ensures writes { WritesPage result (S.held tx.old) (S.held tx.new) epoch at list cursor.new }
+    ensures writes { (list : List Piece) → page.count ≡ length list → frames.now ≡ frames_of list
+        → WritesPage result (S.held tx.old) (S.held tx.new) page.epoch page.at list cursor.new }
     ensures blames { BlamesPage result (S.faults tx.old) (S.faults tx.new) }
 {
-    let count = list.as_slice().len();
-    match put_page(buffer, tx, list.as_slice()) {
+    let Page { epoch, at, count } = page;
+    match put_all(tx, frames) {
         Ok(()) => match next_place(at, count) {
             Some(at) => {
                 *cursor = Cursor { epoch, at };
@@ -159,7 +184,7 @@ fn write_page<S: Sink>(
             }
             None => Err(DownEnd::Memory),
         },
-        Err(end) => Err(end),
+        Err(Failed) => Err(DownEnd::WriteFault),
     }
 }
 

@@ -9,7 +9,7 @@ ghost use Rattle.dp_link.specs.Bytes.{link_limit};
 ghost use Rattle.dp_link.specs.Saying.{SaysAll, SaysHeld, SaidToEnd, BlamesUp, EndsBy, SaysOne};
 
 use crate::UpEnd;
-use crate::acting::act_once;
+use crate::acting::{act_once, act_silently};
 use crate::messages::{BadFrame, take_message};
 use crate::pieces::{PieceEnd, read_piece};
 use dp_events::{Event, Reply};
@@ -113,7 +113,7 @@ fn say_all<W: Wait, K: Keeper, R: Source, G: Gate>(
     calls_add_up::<Event, Result<Reply, AllocError>, Session<K>>();
     let mut over = false;
     'pieces: loop {
-        match say_held(rt, alloc, hall, seat, split, conn, who, acts, gate) {
+        match say_aloud(rt, alloc, hall, seat, split, conn, who, acts, gate) {
             Ok(()) if over => return UpEnd::Long,
             Ok(()) => match read_piece(rx, split) {
                 Ok(more) => over = more,
@@ -126,7 +126,33 @@ fn say_all<W: Wait, K: Keeper, R: Source, G: Gate>(
     }
 }
 
-/// Says the messages that are held, until no whole frame is.
+/// Says the messages that are held, until no whole frame is, and then wakes those who wait for acts
+/// if there was one.
+fn say_aloud<W: Wait, K: Keeper, G: Gate>(
+    rt: &W,
+    alloc: Global,
+    hall: &Hall<Session<K>>,
+    seat: &mut Seat<Session<K>>,
+    split: &mut Splitter,
+    conn: u32,
+    who: u32,
+    acts: &mut u64,
+    gate: &G,
+) -> Result<(), UpEnd>
+    requires { IsOf hall.now seat.old }
+    ensures of { IsOf hall.now seat.new }
+    ensures says { SaysHeld seat.old.view seat.new.view split.old split.new conn result }
+    ensures none { IfOk result (λ _. HoldsNoFrame split.new.held) }
+{
+    let before = *acts;
+    let said = say_held(rt, alloc, hall, seat, split, conn, who, acts, gate);
+    if *acts != before {
+        hall.wake();
+    }
+    said
+}
+
+/// Says the messages that are held, until no whole frame is. It wakes nobody.
 fn say_held<W: Wait, K: Keeper, G: Gate>(
     rt: &W,
     alloc: Global,
@@ -221,7 +247,7 @@ fn say<W: Wait, K: Keeper, G: Gate>(
     ensures acts { ActsOnce seat.old.view (Event.Say conn msg) result seat.new.view }
 {
     let event = Event::Say { conn, msg };
-    act_once(rt, hall, seat, &event, who, n, gate)
+    act_silently(rt, hall, seat, &event, who, n, gate)
 }
 
 /// How a Say of which that came ends a link, if it does.

@@ -7,5 +7,6 @@ mod laws;
 mod session;
 mod sure;
 
+pub use dp_tables::Page;
 pub use laws::sessions_cross_threads;
 pub use session::Session;

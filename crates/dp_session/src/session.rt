@@ -5,13 +5,15 @@ ghost use Rattle.dp_keeper.specs.Store.{Puts, Counts};
 ghost use Rattle.dp_epochs.specs.Past.{Refuses, Serves, Step, state_of};
 ghost use Rattle.dp_epochs.specs.Pull.{answered};
 ghost use Rattle.dp_epochs.specs.State.{next_open};
+ghost use Rattle.dp_events.specs.declared.event.Query.TheVariants.{Pull};
+ghost use Rattle.dp_tables.specs.Pages.{IsPage};
 ghost use Rattle.dp_tables.specs.Plans.{IsReady};
 ghost use Rattle.dp_session.specs.Puts.{IsPut};
 
 use dp_events::{Answer, Event, Journal, Query, Reply, Shut};
 use dp_keeper::{KeepError, Keeper};
 use dp_machine::Machine;
-use dp_tables::{Ready, Tables};
+use dp_tables::{Page, Ready, Tables};
 use std::alloc::{AllocError, Global};
 use std::marker::Model;
 
@@ -127,6 +129,27 @@ impl<K: Keeper> Session<K> {
         (keeper, Journal::from_vec(journal), Shut::from_vec(shut))
     }
 
+    /// Puts what a connection is to get at the end of the bytes, as frames, from a cursor on: a page
+    /// of some length. `None` means that nothing more is to come.
+    ///
+    /// # Errors
+    ///
+    /// The bytes are as they were.
+    pub fn put_page(
+        &self,
+        conn: u32,
+        epoch: u32,
+        at: u32,
+        out: &mut Vec<u8>,
+    ) -> Result<Option<Page>, AllocError>
+        ensures page { IfOk result (λ page. IsPage
+            (λ most. answered self.now (Pull conn epoch at most)) page out.old.items
+            out.new.items) }
+        ensures err { OnErr result (out.new.items ≡ out.old.items) }
+    {
+        self.tables.put_page(conn, epoch, at, out)
+    }
+
     /// Refuses an event with this answer, if there is memory.
     fn refuse(&mut self, event: &Event, answer: Reply) -> Result<Reply, AllocError>
         ensures refused { IfOk result (λ given.
@@ -160,6 +183,21 @@ impl<K: Keeper> Session<K> {
             }
         }
     }
+
+    /// Takes an event. Where memory runs out, the connection of a Close gets nothing more.
+    fn take(&mut self, event: &Event) -> Result<Reply, AllocError>
+        ensures { Step self.old event.now result self.new }
+    {
+        match self.serve(event) {
+            Ok(reply) => Ok(reply),
+            Err(error) => {
+                if let Event::Close { conn } = event {
+                    self.tables.quieten(*conn);
+                }
+                Err(error)
+            }
+        }
+    }
 }
 
 impl<K: Keeper> Machine for Session<K> {
@@ -175,17 +213,10 @@ impl<K: Keeper> Machine for Session<K> {
 
     ghost answer = { answered };
 
-    #[tactic(none)]
     fn step(&mut self, event: &Event) -> Result<Reply, AllocError> {
-        match self.serve(event) {
-            Ok(reply) => Ok(reply),
-            Err(error) => {
-                if let Event::Close { conn } = event {
-                    self.tables.quieten(*conn);
-                }
-                Err(error)
-            }
-        }
+        let outcome = self.take(event);
+        self.tables.write_frames();
+        outcome
     }
 
     fn ask(&self, query: &Query) -> Result<Answer, AllocError> {

@@ -2,6 +2,7 @@ pub mod Ranges
 pub mod Holders
 pub mod TableLemmas
 pub mod ResetLemmas
+pub mod PageLemmas
 pub mod PlanLemmas
 pub mod QuietLemmas
 pub mod ReadLemmas

@@ -3,7 +3,7 @@ use Rattle.std.proofs.Common.{◌≡◌, ℕ, zero, suc, ◌+◌, ◌-◌, ◌*�
 use Rattle.std.proofs.Common.{cond}
 use Rattle.std.proofs.Common.{nat_lt, nat_le, if◌then◌else◌, is_some, unwrap_or}
 use Rattle.std.proofs.Common.{List, [], ◌∷◌, ◌++◌, length, set, map, All, Option, None, Some}
-use Rattle.std.proofs.Common.{refl, sym, ap, subst, ◌∙◌, ⊎_elim, arith, length-append}
+use Rattle.std.proofs.Common.{append_assoc, refl, sym, ap, subst, ◌∙◌, ⊎_elim, arith, length-append}
 use Rattle.std.specs.Prelude.{option_to_list, slice_index_or, slice_set}
 use Rattle.std.specs.List.{slice_get, cons_option, list_any, sum_by}
 use Rattle.std.specs.Option.{option_map, option_map_or}
@@ -48,6 +48,7 @@ use Rattle.dp_tables.specs.declared.tables.Tables.TheInside.{Inside}
 use Rattle.dp_events.specs.Rows.{row_of, row_bytes, event_limit, byte_limit, has_room}
 use Rattle.dp_epochs.specs.Past.{Past, state_after, state_of, kept, refused}
 use Rattle.dp_epochs.specs.Laws.{ShutBefore, shut_by}
+use Rattle.dp_frame_log.specs.Frames.{Frames, AreFramesOf, AreWritten}
 use Rattle.dp_tables.specs.Ledger.{Ledger, state_in}
 use Rattle.dp_tables.specs.Tables.{message_of, IsSay, part_of, join_of, entry_in, IsIn, mark}
 use Rattle.dp_tables.specs.Tables.{IsPart, commands_in, stream_in, IsResetIn, IsJoinedBy, AreJoined}
@@ -593,6 +594,22 @@ no-marks n user =
     (omega (arith, length-replicate n false)))
     (cases_lt user n)
 
+-- no frame is one of a history
+pub none-written : (frames : Frames) (history : List Entry) → AreFramesOf frames []
+    → AreWritten frames history
+none-written frames history none =
+    record { written = []; rest = history; of = none; all = refl }
+
+-- what is written of a history is so of a longer one
+pub written-on : (frames : Frames) (history more : List Entry) → AreWritten frames history
+    → AreWritten frames (history ++ more)
+written-on frames history more are = record {
+  written = are.written;
+  rest = are.rest ++ more;
+  of = are.of;
+  all = ap (λ xs. xs ++ more) are.all ∙ append_assoc are.written are.rest more;
+}
+
 -- the tables of a session to which nothing has come
 pub tables-first : (t : Inside) → t.journal.items ≡ [] → t.shut.items ≡ []
     → t.connections.items ≡ []
@@ -600,8 +617,8 @@ pub tables-first : (t : Inside) → t.journal.items ≡ [] → t.shut.items ≡ 
     → t.row_bytes ≡ 0
     → StandsFor t.rights first_state.live → t.present ≡ replicate 256 false → t.epoch ≡ 0
     → t.opens ≡ replicate 256 0 → t.owner ≡ None → t.parts.items ≡ [] → t.part_bytes ≡ 0
-    → AreTables t
-tables-first t ej es ec eq el eb stands ep ee eo eu ek ez =
+    → AreFramesOf t.frames [] → AreTables t
+tables-first t ej es ec eq el eb stands ep ee eo eu ek ez none =
     let first : Seen = record {
       journal = [];
       connections = [];
@@ -649,6 +666,7 @@ tables-first t ej es ec eq el eb stands ep ee eo eu ek ez =
       events = omega (arith, ap length ej);
       within = omega (arith, eb);
       flags = ap length eq ∙ sym (ap length ec);
+      frames = none-written t.frames (state_in (ledger_of t)).live none;
     }
 
 -- ---- ledgers
@@ -740,6 +758,8 @@ pub record IsKept (old : Inside) (plan : Plan) (row_length : ℕ) (new : Inside)
   pub owner : new.owner ≡ owner_after plan.stream old.owner
   pub parts : new.parts.items ≡ parts_after (length old.journal.items) plan.stream old.parts.items
   pub part_bytes : new.part_bytes ≡ bytes_after (row_length - 6) plan.stream old.part_bytes
+  pub frames : AreWritten new.frames
+      (history_after old.journal.items plan.placing (state_in (ledger_of old)).live)
 
 pub row-length : (conn : ℕ) (m : Msg) → length (row_of (event.Say conn m)) ≡ 6 + length
     (payload_of m)
@@ -821,6 +841,8 @@ tables-kept leads joins old new plan row_length are is row room keeps =
       flags = ap length keeps.quiet
           ∙ flags-after plan.change old.quiet.items old.connections.items are.flags
           ∙ sym (ap length keeps.connections);
+      frames = subst (AreWritten new.frames)
+          (sym (ap (λ a. a.state.live) is.acted) ∙ sym (ap (λ x. x.live) state_is)) keeps.frames;
     }
 
 -- ---- a Close was left out
@@ -841,6 +863,7 @@ pub record IsLeftOut (old : Inside) (conn : ℕ) (change : Change) (new : Inside
   pub owner : new.owner ≡ old.owner
   pub parts : new.parts.items ≡ old.parts.items
   pub part_bytes : new.part_bytes ≡ old.part_bytes
+  pub frames : new.frames ≡ old.frames
 
 -- the tables after a Close that was left out
 pub tables-left : (leads : (past : Past) (e : Event)
@@ -883,4 +906,6 @@ tables-left leads old new conn change are left closing may opened after =
       flags = ap length left.quiet
           ∙ flags-after change old.quiet.items old.connections.items are.flags
           ∙ sym (ap length left.connections);
+      frames = subst (λ x. AreWritten x (state_in (ledger_of new)).live) (sym left.frames)
+          (subst (AreWritten old.frames) (sym (ap (λ x. x.live) state_is)) are.frames);
     }

@@ -3,3 +3,4 @@ pub mod Tables
 pub mod Openings
 pub mod Plans
 pub mod Inside
+pub mod Pages

@@ -22,6 +22,7 @@ ghost use Rattle.dp_messages.specs.declared.message.Entry.{Entry as Piece};
 ghost use Rattle.dp_acl.specs.Table.{StandsFor};
 ghost use Rattle.dp_epochs.specs.State.{acted, open_in};
 ghost use Rattle.dp_epochs.specs.Past.{shut_with, quiet_with};
+ghost use Rattle.dp_frame_log.specs.Frames.{AreWritten};
 ghost use Rattle.dp_tables.specs.Ledger.{state_in};
 ghost use Rattle.dp_tables.specs.Tables.{flagged};
 ghost use Rattle.dp_tables.specs.Plans.{event_of, epoch_after, items_after, history_after};
@@ -35,6 +36,7 @@ use crate::tables::{Tables, open_connection};
 use dp_acl::Rights;
 use dp_epochs::{epochs_are_few, joins_stay, steps_lead_on};
 use dp_events::{Connection, Ending, Event, Reply, ShutAt};
+use dp_frame_log::FrameLog;
 use dp_messages::Entry;
 
 /// Places an entry, if there is one.
@@ -60,6 +62,7 @@ fn place(
     journal: &mut Vec<Event>,
     epoch: &mut u32,
     live: &mut Vec<HistoryItem>,
+    frames: &mut FrameLog,
     rights: &mut Rights,
     placing: Placing,
 )
@@ -75,6 +78,8 @@ fn place(
     ensures stands { (history : List Piece) → StandsFor rights.old history
         → IsOpening journal.old.items placing
         → StandsFor rights.new (history_after journal.old.items placing history) }
+    ensures written { (history : List Piece) → AreWritten frames.old history
+        → AreWritten frames.new (history_after journal.old.items placing history) }
 {
     match placing {
         Placing::Said { conn, entry } => {
@@ -96,6 +101,7 @@ fn place(
         Placing::Opens { event, opening } => {
             *epoch += 1;
             *live = opening.live;
+            frames.clear();
             *rights = opening.rights;
             journal.push_reserved(event);
         }
@@ -233,6 +239,7 @@ impl Tables {
             &mut self.journal,
             &mut self.epoch,
             &mut self.live,
+            &mut self.frames,
             &mut self.rights,
             placing,
         );

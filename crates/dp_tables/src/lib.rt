@@ -13,5 +13,6 @@ mod presence;
 mod resets;
 mod tables;
 
+pub use pages::Page;
 pub use plan::Ready;
 pub use tables::Tables;

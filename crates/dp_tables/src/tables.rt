@@ -32,6 +32,7 @@ use crate::history_item::HistoryItem;
 use dp_acl::Rights;
 use dp_epochs::histories_are_short;
 use dp_events::{Connection, Ending, Event, Place, ShutAt};
+use dp_frame_log::FrameLog;
 use dp_messages::{Entry, Msg};
 use dp_msg_meta::Meta;
 use std::alloc::{AllocError, Global};
@@ -54,6 +55,8 @@ pub struct Tables {
     pub(crate) quiet: Vec<bool>,
     pub(crate) epoch: u32,
     pub(crate) live: Vec<HistoryItem>,
+    /// The frames of the first entries of the live history.
+    pub(crate) frames: FrameLog,
     pub(crate) rights: Rights,
     pub(crate) present: [bool; 256],
     /// For each id, the event of the journal by which its user joined last.
@@ -189,6 +192,7 @@ impl Tables {
             quiet: Vec::new(alloc),
             epoch: 0,
             live,
+            frames: FrameLog::new(alloc),
             rights,
             present: no_marks(),
             opens: no_opens(),
@@ -211,6 +215,7 @@ impl Tables {
             quiet: _,
             epoch: _,
             live: _,
+            frames: _,
             rights: _,
             present: _,
             opens: _,

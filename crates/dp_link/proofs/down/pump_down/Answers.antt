@@ -19,6 +19,7 @@ pages-init g c =
           (c.feeds_begin.ensures start view.seen greeting.conn greeting.user greeting.epoch
           greeting.at c.requires.start legal c.requires.opened)
           refl refl;
+      conn = refl;
       kept = refl;
     }
 
@@ -36,5 +37,6 @@ pages-preserved g c =
           opened-later before.seen sent.seen greeting.conn greeting.user greeting.epoch
           greeting.at c.send_more.ensures.calls.seen c.pages.invariant.opened;
       sent = c.in-Ok.ensures.sends (g.S.Sink.held c.args.tx.now) c.pages.invariant.sent;
+      conn = c.send_more.ensures.conn;
       kept = c.in-Ok.ensures.blames ∙ c.pages.invariant.kept;
     }

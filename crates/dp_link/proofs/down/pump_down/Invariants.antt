@@ -14,6 +14,7 @@ invariant-pages g l = record {
       HasOpened l.seat.view.seen l.greeting.conn l.greeting.user l.greeting.epoch l.greeting.at;
   sent :
       SentTo (session_of l.hall.start l.seat.view) l.greeting.conn (g.S.Sink.held l.fn.tx)
-      (g.S.Sink.held l.tx) l.cursor;
+      (g.S.Sink.held l.tx) l.asked.cursor;
+  conn : l.asked.conn ≡ l.greeting.conn;
   kept : g.S.Sink.faults l.tx ≡ g.S.Sink.faults l.fn.tx;
 }

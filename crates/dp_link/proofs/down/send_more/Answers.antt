@@ -27,7 +27,7 @@ returns-in-Ok-true-clause-sends g c held h =
     let sent = c.send_page.new.seat.view in
     c.in-Ok-true.ensures.sends held
     (sent-same start before counted c.count-seen.result c.args.greeting.now.conn held
-    (g.S.Sink.held c.args.tx.now) c.args.cursor.now c.count-seen.ensures.view h)
+    (g.S.Sink.held c.args.tx.now) c.args.asked.now.cursor c.count-seen.ensures.view h)
 
 pub returns-in-Ok-false-clause-calls : goal.returns-in-Ok-false-clause-calls
 returns-in-Ok-false-clause-calls g c =
@@ -52,10 +52,10 @@ returns-in-Ok-false-clause-sends g c held h =
     let sent = c.send_page.new.seat.view in
     let waited = c.wait_past.new.seat.view in
     sent-same start sent waited c.wait_past.result c.args.greeting.now.conn held
-    (g.S.Sink.held c.send_page.new.tx) c.send_page.new.cursor c.wait_past.ensures.view
+    (g.S.Sink.held c.send_page.new.tx) c.send_page.new.asked.cursor c.wait_past.ensures.view
     (c.in-Ok-false.ensures.sends held
     (sent-same start before counted c.count-seen.result c.args.greeting.now.conn held
-    (g.S.Sink.held c.args.tx.now) c.args.cursor.now c.count-seen.ensures.view h))
+    (g.S.Sink.held c.args.tx.now) c.args.asked.now.cursor c.count-seen.ensures.view h))
 
 pub returns-in-Err-clause-calls : goal.returns-in-Err-clause-calls
 returns-in-Err-clause-calls g c =
@@ -76,4 +76,4 @@ returns-in-Err-clause-sends g c held h =
     let sent = c.send_page.new.seat.view in
     c.in-Err.ensures.sends held
     (sent-same start before counted c.count-seen.result c.args.greeting.now.conn held
-    (g.S.Sink.held c.args.tx.now) c.args.cursor.now c.count-seen.ensures.view h)
+    (g.S.Sink.held c.args.tx.now) c.args.asked.now.cursor c.count-seen.ensures.view h)

@@ -29,4 +29,5 @@ invariant_of-self c =
       owner = refl;
       parts = refl;
       part_bytes = refl;
+      frames = refl;
     }))

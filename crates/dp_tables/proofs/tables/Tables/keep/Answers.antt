@@ -40,6 +40,7 @@ invariant_of-self c =
       live = c.place.ensures.live;
       stands = c.place.ensures.stands (state_in (ledger_of t)).live c.self.invariant.of.stands
           is.plan.opening;
+      frames = c.place.ensures.written (state_in (ledger_of t)).live c.self.invariant.frames;
       present = c.make.ensures.present;
       opens = c.make.ensures.opens ∙ ap (λ n. opens_after n change t.opens) count;
       owner = c.follow.ensures.owner;

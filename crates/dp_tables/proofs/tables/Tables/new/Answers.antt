@@ -13,4 +13,4 @@ invariant_of-result c =
     ∙ ap (λ items. items ++ item.Server (server_entry (ResetMark 0 0)) ∷ [])
     c.new-live.ensures.items) refl
     (c.in_ok-note.ensures.stands [] c.new-rights.ensures) c.no_marks.ensures refl
-    c.no_opens.ensures refl c.new-5.ensures.items refl
+    c.no_opens.ensures refl c.new-6.ensures.items refl c.new-5.ensures

@@ -1,6 +1,6 @@
 use Rattle.std.proofs.Common.{refl, ◌∙◌}
 use Rattle.dp_session.proofs.SessionLemmas.{quieted-is, quieted-other}
-use Rattle.dp_session.proofs.session.SessionMachine.step.Goals as goal
+use Rattle.dp_session.proofs.session.Session.take.Goals as goal
 
 pub same-self : goal.same-self
 same-self g c = refl

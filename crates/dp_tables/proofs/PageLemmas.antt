@@ -1,0 +1,108 @@
+-- Pages of a history, and the frames of its first entries.
+use Rattle.std.proofs.Common.{◌≡◌, ℕ, zero, suc, ◌+◌, ◌-◌, ◌<◌, ◌≤◌, max, min, List, [], ◌∷◌, ◌++◌, length}
+use Rattle.std.proofs.Common.{map, take, drop, get_or, Some, Result, Ok, Err, IfOk, refl, sym, ap, subst, ◌∙◌, arith, append_assoc}
+use Rattle.std.proofs.Math.Seq.{drop-append_seam}
+use Rattle.std.specs.List.{slice_get}
+use Rattle.std.specs.Option.{option_map}
+use Rattle.std.proofs.lemmas.Option.{slice_get-map, slice_get-get_or}
+use Rattle.std.proofs.lemmas.List.{drop-take, take-append-le, length-take-le, length-drop, take-take}
+use Rattle.dp_messages.specs.declared.message.Entry.{Entry}
+use Rattle.dp_events.specs.declared.event.Event.{Event}
+use Rattle.dp_epochs.specs.Pull.{page}
+use Rattle.dp_frame_log.specs.Frames.{Frames, AreFramesOf, AreWritten, frames_of}
+use Rattle.dp_tables.specs.declared.history_item.HistoryItem.{HistoryItem}
+use Rattle.dp_tables.specs.Tables.{entry_in}
+use Rattle.dp_tables.proofs.ReadLemmas.{page-is}
+
+-- what stands at a place is the first of the rest there
+drop-at : {X : Type 0} (xs : List X) (at : ℕ) (x : X) → slice_get xs at ≡ Some x
+    → (rest : List X) × (drop at xs ≡ x ∷ rest)
+drop-at [] at x found = cc
+drop-at (y ∷ ys) zero x found = (ys, cc)
+drop-at (y ∷ ys) (suc at) x found = drop-at ys at x found
+
+-- what a look-up found stands there
+pub found-at : {X : Type 0} (xs : List X) (at : ℕ) (x : X) → at < length xs → x ≡ get_or xs at x
+    → slice_get xs at ≡ Some x
+found-at xs at x within is = slice_get-get_or xs at x within ∙ ap Some (sym is)
+
+-- ---- a page of one entry
+
+pub page-of-one : (journal : List Event) (live : List HistoryItem) (history : List Entry)
+    (end at : ℕ) (item : HistoryItem)
+    → map (entry_in journal) live ≡ history → slice_get (take end live) at ≡ Some item
+    → page at 1 (take end history) ≡ entry_in journal item ∷ []
+page-of-one journal live history end at item is found =
+    let d = drop-at (take end live) at item found in
+    sym (page-is journal live history end at 1 is)
+    ∙ ap (λ xs. map (entry_in journal) (take 1 xs)) d.1
+
+-- ---- pages of frames that are there
+
+-- entries that stand before the end of both a prefix and its list
+pub page-of-front : (written rest live : List Entry) (end at count : ℕ) → live ≡ written ++ rest
+    → at + count ≤ length written → at + count ≤ end → 0 < count
+    → take count (drop at written) ≡ page at count (take end live)
+page-of-front written rest live end at count all within before some =
+    let whole = at + count in
+    let same : take whole (take end live) ≡ take whole written =
+    take-take whole end live before
+    ∙ ap (take whole) all ∙ take-append-le whole written rest within in
+    sym (drop-take at count written)
+    ∙ ap (drop at) (sym same)
+    ∙ drop-take at count (take end live)
+    ∙ ap (λ n. take n (drop at (take end live))) (most count some) where
+      most : (n : ℕ) → 0 < n → n ≡ max 1 n
+      most n le = omega (arith, le)
+
+-- there are so many
+pub length-of-front : (written : List Entry) (at count : ℕ) → at + count ≤ length written
+    → count ≡ length (take count (drop at written))
+length-of-front written at count within =
+    sym (length-take-le count (drop at written) (omega (arith, within, length-drop at written)))
+
+-- frames that were put are a page
+pub front-put : {E : Type 0} (r : Result ℕ E) (frames : Frames) (written rest live : List Entry)
+    (end at most : ℕ) (old new : List ℕ) → live ≡ written ++ rest
+    → at + most ≤ length written → at + most ≤ end → AreFramesOf frames written
+    → IfOk r (λ count. 0 < count) → IfOk r (λ count. count ≤ most)
+    → IfOk r (λ count. (entries : List Entry) → AreFramesOf frames entries
+    → new ≡ old ++ frames_of (take count (drop at entries)))
+    → IfOk r (λ count. (m : ℕ) × (count ≡ length (page at m (take end live)))
+    × (new ≡ old ++ frames_of (page at m (take end live))))
+front-put (Ok count) frames written rest live end at most old new all within before are some few put
+    =
+    let inside : at + count ≤ length written = omega (arith, few, within) in
+    let same =
+    page-of-front written rest live end at count all inside (omega (arith, few, before)) some in (
+      count,
+      length-of-front written at count inside ∙ ap length same,
+      put written are ∙ ap (λ xs. old ++ frames_of xs) same,
+    )
+front-put (Err e) frames written rest live end at most old new all within before are some few put =
+    put
+
+-- ---- one frame more
+
+pub written-more : (old new : Frames) (journal : List Event) (live : List HistoryItem)
+    (item : HistoryItem) (entry : Entry)
+    → (are : AreWritten old (map (entry_in journal) live))
+    → slice_get live (length are.written) ≡ Some item → entry ≡ entry_in journal item
+    → ((entries : List Entry) → AreFramesOf old entries → AreFramesOf new (entries ++ entry ∷ []))
+    → AreWritten new (map (entry_in journal) live)
+written-more old new journal live item entry are found is more =
+    let n = length are.written in
+    let history = map (entry_in journal) live in
+    let here : slice_get history n ≡ Some (entry_in journal item) =
+    slice_get-map (entry_in journal) live n ∙ ap (option_map (entry_in journal)) found in
+    let d = drop-at history n (entry_in journal item) here in
+    let rest_is : are.rest ≡ entry ∷ d.0 =
+    sym (drop-append_seam are.written are.rest) ∙ ap (drop n) (sym are.all) ∙ d.1
+    ∙ ap (λ e. e ∷ d.0) (sym is) in
+    record {
+      written = are.written ++ entry ∷ [];
+      rest = d.0;
+      of = more are.written are.of;
+      all = are.all ∙ ap (λ xs. are.written ++ xs) rest_is
+          ∙ sym (append_assoc are.written (entry ∷ []) d.0);
+    }
