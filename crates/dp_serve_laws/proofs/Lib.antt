@@ -1,0 +1,4 @@
+pub mod ListLemmas
+pub mod ActLemmas
+pub mod RunLemmas
+pub mod ServingLemmas
