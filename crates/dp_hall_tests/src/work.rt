@@ -132,7 +132,7 @@ pub fn start(alloc: Global, tally: Tally) -> Result<(Hall<Tally>, Seat<Tally>), 
     }
 }
 
-/// Acts of one thread, numbered from 0.
+/// Acts of one thread, numbered from 0, and one wake after them.
 pub fn act_often<R: Wait>(
     rt: &R,
     hall: &Hall<Tally>,
@@ -146,8 +146,9 @@ pub fn act_often<R: Wait>(
 {
     calls_add_up::<Mark, Result<bool, AllocError>, Tally>();
     for number in 0..times {
-        let _ = hall.act(rt, seat, &Mark { thread, number });
+        let _ = hall.act_silently(rt, seat, &Mark { thread, number });
     }
+    hall.wake();
 }
 
 /// One act after a while.

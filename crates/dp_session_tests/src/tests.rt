@@ -6,7 +6,7 @@ use dp_events::{Answer, Event, Query, Reply, ShutAt};
 use dp_frame::Octets;
 use dp_keeper::{KeepError, Keeper, MemKeeper, Row, Rows, SureKeeper};
 use dp_machine::Machine;
-use dp_messages::Msg;
+use dp_messages::{Msg, put_entry};
 use dp_msg_draw::Draw;
 use dp_msg_meta::{Control, Ids, Meta};
 use dp_session::Session;
@@ -122,6 +122,40 @@ fn pull<K: Keeper>(
     })
 }
 
+/// A page of frames is what a Pull of as many entries is answered.
+fn check_page<K: Keeper>(
+    rt: &impl Abort,
+    alloc: Global,
+    session: &Session<K>,
+    conn: u32,
+    epoch: u32,
+    at: u32,
+) -> Result<(), Fail> {
+    let mut frames = Vec::new(alloc);
+    let Some(page) = session.put_page(conn, epoch, at, &mut frames)? else {
+        assert_eq!(rt; pull(session, conn, epoch, at, 1)?, None);
+        return Ok(());
+    };
+    let max = page.count as u32;
+    let query = Query::Pull {
+        conn,
+        epoch,
+        at,
+        max,
+    };
+    let Answer::Entries { epoch, at, list } = session.ask(&query)? else {
+        panic!(rt; "gone")
+    };
+    let mut written = Vec::new(alloc);
+    for entry in list.as_slice() {
+        put_entry(entry, &mut written)?;
+    }
+    let count = list.as_slice().len();
+    assert_eq!(rt; (page.epoch, page.at, page.count), (epoch, at, count));
+    assert_eq!(rt; frames.as_slice(), written.as_slice());
+    Ok(())
+}
+
 #[test]
 fn each_answer(rt: HostRuntime) -> Result<(), Fail> {
     let mut session = Session::new(rt.alloc(), SureKeeper::new(Rows::new(rt.alloc())))?;
@@ -147,6 +181,7 @@ fn each_answer(rt: HostRuntime) -> Result<(), Fail> {
         ((2, 1, 7, 0), Some((0, 1))),
     ] {
         assert_eq!(rt; pull(&session, conn, epoch, at, max)?, given);
+        check_page(&rt, rt.alloc(), &session, conn, epoch, at)?;
     }
     Ok(())
 }
@@ -183,6 +218,7 @@ fn a_reset_opens_the_next_epoch(rt: HostRuntime) -> Result<(), Fail> {
         ((2, 1, 10, 1), Some((10, 0))),
     ] {
         assert_eq!(rt; pull(&session, conn, epoch, at, max)?, given);
+        check_page(&rt, rt.alloc(), &session, conn, epoch, at)?;
     }
     Ok(())
 }
