@@ -1,7 +1,7 @@
 //! Worked runs of `play` and `join`, through the program's top call.
 
 use crate::replay::{input_of, picture_of};
-use crate::running::{NO_FAULTS, run};
+use dp_app_runs::{NO_FAULTS, run};
 use std::alloc::Global;
 use std::process::Abort;
 use std::sync::Wait;

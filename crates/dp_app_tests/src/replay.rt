@@ -2,7 +2,7 @@
 
 ghost use Rattle.std.specs.Prelude.{◌≤◌, None, length};
 
-use crate::running::{Faults, NO_FAULTS, outcome_of, run, words_of};
+use dp_app_runs::{Faults, NO_FAULTS, outcome_of, run, words_of};
 use dp_io::{Failed, MemSink, MemSource, Source};
 use std::alloc::Global;
 use std::process::Abort;

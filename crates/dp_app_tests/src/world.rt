@@ -1,6 +1,6 @@
 //! Worked schedules, through the program's top call: their lines, and what each prints.
 
-use crate::running::{Faults, NO_FAULTS, run};
+use dp_app_runs::{Faults, NO_FAULTS, run};
 use dp_lines::put_number;
 use std::alloc::{AllocError, Global};
 use std::process::Abort;

@@ -1,7 +1,7 @@
 -- What the first frame of a link says.
-use Rattle.std.proofs.Common.{◌≡◌, ℕ, ◌+◌, List, [], ◌∷◌, ◌++◌, length, Option, None, Some}
-use Rattle.std.proofs.Common.{Result, Ok, Err, refl, sym, ap, subst, ◌∙◌}
-use Rattle.dp_frame.specs.Frames.{FrameParts, spelling, HoldsNoFrame}
+use Rattle.std.proofs.Common.{◌≡◌, ℕ, ◌+◌, List, length, Some}
+use Rattle.std.proofs.Common.{Ok, Err, refl, sym, ap, subst, ◌∙◌}
+use Rattle.dp_frame.specs.Frames.{FrameParts}
 use Rattle.dp_frame.specs.Stream.{Stream}
 use Rattle.dp_messages.specs.declared.message.Msg.{Msg}
 use Rattle.dp_messages.specs.declared.message.Msg.TheVariants as msg
@@ -16,10 +16,9 @@ use Rattle.dp_entries.specs.Anywhere.{StandsAnywhere, IsCauseAnywhere}
 use Rattle.dp_entries.specs.Ends.{IfCause}
 use Rattle.dp_entries.specs.Reading.{TakesEntry, TakesBad}
 use Rattle.dp_link.specs.declared.messages.BadFrame.{BadFrame}
-use Rattle.dp_link.specs.declared.messages.BadFrame.TheVariants.{At, Memory}
 use Rattle.dp_link.specs.declared.ends.GreetEnd.{GreetEnd}
 use Rattle.dp_link.specs.declared.ends.GreetEnd.TheVariants as greet
-use Rattle.dp_link.specs.Bytes.{BeginsWith, IsHello, BeginsWithoutHello, BeginsWithNoMessage}
+use Rattle.dp_link.specs.Bytes.{BeginsWithoutHello, BeginsWithNoMessage}
 use Rattle.dp_link.specs.Bytes.{TakesMessage, StopIs}
 use Rattle.dp_link.specs.Hello.{NameOf, TakesName}
 

@@ -1,7 +1,6 @@
 -- Messages that are said, and the bytes that spell them.
-use Rattle.std.proofs.Common.{◌≡◌, ◌↔◌, ◌⊎◌, ℕ, ◌+◌, ◌-◌, ◌<◌, ◌≤◌, Bool, true, false, IsTrue}
-use Rattle.std.proofs.Common.{IsFalse}
-use Rattle.std.proofs.Common.{List, [], ◌∷◌, ◌++◌, length, take, drop, Option, None, Some, Result}
+use Rattle.std.proofs.Common.{◌≡◌, ◌⊎◌, ℕ, ◌+◌, ◌-◌, ◌<◌, ◌≤◌, Bool, true, false, IsTrue}
+use Rattle.std.proofs.Common.{List, [], ◌∷◌, ◌++◌, length, take, Option, None, Some, Result}
 use Rattle.std.proofs.Common.{Ok}
 use Rattle.std.proofs.Common.{Err, refl, sym, ap, subst, ◌∙◌, inl, inr, arith, append_assoc}
 use Rattle.std.proofs.Common.{append-nil, length-append}
@@ -25,9 +24,9 @@ use Rattle.dp_link.specs.declared.ends.UpEnd.TheVariants as up
 use Rattle.dp_link.specs.declared.pieces.PieceEnd.TheVariants as piece
 use Rattle.dp_link.specs.declared.messages.BadFrame.TheVariants as bad
 use Rattle.dp_link.specs.Acts.{Outcome, Act, SeatView, IsAct, ActsOnce}
-use Rattle.dp_link.specs.Bytes.{link_limit, BeginsWith, BeginsWithNoMessage, TakesMessage}
+use Rattle.dp_link.specs.Bytes.{link_limit, BeginsWith, TakesMessage}
 use Rattle.dp_link.specs.Pieces.{room_after, ReadsPiece}
-use Rattle.dp_link.specs.Saying.{WentOn, stops, IsSaid, AreSaid, AreSaidTo, SaidBy, AreSpelled}
+use Rattle.dp_link.specs.Saying.{WentOn, stops, AreSaid, AreSaidTo, SaidBy, AreSpelled}
 use Rattle.dp_link.specs.Saying.{SpellFirst, counted, link_bytes, given_count, RestBy, RestHeld}
 use Rattle.dp_link.specs.Saying.{EndsBy, SaysOne, HeldBy, SaysHeld, SaidSoFar, SaidToEnd, SaysAll}
 use Rattle.dp_link.proofs.PieceLemmas.{consumes-none, consumes-then}

@@ -1,19 +1,17 @@
 -- Pieces of a link, and how many bytes hold no frame.
-use Rattle.std.proofs.Common.{◌≡◌, ◌↔◌, ◌⊎◌, ℕ, zero, suc, ◌+◌, ◌-◌, ◌*◌, ◌/◌, ◌%◌, ◌<◌, ◌≤◌, Bool}
-use Rattle.std.proofs.Common.{true, false, IsTrue, List, [], ◌∷◌, ◌++◌, length, take, drop, get_or}
-use Rattle.std.proofs.Common.{Option, None, Some, Result, Ok, Err, refl, sym, ap, subst, ◌∙◌, arith}
+use Rattle.std.proofs.Common.{◌≡◌, ◌↔◌, ◌⊎◌, ℕ, zero, suc, ◌+◌, ◌*◌, ◌/◌, ◌%◌, ◌<◌, ◌≤◌, Bool}
+use Rattle.std.proofs.Common.{IsTrue, List, [], ◌∷◌, ◌++◌, length, take, drop, get_or}
+use Rattle.std.proofs.Common.{Option, None, Some, Ok, Err, refl, sym, ap, subst, ◌∙◌, arith}
 use Rattle.std.proofs.Common.{append_assoc, length-append, inl, inr}
 use Rattle.std.proofs.lemmas.Bool.{cases_lt}
 use Rattle.std.proofs.lemmas.List.{take-append-drop, length-take-le, take_all}
 use Rattle.std.specs.Io.KnownBytes.{Consumes, Keeps}
 use Rattle.dp_frame.specs.Frames.{FrameParts, IsFrame, spelling, HoldsNoFrame}
 use Rattle.dp_frame.specs.Stream.{Stream}
-use Rattle.dp_link.specs.declared.pieces.PieceEnd.{PieceEnd}
-use Rattle.dp_link.specs.declared.pieces.PieceEnd.TheVariants.{ReadFault, End, Memory}
+use Rattle.dp_link.specs.declared.pieces.PieceEnd.TheVariants.{Memory}
 use Rattle.dp_link.specs.declared.ends.GreetEnd.TheVariants as greet
-use Rattle.dp_link.specs.Bytes.{link_limit}
 use Rattle.dp_link.specs.Hello.{ReadsName}
-use Rattle.dp_link.specs.Pieces.{room_after, Feeds, ReadsPiece}
+use Rattle.dp_link.specs.Pieces.{room_after, ReadsPiece}
 
 -- ---- what a link gives
 

@@ -1,9 +1,7 @@
 -- Pages of a feed.
-use Rattle.std.proofs.Common.{◌≡◌, ◌⊎◌, ℕ, ◌+◌, ◌≤◌, List, [], ◌∷◌, ◌++◌, length, Option, None}
+use Rattle.std.proofs.Common.{◌≡◌, ℕ, ◌+◌, List, [], ◌∷◌, ◌++◌, length, Option, None}
 use Rattle.std.proofs.Common.{Some}
 use Rattle.std.proofs.Common.{Result, Ok, Err, refl, sym, ap, subst, ◌∙◌, inl, inr, append-nil}
-use Rattle.std.proofs.Common.{arith}
-use Rattle.std.proofs.Common.{append_assoc}
 use Rattle.std.specs.Io.KnownBytes.{Appends}
 use Rattle.dp_io.specs.Streams.{GrowsByPrefix}
 use mathlib.Core.List.{IsPrefix}
@@ -29,7 +27,6 @@ use Rattle.dp_link.specs.declared.ends.DownEnd.TheVariants as down
 use Rattle.dp_link.specs.declared.pages.Cursor.{Cursor}
 use Rattle.dp_link.specs.Acts.{Act, SeatView}
 use Rattle.dp_link.specs.Sending.{session_of, Sends, SentTo, SendsPage, WritesPage}
-use Rattle.dp_link.specs.Sending.{TookBy}
 use Rattle.dp_link.proofs.PageLemmas.{appends-none, appends-then, grows-all, grows-then}
 use Rattle.dp_link.proofs.PageLemmas.{frames-then}
 

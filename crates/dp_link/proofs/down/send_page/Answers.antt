@@ -1,4 +1,4 @@
-use Rattle.std.proofs.Common.{subst, ◌∙◌, Ok, Some, None}
+use Rattle.std.proofs.Common.{subst, ◌∙◌, Some, None}
 use Rattle.dp_link.specs.Sending.{session_of}
 use Rattle.dp_link.proofs.SendLemmas.{seen-legal, sent-later, PageAt, page-goes, page-gone}
 use Rattle.dp_link.proofs.SendLemmas.{sends-so-far, opened-later}

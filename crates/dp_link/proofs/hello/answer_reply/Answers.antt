@@ -1,4 +1,4 @@
-use Rattle.std.proofs.Common.{◌≡◌, sym, subst, false, Ok, Err, Some}
+use Rattle.std.proofs.Common.{◌≡◌, sym, subst, false, Ok, Some}
 use Rattle.dp_events.specs.declared.event.Event.TheVariants.{Open}
 use Rattle.dp_events.specs.declared.event.Reply.{Reply}
 use Rattle.dp_link.specs.declared.ends.Greeting.{Greeting}

@@ -1,4 +1,4 @@
-use Rattle.std.proofs.Common.{Result, Ok, Err, ◌≡◌, false, List, ℕ}
+use Rattle.std.proofs.Common.{Ok, Err, false, List, ℕ}
 use Rattle.std.specs.Prelude.{IfOk}
 use Rattle.dp_events.specs.declared.event.Event.TheVariants.{Open}
 use Rattle.dp_epochs.specs.Past.{Past, Step}

@@ -1,4 +1,4 @@
-use Rattle.dp_link.proofs.FirstFrame.{takes-entry, takes-bad}
+use Rattle.dp_link.proofs.FirstFrame.{takes-bad}
 use Rattle.dp_link.proofs.messages.take_message.Goals as goal
 
 pub returns-in-Err : goal.returns-in-Err

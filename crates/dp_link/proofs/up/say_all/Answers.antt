@@ -1,4 +1,4 @@
-use Rattle.std.proofs.Common.{◌≡◌, ◌∙◌, refl, sym, IsTrue}
+use Rattle.std.proofs.Common.{◌∙◌, refl, sym, IsTrue}
 use Rattle.std.proofs.lemmas.Bool.{false≢true}
 use Rattle.dp_link.proofs.Hearing.{so-far-starts, so-far-held, so-far-ends, so-far-long}
 use Rattle.dp_link.proofs.Hearing.{so-far-piece, so-far-end, so-far-fault, so-far-lost}

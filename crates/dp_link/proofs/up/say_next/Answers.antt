@@ -1,5 +1,4 @@
-use Rattle.std.proofs.Common.{◌∙◌}
-use Rattle.dp_link.proofs.Hearing.{says-one-held, shorter-held, says-no-more, says-bad, says-memory}
+use Rattle.dp_link.proofs.Hearing.{says-one-held, says-no-more, says-bad, says-memory}
 use Rattle.dp_link.proofs.up.say_next.Goals as goal
 
 pub returns-in-Ok-Some-clause-says : goal.returns-in-Ok-Some-clause-says

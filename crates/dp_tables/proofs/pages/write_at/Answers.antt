@@ -1,4 +1,4 @@
-use Rattle.std.proofs.Common.{length, sym, ap, ◌∙◌, Some}
+use Rattle.std.proofs.Common.{sym, ap, ◌∙◌}
 use Rattle.std.specs.List.{slice_get}
 use Rattle.dp_tables.proofs.PageLemmas.{written-more, found-at}
 use Rattle.dp_tables.proofs.pages.write_at.Goals as goal

@@ -1,5 +1,5 @@
-use Rattle.std.proofs.Common.{◌≡◌, ◌+◌, ◌-◌, ◌≤◌, ◌++◌, ◌∷◌, [], length, true, false, None, Some}
-use Rattle.std.proofs.Common.{sym, ap, subst, ◌∙◌, arith, rules, length-append}
+use Rattle.std.proofs.Common.{◌≡◌, ◌-◌, ◌++◌, ◌∷◌, [], length, true, false, None}
+use Rattle.std.proofs.Common.{ap, ◌∙◌, arith, rules, length-append}
 use Rattle.std.specs.List.{filter, range_with_len}
 use Rattle.dp_epochs.specs.State.{user_ids}
 use Rattle.dp_tables.specs.Tables.{mark}

@@ -1,6 +1,6 @@
-use Rattle.std.proofs.Common.{length, take, get_or, ap, sym, ◌∙◌, ◌+◌, ◌≡◌, ◌≢◌, ℕ, ◌-◌, arith}
+use Rattle.std.proofs.Common.{length, take, get_or, ap, ◌∙◌, ◌+◌, ◌≡◌, ◌≢◌, ℕ, ◌-◌, arith}
 use Rattle.std.proofs.lemmas.Grind.{get_or_default_zero}
-use Rattle.dp_frame_log.specs.Frames.{frames_of, AreFramesOf}
+use Rattle.dp_frame_log.specs.Frames.{frames_of}
 use Rattle.dp_frame_log.proofs.FrameLemmas.{length-ends, ends-at}
 use Rattle.dp_frame_log.proofs.log.FrameLog.start.Goals as goal
 
@@ -27,8 +27,15 @@ pub returns-else-at-eq0 : goal.returns-else-at-eq0
 returns-else-at-eq0 c = λ entries are.
     c.index.ensures
     ∙ get_or_default_zero c.self.inside.ends.items (c.args.at - 1) c.index.result.now
-    (omega (arith, c.self.inside.ends.ok.0, c.if-at-eq0.false, ap length c.requires.1.ends,
-    ap (λ frames. length frames.ends) c.self.view_is, length-ends 0 c.requires.0, c.requires.2))
+    (omega (
+      arith,
+      c.self.inside.ends.ok.0,
+      c.if-at-eq0.false,
+      ap length c.requires.1.ends,
+      ap (λ frames. length frames.ends) c.self.view_is,
+      length-ends 0 c.requires.0,
+      c.requires.2,
+    ))
     ∙ ap (λ frames. get_or frames.ends (c.args.at - 1) 0) c.self.view_is
     ∙ ap (λ xs. get_or xs (c.args.at - 1) 0) are.ends
     ∙ ends-at 0 entries (c.args.at - 1) (omega (

@@ -1,4 +1,4 @@
-use Rattle.std.proofs.Common.{◌≡◌, ◌++◌, ◌∷◌, [], sym, ap, subst, ◌∙◌, refl}
+use Rattle.std.proofs.Common.{◌++◌, sym, subst, refl}
 use Rattle.dp_tables.specs.declared.history_item.HistoryItem.TheVariants as item
 use Rattle.dp_tables.specs.declared.opening.Opening.{Opening}
 use Rattle.dp_tables.specs.Openings.{Holds}

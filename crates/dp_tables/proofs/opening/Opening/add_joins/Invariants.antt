@@ -1,4 +1,4 @@
-use Rattle.std.proofs.Common.{◌≡◌, ℕ, ◌-◌, ◌++◌, List}
+use Rattle.std.proofs.Common.{◌-◌, ◌++◌, List}
 use Rattle.std.specs.List.{filter, filter_map, range_with_len}
 use Rattle.dp_messages.specs.declared.message.Entry.{Entry}
 use Rattle.dp_acl.specs.Opening.{last_join}

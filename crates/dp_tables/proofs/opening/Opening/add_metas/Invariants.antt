@@ -1,4 +1,4 @@
-use Rattle.std.proofs.Common.{◌≡◌, ◌++◌, List, map, take}
+use Rattle.std.proofs.Common.{◌++◌, List, map, take}
 use Rattle.dp_messages.specs.declared.message.Entry.{Entry}
 use Rattle.dp_events.specs.declared.event.Event.{Event}
 use Rattle.dp_acl.specs.Opening.{server_entry}

@@ -1,6 +1,5 @@
 use Rattle.std.proofs.Common.{◌≡◌, length, ap, sym, ◌∙◌, arith}
 use Rattle.dp_tables.specs.Ledger.{state_in}
-use Rattle.dp_tables.specs.Inside.{ledger_of}
 use Rattle.dp_tables.proofs.PageLemmas.{front-put}
 use Rattle.dp_tables.proofs.tables.Tables.put_due.Goals as goal
 

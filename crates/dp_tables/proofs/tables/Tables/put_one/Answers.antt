@@ -1,4 +1,4 @@
-use Rattle.std.proofs.Common.{◌++◌, take, length, sym, ap, ◌∙◌, append-nil, ◌∷◌, []}
+use Rattle.std.proofs.Common.{◌++◌, take, length, sym, ap, ◌∙◌, append-nil}
 use Rattle.dp_messages.specs.Messages.{entry_bytes}
 use Rattle.dp_frame_log.specs.Frames.{frames_of}
 use Rattle.dp_tables.specs.Ledger.{state_in}

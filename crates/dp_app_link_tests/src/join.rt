@@ -1,6 +1,6 @@
 //! Worked runs of `join` over links in memory, through the program's top call.
 
-use crate::running::{outcome_of, words_of};
+use dp_app_runs::{outcome_of, words_of};
 use dp_io::{MemSink, MemSource};
 use dp_lines::hex_of;
 use dp_wire::MemWire;

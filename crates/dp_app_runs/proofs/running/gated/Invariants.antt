@@ -1,4 +1,4 @@
-use Rattle.dp_app_tests.proofs.running.gated.Given as goal
+use Rattle.dp_app_runs.proofs.running.gated.Given as goal
 
 abbrev pub ghosts-counted-D-Ledger : goal.ghosts-counted-D-Ledger
 ghosts-counted-D-Ledger g a = record { name = a.draws.name; parts = a.draws.parts }

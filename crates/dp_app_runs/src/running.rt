@@ -6,12 +6,10 @@ use dp_app::{Outcome, drawpile};
 use dp_io::{MemSink, MemSource, Sink, Source};
 use dp_steps::Steps;
 use dp_wire::{Gate, MemWire, OpenGate};
-use std::alloc::Global;
+use std::alloc::{AllocError, Global};
 use std::marker::Brand;
-use std::process::Abort;
 use std::sync::Wait;
 use std::sync::ledger::{Blank, Ledger};
-use std::test::Fail;
 use std::thread::Threads;
 
 /// The calls that fail, by their numbers from 1, of a run's input, output and diag.
@@ -36,16 +34,17 @@ pub struct Ran {
     pub diag: MemSink,
 }
 
-/// Runs words on the input in pieces of this length, and writes in pieces of this length.
-pub fn run<R: Abort + Threads + Wait + Sync>(
+/// Runs words on the input in pieces of this length, and writes in pieces of this length. A length
+/// of 0 counts as 1.
+pub fn run<R: Threads + Wait + Sync>(
     rt: &R,
     alloc: Global,
     words: &str,
     input: &[u8],
     piece: usize,
     faults: Faults<'_>,
-) -> Result<Ran, Fail> {
-    assert!(rt; piece >= 1);
+) -> Result<Ran, AllocError> {
+    let piece = piece.max(1);
     let words = words_of(alloc, words)?;
     let mut source = MemSource::new(
         Vec::from_slice(alloc, input)?,
@@ -78,7 +77,7 @@ pub fn run<R: Abort + Threads + Wait + Sync>(
 }
 
 /// The words of a text.
-pub fn words_of(alloc: Global, text: &str) -> Result<Vec<String>, Fail> {
+pub fn words_of(alloc: Global, text: &str) -> Result<Vec<String>, AllocError> {
     let mut words = Vec::new(alloc);
     for word in text.split_whitespace() {
         words.push(String::from_str(alloc, word)?)?;

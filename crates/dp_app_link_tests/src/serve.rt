@@ -1,7 +1,7 @@
 //! Worked runs of `serve` over wires in memory, through the program's top call.
 
-use crate::running::{gated, outcome_of, words_of};
 use dp_app::Outcome;
+use dp_app_runs::{gated, outcome_of, words_of};
 use dp_io::{MemSink, MemSource};
 use dp_lines::hex_of;
 use dp_link::{DownEnd, GreetEnd, UpEnd};

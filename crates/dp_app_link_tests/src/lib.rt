@@ -1,0 +1,7 @@
+//! The tests of the program over links, through its top call.
+#![tactic(auto)]
+
+#[cfg(test)]
+mod join;
+#[cfg(test)]
+mod serve;

@@ -1,0 +1,6 @@
+//! Runs of the program over memory, for the crates that test it through its top call.
+#![tactic(auto)]
+
+mod running;
+
+pub use running::{Faults, NO_FAULTS, Ran, gated, outcome_of, run, words_of};
