@@ -14,9 +14,9 @@ use crate::view::{OutcomeOf, ViewOf};
 use atomic_table::{Seat, Shared};
 use dp_machine::Machine;
 use std::alloc::AllocError;
-use std::hint;
 use std::snapshot::Snapshot;
 use std::sync::Wait;
+use std::{hint, thread};
 
 pub(crate) type HallTable<M> = Shared<SlotOf<M>, ViewOf<M>, Snapshot<M>, HallRule<M>>;
 
@@ -34,7 +34,8 @@ const MACHINE: usize = 0;
 /// How often the turn is looked at before a seat sleeps. A turn is short, and a sleep is long.
 const LOOKS: u32 = 64;
 
-/// Looks at the turn until it is free, but not for long.
+/// Looks at the turn until it is free, but not for long. A seat that has it may wait for a
+/// processor: another thread is let go on then.
 fn linger<M: Machine>(table: &HallTable<M>)
     requires { table.now.table_id.words ≡ 2 }
 {
@@ -44,6 +45,7 @@ fn linger<M: Machine>(table: &HallTable<M>)
         }
         hint::spin_loop();
     }
+    thread::yield_now();
 }
 
 /// Waits for the turn, and takes it with the machine.
@@ -55,10 +57,10 @@ fn take<M: Machine, R: Wait>(rt: &R, table: &HallTable<M>, token: &mut TableSeat
     ensures hand { token.new.me.1 ≡ (0, None) ∷ [] }
 {
     for _ in rt.forever() {
+        linger(table);
         if table.compare_exchange::<Take<M>>(token, TURN, 0, 1) == 0 {
             return table.exchange(token, MACHINE, None).unwrap();
         }
-        linger(table);
         table.park(rt, TURN, 1);
     }
     unreachable!()
@@ -205,7 +207,8 @@ pub(crate) fn look<M: Machine, R: Wait, L: Look<M>>(
     give_back(table, token, stored);
 }
 
-/// Waits until the count is above a number.
+/// Waits until the count is above a number. Before it sleeps it lets other threads go on, which may
+/// act: then it need not sleep, and nobody need wake it.
 pub(crate) fn wait_past<M: Machine, R: Wait>(
     rt: &R,
     table: &HallTable<M>,
@@ -224,6 +227,7 @@ pub(crate) fn wait_past<M: Machine, R: Wait>(
         if seen > n {
             return seen;
         }
+        thread::yield_now();
         table.park(rt, COUNT, (seen & 0xffff_ffff) as u32);
     }
     unreachable!()

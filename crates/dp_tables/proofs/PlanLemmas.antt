@@ -395,7 +395,7 @@ module _ (journal : List Event) (s : State) (conn : ℕ) (c : Connection)
         state = record s { ended = s.ended ++ s.live ∷ []; live = live; stream = None };
         reply = reply.Placed (epoch_of s + 1) 0;
       }) (sym holds.entries)) tt
-      (holds.said, subst (StandsFor next.rights) (sym holds.entries) holds.stands))
+      (holds.said, subst (StandsFor next.rights.value) (sym holds.entries) holds.stands))
 
 -- ---- operators
 

@@ -82,7 +82,7 @@ metas-more metas i d history within =
 pub holds-one : (journal : List Event) (old new : Opening) (history : List Entry) (i : HistoryItem)
     (e : Entry) → Holds journal old history → new.live.items ≡ old.live.items ++ i ∷ []
     → entry_in journal i ≡ e → IsIn journal i
-    → StandsFor new.rights (history ++ e ∷ [])
+    → StandsFor new.rights.value (history ++ e ∷ [])
     → Holds journal new (history ++ e ∷ [])
 holds-one journal old new history i e h items is said stands = record {
   entries = ap (map (entry_in journal)) items
@@ -123,8 +123,8 @@ holds-command law journal old new history parts i within said rights items h =
     ∙ ap (λ xs. history ++ xs) (sym (ap (map command_entry) all
     ∙ map-append command_entry before (found.0 ∷ []))))
     (holds-one journal old new H (item.Command part) (command_entry found.0) h items entry some
-    (subst (λ r. StandsFor r (H ++ command_entry found.0 ∷ [])) (sym rights)
-    (law old.rights H (found.0 ∷ []) h.stands)))
+    (subst (λ r. StandsFor r.value (H ++ command_entry found.0 ∷ [])) (sym rights)
+    (law old.rights.value H (found.0 ∷ []) h.stands)))
 
 pub some-unwrap : {X : Type 0} (o : Option X) (d : X) → is_some o ≡ true → o ≡ Some (unwrap_or o d)
 some-unwrap None d some = cc

@@ -10,4 +10,4 @@ use Rattle.dp_tables.specs.Tables.{entry_in, IsIn}
 pub record Holds (journal : List Event) (opening : Opening) (history : List Entry) : Type 0 where
   pub entries : map (entry_in journal) opening.live.items ≡ history
   pub said : All (IsIn journal) opening.live.items
-  pub stands : StandsFor opening.rights history
+  pub stands : StandsFor opening.rights.value history

@@ -77,7 +77,7 @@ epoch_after placing epoch = epoch
 abbrev pub IsOpening : List Event → Placing → Type 0
 IsOpening journal (Opens e opening) =
     All (IsIn journal) opening.live.items
-    × StandsFor opening.rights (map (entry_in journal) opening.live.items)
+    × StandsFor opening.rights.value (map (entry_in journal) opening.live.items)
 IsOpening journal placing = Unit {0}
 
 -- the events by which the users joined last, where a change is made by the n-th event

@@ -102,7 +102,7 @@ fn place(
             *epoch += 1;
             *live = opening.live;
             frames.clear();
-            *rights = opening.rights;
+            *rights = Box::into_inner(opening.rights);
             journal.push_reserved(event);
         }
     }

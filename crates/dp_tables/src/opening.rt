@@ -2,7 +2,7 @@
 
 ghost use Rattle.std.specs.Prelude.{◌≡◌, ◌≤◌, ◌++◌, ◌∷◌, [], ℕ, List, Bool, true, is_some, map};
 ghost use Rattle.std.specs.Prelude.{All};
-ghost use Rattle.std.specs.Prelude.{OnOk, slice_get, slice_index_or};
+ghost use Rattle.std.specs.Prelude.{IfOk, OnOk, slice_get, slice_index_or};
 ghost use Rattle.std.specs.List.{filter, filter_map};
 ghost use Rattle.dp_messages.specs.declared.message.Entry.{Entry as Piece};
 ghost use Rattle.dp_events.specs.declared.event.Event.{Event as Kept};
@@ -23,18 +23,18 @@ use std::alloc::{AllocError, Global};
 #[derive(Debug, Drop)]
 pub(crate) struct Opening {
     pub(crate) live: Vec<HistoryItem>,
-    pub(crate) rights: Rights,
+    /// Apart, since it is large: few plans open an epoch.
+    pub(crate) rights: Box<Rights>,
 }
 
 impl Opening {
     /// No entries.
-    pub(crate) fn new(alloc: Global) -> Opening
-        ensures { (journal : List Kept) → Holds journal result [] }
+    pub(crate) fn new(alloc: Global) -> Result<Opening, AllocError>
+        ensures { IfOk result (λ opening. (journal : List Kept) → Holds journal opening []) }
     {
-        Opening {
-            live: Vec::new(alloc),
-            rights: Rights::new(alloc),
-        }
+        let rights = Box::new(alloc, Rights::new(alloc))?;
+        let live = Vec::new(alloc);
+        Ok(Opening { live, rights })
     }
 
     /// Adds an entry of the server's own.

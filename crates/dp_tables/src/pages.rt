@@ -3,6 +3,10 @@
 ghost use Rattle.std.specs.Prelude.{
   ◌≡◌,
   ◌++◌,
+  ◌∷◌,
+  [],
+  List,
+  OnOk,
   ◌-◌,
   ℕ,
   ◌<◌,
@@ -24,7 +28,9 @@ ghost use Rattle.dp_acl.specs.Opening.{command_entry};
 ghost use Rattle.dp_epochs.specs.State.{connection_of, entry_of};
 ghost use Rattle.dp_epochs.specs.Pull.{page, pulled_from, pulled_by_left, pulled_where};
 ghost use Rattle.dp_tables.specs.Ledger.{state_in};
-ghost use Rattle.dp_frame_log.specs.Frames.{AreWritten, frames_of};
+ghost use Rattle.dp_messages.specs.declared.message.Entry.{Entry as Piece};
+ghost use Rattle.dp_messages.specs.Messages.{entry_bytes};
+ghost use Rattle.dp_frame_log.specs.Frames.{AreFramesOf, AreWritten, frames_of};
 ghost use Rattle.dp_tables.specs.Pages.{answer_of, IsPage};
 ghost use Rattle.dp_tables.specs.Tables.{entry_in, IsIn, IsSay, join_of, mark, message_of, part_of};
 
@@ -149,6 +155,39 @@ fn is_flagged(quiet: &[bool], conn: u32) -> bool
     quiet.get(conn as usize - 1).copied().unwrap_or(false)
 }
 
+/// Puts the frame of an entry that is kept beside the journal at the end of the bytes.
+fn put_item(
+    alloc: Global,
+    journal: &[Event],
+    item: &HistoryItem,
+    out: &mut Vec<u8>,
+) -> Result<(), AllocError>
+    requires { IsIn journal.now item.now }
+    ensures ok { OnOk result (out.new.items
+        ≡ out.old.items ++ entry_bytes (entry_in journal.now item.now)) }
+    ensures err { OnErr result (out.new.items ≡ out.old.items) }
+{
+    let entry = entry(alloc, journal, item)?;
+    put_entry(&entry, out)
+}
+
+/// Adds the frame of an entry that is kept beside the journal.
+fn append_item(
+    alloc: Global,
+    journal: &[Event],
+    item: &HistoryItem,
+    frames: &mut FrameLog,
+) -> Result<(), AllocError>
+    requires { IsIn journal.now item.now }
+    ensures ok { OnOk result ((entries : List Piece) → AreFramesOf frames.old entries
+        → AreFramesOf frames.new (entries ++ entry_in journal.now item.now ∷ [])) }
+    ensures err { OnErr result ((entries : List Piece) → AreFramesOf frames.old entries
+        → AreFramesOf frames.new entries) }
+{
+    let entry = entry(alloc, journal, item)?;
+    frames.append(&entry)
+}
+
 /// Makes the frame of the entry at a place, if there is one.
 fn write_at(
     alloc: Global,
@@ -162,7 +201,7 @@ fn write_at(
 {
     match live.get(frames.len()) {
         Some(item) => {
-            frames.append(&entry(alloc, journal, item)?)?;
+            append_item(alloc, journal, item, frames)?;
             Ok(true)
         }
         None => Ok(false),
@@ -281,8 +320,7 @@ impl Tables {
     {
         match prefix_of(&self.live, end).get(at) {
             Some(item) => {
-                let entry = entry(self.allocator(), &self.journal, item)?;
-                put_entry(&entry, out)?;
+                put_item(self.allocator(), &self.journal, item, out)?;
                 Ok(1)
             }
             None => Ok(0),

@@ -143,7 +143,7 @@ impl Tables {
         let present = present_ids(alloc, &self.present)?;
         let metas = self.rights.carry(&present)?;
         let carried = present.as_slice().len() + metas.len() + self.parts.len();
-        let mut opening = Opening::new(alloc);
+        let mut opening = Opening::new(alloc)?;
         opening.add(mark(self.next_epoch(), carried as u32))?;
         opening.add_joins(&self.journal, &self.opens, &self.present)?;
         opening.add_metas(&metas)?;

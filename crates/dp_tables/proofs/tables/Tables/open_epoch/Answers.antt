@@ -54,7 +54,7 @@ returns c =
     let drawn = rw c.deref-3.ensures.value at c.in_ok-add_commands.ensures in
     let one : Holds J c.add.new.self ([] ++ first ∷ []) =
     subst (λ e. Holds J c.add.new.self ([] ++ e ∷ [])) c.mark.ensures
-    (c.in_ok-add.ensures J [] (c.new-opening.ensures J)) in
+    (c.in_ok-add.ensures J [] (c.in_ok-opening.ensures J)) in
     let two = joins ([] ++ first ∷ []) s.live are.joined one in
     let three = rights J (([] ++ first ∷ []) ++ filter_map (last_join s.live) present) two in
     let four = drawn J ((([] ++ first ∷ []) ++ filter_map (last_join s.live) present)

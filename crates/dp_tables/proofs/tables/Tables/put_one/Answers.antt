@@ -7,8 +7,8 @@ use Rattle.dp_tables.proofs.TableLemmas.{of-ledger}
 use Rattle.dp_tables.proofs.PageLemmas.{page-of-one, found-at}
 use Rattle.dp_tables.proofs.tables.Tables.put_one.Goals as goal
 
-pub returns-in_ok-put_entry-in-Some-clause-put : goal.returns-in_ok-put_entry-in-Some-clause-put
-returns-in_ok-put_entry-in-Some-clause-put c =
+pub returns-in_ok-put_item-in-Some-clause-put : goal.returns-in_ok-put_item-in-Some-clause-put
+returns-in_ok-put_item-in-Some-clause-put c =
     let t = c.self.inside in
     let are = of-ledger t c.args.self.now c.self.invariant c.self.view_is in
     let one =
@@ -18,7 +18,8 @@ returns-in_ok-put_entry-in-Some-clause-put c =
     (rw (c.prefix_of.ensures, c.deref.ensures.value) at c.in-Some.ensures.lookup.3.0)
     (rw (c.prefix_of.ensures, c.deref.ensures.value) at c.in-Some.ensures.lookup.1)) in (
       sym (ap length one),
-      c.in_ok-put_entry-in-Some.ensures.ok
+      rw c.deref-in-Some.ensures.value at c.in_ok-put_item-in-Some.ensures.ok
           ∙ ap (λ xs. c.args.out.now.items ++ xs)
-          (ap entry_bytes (rw c.deref-in-Some.ensures.value at c.in_ok-entry-in-Some.ensures) ∙ sym (append-nil (entry_bytes (entry_in t.journal.items c.in-Some.item.now))) ∙ sym (ap frames_of one)),
+          (sym (append-nil (entry_bytes (entry_in t.journal.items c.in-Some.item.now)))
+          ∙ sym (ap frames_of one)),
     )
