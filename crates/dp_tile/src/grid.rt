@@ -25,13 +25,13 @@ pub struct Grid {
 }
 
 impl Model for Grid {
-    ghost use Rattle.dp_tile.specs.Tiles.{TileGrid, IsGrid};
+    ghost use Rattle.dp_tile.specs.Tiles.{TileGrid, IsCellRows, grid_of_rows};
 
     ghost Value = { TileGrid };
 
-    ghost view = { λ g. record { cols = g.cols; rows = g.rows; cells = g.cells } };
+    ghost view = { λ g. grid_of_rows g.cols g.rows g.cells };
 
-    ghost invariant = { λ g. IsGrid (record { cols = g.cols; rows = g.rows; cells = g.cells }) };
+    ghost invariant = { λ g. IsCellRows g.cols g.rows g.cells };
 }
 
 impl Grid {
@@ -41,7 +41,7 @@ impl Grid {
         requires rows { rows ≤ 64 }
         ensures { IfOk result (λ grid. grid ≡ clear_grid cols rows) }
     {
-        let cells = Cells::clear(alloc, cols as usize * rows as usize)?;
+        let cells = Cells::clear(alloc, cols as usize, rows as usize)?;
         Ok(Grid {
             cols,
             rows,
@@ -103,8 +103,8 @@ impl Grid {
         ensures { result ≡ grid_pixel self.now x y }
     {
         let (x, y) = (x as usize, y as usize);
-        let place = y / SIDE * self.cols as usize + x / SIDE;
-        self.cells.at(place).get(x % SIDE, y % SIDE)
+        let slot = self.cells.at(x / SIDE, y / SIDE);
+        slot.get(x % SIDE, y % SIDE)
     }
 
     /// The tile at a column and a row. `None` comes only where it shows nothing.
@@ -114,8 +114,8 @@ impl Grid {
         ensures pixels { IfSome result (λ tile. tile.now ≡ cell_at self.now col row) }
         ensures none { IfNone result (cell_at self.now col row ≡ tile_of clear) }
     {
-        let shown = row as usize * self.cols as usize + col as usize;
-        self.cells.at(shown).tile()
+        let slot = self.cells.at(col as usize, row as usize);
+        slot.tile()
     }
 
     /// Puts a tile at a column and a row. Other grids that shared the old one keep it.
@@ -130,9 +130,9 @@ impl Grid {
         ensures err { OnErr result (self.new ≡ self.old) }
     {
         tile.known();
-        let place = row as usize * self.cols as usize + col as usize;
         let slot = Slot::of(self.alloc, tile)?;
-        self.cells.put(self.alloc, place, slot)
+        let (col, row) = (col as usize, row as usize);
+        self.cells.put(self.alloc, col, row, slot)
     }
 
     /// Makes the tile at a column and a row this grid's alone, so that a `paint` of it takes no
@@ -149,8 +149,8 @@ impl Grid {
         ensures tiles_rise { tiles.old ≤ tiles.new }
         ensures one_tile { tiles.new ≤ tiles.old + 1 }
     {
-        let owned = row as usize * self.cols as usize + col as usize;
-        self.cells.own_tile(self.alloc, owned, tiles)
+        let (col, row) = (col as usize, row as usize);
+        self.cells.own_tile(self.alloc, col, row, tiles)
     }
 
     /// Paints the tile at a column and a row. Other grids that shared it keep the old one.
@@ -173,8 +173,6 @@ impl Grid {
         ensures tiles_rise { tiles.old ≤ tiles.new }
         ensures one_tile { tiles.new ≤ tiles.old + 1 }
     {
-        let painted = row as usize * self.cols as usize + col as usize;
-        self.cells
-            .paint(self.alloc, painted, col, row, painter, tiles)
+        self.cells.paint(self.alloc, col, row, painter, tiles)
     }
 }

@@ -5,6 +5,7 @@
 mod cells;
 mod grid;
 mod painter;
+mod row;
 mod slot;
 mod tile;
 

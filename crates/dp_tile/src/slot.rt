@@ -3,7 +3,7 @@
 ghost use Rattle.std.specs.Prelude.{◌≡◌, ◌+◌, ◌<◌, ◌≤◌, length, IfOk, IfSome, IfNone, OnOk, OnErr};
 ghost use Rattle.dp_blend.specs.Color.{clear};
 ghost use Rattle.dp_blend.specs.Canvas.{pixel_at};
-ghost use Rattle.dp_tile.specs.Tiles.{tile_of};
+ghost use Rattle.dp_tile.specs.Tiles.{IsOfColor, tile_of};
 
 use crate::painter::TilePainter;
 use crate::tile::Tile;
@@ -68,6 +68,16 @@ impl Slot {
         ensures { length self.now ≡ 4096 }
     {
         let _ = &self.tile;
+    }
+
+    // The colour of all its pixels, where that is known.
+    pub(crate) fn color(&self) -> Option<Pixel>
+        ensures { IsOfColor result self.now }
+    {
+        match &self.tile {
+            None => Some(Pixel::CLEAR),
+            Some(tile) => tile.color(),
+        }
     }
 
     // The pixel at a place.
