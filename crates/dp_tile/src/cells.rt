@@ -1,10 +1,12 @@
 //! The rows of a grid, which grids share until one of them is written to.
 
-ghost use Rattle.std.specs.Prelude.{◌≡◌, [], ◌+◌, ◌<◌, ◌≤◌, length, replicate};
+ghost use Rattle.std.specs.Prelude.{◌≡◌, [], ◌+◌, ◌-◌, ◌*◌, ◌<◌, ◌≤◌, length, replicate, All};
 ghost use Rattle.std.specs.Prelude.{slice_index_or, slice_set, IfOk, OnOk, OnErr};
 ghost use Rattle.dp_blend.specs.Color.{clear};
 ghost use Rattle.dp_tile.specs.Tiles.{tile_of, with_cell_in_rows};
+ghost use Rattle.dp_tile.specs.Areas.{area_painted};
 
+use crate::area::{CellArea, paint_area};
 use crate::painter::TilePainter;
 use crate::row::Row;
 use crate::slot::Slot;
@@ -140,6 +142,37 @@ impl Cells {
             Some(rows) => match Arc::get_mut(rows) {
                 None => Err(AllocError),
                 Some(sole) => sole[row as usize].paint(alloc, col, row, painter, tiles),
+            },
+        }
+    }
+
+    // Paints the tiles of an area.
+    pub(crate) fn paint_area<P: TilePainter, T: Ledger>(
+        &mut self,
+        alloc: Global,
+        area: CellArea,
+        painter: &P,
+        tiles: &mut Steps<T>,
+    ) -> Result<(), AllocError>
+        requires across { area.left ≤ area.right }
+        requires down { area.top ≤ area.bottom }
+        requires cols { area.right ≤ 64 }
+        requires rows { area.bottom ≤ length self.old }
+        requires few_rows { length self.old ≤ 64 }
+        requires wide { All (λ row. area.right ≤ length row) self.old }
+        ensures painted { OnOk result
+            (self.new ≡ area_painted (P.painted painter.now) area self.old) }
+        ensures err { OnErr result (self.new ≡ self.old) }
+        ensures tiles_rise { tiles.old ≤ tiles.new }
+        ensures few_tiles { tiles.new
+            ≤ tiles.old + (area.bottom - area.top) * (area.right - area.left) }
+    {
+        self.own(alloc)?;
+        match &mut self.rows {
+            None => Ok(()),
+            Some(rows) => match Arc::get_mut(rows) {
+                None => Err(AllocError),
+                Some(sole) => paint_area(alloc, area, painter, sole.as_mut_slice(), tiles),
             },
         }
     }

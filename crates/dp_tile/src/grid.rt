@@ -1,9 +1,11 @@
 //! Tiles in columns and rows.
 
-ghost use Rattle.std.specs.Prelude.{◌≡◌, ◌+◌, ◌*◌, ◌<◌, ◌≤◌, IfOk, IfSome, IfNone, OnOk, OnErr};
+ghost use Rattle.std.specs.Prelude.{◌≡◌, ◌+◌, ◌-◌, ◌*◌, ◌<◌, ◌≤◌, IfOk, IfSome, IfNone, OnOk, OnErr};
 ghost use Rattle.dp_blend.specs.Color.{clear};
 ghost use Rattle.dp_tile.specs.Tiles.{IsGrid, tile_of, clear_grid, cell_at, with_cell, grid_pixel};
+ghost use Rattle.dp_tile.specs.Areas.{IsPaintedOn};
 
+use crate::area::CellArea;
 use crate::cells::Cells;
 use crate::painter::TilePainter;
 use crate::slot::Slot;
@@ -174,5 +176,32 @@ impl Grid {
         ensures one_tile { tiles.new ≤ tiles.old + 1 }
     {
         self.cells.paint(self.alloc, col, row, painter, tiles)
+    }
+
+    /// Paints the tiles of an area. Other grids that shared them keep the old ones. All tiles are
+    /// made this grid's alone before the first one is painted; cells that become of one colour have
+    /// one tile in common.
+    ///
+    /// # Errors
+    ///
+    /// The grid is as it was, and tiles that were made are counted.
+    pub fn paint_area<P: TilePainter, T: Ledger>(
+        &mut self,
+        area: CellArea,
+        painter: &P,
+        tiles: &mut Steps<T>,
+    ) -> Result<(), AllocError>
+        requires across { area.left ≤ area.right }
+        requires down { area.top ≤ area.bottom }
+        requires cols { area.right ≤ self.old.cols }
+        requires rows { area.bottom ≤ self.old.rows }
+        ensures painted { OnOk result
+            (IsPaintedOn area (P.painted painter.now) self.old self.new) }
+        ensures err { OnErr result (self.new ≡ self.old) }
+        ensures tiles_rise { tiles.old ≤ tiles.new }
+        ensures few_tiles { tiles.new
+            ≤ tiles.old + (area.bottom - area.top) * (area.right - area.left) }
+    {
+        self.cells.paint_area(self.alloc, area, painter, tiles)
     }
 }

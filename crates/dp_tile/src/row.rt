@@ -16,7 +16,7 @@ use std::sync::ledger::Ledger;
 /// A row of slots. It is seen as the list of their pixels.
 #[derive(Drop)]
 pub(crate) struct Row {
-    slots: Arc<Vec<Slot>>,
+    pub slots: Arc<Vec<Slot>>,
 }
 
 impl Model for Row {
@@ -138,7 +138,7 @@ fn share_slots(alloc: Global, slots: &[Slot]) -> Result<Vec<Slot>, AllocError>
 }
 
 // Makes the slots the caller's alone: a copy of the list, where others have it too.
-fn own_slots(alloc: Global, slots: &mut Arc<Vec<Slot>>) -> Result<(), AllocError>
+pub(crate) fn own_slots(alloc: Global, slots: &mut Arc<Vec<Slot>>) -> Result<(), AllocError>
     ensures { slots.new.value.items ≡ slots.old.value.items }
 {
     match Arc::get_mut(slots) {

@@ -17,11 +17,11 @@ use std::sync::ledger::Ledger;
 /// A tile, or none where all its pixels are clear. It is seen as the tile's pixels.
 #[derive(Drop)]
 pub(crate) struct Slot {
-    tile: Option<Arc<Tile>>,
+    pub tile: Option<Arc<Tile>>,
 }
 
 impl Model for Slot {
-    ghost use Rattle.std.specs.Prelude.{◌≡◌, List, length};
+    ghost use Rattle.std.specs.Prelude.{List};
     ghost use Rattle.std.specs.Option.{option_map_or};
     ghost use Rattle.dp_blend.specs.Color.{Channels, clear};
     ghost use Rattle.dp_tile.specs.Tiles.{tile_of};
@@ -29,8 +29,6 @@ impl Model for Slot {
     ghost Value = { List Channels };
 
     ghost view = { λ s. option_map_or (λ t. t.value) s.tile (tile_of clear) };
-
-    ghost invariant = { λ s. length (option_map_or (λ t. t.value) s.tile (tile_of clear)) ≡ 4096 };
 }
 
 impl Slot {
@@ -67,7 +65,10 @@ impl Slot {
     pub(crate) fn known(&self)
         ensures { length self.now ≡ 4096 }
     {
-        let _ = &self.tile;
+        match &self.tile {
+            None => {}
+            Some(tile) => tile.known(),
+        }
     }
 
     // The colour of all its pixels, where that is known.
