@@ -85,7 +85,7 @@ fn paint_cells<P: TilePainter, T: Ledger>(
     tiles: &mut Steps<T>,
 ) -> Result<(), AllocError>
     requires cols { cell.col + length slots.old ≤ 64 }
-    requires rows { cell.row + length below.old ≤ 64 }
+    requires rows { cell.row + length below.old < 64 }
     requires wide { All (λ row. work.now.right ≤ length row) below.old }
     ensures slots { OnOk result (slots.new
         ≡ cells_painted (P.painted work.now.painter.now) cell.col cell.row slots.old) }
@@ -113,7 +113,7 @@ fn paint_rows<P: TilePainter, T: Ledger>(
     palette: &mut Palette,
     tiles: &mut Steps<T>,
 ) -> Result<(), AllocError>
-    requires rows { row + length rows.old ≤ 65 }
+    requires rows { row + length rows.old ≤ 64 }
     requires wide { All (λ row. work.now.right ≤ length row) rows.old }
     ensures rows { OnOk result (rows.new
         ≡ rows_painted (P.painted work.now.painter.now) work.now.left work.now.right row rows.old) }
@@ -138,7 +138,7 @@ fn paint_row<P: TilePainter, T: Ledger>(
     palette: &mut Palette,
     tiles: &mut Steps<T>,
 ) -> Result<(), AllocError>
-    requires rows { row + length below.old < 65 }
+    requires rows { row + length below.old < 64 }
     requires first { work.now.right ≤ length first.old }
     requires wide { All (λ row. work.now.right ≤ length row) below.old }
     ensures first { OnOk result (first.new
@@ -169,7 +169,7 @@ fn paint_columns<P: TilePainter, T: Ledger>(
     palette: &mut Palette,
     tiles: &mut Steps<T>,
 ) -> Result<(), AllocError>
-    requires rows { row + length below.old < 65 }
+    requires rows { row + length below.old < 64 }
     requires slots { work.now.right ≤ length slots.old }
     requires wide { All (λ row. work.now.right ≤ length row) below.old }
     ensures slots { OnOk result (slots.new
@@ -203,7 +203,7 @@ fn paint_first<P: TilePainter, T: Ledger>(
     tiles: &mut Steps<T>,
 ) -> Result<(), AllocError>
     requires cols { cell.col + length others.old < 64 }
-    requires rows { cell.row + length below.old ≤ 64 }
+    requires rows { cell.row + length below.old < 64 }
     requires wide { All (λ row. work.now.right ≤ length row) below.old }
     ensures first { OnOk result (first.new
         ≡ P.painted work.now.painter.now cell.col cell.row first.old) }
@@ -252,7 +252,7 @@ fn paint_owned<P: TilePainter, T: Ledger>(
     tiles: &mut Steps<T>,
 ) -> Result<(), AllocError>
     requires cols { cell.col + length others.old < 64 }
-    requires rows { cell.row + length below.old ≤ 64 }
+    requires rows { cell.row + length below.old < 64 }
     requires wide { All (λ row. work.now.right ≤ length row) below.old }
     ensures first { OnOk result (first.new
         ≡ P.painted work.now.painter.now cell.col cell.row first.old) }
@@ -287,7 +287,7 @@ fn paint_held<P: TilePainter, T: Ledger>(
     tiles: &mut Steps<T>,
 ) -> Result<(), AllocError>
     requires cols { cell.col + length others.old < 64 }
-    requires rows { cell.row + length below.old ≤ 64 }
+    requires rows { cell.row + length below.old < 64 }
     requires wide { All (λ row. work.now.right ≤ length row) below.old }
     ensures tile { OnOk result (tile.new.value
         ≡ P.painted work.now.painter.now cell.col cell.row tile.old.value) }

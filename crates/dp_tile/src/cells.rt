@@ -127,6 +127,8 @@ impl Cells {
     ) -> Result<(), AllocError>
         requires row { row < length self.old }
         requires col { col < length (slice_index_or self.old row []) }
+        requires few_cols { col < 64 }
+        requires few_rows { row < 64 }
         ensures painted { OnOk result (self.new ≡ with_cell_in_rows self.old col row
             (P.painted painter.now col row
             (slice_index_or (slice_index_or self.old row []) col (tile_of clear)))) }

@@ -1,6 +1,6 @@
 //! What is done to tiles.
 
-ghost use Rattle.std.specs.Prelude.{◌≡◌, ℕ, List, length};
+ghost use Rattle.std.specs.Prelude.{◌≡◌, ◌<◌, ℕ, List, length};
 ghost use Rattle.dp_blend.specs.Color.{Channels};
 ghost use Rattle.dp_tile.specs.Painters.{KnownChange};
 
@@ -28,10 +28,14 @@ pub trait TilePainter {
     /// What it does to the tile at a column and a row, as far as it is known from the colour of all
     /// the tile's pixels, if they have one.
     fn change(&self, col: u32, row: u32, color: Option<Pixel>) -> TileChange
+        requires col { col < 64 }
+        requires row { row < 64 }
         ensures { KnownChange result color (painted self.now col row) };
 
     /// Paints the pixels of the tile at a column and a row.
     fn paint(&self, col: u32, row: u32, pixels: &mut [Pixel])
-        requires { length pixels.old ≡ 4096 }
+        requires col { col < 64 }
+        requires row { row < 64 }
+        requires count { length pixels.old ≡ 4096 }
         ensures { pixels.new ≡ painted self.now col row pixels.old };
 }

@@ -82,7 +82,9 @@ impl Row {
         painter: &P,
         tiles: &mut Steps<T>,
     ) -> Result<(), AllocError>
-        requires { col < length self.old }
+        requires inside { col < length self.old }
+        requires col { col < 64 }
+        requires row { row < 64 }
         ensures painted { OnOk result (self.new ≡ slice_set self.old col
             (P.painted painter.now col row (slice_index_or self.old col (tile_of clear)))) }
         ensures count { OnOk result (length (P.painted painter.now col row

@@ -134,6 +134,8 @@ impl Slot {
         painter: &P,
         tiles: &mut Steps<T>,
     ) -> Result<(), AllocError>
+        requires col { col < 64 }
+        requires row { row < 64 }
         ensures painted { OnOk result (self.new ≡ P.painted painter.now col row self.old) }
         ensures count { OnOk result (length (P.painted painter.now col row self.old) ≡ 4096) }
         ensures err { OnErr result (self.new ≡ self.old) }
@@ -175,6 +177,8 @@ fn paint_tile<P: TilePainter>(
     row: u32,
     painter: &P,
 ) -> Result<(), AllocError>
+    requires col { col < 64 }
+    requires row { row < 64 }
     ensures painted { OnOk result (tile.new.value ≡ P.painted painter.now col row tile.old.value) }
     ensures count { OnOk result (length tile.new.value ≡ 4096) }
     ensures err { OnErr result (tile.new.value ≡ tile.old.value) }

@@ -115,6 +115,8 @@ impl Tile {
 
     // Paints the pixels, of the tile at a column and a row.
     pub(crate) fn paint<P: TilePainter>(&mut self, col: u32, row: u32, painter: &P)
+        requires col { col < 64 }
+        requires row { row < 64 }
         ensures painted { self.new ≡ P.painted painter.now col row self.old }
         ensures count { length self.new ≡ 4096 }
     {
