@@ -1,0 +1,2 @@
+pub mod FootLemmas
+pub mod Painting
