@@ -6,7 +6,7 @@ use Rattle.std.proofs.lemmas.Bool.{lt-ltb, cond-true, cond-false, cases_Bool, fa
 use Rattle.std.proofs.lemmas.Bool.{false_from_ne_true}
 use Rattle.dp_blend.specs.Color.{Channels, clear}
 use Rattle.dp_blend.specs.Canvas.{canvas_of, pixel_at}
-use Rattle.dp_blend.proofs.Canvas.{is_canvas_of, canvas_of-same, pixel_at-canvas_of}
+use Rattle.dp_blend.proofs.Canvas.{canvas_of-same, pixel_at-canvas_of}
 use Rattle.dp_msg_draw.specs.declared.draw.Draw.{Draw}
 use Rattle.dp_msg_draw.specs.declared.draw.Draw.TheVariants as draws
 use Rattle.dp_pixels.specs.declared.region.Region.{Region}
@@ -18,6 +18,7 @@ use Rattle.dp_tile.specs.declared.area.CellArea.{CellArea}
 use Rattle.dp_tile.specs.Tiles.{TileGrid, cell_at, grid_pixel, grid_pixels}
 use Rattle.dp_tile.specs.Areas.{IsPaintedOn, is_in_cells}
 use Rattle.dp_paint.specs.Painting.{IsGridOf, IsPainting, tile_drawn}
+use Rattle.dp_paint.proofs.Drawn.{is_tile_drawn, pixel-tile_drawn}
 
 -- a window of one tile that was painted
 pub tile_painted : (width height : ℕ) (op : Draw) (col row : ℕ) (region : Region)
@@ -26,9 +27,7 @@ pub tile_painted : (width height : ℕ) (op : Draw) (col row : ℕ) (region : Re
     → IsPainted region 64 (pixel_drawn width height op) old new
     → new ≡ tile_drawn width height op col row old
 tile_painted width height op col row region old new at_x at_y wide high count is =
-    is_canvas_of 64 64
-    (λ i j. pixel_drawn width height op (pos (col * 64 + i)) (pos (row * 64 + j))
-    (pixel_at 64 old i j)) new (is.len ∙ count)
+    is_tile_drawn width height op col row old new (is.len ∙ count)
     (λ i j in_x in_y. rw (← at_x, ← at_y)
     (is.inside i j clear (omega (arith, wide, in_x)) (omega (arith, high, in_y))))
 
@@ -38,6 +37,8 @@ by_pixels : (width height : ℕ) (op : Draw) → IsPainting op → (old : ℤ �
 by_pixels width height (draws.FillRect layer mode x y w h color) is old px py = refl
 by_pixels width height (draws.PutImage layer mode x y w h colors) is old px py = refl
 by_pixels width height (draws.PutTile layer col row repeat content) is old px py = refl
+by_pixels width height (draws.DabsRound layer x y r g b mode dabs) is old px py = refl
+by_pixels width height (draws.DabsSquare layer x y r g b mode dabs) is old px py = refl
 by_pixels width height _ is old px py = absurd is
 
 -- outside its foot a command keeps each pixel
@@ -69,8 +70,7 @@ module _ (width height : ℕ) (op : Draw) (is : IsPainting op) (law : StaysOutsi
       let at_x : col * 64 + x % 64 ≡ x = omega arith in
       let at_y : row * 64 + y % 64 ≡ y = omega arith in
       ap (λ pixels. pixel_at 64 pixels (x % 64) (y % 64)) cell
-      ∙ pixel_at-canvas_of 64 64 (λ i j. pixel_drawn width height op (pos (col * 64 + i))
-      (pos (row * 64 + j)) (pixel_at 64 (cell_at old col row) i j)) (x % 64) (y % 64)
+      ∙ pixel-tile_drawn width height op col row (cell_at old col row) (x % 64) (y % 64)
       (omega arith) (omega arith)
       ∙ (rw (at_x, at_y) refl)
 

@@ -7,6 +7,7 @@ ghost use Rattle.dp_pixels.specs.Feet.{squares_of_foot, stretches};
 ghost use Rattle.dp_tile.specs.Areas.{is_in_cells};
 ghost use Rattle.dp_paint.specs.Painting.{IsOnGreatest, IsPainting, foot_area};
 
+use crate::dabs::around;
 use dp_msg_draw::Draw;
 use dp_pixels::Rect;
 use dp_tile::CellArea;
@@ -65,6 +66,8 @@ fn foot_rect(command: &Draw) -> Rect
         Draw::PutTile {
             col, row, repeat, ..
         } => tiles_rect(*col, *row, *repeat),
+        Draw::DabsRound { x, y, dabs, .. } => on_greatest(around(*x, *y, dabs.as_slice())),
+        Draw::DabsSquare { x, y, dabs, .. } => on_greatest(around(*x, *y, dabs.as_slice())),
         _ => unreachable!(),
     }
 }

@@ -3,8 +3,12 @@
 //! The rule: docs/protocol.md, "Pixel commands".
 #![tactic(auto)]
 
+mod dabs;
 mod feet;
 mod paint;
 mod painter;
 
 pub use paint::{paint_in_place, paint_one};
+
+#[cfg(test)]
+mod tests;
