@@ -16,6 +16,9 @@ use std::alloc::{AllocError, Global};
 use std::marker::Model;
 use std::sync::ledger::Ledger;
 
+/// How many tiles are painted in place at a time: the depth on the stack is their number.
+const FEW: u32 = 128;
+
 /// Tiles in at most 64 columns and 64 rows. Grids that were shared have their tiles in common, each
 /// until one of them is written to. A grid is seen as its sides and the pixels of its cells.
 #[derive(Drop)]
@@ -178,9 +181,9 @@ impl Grid {
         self.cells.paint(self.alloc, col, row, painter, tiles)
     }
 
-    /// Paints the tiles of an area. Other grids that shared them keep the old ones. All tiles are
-    /// made this grid's alone before the first one is painted; cells that become of one colour have
-    /// one tile in common.
+    /// Paints the tiles of an area. Other grids that shared them keep the old ones. Where the area
+    /// is small, its tiles are made this grid's alone before the first is painted; else all of them
+    /// are made anew. Cells that become of one colour have one tile in common.
     ///
     /// # Errors
     ///
@@ -202,6 +205,89 @@ impl Grid {
         ensures few_tiles { tiles.new
             ≤ tiles.old + (area.bottom - area.top) * (area.right - area.left) }
     {
+        self.known();
+        if (area.bottom - area.top) * (area.right - area.left) <= FEW {
+            self.paint_few(area, painter, tiles)
+        } else {
+            self.paint_many(area, painter, tiles)
+        }
+    }
+
+    // Paints the tiles of an area in place. Its depth on the stack is their number.
+    fn paint_few<P: TilePainter, T: Ledger>(
+        &mut self,
+        area: CellArea,
+        painter: &P,
+        tiles: &mut Steps<T>,
+    ) -> Result<(), AllocError>
+        requires across { area.left ≤ area.right }
+        requires down { area.top ≤ area.bottom }
+        requires cols { area.right ≤ self.old.cols }
+        requires rows { area.bottom ≤ self.old.rows }
+        ensures painted { OnOk result
+            (IsPaintedOn area (P.painted painter.now) self.old self.new) }
+        ensures err { OnErr result (self.new ≡ self.old) }
+        ensures tiles_rise { tiles.old ≤ tiles.new }
+        ensures few_tiles { tiles.new
+            ≤ tiles.old + (area.bottom - area.top) * (area.right - area.left) }
+    {
         self.cells.paint_area(self.alloc, area, painter, tiles)
+    }
+
+    // Paints the tiles of an area row by row, on new tiles, and keeps the old ones meanwhile.
+    fn paint_many<P: TilePainter, T: Ledger>(
+        &mut self,
+        area: CellArea,
+        painter: &P,
+        tiles: &mut Steps<T>,
+    ) -> Result<(), AllocError>
+        requires across { area.left ≤ area.right }
+        requires down { area.top ≤ area.bottom }
+        requires cols { area.right ≤ self.old.cols }
+        requires rows { area.bottom ≤ self.old.rows }
+        ensures painted { OnOk result
+            (IsPaintedOn area (P.painted painter.now) self.old self.new) }
+        ensures err { OnErr result (self.new ≡ self.old) }
+        ensures tiles_rise { tiles.old ≤ tiles.new }
+        ensures few_tiles { tiles.new
+            ≤ tiles.old + (area.bottom - area.top) * (area.right - area.left) }
+    {
+        let old = self.share()?;
+        match self.paint_rows(area, painter, tiles) {
+            Ok(()) => Ok(()),
+            Err(refused) => {
+                *self = old;
+                Err(refused)
+            }
+        }
+    }
+
+    // Paints the tiles of an area row by row. Where it is refused, some rows are painted.
+    fn paint_rows<P: TilePainter, T: Ledger>(
+        &mut self,
+        area: CellArea,
+        painter: &P,
+        tiles: &mut Steps<T>,
+    ) -> Result<(), AllocError>
+        requires across { area.left ≤ area.right }
+        requires down { area.top ≤ area.bottom }
+        requires cols { area.right ≤ self.old.cols }
+        requires rows { area.bottom ≤ self.old.rows }
+        ensures painted { OnOk result
+            (IsPaintedOn area (P.painted painter.now) self.old self.new) }
+        ensures tiles_rise { tiles.old ≤ tiles.new }
+        ensures few_tiles { tiles.new
+            ≤ tiles.old + (area.bottom - area.top) * (area.right - area.left) }
+    {
+        for row in area.top..area.bottom {
+            let line = CellArea {
+                left: area.left,
+                right: area.right,
+                top: row,
+                bottom: row + 1,
+            };
+            self.paint_few(line, painter, tiles)?;
+        }
+        Ok(())
     }
 }
