@@ -1,6 +1,6 @@
 -- The rectangle around dabs, one after the other.
 use Rattle.std.proofs.Common.{◌≡◌, ℕ, ◌+◌, ◌<◌, List, [], ◌∷◌, ◌++◌, length, get_or, take, map, fold}
-use Rattle.std.proofs.Common.{Option, Some, None, ap, sym, ◌∙◌, refl, subst}
+use Rattle.std.proofs.Common.{Option, Some, None, ap, sym, ◌∙◌, refl}
 use Rattle.std.specs.Prelude.{ℤ, pos, ◌+ℤ◌, ◌-ℤ◌, unsigned_abs, ◌/◌, ◌≤◌}
 use Rattle.std.proofs.lemmas.Option.{none-some, same_Some}
 use Rattle.dp_msg_draw.specs.declared.lists.Dab.{Dab}
@@ -66,7 +66,7 @@ dab_more left top dabs k last_x last_y x y square all rect inside to_x to_y near
     (rw (to_x, to_y) refl) near_x near_y last in (
       next.last,
       ap (λ (r : Rect). Some r) (is ∙ (rw (cells, so_far) refl))
-      ∙ sym (around_more dab_rect (placed_dabs left top dabs) k
-      (record { at = record { x = x; y = y }; size = dab.size; opacity = dab.opacity }) next.within
-      next.is),
+          ∙ sym (around_more dab_rect (placed_dabs left top dabs) k
+          (record { at = record { x = x; y = y }; size = dab.size; opacity = dab.opacity }) next.within
+          next.is),
     )

@@ -1,5 +1,5 @@
 -- Feet that are one rectangle.
-use Rattle.std.proofs.Common.{◌≡◌, ℕ, ◌-◌, ◌*◌, ◌≤◌, true, Option, Some, None, subst, sym, arith}
+use Rattle.std.proofs.Common.{◌≡◌, ℕ, ◌-◌, ◌*◌, ◌≤◌, true, Some, subst, sym}
 use Rattle.std.specs.Prelude.{ℤ}
 use Rattle.std.proofs.Math.Nat.{mul_comm, mul-le-mul}
 use Rattle.std.proofs.lemmas.Option.{none-some, same_Some}

@@ -1,11 +1,11 @@
 -- Commands painted on tiles, by their places.
-use Rattle.std.proofs.Common.{◌≡◌, ℕ, ◌+◌, ◌*◌, ◌/◌, ◌%◌, ◌<◌, ◌≤◌, List, length, get_or, arith}
-use Rattle.std.proofs.Common.{ap, sym, ◌∙◌, refl, Bool, true, false, cond, ◌&&◌, subst, ⊎_elim}
-use Rattle.std.specs.Prelude.{pos, ℤ, nat_lt}
+use Rattle.std.proofs.Common.{◌≡◌, ℕ, ◌+◌, ◌*◌, ◌/◌, ◌%◌, ◌<◌, ◌≤◌, List, length, arith}
+use Rattle.std.proofs.Common.{ap, sym, ◌∙◌, refl, true, false, ⊎_elim}
+use Rattle.std.specs.Prelude.{pos, ℤ}
 use Rattle.std.proofs.lemmas.Bool.{lt-ltb, cond-true, cond-false, cases_Bool, false≢true}
 use Rattle.std.proofs.lemmas.Bool.{false_from_ne_true}
 use Rattle.dp_blend.specs.Color.{Channels, clear}
-use Rattle.dp_blend.specs.Canvas.{canvas_of, pixel_at}
+use Rattle.dp_blend.specs.Canvas.{pixel_at}
 use Rattle.dp_blend.proofs.Canvas.{canvas_of-same, pixel_at-canvas_of}
 use Rattle.dp_msg_draw.specs.declared.draw.Draw.{Draw}
 use Rattle.dp_msg_draw.specs.declared.draw.Draw.TheVariants as draws
@@ -13,7 +13,6 @@ use Rattle.dp_pixels.specs.declared.region.Region.{Region}
 use Rattle.dp_pixels.specs.Commands.{drawn, pixel_drawn, pixel_of, pixels_after}
 use Rattle.dp_pixels.specs.Feet.{foot, is_in_foot}
 use Rattle.dp_pixels.specs.Regions.{IsPainted}
-use Rattle.dp_pixels.specs.Tiles.{tiles_along}
 use Rattle.dp_tile.specs.declared.area.CellArea.{CellArea}
 use Rattle.dp_tile.specs.Tiles.{TileGrid, cell_at, grid_pixel, grid_pixels}
 use Rattle.dp_tile.specs.Areas.{IsPaintedOn, is_in_cells}

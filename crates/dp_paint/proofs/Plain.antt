@@ -1,13 +1,13 @@
 -- Tiles of one colour that a command fills.
-use Rattle.std.proofs.Common.{◌≡◌, ℕ, ◌+◌, ◌*◌, ◌<◌, ◌≤◌, List, length, get_or, arith}
-use Rattle.std.proofs.Common.{ap, sym, ◌∙◌, refl, Bool, true, false, cond, subst}
+use Rattle.std.proofs.Common.{◌≡◌, ℕ, ◌+◌, ◌*◌, ◌<◌, ◌≤◌, List, arith}
+use Rattle.std.proofs.Common.{ap, sym, ◌∙◌, refl, true}
 use Rattle.std.specs.Prelude.{pos, ℤ}
 use Rattle.std.specs.Option.{option_map_or}
 use Rattle.std.proofs.lemmas.Int.{ints}
 use Rattle.std.proofs.lemmas.Bool.{cond-true}
-use Rattle.dp_blend.specs.Color.{Channels, clear, of_argb}
+use Rattle.dp_blend.specs.Color.{Channels, of_argb}
 use Rattle.dp_blend.specs.Blending.{blend, mode_numbered}
-use Rattle.dp_blend.specs.Canvas.{canvas_of, pixel_at}
+use Rattle.dp_blend.specs.Canvas.{pixel_at}
 use Rattle.dp_msg_draw.specs.declared.draw.Draw.{Draw}
 use Rattle.dp_msg_draw.specs.declared.draw.Draw.TheVariants as draws
 use Rattle.dp_pixels.specs.declared.rect.Rect.{Rect}
@@ -73,22 +73,21 @@ tile_within width height x y w h col row across down i j in_x in_y =
     let a2 = across.2 in
     let d0 = down.0 in
     let d1 = down.1 in
-    let d2 = down.2 in
-    (
+    let d2 = down.2 in (
       is_in_by (rect_at (pos x) (pos y) w h) (pos (col * 64 + i)) (pos (row * 64 + j))
-      (record {
-        x0 = omega (arith, ints);
-        x1 = omega (arith, ints);
-        y0 = omega (arith, ints);
-        y1 = omega (arith, ints);
-      }),
+          (record {
+            x0 = omega (arith, ints);
+            x1 = omega (arith, ints);
+            y0 = omega (arith, ints);
+            y1 = omega (arith, ints);
+          }),
       is_in_by (canvas_rect width height) (pos (col * 64 + i)) (pos (row * 64 + j))
-      (record {
-        x0 = omega (arith, ints);
-        x1 = omega (arith, ints);
-        y0 = omega (arith, ints);
-        y1 = omega (arith, ints);
-      }),
+          (record {
+            x0 = omega (arith, ints);
+            x1 = omega (arith, ints);
+            y0 = omega (arith, ints);
+            y1 = omega (arith, ints);
+          }),
     )
 
 -- what a fill makes of a tile whose pixels are all of one colour

@@ -64,7 +64,10 @@ fn foot_rect(command: &Draw) -> Rect
         Draw::FillRect { x, y, w, h, .. } => on_greatest(rect_of(*x, *y, *w, *h)),
         Draw::PutImage { x, y, w, h, .. } => on_greatest(rect_of(*x, *y, *w, *h)),
         Draw::PutTile {
-            col, row, repeat, ..
+            col,
+            row,
+            repeat,
+            ..
         } => tiles_rect(*col, *row, *repeat),
         Draw::DabsRound { x, y, dabs, .. } => on_greatest(around(*x, *y, dabs.as_slice())),
         Draw::DabsSquare { x, y, dabs, .. } => on_greatest(around(*x, *y, dabs.as_slice())),

@@ -1,9 +1,9 @@
 -- Areas of cells that were painted, by their places.
-use Rattle.std.proofs.Common.{◌≡◌, ℕ, zero, suc, ◌+◌, ◌-◌, ◌*◌, ◌<◌, ◌≤◌, List, [], ◌∷◌, ◌++◌}
+use Rattle.std.proofs.Common.{◌≡◌, ℕ, zero, suc, ◌+◌, ◌-◌, ◌<◌, ◌≤◌, List, [], ◌∷◌, ◌++◌}
 use Rattle.std.proofs.Common.{length, get_or, take, drop, ap, sym, ◌∙◌, subst, refl, arith}
 use Rattle.std.proofs.Common.{length-append, length-drop, Bool, true, false, cond, ◌&&◌, ⊎_elim}
 use Rattle.std.proofs.Common.{Ok, Err}
-use Rattle.std.specs.Prelude.{All, slice_index_or, nat_le, nat_lt, Result, OnOk, OnErr}
+use Rattle.std.specs.Prelude.{All, nat_le, nat_lt, Result, OnOk, OnErr}
 use Rattle.std.proofs.lemmas.Bool.{cases_lt, leb-true, ltb-true, le-leb, lt-ltb, and_parts}
 use Rattle.std.proofs.lemmas.Bool.{false≢true}
 use Rattle.std.proofs.lemmas.List.{get_or_append_left, get_or-append-add, length-take-le}
@@ -12,10 +12,10 @@ use Rattle.std.proofs.lemmas.List.Elements.{All-append, All-take, All-drop, All-
 use Rattle.std.proofs.lemmas.List.Elements.{All-head, All-tail}
 use Rattle.dp_blend.specs.Color.{Channels, clear}
 use Rattle.dp_tile.specs.declared.area.CellArea.{CellArea}
-use Rattle.dp_tile.specs.Tiles.{IsCellRow, IsCellRows, TileGrid, cell_at, grid_of_rows, tile_of}
+use Rattle.dp_tile.specs.Tiles.{IsCellRow, IsCellRows, grid_of_rows, tile_of}
 use Rattle.dp_tile.specs.Areas.{Painted, IsPaintedOn, is_in_cells, part, with_part}
 use Rattle.dp_tile.specs.Areas.{cells_painted, row_painted, rows_painted, area_painted}
-use Rattle.dp_tile.proofs.Rows.{cell_of_rows, cols_of_row}
+use Rattle.dp_tile.proofs.Rows.{cell_of_rows}
 
 -- ---- a part of a list, and others in its place
 
@@ -341,7 +341,7 @@ module _ (painted : Painted) (cols count : ℕ) (area : CellArea)
             rw (
               ← cell_of_rows cols count rows col row is col_in row_in,
               ← cell_of_rows cols count (area_painted painted area rows) col row is_new col_in
-              row_in,
+                  row_in,
             )
             (either (is_in_cells area col row) _ _ _ (cell_in col row) (cell_out col row));
       }

@@ -6,7 +6,7 @@ use Rattle.std.specs.Prelude.{All, slice_index_or}
 use Rattle.std.proofs.Math.Nat.{mul_comm, mul-suc}
 use Rattle.std.specs.List.{flat_map}
 use Rattle.std.proofs.lemmas.List.{set-append_left, set-append_right, get_or_append_left}
-use Rattle.std.proofs.lemmas.List.{get_or-append-add, length-replicate, get_or-replicate}
+use Rattle.std.proofs.lemmas.List.{get_or-append-add, length-replicate}
 use Rattle.std.proofs.lemmas.List.{length-set, replicate-append-replicate}
 use Rattle.std.proofs.lemmas.List.Elements.{All-replicate, All-append, All-nil, All-head, All-tail}
 use Rattle.std.proofs.lemmas.List.Elements.{All-set, All-weaker}

@@ -65,7 +65,10 @@ fn shared_and_written<T: Ledger>(alloc: Global, blank: Blank) -> Result<[Pixel; 
 fn a_write_leaves_a_shared_grid(rt: HostRuntime) -> Result<(), AllocError> {
     let pixels = shared_and_written::<Brand>(rt.alloc(), Blank::new(1))?;
     let (white, clear) = (Pixel::WHITE, Pixel::CLEAR);
-    assert_eq!(rt; pixels, [clear, white, white, clear, white, white, white, clear]);
+    assert_eq!(rt;
+        pixels,
+        [clear, white, white, clear, white, white, white, clear]
+    );
     let none = Grid::none(rt.alloc());
     assert_eq!(rt; (none.cols(), none.rows()), (0, 0));
     Ok(())

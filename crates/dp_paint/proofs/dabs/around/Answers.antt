@@ -1,4 +1,4 @@
-use Rattle.std.proofs.Common.{◌≡◌, ◌∙◌, ap, sym, length, take, rules, arith, SFits, w32, to_z, of_z}
+use Rattle.std.proofs.Common.{◌∙◌, ap, sym, arith, w32, to_z, of_z}
 use Rattle.std.proofs.lemmas.Int.{to_z-of_z}
 use Rattle.std.proofs.lemmas.List.{take_all}
 use Rattle.dp_pixels.specs.Dabs.{dab_rect, placed_dabs}

@@ -1,5 +1,5 @@
-use Rattle.std.proofs.Common.{◌≡◌, ◌≤◌, ◌+◌, ◌-◌, ◌∷◌, ◌++◌, length, take, drop, subst, ap, sym}
-use Rattle.std.proofs.Common.{rules, arith}
+use Rattle.std.proofs.Common.{◌≡◌, ◌≤◌, ◌+◌, ◌∷◌, length, subst, ap}
+use Rattle.std.proofs.Common.{arith}
 use Rattle.std.specs.Prelude.{All}
 use Rattle.std.proofs.lemmas.Result.{on_ok_weaker}
 use Rattle.std.proofs.lemmas.List.Elements.{All-head, All-tail}
@@ -13,8 +13,7 @@ paint_rows-paint_row-requires g t c κs within =
     let cases : c.args.rows.now ≡ first ∷ below = c.in-Some.ensures.cases.0 in
     let long : length below + 1 ≡ length c.args.rows.now =
     c.in-Some.ensures.cases.1 in
-    let wide = subst (All (λ row. c.args.work.now.right ≤ length row)) cases c.requires.wide in
-    (
+    let wide = subst (All (λ row. c.args.work.now.right ≤ length row)) cases c.requires.wide in (
       omega (arith, long, c.decreases),
       (
         within.0,

@@ -1,4 +1,3 @@
-use Rattle.std.proofs.Common.{◌∙◌, refl, sym}
 use Rattle.dp_paint.proofs.Plain.{fill_becomes}
 use Rattle.dp_paint.proofs.painter.CommandPainterTilePainter.change.Goals as goal
 

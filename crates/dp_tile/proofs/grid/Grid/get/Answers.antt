@@ -1,4 +1,4 @@
-use Rattle.std.proofs.Common.{◌≡◌, ◌*◌, ◌/◌, ◌<◌, ◌∙◌, sym, arith}
+use Rattle.std.proofs.Common.{◌≡◌, ◌/◌, ◌<◌, ◌∙◌, arith}
 use Rattle.dp_tile.specs.Tiles.{cell_at}
 use Rattle.dp_tile.proofs.Rows.{cell_of_view}
 use Rattle.dp_tile.proofs.grid.Grid.get.Goals as goal

@@ -1,6 +1,6 @@
 use Rattle.std.proofs.Common.{◌∙◌, ap}
 use Rattle.std.proofs.lemmas.Result.{on_ok_weaker}
-use Rattle.dp_tile.specs.Tiles.{grid_of_rows, with_cell_in_rows, with_cell}
+use Rattle.dp_tile.specs.Tiles.{grid_of_rows}
 use Rattle.dp_tile.proofs.Rows.{with_cell_of_view}
 use Rattle.dp_tile.proofs.grid.Grid.write.Goals as goal
 
