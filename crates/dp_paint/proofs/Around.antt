@@ -1,5 +1,6 @@
 -- The rectangle around dabs, one after the other.
-use Rattle.std.proofs.Common.{◌≡◌, ℕ, ◌+◌, ◌<◌, List, [], ◌∷◌, ◌++◌, length, get_or, take, map, fold}
+use Rattle.std.proofs.Common.{◌≡◌, ℕ, ◌+◌, ◌<◌, List, [], ◌∷◌, ◌++◌, length, get_or, take, map}
+use Rattle.std.proofs.Common.{fold}
 use Rattle.std.proofs.Common.{Option, Some, None, ap, sym, ◌∙◌, refl}
 use Rattle.std.specs.Prelude.{ℤ, pos, ◌+ℤ◌, ◌-ℤ◌, unsigned_abs, ◌/◌, ◌≤◌}
 use Rattle.std.proofs.lemmas.Option.{none-some, same_Some}
@@ -58,7 +59,8 @@ pub dab_more : (left top : ℤ) (dabs : List Dab) (k : ℕ) (last_x last_y x y :
     → rect ≡ option_map_or (λ r. joined r square) all square
     → IsLast left top dabs (k + 1) (record { x = x; y = y })
     × (Some rect ≡ around_by dab_rect (take (k + 1) (placed_dabs left top dabs)))
-dab_more left top dabs k last_x last_y x y square all rect inside to_x to_y near_x near_y last so_far
+dab_more left top dabs k last_x last_y x y square all rect inside to_x to_y near_x near_y last
+    so_far
     cells is =
     let dab = get_or dabs k no_dab in
     let next = next_is left top dabs k (record { x = last_x; y = last_y })
@@ -67,6 +69,7 @@ dab_more left top dabs k last_x last_y x y square all rect inside to_x to_y near
       next.last,
       ap (λ (r : Rect). Some r) (is ∙ (rw (cells, so_far) refl))
           ∙ sym (around_more dab_rect (placed_dabs left top dabs) k
-          (record { at = record { x = x; y = y }; size = dab.size; opacity = dab.opacity }) next.within
+          (record { at = record { x = x; y = y }; size = dab.size; opacity = dab.opacity })
+          next.within
           next.is),
     )

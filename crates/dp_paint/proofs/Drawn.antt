@@ -12,7 +12,8 @@ module _ (width height : ℕ) (op : Draw) (col row : ℕ) (pixels : List Channel
   -- one of them
   pub pixel-tile_drawn : (i j : ℕ) → i < 64 → j < 64
       → pixel_at 64 (tile_drawn width height op col row pixels) i j
-      ≡ pixel_drawn width height op (pos (col * 64 + i)) (pos (row * 64 + j)) (pixel_at 64 pixels i j)
+      ≡ pixel_drawn width height op (pos (col * 64 + i)) (pos (row * 64 + j))
+      (pixel_at 64 pixels i j)
   unfolding tile_drawn
   pixel-tile_drawn i j in_x in_y =
       pixel_at-canvas_of 64 64 (λ i j. pixel_drawn width height op (pos (col * 64 + i))
@@ -21,7 +22,8 @@ module _ (width height : ℕ) (op : Draw) (col row : ℕ) (pixels : List Channel
   -- a list that has them at its places
   pub is_tile_drawn : (new : List Channels) → length new ≡ 4096
       → ((i j : ℕ) → i < 64 → j < 64 → pixel_at 64 new i j
-      ≡ pixel_drawn width height op (pos (col * 64 + i)) (pos (row * 64 + j)) (pixel_at 64 pixels i j))
+      ≡ pixel_drawn width height op (pos (col * 64 + i)) (pos (row * 64 + j))
+      (pixel_at 64 pixels i j))
       → new ≡ tile_drawn width height op col row pixels
   unfolding tile_drawn
   is_tile_drawn new count each =

@@ -1,7 +1,8 @@
 //! The tiles that a command may change.
 
-ghost use Rattle.std.specs.Prelude.{◌≡◌, ◌+◌, ◌-◌, ◌*◌, ◌/◌, ◌<◌, ◌≤◌, ℕ, ℤ, pos, ◌≤ℤ◌, ◌<ℤ◌, ◌^◌, true, if◌then◌else◌, ◌==◌, Some};
-ghost use Rattle.dp_pixels.specs.Rectangles.{clipped, is_in, rect_at};
+ghost use Rattle.std.specs.Prelude.{◌≡◌, ◌+◌, ◌-◌, ◌*◌, ◌/◌, ◌<◌, ◌≤◌, ℕ, pos, ◌≤ℤ◌, ◌<ℤ◌};
+ghost use Rattle.std.specs.Prelude.{true, if◌then◌else◌, ◌==◌, Some};
+ghost use Rattle.dp_pixels.specs.Rectangles.{clipped, rect_at};
 ghost use Rattle.dp_pixels.specs.Feet.{foot, greatest_canvas, is_in_foot};
 ghost use Rattle.dp_pixels.specs.Feet.{squares_of_foot, stretches};
 ghost use Rattle.dp_tile.specs.Areas.{is_in_cells};

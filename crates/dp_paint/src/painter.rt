@@ -38,7 +38,7 @@ fn is_side_within(stretch: u32, from: u32, len: u32, limit: u32) -> bool
 }
 
 impl CommandPainter<'_> {
-    /// Whether the tile at a column and a row is in the rectangle and on the canvas, the whole of it.
+    /// Whether all of the tile at a column and a row is in the rectangle and on the canvas.
     fn is_within(&self, area: Fill, col: u32, row: u32) -> bool
         requires col { col < 64 }
         requires row { row < 64 }

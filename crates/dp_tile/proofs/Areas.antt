@@ -19,7 +19,8 @@ use Rattle.dp_tile.proofs.Rows.{cell_of_rows}
 
 -- ---- a part of a list, and others in its place
 
-module _ {X : Type 0} (from to : ℕ) (xs : List X) (order : from ≤ to) (within : to ≤ length xs) where
+module _ {X : Type 0} (from to : ℕ) (xs : List X) (order : from ≤ to)
+    (within : to ≤ length xs) where
   pub length-part : length (part from to xs) ≡ to - from
   length-part =
       length-take-le (to - from) (drop from xs) (omega (arith, length-drop from xs, order, within))

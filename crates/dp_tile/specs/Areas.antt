@@ -14,8 +14,8 @@ abbrev pub is_in_cells : CellArea → ℕ → ℕ → Bool
 is_in_cells area col row =
     nat_le area.left col && nat_lt col area.right && nat_le area.top row && nat_lt row area.bottom
 
--- the grid was painted on an area: each cell there is what the painter makes of the old one, and all
--- others stay
+-- the grid was painted on an area: each cell there is what the painter makes of the old one, and
+-- all others stay
 pub record IsPaintedOn (area : CellArea) (painted : Painted) (old new : TileGrid) : Type 0 where
   pub cols : new.cols ≡ old.cols
   pub rows : new.rows ≡ old.rows

@@ -11,7 +11,8 @@ pub loop-dab-preserved : goal.loop-dab-preserved
 loop-dab-preserved c =
     let last = c.loop-dab.last in
     let at = c.behind-last.result in
-    let more = dab_more (to_z w32 (of_z w32 c.args.x)) (to_z w32 (of_z w32 c.args.y)) c.args.dabs.now
+    let more = dab_more (to_z w32 (of_z w32 c.args.x)) (to_z w32 (of_z w32 c.args.y))
+    c.args.dabs.now
     c.loop-dab.dab-index last.x last.y at.x at.y c.square.result c.loop-dab.all c.extended.result
     c.loop-dab-test.true c.behind-last.ensures.x c.behind-last.ensures.y
     c.behind-last.ensures.near_x c.behind-last.ensures.near_y c.loop-dab.invariant.last

@@ -26,7 +26,8 @@ returns-clause-all c = λ x y in_x in_y is.
     let x1 : SFits w64 r.x1 = search rules in
     let y0 : SFits w64 r.y0 = search rules in
     let y1 : SFits w64 r.y1 = search rules in
-    let inside = in_foot r (foot c.args.command.now) (pos x) (pos y) c.foot_rect-area.ensures.foot is
+    let inside = in_foot r (foot c.args.command.now) (pos x) (pos y)
+    c.foot_rect-area.ensures.foot is
     in
     let across = c.tiles_between-left.ensures.all x in_x (rw (to_z-of_z w64 r.x0 x0) inside.x0)
     (rw (to_z-of_z w64 r.x1 x1) inside.x1) in
