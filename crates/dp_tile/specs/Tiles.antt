@@ -1,13 +1,24 @@
 -- A tile is a square of 64 by 64 pixels, seen as their list: row by row from the top, each row from
 -- the left. A grid is tiles in columns and rows.
 use Rattle.std.specs.Prelude.{◌≡◌, ℕ, ◌+◌, ◌*◌, ◌/◌, ◌%◌, ◌≤◌, List, length, replicate}
-use Rattle.std.specs.Prelude.{slice_index_or, slice_set, All}
+use Rattle.std.specs.Prelude.{[], slice_index_or, slice_set, All, Option}
+use Rattle.std.specs.List.{flat_map}
+use Rattle.std.specs.Option.{ForSome}
 use Rattle.dp_blend.specs.Color.{Channels, clear}
 use Rattle.dp_blend.specs.Canvas.{canvas_of, pixel_at}
 
 -- the pixels of a tile of one colour
 unfoldable pub tile_of : Channels → List Channels
 tile_of p = replicate 4096 p
+
+-- where there is a colour, all these pixels are of it
+abbrev pub IsOfColor : Option Channels → List Channels → Type 0
+IsOfColor color pixels = ForSome color (λ p. pixels ≡ tile_of p)
+
+-- a tile has 4096 pixels, all of one colour where it is marked with that
+pub record IsTile (color : Option Channels) (pixels : List Channels) : Type 0 where
+  pub count : length pixels ≡ 4096
+  pub marked : IsOfColor color pixels
 
 -- tiles in columns and rows: row by row from the top, each row from the left. Each cell is the list
 -- of its pixels, so the value doesn't tell a tile that isn't there from a clear one.
@@ -22,6 +33,29 @@ pub record IsGrid (g : TileGrid) : Type 0 where
   pub rows : g.rows ≤ 64
   pub cells : length g.cells ≡ g.cols * g.rows
   pub pixels : All (λ cell. length cell ≡ 4096) g.cells
+
+-- a row of so many cells, with 4096 pixels in each
+pub record IsCellRow (cols : ℕ) (row : List (List Channels)) : Type 0 where
+  pub cells : length row ≡ cols
+  pub pixels : All (λ cell. length cell ≡ 4096) row
+
+-- so many rows of cells, each of this many columns
+pub record IsCellRows (cols rows : ℕ) (all : List (List (List Channels))) : Type 0 where
+  pub few_cols : cols ≤ 64
+  pub few_rows : rows ≤ 64
+  pub count : length all ≡ rows
+  pub each : All (IsCellRow cols) all
+
+-- the grid of these rows of cells
+abbrev pub grid_of_rows : ℕ → ℕ → List (List (List Channels)) → TileGrid
+grid_of_rows cols rows all =
+    record { cols = cols; rows = rows; cells = flat_map (λ row. row) all }
+
+-- the rows with this cell at a column and a row
+abbrev pub with_cell_in_rows : List (List (List Channels)) → ℕ → ℕ → List Channels
+    → List (List (List Channels))
+with_cell_in_rows all col row pixels =
+    slice_set all row (slice_set (slice_index_or all row []) col pixels)
 
 -- the grid of these sides that shows nothing
 abbrev pub clear_grid : ℕ → ℕ → TileGrid

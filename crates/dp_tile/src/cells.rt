@@ -1,11 +1,14 @@
-//! The slots of a grid, which grids share until one of them is written to.
+//! The rows of a grid, which grids share until one of them is written to.
 
-ghost use Rattle.std.specs.Prelude.{◌≡◌, [], ◌+◌, ◌<◌, ◌≤◌, length, replicate};
+ghost use Rattle.std.specs.Prelude.{◌≡◌, [], ◌+◌, ◌-◌, ◌*◌, ◌<◌, ◌≤◌, length, replicate, All};
 ghost use Rattle.std.specs.Prelude.{slice_index_or, slice_set, IfOk, OnOk, OnErr};
 ghost use Rattle.dp_blend.specs.Color.{clear};
-ghost use Rattle.dp_tile.specs.Tiles.{tile_of};
+ghost use Rattle.dp_tile.specs.Tiles.{tile_of, with_cell_in_rows};
+ghost use Rattle.dp_tile.specs.Areas.{area_painted};
 
+use crate::area::{CellArea, paint_area};
 use crate::painter::TilePainter;
+use crate::row::Row;
 use crate::slot::Slot;
 use dp_steps::Steps;
 use std::alloc::{AllocError, Global};
@@ -13,10 +16,10 @@ use std::marker::Model;
 use std::sync::Arc;
 use std::sync::ledger::Ledger;
 
-/// Slots in a row. It is seen as the list of their pixels.
+/// Rows of slots. It is seen as the list of the rows, each the list of its slots' pixels.
 #[derive(Drop)]
 pub(crate) struct Cells {
-    slots: Option<Arc<Vec<Slot>>>,
+    rows: Option<Arc<Vec<Row>>>,
 }
 
 impl Model for Cells {
@@ -24,171 +27,215 @@ impl Model for Cells {
     ghost use Rattle.std.specs.Option.{option_map_or};
     ghost use Rattle.dp_blend.specs.Color.{Channels};
 
-    ghost Value = { List (List Channels) };
+    ghost Value = { List (List (List Channels)) };
 
-    ghost view = { λ c. option_map_or (λ slots. slots.value.items) c.slots [] };
+    ghost view = { λ c. option_map_or (λ rows. rows.value.items) c.rows [] };
 }
 
 impl Cells {
-    // No slot. It takes no memory.
+    // No row. It takes no memory.
     pub(crate) fn none() -> Cells
         ensures { result ≡ [] }
     {
-        Cells { slots: None }
+        Cells { rows: None }
     }
 
-    // So many slots without tiles.
-    pub(crate) fn clear(alloc: Global, count: usize) -> Result<Cells, AllocError>
-        ensures { IfOk result (λ cells. cells ≡ replicate count (tile_of clear)) }
+    // So many rows of so many slots without tiles.
+    pub(crate) fn clear(alloc: Global, cols: usize, rows: usize) -> Result<Cells, AllocError>
+        ensures { IfOk result (λ cells. cells ≡ replicate rows (replicate cols (tile_of clear))) }
     {
-        let slots = Arc::new(alloc, clear_slots(alloc, count)?)?;
-        Ok(Cells { slots: Some(slots) })
+        let rows = Arc::new(alloc, clear_rows(alloc, cols, rows)?)?;
+        Ok(Cells { rows: Some(rows) })
     }
 
-    // The same slots once more. It costs the same whatever their number.
+    // The same rows once more. It costs the same whatever their number.
     pub(crate) fn share(&self) -> Result<Cells, AllocError>
         ensures { IfOk result (λ cells. cells ≡ self.now) }
     {
-        match &self.slots {
-            None => Ok(Cells { slots: None }),
-            Some(slots) => {
-                let slots = slots.clone()?;
-                Ok(Cells { slots: Some(slots) })
+        match &self.rows {
+            None => Ok(Cells { rows: None }),
+            Some(rows) => {
+                let rows = rows.clone()?;
+                Ok(Cells { rows: Some(rows) })
             }
         }
     }
 
-    // The slot at a place.
-    pub(crate) fn at(&self, place: usize) -> &Slot
-        requires { place < length self.now }
-        ensures { result.now ≡ slice_index_or self.now place (tile_of clear) }
+    // The slot at a column and a row.
+    pub(crate) fn at(&self, col: usize, row: usize) -> &Slot
+        requires row { row < length self.now }
+        requires col { col < length (slice_index_or self.now row []) }
+        ensures { result.now
+            ≡ slice_index_or (slice_index_or self.now row []) col (tile_of clear) }
     {
-        let slots = self.slots();
-        &slots[place]
+        let rows = self.rows();
+        rows[row].at(col)
     }
 
-    // All the slots.
-    fn slots(&self) -> &[Slot]
+    // All the rows.
+    fn rows(&self) -> &[Row]
         ensures { result.now ≡ self.now }
     {
-        match &self.slots {
+        match &self.rows {
             None => &[],
-            Some(slots) => slots.as_slice(),
+            Some(rows) => rows.as_slice(),
         }
     }
 
-    // Makes the slots this grid's alone: in a list of its own, where others have the list too.
+    // Makes the list of the rows this grid's alone: a copy, where others have it too.
     fn own(&mut self, alloc: Global) -> Result<(), AllocError>
         ensures { self.new ≡ self.old }
     {
-        match &mut self.slots {
+        match &mut self.rows {
             None => Ok(()),
-            Some(slots) => own_slots(alloc, slots),
+            Some(rows) => own_rows(alloc, rows),
         }
     }
 
-    // Makes the tile at a place this grid's alone.
+    // Makes the tile at a column and a row this grid's alone.
     pub(crate) fn own_tile<T: Ledger>(
         &mut self,
         alloc: Global,
-        place: usize,
+        col: usize,
+        row: usize,
         tiles: &mut Steps<T>,
     ) -> Result<(), AllocError>
-        requires { place < length self.old }
+        requires row { row < length self.old }
+        requires col { col < length (slice_index_or self.old row []) }
         ensures same { self.new ≡ self.old }
         ensures tiles_rise { tiles.old ≤ tiles.new }
         ensures one_tile { tiles.new ≤ tiles.old + 1 }
     {
         self.own(alloc)?;
-        match &mut self.slots {
+        match &mut self.rows {
             None => Ok(()),
-            Some(slots) => match Arc::get_mut(slots) {
+            Some(rows) => match Arc::get_mut(rows) {
                 None => Err(AllocError),
-                Some(sole) => sole[place].own(alloc, tiles),
+                Some(sole) => sole[row].own_tile(alloc, col, tiles),
             },
         }
     }
 
-    // Paints the tile at a place, which is that of a column and a row.
+    // Paints the tile at a column and a row.
     pub(crate) fn paint<P: TilePainter, T: Ledger>(
         &mut self,
         alloc: Global,
-        place: usize,
         col: u32,
         row: u32,
         painter: &P,
         tiles: &mut Steps<T>,
     ) -> Result<(), AllocError>
-        requires { place < length self.old }
-        ensures painted { OnOk result (self.new ≡ slice_set self.old place
-            (P.painted painter.now col row (slice_index_or self.old place (tile_of clear)))) }
+        requires row { row < length self.old }
+        requires col { col < length (slice_index_or self.old row []) }
+        requires few_cols { col < 64 }
+        requires few_rows { row < 64 }
+        ensures painted { OnOk result (self.new ≡ with_cell_in_rows self.old col row
+            (P.painted painter.now col row
+            (slice_index_or (slice_index_or self.old row []) col (tile_of clear)))) }
         ensures count { OnOk result (length (P.painted painter.now col row
-            (slice_index_or self.old place (tile_of clear))) ≡ 4096) }
+            (slice_index_or (slice_index_or self.old row []) col (tile_of clear))) ≡ 4096) }
         ensures err { OnErr result (self.new ≡ self.old) }
         ensures tiles_rise { tiles.old ≤ tiles.new }
         ensures one_tile { tiles.new ≤ tiles.old + 1 }
     {
         self.own(alloc)?;
-        match &mut self.slots {
+        match &mut self.rows {
             None => Ok(()),
-            Some(slots) => match Arc::get_mut(slots) {
+            Some(rows) => match Arc::get_mut(rows) {
                 None => Err(AllocError),
-                Some(sole) => sole[place].paint(alloc, col, row, painter, tiles),
+                Some(sole) => sole[row as usize].paint(alloc, col, row, painter, tiles),
             },
         }
     }
 
-    // Puts a slot at a place.
-    pub(crate) fn put(&mut self, alloc: Global, place: usize, slot: Slot) -> Result<(), AllocError>
-        requires { place < length self.old }
-        ensures written { OnOk result (self.new ≡ slice_set self.old place slot) }
+    // Paints the tiles of an area.
+    pub(crate) fn paint_area<P: TilePainter, T: Ledger>(
+        &mut self,
+        alloc: Global,
+        area: CellArea,
+        painter: &P,
+        tiles: &mut Steps<T>,
+    ) -> Result<(), AllocError>
+        requires across { area.left ≤ area.right }
+        requires down { area.top ≤ area.bottom }
+        requires cols { area.right ≤ 64 }
+        requires rows { area.bottom ≤ length self.old }
+        requires few_rows { length self.old ≤ 64 }
+        requires wide { All (λ row. area.right ≤ length row) self.old }
+        ensures painted { OnOk result
+            (self.new ≡ area_painted (P.painted painter.now) area self.old) }
+        ensures err { OnErr result (self.new ≡ self.old) }
+        ensures tiles_rise { tiles.old ≤ tiles.new }
+        ensures few_tiles { tiles.new
+            ≤ tiles.old + (area.bottom - area.top) * (area.right - area.left) }
+    {
+        self.own(alloc)?;
+        match &mut self.rows {
+            None => Ok(()),
+            Some(rows) => match Arc::get_mut(rows) {
+                None => Err(AllocError),
+                Some(sole) => paint_area(alloc, area, painter, sole.as_mut_slice(), tiles),
+            },
+        }
+    }
+
+    // Puts a slot at a column and a row.
+    pub(crate) fn put(
+        &mut self,
+        alloc: Global,
+        col: usize,
+        row: usize,
+        slot: Slot,
+    ) -> Result<(), AllocError>
+        requires row { row < length self.old }
+        requires col { col < length (slice_index_or self.old row []) }
+        ensures written { OnOk result (self.new ≡ with_cell_in_rows self.old col row slot) }
         ensures err { OnErr result (self.new ≡ self.old) }
     {
         self.own(alloc)?;
-        match &mut self.slots {
+        match &mut self.rows {
             None => Ok(()),
-            Some(slots) => match Arc::get_mut(slots) {
+            Some(rows) => match Arc::get_mut(rows) {
                 None => Err(AllocError),
-                Some(sole) => {
-                    sole[place] = slot;
-                    Ok(())
-                }
+                Some(sole) => sole[row].put(alloc, col, slot),
             },
         }
     }
 }
 
-// So many slots without tiles.
-fn clear_slots(alloc: Global, count: usize) -> Result<Vec<Slot>, AllocError>
-    ensures { IfOk result (λ slots. slots.items ≡ replicate count (tile_of clear)) }
+// So many rows of so many slots without tiles. They have their slots in common.
+fn clear_rows(alloc: Global, cols: usize, count: usize) -> Result<Vec<Row>, AllocError>
+    ensures { IfOk result (λ rows.
+        rows.items ≡ replicate count (replicate cols (tile_of clear))) }
 {
-    let mut slots = Vec::with_capacity(alloc, count)?;
+    let row = Row::clear(alloc, cols)?;
+    let mut rows = Vec::with_capacity(alloc, count)?;
     for _made in 0..count {
-        slots.push(Slot::clear())?;
+        rows.push(row.share()?)?;
     }
-    Ok(slots)
+    Ok(rows)
 }
 
-// Slots that have the same tiles.
-fn share_slots(alloc: Global, slots: &[Slot]) -> Result<Vec<Slot>, AllocError>
-    ensures { IfOk result (λ copies. copies.items ≡ slots.now) }
+// Rows that have the same slots.
+fn share_rows(alloc: Global, rows: &[Row]) -> Result<Vec<Row>, AllocError>
+    ensures { IfOk result (λ copies. copies.items ≡ rows.now) }
 {
-    let mut copies = Vec::with_capacity(alloc, slots.len())?;
-    for slot in slots {
-        copies.push(slot.share()?)?;
+    let mut copies = Vec::with_capacity(alloc, rows.len())?;
+    for row in rows {
+        copies.push(row.share()?)?;
     }
     Ok(copies)
 }
 
-// Makes the slots the caller's alone: a copy of the list, where others have it too.
-fn own_slots(alloc: Global, slots: &mut Arc<Vec<Slot>>) -> Result<(), AllocError>
-    ensures { slots.new.value.items ≡ slots.old.value.items }
+// Makes the rows the caller's alone: a copy of the list, where others have it too.
+fn own_rows(alloc: Global, rows: &mut Arc<Vec<Row>>) -> Result<(), AllocError>
+    ensures { rows.new.value.items ≡ rows.old.value.items }
 {
-    match Arc::get_mut(slots) {
+    match Arc::get_mut(rows) {
         Some(_sole) => {}
         None => {
-            let copies = share_slots(alloc, slots)?;
-            *slots = Arc::new(alloc, copies)?;
+            let copies = share_rows(alloc, rows)?;
+            *rows = Arc::new(alloc, copies)?;
         }
     }
     Ok(())

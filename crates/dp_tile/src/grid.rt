@@ -1,9 +1,12 @@
 //! Tiles in columns and rows.
 
-ghost use Rattle.std.specs.Prelude.{◌≡◌, ◌+◌, ◌*◌, ◌<◌, ◌≤◌, IfOk, IfSome, IfNone, OnOk, OnErr};
+ghost use Rattle.std.specs.Prelude.{◌≡◌, ◌+◌, ◌-◌, ◌*◌, ◌<◌, ◌≤◌};
+ghost use Rattle.std.specs.Prelude.{IfOk, IfSome, IfNone, OnOk, OnErr};
 ghost use Rattle.dp_blend.specs.Color.{clear};
 ghost use Rattle.dp_tile.specs.Tiles.{IsGrid, tile_of, clear_grid, cell_at, with_cell, grid_pixel};
+ghost use Rattle.dp_tile.specs.Areas.{IsPaintedOn};
 
+use crate::area::CellArea;
 use crate::cells::Cells;
 use crate::painter::TilePainter;
 use crate::slot::Slot;
@@ -13,6 +16,9 @@ use dp_steps::Steps;
 use std::alloc::{AllocError, Global};
 use std::marker::Model;
 use std::sync::ledger::Ledger;
+
+/// How many tiles are painted in place at a time: the depth on the stack is their number.
+const FEW: u32 = 128;
 
 /// Tiles in at most 64 columns and 64 rows. Grids that were shared have their tiles in common, each
 /// until one of them is written to. A grid is seen as its sides and the pixels of its cells.
@@ -25,13 +31,13 @@ pub struct Grid {
 }
 
 impl Model for Grid {
-    ghost use Rattle.dp_tile.specs.Tiles.{TileGrid, IsGrid};
+    ghost use Rattle.dp_tile.specs.Tiles.{TileGrid, IsCellRows, grid_of_rows};
 
     ghost Value = { TileGrid };
 
-    ghost view = { λ g. record { cols = g.cols; rows = g.rows; cells = g.cells } };
+    ghost view = { λ g. grid_of_rows g.cols g.rows g.cells };
 
-    ghost invariant = { λ g. IsGrid (record { cols = g.cols; rows = g.rows; cells = g.cells }) };
+    ghost invariant = { λ g. IsCellRows g.cols g.rows g.cells };
 }
 
 impl Grid {
@@ -41,7 +47,7 @@ impl Grid {
         requires rows { rows ≤ 64 }
         ensures { IfOk result (λ grid. grid ≡ clear_grid cols rows) }
     {
-        let cells = Cells::clear(alloc, cols as usize * rows as usize)?;
+        let cells = Cells::clear(alloc, cols as usize, rows as usize)?;
         Ok(Grid {
             cols,
             rows,
@@ -103,8 +109,8 @@ impl Grid {
         ensures { result ≡ grid_pixel self.now x y }
     {
         let (x, y) = (x as usize, y as usize);
-        let place = y / SIDE * self.cols as usize + x / SIDE;
-        self.cells.at(place).get(x % SIDE, y % SIDE)
+        let slot = self.cells.at(x / SIDE, y / SIDE);
+        slot.get(x % SIDE, y % SIDE)
     }
 
     /// The tile at a column and a row. `None` comes only where it shows nothing.
@@ -114,8 +120,8 @@ impl Grid {
         ensures pixels { IfSome result (λ tile. tile.now ≡ cell_at self.now col row) }
         ensures none { IfNone result (cell_at self.now col row ≡ tile_of clear) }
     {
-        let shown = row as usize * self.cols as usize + col as usize;
-        self.cells.at(shown).tile()
+        let slot = self.cells.at(col as usize, row as usize);
+        slot.tile()
     }
 
     /// Puts a tile at a column and a row. Other grids that shared the old one keep it.
@@ -130,9 +136,9 @@ impl Grid {
         ensures err { OnErr result (self.new ≡ self.old) }
     {
         tile.known();
-        let place = row as usize * self.cols as usize + col as usize;
         let slot = Slot::of(self.alloc, tile)?;
-        self.cells.put(self.alloc, place, slot)
+        let (col, row) = (col as usize, row as usize);
+        self.cells.put(self.alloc, col, row, slot)
     }
 
     /// Makes the tile at a column and a row this grid's alone, so that a `paint` of it takes no
@@ -149,8 +155,8 @@ impl Grid {
         ensures tiles_rise { tiles.old ≤ tiles.new }
         ensures one_tile { tiles.new ≤ tiles.old + 1 }
     {
-        let owned = row as usize * self.cols as usize + col as usize;
-        self.cells.own_tile(self.alloc, owned, tiles)
+        let (col, row) = (col as usize, row as usize);
+        self.cells.own_tile(self.alloc, col, row, tiles)
     }
 
     /// Paints the tile at a column and a row. Other grids that shared it keep the old one.
@@ -173,8 +179,116 @@ impl Grid {
         ensures tiles_rise { tiles.old ≤ tiles.new }
         ensures one_tile { tiles.new ≤ tiles.old + 1 }
     {
-        let painted = row as usize * self.cols as usize + col as usize;
-        self.cells
-            .paint(self.alloc, painted, col, row, painter, tiles)
+        self.cells.paint(self.alloc, col, row, painter, tiles)
+    }
+
+    /// Paints the tiles of an area. Other grids that shared them keep the old ones. Where the area
+    /// is small, its tiles are made this grid's alone before the first is painted; else all of them
+    /// are made anew. Cells that become of one colour have one tile in common.
+    ///
+    /// # Errors
+    ///
+    /// The grid is as it was, and tiles that were made are counted.
+    pub fn paint_area<P: TilePainter, T: Ledger>(
+        &mut self,
+        area: CellArea,
+        painter: &P,
+        tiles: &mut Steps<T>,
+    ) -> Result<(), AllocError>
+        requires across { area.left ≤ area.right }
+        requires down { area.top ≤ area.bottom }
+        requires cols { area.right ≤ self.old.cols }
+        requires rows { area.bottom ≤ self.old.rows }
+        ensures painted { OnOk result
+            (IsPaintedOn area (P.painted painter.now) self.old self.new) }
+        ensures err { OnErr result (self.new ≡ self.old) }
+        ensures tiles_rise { tiles.old ≤ tiles.new }
+        ensures few_tiles { tiles.new
+            ≤ tiles.old + (area.bottom - area.top) * (area.right - area.left) }
+    {
+        self.known();
+        if (area.bottom - area.top) * (area.right - area.left) <= FEW {
+            self.paint_few(area, painter, tiles)
+        } else {
+            self.paint_many(area, painter, tiles)
+        }
+    }
+
+    // Paints the tiles of an area in place. Its depth on the stack is their number.
+    fn paint_few<P: TilePainter, T: Ledger>(
+        &mut self,
+        area: CellArea,
+        painter: &P,
+        tiles: &mut Steps<T>,
+    ) -> Result<(), AllocError>
+        requires across { area.left ≤ area.right }
+        requires down { area.top ≤ area.bottom }
+        requires cols { area.right ≤ self.old.cols }
+        requires rows { area.bottom ≤ self.old.rows }
+        ensures painted { OnOk result
+            (IsPaintedOn area (P.painted painter.now) self.old self.new) }
+        ensures err { OnErr result (self.new ≡ self.old) }
+        ensures tiles_rise { tiles.old ≤ tiles.new }
+        ensures few_tiles { tiles.new
+            ≤ tiles.old + (area.bottom - area.top) * (area.right - area.left) }
+    {
+        self.cells.paint_area(self.alloc, area, painter, tiles)
+    }
+
+    // Paints the tiles of an area row by row, on new tiles, and keeps the old ones meanwhile.
+    fn paint_many<P: TilePainter, T: Ledger>(
+        &mut self,
+        area: CellArea,
+        painter: &P,
+        tiles: &mut Steps<T>,
+    ) -> Result<(), AllocError>
+        requires across { area.left ≤ area.right }
+        requires down { area.top ≤ area.bottom }
+        requires cols { area.right ≤ self.old.cols }
+        requires rows { area.bottom ≤ self.old.rows }
+        ensures painted { OnOk result
+            (IsPaintedOn area (P.painted painter.now) self.old self.new) }
+        ensures err { OnErr result (self.new ≡ self.old) }
+        ensures tiles_rise { tiles.old ≤ tiles.new }
+        ensures few_tiles { tiles.new
+            ≤ tiles.old + (area.bottom - area.top) * (area.right - area.left) }
+    {
+        let old = self.share()?;
+        match self.paint_rows(area, painter, tiles) {
+            Ok(()) => Ok(()),
+            Err(refused) => {
+                *self = old;
+                Err(refused)
+            }
+        }
+    }
+
+    // Paints the tiles of an area row by row. Where it is refused, some rows are painted.
+    fn paint_rows<P: TilePainter, T: Ledger>(
+        &mut self,
+        area: CellArea,
+        painter: &P,
+        tiles: &mut Steps<T>,
+    ) -> Result<(), AllocError>
+        requires across { area.left ≤ area.right }
+        requires down { area.top ≤ area.bottom }
+        requires cols { area.right ≤ self.old.cols }
+        requires rows { area.bottom ≤ self.old.rows }
+        ensures painted { OnOk result
+            (IsPaintedOn area (P.painted painter.now) self.old self.new) }
+        ensures tiles_rise { tiles.old ≤ tiles.new }
+        ensures few_tiles { tiles.new
+            ≤ tiles.old + (area.bottom - area.top) * (area.right - area.left) }
+    {
+        for row in area.top..area.bottom {
+            let line = CellArea {
+                left: area.left,
+                right: area.right,
+                top: row,
+                bottom: row + 1,
+            };
+            self.paint_few(line, painter, tiles)?;
+        }
+        Ok(())
     }
 }

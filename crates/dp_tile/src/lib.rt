@@ -2,14 +2,18 @@
 //! written to.
 #![tactic(auto)]
 
+mod area;
 mod cells;
 mod grid;
 mod painter;
+mod palette;
+mod row;
 mod slot;
 mod tile;
 
+pub use area::CellArea;
 pub use grid::Grid;
-pub use painter::TilePainter;
+pub use painter::{TileChange, TilePainter};
 pub use tile::{SIDE, Tile};
 
 #[cfg(test)]

@@ -3,7 +3,7 @@
 ghost use Rattle.std.specs.Prelude.{◌≡◌, ◌+◌, ◌<◌, ◌≤◌, length, IfOk, IfSome, IfNone, OnOk, OnErr};
 ghost use Rattle.dp_blend.specs.Color.{clear};
 ghost use Rattle.dp_blend.specs.Canvas.{pixel_at};
-ghost use Rattle.dp_tile.specs.Tiles.{tile_of};
+ghost use Rattle.dp_tile.specs.Tiles.{IsOfColor, tile_of};
 
 use crate::painter::TilePainter;
 use crate::tile::Tile;
@@ -17,11 +17,11 @@ use std::sync::ledger::Ledger;
 /// A tile, or none where all its pixels are clear. It is seen as the tile's pixels.
 #[derive(Drop)]
 pub(crate) struct Slot {
-    tile: Option<Arc<Tile>>,
+    pub tile: Option<Arc<Tile>>,
 }
 
 impl Model for Slot {
-    ghost use Rattle.std.specs.Prelude.{◌≡◌, List, length};
+    ghost use Rattle.std.specs.Prelude.{List};
     ghost use Rattle.std.specs.Option.{option_map_or};
     ghost use Rattle.dp_blend.specs.Color.{Channels, clear};
     ghost use Rattle.dp_tile.specs.Tiles.{tile_of};
@@ -29,8 +29,6 @@ impl Model for Slot {
     ghost Value = { List Channels };
 
     ghost view = { λ s. option_map_or (λ t. t.value) s.tile (tile_of clear) };
-
-    ghost invariant = { λ s. length (option_map_or (λ t. t.value) s.tile (tile_of clear)) ≡ 4096 };
 }
 
 impl Slot {
@@ -67,7 +65,20 @@ impl Slot {
     pub(crate) fn known(&self)
         ensures { length self.now ≡ 4096 }
     {
-        let _ = &self.tile;
+        match &self.tile {
+            None => {}
+            Some(tile) => tile.known(),
+        }
+    }
+
+    // The colour of all its pixels, where that is known.
+    pub(crate) fn color(&self) -> Option<Pixel>
+        ensures { IsOfColor result self.now }
+    {
+        match &self.tile {
+            None => Some(Pixel::CLEAR),
+            Some(tile) => tile.color(),
+        }
     }
 
     // The pixel at a place.
@@ -123,6 +134,8 @@ impl Slot {
         painter: &P,
         tiles: &mut Steps<T>,
     ) -> Result<(), AllocError>
+        requires col { col < 64 }
+        requires row { row < 64 }
         ensures painted { OnOk result (self.new ≡ P.painted painter.now col row self.old) }
         ensures count { OnOk result (length (P.painted painter.now col row self.old) ≡ 4096) }
         ensures err { OnErr result (self.new ≡ self.old) }
@@ -164,6 +177,8 @@ fn paint_tile<P: TilePainter>(
     row: u32,
     painter: &P,
 ) -> Result<(), AllocError>
+    requires col { col < 64 }
+    requires row { row < 64 }
     ensures painted { OnOk result (tile.new.value ≡ P.painted painter.now col row tile.old.value) }
     ensures count { OnOk result (length tile.new.value ≡ 4096) }
     ensures err { OnErr result (tile.new.value ≡ tile.old.value) }

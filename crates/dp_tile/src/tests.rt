@@ -1,7 +1,9 @@
 ghost use Rattle.std.specs.Prelude.{◌≡◌, ◌<◌, slice_set};
+ghost use Rattle.std.proofs.Common.{◌∙◌};
+ghost use Rattle.std.proofs.lemmas.List.{length-set};
 ghost use Rattle.dp_blend.specs.Color.{white};
 
-use crate::{Grid, Tile, TilePainter};
+use crate::{CellArea, Grid, Tile, TileChange, TilePainter};
 use dp_blend::Pixel;
 use dp_steps::Steps;
 use std::alloc::{AllocError, Global};
@@ -14,13 +16,19 @@ struct FirstWhite {}
 impl TilePainter for FirstWhite {
     ghost painted = { λ _ _ _ pixels. slice_set pixels 0 white };
 
+    ghost keeps_count = { λ _ _ _ pixels count. length-set pixels 0 white ∙ count };
+
+    fn change(&self, _col: u32, _row: u32, _color: Option<Pixel>) -> TileChange {
+        TileChange::Unknown
+    }
+
     fn paint(&self, _col: u32, _row: u32, pixels: &mut [Pixel]) {
         pixels[0] = Pixel::WHITE;
     }
 }
 
 /// Pixels of a grid and of the one that it was shared from, after both were written to.
-fn shared_and_written<T: Ledger>(alloc: Global, blank: Blank) -> Result<[Pixel; 6], AllocError>
+fn shared_and_written<T: Ledger>(alloc: Global, blank: Blank) -> Result<[Pixel; 8], AllocError>
     requires name { blank.name ≡ T.name }
     requires parts { blank.parts ≡ T.parts }
     requires some { 0 < blank.parts }
@@ -34,7 +42,16 @@ fn shared_and_written<T: Ledger>(alloc: Global, blank: Blank) -> Result<[Pixel; 
     other.paint(2, 1, &FirstWhite {}, &mut tiles)?;
     grid.own(0, 0, &mut tiles)?;
     grid.write(0, 1, Tile::solid(alloc, Pixel::WHITE, &mut tiles)?)?;
+    let all = CellArea {
+        left: 0,
+        right: 3,
+        top: 0,
+        bottom: 1,
+    };
+    other.paint_area(all, &FirstWhite {}, &mut tiles)?;
     Ok([
+        grid.get(64, 0),
+        other.get(64, 0),
         grid.get(133, 71),
         grid.get(128, 64),
         grid.get(63, 127),
@@ -48,7 +65,10 @@ fn shared_and_written<T: Ledger>(alloc: Global, blank: Blank) -> Result<[Pixel; 
 fn a_write_leaves_a_shared_grid(rt: HostRuntime) -> Result<(), AllocError> {
     let pixels = shared_and_written::<Brand>(rt.alloc(), Blank::new(1))?;
     let (white, clear) = (Pixel::WHITE, Pixel::CLEAR);
-    assert_eq!(rt; pixels, [white, clear, white, white, white, clear]);
+    assert_eq!(rt;
+        pixels,
+        [clear, white, white, clear, white, white, white, clear]
+    );
     let none = Grid::none(rt.alloc());
     assert_eq!(rt; (none.cols(), none.rows()), (0, 0));
     Ok(())

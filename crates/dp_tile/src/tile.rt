@@ -3,7 +3,7 @@
 ghost use Rattle.std.specs.Prelude.{◌≡◌, ◌+◌, ◌*◌, ◌<◌, length, slice_set, IfOk, OnOk, OnErr};
 ghost use Rattle.dp_blend.specs.Color.{clear};
 ghost use Rattle.dp_blend.specs.Canvas.{pixel_at};
-ghost use Rattle.dp_tile.specs.Tiles.{tile_of};
+ghost use Rattle.dp_tile.specs.Tiles.{IsOfColor, tile_of};
 
 use crate::painter::TilePainter;
 use dp_blend::Pixel;
@@ -19,21 +19,23 @@ pub const SIDE: usize = 64;
 const COUNT: usize = SIDE * SIDE;
 
 /// A square of 64 by 64 pixels. It is seen as their list, row by row from the top, each row from
-/// the left.
+/// the left. Where it is known to be of one colour, it is marked with that.
 #[derive(Drop)]
 pub struct Tile {
     pixels: Vec<Pixel>,
+    color: Option<Pixel>,
 }
 
 impl Model for Tile {
-    ghost use Rattle.std.specs.Prelude.{◌≡◌, List, length};
+    ghost use Rattle.std.specs.Prelude.{List};
     ghost use Rattle.dp_blend.specs.Color.{Channels};
+    ghost use Rattle.dp_tile.specs.Tiles.{IsTile};
 
     ghost Value = { List Channels };
 
     ghost view = { λ t. t.pixels.items };
 
-    ghost invariant = { λ t. length t.pixels.items ≡ 4096 };
+    ghost invariant = { λ t. IsTile t.color t.pixels.items };
 }
 
 impl Tile {
@@ -58,7 +60,10 @@ impl Tile {
     {
         let pixels = solid_pixels(alloc, p)?;
         tiles.tick();
-        Ok(Tile { pixels })
+        Ok(Tile {
+            pixels,
+            color: Some(p),
+        })
     }
 
     /// A second tile of the same pixels.
@@ -69,7 +74,10 @@ impl Tile {
     {
         let pixels = Vec::from_slice(alloc, &self.pixels)?;
         tiles.tick();
-        Ok(Tile { pixels })
+        Ok(Tile {
+            pixels,
+            color: self.color,
+        })
     }
 
     /// A tile has 4096 pixels.
@@ -77,6 +85,13 @@ impl Tile {
         ensures { length self.now ≡ 4096 }
     {
         let _ = &self.pixels;
+    }
+
+    /// The colour of all its pixels, where that is known.
+    pub fn color(&self) -> Option<Pixel>
+        ensures { IsOfColor result self.now }
+    {
+        self.color
     }
 
     /// The pixel at a place.
@@ -94,15 +109,20 @@ impl Tile {
         requires y { y < 64 }
         ensures { self.new ≡ slice_set self.old (y * 64 + x) p }
     {
+        self.color = None;
         self.pixels[y * SIDE + x] = p;
     }
 
     // Paints the pixels, of the tile at a column and a row.
     pub(crate) fn paint<P: TilePainter>(&mut self, col: u32, row: u32, painter: &P)
+        requires col { col < 64 }
+        requires row { row < 64 }
         ensures painted { self.new ≡ P.painted painter.now col row self.old }
         ensures count { length self.new ≡ 4096 }
     {
-        painter.paint(col, row, &mut self.pixels);
+        let Tile { pixels, color } = self;
+        *color = None;
+        painter.paint(col, row, pixels);
     }
 }
 

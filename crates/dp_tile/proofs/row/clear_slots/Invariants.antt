@@ -1,7 +1,7 @@
 use Rattle.std.proofs.Common.{◌≡◌, replicate}
 use Rattle.dp_blend.specs.Color.{clear}
 use Rattle.dp_tile.specs.Tiles.{tile_of}
-use Rattle.dp_tile.proofs.cells.clear_slots.Given as goal
+use Rattle.dp_tile.proofs.row.clear_slots.Given as goal
 
 -- the slots so far are clear
 abbrev pub invariant-loop-made : goal.invariant-loop-made

@@ -1,5 +1,5 @@
 use Rattle.std.proofs.Common.{◌≡◌, take}
-use Rattle.dp_tile.proofs.cells.share_slots.Given as goal
+use Rattle.dp_tile.proofs.row.share_slots.Given as goal
 
 -- the slots so far are those up to the index
 abbrev pub invariant-loop-slot : goal.invariant-loop-slot

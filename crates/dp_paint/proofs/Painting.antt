@@ -1,0 +1,114 @@
+-- Commands painted on tiles, by their places.
+use Rattle.std.proofs.Common.{◌≡◌, ℕ, ◌+◌, ◌*◌, ◌/◌, ◌%◌, ◌<◌, ◌≤◌, List, length, arith}
+use Rattle.std.proofs.Common.{ap, sym, ◌∙◌, refl, true, false, ⊎_elim}
+use Rattle.std.specs.Prelude.{pos, ℤ}
+use Rattle.std.proofs.lemmas.Bool.{lt-ltb, cond-true, cond-false, cases_Bool, false≢true}
+use Rattle.std.proofs.lemmas.Bool.{false_from_ne_true}
+use Rattle.dp_blend.specs.Color.{Channels, clear}
+use Rattle.dp_blend.specs.Canvas.{pixel_at}
+use Rattle.dp_blend.proofs.Canvas.{canvas_of-same, pixel_at-canvas_of}
+use Rattle.dp_msg_draw.specs.declared.draw.Draw.{Draw}
+use Rattle.dp_msg_draw.specs.declared.draw.Draw.TheVariants as draws
+use Rattle.dp_pixels.specs.declared.region.Region.{Region}
+use Rattle.dp_pixels.specs.Commands.{drawn, pixel_drawn, pixel_of, pixels_after}
+use Rattle.dp_pixels.specs.Feet.{foot, is_in_foot}
+use Rattle.dp_pixels.specs.Regions.{IsPainted}
+use Rattle.dp_tile.specs.declared.area.CellArea.{CellArea}
+use Rattle.dp_tile.specs.Tiles.{TileGrid, cell_at, grid_pixel, grid_pixels}
+use Rattle.dp_tile.specs.Areas.{IsPaintedOn, is_in_cells}
+use Rattle.dp_paint.specs.Painting.{IsGridOf, IsPainting, tile_drawn}
+use Rattle.dp_paint.proofs.Drawn.{is_tile_drawn, pixel-tile_drawn}
+
+-- a window of one tile that was painted
+pub tile_painted : (width height : ℕ) (op : Draw) (col row : ℕ) (region : Region)
+    (old new : List Channels) → region.x ≡ col * 64 → region.y ≡ row * 64
+    → region.width ≡ 64 → region.height ≡ 64 → length old ≡ 4096
+    → IsPainted region 64 (pixel_drawn width height op) old new
+    → new ≡ tile_drawn width height op col row old
+tile_painted width height op col row region old new at_x at_y wide high count is =
+    is_tile_drawn width height op col row old new (is.len ∙ count)
+    (λ i j in_x in_y. rw (← at_x, ← at_y)
+    (is.inside i j clear (omega (arith, wide, in_x)) (omega (arith, high, in_y))))
+
+-- a command that is no move changes each pixel from the old one
+by_pixels : (width height : ℕ) (op : Draw) → IsPainting op → (old : ℤ → ℤ → Channels) (x y : ℤ)
+    → drawn width height op old x y ≡ pixel_drawn width height op x y (old x y)
+by_pixels width height (draws.FillRect layer mode x y w h color) is old px py = refl
+by_pixels width height (draws.PutImage layer mode x y w h colors) is old px py = refl
+by_pixels width height (draws.PutTile layer col row repeat content) is old px py = refl
+by_pixels width height (draws.DabsRound layer x y r g b mode dabs) is old px py = refl
+by_pixels width height (draws.DabsSquare layer x y r g b mode dabs) is old px py = refl
+by_pixels width height _ is old px py = absurd is
+
+-- outside its foot a command keeps each pixel
+abbrev pub StaysOutside : Type 0
+StaysOutside = (width height : ℕ) (op : Draw) (old : ℤ → ℤ → Channels) (x y : ℤ)
+    → width ≤ 4096 → height ≤ 4096 → is_in_foot (foot op) x y ≡ false
+    → drawn width height op old x y ≡ old x y
+
+module _ (width height : ℕ) (op : Draw) (is : IsPainting op) (law : StaysOutside) (area : CellArea)
+    (old new : TileGrid) (is_of : IsGridOf width height old)
+    (covers : (x y : ℕ) → x < old.cols * 64 → y < old.rows * 64
+    → is_in_foot (foot op) (pos x) (pos y) ≡ true → is_in_cells area (x / 64) (y / 64) ≡ true)
+    (painted : IsPaintedOn area (tile_drawn width height op) old new) where
+  in_grid_x : (x : ℕ) → x < width → x / 64 < old.cols
+  in_grid_x x below = omega (arith, is_of.cols)
+
+  in_grid_y : (y : ℕ) → y < height → y / 64 < old.rows
+  in_grid_y y below = omega (arith, is_of.rows)
+
+  -- in a cell of the area
+  in_area : (x y : ℕ) → x < width → y < height → is_in_cells area (x / 64) (y / 64) ≡ true
+      → grid_pixel new x y ≡ pixel_drawn width height op (pos x) (pos y) (grid_pixel old x y)
+  in_area x y in_x in_y inside =
+      let col = x / 64 in
+      let row = y / 64 in
+      let cell = painted.cells col row (in_grid_x x in_x) (in_grid_y y in_y) ∙ cond-true
+      (is_in_cells area col row) (tile_drawn width height op col row (cell_at old col row))
+      (cell_at old col row) inside in
+      let at_x : col * 64 + x % 64 ≡ x = omega arith in
+      let at_y : row * 64 + y % 64 ≡ y = omega arith in
+      ap (λ pixels. pixel_at 64 pixels (x % 64) (y % 64)) cell
+      ∙ pixel-tile_drawn width height op col row (cell_at old col row) (x % 64) (y % 64)
+      (omega arith) (omega arith)
+      ∙ (rw (at_x, at_y) refl)
+
+  -- in another cell
+  off_area : (x y : ℕ) → x < width → y < height → is_in_cells area (x / 64) (y / 64) ≡ false
+      → grid_pixel new x y ≡ pixel_drawn width height op (pos x) (pos y) (grid_pixel old x y)
+  off_area x y in_x in_y outside =
+      let col = x / 64 in
+      let row = y / 64 in
+      let p = grid_pixel old x y in
+      let cell = painted.cells col row (in_grid_x x in_x) (in_grid_y y in_y) ∙ cond-false
+      (is_in_cells area col row) (tile_drawn width height op col row (cell_at old col row))
+      (cell_at old col row) outside in
+      let out : is_in_foot (foot op) (pos x) (pos y) ≡ false = false_from_ne_true
+      (is_in_foot (foot op) (pos x) (pos y))
+      (λ t. false≢true (sym outside ∙ covers x y (omega (arith, is_of.cols, in_x))
+      (omega (arith, is_of.rows, in_y)) t)) in
+      ap (λ pixels. pixel_at 64 pixels (x % 64) (y % 64)) cell
+      ∙ sym (sym (by_pixels width height op is (λ _ _. p) (pos x) (pos y))
+      ∙ law width height op (λ _ _. p) (pos x) (pos y) is_of.wide is_of.high out)
+
+  pixel_painted : (x y : ℕ) → x < width → y < height
+      → grid_pixel new x y ≡ pixel_drawn width height op (pos x) (pos y) (grid_pixel old x y)
+  pixel_painted x y in_x in_y =
+      ⊎_elim (in_area x y in_x in_y) (off_area x y in_x in_y)
+      (cases_Bool (is_in_cells area (x / 64) (y / 64)))
+
+  pixel_before : (x y : ℕ) → x < width → y < height
+      → pixel_of width height (grid_pixels width height old) (pos x) (pos y) ≡ grid_pixel old x y
+  pixel_before x y in_x in_y =
+      rw (lt-ltb x width in_x, lt-ltb y height in_y)
+      (pixel_at-canvas_of width height (grid_pixel old) x y in_x in_y)
+
+  pub grid_painted : grid_pixels width height new
+      ≡ pixels_after width height op (grid_pixels width height old)
+  grid_painted =
+      let before = pixel_of width height (grid_pixels width height old) in
+      canvas_of-same width height (grid_pixel new)
+      (λ x y. drawn width height op before (pos x) (pos y))
+      (λ x y in_x in_y. pixel_painted x y in_x in_y
+      ∙ sym (by_pixels width height op is before (pos x) (pos y)
+      ∙ ap (pixel_drawn width height op (pos x) (pos y)) (pixel_before x y in_x in_y)))

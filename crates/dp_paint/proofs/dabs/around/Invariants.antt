@@ -1,0 +1,12 @@
+use Rattle.std.proofs.Common.{◌≡◌, take}
+use Rattle.dp_pixels.specs.Dabs.{dab_rect, placed_dabs}
+use Rattle.dp_pixels.proofs.Strokes.{IsLast}
+use Rattle.dp_paint.proofs.Around.{around_by}
+use Rattle.dp_paint.proofs.dabs.around.Given as goal
+
+-- the place of the last dab, and the rectangle around the dabs so far
+abbrev pub invariant-loop-dab : goal.invariant-loop-dab
+invariant-loop-dab l = record {
+  last : IsLast l.x l.y l.dabs l.dab-index (record { x = l.last.x; y = l.last.y });
+  all : l.all ≡ around_by dab_rect (take l.dab-index (placed_dabs l.x l.y l.dabs));
+}

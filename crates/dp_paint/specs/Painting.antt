@@ -1,0 +1,65 @@
+-- Commands on grids of tiles.
+use Rattle.std.specs.Prelude.{◌≡◌, ℕ, ◌+◌, ◌*◌, ◌<◌, ◌≤◌, pos, ◌≤ℤ◌, true, List, length}
+use Rattle.std.specs.Prelude.{Option, Some, None}
+use Rattle.dp_blend.specs.Color.{Channels}
+use Rattle.dp_blend.specs.Canvas.{canvas_of, pixel_at}
+use Rattle.dp_blend.proofs.Canvas.{length-canvas_of}
+use Rattle.dp_msg_draw.specs.declared.draw.Draw.{Draw}
+use Rattle.dp_msg_draw.specs.declared.draw.Draw.TheVariants.{FillRect, PutImage, PutTile, DabsRound}
+use Rattle.dp_msg_draw.specs.declared.draw.Draw.TheVariants.{DabsSquare}
+use Rattle.dp_pixels.specs.declared.rect.Rect.{Rect}
+use Rattle.dp_pixels.specs.Commands.{pixel_drawn}
+use Rattle.dp_pixels.specs.Feet.{Footprint, Area}
+use Rattle.dp_pixels.specs.Rectangles.{canvas_rect, is_in}
+use Rattle.dp_pixels.specs.Tiles.{tiles_along}
+use Rattle.dp_tile.specs.Tiles.{TileGrid}
+
+-- a command that changes each pixel of a layer from the old one at its place
+abbrev pub IsPainting : Draw → Type 0
+IsPainting (FillRect layer mode x y w h color) = Unit {0}
+IsPainting (PutImage layer mode x y w h colors) = Unit {0}
+IsPainting (PutTile layer col row repeat content) = Unit {0}
+IsPainting (DabsRound layer x y r g b mode dabs) = Unit {0}
+IsPainting (DabsSquare layer x y r g b mode dabs) = Unit {0}
+IsPainting _ = ⊥
+
+-- the grid has the tiles of a canvas of this width and height
+pub record IsGridOf (width height : ℕ) (g : TileGrid) : Type 0 where
+  pub wide : width ≤ 4096
+  pub high : height ≤ 4096
+  pub cols : g.cols ≡ tiles_along width
+  pub rows : g.rows ≡ tiles_along height
+
+-- the pixels of the tile at a column and a row after a command other than MoveRect
+unfoldable pub tile_drawn : ℕ → ℕ → Draw → ℕ → ℕ → List Channels → List Channels
+tile_drawn width height op col row pixels =
+    canvas_of 64 64
+    (λ i j.
+    pixel_drawn width height op (pos (col * 64 + i)) (pos (row * 64 + j)) (pixel_at 64 pixels i j))
+
+-- the rectangle of a foot that is one
+abbrev pub foot_area : Footprint → Option Rect
+foot_area (Area layer rect) = Some rect
+foot_area _ = None
+
+-- no number of the rectangle is on the wrong side of the greatest canvas
+pub record IsOnGreatest (r : Rect) : Type 0 where
+  pub left : pos 0 ≤ℤ r.x0
+  pub top : pos 0 ≤ℤ r.y0
+  pub right : r.x1 ≤ℤ pos 4096
+  pub bottom : r.y1 ≤ℤ pos 4096
+
+-- each place of the tile at a column and a row is in the rectangle and on the canvas
+abbrev pub IsTileWithin : ℕ → ℕ → Rect → ℕ → ℕ → Type 0
+IsTileWithin width height area col row =
+    (i j : ℕ) → i < 64 → j < 64
+    → (is_in area (pos (col * 64 + i)) (pos (row * 64 + j)) ≡ true)
+    × (is_in (canvas_rect width height) (pos (col * 64 + i)) (pos (row * 64 + j)) ≡ true)
+
+-- a tile has 4096 pixels after a command
+pub length-tile_drawn : (width height : ℕ) (op : Draw) (col row : ℕ) (pixels : List Channels)
+    → length (tile_drawn width height op col row pixels) ≡ 4096
+unfolding tile_drawn
+length-tile_drawn width height op col row pixels =
+    length-canvas_of 64 64 (λ i j. pixel_drawn width height op (pos (col * 64 + i))
+    (pos (row * 64 + j)) (pixel_at 64 pixels i j))

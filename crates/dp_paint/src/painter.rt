@@ -1,0 +1,99 @@
+//! What a command does to a tile.
+
+ghost use Rattle.std.specs.Prelude.{◌≡◌, ◌+◌, ◌*◌, ◌<◌, ◌≤◌, pos, true, IsTrue};
+ghost use Rattle.dp_pixels.specs.Rectangles.{rect_at};
+ghost use Rattle.dp_pixels.specs.Commands.{is_stamp, pixel_after};
+ghost use Rattle.dp_paint.specs.Painting.{IsTileWithin, length-tile_drawn, tile_drawn};
+
+use dp_blend::Pixel;
+use dp_msg_draw::Draw;
+use dp_pixels::{Region, draw_region, pixel_after};
+use dp_tile::{SIDE, TileChange, TilePainter};
+
+/// A command other than MoveRect, on a canvas of these sides.
+#[derive(Clone, Copy)]
+pub(crate) struct CommandPainter<'a> {
+    pub command: &'a Draw,
+    pub width: u32,
+    pub height: u32,
+}
+
+/// A rectangle: its corner and its sides.
+#[derive(Clone, Copy)]
+struct Fill {
+    x: u32,
+    y: u32,
+    w: u32,
+    h: u32,
+}
+
+/// Whether all 64 numbers of a stretch are among `len` from `from` on, and below a limit.
+fn is_side_within(stretch: u32, from: u32, len: u32, limit: u32) -> bool
+    requires { stretch < 64 }
+    ensures { result ≡ true → (from ≤ stretch * 64) × (stretch * 64 + 64 ≤ from + len)
+        × (stretch * 64 + 64 ≤ limit) }
+{
+    let (start, end) = (stretch as u64 * 64, from as u64 + len as u64);
+    start >= from as u64 && start + 64 <= end && start + 64 <= limit as u64
+}
+
+impl CommandPainter<'_> {
+    /// Whether all of the tile at a column and a row is in the rectangle and on the canvas.
+    fn is_within(&self, area: Fill, col: u32, row: u32) -> bool
+        requires col { col < 64 }
+        requires row { row < 64 }
+        ensures { result ≡ true → IsTileWithin self.now.width self.now.height
+            (rect_at (pos area.x) (pos area.y) area.w area.h) col row }
+    {
+        is_side_within(col, area.x, area.w, self.width)
+            && is_side_within(row, area.y, area.h, self.height)
+    }
+
+    /// The pixel in the corner of the tile at a column and a row after a fill, of the old one.
+    fn corner_after(&self, col: u32, row: u32, old: Pixel) -> Pixel
+        requires stamp { IsTrue (is_stamp self.now.command.now) }
+        requires col { col < 64 }
+        requires row { row < 64 }
+        ensures { result ≡ pixel_after self.now.command.now (pos (col * 64)) (pos (row * 64)) old }
+    {
+        pixel_after(self.command, col as i64 * 64, row as i64 * 64, old)
+    }
+}
+
+impl TilePainter for CommandPainter<'_> {
+    ghost painted = { λ p. tile_drawn p.width p.height p.command.now };
+
+    ghost keeps_count = { λ p col row pixels count.
+        length-tile_drawn p.width p.height p.command.now col row pixels };
+
+    fn change(&self, col: u32, row: u32, color: Option<Pixel>) -> TileChange {
+        match (self.command, color) {
+            (Draw::FillRect { x, y, w, h, .. }, Some(p)) => {
+                let area = Fill {
+                    x: *x,
+                    y: *y,
+                    w: *w,
+                    h: *h,
+                };
+                if self.is_within(area, col, row) {
+                    TileChange::Becomes(self.corner_after(col, row, p))
+                } else {
+                    TileChange::Unknown
+                }
+            }
+            _ => TileChange::Unknown,
+        }
+    }
+
+    fn paint(&self, col: u32, row: u32, pixels: &mut [Pixel]) {
+        let region = Region {
+            x: col * 64,
+            y: row * 64,
+            width: 64,
+            height: 64,
+            canvas_width: self.width,
+            canvas_height: self.height,
+        };
+        draw_region(self.command, &region, SIDE, pixels);
+    }
+}

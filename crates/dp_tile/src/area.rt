@@ -1,0 +1,318 @@
+//! Rectangles of cells, and painting on all of their tiles.
+
+ghost use Rattle.std.specs.Prelude.{◌≡◌, ◌+◌, ◌*◌, ◌-◌, ◌<◌, ◌≤◌, length, All, OnOk, OnErr};
+ghost use Rattle.dp_tile.specs.Areas.{area_painted, cells_painted, row_painted, rows_painted};
+
+use crate::painter::{TileChange, TilePainter};
+use crate::palette::Palette;
+use crate::row::{Row, own_slots};
+use crate::slot::Slot;
+use crate::tile::Tile;
+use dp_steps::Steps;
+use std::alloc::{AllocError, Global};
+use std::sync::Arc;
+use std::sync::ledger::Ledger;
+
+/// The cells of the columns from `left` on before `right`, and of the rows from `top` on before
+/// `bottom`.
+#[derive(Clone, Copy, Debug, PartialEq, Eq)]
+pub struct CellArea {
+    pub left: u32,
+    pub right: u32,
+    pub top: u32,
+    pub bottom: u32,
+}
+
+// A painter, and the columns that it paints.
+#[derive(Drop)]
+struct Work<'a, P> {
+    alloc: Global,
+    painter: &'a P,
+    left: u32,
+    right: u32,
+    ghost order: { left ≤ right },
+    ghost few: { right ≤ 64 },
+}
+
+// A column and a row.
+#[derive(Clone, Copy)]
+struct Cell {
+    col: u32,
+    row: u32,
+}
+
+// Paints the tiles of an area of rows.
+pub(crate) fn paint_area<P: TilePainter, T: Ledger>(
+    alloc: Global,
+    area: CellArea,
+    painter: &P,
+    rows: &mut [Row],
+    tiles: &mut Steps<T>,
+) -> Result<(), AllocError>
+    requires across { area.left ≤ area.right }
+    requires down { area.top ≤ area.bottom }
+    requires cols { area.right ≤ 64 }
+    requires rows { area.bottom ≤ length rows.old }
+    requires few_rows { length rows.old ≤ 64 }
+    requires wide { All (λ row. area.right ≤ length row) rows.old }
+    ensures painted { OnOk result
+        (rows.new ≡ area_painted (P.painted painter.now) area rows.old) }
+    ensures err { OnErr result (rows.new ≡ rows.old) }
+    ensures tiles_rise { tiles.old ≤ tiles.new }
+    ensures few_tiles { tiles.new
+        ≤ tiles.old + (area.bottom - area.top) * (area.right - area.left) }
+{
+    let mut palette = Palette::new(alloc);
+    let work = Work {
+        alloc,
+        painter,
+        left: area.left,
+        right: area.right,
+    };
+    let (top, bottom) = (area.top as usize, area.bottom as usize);
+    paint_rows(&work, area.top, &mut rows[top..bottom], &mut palette, tiles)
+}
+
+// Paints the slots that are left of a row, from a cell on, and the columns of the rows below. All
+// tiles are made this grid's alone before the first is painted.
+#[cycle(painting)]
+fn paint_cells<P: TilePainter, T: Ledger>(
+    work: &Work<P>,
+    cell: Cell,
+    slots: &mut [Slot],
+    below: &mut [Row],
+    palette: &mut Palette,
+    tiles: &mut Steps<T>,
+) -> Result<(), AllocError>
+    requires cols { cell.col + length slots.old ≤ 64 }
+    requires rows { cell.row + length below.old < 64 }
+    requires wide { All (λ row. work.now.right ≤ length row) below.old }
+    ensures slots { OnOk result (slots.new
+        ≡ cells_painted (P.painted work.now.painter.now) cell.col cell.row slots.old) }
+    ensures below { OnOk result (below.new
+        ≡ rows_painted (P.painted work.now.painter.now) work.now.left work.now.right (cell.row + 1)
+        below.old) }
+    ensures slots_stay { OnErr result (slots.new ≡ slots.old) }
+    ensures below_stay { OnErr result (below.new ≡ below.old) }
+    ensures tiles_rise { tiles.old ≤ tiles.new }
+    ensures few_tiles { tiles.new
+        ≤ tiles.old + length slots.old + length below.old * (work.now.right - work.now.left) }
+{
+    match slots.split_first_mut() {
+        Some((first, others)) => paint_first(work, cell, first, others, below, palette, tiles),
+        None => paint_rows(work, cell.row + 1, below, palette, tiles),
+    }
+}
+
+// Paints the columns of rows.
+#[cycle(painting)]
+fn paint_rows<P: TilePainter, T: Ledger>(
+    work: &Work<P>,
+    row: u32,
+    rows: &mut [Row],
+    palette: &mut Palette,
+    tiles: &mut Steps<T>,
+) -> Result<(), AllocError>
+    requires rows { row + length rows.old ≤ 64 }
+    requires wide { All (λ row. work.now.right ≤ length row) rows.old }
+    ensures rows { OnOk result (rows.new
+        ≡ rows_painted (P.painted work.now.painter.now) work.now.left work.now.right row rows.old) }
+    ensures rows_stay { OnErr result (rows.new ≡ rows.old) }
+    ensures tiles_rise { tiles.old ≤ tiles.new }
+    ensures few_tiles { tiles.new
+        ≤ tiles.old + length rows.old * (work.now.right - work.now.left) }
+{
+    match rows.split_first_mut() {
+        None => Ok(()),
+        Some((first, below)) => paint_row(work, row, first, below, palette, tiles),
+    }
+}
+
+// Paints the columns of a row, and of the rows below.
+#[cycle(painting)]
+fn paint_row<P: TilePainter, T: Ledger>(
+    work: &Work<P>,
+    row: u32,
+    first: &mut Row,
+    below: &mut [Row],
+    palette: &mut Palette,
+    tiles: &mut Steps<T>,
+) -> Result<(), AllocError>
+    requires rows { row + length below.old < 64 }
+    requires first { work.now.right ≤ length first.old }
+    requires wide { All (λ row. work.now.right ≤ length row) below.old }
+    ensures first { OnOk result (first.new
+        ≡ row_painted (P.painted work.now.painter.now) work.now.left work.now.right row first.old) }
+    ensures below { OnOk result (below.new
+        ≡ rows_painted (P.painted work.now.painter.now) work.now.left work.now.right (row + 1)
+        below.old) }
+    ensures first_stays { OnErr result (first.new ≡ first.old) }
+    ensures below_stay { OnErr result (below.new ≡ below.old) }
+    ensures tiles_rise { tiles.old ≤ tiles.new }
+    ensures few_tiles { tiles.new
+        ≤ tiles.old + (length below.old + 1) * (work.now.right - work.now.left) }
+{
+    own_slots(work.alloc, &mut first.slots)?;
+    match Arc::get_mut(&mut first.slots) {
+        None => Err(AllocError),
+        Some(sole) => paint_columns(work, row, sole.as_mut_slice(), below, palette, tiles),
+    }
+}
+
+// Paints the columns of the slots of a row, and of the rows below.
+#[cycle(painting)]
+fn paint_columns<P: TilePainter, T: Ledger>(
+    work: &Work<P>,
+    row: u32,
+    slots: &mut [Slot],
+    below: &mut [Row],
+    palette: &mut Palette,
+    tiles: &mut Steps<T>,
+) -> Result<(), AllocError>
+    requires rows { row + length below.old < 64 }
+    requires slots { work.now.right ≤ length slots.old }
+    requires wide { All (λ row. work.now.right ≤ length row) below.old }
+    ensures slots { OnOk result (slots.new
+        ≡ row_painted (P.painted work.now.painter.now) work.now.left work.now.right row slots.old) }
+    ensures below { OnOk result (below.new
+        ≡ rows_painted (P.painted work.now.painter.now) work.now.left work.now.right (row + 1)
+        below.old) }
+    ensures slots_stay { OnErr result (slots.new ≡ slots.old) }
+    ensures below_stay { OnErr result (below.new ≡ below.old) }
+    ensures tiles_rise { tiles.old ≤ tiles.new }
+    ensures few_tiles { tiles.new
+        ≤ tiles.old + (length below.old + 1) * (work.now.right - work.now.left) }
+{
+    let (left, right) = (work.left as usize, work.right as usize);
+    let cell = Cell {
+        col: work.left,
+        row,
+    };
+    paint_cells(work, cell, &mut slots[left..right], below, palette, tiles)
+}
+
+// Paints a slot, those on its right, and the columns of the rows below.
+#[cycle(painting)]
+fn paint_first<P: TilePainter, T: Ledger>(
+    work: &Work<P>,
+    cell: Cell,
+    first: &mut Slot,
+    others: &mut [Slot],
+    below: &mut [Row],
+    palette: &mut Palette,
+    tiles: &mut Steps<T>,
+) -> Result<(), AllocError>
+    requires cols { cell.col + length others.old < 64 }
+    requires rows { cell.row + length below.old < 64 }
+    requires wide { All (λ row. work.now.right ≤ length row) below.old }
+    ensures first { OnOk result (first.new
+        ≡ P.painted work.now.painter.now cell.col cell.row first.old) }
+    ensures others { OnOk result (others.new
+        ≡ cells_painted (P.painted work.now.painter.now) (cell.col + 1) cell.row others.old) }
+    ensures below { OnOk result (below.new
+        ≡ rows_painted (P.painted work.now.painter.now) work.now.left work.now.right (cell.row + 1)
+        below.old) }
+    ensures first_stays { OnErr result (first.new ≡ first.old) }
+    ensures others_stay { OnErr result (others.new ≡ others.old) }
+    ensures below_stay { OnErr result (below.new ≡ below.old) }
+    ensures tiles_rise { tiles.old ≤ tiles.new }
+    ensures few_tiles { tiles.new ≤ tiles.old + 1 + length others.old
+        + length below.old * (work.now.right - work.now.left) }
+{
+    first.known();
+    let next = Cell {
+        col: cell.col + 1,
+        row: cell.row,
+    };
+    match work.painter.change(cell.col, cell.row, first.color()) {
+        TileChange::Stays => paint_cells(work, next, others, below, palette, tiles),
+        TileChange::Becomes(p) => {
+            let slot = palette.slot(p, tiles)?;
+            paint_cells(work, next, others, below, palette, tiles)?;
+            *first = slot;
+            Ok(())
+        }
+        TileChange::Unknown => {
+            first.own(work.alloc, tiles)?;
+            paint_owned(work, cell, first, others, below, palette, tiles)
+        }
+    }
+}
+
+// Paints a slot whose tile is this grid's alone, those on its right, and the columns of the rows
+// below.
+#[cycle(painting)]
+fn paint_owned<P: TilePainter, T: Ledger>(
+    work: &Work<P>,
+    cell: Cell,
+    first: &mut Slot,
+    others: &mut [Slot],
+    below: &mut [Row],
+    palette: &mut Palette,
+    tiles: &mut Steps<T>,
+) -> Result<(), AllocError>
+    requires cols { cell.col + length others.old < 64 }
+    requires rows { cell.row + length below.old < 64 }
+    requires wide { All (λ row. work.now.right ≤ length row) below.old }
+    ensures first { OnOk result (first.new
+        ≡ P.painted work.now.painter.now cell.col cell.row first.old) }
+    ensures others { OnOk result (others.new
+        ≡ cells_painted (P.painted work.now.painter.now) (cell.col + 1) cell.row others.old) }
+    ensures below { OnOk result (below.new
+        ≡ rows_painted (P.painted work.now.painter.now) work.now.left work.now.right (cell.row + 1)
+        below.old) }
+    ensures first_stays { OnErr result (first.new ≡ first.old) }
+    ensures others_stay { OnErr result (others.new ≡ others.old) }
+    ensures below_stay { OnErr result (below.new ≡ below.old) }
+    ensures tiles_rise { tiles.old ≤ tiles.new }
+    ensures few_tiles { tiles.new ≤ tiles.old + length others.old
+        + length below.old * (work.now.right - work.now.left) }
+{
+    match &mut first.tile {
+        None => Err(AllocError),
+        Some(tile) => paint_held(work, cell, tile, others, below, palette, tiles),
+    }
+}
+
+// Paints a tile that no one else has, the slots on its right, and the columns of the rows below.
+// The tile is painted last, when nothing can fail any more.
+#[cycle(painting)]
+fn paint_held<P: TilePainter, T: Ledger>(
+    work: &Work<P>,
+    cell: Cell,
+    tile: &mut Arc<Tile>,
+    others: &mut [Slot],
+    below: &mut [Row],
+    palette: &mut Palette,
+    tiles: &mut Steps<T>,
+) -> Result<(), AllocError>
+    requires cols { cell.col + length others.old < 64 }
+    requires rows { cell.row + length below.old < 64 }
+    requires wide { All (λ row. work.now.right ≤ length row) below.old }
+    ensures tile { OnOk result (tile.new.value
+        ≡ P.painted work.now.painter.now cell.col cell.row tile.old.value) }
+    ensures others { OnOk result (others.new
+        ≡ cells_painted (P.painted work.now.painter.now) (cell.col + 1) cell.row others.old) }
+    ensures below { OnOk result (below.new
+        ≡ rows_painted (P.painted work.now.painter.now) work.now.left work.now.right (cell.row + 1)
+        below.old) }
+    ensures tile_stays { OnErr result (tile.new.value ≡ tile.old.value) }
+    ensures others_stay { OnErr result (others.new ≡ others.old) }
+    ensures below_stay { OnErr result (below.new ≡ below.old) }
+    ensures tiles_rise { tiles.old ≤ tiles.new }
+    ensures few_tiles { tiles.new ≤ tiles.old + length others.old
+        + length below.old * (work.now.right - work.now.left) }
+{
+    match Arc::get_mut(tile) {
+        None => Err(AllocError),
+        Some(sole) => {
+            let next = Cell {
+                col: cell.col + 1,
+                row: cell.row,
+            };
+            paint_cells(work, next, others, below, palette, tiles)?;
+            sole.paint(cell.col, cell.row, work.painter);
+            Ok(())
+        }
+    }
+}

@@ -1,0 +1,154 @@
+//! A row of slots, which grids share until one of them is written to.
+
+ghost use Rattle.std.specs.Prelude.{◌≡◌, ◌+◌, ◌<◌, ◌≤◌, length, replicate, All};
+ghost use Rattle.std.specs.Prelude.{slice_index_or, slice_set, IfOk, OnOk, OnErr};
+ghost use Rattle.dp_blend.specs.Color.{clear};
+ghost use Rattle.dp_tile.specs.Tiles.{tile_of};
+
+use crate::painter::TilePainter;
+use crate::slot::Slot;
+use dp_steps::Steps;
+use std::alloc::{AllocError, Global};
+use std::marker::Model;
+use std::sync::Arc;
+use std::sync::ledger::Ledger;
+
+/// A row of slots. It is seen as the list of their pixels.
+#[derive(Drop)]
+pub(crate) struct Row {
+    pub slots: Arc<Vec<Slot>>,
+}
+
+impl Model for Row {
+    ghost use Rattle.std.specs.Prelude.{List};
+    ghost use Rattle.dp_blend.specs.Color.{Channels};
+
+    ghost Value = { List (List Channels) };
+
+    ghost view = { λ r. r.slots.value.items };
+}
+
+impl Row {
+    // So many slots without tiles.
+    pub(crate) fn clear(alloc: Global, count: usize) -> Result<Row, AllocError>
+        ensures { IfOk result (λ row. row ≡ replicate count (tile_of clear)) }
+    {
+        let slots = Arc::new(alloc, clear_slots(alloc, count)?)?;
+        Ok(Row { slots })
+    }
+
+    // The same slots once more.
+    pub(crate) fn share(&self) -> Result<Row, AllocError>
+        ensures { IfOk result (λ row. row ≡ self.now) }
+    {
+        let slots = self.slots.clone()?;
+        Ok(Row { slots })
+    }
+
+    // The slot at a column.
+    pub(crate) fn at(&self, col: usize) -> &Slot
+        requires { col < length self.now }
+        ensures { result.now ≡ slice_index_or self.now col (tile_of clear) }
+    {
+        let slots = self.slots.as_slice();
+        &slots[col]
+    }
+
+    // Makes the tile at a column this row's alone.
+    pub(crate) fn own_tile<T: Ledger>(
+        &mut self,
+        alloc: Global,
+        col: usize,
+        tiles: &mut Steps<T>,
+    ) -> Result<(), AllocError>
+        requires { col < length self.old }
+        ensures same { self.new ≡ self.old }
+        ensures tiles_rise { tiles.old ≤ tiles.new }
+        ensures one_tile { tiles.new ≤ tiles.old + 1 }
+    {
+        own_slots(alloc, &mut self.slots)?;
+        match Arc::get_mut(&mut self.slots) {
+            None => Err(AllocError),
+            Some(sole) => sole[col].own(alloc, tiles),
+        }
+    }
+
+    // Paints the tile at a column, on the row of this number.
+    pub(crate) fn paint<P: TilePainter, T: Ledger>(
+        &mut self,
+        alloc: Global,
+        col: u32,
+        row: u32,
+        painter: &P,
+        tiles: &mut Steps<T>,
+    ) -> Result<(), AllocError>
+        requires inside { col < length self.old }
+        requires col { col < 64 }
+        requires row { row < 64 }
+        ensures painted { OnOk result (self.new ≡ slice_set self.old col
+            (P.painted painter.now col row (slice_index_or self.old col (tile_of clear)))) }
+        ensures count { OnOk result (length (P.painted painter.now col row
+            (slice_index_or self.old col (tile_of clear))) ≡ 4096) }
+        ensures err { OnErr result (self.new ≡ self.old) }
+        ensures tiles_rise { tiles.old ≤ tiles.new }
+        ensures one_tile { tiles.new ≤ tiles.old + 1 }
+    {
+        own_slots(alloc, &mut self.slots)?;
+        match Arc::get_mut(&mut self.slots) {
+            None => Err(AllocError),
+            Some(sole) => sole[col as usize].paint(alloc, col, row, painter, tiles),
+        }
+    }
+
+    // Puts a slot at a column.
+    pub(crate) fn put(&mut self, alloc: Global, col: usize, slot: Slot) -> Result<(), AllocError>
+        requires { col < length self.old }
+        ensures written { OnOk result (self.new ≡ slice_set self.old col slot) }
+        ensures err { OnErr result (self.new ≡ self.old) }
+    {
+        own_slots(alloc, &mut self.slots)?;
+        match Arc::get_mut(&mut self.slots) {
+            None => Err(AllocError),
+            Some(sole) => {
+                sole[col] = slot;
+                Ok(())
+            }
+        }
+    }
+}
+
+// So many slots without tiles.
+fn clear_slots(alloc: Global, count: usize) -> Result<Vec<Slot>, AllocError>
+    ensures { IfOk result (λ slots. slots.items ≡ replicate count (tile_of clear)) }
+{
+    let mut slots = Vec::with_capacity(alloc, count)?;
+    for _made in 0..count {
+        slots.push(Slot::clear())?;
+    }
+    Ok(slots)
+}
+
+// Slots that have the same tiles.
+fn share_slots(alloc: Global, slots: &[Slot]) -> Result<Vec<Slot>, AllocError>
+    ensures { IfOk result (λ copies. copies.items ≡ slots.now) }
+{
+    let mut copies = Vec::with_capacity(alloc, slots.len())?;
+    for slot in slots {
+        copies.push(slot.share()?)?;
+    }
+    Ok(copies)
+}
+
+// Makes the slots the caller's alone: a copy of the list, where others have it too.
+pub(crate) fn own_slots(alloc: Global, slots: &mut Arc<Vec<Slot>>) -> Result<(), AllocError>
+    ensures { slots.new.value.items ≡ slots.old.value.items }
+{
+    match Arc::get_mut(slots) {
+        Some(_sole) => {}
+        None => {
+            let copies = share_slots(alloc, slots)?;
+            *slots = Arc::new(alloc, copies)?;
+        }
+    }
+    Ok(())
+}
