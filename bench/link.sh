@@ -103,7 +103,7 @@ fn main(rt: HostRuntime) -> io::Result<()> {
     let mut least = u64::MAX;
     for _ in 0..RUNS {
         match feed(&rt, rt.alloc())? {
-            (Some((DownEnd::Gone, took)), 6_000_043) => least = least.min(each(took)),
+            (Some((DownEnd::Gone, took)), 6_000_044) => least = least.min(each(took)),
             (_, taken) => println!(rt; "NOT THE WHOLE FEED: {taken} bytes")?,
         }
     }
