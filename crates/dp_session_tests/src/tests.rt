@@ -136,7 +136,7 @@ fn check_page<K: Keeper>(
         assert_eq!(rt; pull(session, conn, epoch, at, 1)?, None);
         return Ok(());
     };
-    let max = page.count as u32;
+    let max = u32::try_from(page.count).unwrap_or(0);
     let query = Query::Pull {
         conn,
         epoch,
