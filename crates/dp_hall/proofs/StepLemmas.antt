@@ -419,7 +419,7 @@ module _ {E O M : Type 0} (may : M → E → O → M → Type 0) (start : M) whe
   only a b (suc i) e = absurd (some-ne-none b (sym e))
 
   pub opens : (stored : Stored E O M) → stored.machine.value ≡ start
-      → Rule (opening (0 ∷ 0 ∷ []) (Some stored ∷ []) (first_view start))
+      → Rule (opening (0 ∷ 0 ∷ 0 ∷ []) (Some stored ∷ []) (first_view start))
   opens stored is = record {
     log = [];
     legal = tt;

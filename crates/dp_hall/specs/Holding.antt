@@ -7,10 +7,10 @@ use Rattle.dp_hall.specs.declared.view.View.{View}
 use Rattle.dp_hall.specs.declared.slot.Stored.{Stored}
 use Rattle.dp_hall.specs.Logs.{left_by}
 
--- the seat is of this table, which has two words and a slot
+-- the seat is of this table, which has three words and a slot
 pub record IsAt (table seat : TableId) : Type 0 where
   pub same : seat ≡ table
-  pub words : table.words ≡ 2
+  pub words : table.words ≡ 3
   pub slots : table.slots ≡ 1
 
 module _ {E O M : Type 0} where

@@ -18,6 +18,7 @@ use std::alloc::{AllocError, AllocFailed, Global};
 use std::marker::Model;
 use std::snapshot::Snapshot;
 use std::sync::Wait;
+use std::time::Duration;
 
 /// A machine that seats act on, one at a time. All acts are one log, which is legal from the
 /// machine at the start. Contracts see which hall it is, and that machine. It can't be dropped,
@@ -37,7 +38,7 @@ impl<M: Machine> Model for Hall<M> {
       start = h.table.shared.key.value;
     } };
 
-    ghost invariant = { λ h. (h.table.shared.table_id.words ≡ 2)
+    ghost invariant = { λ h. (h.table.shared.table_id.words ≡ 3)
         × (h.table.shared.table_id.slots ≡ 1) };
 }
 
@@ -73,7 +74,7 @@ impl<M: Machine> Hall<M> {
                 return Err(machine_back(value));
             }
         }
-        match Table::new(alloc, &[0, 0], slots, &about) {
+        match Table::new(alloc, &[0, 0, 0], slots, &about) {
             Ok((table, token)) => Ok((Hall { table }, Seat { token })),
             Err(Refused { mut slots }) => {
                 let Some(slot) = slots.pop() else {
@@ -185,6 +186,12 @@ impl<M: Machine> Hall<M> {
         ensures past { n < result }
     {
         turn::wait_past(rt, &self.table.shared, &mut seat.token, n)
+    }
+
+    /// Waits for a while, whatever is acted: who has just looked lets more acts come before the next
+    /// look.
+    pub fn rest<R: Wait>(&self, rt: &R, time: Duration) {
+        turn::rest(rt, &self.table.shared, time);
     }
 
     /// A new seat of the hall, which has seen as much. Its name is the first one's with the number

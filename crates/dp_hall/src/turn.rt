@@ -16,6 +16,7 @@ use dp_machine::Machine;
 use std::alloc::AllocError;
 use std::snapshot::Snapshot;
 use std::sync::Wait;
+use std::time::Duration;
 use std::{hint, thread};
 
 pub(crate) type HallTable<M> = Shared<SlotOf<M>, ViewOf<M>, Snapshot<M>, HallRule<M>>;
@@ -28,6 +29,9 @@ const COUNT: usize = 0;
 /// The word of the turn: 1 while a seat has it.
 const TURN: usize = 1;
 
+/// The word that never changes.
+const REST: usize = 2;
+
 /// The slot of the machine.
 const MACHINE: usize = 0;
 
@@ -37,7 +41,7 @@ const LOOKS: u32 = 64;
 /// Looks at the turn until it is free, but not for long. A seat that has it may wait for a
 /// processor: another thread is let go on then.
 fn linger<M: Machine>(table: &HallTable<M>)
-    requires { table.now.table_id.words ≡ 2 }
+    requires { table.now.table_id.words ≡ 3 }
 {
     for _look in 0..LOOKS {
         if table.peek(TURN) == 0 {
@@ -157,7 +161,7 @@ pub(crate) fn act<M: Machine, R: Wait>(
 
 /// Wakes those that wait for the count.
 pub(crate) fn wake<M: Machine>(table: &HallTable<M>)
-    requires { table.now.table_id.words ≡ 2 }
+    requires { table.now.table_id.words ≡ 3 }
 {
     table.wake_all(COUNT);
 }
@@ -207,8 +211,7 @@ pub(crate) fn look<M: Machine, R: Wait, L: Look<M>>(
     give_back(table, token, stored);
 }
 
-/// Waits until the count is above a number. Before it sleeps it lets other threads go on, which may
-/// act: then it need not sleep, and nobody need wake it.
+/// Waits until the count is above a number.
 pub(crate) fn wait_past<M: Machine, R: Wait>(
     rt: &R,
     table: &HallTable<M>,
@@ -227,10 +230,16 @@ pub(crate) fn wait_past<M: Machine, R: Wait>(
         if seen > n {
             return seen;
         }
-        thread::yield_now();
         table.park(rt, COUNT, (seen & 0xffff_ffff) as u32);
     }
     unreachable!()
+}
+
+/// Waits for a while, whatever is acted.
+pub(crate) fn rest<M: Machine, R: Wait>(rt: &R, table: &HallTable<M>, time: Duration)
+    requires { table.now.table_id.words ≡ 3 }
+{
+    table.park_timeout(rt, REST, 0, time);
 }
 
 /// A new seat, with the next name.

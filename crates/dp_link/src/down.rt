@@ -26,6 +26,11 @@ use dp_session::{Page, Session};
 use dp_session_laws::{feeds_begin, feeds_end, feeds_go_on, pulls_go_on, sessions_go_on};
 use std::alloc::{AllocError, Global};
 use std::sync::Wait;
+use std::time::Duration;
+
+/// So long a link lets entries come after a page, so that many go out in one write. Nobody sees two
+/// milliseconds, and the first entry after a pause goes out at once.
+const PAUSE: Duration = Duration::from_millis(2);
 
 /// Writes the entries that are to come for a connection, each as one frame, from the first one of
 /// the epoch in which it joined on. It waits for more where there are none, and goes on until
@@ -69,8 +74,9 @@ pub fn pump_down<W: Wait, K: Keeper, S: Sink>(
     unreachable!()
 }
 
-/// Writes the next page. Where it has no entry, it waits for an act on the session. What is acted
-/// after the count, before the session is asked or after that, is not waited for.
+/// Writes the next page, and lets more come before the next one. Where it has no entry, it waits for
+/// an act on the session. What is acted after the count, before the session is asked or after that,
+/// is not waited for.
 fn send_more<W: Wait, K: Keeper, S: Sink>(
     rt: &W,
     hall: &Hall<Session<K>>,
@@ -97,7 +103,10 @@ fn send_more<W: Wait, K: Keeper, S: Sink>(
     calls_add_up::<Event, Result<Reply, AllocError>, Session<K>>();
     let seen = hall.count(seat);
     match send_page(rt, hall, seat, tx, greeting, asked) {
-        Ok(true) => Ok(()),
+        Ok(true) => {
+            hall.rest(rt, PAUSE);
+            Ok(())
+        }
         Ok(false) => {
             hall.wait_past(rt, seat, seen);
             Ok(())
