@@ -30,7 +30,7 @@ use std::time::Duration;
 
 /// So long a link lets entries come after a page, so that many go out in one write. Nobody sees two
 /// milliseconds, and the first entry after a pause goes out at once.
-const PAUSE: Duration = Duration::from_millis(2);
+const PAUSE_MILLIS: u64 = 2;
 
 /// Writes the entries that are to come for a connection, each as one frame, from the first one of
 /// the epoch in which it joined on. It waits for more where there are none, and goes on until
@@ -104,7 +104,7 @@ fn send_more<W: Wait, K: Keeper, S: Sink>(
     let seen = hall.count(seat);
     match send_page(rt, hall, seat, tx, greeting, asked) {
         Ok(true) => {
-            hall.rest(rt, PAUSE);
+            hall.rest(rt, Duration::from_millis(PAUSE_MILLIS));
             Ok(())
         }
         Ok(false) => {
