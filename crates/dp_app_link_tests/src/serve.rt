@@ -253,7 +253,8 @@ fn rows_over_wires(rt: HostRuntime) -> Result<(), Fail> {
     Ok(())
 }
 
-/// The Welcome, the mark, the Join, the Owners, what is in place of the second Hello, and the Leave.
+/// The Welcome, the mark, the Join, the Owners, what is in place of the second Hello, and the
+/// Leave.
 const FRAMES: [&str; 6] = [
     "000b04000001010000000000000001",
     "000825000000000000000000",

@@ -1,8 +1,9 @@
 -- Frames of entries, one after another.
-use Rattle.std.proofs.Common.{◌≡◌, ℕ, ◌+◌, ◌-◌, ◌<◌, List, [], ◌∷◌, ◌++◌, length, take, drop}
+use Rattle.std.proofs.Common.{◌≡◌, ℕ, ◌+◌, ◌-◌, ◌<◌, ◌≤◌, List, [], ◌∷◌, ◌++◌, length, take, drop}
 use Rattle.std.proofs.Common.{get_or, zero, suc, refl, sym, ap, ◌∙◌, arith}
 use Rattle.std.proofs.Math.Seq.{take-add, take-append_seam, drop-append_seam}
 use Rattle.std.proofs.lemmas.List.{take-append-drop, append-nil, length-append}
+use Rattle.std.proofs.lemmas.List.{get_or-take, get_or-drop}
 use Rattle.std.proofs.lemmas.Grind.{flat_map-append}
 use Rattle.dp_messages.specs.declared.message.Entry.{Entry}
 use Rattle.dp_messages.specs.Messages.{entry_bytes}
@@ -106,3 +107,16 @@ frames-appended old new entries entry bytes ends are =
           (omega (arith, ap length bytes_are))
           ∙ sym (ends-more 0 entries entry);
     }
+
+-- where the last of so many frames from a place on ends
+pub ends-part : (at most count : ℕ) (entries : List Entry) → at + most ≤ length entries
+    → count < most
+    → get_or (take most (drop at (ends_from 0 entries))) count 0
+    ≡ length (frames_of (take (at + (count + 1)) entries))
+ends-part at most count entries within few =
+    get_or-take most (drop at (ends_from 0 entries)) count 0 few
+    ∙ get_or-drop at (ends_from 0 entries) count 0
+    ∙ ends-at 0 entries (at + count) (omega (arith, within, few))
+    ∙ omega (arith, ap (λ n. length (frames_of (take n entries))) (one_more at count)) where
+      one_more : (a b : ℕ) → a + b + 1 ≡ a + (b + 1)
+      one_more a b = omega arith

@@ -1,5 +1,5 @@
 -- Histories as they are sent: the frames of their entries, one after another.
-use Rattle.std.specs.Prelude.{◌≡◌, ℕ, ◌+◌, List, [], ◌∷◌, ◌++◌, length}
+use Rattle.std.specs.Prelude.{◌≡◌, ◌≤◌, ◌⊎◌, ℕ, ◌+◌, List, [], ◌∷◌, ◌++◌, length}
 use Rattle.std.specs.List.{flat_map}
 use Rattle.dp_messages.specs.declared.message.Entry.{Entry}
 use Rattle.dp_messages.specs.Messages.{entry_bytes}
@@ -23,6 +23,14 @@ ends_from at (entry ∷ entries) =
 pub record AreFramesOf (frames : Frames) (entries : List Entry) : Type 0 where
   pub bytes : frames.bytes ≡ frames_of entries
   pub ends : frames.ends ≡ ends_from 0 entries
+
+-- the most bytes of a page of several frames
+abbrev pub page_limit : ℕ
+page_limit = 65536
+
+-- so many frames were put after what was there: one, or no more bytes than a page may have
+abbrev pub IsShort : ℕ → List ℕ → List ℕ → Type 0
+IsShort count old new = (count ≡ 1) ⊎ (length new ≤ length old + page_limit)
 
 -- the frames are those of the first entries of a history
 pub record AreWritten (frames : Frames) (history : List Entry) : Type 0 where

@@ -1,9 +1,9 @@
 //! The frames of a history, as they are sent.
 
 ghost use Rattle.std.specs.Prelude.{◌≡◌, ◌+◌, ◌<◌, ◌≤◌, ◌∷◌, ◌++◌, [], List, length, take, drop};
-ghost use Rattle.std.specs.Prelude.{IfOk, OnOk, OnErr};
+ghost use Rattle.std.specs.Prelude.{◌-◌, ◌⊎◌, slice_index_or, IfOk, OnOk, OnErr};
 ghost use Rattle.dp_messages.specs.declared.message.Entry.{Entry as Piece};
-ghost use Rattle.dp_frame_log.specs.Frames.{AreFramesOf, frames_of};
+ghost use Rattle.dp_frame_log.specs.Frames.{AreFramesOf, IsShort, frames_of};
 
 use dp_lists::{prefix_of, rest_of};
 use dp_messages::{Entry, put_entry};
@@ -13,8 +13,8 @@ use std::marker::Model;
 /// A page of more bytes has one entry.
 const PAGE_BYTES: usize = 1 << 16;
 
-/// Frames of entries, one after another, so that each is made once for all who get it. It is seen as
-/// their bytes and the places where they end.
+/// Frames of entries, one after another, so that each is made once for all who get it. It is seen
+/// as their bytes and the places where they end.
 #[derive(Drop)]
 pub struct FrameLog {
     bytes: Vec<u8>,
@@ -34,6 +34,7 @@ fn count_within(ends: &[usize], limit: usize) -> usize
     requires { 0 < length ends.now }
     ensures some { 0 < result }
     ensures within { result ≤ length ends.now }
+    ensures limit { (result ≡ 1) ⊎ (slice_index_or ends.now (result - 1) 0 ≤ limit) }
 {
     for count in 1..ends.len() {
         if ends[count] > limit {
@@ -71,6 +72,10 @@ impl FrameLog {
     }
 
     /// Adds the frame of one more entry.
+    ///
+    /// # Errors
+    ///
+    /// The frames are those that there were.
     pub fn append(&mut self, entry: &Entry) -> Result<(), AllocError>
         ensures ok { OnOk result ((entries : List Piece) → AreFramesOf self.old entries
             → AreFramesOf self.new (entries ++ entry.now ∷ [])) }
@@ -94,6 +99,10 @@ impl FrameLog {
 
     /// Adds the frames from a place on at the end of the bytes, at most this many, and no more than
     /// `PAGE_BYTES` bytes of them unless it is one. It answers how many.
+    ///
+    /// # Errors
+    ///
+    /// The bytes are as they were.
     pub fn put(&self, at: usize, most: usize, out: &mut Vec<u8>) -> Result<usize, AllocError>
         requires are { (entries : List Piece) × AreFramesOf self.now entries
             × (at + most ≤ length entries) }
@@ -102,6 +111,7 @@ impl FrameLog {
         ensures most { IfOk result (λ count. count ≤ most) }
         ensures put { IfOk result (λ count. (entries : List Piece) → AreFramesOf self.now entries
             → out.new.items ≡ out.old.items ++ frames_of (take count (drop at entries))) }
+        ensures short { IfOk result (λ count. IsShort count out.old.items out.new.items) }
         ensures err { OnErr result (out.new.items ≡ out.old.items) }
     {
         let start = self.start(at);

@@ -1,5 +1,6 @@
 -- Each step keeps the rule.
-use Rattle.std.proofs.Common.{◌≡◌, ◌≢◌, ◌⊎◌, ℕ, zero, suc, ◌+◌, ◌%◌, ◌^◌, ◌<◌, ◌≤◌, eqb, true}
+use Rattle.std.proofs.Common.{◌≡◌, ◌≢◌, ◌⊎◌, ℕ, zero, suc, ◌+◌, ◌%◌, ◌^◌, ◌<◌, ◌≤◌}
+use Rattle.std.proofs.Common.{eqb, true}
 use Rattle.std.proofs.Common.{false, List, [], ◌∷◌, ◌++◌, map, length, get_or, set, sym, refl, ap}
 use Rattle.std.proofs.Common.{◌∙◌, subst, ⊎_elim, inl, inr, arith, Option, Some, None, le_refl}
 use Rattle.std.proofs.Common.{length-set, length-append, get_or-set_other, get_or-set_same, eq-eqb}
@@ -64,7 +65,8 @@ module _ {E O M : Type 0} (may : M → E → O → M → Type 0) (start : M) whe
 
   -- a view that holds, where the one that changed held before if it holds now
   pub held_before : (vs : List V) (me : ℕ) (v w : V) → get_elem? vs me ≡ some v
-      → (w.holds ≡ true → v.holds ≡ true) → (j : ℕ) (u : V) → get_elem? (set vs me w) j ≡ some u
+      → (w.holds ≡ true → v.holds ≡ true)
+      → (j : ℕ) (u : V) → get_elem? (set vs me w) j ≡ some u
       → u.holds ≡ true
       → (x : V) × (get_elem? vs j ≡ some x) × (x.holds ≡ true)
   held_before vs me v w at back = views_stay (λ j u. u.holds ≡ true
@@ -73,8 +75,8 @@ module _ {E O M : Type 0} (may : M → E → O → M → Type 0) (start : M) whe
 
   pub one_stays : (vs : List V) (me : ℕ) (v w : V) → get_elem? vs me ≡ some v
       → (w.holds ≡ true → v.holds ≡ true)
-      → ((i j : ℕ) (x y : V) → get_elem? vs i ≡ some x → get_elem? vs j ≡ some y → x.holds ≡ true
-      → y.holds ≡ true → i ≡ j)
+      → ((i j : ℕ) (x y : V) → get_elem? vs i ≡ some x → get_elem? vs j ≡ some y
+      → x.holds ≡ true → y.holds ≡ true → i ≡ j)
       → (i j : ℕ) (x y : V) → get_elem? (set vs me w) i ≡ some x
       → get_elem? (set vs me w) j ≡ some y → x.holds ≡ true → y.holds ≡ true → i ≡ j
   one_stays vs me v w at back one i j x y here there hx hy =

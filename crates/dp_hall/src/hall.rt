@@ -188,8 +188,8 @@ impl<M: Machine> Hall<M> {
         turn::wait_past(rt, &self.table.shared, &mut seat.token, n)
     }
 
-    /// Waits for a while, whatever is acted: who has just looked lets more acts come before the next
-    /// look.
+    /// Waits for a while, whatever is acted: who has just looked lets more acts come before the
+    /// next look.
     pub fn rest<R: Wait>(&self, rt: &R, time: Duration) {
         turn::rest(rt, &self.table.shared, time);
     }

@@ -74,9 +74,9 @@ pub fn pump_down<W: Wait, K: Keeper, S: Sink>(
     unreachable!()
 }
 
-/// Writes the next page, and lets more come before the next one. Where it has no entry, it waits for
-/// an act on the session. What is acted after the count, before the session is asked or after that,
-/// is not waited for.
+/// Writes the next page, and lets more come before the next one. Where it has no entry, it waits
+/// for an act on the session. What is acted after the count, before the session is asked or after
+/// that, is not waited for.
 fn send_more<W: Wait, K: Keeper, S: Sink>(
     rt: &W,
     hall: &Hall<Session<K>>,

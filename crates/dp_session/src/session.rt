@@ -6,7 +6,7 @@ ghost use Rattle.dp_epochs.specs.Past.{Refuses, Serves, Step, state_of};
 ghost use Rattle.dp_epochs.specs.Pull.{answered};
 ghost use Rattle.dp_epochs.specs.State.{next_open};
 ghost use Rattle.dp_events.specs.declared.event.Query.TheVariants.{Pull};
-ghost use Rattle.dp_tables.specs.Pages.{IsPage};
+ghost use Rattle.dp_tables.specs.Pages.{IsBounded, IsPage};
 ghost use Rattle.dp_tables.specs.Plans.{IsReady};
 ghost use Rattle.dp_session.specs.Puts.{IsPut};
 
@@ -129,8 +129,8 @@ impl<K: Keeper> Session<K> {
         (keeper, Journal::from_vec(journal), Shut::from_vec(shut))
     }
 
-    /// Puts what a connection is to get at the end of the bytes, as frames, from a cursor on: a page
-    /// of some length. `None` means that nothing more is to come.
+    /// Puts what a connection is to get at the end of the bytes, as frames, from a cursor on: a
+    /// page of some length. `None` means that nothing more is to come.
     ///
     /// # Errors
     ///
@@ -145,6 +145,7 @@ impl<K: Keeper> Session<K> {
         ensures page { IfOk result (λ page. IsPage
             (λ most. answered self.now (Pull conn epoch at most)) page out.old.items
             out.new.items) }
+        ensures bounds { IfOk result (λ page. IsBounded page out.old.items out.new.items) }
         ensures err { OnErr result (out.new.items ≡ out.old.items) }
     {
         self.tables.put_page(conn, epoch, at, out)

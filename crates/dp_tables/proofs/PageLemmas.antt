@@ -1,11 +1,13 @@
 -- Pages of a history, and the frames of its first entries.
 use Rattle.std.proofs.Common.{◌≡◌, ℕ, zero, suc, ◌+◌, ◌<◌, ◌≤◌, max, List, [], ◌∷◌, ◌++◌, length}
-use Rattle.std.proofs.Common.{map, take, drop, get_or, Some, Result, Ok, Err, IfOk, sym, ap, ◌∙◌, arith, append_assoc}
+use Rattle.std.proofs.Common.{map, take, drop, get_or, Some, Result, Ok, Err, IfOk, sym, ap, ◌∙◌}
+use Rattle.std.proofs.Common.{arith, append_assoc}
 use Rattle.std.proofs.Math.Seq.{drop-append_seam}
 use Rattle.std.specs.List.{slice_get}
 use Rattle.std.specs.Option.{option_map}
 use Rattle.std.proofs.lemmas.Option.{slice_get-map, slice_get-get_or}
-use Rattle.std.proofs.lemmas.List.{drop-take, take-append-le, length-take-le, length-drop, take-take}
+use Rattle.std.proofs.lemmas.List.{drop-take, take-append-le, length-take-le, length-drop}
+use Rattle.std.proofs.lemmas.List.{take-take}
 use Rattle.dp_messages.specs.declared.message.Entry.{Entry}
 use Rattle.dp_events.specs.declared.event.Event.{Event}
 use Rattle.dp_epochs.specs.Pull.{page}

@@ -10,6 +10,7 @@ ghost use Rattle.std.specs.Prelude.{
   ◌-◌,
   ℕ,
   ◌<◌,
+  ◌≤◌,
   ◌==◌,
   true,
   is_some,
@@ -30,8 +31,8 @@ ghost use Rattle.dp_epochs.specs.Pull.{page, pulled_from, pulled_by_left, pulled
 ghost use Rattle.dp_tables.specs.Ledger.{state_in};
 ghost use Rattle.dp_messages.specs.declared.message.Entry.{Entry as Piece};
 ghost use Rattle.dp_messages.specs.Messages.{entry_bytes};
-ghost use Rattle.dp_frame_log.specs.Frames.{AreFramesOf, AreWritten, frames_of};
-ghost use Rattle.dp_tables.specs.Pages.{answer_of, IsPage};
+ghost use Rattle.dp_frame_log.specs.Frames.{AreFramesOf, AreWritten, IsShort, frames_of};
+ghost use Rattle.dp_tables.specs.Pages.{answer_of, IsBounded, IsPage, page_most};
 ghost use Rattle.dp_tables.specs.Tables.{entry_in, IsIn, IsSay, join_of, mark, message_of, part_of};
 
 use crate::history_item::HistoryItem;
@@ -316,6 +317,8 @@ impl Tables {
             (take end (state_in self.now).live)))
             × (out.new.items ≡ out.old.items ++ frames_of (page at 1
             (take end (state_in self.now).live)))) }
+        ensures few { IfOk result (λ count. count ≤ page_most) }
+        ensures short { IfOk result (λ count. IsShort count out.old.items out.new.items) }
         ensures err { OnErr result (out.new.items ≡ out.old.items) }
     {
         match prefix_of(&self.live, end).get(at) {
@@ -334,6 +337,8 @@ impl Tables {
             (take end (state_in self.now).live)))
             × (out.new.items ≡ out.old.items ++ frames_of (page at most
             (take end (state_in self.now).live)))) }
+        ensures few { IfOk result (λ count. count ≤ page_most) }
+        ensures short { IfOk result (λ count. IsShort count out.old.items out.new.items) }
         ensures err { OnErr result (out.new.items ≡ out.old.items) }
     {
         let written = self.frames.len().min(end);
@@ -344,9 +349,9 @@ impl Tables {
         }
     }
 
-    /// Puts what a connection is to get at the end of the bytes, as frames, from a cursor on: a page
-    /// of some length. `None` means that nothing more is to come. It makes no frame that was made
-    /// before.
+    /// Puts what a connection is to get at the end of the bytes, as frames, from a cursor on: a
+    /// page of some length. `None` means that nothing more is to come. It makes no frame that was
+    /// made before.
     ///
     /// # Errors
     ///
@@ -361,6 +366,7 @@ impl Tables {
         ensures page { IfOk result (λ page. IsPage
             (λ most. pulled_where (state_in self.now) self.now.quiet conn epoch at most
             (connection_of (state_in self.now) conn)) page out.old.items out.new.items) }
+        ensures bounds { IfOk result (λ page. IsBounded page out.old.items out.new.items) }
         ensures err { OnErr result (out.new.items ≡ out.old.items) }
     {
         match self.due(conn, epoch, at) {

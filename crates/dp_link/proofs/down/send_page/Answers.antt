@@ -8,7 +8,8 @@ pub returns-in-Ok-Some-clause-sends : goal.returns-in-Ok-Some-clause-sends
 returns-in-Ok-Some-clause-sends g c held h =
     let start = c.args.hall.now.start in
     let legal =
-    seen-legal start c.ask_page.new.seat.view c.ask_page.ensures.of.start c.ask_page.ensures.sound in
+    seen-legal start c.ask_page.new.seat.view c.ask_page.ensures.of.start
+    c.ask_page.ensures.sound in
     let grows =
     c.sessions_go_on.ensures.grows start c.args.seat.now.view.seen c.ask_page.new.seat.view.seen
     c.requires.start legal c.ask_page.ensures.seen.longer in
@@ -34,7 +35,8 @@ pub returns-in-Ok-None-clause-sends : goal.returns-in-Ok-None-clause-sends
 returns-in-Ok-None-clause-sends g c held h =
     let start = c.args.hall.now.start in
     let legal =
-    seen-legal start c.ask_page.new.seat.view c.ask_page.ensures.of.start c.ask_page.ensures.sound in
+    seen-legal start c.ask_page.new.seat.view c.ask_page.ensures.of.start
+    c.ask_page.ensures.sound in
     let grows =
     c.sessions_go_on.ensures.grows start c.args.seat.now.view.seen c.ask_page.new.seat.view.seen
     c.requires.start legal c.ask_page.ensures.seen.longer in
@@ -62,7 +64,8 @@ pub returns-in-Err-clause-sends : goal.returns-in-Err-clause-sends
 returns-in-Err-clause-sends g c held h =
     let start = c.args.hall.now.start in
     let legal =
-    seen-legal start c.ask_page.new.seat.view c.ask_page.ensures.of.start c.ask_page.ensures.sound in
+    seen-legal start c.ask_page.new.seat.view c.ask_page.ensures.of.start
+    c.ask_page.ensures.sound in
     let grows =
     c.sessions_go_on.ensures.grows start c.args.seat.now.view.seen c.ask_page.new.seat.view.seen
     c.requires.start legal c.ask_page.ensures.seen.longer in
