@@ -2,3 +2,4 @@ pub mod Color
 pub mod Blending
 pub mod Canvas
 pub mod Lanes
+pub mod Stretches

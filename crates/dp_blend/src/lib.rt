@@ -12,6 +12,7 @@ mod lanes;
 mod laws;
 mod modes;
 mod rows;
+mod stretch;
 
 pub use blending::blend;
 pub use color::{ONE, Pixel, fade, from8, of_argb, to8};
@@ -22,6 +23,7 @@ pub use laws::{
 };
 pub use modes::Mode;
 pub use rows::{row_blend, row_fill, row_merge};
+pub use stretch::Stretch;
 
 #[cfg(test)]
 mod tests;

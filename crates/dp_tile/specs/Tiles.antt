@@ -1,11 +1,11 @@
 -- A tile is a square of 64 by 64 pixels, seen as their list: row by row from the top, each row from
 -- the left. A grid is tiles in columns and rows.
 use Rattle.std.specs.Prelude.{◌≡◌, ℕ, ◌+◌, ◌*◌, ◌/◌, ◌%◌, ◌≤◌, List, length, replicate}
-use Rattle.std.specs.Prelude.{[], slice_index_or, slice_set, All, Option}
+use Rattle.std.specs.Prelude.{[], map, slice_index_or, slice_set, All, Option}
 use Rattle.std.specs.List.{flat_map}
 use Rattle.std.specs.Option.{ForSome}
 use Rattle.dp_blend.specs.Color.{Channels, clear}
-use Rattle.dp_blend.specs.Canvas.{canvas_of, pixel_at}
+use Rattle.dp_blend.specs.Canvas.{below, canvas_of, pixel_at}
 
 -- the pixels of a tile of one colour
 unfoldable pub tile_of : Channels → List Channels
@@ -82,3 +82,7 @@ grid_pixel g x y = pixel_at 64 (cell_at g (x / 64) (y / 64)) (x % 64) (y % 64)
 -- the pixels of a canvas of this width and height whose tiles are those of a grid
 abbrev pub grid_pixels : ℕ → ℕ → TileGrid → List Channels
 grid_pixels width height g = canvas_of width height (grid_pixel g)
+
+-- so many pixels of the row y of a grid, from x on
+abbrev pub part_of_grid : TileGrid → ℕ → ℕ → ℕ → List Channels
+part_of_grid g x y count = map (λ i. grid_pixel g (x + i) y) (below count)

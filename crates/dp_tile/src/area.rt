@@ -232,6 +232,9 @@ fn paint_first<P: TilePainter, T: Ledger>(
             *first = slot;
             Ok(())
         }
+        TileChange::Unknown if others.is_empty() && below.is_empty() => {
+            first.paint(work.alloc, cell.col, cell.row, work.painter, tiles)
+        }
         TileChange::Unknown => {
             first.own(work.alloc, tiles)?;
             paint_owned(work, cell, first, others, below, palette, tiles)

@@ -1,9 +1,12 @@
 //! Tiles in columns and rows.
 
-ghost use Rattle.std.specs.Prelude.{◌≡◌, ◌+◌, ◌-◌, ◌*◌, ◌<◌, ◌≤◌};
+ghost use Rattle.std.specs.Prelude.{◌≡◌, ℕ, ◌+◌, ◌-◌, ◌*◌, ◌%◌, ◌<◌, ◌≤◌, List, length};
+ghost use Rattle.dp_blend.specs.Color.{Channels};
 ghost use Rattle.std.specs.Prelude.{IfOk, IfSome, IfNone, OnOk, OnErr};
 ghost use Rattle.dp_blend.specs.Color.{clear};
 ghost use Rattle.dp_tile.specs.Tiles.{IsGrid, tile_of, clear_grid, cell_at, with_cell, grid_pixel};
+ghost use Rattle.dp_blend.specs.Stretches.{IsStretch};
+ghost use Rattle.dp_tile.specs.Tiles.{part_of_grid};
 ghost use Rattle.dp_tile.specs.Areas.{IsPaintedOn};
 
 use crate::area::CellArea;
@@ -11,14 +14,11 @@ use crate::cells::Cells;
 use crate::painter::TilePainter;
 use crate::slot::Slot;
 use crate::tile::{SIDE, Tile};
-use dp_blend::Pixel;
+use dp_blend::{Pixel, Stretch};
 use dp_steps::Steps;
 use std::alloc::{AllocError, Global};
 use std::marker::Model;
 use std::sync::ledger::Ledger;
-
-/// How many tiles are painted in place at a time: the depth on the stack is their number.
-const FEW: u32 = 128;
 
 /// Tiles in at most 64 columns and 64 rows. Grids that were shared have their tiles in common, each
 /// until one of them is written to. A grid is seen as its sides and the pixels of its cells.
@@ -38,6 +38,19 @@ impl Model for Grid {
     ghost view = { λ g. grid_of_rows g.cols g.rows g.cells };
 
     ghost invariant = { λ g. IsCellRows g.cols g.rows g.cells };
+}
+
+// Puts the pixels of a part of a row.
+fn put_stretch(stretch: Stretch, part: &mut [Pixel])
+    requires { (pixels : List Channels) × IsStretch stretch pixels
+        × (length pixels ≡ length part.old) }
+    ensures { (pixels : List Channels) → IsStretch stretch.entry pixels
+        → length pixels ≡ length part.old → part.new ≡ pixels }
+{
+    match stretch {
+        Stretch::Solid(p) => part.fill(p),
+        Stretch::Pixels(pixels) => part.copy_from_slice(pixels),
+    }
 }
 
 impl Grid {
@@ -102,6 +115,11 @@ impl Grid {
         self.rows
     }
 
+    /// The memory that its tiles are made in.
+    pub fn alloc(&self) -> Global {
+        self.alloc
+    }
+
     /// The pixel at a place.
     pub fn get(&self, x: u32, y: u32) -> Pixel
         requires x { x < self.now.cols * 64 }
@@ -111,6 +129,35 @@ impl Grid {
         let (x, y) = (x as usize, y as usize);
         let slot = self.cells.at(x / SIDE, y / SIDE);
         slot.get(x % SIDE, y % SIDE)
+    }
+
+    /// A part of the row y, within the 64 columns of a tile: `count` pixels from x on.
+    pub fn stretch(&self, x: u32, y: u32, count: u32) -> Stretch<'_>
+        requires one_tile { x % 64 + count ≤ 64 }
+        requires x { x < self.now.cols * 64 }
+        requires y { y < self.now.rows * 64 }
+        ensures { IsStretch result (part_of_grid self.now x y count) }
+    {
+        let (x, y) = (x as usize, y as usize);
+        let slot = self.cells.at(x / SIDE, y / SIDE);
+        slot.stretch(x % SIDE, y % SIDE, count as usize)
+    }
+
+    /// Copies a part of the row y, from x on.
+    pub fn copy_part(&self, x: u32, y: u32, part: &mut [Pixel])
+        requires within { x + length part.old ≤ self.now.cols * 64 }
+        requires y { y < self.now.rows * 64 }
+        ensures { part.new ≡ part_of_grid self.now x y (length part.old) }
+    {
+        self.known();
+        let mut done = 0;
+        while done < part.len() {
+            let at = x + done as u32;
+            let count = (SIDE - at as usize % SIDE).min(part.len() - done);
+            let stretch = self.stretch(at, y, count as u32);
+            put_stretch(stretch, &mut part[done..done + count]);
+            done += count;
+        }
     }
 
     /// The tile at a column and a row. `None` comes only where it shows nothing.
@@ -182,9 +229,9 @@ impl Grid {
         self.cells.paint(self.alloc, col, row, painter, tiles)
     }
 
-    /// Paints the tiles of an area. Other grids that shared them keep the old ones. Where the area
-    /// is small, its tiles are made this grid's alone before the first is painted; else all of them
-    /// are made anew. Cells that become of one colour have one tile in common.
+    /// Paints the tiles of an area. Other grids that shared them keep the old ones. All its tiles are
+    /// made this grid's alone before the first is painted, and then are painted in place. Cells that
+    /// become of one colour have one tile in common. Its depth on the stack is the number of cells.
     ///
     /// # Errors
     ///
@@ -206,89 +253,6 @@ impl Grid {
         ensures few_tiles { tiles.new
             ≤ tiles.old + (area.bottom - area.top) * (area.right - area.left) }
     {
-        self.known();
-        if (area.bottom - area.top) * (area.right - area.left) <= FEW {
-            self.paint_few(area, painter, tiles)
-        } else {
-            self.paint_many(area, painter, tiles)
-        }
-    }
-
-    // Paints the tiles of an area in place. Its depth on the stack is their number.
-    fn paint_few<P: TilePainter, T: Ledger>(
-        &mut self,
-        area: CellArea,
-        painter: &P,
-        tiles: &mut Steps<T>,
-    ) -> Result<(), AllocError>
-        requires across { area.left ≤ area.right }
-        requires down { area.top ≤ area.bottom }
-        requires cols { area.right ≤ self.old.cols }
-        requires rows { area.bottom ≤ self.old.rows }
-        ensures painted { OnOk result
-            (IsPaintedOn area (P.painted painter.now) self.old self.new) }
-        ensures err { OnErr result (self.new ≡ self.old) }
-        ensures tiles_rise { tiles.old ≤ tiles.new }
-        ensures few_tiles { tiles.new
-            ≤ tiles.old + (area.bottom - area.top) * (area.right - area.left) }
-    {
         self.cells.paint_area(self.alloc, area, painter, tiles)
-    }
-
-    // Paints the tiles of an area row by row, on new tiles, and keeps the old ones meanwhile.
-    fn paint_many<P: TilePainter, T: Ledger>(
-        &mut self,
-        area: CellArea,
-        painter: &P,
-        tiles: &mut Steps<T>,
-    ) -> Result<(), AllocError>
-        requires across { area.left ≤ area.right }
-        requires down { area.top ≤ area.bottom }
-        requires cols { area.right ≤ self.old.cols }
-        requires rows { area.bottom ≤ self.old.rows }
-        ensures painted { OnOk result
-            (IsPaintedOn area (P.painted painter.now) self.old self.new) }
-        ensures err { OnErr result (self.new ≡ self.old) }
-        ensures tiles_rise { tiles.old ≤ tiles.new }
-        ensures few_tiles { tiles.new
-            ≤ tiles.old + (area.bottom - area.top) * (area.right - area.left) }
-    {
-        let old = self.share()?;
-        match self.paint_rows(area, painter, tiles) {
-            Ok(()) => Ok(()),
-            Err(refused) => {
-                *self = old;
-                Err(refused)
-            }
-        }
-    }
-
-    // Paints the tiles of an area row by row. Where it is refused, some rows are painted.
-    fn paint_rows<P: TilePainter, T: Ledger>(
-        &mut self,
-        area: CellArea,
-        painter: &P,
-        tiles: &mut Steps<T>,
-    ) -> Result<(), AllocError>
-        requires across { area.left ≤ area.right }
-        requires down { area.top ≤ area.bottom }
-        requires cols { area.right ≤ self.old.cols }
-        requires rows { area.bottom ≤ self.old.rows }
-        ensures painted { OnOk result
-            (IsPaintedOn area (P.painted painter.now) self.old self.new) }
-        ensures tiles_rise { tiles.old ≤ tiles.new }
-        ensures few_tiles { tiles.new
-            ≤ tiles.old + (area.bottom - area.top) * (area.right - area.left) }
-    {
-        for row in area.top..area.bottom {
-            let line = CellArea {
-                left: area.left,
-                right: area.right,
-                top: row,
-                bottom: row + 1,
-            };
-            self.paint_few(line, painter, tiles)?;
-        }
-        Ok(())
     }
 }

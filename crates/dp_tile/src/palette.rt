@@ -35,6 +35,7 @@ impl Palette {
     }
 
     // A slot of this colour. A tile is made the first time alone, and none for the clear colour.
+    #[inline(never)]
     pub(crate) fn slot<T: Ledger>(
         &mut self,
         p: Pixel,

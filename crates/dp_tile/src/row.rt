@@ -140,6 +140,7 @@ fn share_slots(alloc: Global, slots: &[Slot]) -> Result<Vec<Slot>, AllocError>
 }
 
 // Makes the slots the caller's alone: a copy of the list, where others have it too.
+#[inline(never)]
 pub(crate) fn own_slots(alloc: Global, slots: &mut Arc<Vec<Slot>>) -> Result<(), AllocError>
     ensures { slots.new.value.items ≡ slots.old.value.items }
 {

@@ -2,12 +2,13 @@
 
 ghost use Rattle.std.specs.Prelude.{◌≡◌, ◌+◌, ◌<◌, ◌≤◌, length, IfOk, IfSome, IfNone, OnOk, OnErr};
 ghost use Rattle.dp_blend.specs.Color.{clear};
-ghost use Rattle.dp_blend.specs.Canvas.{pixel_at};
+ghost use Rattle.dp_blend.specs.Canvas.{part_of_row, pixel_at};
+ghost use Rattle.dp_blend.specs.Stretches.{IsStretch};
 ghost use Rattle.dp_tile.specs.Tiles.{IsOfColor, tile_of};
 
 use crate::painter::TilePainter;
 use crate::tile::Tile;
-use dp_blend::Pixel;
+use dp_blend::{Pixel, Stretch};
 use dp_steps::Steps;
 use std::alloc::{AllocError, Global};
 use std::marker::Model;
@@ -93,6 +94,18 @@ impl Slot {
         }
     }
 
+    // A part of the row y: so many pixels from x on.
+    pub(crate) fn stretch(&self, x: usize, y: usize, count: usize) -> Stretch<'_>
+        requires within { x + count ≤ 64 }
+        requires y { y < 64 }
+        ensures { IsStretch result (part_of_row 64 self.now x y count) }
+    {
+        match &self.tile {
+            None => Stretch::Solid(Pixel::CLEAR),
+            Some(tile) => tile.stretch(x, y, count),
+        }
+    }
+
     // The tile, if there is one.
     pub(crate) fn tile(&self) -> Option<&Tile>
         ensures pixels { IfSome result (λ tile. tile.now ≡ self.now) }
@@ -106,6 +119,7 @@ impl Slot {
 
     // Makes the tile this slot's alone: a new one where there is none, a copy where others have it
     // too.
+    #[inline(never)]
     pub(crate) fn own<T: Ledger>(
         &mut self,
         alloc: Global,
@@ -126,6 +140,7 @@ impl Slot {
     }
 
     // Paints the tile, of a column and a row, on one that is this slot's alone.
+    #[inline(never)]
     pub(crate) fn paint<P: TilePainter, T: Ledger>(
         &mut self,
         alloc: Global,

@@ -3,11 +3,14 @@ ghost use Rattle.std.proofs.Common.{◌∙◌};
 ghost use Rattle.std.proofs.lemmas.List.{length-set};
 ghost use Rattle.dp_blend.specs.Color.{white};
 
+use crate::cells::Cells;
+use crate::slot::Slot;
 use crate::{CellArea, Grid, Tile, TileChange, TilePainter};
 use dp_blend::Pixel;
 use dp_steps::Steps;
 use std::alloc::{AllocError, Global};
 use std::marker::Brand;
+use std::sync::Arc;
 use std::sync::ledger::{Blank, Ledger};
 
 /// It makes the first pixel white.
@@ -71,5 +74,56 @@ fn a_write_leaves_a_shared_grid(rt: HostRuntime) -> Result<(), AllocError> {
     );
     let none = Grid::none(rt.alloc());
     assert_eq!(rt; (none.cols(), none.rows()), (0, 0));
+    Ok(())
+}
+
+/// It keeps all pixels, and says of a tile of one colour that it becomes of that colour.
+struct Repainting {}
+
+impl TilePainter for Repainting {
+    ghost painted = { λ _ _ _ pixels. pixels };
+
+    ghost keeps_count = { λ _ _ _ _ count. count };
+
+    fn change(&self, _col: u32, _row: u32, color: Option<Pixel>) -> TileChange {
+        match color {
+            Some(p) => TileChange::Becomes(p),
+            None => TileChange::Unknown,
+        }
+    }
+
+    fn paint(&self, _col: u32, _row: u32, _pixels: &mut [Pixel]) {}
+}
+
+/// How many cells have one tile, after two white tiles in two rows became white.
+fn sharers_of_white<T: Ledger>(alloc: Global, blank: Blank) -> Result<usize, AllocError>
+    requires name { blank.name ≡ T.name }
+    requires parts { blank.parts ≡ T.parts }
+    requires some { 0 < blank.parts }
+{
+    let mut tiles = Steps::<T>::new(blank);
+    let white = Tile::solid(alloc, Pixel::WHITE, &mut tiles)?;
+    let first = Slot::of(alloc, white.copy(alloc, &mut tiles)?)?;
+    let last = Slot::of(alloc, white)?;
+    let mut grid = Cells::clear(alloc, 3, 2)?;
+    grid.put(alloc, 1, 0, first)?;
+    grid.put(alloc, 2, 1, last)?;
+    let all = CellArea {
+        left: 0,
+        right: 3,
+        top: 0,
+        bottom: 2,
+    };
+    grid.paint_area(alloc, all, &Repainting {}, &mut tiles)?;
+    match &grid.at(2, 1).tile {
+        Some(tile) => Ok(Arc::strong_count(tile)),
+        None => Ok(0),
+    }
+}
+
+#[test]
+fn cells_of_one_color_have_one_tile(rt: HostRuntime) -> Result<(), AllocError> {
+    let sharers = sharers_of_white::<Brand>(rt.alloc(), Blank::new(1))?;
+    assert_eq!(rt; sharers, 2);
     Ok(())
 }

@@ -1,12 +1,14 @@
 //! A square of pixels.
 
-ghost use Rattle.std.specs.Prelude.{◌≡◌, ◌+◌, ◌*◌, ◌<◌, length, slice_set, IfOk, OnOk, OnErr};
+ghost use Rattle.std.specs.Prelude.{◌≡◌, ◌+◌, ◌*◌, ◌<◌, ◌≤◌, length, slice_set, IfOk, OnOk, OnErr};
 ghost use Rattle.dp_blend.specs.Color.{clear};
 ghost use Rattle.dp_blend.specs.Canvas.{pixel_at};
+ghost use Rattle.dp_blend.specs.Stretches.{IsStretch};
+ghost use Rattle.dp_blend.specs.Canvas.{part_of_row};
 ghost use Rattle.dp_tile.specs.Tiles.{IsOfColor, tile_of};
 
 use crate::painter::TilePainter;
-use dp_blend::Pixel;
+use dp_blend::{Pixel, Stretch};
 use dp_steps::Steps;
 use std::alloc::{AllocError, Global};
 use std::marker::Model;
@@ -113,7 +115,23 @@ impl Tile {
         self.pixels[y * SIDE + x] = p;
     }
 
+    /// A part of the row y: so many pixels from x on.
+    pub fn stretch(&self, x: usize, y: usize, count: usize) -> Stretch<'_>
+        requires within { x + count ≤ 64 }
+        requires y { y < 64 }
+        ensures { IsStretch result (part_of_row 64 self.now x y count) }
+    {
+        match self.color {
+            Some(p) => Stretch::Solid(p),
+            None => {
+                let start = y * SIDE + x;
+                Stretch::Pixels(&self.pixels[start..start + count])
+            }
+        }
+    }
+
     // Paints the pixels, of the tile at a column and a row.
+    #[inline(never)]
     pub(crate) fn paint<P: TilePainter>(&mut self, col: u32, row: u32, painter: &P)
         requires col { col < 64 }
         requires row { row < 64 }

@@ -3,8 +3,8 @@ use Rattle.std.proofs.lemmas.Result.{on_ok_weaker}
 use Rattle.dp_tile.specs.Tiles.{IsCellRows, TileGrid, grid_of_rows}
 use Rattle.dp_tile.specs.Areas.{IsPaintedOn, area_painted}
 use Rattle.dp_tile.proofs.Areas.{painted_on, is_rows-area, at_both}
-use Rattle.dp_tile.proofs.grid.Grid.paint_few.Given as given
-use Rattle.dp_tile.proofs.grid.Grid.paint_few.Goals as goal
+use Rattle.dp_tile.proofs.grid.Grid.paint_area.Given as given
+use Rattle.dp_tile.proofs.grid.Grid.paint_area.Goals as goal
 
 in_cols : (g : given.Over) (c : goal.After-paint_area g) → c.args.area.right ≤ c.self.inside.cols
 in_cols g c =
