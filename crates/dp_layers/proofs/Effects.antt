@@ -1,17 +1,15 @@
 -- The rows after a command: they are a tree.
+use Rattle.std.proofs.Common.{arith}
 use Rattle.std.proofs.Common.{◌≡◌, ◌≢◌, ◌==◌, ◌||◌, ◌&&◌, inl, inr, ℕ, Bool, true, false, not, List}
-use Rattle.std.proofs.Common.{[], ◌∷◌, ◌++◌, map, length, get_or, Option, None, Some, refl, ap, sym}
-use Rattle.std.proofs.Common.{◌∙◌, subst, ⊎_elim}
+use Rattle.std.proofs.Common.{[], ◌∷◌, ◌++◌, map, length, get_or, Option, None, refl, ap, sym}
+use Rattle.std.proofs.Common.{◌∙◌, subst}
 use Rattle.std.specs.Prelude.{is_some, All, nat_lt}
 use Rattle.std.specs.List.{filter}
-use Rattle.std.specs.Option.{option_map}
-use Rattle.std.proofs.lemmas.Bool.{eqb-true, eqb-false, cond_both, false≢true, not-true, and_parts}
-use Rattle.std.proofs.lemmas.Bool.{or_cases, ltb-true}
+use Rattle.std.proofs.lemmas.Bool.{cond_both, and_parts}
+use Rattle.std.proofs.lemmas.Bool.{ltb-true}
 use Rattle.std.proofs.lemmas.List.{map-append}
 use Rattle.std.proofs.lemmas.List.Elements.{All-push, All-map, All-filter}
 use Rattle.std.proofs.lemmas.List.Sums.{AllPass-from_list_all}
-use Rattle.std.proofs.Common.{Ok, Err}
-use Rattle.std.specs.Prelude.{Result, OnErr}
 use Rattle.dp_msg_draw.specs.Limits.{IsListedMode}
 use Rattle.dp_msg_draw.specs.declared.draw.Draw.{Draw}
 use Rattle.dp_msg_draw.specs.declared.draw.Draw.TheVariants.{LayerCreate, LayerAttr, LayerTitle}
@@ -22,35 +20,18 @@ use Rattle.dp_layers.specs.Layers.{are_within, is_listed_mode}
 use Rattle.dp_layers.specs.Rows.{Row, layers_of}
 use Rattle.dp_layers.specs.Changes.{change_row, with_layer, rows_changed, can_create, new_row}
 use Rattle.dp_layers.specs.Changes.{created, can_set_attr, set_attr, set_title, set_parent}
-use Rattle.dp_layers.specs.Changes.{can_stand, can_move, placed, moved, deleted, has_effect}
-use Rattle.dp_layers.specs.Changes.{effect_on, rows_after, makes_paint_row}
+use Rattle.dp_layers.specs.Changes.{can_move, placed, moved, deleted}
+use Rattle.dp_layers.specs.Changes.{rows_after, makes_paint_row}
 use Rattle.dp_layers.specs.Tree.{IsLayerTree, IsTree}
-use Rattle.dp_layers.specs.Inside.{joined, IsJoined}
 use Rattle.dp_layers.proofs.Finding.{row_of-map}
 use Rattle.dp_layers.proofs.Placing.{IsPlace, All-placed}
 use Rattle.dp_layers.proofs.Trees.{tree-created, tree-kept, tree-mapped, tree-placed, tree-deleted}
-use Rattle.dp_layers.proofs.Joining.{AreParts, joined_parts, length_parts, layers_of-joined}
-use Rattle.dp_layers.proofs.Joining.{layers_of-changed, layers_of-deleted, layers_of-moved}
+use Rattle.dp_layers.proofs.Layers.{layers_of-changed, layers_of-deleted, layers_of-moved}
 
 -- ---- the modes
 
-first_or : {P : Type 0} (n mode : ℕ) (rest : Bool) → (n == mode || rest) ≡ true → (mode ≡ n → P)
-    → (rest ≡ true → P) → P
-first_or n mode rest h here later =
-    ⊎_elim (λ e. here (sym (eqb-true n mode e))) later (or_cases (n == mode) rest h)
-
 pub listed : (mode : ℕ) → is_listed_mode mode ≡ true → IsListedMode mode
-listed mode h0 =
-    first_or 0 mode (1 == mode ||
-    (2 == mode || (9 == mode || (10 == mode || (255 == mode || false))))) h0 (λ e. inl e) (λ h1.
-    first_or 1 mode (2 == mode || (9 == mode || (10 == mode || (255 == mode || false)))) h1
-    (λ e. inr (inl e)) (λ h2.
-    first_or 2 mode (9 == mode || (10 == mode || (255 == mode || false))) h2
-    (λ e. inr (inr (inl e))) (λ h3.
-    first_or 9 mode (10 == mode || (255 == mode || false)) h3 (λ e. inr (inr (inr (inl e)))) (λ h4.
-    first_or 10 mode (255 == mode || false) h4 (λ e. inr (inr (inr (inr (inl e))))) (λ h5.
-    first_or 255 mode false h5 (λ e. inr (inr (inr (inr (inr e)))))
-    (λ h6. absurd (false≢true h6)))))))
+listed mode h0 = grind arith
 
 pub listed_back : (mode : ℕ) → IsListedMode mode → is_listed_mode mode ≡ true
 listed_back mode (inl e) = rw e refl
@@ -60,13 +41,6 @@ listed_back mode (inr (inr (inr (inl e)))) = rw e refl
 listed_back mode (inr (inr (inr (inr (inl e))))) = rw e refl
 listed_back mode (inr (inr (inr (inr (inr e))))) = rw e refl
 
--- ---- an error
-
--- what holds, holds where an error comes
-pub at_error : {T E P : Type 0} (r : Result T E) → P → OnErr r P
-at_error (Ok x) holds = tt
-at_error (Err e) holds = holds
-
 -- ---- each command
 
 -- a row holds something exactly where it is no group
@@ -74,7 +48,7 @@ abbrev pub HoldsByKind : {X : Type 0} → Row X → Type 0
 HoldsByKind row = is_some row.content ≡ not row.layer.group
 
 module _ (id : ℕ) (change : LayerRow → LayerRow) where
-  change-id : ((row : LayerRow) → (change row).id ≡ row.id) → (row : LayerRow)
+  pub change-id : ((row : LayerRow) → (change row).id ≡ row.id) → (row : LayerRow)
       → (change_row id change row).id ≡ row.id
   change-id keeps row =
       cond_both (has_id id row) (change row) row (λ r. r.id ≡ row.id) (λ _. keeps row) (λ _. refl)
@@ -106,26 +80,52 @@ module _ (id : ℕ) (change : LayerRow → LayerRow) where
       All-map HoldsByKind (λ row. with_layer row (change_row id change row.layer)) rows
       (λ k d in_list. each k d in_list ∙ ap not (sym (change-group keeps (get_or rows k d).layer)))
 
+-- what it takes to be created
+record IsCreatable (layers : List LayerRow) (id parent : ℕ) : Type 0 where
+  named : id ≢ 0
+  absent : has_row layers id ≡ false
+  few : nat_lt (length layers) 256 ≡ true
+  holder : is_root_or_group layers parent ≡ true
+  within : is_within 15 layers parent ≡ true
+
+create_parts : (layers : List LayerRow) (id parent : ℕ) → can_create layers id parent ≡ true
+    → IsCreatable layers id parent
+create_parts layers id parent can =
+    record {
+      named = grind arith;
+      absent = grind arith;
+      few = grind arith;
+      holder = grind arith;
+      within = grind arith;
+    }
+
+pub absent_created : (layers : List LayerRow) (id parent : ℕ)
+    → can_create layers id parent ≡ true → row_of layers id ≡ None
+absent_created layers id parent can = grind (arith, create_parts layers id parent can)
+
+-- what it takes to be moved
+pub record IsMovable (layers : List LayerRow) (id parent above : ℕ) : Type 0 where
+  pub present : has_row layers id ≡ true
+  pub holder : is_root_or_group layers parent ≡ true
+  pub place : (above == 0 || (has_row layers above && not (above == id))) ≡ true
+  pub within : are_within (map (change_row id (set_parent parent)) layers) ≡ true
+
+pub move_parts : (layers : List LayerRow) (id parent above : ℕ)
+    → can_move layers id parent above ≡ true → IsMovable layers id parent above
+move_parts layers id parent above can =
+    record {
+      present = grind arith;
+      holder = grind arith;
+      place = grind arith;
+      within = grind arith;
+    }
+
 -- a row may be placed after another one as before, where the ids are kept
 pub place_after : (f : LayerRow → LayerRow) → ((row : LayerRow) → (f row).id ≡ row.id)
     → (layers : List LayerRow) (id above : ℕ)
     → (above == 0 || (has_row layers above && not (above == id))) ≡ true
     → IsPlace (map f layers) id above
-place_after f keeps layers id above ok =
-    ⊎_elim
-    (λ (first : (above == 0) ≡ true). inl (eqb-true above 0 first))
-    (λ (other : (has_row layers above && not (above == id)) ≡ true).
-    let parts = and_parts (has_row layers above) (not (above == id)) other in
-    inr (
-      ap is_some (row_of-map f keeps above layers) ∙ still (row_of layers above)
-          ∙ parts.0,
-      eqb-false above id (not-true (above == id) parts.1),
-    ))
-    (or_cases (above == 0) (has_row layers above && not (above == id)) ok)
-  where
-    still : (o : Option LayerRow) → is_some (option_map f o) ≡ is_some o
-    still None = refl
-    still (Some r) = refl
+place_after f keeps layers id above ok = grind (arith, row_of-map f keeps above layers)
 
 module _ {X : Type 0} (rows : List (Row X)) (tree : IsTree rows) where
   tree-of_layers : (now : List (Row X)) (layers : List LayerRow) → layers_of now ≡ layers
@@ -140,25 +140,13 @@ module _ {X : Type 0} (rows : List (Row X)) (tree : IsTree rows) where
   after-create id parent group title x fits can =
       let layers : List LayerRow = layers_of rows in
       let row : LayerRow = new_row id parent group title in
-      let p1 = and_parts (not (id == 0) && not (has_row layers id) && nat_lt (length layers) 256 &&
-      is_root_or_group layers parent) (is_within 15 layers parent) can in
-      let p2 = and_parts (not (id == 0) && not (has_row layers id) && nat_lt (length layers) 256)
-      (is_root_or_group layers parent) p1.0 in
-      let p3 = and_parts (not (id == 0) && not (has_row layers id)) (nat_lt (length layers) 256)
-      p2.0 in
-      let p4 = and_parts (not (id == 0)) (not (has_row layers id)) p3.0 in
-      let named : id ≢ 0 = eqb-false id 0 (not-true (id == 0) p4.0) in
-      let absent : row_of layers id ≡ None = none (row_of layers id)
-      (not-true (has_row layers id) p4.1) in
+      let parts = create_parts layers id parent can in
       tree-of_layers (created rows row x) (layers ++ row ∷ [])
       (map-append (λ (r : Row X). r.layer) rows (record { layer = row; content = x } ∷ []))
-      (tree-created layers row tree.layers named absent p2.1 p1.1
-      (ltb-true (length layers) 256 p3.1) (inr (inl refl)))
+      (tree-created layers row tree.layers parts.named (absent_created layers id parent can)
+      parts.holder parts.within
+      (ltb-true (length layers) 256 parts.few) (inr (inl refl)))
       (All-push HoldsByKind rows (record { layer = row; content = x }) tree.contents fits)
-    where
-      none : (o : Option LayerRow) → is_some o ≡ false → o ≡ None
-      none None h = refl
-      none (Some r) h = absurd (false≢true (sym h))
 
   after-attr : (id opacity mode : ℕ) (hidden : Bool) → can_set_attr (layers_of rows) id mode ≡ true
       → IsTree (rows_changed rows id (set_attr opacity mode hidden))
@@ -191,26 +179,22 @@ module _ {X : Type 0} (rows : List (Row X)) (tree : IsTree rows) where
       let layers : List LayerRow = layers_of rows in
       let change : LayerRow → LayerRow = set_parent parent in
       let f : LayerRow → LayerRow = change_row id change in
-      let p1 = and_parts (has_row layers id && can_stand layers id parent above)
-      (are_within (map f layers)) can in
-      let p2 = and_parts (has_row layers id) (can_stand layers id parent above) p1.0 in
-      let p3 = and_parts (is_root_or_group layers parent && not (is_in layers parent id))
-      (above == 0 || (has_row layers above && not (above == id))) p2.1 in
-      let p4 = and_parts (is_root_or_group layers parent) (not (is_in layers parent id)) p3.0 in
+      let parts = move_parts layers id parent above can in
       let parents : All (λ row. is_root_or_group layers (f row).parent ≡ true) layers = λ k d
       in_list.
       cond_both (has_id id (get_or layers k d)) (change (get_or layers k d)) (get_or layers k d)
-      (λ r. is_root_or_group layers r.parent ≡ true) (λ _. p4.0)
+      (λ r. is_root_or_group layers r.parent ≡ true) (λ _. parts.holder)
       (λ _. tree.layers.parents k d in_list) in
       let changed : IsLayerTree (map f layers) =
       tree-mapped f (change-id id change (λ _. refl)) (change-group id change (λ _. refl)) layers
       tree.layers parents
-      (AllPass-from_list_all (λ row. is_within 16 (map f layers) row.id) (map f layers) p1.1)
+      (AllPass-from_list_all (λ row. is_within 16 (map f layers) row.id) (map f layers)
+      parts.within)
       (change-modes id change layers tree.layers.modes (λ _ was. was)) in
       tree-of_layers (moved rows id parent above) (placed has_id (map f layers) id above)
       (layers_of-moved rows id parent above)
       (tree-placed (map f layers) id above
-      (place_after f (change-id id change (λ _. refl)) layers id above p3.1) changed)
+      (place_after f (change-id id change (λ _. refl)) layers id above parts.place) changed)
       (All-placed HoldsByKind (λ i r. has_id i r.layer) (rows_changed rows id change) id above
       (contents-changed id change rows (λ _. refl) tree.contents))
 
@@ -244,46 +228,3 @@ module _ {X : Type 0} (rows : List (Row X)) (tree : IsTree rows) where
       cond_both (has_row (layers_of rows) id) (deleted rows id) rows IsTree (after-delete id)
       (λ _. tree)
   tree-after _ x fits = tree
-
--- ---- what a call answers. It is asked for the command op.
-
-module _ {X : Type 0} (layers : List LayerRow) (contents : List (Option X)) (rows : List (Row X))
-    (inside : IsJoined layers contents) (view : joined layers contents ≡ rows) where
-  pub value_layers : layers_of rows ≡ layers
-  value_layers = ap layers_of (sym view) ∙ layers_of-joined layers contents inside.same_length
-
-  module _ (asked op : Draw) (asks : asked ≡ op) where
-    effect_is : (b : Bool) → has_effect layers op ≡ b → has_effect (layers_of rows) asked ≡ b
-    effect_is b is =
-        ap (has_effect (layers_of rows)) asks ∙ ap (λ ls. has_effect ls op) value_layers ∙ is
-
-    -- a command without an effect
-    pub refused : has_effect layers op ≡ false → false ≡ has_effect (layers_of rows) asked
-    refused is = sym (effect_is false is)
-
-    pub stays_refused : (x : Option X) → has_effect layers op ≡ false
-        → rows ≡ rows_after rows asked x
-    stays_refused x is = rw (effect_is false is) refl
-
-    -- a command with an effect
-    pub taken : has_effect layers op ≡ true → true ≡ has_effect (layers_of rows) asked
-    taken is = sym (effect_is true is)
-
-    module _ (now : List LayerRow) (holds : List (Option X)) (x : Option X)
-        (effective : has_effect layers op ≡ true)
-        (parts : AreParts now holds (effect_on (joined layers contents) op x)) where
-      pub changed_rows : joined now holds ≡ rows_after rows asked x
-      changed_rows =
-          rw (effect_is true effective)
-          (joined_parts now holds (effect_on (joined layers contents) op x) parts
-          ∙ ap (λ rs. effect_on rs op x) view
-          ∙ ap (λ o. effect_on rows o x) (sym asks))
-
-      pub changed_inside : is_some x ≡ makes_paint_row asked → IsJoined now holds
-      changed_inside fits =
-          let P : List (Row X) → Type 0 = λ rs. IsTree rs in
-          record {
-            same_length = length_parts now holds (effect_on (joined layers contents) op x) parts;
-            tree = subst P (sym changed_rows)
-                (tree-after rows (subst P view inside.tree) asked x fits);
-          }

@@ -1,10 +1,11 @@
 -- Which row has an id, after rows are changed, left out or added.
-use Rattle.std.proofs.Common.{◌≡◌, ◌≢◌, ◌==◌, ◌⊎◌, inl, inr, ℕ, Bool, true, false, cond, List, []}
-use Rattle.std.proofs.Common.{◌∷◌, ◌++◌, map, Option, None, Some, refl, ap, sym, ◌∙◌, subst, ⊎_elim}
+use Rattle.std.proofs.Common.{arith}
+use Rattle.std.proofs.Common.{◌≡◌, ◌≢◌, ◌==◌, ◌⊎◌, ℕ, Bool, true, false, cond, List, []}
+use Rattle.std.proofs.Common.{◌∷◌, ◌++◌, map, Option, None, Some, refl, ◌∙◌, ⊎_elim}
 use Rattle.std.proofs.Common.{eq-eqb}
-use Rattle.std.specs.List.{filter, AllByRecursion, IsDistinct}
-use Rattle.std.specs.Option.{option_map, option_or}
-use Rattle.std.proofs.lemmas.Bool.{ne_eqb, eqb-true, eqb-false, cases_Bool, cases_eq}
+use Rattle.std.specs.List.{find, filter, AllByRecursion, IsDistinct}
+use Rattle.std.specs.Option.{option_map}
+use Rattle.std.proofs.lemmas.Bool.{ne_eqb, cases_Bool}
 use Rattle.std.proofs.lemmas.List.Folds.{find-append}
 use Rattle.dp_layers.specs.declared.row.LayerRow.{LayerRow}
 use Rattle.dp_layers.specs.Layers.{has_id, row_of}
@@ -17,6 +18,10 @@ ids_of rows = map (λ row. row.id) rows
 abbrev pub AreDistinct : List LayerRow → Type 0
 AreDistinct rows = IsDistinct ◌==◌ (ids_of rows)
 
+-- a proof for each answer of a test
+pub by_test : {P : Type 0} (b : Bool) → (b ≡ true → P) → (b ≡ false → P) → P
+by_test b holds fails = ⊎_elim holds fails (cases_Bool b)
+
 pub cond-ap : {A B : Type 0} (f : A → B) (b : Bool) (x y : A) → f (cond b x y) ≡ cond b (f x) (f y)
 cond-ap f true x y = refl
 cond-ap f false x y = refl
@@ -27,64 +32,35 @@ cond-ap f false x y = refl
 pub row_of-map : (f : LayerRow → LayerRow) → ((row : LayerRow) → (f row).id ≡ row.id)
     → (x : ℕ) (rows : List LayerRow) → row_of (map f rows) x ≡ option_map f (row_of rows x)
 row_of-map f keeps x [] = refl
-row_of-map f keeps x (r ∷ rows) =
-    ap (λ i. cond (i == x) (Some (f r)) (row_of (map f rows) x)) (keeps r)
-    ∙ ap (λ o. cond (r.id == x) (Some (f r)) o) (row_of-map f keeps x rows)
-    ∙ sym (cond-ap (option_map f) (r.id == x) (Some r) (row_of rows x))
+row_of-map f keeps x (r ∷ rows) = grind (arith, row_of-map f keeps x rows, keeps r)
 
--- with the rows alone whose ids pass a test
+-- with the items alone whose ids pass a test
+pub found_kept : {R : Type 0} (keep : ℕ → Bool) (id : R → ℕ) (x : ℕ) (rows : List R)
+    → find (λ r. id r == x) (filter (λ r. keep (id r)) rows)
+    ≡ cond (keep x) (find (λ r. id r == x) rows) None
+found_kept {R} keep id x [] = cond-ap (λ (o : Option R). None) (keep x) None None
+found_kept keep id x (r ∷ rows) = grind (arith, found_kept keep id x rows)
+
 pub row_of-filter : (keep : ℕ → Bool) (x : ℕ) (rows : List LayerRow)
     → row_of (filter (λ row. keep row.id) rows) x ≡ cond (keep x) (row_of rows x) None
-row_of-filter keep x [] = cond-ap (λ (o : Option LayerRow). None) (keep x) None None
-row_of-filter keep x (r ∷ rows) =
-    ⊎_elim
-    (λ (here : r.id ≡ x).
-    let found : (r.id == x) ≡ true = eq-eqb r.id x here in
-    let same : keep r.id ≡ keep x = ap keep here in
-    ⊎_elim
-    (λ (kept : keep x ≡ true). rw (same ∙ kept, kept, found) refl)
-    (λ (gone : keep x ≡ false). rw (same ∙ gone, row_of-filter keep x rows, gone) refl)
-    (cases_Bool (keep x)))
-    (λ (other : r.id ≢ x).
-    let missed : (r.id == x) ≡ false = ne_eqb r.id x other in
-    ⊎_elim
-    (λ (kept : keep r.id ≡ true). rw (kept, missed) (row_of-filter keep x rows))
-    (λ (gone : keep r.id ≡ false). rw (gone, missed) (row_of-filter keep x rows))
-    (cases_Bool (keep r.id)))
-    (cases_eq r.id x)
+row_of-filter keep x rows = found_kept keep (λ row. row.id) x rows
 
 -- ---- rows that are absent
 
 pub absent_from_ids : (x : ℕ) (rows : List LayerRow)
     → AllByRecursion (λ y. (x == y) ≡ false) (ids_of rows) → row_of rows x ≡ None
 absent_from_ids x [] h = refl
-absent_from_ids x (r ∷ rows) h =
-    let missed : (r.id == x) ≡ false = ne_eqb r.id x (λ e. eqb-false x r.id h.0 (sym e)) in
-    rw missed (absent_from_ids x rows h.1)
+absent_from_ids x (r ∷ rows) h = grind (arith, absent_from_ids x rows h.1)
 
 pub ids_from_absent : (x : ℕ) (rows : List LayerRow) → row_of rows x ≡ None
     → AllByRecursion (λ y. (x == y) ≡ false) (ids_of rows)
 ids_from_absent x [] h = tt
-ids_from_absent x (r ∷ rows) h =
-    ⊎_elim
-    (λ (here : (r.id == x) ≡ true). absurd (let e : Some r ≡ None = rw here at h in cc))
-    (λ (missed : (r.id == x) ≡ false).
-    (ne_eqb x r.id (λ e. eqb-false r.id x missed (sym e)), ids_from_absent x rows (rw missed at h)))
-    (cases_Bool (r.id == x))
+ids_from_absent x (r ∷ rows) h = grind (arith, ids_from_absent x rows)
 
 pub absent-filter : (keep : LayerRow → Bool) (x : ℕ) (rows : List LayerRow) → row_of rows x ≡ None
     → row_of (filter keep rows) x ≡ None
 absent-filter keep x [] h = refl
-absent-filter keep x (r ∷ rows) h =
-    ⊎_elim
-    (λ (here : (r.id == x) ≡ true). absurd (let e : Some r ≡ None = rw here at h in cc))
-    (λ (missed : (r.id == x) ≡ false).
-    let rest : row_of (filter keep rows) x ≡ None = absent-filter keep x rows (rw missed at h) in
-    ⊎_elim
-    (λ (kept : keep r ≡ true). rw (kept, missed) rest)
-    (λ (gone : keep r ≡ false). rw gone rest)
-    (cases_Bool (keep r)))
-    (cases_Bool (r.id == x))
+absent-filter keep x (r ∷ rows) h = grind (arith, absent-filter keep x rows)
 
 -- a row is found at its own id, or one before it is
 pub found_first : (r : LayerRow) (rows : List LayerRow) → row_of (r ∷ rows) r.id ≡ Some r
@@ -97,19 +73,7 @@ missed_first r rows x ne = rw (ne_eqb r.id x ne) refl
 -- one more row at the end
 pub row_of-push : (rows : List LayerRow) (r : LayerRow) (x : ℕ) → row_of rows r.id ≡ None
     → row_of (rows ++ r ∷ []) x ≡ cond (r.id == x) (Some r) (row_of rows x)
-row_of-push rows r x absent =
-    find-append (has_id x) rows (r ∷ [])
-    ∙ ⊎_elim
-    (λ (here : (r.id == x) ≡ true).
-    let P : ℕ → Type 0 = λ y. row_of rows y ≡ None in
-    let none : row_of rows x ≡ None = subst P (eqb-true r.id x here) absent in
-    rw (here, none) refl)
-    (λ (missed : (r.id == x) ≡ false). rw missed (option_or-None (row_of rows x)))
-    (cases_Bool (r.id == x))
-  where
-    option_or-None : (o : Option LayerRow) → option_or o None ≡ o
-    option_or-None None = refl
-    option_or-None (Some r) = refl
+row_of-push rows r x absent = grind (arith, find-append)
 
 -- ---- distinct rows
 
@@ -136,14 +100,8 @@ pub AreDistinct-filter : (keep : LayerRow → Bool) (rows : List LayerRow) → A
     → AreDistinct (filter keep rows)
 AreDistinct-filter keep [] distinct = distinct
 AreDistinct-filter keep (r ∷ rows) distinct =
-    let rest : AreDistinct (filter keep rows) = AreDistinct-filter keep rows
-    (AreDistinct-tail r rows distinct) in
-    ⊎_elim
-    (λ (kept : keep r ≡ true).
-    rw kept (AreDistinct-cons r (filter keep rows)
-    (absent-filter keep r.id rows (AreDistinct-absent r rows distinct)) rest))
-    (λ (gone : keep r ≡ false). rw gone rest)
-    (cases_Bool (keep r))
+    let rest = AreDistinct-filter keep rows (AreDistinct-tail r rows distinct) in
+    grind (arith, rest, AreDistinct-cons, absent-filter, AreDistinct-absent r rows distinct)
 
 -- no id is in both
 abbrev pub AreApart : List LayerRow → List LayerRow → Type 0
@@ -156,29 +114,17 @@ absent-append x xs ys left right = find-append (has_id x) xs ys ∙ rw (left, ri
 -- rows that are apart from a list with r are apart from r and from the rest
 pub apart-absent : (xs : List LayerRow) (r : LayerRow) (rows : List LayerRow)
     → AreApart xs (r ∷ rows) → row_of xs r.id ≡ None
-apart-absent xs r rows apart =
-    ⊎_elim
-    (λ (left : row_of xs r.id ≡ None). left)
-    (λ (right : row_of (r ∷ rows) r.id ≡ None). absurd (let e = found_first r rows in
-    let f : Some r ≡ None = sym e ∙ right in cc))
-    (apart r.id)
+apart-absent xs r rows apart = grind (arith, apart r.id, found_first r rows)
 
 pub apart-tail : (xs : List LayerRow) (r : LayerRow) (rows : List LayerRow) → AreApart xs (r ∷ rows)
     → AreApart xs rows
-apart-tail xs r rows apart x =
-    ⊎_elim
-    (λ (left : row_of xs x ≡ None). inl left)
-    (λ (right : row_of (r ∷ rows) x ≡ None).
-    ⊎_elim
-    (λ (here : (r.id == x) ≡ true). absurd (let e : Some r ≡ None = rw here at right in cc))
-    (λ (missed : (r.id == x) ≡ false). inr (rw missed at right))
-    (cases_Bool (r.id == x)))
-    (apart x)
+apart-tail xs r rows apart x = grind (arith, apart x)
 
 pub AreDistinct-append : (xs ys : List LayerRow) → AreDistinct xs → AreDistinct ys → AreApart ys xs
     → AreDistinct (xs ++ ys)
 AreDistinct-append [] ys left right apart = right
 AreDistinct-append (r ∷ xs) ys left right apart =
-    AreDistinct-cons r (xs ++ ys)
-    (absent-append r.id xs ys (AreDistinct-absent r xs left) (apart-absent ys r xs apart))
-    (AreDistinct-append xs ys (AreDistinct-tail r xs left) right (apart-tail ys r xs apart))
+    let tail = apart-tail ys r xs apart in
+    let rest = AreDistinct-append xs ys (AreDistinct-tail r xs left) right tail in
+    let absent = AreDistinct-absent r xs left in
+    grind (arith, rest, AreDistinct-cons, absent-append, absent, apart-absent ys r xs apart)

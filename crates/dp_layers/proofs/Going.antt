@@ -1,8 +1,8 @@
 -- Going up from a row to its parents.
+use Rattle.std.proofs.Common.{arith}
 use Rattle.std.proofs.Common.{◌≡◌, ◌≢◌, ◌==◌, ℕ, zero, suc, true, false, ◌||◌, List, refl, ap, sym}
-use Rattle.std.proofs.Common.{◌∙◌, subst, ⊎_elim, eq-eqb}
-use Rattle.std.proofs.lemmas.Bool.{ne_eqb, eqb-true, false≢true, or_cases, or_parts, or_from}
-use Rattle.std.proofs.lemmas.Bool.{or_left, or_right, cases_eq}
+use Rattle.std.proofs.Common.{◌∙◌, subst}
+use Rattle.std.proofs.lemmas.Bool.{ne_eqb, eqb-true, false≢true}
 use Rattle.dp_layers.specs.declared.row.LayerRow.{LayerRow}
 use Rattle.dp_layers.specs.Layers.{parent_of, is_within, is_below}
 
@@ -37,27 +37,14 @@ pub is_below-root : (n : ℕ) (rows : List LayerRow) (other : ℕ) → parent_of
     → is_below n rows 0 other ≡ false
 unfolding is_below
 is_below-root zero rows other root ne = refl
-is_below-root (suc n) rows other root ne =
-    let away : (0 == other) ≡ false = ne_eqb 0 other (λ e. ne (sym e)) in
-    let P : ℕ → Type 0 = λ p. (p == other || is_below n rows p other) ≡ false in
-    subst P (sym root) (or_from (0 == other) (is_below n rows 0 other) away
-    (is_below-root n rows other root ne))
+is_below-root (suc n) rows other root ne = grind (arith, is_below-root n rows other root ne)
 
 -- a row that is below another is below the other's parent
 is_below_up : (n : ℕ) (rows : List LayerRow) (id other : ℕ) → is_below n rows id other ≡ true
     → is_below (suc n) rows id (parent_of rows other) ≡ true
 unfolding is_below
 is_below_up zero rows id other h = absurd (false≢true h)
-is_below_up (suc n) rows id other h =
-    let up : ℕ = parent_of rows id in
-    ⊎_elim
-    (λ (here : (up == other) ≡ true).
-    or_right (up == parent_of rows other) _
-    (or_left (parent_of rows up == parent_of rows other) _
-    (eq-eqb _ _ (ap (parent_of rows) (eqb-true up other here)))))
-    (λ (above : is_below n rows up other ≡ true). or_right (up == parent_of rows other) _
-    (is_below_up n rows up other above))
-    (or_cases (up == other) (is_below n rows up other) h)
+is_below_up (suc n) rows id other h = grind (arith, is_below_up n rows (parent_of rows id) other)
 
 -- no row that leads to the root is below itself
 pub no_loop : (n m : ℕ) (rows : List LayerRow) (id : ℕ) → parent_of rows 0 ≡ 0
@@ -67,18 +54,9 @@ no_loop zero m rows id root within ne loop = ne (eqb-true id 0 within)
 no_loop (suc n) zero rows id root within ne loop = false≢true loop
 no_loop (suc n) (suc m) rows id root within ne loop =
     let up : ℕ = parent_of rows id in
-    let higher : is_within n rows up ≡ true = sym (is_within-step n rows id ne) ∙ within in
-    ⊎_elim
-    (λ (here : (up == id) ≡ true).
-    let P : ℕ → Type 0 = λ p. is_within n rows p ≡ true in
-    no_loop n (suc m) rows id root (subst P (eqb-true up id here) higher) ne loop)
-    (λ (above : is_below m rows up id ≡ true).
-    no_loop n (suc m) rows up root higher
-    (λ (e : up ≡ 0).
-    let Q : ℕ → Type 0 = λ p. is_below m rows p id ≡ true in
-    false≢true (sym (is_below-root m rows id root ne) ∙ subst Q e above))
-    (is_below_up m rows up id above))
-    (or_cases (up == id) (is_below m rows up id) loop)
+    let below = is_below-root m rows id root ne in
+    let step = is_within-step n rows id ne in
+    grind (arith, step, no_loop n (suc m) rows up, below, is_below_up m rows up id)
 
 -- a row that is not met on the way to the root is not met later
 pub is_below-more : (n : ℕ) (rows : List LayerRow) (id other : ℕ) → parent_of rows 0 ≡ 0 → other ≢ 0
@@ -89,17 +67,8 @@ is_below-more zero rows id other root ne within away =
     let P : ℕ → Type 0 = λ p. is_below 1 rows p other ≡ false in
     subst P (sym (eqb-true id 0 within)) (is_below-root 1 rows other root ne)
 is_below-more (suc n) rows id other root ne within away =
-    let up : ℕ = parent_of rows id in
-    let parts = or_parts (up == other) (is_below n rows up other) away in
-    ⊎_elim
-    (λ (at_root : id ≡ 0).
-    let P : ℕ → Type 0 = λ p. is_below (suc (suc n)) rows p other ≡ false in
-    subst P (sym at_root) (is_below-root (suc (suc n)) rows other root ne))
-    (λ (deeper : id ≢ 0).
-    or_from (up == other) (is_below (suc n) rows up other) parts.0
-    (is_below-more n rows up other root ne (sym (is_within-step n rows id deeper) ∙ within)
-    parts.1))
-    (cases_eq id 0)
+    let more = is_below-more n rows (parent_of rows id) other root ne in
+    grind (arith, is_below-root, more, is_within-step n rows id)
 
 -- two lists in which the rows that are met have the same parents
 module _ (C : ℕ → Type 0) (rows other : List LayerRow) (closed : (id : ℕ) → C id

@@ -3,9 +3,10 @@ pub mod Finding
 pub mod Placing
 pub mod Trees
 pub mod Places
-pub mod Sifting
-pub mod Joining
+pub mod Layers
 pub mod Effects
 pub mod Contents
 pub mod Mapping
-pub mod Methods
+pub mod Holding
+pub mod Commands
+pub mod Pairing

@@ -5,8 +5,8 @@ use Rattle.std.proofs.Common.{◌∙◌, subst, ⊎_elim, eq-eqb, ◌<◌, arith
 use Rattle.std.specs.Prelude.{is_some, All}
 use Rattle.std.specs.List.{filter, IsDistinct}
 use Rattle.std.specs.Option.{option_map, option_map_or}
-use Rattle.std.proofs.lemmas.Bool.{ne_eqb, eqb-true, cases_Bool, cases_eq, cond_both, false≢true}
-use Rattle.std.proofs.lemmas.Bool.{or_cases, or_parts, or_from, not-true, not_from_false}
+use Rattle.std.proofs.lemmas.Bool.{cases_eq, cond_both, false≢true}
+use Rattle.std.proofs.lemmas.Bool.{or_parts, or_from, not-true, not_from_false}
 use Rattle.std.proofs.lemmas.Bool.{false_from_ne_true}
 use Rattle.std.proofs.lemmas.List.{length_push, length-map}
 use Rattle.std.proofs.lemmas.List.Elements.{All-cons, All-head, All-tail, All-nil, All-push}
@@ -34,54 +34,29 @@ All-found : (P : LayerRow → Type 0) (rows : List LayerRow) (x : ℕ) (row : La
 All-found P [] x row each found =
     absurd (let e : ◌≡◌ {A = Option LayerRow} None (Some row) = found in cc)
 All-found P (r ∷ rows) x row each found =
-    ⊎_elim
-    (λ (here : (r.id == x) ≡ true).
-    let same : r ≡ row = (let e : Some r ≡ Some row = rw here at found in cc) in
-    subst P same (All-head P r rows each))
-    (λ (missed : (r.id == x) ≡ false). All-found P rows x row (All-tail P r rows each)
-    (rw missed at found))
-    (cases_Bool (r.id == x))
+    grind (arith, All-head P r rows each, All-found P rows x row (All-tail P r rows each))
 
-id_found : (rows : List LayerRow) (x : ℕ) (row : LayerRow) → row_of rows x ≡ Some row → row.id ≡ x
+pub id_found : (rows : List LayerRow) (x : ℕ) (row : LayerRow) → row_of rows x ≡ Some row → row.id
+    ≡ x
 id_found [] x row found = absurd (let e : ◌≡◌ {A = Option LayerRow} None (Some row) = found in cc)
-id_found (r ∷ rows) x row found =
-    ⊎_elim
-    (λ (here : (r.id == x) ≡ true).
-    let same : r ≡ row = (let e : Some r ≡ Some row = rw here at found in cc) in
-    ap (λ w. w.id) (sym same) ∙ eqb-true r.id x here)
-    (λ (missed : (r.id == x) ≡ false). id_found rows x row (rw missed at found))
-    (cases_Bool (r.id == x))
+id_found (r ∷ rows) x row found = grind (arith, id_found rows x row)
 
 -- each row is present
-All-present : (rows : List LayerRow) → All (λ row. has_row rows row.id ≡ true) rows
+pub All-present : (rows : List LayerRow) → All (λ row. has_row rows row.id ≡ true) rows
 All-present [] = All-nil (λ row. has_row [] row.id ≡ true)
 All-present (r ∷ rows) =
-    All-cons (λ row. has_row (r ∷ rows) row.id ≡ true) r rows (ap is_some (found_first r rows))
-    (λ k d in_list. stays (get_or rows k d) (All-present rows k d in_list))
-  where
-    stays : (row : LayerRow) → has_row rows row.id ≡ true → has_row (r ∷ rows) row.id ≡ true
-    stays row there =
-        ⊎_elim
-        (λ (here : (r.id == row.id) ≡ true). rw here refl)
-        (λ (missed : (r.id == row.id) ≡ false). rw missed there)
-        (cases_Bool (r.id == row.id))
+    All-cons (λ row. has_row (r ∷ rows) row.id ≡ true) r rows (grind arith) (λ k d in_list.
+    let there = All-present rows k d in_list in grind arith)
 
 -- each row is the one that is found at its id
 pub All-itself : (rows : List LayerRow) → AreDistinct rows
     → All (λ row. row_of rows row.id ≡ Some row) rows
 All-itself [] distinct = All-nil (λ row. row_of [] row.id ≡ Some row)
 All-itself (r ∷ rows) distinct =
-    All-cons (λ row. row_of (r ∷ rows) row.id ≡ Some row) r rows (found_first r rows)
-    (λ k d in_list. later (get_or rows k d)
-    (All-itself rows (AreDistinct-tail r rows distinct) k d in_list))
-  where
-    later : (row : LayerRow) → row_of rows row.id ≡ Some row → row_of (r ∷ rows) row.id ≡ Some row
-    later row found =
-        missed_first r rows row.id (λ (e : r.id ≡ row.id).
-        let P : ℕ → Type 0 = λ y. row_of rows y ≡ None in
-        let none : row_of rows row.id ≡ None = subst P e (AreDistinct-absent r rows distinct) in
-        absurd (let f : ◌≡◌ {A = Option LayerRow} None (Some row) = sym none ∙ found in cc))
-        ∙ found
+    All-cons (λ row. row_of (r ∷ rows) row.id ≡ Some row) r rows (found_first r rows) (λ k d
+    in_list.
+    let found = All-itself rows (AreDistinct-tail r rows distinct) k d in_list in
+    let absent = AreDistinct-absent r rows distinct in grind (arith, found))
 
 parent_at : (rows : List LayerRow) → AreDistinct rows → (k : ℕ) (d : LayerRow) → k < length rows
     → parent_of rows (get_or rows k d).id ≡ (get_or rows k d).parent
@@ -92,10 +67,10 @@ absent_zero : (rows : List LayerRow) → All (λ row. row.id ≢ 0) rows → row
 absent_zero [] each = refl
 absent_zero (r ∷ rows) each =
     let P : LayerRow → Type 0 = λ row. row.id ≢ 0 in
-    missed_first r rows 0 (All-head P r rows each) ∙ absent_zero rows (All-tail P r rows each)
+    grind (arith, absent_zero rows (All-tail P r rows each), All-head P r rows each)
 
 -- what is kept by the rows that pass a test
-All-kept : (P : LayerRow → Type 0) (keep : LayerRow → Bool) (rows : List LayerRow)
+pub All-kept : (P : LayerRow → Type 0) (keep : LayerRow → Bool) (rows : List LayerRow)
     → All (λ row. keep row ≡ true → P row) rows → All P (filter keep rows)
 All-kept P keep [] each = All-nil P
 All-kept P keep (r ∷ rows) each =
@@ -112,28 +87,14 @@ abbrev pub IsThere : List LayerRow → ℕ → Type 0
 IsThere rows x = (x ≡ 0) ⊎ (has_row rows x ≡ true)
 
 group_is_there : (rows : List LayerRow) (x : ℕ) → is_root_or_group rows x ≡ true → IsThere rows x
-group_is_there rows x ok =
-    ⊎_elim
-    (λ (root : (x == 0) ≡ true). inl (eqb-true x 0 root))
-    (λ (group : is_group_row rows x ≡ true). inr (present (row_of rows x) group))
-    (or_cases (x == 0) (is_group_row rows x) ok)
-  where
-    present : (o : Option LayerRow) → option_map_or (λ row. row.group) o false ≡ true
-        → is_some o ≡ true
-    present None h = h
-    present (Some row) h = refl
+group_is_there rows x ok = grind arith
 
 module _ (rows : List LayerRow)
     (parents : All (λ row. is_root_or_group rows row.parent ≡ true) rows) where
   up_is_there : (x : ℕ) → IsThere rows (parent_of rows x)
-  up_is_there x = at (row_of rows x) refl
-    where
-      at : (o : Option LayerRow) → row_of rows x ≡ o
-          → IsThere rows (option_map_or (λ row. row.parent) o 0)
-      at None is = inl refl
-      at (Some row) is =
-          group_is_there rows row.parent
-          (All-found (λ r. is_root_or_group rows r.parent ≡ true) rows x row parents is)
+  up_is_there x =
+      let found = All-found (λ r. is_root_or_group rows r.parent ≡ true) rows x in
+      grind (arith, found, group_is_there rows)
 
 parent_of-zero : (rows : List LayerRow) → All (λ row. row.id ≢ 0) rows → parent_of rows 0 ≡ 0
 parent_of-zero rows numbered =
@@ -153,16 +114,7 @@ apart_from rows numbered within k d in_list =
 module _ (rows : List LayerRow) (r : LayerRow) (tree : IsLayerTree rows) (named : r.id ≢ 0)
     (absent : row_of rows r.id ≡ None) where
   more_found : (x : ℕ) → IsThere rows x → row_of (rows ++ r ∷ []) x ≡ row_of rows x
-  more_found x there =
-      let away : (r.id == x) ≡ false =
-      ne_eqb r.id x (λ (e : r.id ≡ x).
-      ⊎_elim
-      (λ (zero : x ≡ 0). named (e ∙ zero))
-      (λ (present : has_row rows x ≡ true).
-      let P : ℕ → Type 0 = λ y. row_of rows y ≡ None in
-      false≢true (sym (ap is_some (subst P e absent)) ∙ present))
-      there) in
-      row_of-push rows r x absent ∙ rw away refl
+  more_found x there = grind (arith, row_of-push rows r x absent)
 
   more_parent : (x : ℕ) → IsThere rows x → parent_of (rows ++ r ∷ []) x ≡ parent_of rows x
   more_parent x there = ap (λ o. option_map_or (λ row. row.parent) o 0) (more_found x there)
@@ -223,15 +175,7 @@ module _ (f : LayerRow → LayerRow) (keeps_id : (row : LayerRow)
       ap (λ i. i ∷ ids_of (map f xs)) (keeps_id r) ∙ ap (λ is. r.id ∷ is) (ids_of-map xs)
 
   group-map : (x : ℕ) → is_group_row (map f rows) x ≡ is_group_row rows x
-  group-map x =
-      ap (λ o. option_map_or (λ row. row.group) o false) (row_of-map f keeps_id x rows)
-      ∙ at (row_of rows x)
-    where
-      at : (o : Option LayerRow)
-          → option_map_or (λ row. row.group) (option_map f o) false ≡ option_map_or
-          (λ row. row.group) o false
-      at None = refl
-      at (Some row) = keeps_group row
+  group-map x = grind (arith, row_of-map f keeps_id x rows, keeps_group)
 
   pub tree-mapped : IsLayerTree rows → All (λ row. is_root_or_group rows (f row).parent ≡ true) rows
       → All (λ row. is_within 16 (map f rows) row.id ≡ true) (map f rows)

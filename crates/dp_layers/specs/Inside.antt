@@ -1,52 +1,88 @@
--- The rows of a tree as two lists, in the words of the code.
-use Rattle.std.specs.Prelude.{◌≡◌, ℕ, zero, suc, ◌+◌, Bool, not, ◌==◌, nat_lt, if◌then◌else◌}
-use Rattle.std.specs.Prelude.{Option, None, Some, unwrap_or}
-use Rattle.std.specs.Prelude.{List, [], ◌∷◌, ◌++◌, length, take, drop, map, position}
-use Rattle.std.specs.List.{remove}
+-- What a tree keeps, in the words of the code: a list of rows, and what the paint rows hold, by id.
+use Rattle.std.specs.Prelude.{◌≡◌, ℕ, ◌+◌, Bool, ◌==◌, if◌then◌else◌}
+use Rattle.std.specs.Prelude.{Option, None, Some, is_some, option_map}
+use Rattle.std.specs.Prelude.{List, [], ◌∷◌, map, position}
+use Rattle.std.specs.List.{find, filter, list_any}
+use Rattle.std.specs.Option.{option_map_or}
+use Rattle.dp_msg_draw.specs.declared.draw.Draw.{Draw}
+use Rattle.dp_msg_draw.specs.declared.draw.Draw.TheVariants.{LayerCreate, LayerAttr, LayerTitle}
+use Rattle.dp_msg_draw.specs.declared.draw.Draw.TheVariants.{LayerMove, LayerDelete}
 use Rattle.dp_layers.specs.declared.row.LayerRow.{LayerRow}
-use Rattle.dp_layers.specs.Layers.{has_id, is_in}
+use Rattle.dp_layers.specs.declared.held.Held.{Held}
+use Rattle.dp_layers.specs.declared.lookup.Moved.{Moved}
+use Rattle.dp_layers.specs.Layers.{has_id, is_paint_row, is_in}
 use Rattle.dp_layers.specs.Rows.{Row}
-use Rattle.dp_layers.specs.Tree.{IsTree}
+use Rattle.dp_layers.specs.Changes.{change_row, set_attr, set_title, set_parent, placed}
+use Rattle.dp_layers.specs.Tree.{IsLayerTree}
 
--- the rows of these layers with these contents, place by place
-abbrev pub joined : {X : Type 0} → List LayerRow → List (Option X) → List (Row X)
-joined [] contents = []
-joined (layer ∷ layers) [] = []
-joined (layer ∷ layers) (content ∷ contents) =
-    record { layer = layer; content = content } ∷ joined layers contents
+-- what is held for the id
+abbrev pub held_by : {X : Type 0} → List (Held X) → ℕ → Option X
+held_by contents id = option_map (λ held. held.x) (find (λ held. held.id == id) contents)
 
--- there are as many contents as layers, and together they are a tree
-pub record IsJoined {X : Type 0} (layers : List LayerRow) (contents : List (Option X))
-    : Type 0 where
-  pub same_length : length contents ≡ length layers
-  pub tree : IsTree (joined layers contents)
+-- the row, with what is held for its id
+abbrev pub row_with : {X : Type 0} → List (Held X) → LayerRow → Row X
+row_with contents layer = record { layer = layer; content = held_by contents layer.id }
 
--- one content for each layer: nothing in a group, and in the paint rows these in order
-abbrev pub filling : {X : Type 0} → List LayerRow → List X → List (Option X)
-filling [] xs = []
-filling (layer ∷ layers) [] = None ∷ filling layers []
-filling (layer ∷ layers) (x ∷ xs) =
-    if layer.group then None ∷ filling layers (x ∷ xs) else Some x ∷ filling layers xs
+-- the rows, each with what is held for its id
+abbrev pub rows_with : {X : Type 0} → List (Held X) → List LayerRow → List (Row X)
+rows_with contents rows = map (row_with contents) rows
 
--- the items, with what change makes of the one at a place
-abbrev pub changed_at : {X : Type 0} → (X → X) → List X → ℕ → List X
-changed_at change [] place = []
-changed_at change (x ∷ xs) zero = change x ∷ xs
-changed_at change (x ∷ xs) (suc place) = x ∷ changed_at change xs place
+-- the rows are a tree, and something is held for exactly the ids of the paint rows
+pub record IsHolding {X : Type 0} (rows : List LayerRow) (contents : List (Held X)) : Type 0 where
+  pub tree : IsLayerTree rows
+  pub by_kind : (id : ℕ) → is_some (held_by contents id) ≡ is_paint_row rows id
 
--- the item at a place taken out, and put in so that it stands at the other place
-abbrev pub carried : {X : Type 0} → List X → ℕ → ℕ → List X
-carried xs from to =
-    let rest = remove xs from in
-    take to rest ++ (take 1 (drop from xs) ++ drop to rest)
+-- what is held for a new row: nothing in a group
+abbrev pub holding : {X : Type 0} → ℕ → Option X → List (Held X)
+holding id None = []
+holding id (Some x) = record { id = id; x = x } ∷ []
 
--- where an item stands directly after the row `above`, or first where that is 0, once the item at
--- `from` is taken out
-abbrev pub place_behind : List LayerRow → ℕ → ℕ → ℕ
-place_behind rows from above =
-    let at = unwrap_or (position (has_id above) rows) 0 in
-    if above == 0 then 0 else if nat_lt at from then at + 1 else at
+-- the contents for the paint rows of these: the first for the bottom one, and so on
+abbrev pub paired : {X : Type 0} → List LayerRow → List X → List (Held X)
+paired [] xs = []
+paired (row ∷ rows) [] = paired rows []
+paired (row ∷ rows) (x ∷ xs) =
+    if row.group then paired rows (x ∷ xs) else record { id = row.id; x = x } ∷ paired rows xs
 
--- whether each row stays where the row of the id and all below it go
-abbrev pub stay_flags : List LayerRow → ℕ → List Bool
-stay_flags rows id = map (λ row. not (is_in rows row.id id)) rows
+-- the rows as they stand once the row is moved
+abbrev pub as_moved : List LayerRow → Option Moved → List LayerRow
+as_moved rows None = rows
+as_moved rows (Some moved) = map (change_row moved.id (set_parent moved.parent)) rows
+
+-- where a row stands directly after the row `above`, or first where that is 0
+abbrev pub place_behind : List LayerRow → ℕ → ℕ
+place_behind rows above =
+    if above == 0 then 0 else option_map_or (λ at. at + 1) (position (has_id above) rows) 0
+
+-- the ids of the row of the id and of all rows below it
+abbrev pub gone_ids : List LayerRow → ℕ → List ℕ
+gone_ids rows id = map (λ row. row.id) (filter (λ row. is_in rows row.id id) rows)
+
+-- the id is one of these
+abbrev pub is_gone : List ℕ → ℕ → Bool
+is_gone gone id = list_any (λ other. other == id) gone
+
+-- the command is one on layers
+abbrev pub IsOnLayers : Draw → Type 0
+IsOnLayers (LayerCreate id parent group title) = Unit {0}
+IsOnLayers (LayerAttr id opacity mode hidden) = Unit {0}
+IsOnLayers (LayerTitle id title) = Unit {0}
+IsOnLayers (LayerMove id parent above) = Unit {0}
+IsOnLayers (LayerDelete id) = Unit {0}
+IsOnLayers _ = ⊥
+
+-- the command changes rows, and makes none and takes none away
+abbrev pub IsRearranging : Draw → Type 0
+IsRearranging (LayerAttr id opacity mode hidden) = Unit {0}
+IsRearranging (LayerTitle id title) = Unit {0}
+IsRearranging (LayerMove id parent above) = Unit {0}
+IsRearranging _ = ⊥
+
+-- the rows after such a command
+abbrev pub rearranged : List LayerRow → Draw → List LayerRow
+rearranged rows (LayerAttr id opacity mode hidden) =
+    map (change_row id (set_attr opacity mode hidden)) rows
+rearranged rows (LayerTitle id title) = map (change_row id (set_title title)) rows
+rearranged rows (LayerMove id parent above) =
+    placed has_id (map (change_row id (set_parent parent)) rows) id above
+rearranged rows _ = rows

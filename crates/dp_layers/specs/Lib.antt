@@ -3,3 +3,4 @@ pub mod Rows
 pub mod Changes
 pub mod Tree
 pub mod Inside
+pub mod Lends

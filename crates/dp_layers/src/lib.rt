@@ -1,10 +1,12 @@
 //! The tree of layers: the list of its rows, and what the commands on layers make of it.
 #![tactic(auto)]
 
+mod changes;
+mod held;
 mod laws;
-mod lists;
 mod lookup;
 mod row;
+mod rows;
 mod tree;
 
 pub use laws::{

@@ -16,6 +16,8 @@ ghost use Rattle.std.specs.Prelude.{
   option_copied,
   true,
 };
+ghost use Rattle.std.specs.Option.{option_copied_mut};
+ghost use Rattle.std.specs.Borrow.{sem};
 ghost use Rattle.dp_layers.specs.Layers.{is_paint_row};
 ghost use Rattle.dp_layers.specs.Rows.{layers_of, contents_of, content_of, with_content};
 ghost use Rattle.dp_layers.specs.Changes.{
@@ -29,22 +31,27 @@ ghost use Rattle.dp_layers.specs.Changes.{
   IsDelete,
 };
 ghost use Rattle.dp_layers.specs.Tree.{IsTree};
+ghost use Rattle.dp_layers.specs.Inside.{IsRearranging};
+ghost use Rattle.dp_layers.specs.Lends.{lends_content};
 
-use crate::lists::{carry, filling, keep_where, push_both, set_parent};
-use crate::lookup::{
-    can_create, can_stand, has_row, is_listed_mode, place_behind, place_of, stay_flags,
-};
+use crate::changes::{drop_held, drop_rows, new_row, put_last, rearrange};
+use crate::held::{Held, held_by, paired, place_of_held};
+use crate::lookup::{gone_ids, has_effect};
 use crate::row::LayerRow;
+use crate::rows::Rows;
 use dp_msg_draw::Draw;
 use std::alloc::{AllocError, Global};
 use std::marker::Model;
+use std::mem::replace;
 
 /// The rows of the list of layers, the bottom one first, with what each paint row holds. It is seen
 /// as the list of its rows, which keep to `IsTree`.
-#[derive(Debug, Drop)]
+#[derive(Drop)]
 pub struct Tree<X> {
-    layers: Vec<LayerRow>,
-    contents: Vec<Option<X>>,
+    /// Other trees may share them.
+    rows: Rows,
+    /// What the paint rows hold, in no order.
+    contents: Vec<Held<X>>,
 }
 
 impl<X> Model for Tree<X> {
@@ -53,11 +60,11 @@ impl<X> Model for Tree<X> {
 
     ghost Value = { List (Row X) };
 
-    ghost use Rattle.dp_layers.specs.Inside.{joined, IsJoined};
+    ghost use Rattle.dp_layers.specs.Inside.{rows_with, IsHolding};
 
-    ghost view = { λ t. joined t.layers.items t.contents.items };
+    ghost view = { λ t. rows_with t.contents.items t.rows };
 
-    ghost invariant = { λ t. IsJoined t.layers.items t.contents.items };
+    ghost invariant = { λ t. IsHolding t.rows t.contents.items };
 }
 
 impl<X: Drop> Tree<X> {
@@ -66,7 +73,7 @@ impl<X: Drop> Tree<X> {
         ensures { result ≡ [] }
     {
         Tree {
-            layers: Vec::new(alloc),
+            rows: Rows::none(),
             contents: Vec::new(alloc),
         }
     }
@@ -76,7 +83,7 @@ impl<X: Drop> Tree<X> {
         ensures rows { result.now ≡ layers_of self.now }
         ensures tree { IsTree self.now }
     {
-        &self.layers
+        self.rows.as_slice()
     }
 
     /// What the paint row of the id holds, or `None` where no paint row has the id.
@@ -84,10 +91,18 @@ impl<X: Drop> Tree<X> {
         ensures value { option_copied result ≡ content_of self.now id }
         ensures paint { is_some result ≡ is_paint_row (layers_of self.now) id }
     {
-        match place_of(&self.layers, id) {
-            Some(place) => self.contents[place].as_ref(),
-            None => None,
-        }
+        held_by(&self.contents, id)
+    }
+
+    /// What the paint row of the id holds, to be changed, or `None` where no paint row has the id.
+    pub fn content_mut(&mut self, id: u16) -> Option<&mut X>
+        ensures* writes_back { sem 𝓛 (lends_content X.row self.entry id result) }
+        ensures value { option_copied_mut result ≡ content_of self.old id }
+        ensures paint { is_some result ≡ is_paint_row (layers_of self.old) id }
+    {
+        let place = place_of_held(&self.contents, id)?;
+        let held = &mut self.contents[place];
+        Some(&mut held.x)
     }
 
     /// Puts x in the place of what the paint row of the id holds, and gives that back. A paint row
@@ -97,11 +112,8 @@ impl<X: Drop> Tree<X> {
         ensures old { content_of self.old id ≡ Some result }
         ensures new { self.new ≡ with_content self.old id x }
     {
-        let Some(place) = place_of(&self.layers, id) else {
-            unreachable!()
-        };
-        match self.contents[place].replace(x) {
-            Some(old) => old,
+        match self.content_mut(id) {
+            Some(held) => replace(held, x),
             None => unreachable!(),
         }
     }
@@ -111,10 +123,7 @@ impl<X: Drop> Tree<X> {
         requires kind { IsCreate command.now }
         ensures { result ≡ has_effect (layers_of self.now) command.now }
     {
-        match command {
-            Draw::LayerCreate { id, parent, .. } => can_create(self.rows(), *id, *parent),
-            _ => unreachable!(),
-        }
+        has_effect(self.rows(), command)
     }
 
     /// LayerCreate: puts a new row last, which holds x, where it is no group. True exactly where
@@ -132,6 +141,9 @@ impl<X: Drop> Tree<X> {
         ensures err { OnErr result (self.new ≡ self.old) }
         ensures memory { OnErr result (has_effect (layers_of self.old) command.now ≡ true) }
     {
+        if !self.accepts(command) {
+            return Ok(false);
+        }
         let Draw::LayerCreate {
             id,
             parent,
@@ -141,19 +153,10 @@ impl<X: Drop> Tree<X> {
         else {
             unreachable!()
         };
-        if !can_create(&self.layers, *id, *parent) {
-            return Ok(false);
-        }
-        let row = LayerRow {
-            id: *id,
-            parent: *parent,
-            group: *group,
-            title: title.copy()?,
-            opacity: 255,
-            mode: 1,
-            hidden: false,
-        };
-        push_both(&mut self.layers, &mut self.contents, row, x)?;
+        let row = new_row(*id, *parent, *group, title)?;
+        let alloc = *self.contents.allocator();
+        let rows = self.rows.sole(alloc)?;
+        put_last(rows, &mut self.contents, row, x)?;
         Ok(true)
     }
 
@@ -162,33 +165,16 @@ impl<X: Drop> Tree<X> {
     ///
     /// # Errors
     ///
-    /// None comes.
+    /// The rows are as they were.
     pub fn attr(&mut self, command: &Draw) -> Result<bool, AllocError>
         requires { IsAttr command.now }
-        ensures effect { result ≡ Ok (has_effect (layers_of self.old) command.now) }
-        ensures rows { self.new ≡ rows_after self.old command.now None }
+        ensures effect { IfOk result
+            (λ effect. effect ≡ has_effect (layers_of self.old) command.now) }
+        ensures ok { OnOk result (self.new ≡ rows_after self.old command.now None) }
+        ensures err { OnErr result (self.new ≡ self.old) }
+        ensures memory { OnErr result (has_effect (layers_of self.old) command.now ≡ true) }
     {
-        let Draw::LayerAttr {
-            id,
-            opacity,
-            mode,
-            hidden,
-        } = command
-        else {
-            unreachable!()
-        };
-        let place = match place_of(&self.layers, *id) {
-            Some(place) => place,
-            None => return Ok(false),
-        };
-        if !is_listed_mode(*mode) {
-            return Ok(false);
-        }
-        let row = &mut self.layers[place];
-        row.opacity = *opacity;
-        row.mode = *mode;
-        row.hidden = *hidden;
-        Ok(true)
+        self.rearrange(command)
     }
 
     /// LayerTitle: gives the row its title. True exactly where the command has an effect.
@@ -204,14 +190,7 @@ impl<X: Drop> Tree<X> {
         ensures err { OnErr result (self.new ≡ self.old) }
         ensures memory { OnErr result (has_effect (layers_of self.old) command.now ≡ true) }
     {
-        let Draw::LayerTitle { id, title } = command else {
-            unreachable!()
-        };
-        let Some(at) = place_of(&self.layers, *id) else {
-            return Ok(false);
-        };
-        self.layers[at].title = title.copy()?;
-        Ok(true)
+        self.rearrange(command)
     }
 
     /// LayerMove: puts the row into another parent, and after another row. True exactly where the
@@ -219,27 +198,32 @@ impl<X: Drop> Tree<X> {
     ///
     /// # Errors
     ///
-    /// None comes.
+    /// The rows are as they were.
     pub fn shift(&mut self, command: &Draw) -> Result<bool, AllocError>
         requires { IsMove command.now }
-        ensures effect { result ≡ Ok (has_effect (layers_of self.old) command.now) }
-        ensures rows { self.new ≡ rows_after self.old command.now None }
+        ensures effect { IfOk result
+            (λ effect. effect ≡ has_effect (layers_of self.old) command.now) }
+        ensures ok { OnOk result (self.new ≡ rows_after self.old command.now None) }
+        ensures err { OnErr result (self.new ≡ self.old) }
+        ensures memory { OnErr result (has_effect (layers_of self.old) command.now ≡ true) }
     {
-        let Draw::LayerMove { id, parent, above } = command else {
-            unreachable!()
-        };
-        let Some(from) = place_of(&self.layers, *id) else {
-            return Ok(false);
-        };
-        if !can_stand(&self.layers, *id, *parent, *above) {
+        self.rearrange(command)
+    }
+
+    /// A command that changes rows and leaves what they hold.
+    fn rearrange(&mut self, command: &Draw) -> Result<bool, AllocError>
+        requires { IsRearranging command.now }
+        ensures effect { IfOk result
+            (λ effect. effect ≡ has_effect (layers_of self.old) command.now) }
+        ensures ok { OnOk result (self.new ≡ rows_after self.old command.now None) }
+        ensures err { OnErr result (self.new ≡ self.old) }
+        ensures memory { OnErr result (has_effect (layers_of self.old) command.now ≡ true) }
+    {
+        if !has_effect(self.rows(), command) {
             return Ok(false);
         }
-        if !set_parent(&mut self.layers, from, *parent) {
-            return Ok(false);
-        }
-        let to = place_behind(&self.layers, from, *above);
-        carry(&mut self.layers, from, to);
-        carry(&mut self.contents, from, to);
+        let rows = self.rows.sole(*self.contents.allocator())?;
+        rearrange(rows, command)?;
         Ok(true)
     }
 
@@ -257,15 +241,17 @@ impl<X: Drop> Tree<X> {
         ensures err { OnErr result (self.new ≡ self.old) }
         ensures memory { OnErr result (has_effect (layers_of self.old) command.now ≡ true) }
     {
+        if !has_effect(self.rows(), command) {
+            return Ok(false);
+        }
         let Draw::LayerDelete { id } = command else {
             unreachable!()
         };
-        if !has_row(&self.layers, *id) {
-            return Ok(false);
-        }
-        let flags = stay_flags(*self.layers.allocator(), &self.layers, *id)?;
-        keep_where(&mut self.layers, &flags);
-        keep_where(&mut self.contents, &flags);
+        let alloc = *self.contents.allocator();
+        let gone = gone_ids(alloc, self.rows.as_slice(), *id)?;
+        let rows = self.rows.sole(alloc)?;
+        drop_rows(rows, &gone);
+        drop_held(&mut self.contents, &gone);
         Ok(true)
     }
 
@@ -276,8 +262,8 @@ impl<X: Drop> Tree<X> {
         ensures rows { IfOk result (λ tree. layers_of tree ≡ layers_of self.now) }
         ensures contents { IfOk result (λ tree. contents_of tree ≡ contents.items) }
     {
-        let layers = self.layers.clone()?;
-        let contents = filling(&layers, contents)?;
-        Ok(Tree { layers, contents })
+        let rows = self.rows.share()?;
+        let contents = paired(rows.as_slice(), contents)?;
+        Ok(Tree { rows, contents })
     }
 }

@@ -284,6 +284,11 @@ fn contents_are_put_in(rt: HostRuntime) -> Result<(), Fail> {
     assert_eq!(rt; tree.put_content(13, 99), 13);
     assert_eq!(rt; tree.content(13), Some(&99));
     assert_eq!(rt; tree.content(12), None);
+    if let Some(content) = tree.content_mut(11) {
+        *content = 8;
+    }
+    assert_eq!(rt; tree.content(11), Some(&8));
+    assert!(rt; tree.content_mut(12).is_none());
     let contents = [1, 2, 3].to_vec(rt.alloc())?;
     assert_eq!(rt;
         tree.rows().iter().filter(|row| !row.group).count(),
@@ -293,5 +298,16 @@ fn contents_are_put_in(rt: HostRuntime) -> Result<(), Fail> {
     let held = [11, 13, 20].map(|id| other.content(id).copied());
     assert_eq!(rt; held, [Some(1), Some(2), Some(3)]);
     assert_eq!(rt; other.rows(), tree.rows());
+    Ok(())
+}
+
+#[test]
+fn shared_rows_change_apart(rt: HostRuntime) -> Result<(), Fail> {
+    let mut tree = forest(&rt, rt.alloc())?;
+    let other = tree.remake([11, 13, 20].to_vec(rt.alloc())?)?;
+    assert!(rt; take(rt.alloc(), &mut tree, To(20, 0, 0))?);
+    assert!(rt; take(rt.alloc(), &mut tree, Delete(10))?);
+    expect(&rt, &tree, &[(20, 0), (30, 0)]);
+    expect(&rt, &other, &FOREST);
     Ok(())
 }
