@@ -2,7 +2,7 @@
 use Rattle.std.proofs.Common.{◌≡◌, ℕ, ◌*◌, ◌/◌, ◌<◌, ◌≤◌, List, [], ◌∷◌, Bool, true, false}
 use Rattle.std.proofs.Common.{◌&&◌, ◌||◌, cond, eqb, fold, map, Option, Some, None, refl, sym, ◌∙◌}
 use Rattle.std.proofs.Common.{ap, arith, ◌⊎◌, inl, inr, ⊎_elim}
-use Rattle.std.specs.Prelude.{◌==◌, ℤ, pos, ◌-ℤ◌, ◌≤ℤ◌, ◌<ℤ◌, unsigned_abs, slice_get, int_lt}
+use Rattle.std.specs.Prelude.{◌==◌, ℤ, pos, ◌+ℤ◌, ◌-ℤ◌, ◌≤ℤ◌, ◌<ℤ◌, unsigned_abs, slice_get, int_lt}
 use Rattle.std.specs.Prelude.{IsTrue, ◌↔◌}
 use Rattle.std.specs.Int.{int_max, int_min}
 use Rattle.std.specs.Option.{option_map_or}
@@ -28,7 +28,7 @@ use Rattle.dp_pixels.specs.Commands.{dab_blended, dabs_blended, drawn, filled, i
 use Rattle.dp_pixels.specs.Commands.{image_index, imaged, moved, pixel_drawn, stroked}
 use Rattle.dp_pixels.specs.Tiles.{tile_changed, is_in_tiles, tiles_along}
 use Rattle.dp_pixels.specs.Feet.{Footprint, Area, Two, All, around, feet_meet, foot, foot_layer}
-use Rattle.dp_pixels.specs.Feet.{greatest_canvas, is_in_foot, meets_area}
+use Rattle.dp_pixels.specs.Feet.{greatest_canvas, is_in_foot, meets_area, on_greatest, on_side}
 use Rattle.dp_pixels.proofs.Rectangles.{IsIn, is_in-true, is_in_by, is_in-false, in_or_out}
 use Rattle.dp_pixels.proofs.Rectangles.{clipped_in, clipped_by}
 use Rattle.dp_pixels.proofs.TileLaws.{IsBetween, between}
@@ -95,6 +95,12 @@ dab_keeps : (shape : Shape) (mode : Mode) (source : Channels) (dab : PlacedDab) 
 dab_keeps shape mode source dab x y old out = cond-false (dab_covers shape dab x y)
     (blend mode (fade source (from8 dab.opacity)) old) old (dab_outside shape dab x y out)
 
+pub dab_stays : (shape : Shape) (mode : Mode) (source : Channels) (dab : PlacedDab) (x y : ℤ)
+    (old : Channels) → is_in (dab_rect dab) x y ≡ false
+    → dab_blended shape mode source dab x y old ≡ old
+dab_stays shape mode source dab x y old out = dab_keeps shape mode source dab x y old
+    (λ inside. false≢true (sym out ∙ is_in_by (dab_rect dab) x y inside))
+
 -- dabs keep what is outside of the rectangle around a and them
 dabs_keep_from : (shape : Shape) (mode : Mode) (source : Channels) (a : Rect)
     (dabs : List PlacedDab) (x y : ℤ) (old : Channels)
@@ -155,18 +161,53 @@ in_greatest width height x y narrow low on =
     let y1 = on.y1 in
     record { x0 = on.x0; x1 = omega (arith, ints); y0 = on.y0; y1 = omega (arith, ints) }
 
+-- the places of a rectangle that are on the greatest canvas
+on_greatest_by : (r : Rect) (x y : ℤ) → IsIn r x y → IsIn greatest_canvas x y
+    → IsIn (on_greatest r) x y
+on_greatest_by r x y h on =
+    let hx0 = h.x0 in
+    let hx1 = h.x1 in
+    let hy0 = h.y0 in
+    let hy1 = h.y1 in
+    let x0 = on.x0 in
+    let x1 = on.x1 in
+    let y0 = on.y0 in
+    let y1 = on.y1 in
+    record {
+      x0 = at_least r.x0 x hx0 x0;
+      x1 = below r.x1 x hx1 x1;
+      y0 = at_least r.y0 y hy0 y0;
+      y1 = below r.y1 y hy1 y1;
+    }
+  where
+    at_least : (a z : ℤ) → a ≤ℤ z → pos 0 ≤ℤ z → on_side a ≤ℤ z
+    at_least a z from zero = omega (
+      arith,
+      ints,
+      int_max_is (pos 0) (int_min a (pos 4096)),
+      int_min_is a (pos 4096),
+    )
+
+    below : (b z : ℤ) → z <ℤ b → z <ℤ (pos 0 +ℤ pos 4096) → z <ℤ on_side b
+    below b z to most = omega (
+      arith,
+      ints,
+      int_max_is (pos 0) (int_min b (pos 4096)),
+      int_min_is b (pos 4096),
+    )
+
 -- outside of a rectangle as far as it is on the greatest canvas
 out_of_area : (r : Rect) (width height : ℕ) (x y : ℤ) → width ≤ 4096 → height ≤ 4096
-    → is_in (clipped r greatest_canvas) x y ≡ false
+    → is_in (on_greatest r) x y ≡ false
     → IsIn (canvas_rect width height) x y → ¬ (IsIn r x y)
 out_of_area r width height x y narrow low out on inside =
-    absurd (false≢true (sym out ∙ is_in_by (clipped r greatest_canvas) x y
-    (clipped_by r greatest_canvas x y inside (in_greatest width height x y narrow low on))))
+    absurd (false≢true (sym out ∙ is_in_by (on_greatest r) x y
+    (on_greatest_by r x y inside (in_greatest width height x y narrow low on))))
 
 tile_keeps : (width height col row repeat : ℕ) (content : TileContent) (x y : ℤ) (old : Channels)
     → width ≤ 4096 → height ≤ 4096
-    → is_in (cond (eqb repeat 0) (clipped (rect_at (pos (col * 64)) (pos (row * 64)) 64 64)
-    greatest_canvas) greatest_canvas) x y ≡ false
+    → is_in (cond (eqb repeat 0) (on_greatest (rect_at (pos (col * 64)) (pos (row * 64)) 64 64))
+    greatest_canvas) x y ≡ false
     → IsIn (canvas_rect width height) x y → tile_changed width height col row repeat content x y old
     ≡ old
 tile_keeps width height col row repeat content x y old narrow low out on =
@@ -182,7 +223,7 @@ tile_keeps width height col row repeat content x y old narrow low out on =
     (λ (none : eqb repeat 0 ≡ true).
     let outside = out_of_area square width height x y narrow low
     (sym (ap (λ (r : Rect). is_in r x y) (cond-true (eqb repeat 0)
-    (clipped square greatest_canvas) greatest_canvas none)) ∙ out) on in
+    (on_greatest square) greatest_canvas none)) ∙ out) on in
     ⊎_elim
     (λ (has : test ≡ true).
     let in_x : i < width = omega (arith, ints) in
@@ -201,7 +242,7 @@ tile_keeps width height col row repeat content x y old narrow low out on =
     (cases_Bool test))
     (λ (some : eqb repeat 0 ≡ false).
     let outside = sym (ap (λ (r : Rect). is_in r x y) (cond-false (eqb repeat 0)
-    (clipped square greatest_canvas) greatest_canvas some)) ∙ out in
+    (on_greatest square) greatest_canvas some)) ∙ out in
     absurd (false≢true (sym outside ∙ is_in_by greatest_canvas x y
     (in_greatest width height x y narrow low on))))
     (cases_Bool (eqb repeat 0))
@@ -210,8 +251,8 @@ tile_keeps width height col row repeat content x y old narrow low out on =
 
 moved_keeps : (width height sx sy w h : ℕ) (tx ty : ℤ) (old : ℤ → ℤ → Channels) (x y : ℤ)
     → width ≤ 4096 → height ≤ 4096
-    → is_in (clipped (rect_at (pos sx) (pos sy) w h) greatest_canvas) x y ≡ false
-    → is_in (clipped (rect_at tx ty w h) greatest_canvas) x y ≡ false
+    → is_in (on_greatest (rect_at (pos sx) (pos sy) w h)) x y ≡ false
+    → is_in (on_greatest (rect_at tx ty w h)) x y ≡ false
     → IsIn (canvas_rect width height) x y → moved width height sx sy w h tx ty old x y ≡ old x y
 moved_keeps width height sx sy w h tx ty old x y narrow low out_from out_to on =
     let from = rect_at (pos sx) (pos sy) w h in
@@ -282,15 +323,15 @@ drawn_keeps width height (op.DabsSquare layer left top r g b mode dabs) old x y 
     (out_of_area (around (placed_dabs left top dabs)) width height x y narrow low out on))
 drawn_keeps width height (op.MoveRect layer sx sy w h tx ty) old x y narrow low out =
     on_canvas_keeps (canvas_rect width height) x y _ (old x y) (λ on.
-    let both = or_parts (is_in (clipped (rect_at (pos sx) (pos sy) w h) greatest_canvas) x y)
-    (is_in (clipped (rect_at tx ty w h) greatest_canvas) x y) out in
+    let both = or_parts (is_in (on_greatest (rect_at (pos sx) (pos sy) w h)) x y)
+    (is_in (on_greatest (rect_at tx ty w h)) x y) out in
     moved_keeps width height sx sy w h tx ty old x y narrow low both.0 both.1 on)
 
 -- MoveRect goes by the old pixel at the place and those of its source
 moved_same : (width height sx sy w h : ℕ) (tx ty : ℤ) (old other : ℤ → ℤ → Channels) (x y : ℤ)
     → width ≤ 4096 → height ≤ 4096 → old x y ≡ other x y
     → ((v z : ℤ) → IsIn (canvas_rect width height) v z → IsIn
-    (clipped (rect_at (pos sx) (pos sy) w h) greatest_canvas) v z → old v z ≡ other v z)
+    (on_greatest (rect_at (pos sx) (pos sy) w h)) v z → old v z ≡ other v z)
     → moved width height sx sy w h tx ty old x y ≡ moved width height sx sy w h tx ty other x y
 moved_same width height sx sy w h tx ty old other x y narrow low here same =
     let from = rect_at (pos sx) (pos sy) w h in
@@ -305,7 +346,7 @@ moved_same width height sx sy w h tx ty old other x y narrow low here same =
     ∙ ⊎_elim
     (λ (inside : is_in source back_x back_y ≡ true).
     let back = clipped_in from canvas back_x back_y (is_in-true source back_x back_y inside) in
-    let greatest = clipped_by from greatest_canvas back_x back_y back.0
+    let greatest = on_greatest_by from back_x back_y back.0
     (in_greatest width height back_x back_y narrow low back.1) in
     ap (λ (q : Channels). result q (other x y)) (same back_x back_y back.1 greatest))
     (λ (outside : is_in source back_x back_y ≡ false).
@@ -346,7 +387,7 @@ drawn_same width height (op.DabsSquare layer left top r g b mode dabs) old other
     same = ap (pixel_drawn width height (op.DabsSquare layer left top r g b mode dabs) x y) here
 drawn_same width height (op.MoveRect layer sx sy w h tx ty) old other x y narrow low here same =
     let canvas = canvas_rect width height in
-    let source = clipped (rect_at (pos sx) (pos sy) w h) greatest_canvas in
+    let source = on_greatest (rect_at (pos sx) (pos sy) w h) in
     ap (cond (is_in canvas x y) (moved width height sx sy w h tx ty old x y)) here
     ∙ ap (λ (p : Channels). cond (is_in canvas x y) p (other x y))
     (moved_same width height sx sy w h tx ty old other x y narrow low here (λ v z on inside.
@@ -396,7 +437,7 @@ shared a b = (
     below y z h = grind (arith, ints)
 
 -- a place of a rectangle is not in one that it shares no place with
-apart : (a b : Rect) (x y : ℤ) → share_place a b ≡ false → is_in a x y ≡ true → is_in b x y ≡ false
+pub apart : (a b : Rect) (x y : ℤ) → share_place a b ≡ false → is_in a x y ≡ true → is_in b x y ≡ false
 apart a b x y none inside =
     false_from_ne_true (is_in b x y) (λ other. false≢true
     (sym none ∙ shared_by a b x y (is_in-true a x y inside) (is_in-true b x y other)))

@@ -1,6 +1,8 @@
 pub mod Rectangles
 pub mod Cells
 pub mod Strokes
+pub mod Messages
+pub mod Around
 pub mod Images
 pub mod SpanLemmas
 pub mod Discs
@@ -15,3 +17,4 @@ pub mod PixelLemmas
 pub mod Squares
 pub mod Clips
 pub mod Whole
+pub mod Sides

@@ -237,8 +237,8 @@ length-row pixels width height stride k left right wide long order in_width in_h
     )
 
 -- the element at an index of a row of which a part is written
-pub part_written : (f : ℕ → Channels → Channels) (row part : List Channels) (left right k : ℕ)
-    (d : Channels) → left ≤ right → right ≤ length row → k < length row
+pub part_written : {X : Type 0} (f : ℕ → X → X) (row part : List X) (left right k : ℕ) (d : X)
+    → left ≤ right → right ≤ length row → k < length row
     → length part ≡ right - left → ((n : ℕ) → n < right - left
     → get_or part n d ≡ f (left + n) (get_or (mid_of left (right - left) row) n d))
     → get_or (put_mid left (right - left) row part) k d ≡ cond (leb left k && ltb k right)

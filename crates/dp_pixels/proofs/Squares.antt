@@ -11,8 +11,8 @@ use Rattle.std.proofs.lemmas.Bool.{lt-ltb, false≢true, leb-true, leb-false, lt
 use Rattle.std.proofs.Math.Bool.{and-false}
 use Rattle.std.proofs.Math.Nat.{mul-add, mul_comm}
 use Rattle.dp_pixels.specs.declared.rect.Rect.{Rect}
-use Rattle.dp_pixels.specs.Rectangles.{clipped, rect_at, share_place}
-use Rattle.dp_pixels.specs.Feet.{greatest_canvas, squares_of, squares_shared, stretches}
+use Rattle.dp_pixels.specs.Rectangles.{rect_at, share_place}
+use Rattle.dp_pixels.specs.Feet.{on_greatest, on_side, squares_of, squares_shared, stretches}
 
 -- ---- sums
 
@@ -170,14 +170,23 @@ product r cols rows =
         (λ col. both (across r.x0 r.x1 col) (across r.y0 r.y1 row)) cols 0 0 (omega arith)
         ∙ mul_comm down (count_by (across r.x0 r.x1) cols)
 
-pub squares_by_counting : (r : Rect) → squares_of (clipped r greatest_canvas)
-    ≡ squares_shared (clipped r greatest_canvas)
+-- a number moved into the range of the greatest canvas is in it
+on_side_bounds : (z : ℤ) → (pos 0 ≤ℤ on_side z) × (on_side z ≤ℤ pos 4096)
+on_side_bounds z = (
+  omega (arith, ints, int_max_is (pos 0) (int_min z (pos 4096))),
+  omega (
+    arith,
+    ints,
+    int_max_is (pos 0) (int_min z (pos 4096)),
+    int_min_is z (pos 4096),
+  ),
+)
+
+pub squares_by_counting : (r : Rect) → squares_of (on_greatest r) ≡ squares_shared (on_greatest r)
 squares_by_counting r =
-    let inside = clipped r greatest_canvas in
-    let cols = along 64 inside.x0 inside.x1 (omega (arith, ints, int_max_is r.x0 (pos 0)))
-    (omega (arith, ints, int_min_is r.x1 (pos 4096))) in
-    let rows = along 64 inside.y0 inside.y1 (omega (arith, ints, int_max_is r.y0 (pos 0)))
-    (omega (arith, ints, int_min_is r.y1 (pos 4096))) in
+    let inside = on_greatest r in
+    let cols = along 64 inside.x0 inside.x1 (on_side_bounds r.x0).0 (on_side_bounds r.x1).1 in
+    let rows = along 64 inside.y0 inside.y1 (on_side_bounds r.y0).0 (on_side_bounds r.y1).1 in
     sym (product inside (range_with_len 0 64) (range_with_len 0 64)
     ∙ (ap (λ (m : ℕ). m * count_by (across inside.y0 inside.y1) (range_with_len 0 64)) cols
     ∙ ap (λ (m : ℕ). stretches inside.x0 inside.x1 * m) rows))

@@ -1,10 +1,11 @@
 -- The dabs of a message, one after the other.
-use Rattle.std.proofs.Common.{◌≡◌, ℕ, ◌+◌, ◌*◌, ◌^◌, ◌<◌, ◌≤◌, List, length, get_or}
+use Rattle.std.proofs.Common.{◌≡◌, ℕ, ◌+◌, ◌*◌, ◌^◌, ◌<◌, ◌≤◌, List, [], ◌∷◌, ◌++◌, length}
+use Rattle.std.proofs.Common.{get_or}
 use Rattle.std.proofs.Common.{take, map, fold, cond, Bool, true, false, refl, arith, ap, ◌∙◌, sym}
 use Rattle.std.specs.Prelude.{ℤ, pos, ◌+ℤ◌, unsigned_abs}
 use Rattle.std.specs.List.{enumerate_from, list_any}
 use Rattle.std.proofs.lemmas.Int.{ints}
-use Rattle.std.proofs.lemmas.List.{map_more, get_or-map, length-map}
+use Rattle.std.proofs.lemmas.List.{map_more, get_or-map, length-map, map-append, take_more}
 use Rattle.std.proofs.lemmas.List.FromFn.{length-enumerate_from, get_or-enumerate_from}
 use Rattle.std.proofs.lemmas.List.Sums.{fold_push, fold_more}
 use Rattle.dp_blend.specs.Color.{Channels}
@@ -152,6 +153,17 @@ next_is left top dabs k last placed within is near_x near_y before = record {
   within = omega (arith, length-placed_dabs left top dabs);
   is = placed_is left top dabs k last placed placed within is before;
 }
+
+-- one dab more of a list is placed
+pub placed_more : {X : Type 0} (f : X → PlacedDab) (now new : List X) (x : X)
+    (dabs : List PlacedDab) (k : ℕ) → k < length dabs → get_or dabs k (f x) ≡ f x
+    → new ≡ now ++ x ∷ [] → map f now ≡ take k dabs → map f new ≡ take (k + 1) dabs
+placed_more f now new x dabs k within here pushed so_far =
+    ap (map f) pushed
+    ∙ (map-append f now (x ∷ [])
+    ∙ (ap (λ (placed : List PlacedDab). placed ++ f x ∷ []) so_far
+    ∙ (ap (λ (d : PlacedDab). take k dabs ++ d ∷ []) (sym here)
+    ∙ sym (take_more dabs k (f x) within))))
 
 -- a place is covered by one of the dabs
 abbrev pub one_covers : Shape → List PlacedDab → ℤ → ℤ → Bool

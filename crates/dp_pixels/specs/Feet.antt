@@ -8,7 +8,8 @@ use Rattle.dp_msg_draw.specs.declared.draw.Draw.TheVariants.{CanvasResize, FillR
 use Rattle.dp_msg_draw.specs.declared.draw.Draw.TheVariants.{PutTile, DabsRound, DabsSquare}
 use Rattle.dp_msg_draw.specs.declared.draw.Draw.TheVariants.{MoveRect}
 use Rattle.dp_pixels.specs.declared.rect.Rect.{Rect}
-use Rattle.dp_pixels.specs.Rectangles.{is_in, rect_at, clipped, share_place, joined, canvas_rect}
+use Rattle.std.specs.Int.{int_max, int_min}
+use Rattle.dp_pixels.specs.Rectangles.{is_in, rect_at, share_place, joined, canvas_rect}
 use Rattle.dp_pixels.specs.declared.dabs.PlacedDab.{PlacedDab}
 use Rattle.dp_pixels.specs.Dabs.{placed_dabs, dab_rect}
 
@@ -17,6 +18,15 @@ pub data Footprint : Type 0 where
   Area : ℕ → Rect → Footprint
   Two : ℕ → Rect → Rect → Footprint
   All : Footprint
+
+-- a number, moved into the range from 0 to 4096
+abbrev pub on_side : ℤ → ℤ
+on_side z = int_max (pos 0) (int_min z (pos 4096))
+
+-- the rectangle with each of its numbers from 0 to 4096: its places on the greatest canvas
+abbrev pub on_greatest : Rect → Rect
+on_greatest r =
+    record { x0 = on_side r.x0; y0 = on_side r.y0; x1 = on_side r.x1; y1 = on_side r.y1 }
 
 -- the places of the greatest canvas
 abbrev pub greatest_canvas : Rect
@@ -29,25 +39,23 @@ around (dab ∷ dabs) = fold joined (dab_rect dab) (map dab_rect dabs)
 
 -- where the dabs of a message may change the layer
 abbrev pub dabs_foot : ℕ → List PlacedDab → Footprint
-dabs_foot layer dabs = Area layer (clipped (around dabs) greatest_canvas)
+dabs_foot layer dabs = Area layer (on_greatest (around dabs))
 
 -- the foot of a command
 abbrev pub foot : Draw → Footprint
-foot (FillRect layer mode x y w h color) = Area layer (clipped (rect_at (pos x) (pos y) w h)
-    greatest_canvas)
-foot (PutImage layer mode x y w h colors) = Area layer (clipped (rect_at (pos x) (pos y) w h)
-    greatest_canvas)
+foot (FillRect layer mode x y w h color) = Area layer (on_greatest (rect_at (pos x) (pos y) w h))
+foot (PutImage layer mode x y w h colors) = Area layer (on_greatest (rect_at (pos x) (pos y) w h))
 foot (DabsRound layer x y r g b mode dabs) = dabs_foot layer (placed_dabs x y dabs)
 foot (DabsSquare layer x y r g b mode dabs) = dabs_foot layer (placed_dabs x y dabs)
 foot (PutTile layer col row repeat content) =
     Area layer
     (if repeat == 0
-    then clipped (rect_at (pos (col * 64)) (pos (row * 64)) 64 64) greatest_canvas
+    then on_greatest (rect_at (pos (col * 64)) (pos (row * 64)) 64 64)
     else greatest_canvas)
 foot (MoveRect layer sx sy w h tx ty) =
     Two layer
-    (clipped (rect_at (pos sx) (pos sy) w h) greatest_canvas)
-    (clipped (rect_at tx ty w h) greatest_canvas)
+    (on_greatest (rect_at (pos sx) (pos sy) w h))
+    (on_greatest (rect_at tx ty w h))
 foot _ = All
 
 -- a place of the layer is in the foot

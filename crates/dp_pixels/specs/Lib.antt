@@ -7,4 +7,6 @@ pub mod Regions
 pub mod Tiles
 pub mod Colors
 pub mod Commands
+pub mod Strokes
 pub mod Feet
+pub mod Resizes

@@ -1,18 +1,23 @@
 //! Dabs of a brush, where they stand.
 
 ghost use Rattle.std.specs.Prelude.{◌≡◌, ◌<◌, ◌≤◌, ◌^◌, ◌+◌, pos, ◌+ℤ◌, unsigned_abs, length};
+ghost use Rattle.std.specs.Prelude.{map, IfOk};
 ghost use Rattle.std.specs.List.{list_any};
+ghost use Rattle.std.specs.Option.{option_map_or};
 ghost use Rattle.dp_pixels.specs.Near.{IsNear};
 ghost use Rattle.dp_pixels.specs.Dabs.{dab_rect, dab_covers, is_in_disc, placed_dabs};
 ghost use Rattle.dp_pixels.specs.Commands.{dabs_blended};
+ghost use Rattle.dp_pixels.specs.Feet.{around};
+ghost use Rattle.dp_pixels.specs.Rectangles.{joined};
 
 use crate::rect::{Place, Rect};
 use dp_blend::{Mode, Pixel, blend, fade, from8};
 use dp_msg_draw::Dab;
+use std::alloc::{AllocError, Global};
 
 /// The shape of a dab.
-#[derive(Clone, Copy)]
-pub(crate) enum Shape {
+#[derive(Clone, Copy, Debug, PartialEq, Eq)]
+pub enum Shape {
     /// The cells of the square that are in the disc of the dab's diameter.
     Round,
     /// All cells of the square.
@@ -20,12 +25,31 @@ pub(crate) enum Shape {
 }
 
 /// A dab where it stands.
-#[derive(Clone, Copy)]
-pub(crate) struct PlacedDab {
+#[derive(Clone, Copy, Debug, PartialEq, Eq)]
+pub struct PlacedDab {
+    /// The middle of its square of cells.
     pub at: Place,
     /// The diameter in pixels.
     pub size: u8,
+    /// The part of the colour that it blends, 255 for all of it.
     pub opacity: u8,
+}
+
+/// A dab that stands so near that sums of its numbers fit in 64 bits, as each dab of a message
+/// does.
+#[derive(Clone, Copy)]
+pub struct NearDab {
+    pub dab: PlacedDab,
+    ghost near: { IsNear (2 ^ 39) dab.at },
+}
+
+impl NearDab {
+    /// The square of its cells.
+    pub fn rect(self) -> Rect
+        ensures { result ≡ dab_rect self.dab }
+    {
+        self.dab.rect()
+    }
 }
 
 impl PlacedDab {
@@ -95,6 +119,16 @@ fn is_in_disc(size: u8, i: u8, j: u8) -> bool
     across * across + down * down <= size as u32 * size as u32
 }
 
+/// The rectangle, with the places of another too where there is one.
+fn extended(all: Option<Rect>, cells: Rect) -> Rect
+    ensures { result ≡ option_map_or (λ rect. joined rect cells) all cells }
+{
+    match all {
+        None => cells,
+        Some(rect) => rect.joined(cells),
+    }
+}
+
 /// The dabs of a message: their shape, the message's place, and the list.
 #[derive(Clone, Copy)]
 pub(crate) struct DabRun<'a> {
@@ -106,6 +140,39 @@ pub(crate) struct DabRun<'a> {
 }
 
 impl DabRun<'_> {
+    /// Where the dabs stand.
+    pub(crate) fn place(self, alloc: Global) -> Result<Vec<NearDab>, AllocError>
+        ensures { IfOk result (λ dabs. map (λ near. near.dab) dabs.items
+            ≡ placed_dabs self.entry.at.x self.entry.at.y self.entry.dabs.now) }
+    {
+        let mut placed = Vec::with_capacity(alloc, self.dabs.len())?;
+        let mut last = self.at;
+        for dab in self.dabs {
+            let next = PlacedDab::behind(last, *dab);
+            placed.push(NearDab { dab: next })?;
+            last = next.at;
+        }
+        Ok(placed)
+    }
+
+    /// The least rectangle around the squares of the dabs. Without a dab it has no place.
+    pub(crate) fn bounds(self) -> Rect
+        ensures { result
+            ≡ around (placed_dabs self.entry.at.x self.entry.at.y self.entry.dabs.now) }
+    {
+        let mut last = self.at;
+        let mut all = None;
+        for dab in self.dabs {
+            let next = PlacedDab::behind(last, *dab);
+            all = Some(extended(all, next.rect()));
+            last = next.at;
+        }
+        match all {
+            Some(rect) => rect,
+            None => Rect::canvas(0, 0),
+        }
+    }
+
     /// Whether one of the dabs covers a place.
     pub(crate) fn covers(self, place: Place) -> bool
         ensures { result ≡ list_any (λ dab. dab_covers self.entry.shape dab place.x place.y)

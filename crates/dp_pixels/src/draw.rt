@@ -1,22 +1,21 @@
 //! Commands that are drawn on a region.
 
-ghost use Rattle.std.specs.Prelude.{◌≤◌, ◌*◌, ◌^◌, pos, length};
-ghost use Rattle.dp_pixels.specs.Near.{IsNear};
+ghost use Rattle.std.specs.Prelude.{◌≤◌, ◌*◌, pos, length};
 ghost use Rattle.dp_pixels.specs.Dabs.{placed_dabs};
 ghost use Rattle.dp_pixels.specs.Tiles.{tile_changed};
-ghost use Rattle.dp_pixels.specs.Commands.{dab_blended, filled, imaged, pixel_drawn, stroked};
+ghost use Rattle.dp_pixels.specs.Commands.{filled, imaged, pixel_drawn, stroked};
 ghost use Rattle.dp_pixels.specs.Regions.{IsPainted, on_canvas};
 
-use crate::dabs::{DabRun, PlacedDab, Shape};
-use crate::disc::Disc;
+use crate::dabs::{DabRun, NearDab, PlacedDab};
 use crate::fill::Fill;
 use crate::image::{Image, ImageFill};
 use crate::paint::paint_region;
 use crate::place::{dabs_of, rect_of};
 use crate::rect::Rect;
 use crate::region::Region;
+use crate::stroke::{Brush, draw_dab};
 use crate::tiles::{TileRun, tiles_along};
-use dp_blend::{Mode, Pixel, fade, from8, of_argb};
+use dp_blend::{Mode, Pixel, of_argb};
 use dp_msg_draw::{Draw, TileContent};
 
 /// Fills a rectangle, by the number of the mode.
@@ -55,36 +54,6 @@ fn image_region(mode: u8, image: Image, region: &Region, stride: usize, pixels: 
     }
 }
 
-/// Draws one dab.
-fn dab_region(
-    shape: Shape,
-    dab: PlacedDab,
-    mode: Mode,
-    color: Pixel,
-    region: &Region,
-    stride: usize,
-    pixels: &mut [Pixel],
-)
-    requires near { IsNear (2 ^ 39) dab.at }
-    requires wide { region.now.width ≤ stride }
-    requires long { region.now.height * stride ≤ length pixels.old }
-    ensures { IsPainted region.now stride (on_canvas region.now (dab_blended shape mode color dab))
-        pixels.old pixels.new }
-{
-    let source = fade(color, from8(dab.opacity));
-    match shape {
-        Shape::Round => {
-            let disc = Disc { dab, mode, source };
-            paint_region(&disc, region, stride, pixels);
-        }
-        Shape::Square => {
-            let area = dab.rect();
-            let fill = Fill { area, mode, source };
-            paint_region(&fill, region, stride, pixels);
-        }
-    }
-}
-
 /// Draws dabs one after the other, by the number of their mode.
 fn dab_run_region(
     number: u8,
@@ -105,10 +74,15 @@ fn dab_run_region(
     let Some(mode) = Mode::from_u8(number) else {
         return;
     };
+    let brush = Brush {
+        shape: run.shape,
+        mode,
+        color,
+    };
     let mut last = run.at;
     for dab in run.dabs {
         let placed = PlacedDab::behind(last, *dab);
-        dab_region(run.shape, placed, mode, color, region, stride, pixels);
+        draw_dab(&brush, NearDab { dab: placed }, region, stride, pixels);
         last = placed.at;
     }
 }

@@ -2,14 +2,20 @@
 //!
 //! The rule: docs/protocol.md, "Pixel commands".
 
-ghost use Rattle.std.specs.Prelude.{◌≡◌, ◌≤◌, ◌↔◌, ℕ, ℤ, false, IsTrue};
+ghost use Rattle.std.specs.Prelude.{◌≡◌, ◌≤◌, ◌↔◌, ℕ, ℤ, false, IsTrue, Some, None, fold};
 ghost use Rattle.dp_blend.specs.Color.{Channels, IsPixel};
+ghost use Rattle.dp_blend.specs.declared.modes.Mode.{Mode};
 ghost use Rattle.dp_msg_draw.specs.declared.draw.Draw.{Draw};
 ghost use Rattle.dp_pixels.specs.declared.rect.Rect.{Rect};
-ghost use Rattle.dp_pixels.specs.Rectangles.{canvas_rect, clipped, is_in, share_place};
+ghost use Rattle.dp_pixels.specs.declared.dabs.PlacedDab.{PlacedDab};
+ghost use Rattle.dp_pixels.specs.declared.dabs.Shape.{Shape};
+ghost use Rattle.dp_pixels.specs.declared.stroke.Brush.{Brush};
+ghost use Rattle.dp_pixels.specs.Rectangles.{canvas_rect, is_in, share_place};
 ghost use Rattle.dp_pixels.specs.Colors.{FitsColors};
-ghost use Rattle.dp_pixels.specs.Commands.{drawn};
-ghost use Rattle.dp_pixels.specs.Feet.{Footprint, feet_meet, foot, foot_layer, greatest_canvas};
+ghost use Rattle.dp_pixels.specs.Dabs.{dab_rect};
+ghost use Rattle.dp_pixels.specs.Commands.{IsDabs, dab_blended, drawn, pixel_after};
+ghost use Rattle.dp_pixels.specs.Strokes.{brush_of, dabs_of_command};
+ghost use Rattle.dp_pixels.specs.Feet.{Footprint, feet_meet, foot, foot_layer, on_greatest};
 ghost use Rattle.dp_pixels.specs.Feet.{is_in_foot, squares_of, squares_shared};
 
 use dp_blend::{blend_gives_pixels, fade_gives_pixels};
@@ -54,9 +60,29 @@ pub fn pixels_stay_pixels()
     fade_gives_pixels();
 }
 
-/// The product that gives the squares of a rectangle of the greatest canvas counts those that share
-/// a place with it.
+/// The product that gives the squares of a rectangle within the greatest canvas counts those that
+/// share a place with it.
 pub fn squares_are_counted()
     ensures { (r : Rect)
-        → squares_of (clipped r greatest_canvas) ≡ squares_shared (clipped r greatest_canvas) }
+        → squares_of (on_greatest r) ≡ squares_shared (on_greatest r) }
+{}
+
+/// A message of dabs changes each place by its dabs, one after the other, each drawn with the
+/// message's brush. Where no mode has its number the place stays.
+pub fn messages_are_their_dabs()
+    ensures drawn { (op : Draw) (brush : Brush) (x y : ℤ) (old : Channels)
+        → brush_of op ≡ Some brush
+        → pixel_after op x y old
+        ≡ fold (λ under dab. dab_blended brush.shape brush.mode brush.color dab x y under) old
+        (dabs_of_command op) }
+    ensures stays { (op : Draw) (x y : ℤ) (old : Channels) → IsDabs op → brush_of op ≡ None
+        → pixel_after op x y old ≡ old }
+{}
+
+/// A dab keeps each place outside its square.
+pub fn dabs_stay_in_their_squares()
+    ensures { (shape : Shape) (mode : Mode) (color : Channels) (dab : PlacedDab) (x y : ℤ)
+        (old : Channels)
+        → is_in (dab_rect dab) x y ≡ false
+        → dab_blended shape mode color dab x y old ≡ old }
 {}

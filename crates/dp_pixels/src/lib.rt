@@ -16,18 +16,23 @@ mod patch;
 mod place;
 mod rect;
 mod region;
+mod resize;
 mod span;
+mod stroke;
 mod tiles;
 
+pub use dabs::{NearDab, PlacedDab, Shape};
 pub use draw::draw_region;
 pub use laws::{
-    feet_apart, pixels_stay_outside_the_foot, pixels_stay_pixels, shared_places,
-    squares_are_counted, the_foot_tells_all,
+    dabs_stay_in_their_squares, feet_apart, messages_are_their_dabs, pixels_stay_outside_the_foot,
+    pixels_stay_pixels, shared_places, squares_are_counted, the_foot_tells_all,
 };
 pub use layer::draw_pixels;
 pub use place::{covers, pixel_after};
-pub use rect::Rect;
+pub use rect::{Place, Rect};
 pub use region::Region;
+pub use resize::Resize;
+pub use stroke::{Brush, brush_of, dabs_bounds, draw_dab, place_dabs};
 
 #[cfg(test)]
 mod tests;

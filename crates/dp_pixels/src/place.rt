@@ -1,7 +1,8 @@
 //! One place, and what a command makes of the pixel there.
 
-ghost use Rattle.std.specs.Prelude.{◌≡◌, pos, IsTrue};
+ghost use Rattle.std.specs.Prelude.{◌≡◌, pos, IsTrue, option_map};
 ghost use Rattle.std.specs.List.{list_any};
+ghost use Rattle.dp_blend.specs.Blending.{mode_numbered};
 ghost use Rattle.dp_blend.specs.Color.{premultiplied};
 ghost use Rattle.dp_pixels.specs.Rectangles.{rect_at};
 ghost use Rattle.dp_pixels.specs.Dabs.{dab_covers, placed_dabs};
@@ -14,6 +15,7 @@ ghost use Rattle.dp_pixels.specs.Commands.{
   pixel_after,
   stroked,
 };
+ghost use Rattle.dp_pixels.specs.Strokes.{brush_of, dabs_of_command};
 
 use crate::dabs::{DabRun, Shape};
 use crate::image::Image;
@@ -75,6 +77,11 @@ pub(crate) fn dabs_of(command: &Draw) -> ColoredDabs<'_>
     ensures covers { covers command.now ≡ (λ x y.
         list_any (λ dab. dab_covers result.run.shape dab x y)
         (placed_dabs result.run.at.x result.run.at.y result.run.dabs.now)) }
+    ensures dabs { dabs_of_command command.now
+        ≡ placed_dabs result.run.at.x result.run.at.y result.run.dabs.now }
+    ensures brush { brush_of command.now
+        ≡ option_map (λ mode. record { shape = result.run.shape; mode = mode; color = result.color })
+        (mode_numbered result.mode) }
 {
     match command {
         Draw::DabsRound {

@@ -1,13 +1,15 @@
 //! Places, and rectangles of them.
 
 ghost use Rattle.std.specs.Prelude.{◌≡◌, ◌^◌, pos, ◌+ℤ◌, ◌-ℤ◌, ◌≤ℤ◌};
-ghost use Rattle.dp_pixels.specs.Rectangles.{canvas_rect, clipped, is_in, rect_at};
+ghost use Rattle.dp_pixels.specs.Rectangles.{canvas_rect, clipped, is_in, joined, rect_at};
 ghost use Rattle.dp_pixels.specs.Near.{IsNear};
 
-/// A place: how far it is from the left and from the top of the canvas.
+/// A place of the canvas, or past its sides.
 #[derive(Clone, Copy, Debug, PartialEq, Eq)]
-pub(crate) struct Place {
+pub struct Place {
+    /// How far it is from the left.
     pub x: i64,
+    /// How far it is from the top.
     pub y: i64,
 }
 
@@ -35,7 +37,7 @@ impl Rect {
     }
 
     /// The places of a canvas.
-    pub(crate) fn canvas(width: u32, height: u32) -> Rect
+    pub fn canvas(width: u32, height: u32) -> Rect
         ensures { result ≡ canvas_rect width height }
     {
         Rect {
@@ -65,8 +67,20 @@ impl Rect {
         ((place.x - self.x0) as usize, (place.y - self.y0) as usize)
     }
 
+    /// The least rectangle that has the places of both.
+    pub(crate) fn joined(self, other: Rect) -> Rect
+        ensures { result ≡ joined self other }
+    {
+        Rect {
+            x0: self.x0.min(other.x0),
+            y0: self.y0.min(other.y0),
+            x1: self.x1.max(other.x1),
+            y1: self.y1.max(other.y1),
+        }
+    }
+
     /// The places that are in both rectangles.
-    pub(crate) fn clipped(self, other: Rect) -> Rect
+    pub fn clipped(self, other: Rect) -> Rect
         ensures { result ≡ clipped self other }
     {
         Rect {

@@ -24,9 +24,9 @@ use Rattle.dp_layers.specs.Changes.{rows_after, makes_paint_row}
 use Rattle.dp_layers.specs.Tree.{IsTree}
 use Rattle.dp_pixels.specs.Commands.{pixels_after}
 use Rattle.dp_plain.specs.Board.{Board, Covers, IsBoard}
-use Rattle.dp_plain.specs.Commands.{is_side, side, with_sides, resized, new_content, arranged}
+use Rattle.dp_pixels.specs.Resizes.{is_side, side, pixels_shifted}
+use Rattle.dp_plain.specs.Commands.{with_sides, resized, new_content, arranged}
 use Rattle.dp_plain.specs.Commands.{with_change, painted, draw}
-use Rattle.dp_plain.specs.Commands.{pixels_moved}
 use Rattle.dp_plain.specs.Contents.{ContentsFit, IsHeld}
 use Rattle.dp_blend.proofs.Canvas.{length-canvas_of}
 use Rattle.dp_plain.proofs.Resizes.{side_bounds}
@@ -221,7 +221,7 @@ module _ (board : Board) (whole : IsBoard board) where
       let w : ℤ = pos board.width +ℤ left +ℤ right in
       let h : ℤ = pos board.height +ℤ top +ℤ bottom in
       let change : List Channels
-      → List Channels = λ pixels. pixels_moved board.width board.height pixels (side w)
+      → List Channels = λ pixels. pixels_shifted board.width board.height pixels (side w)
       (side h) left top in
       cond_both (is_side w && is_side h) (with_sides board (side w) (side h) change) board IsBoard
       (λ (sides : (is_side w && is_side h) ≡ true).

@@ -1,59 +1,17 @@
--- A canvas that moves, and its sides.
-use Rattle.std.proofs.Common.{◌≡◌, ℕ, ◌+◌, ◌*◌, ◌<◌, ◌≤◌, List, [], ◌∷◌, ◌++◌, map, cond, Bool}
-use Rattle.std.proofs.Common.{Some, None, refl, sym, ◌∙◌, ap, arith}
-use Rattle.std.specs.Prelude.{ℤ, pos, negsuc, ◌-ℤ◌, ◌+ℤ◌, ◌≤ℤ◌, ◌<ℤ◌, replicate}
-use Rattle.std.proofs.lemmas.Bool.Decides.{nat_tests}
-use Rattle.std.proofs.lemmas.Int.{ints}
+-- A canvas that moves.
+use Rattle.std.proofs.Common.{◌≡◌, ℕ, ◌+◌, ◌*◌, List, [], ◌∷◌, ◌++◌, map}
+use Rattle.std.proofs.Common.{refl, sym, ◌∙◌, ap, arith}
+use Rattle.std.specs.Prelude.{ℤ, pos, ◌-ℤ◌, replicate}
 use Rattle.std.proofs.lemmas.List.{append_assoc, length-replicate, get_or-replicate}
 use Rattle.std.proofs.lemmas.Nat.{mul-add-lt}
 use Rattle.std.proofs.Common.{to_z, of_z, w32, w64}
-use lib.IntN.{nat_abs}
 use Rattle.dp_blend.specs.Color.{Channels, clear}
 use Rattle.dp_blend.specs.Canvas.{below, canvas_of}
 use Rattle.dp_pixels.specs.Commands.{pixel_of}
-use Rattle.dp_plain.specs.Commands.{is_side, side, pixels_moved}
+use Rattle.dp_pixels.specs.Resizes.{pixels_shifted}
 use Rattle.dp_plain.specs.Moves.{pixel_in, row_moved}
 use Rattle.dp_blend.proofs.Canvas.{is_canvas_of}
 use Rattle.dp_plain.proofs.Canvas.{canvas_of-more, row_more}
-
--- ---- sides
-
--- a whole number from 1 to 4096 is the length of a side
-side_in_range : (n : ℤ) → pos 1 ≤ℤ n → n ≤ℤ pos 4096
-    → Some (nat_abs n) ≡ cond (is_side n) (Some (side n)) None
-side_in_range (pos n) low high =
-    let at_least : 1 ≤ n = omega (arith, ints) in
-    let at_most : n ≤ 4096 = omega (arith, ints) in
-    let test : is_side (pos n) ≡ Bool.true = grind (arith, nat_tests) in
-    rw test refl
-side_in_range (negsuc n) low high = absurd (omega (arith, ints))
-
--- the sum of a side and two offsets, as the code computes it
-abbrev pub grown : ℕ → ℤ → ℤ → ℤ
-grown old before after =
-    to_z w64
-    (of_z w64
-    (to_z w64 (of_z w64 (to_z w64 old +ℤ to_z w64 (of_z w64 (to_z w32 (of_z w32 before))))) +ℤ
-    to_z w64 (of_z w64 (to_z w32 (of_z w32 after)))))
-
-pub side_from_range : (m n : ℤ) → m ≡ n → pos 1 ≤ℤ n → n ≤ℤ pos 4096
-    → Some (nat_abs m) ≡ cond (is_side n) (Some (side n)) None
-side_from_range m n is low high = ap (λ (z : ℤ). Some (nat_abs z)) is ∙ side_in_range n low high
-
--- another whole number is no length of a side
-pub none_below_side : (n : ℤ) → n <ℤ pos 1 → None ≡ cond (is_side n) (Some (side n)) None
-none_below_side (pos n) low =
-    let at_most : n < 1 = omega (arith, ints) in
-    let test : is_side (pos n) ≡ Bool.false = grind (arith, nat_tests) in
-    rw test refl
-none_below_side (negsuc n) low = refl
-
-pub none_above_side : (n : ℤ) → pos 4096 <ℤ n → None ≡ cond (is_side n) (Some (side n)) None
-none_above_side (pos n) high =
-    let at_least : 4096 < n = omega (arith, ints) in
-    let test : is_side (pos n) ≡ Bool.false = grind (arith, nat_tests) in
-    rw test refl
-none_above_side (negsuc n) high = refl
 
 -- ---- rows
 
@@ -79,19 +37,19 @@ row_moved_more before now row left place n p is pixel at =
     ∙ ap (λ ps. before ++ ps) (sym (row_more (λ x. pixel_in row (pos x -ℤ left)) n))))
 
 -- one row more of a canvas that moves
-pub pixels_moved_more : (width height : ℕ) (pixels now row : List Channels) (new_width k : ℕ)
+pub pixels_shifted_more : (width height : ℕ) (pixels now row : List Channels) (new_width k : ℕ)
     (left top y : ℤ)
-    → now ≡ pixels_moved width height pixels new_width k left top → y ≡ pos k -ℤ top
+    → now ≡ pixels_shifted width height pixels new_width k left top → y ≡ pos k -ℤ top
     → ((x : ℤ) → pixel_in row x ≡ pixel_of width height pixels x y)
-    → now ++ row_moved new_width row left ≡ pixels_moved width height pixels new_width (k + 1) left
+    → now ++ row_moved new_width row left ≡ pixels_shifted width height pixels new_width (k + 1) left
     top
-pixels_moved_more width height pixels now row new_width k left top y is place same =
+pixels_shifted_more width height pixels now row new_width k left top y is place same =
     let moved : row_moved new_width row left ≡ map
     (λ x. pixel_of width height pixels (pos x -ℤ left) (pos k -ℤ top)) (below new_width) =
     map-same _ _ (below new_width) (λ x. same (pos x -ℤ left)
     ∙ ap (λ z. pixel_of width height pixels (pos x -ℤ left) z) place) in
     ap (λ ps. ps ++ row_moved new_width row left) is
-    ∙ (ap (λ ps. pixels_moved width height pixels new_width k left top ++ ps) moved
+    ∙ (ap (λ ps. pixels_shifted width height pixels new_width k left top ++ ps) moved
     ∙ sym
     (canvas_of-more new_width k (λ x y. pixel_of width height pixels (pos x -ℤ left)
     (pos y -ℤ top))))

@@ -21,8 +21,9 @@ use Rattle.dp_pixels.specs.Rectangles.{is_in, canvas_rect}
 use Rattle.dp_pixels.specs.Colors.{FitsColors}
 use Rattle.dp_pixels.specs.Commands.{drawn, pixel_of, pixels_after}
 use Rattle.dp_plain.specs.Board.{Board, HasPixels}
-use Rattle.dp_plain.specs.Commands.{is_side, side, with_sides, resized, new_content, arranged}
-use Rattle.dp_plain.specs.Commands.{with_change, painted, draw, pixels_moved}
+use Rattle.dp_pixels.specs.Resizes.{is_side, side, pixels_shifted}
+use Rattle.dp_plain.specs.Commands.{with_sides, resized, new_content, arranged}
+use Rattle.dp_plain.specs.Commands.{with_change, painted, draw}
 use Rattle.dp_blend.proofs.Canvas.{length-canvas_of}
 use Rattle.dp_plain.proofs.Holds.{fit_after}
 
@@ -62,9 +63,9 @@ pixel_of-IsPixel w h pixels each (pos x) (negsuc y) = clear_is_pixel
 pixel_of-IsPixel w h pixels each (negsuc x) y = clear_is_pixel
 
 -- on a canvas of other sides
-pub pixels_moved-All : (w h : ℕ) (pixels : List Channels) (new_w new_h : ℕ) (left top : ℤ)
-    → All IsPixel pixels → All IsPixel (pixels_moved w h pixels new_w new_h left top)
-pixels_moved-All w h pixels new_w new_h left top each =
+pub pixels_shifted-All : (w h : ℕ) (pixels : List Channels) (new_w new_h : ℕ) (left top : ℤ)
+    → All IsPixel pixels → All IsPixel (pixels_shifted w h pixels new_w new_h left top)
+pixels_shifted-All w h pixels new_w new_h left top each =
     canvas_of-All new_w new_h (λ x y. pixel_of w h pixels (pos x -ℤ left) (pos y -ℤ top))
     (λ x y. pixel_of-IsPixel w h pixels each (pos x -ℤ left) (pos y -ℤ top))
 
@@ -141,11 +142,11 @@ module _ (law : PixelsStay) (board : Board) (has : HasPixels board) where
       let w : ℤ = pos board.width +ℤ left +ℤ right in
       let h : ℤ = pos board.height +ℤ top +ℤ bottom in
       let change : List Channels
-      → List Channels = λ pixels. pixels_moved board.width board.height pixels (side w)
+      → List Channels = λ pixels. pixels_shifted board.width board.height pixels (side w)
       (side h) left top in
       cond_both (is_side w && is_side h) (with_sides board (side w) (side h) change) board HasPixels
       (λ _. contents-All (All IsPixel) change board.rows
-      (λ pixels each. pixels_moved-All board.width board.height pixels (side w) (side h) left top
+      (λ pixels each. pixels_shifted-All board.width board.height pixels (side w) (side h) left top
       each) has)
       (λ _. has)
 

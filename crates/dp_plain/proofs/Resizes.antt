@@ -1,14 +1,16 @@
 -- The board on new sides.
 use Rattle.std.proofs.Common.{◌≡◌, ℕ, ◌≤◌, cond, true, false, ◌&&◌, Some, None, Option, List}
-use Rattle.std.proofs.Common.{refl, sym, ◌∙◌, ap, ◌⊎◌, ⊎_elim}
+use Rattle.std.proofs.Common.{sym, ◌∙◌, ap}
 use Rattle.std.specs.Prelude.{ℤ, pos, negsuc, ◌+ℤ◌, nat_le}
-use Rattle.std.proofs.lemmas.Bool.{and_left, and_right, and_parts, false_from_ne_true, cond-true}
+use Rattle.std.proofs.lemmas.Bool.{and_parts, cond-true}
 use Rattle.std.proofs.lemmas.Bool.{cond-false, leb-true, false≢true}
-use Rattle.std.proofs.lemmas.Option.{cond_some, none-some}
+use Rattle.std.proofs.lemmas.Option.{cond_some}
 use Rattle.dp_blend.specs.Color.{Channels}
 use Rattle.dp_layers.specs.Rows.{Row, map_contents}
 use Rattle.dp_plain.specs.Board.{Board}
-use Rattle.dp_plain.specs.Commands.{is_side, side, pixels_moved, resized}
+use Rattle.dp_pixels.specs.declared.resize.Resize.{Resize}
+use Rattle.dp_pixels.specs.Resizes.{IsResizeOf, is_side, side, pixels_resized, pixels_shifted}
+use Rattle.dp_plain.specs.Commands.{resized}
 
 -- the length of a side, where the whole number is one
 abbrev pub side_if : ℤ → Option ℕ
@@ -21,25 +23,12 @@ side_bounds (pos n) is =
     (leb-true 1 n bounds.0, leb-true n 4096 bounds.1)
 side_bounds (negsuc n) is = absurd (false≢true is)
 
--- both whole numbers are sides
-pub both_sides : (width height : ℤ) (m n : ℕ) → Some m ≡ side_if width → Some n ≡ side_if height
-    → (is_side width && is_side height) ≡ true
-both_sides width height m n wide high =
-    rw (
-      (cond_some (is_side width) (side width) m (sym wide)).0,
-      (cond_some (is_side height) (side height) n (sym high)).0,
-    ) refl
-
-not_side : (n : ℤ) → None ≡ side_if n → is_side n ≡ false
-not_side n h = false_from_ne_true (is_side n)
-    (λ t. none-some (side n) (h ∙ cond-true (is_side n) (Some (side n)) None t))
-
 -- with both sides the board is resized
 pub resized_to : (board : Board) (top right bottom left : ℤ) (width height : ℕ)
     (rows : List (Row (List Channels)))
     → Some width ≡ side_if (pos board.width +ℤ left +ℤ right)
     → Some height ≡ side_if (pos board.height +ℤ top +ℤ bottom)
-    → rows ≡ map_contents (λ pixels. pixels_moved board.width board.height pixels width height left
+    → rows ≡ map_contents (λ pixels. pixels_shifted board.width board.height pixels width height left
     top)
     board.rows
     → record { width = width; height = height; background = board.background; rows = rows }
@@ -55,18 +44,29 @@ resized_to board top right bottom left width height rows is_width is_height is =
     (λ (rs : List (Row (List Channels))). record
     { width = width; height = height; background = board.background; rows = rs }) is)
 
--- with one that is no side it stays
-pub resized_not : (board : Board) (top right bottom left : ℤ)
-    → (None ≡ side_if (pos board.width +ℤ left +ℤ right)) ⊎
-    (None ≡ side_if (pos board.height +ℤ top +ℤ bottom))
-    → board ≡ resized board top right bottom left
-resized_not board top right bottom left none =
+-- so it is by a resize of its sides
+pub resized_by : (board : Board) (top right bottom left : ℤ) (change : Resize)
+    (rows : List (Row (List Channels)))
+    → IsResizeOf board.width board.height top right bottom left change
+    → rows ≡ map_contents (pixels_resized change) board.rows
+    → record {
+      width = change.new_width;
+      height = change.new_height;
+      background = board.background;
+      rows = rows;
+    } ≡ resized board top right bottom left
+resized_by board top right bottom left change rows of is =
     let width : ℤ = pos board.width +ℤ left +ℤ right in
     let height : ℤ = pos board.height +ℤ top +ℤ bottom in
-    let test : (is_side width && is_side height) ≡ false =
-    ⊎_elim (λ (h : None ≡ side_if width). and_left (is_side width) (is_side height)
-    (not_side width h))
-    (λ (h : None ≡ side_if height). and_right (is_side width) (is_side height) (not_side height h))
-    none
-    in
-    sym (cond-false (is_side width && is_side height) _ board test)
+    let shifted = λ (w h : ℕ) (l t : ℤ). map_contents (λ pixels.
+    pixels_shifted w h pixels change.new_width change.new_height l t) board.rows in
+    resized_to board top right bottom left change.new_width change.new_height rows
+    (ap (λ (n : ℕ). Some n) of.to_width ∙ sym (cond-true (is_side width) (Some (side width)) None
+    of.wide))
+    (ap (λ (n : ℕ). Some n) of.to_height
+    ∙ sym (cond-true (is_side height) (Some (side height)) None of.high))
+    (is
+    ∙ (ap (λ (n : ℕ). shifted n change.height change.left change.top) of.from_width
+    ∙ (ap (λ (n : ℕ). shifted board.width n change.left change.top) of.from_height
+    ∙ (ap (λ (z : ℤ). shifted board.width board.height z change.top) of.across
+    ∙ ap (λ (z : ℤ). shifted board.width board.height left z) of.down))))

@@ -124,15 +124,6 @@ held_at rows id o distinct found = λ k d in_list here.
 
 -- ---- x put into the row of an id
 
-fill-layer : {X : Type 0} (id : ℕ) (x : X) (row : Row X) → (fill_row id x row).layer ≡ row.layer
-fill-layer {X} id x row =
-    cond_both (row.layer.id == id) (record row { content = Some x }) row
-    (λ (q : Row X). q.layer ≡ row.layer) (λ _. refl) (λ _. refl)
-
-pub layers_of-filled : {X : Type 0} (rows : List (Row X)) (id : ℕ) (x : X)
-    → layers_of (with_content rows id x) ≡ layers_of rows
-layers_of-filled rows id x = layers_of-map (fill_row id x) (fill-layer id x) rows
-
 -- what f makes of x
 pub filled-mapped : {X Y : Type 0} (f : X → Y) (rows : List (Row X)) (id : ℕ) (x : X)
     → map_contents f (with_content rows id x) ≡ with_content (map_contents f rows) id (f x)
@@ -150,20 +141,6 @@ filled-mapped {X} {Y} f rows id x =
 
     one : (row : Row X) → map_content f (fill_row id x row) ≡ fill_row id (f x) (map_content f row)
     one row = through (row.layer.id == id) (record row { content = Some x }) row
-
--- the last one stays
-pub filled_twice : {X : Type 0} (rows : List (Row X)) (id : ℕ) (x y : X)
-    → with_content (with_content rows id x) id y ≡ with_content rows id y
-filled_twice {X} rows id x y =
-    map-map (fill_row id y) (fill_row id x) rows
-    ∙ map-each (λ row. fill_row id y (fill_row id x row)) (fill_row id y) rows
-    (λ k d in_list. one (get_or rows k d))
-  where
-    one : (row : Row X) → fill_row id y (fill_row id x row) ≡ fill_row id y row
-    one row =
-        cond_both (row.layer.id == id) (record row { content = Some x }) row
-        (λ (q : Row X). fill_row id y q ≡ fill_row id y row)
-        (λ here. rw here refl) (λ _. refl)
 
 -- what the row holds is put back
 pub filled_same : {X : Type 0} (rows : List (Row X)) (id : ℕ) (x : X) → HaveIds rows

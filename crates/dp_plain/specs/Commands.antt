@@ -1,7 +1,7 @@
 -- What each drawing command makes of the board. A command that isn't given an effect leaves it as
 -- it is.
-use Rattle.std.specs.Prelude.{ℕ, ℤ, pos, negsuc, ◌+ℤ◌, ◌-ℤ◌, Bool, true, false, ◌&&◌, ◌==◌}
-use Rattle.std.specs.Prelude.{nat_le, if◌then◌else◌, Option, None, Some, option_map}
+use Rattle.std.specs.Prelude.{ℕ, ℤ, pos, ◌+ℤ◌, Bool, true, ◌&&◌, ◌==◌}
+use Rattle.std.specs.Prelude.{if◌then◌else◌, Option, None, Some, option_map}
 use Rattle.std.specs.Prelude.{List, map}
 use Rattle.std.specs.List.{fold}
 use Rattle.std.specs.Option.{option_map_or}
@@ -12,25 +12,9 @@ use Rattle.dp_msg_draw.specs.declared.draw.Draw.TheVariants as draws
 use Rattle.dp_layers.specs.Layers.{is_paint_row}
 use Rattle.dp_layers.specs.Rows.{Row, layers_of, map_contents}
 use Rattle.dp_layers.specs.Changes.{has_effect, makes_paint_row, rows_after}
-use Rattle.dp_pixels.specs.Commands.{pixel_of, pixels_after}
+use Rattle.dp_pixels.specs.Commands.{pixels_after}
+use Rattle.dp_pixels.specs.Resizes.{is_side, side, pixels_shifted}
 use Rattle.dp_plain.specs.Board.{Board}
-
--- A side of the canvas is from 1 to 4096 pixels long.
-abbrev pub is_side : ℤ → Bool
-is_side (pos n) = nat_le 1 n && nat_le n 4096
-is_side (negsuc n) = false
-
--- the length of a side, where it is one
-abbrev pub side : ℤ → ℕ
-side (pos n) = n
-side (negsuc n) = 0
-
--- the pixels on a canvas of the new sides, where each old pixel (x, y) stands at (x + left, y +
--- top)
-abbrev pub pixels_moved : ℕ → ℕ → List Channels → ℕ → ℕ → ℤ → ℤ → List Channels
-pixels_moved width height pixels new_width new_height left top =
-    canvas_of new_width new_height
-    (λ x y. pixel_of width height pixels (pos x -ℤ left) (pos y -ℤ top))
 
 -- the board with these sides, each paint row with what change makes of its pixels
 abbrev pub with_sides : Board → ℕ → ℕ → (List Channels → List Channels) → Board
@@ -44,7 +28,7 @@ resized board top right bottom left =
     let height = pos board.height +ℤ top +ℤ bottom in
     if is_side width && is_side height
     then with_sides board (side width) (side height) (λ pixels.
-    pixels_moved board.width board.height pixels (side width) (side height) left top)
+    pixels_shifted board.width board.height pixels (side width) (side height) left top)
     else board
 
 -- what a new row holds: clear pixels for each place, if it is a paint row

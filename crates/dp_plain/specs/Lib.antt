@@ -2,7 +2,6 @@ pub mod Board
 pub mod Commands
 pub mod Contents
 pub mod Weights
-pub mod Resizes
 pub mod Moves
 pub mod View
 pub mod Picture

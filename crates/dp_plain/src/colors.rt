@@ -7,7 +7,7 @@ ghost use Rattle.dp_pixels.specs.Colors.{FitsColors, FitsStroke};
 use dp_msg_draw::{Dab, Draw};
 
 /// Each colour of the command fits its field. Nothing is computed.
-pub(crate) fn known_colors(command: &Draw)
+pub fn known_colors(command: &Draw)
     ensures { FitsColors command.now }
 {
     match command {

@@ -1,18 +1,18 @@
 //! What a paint layer holds.
 
-ghost use Rattle.std.specs.Prelude.{◌≡◌, ℕ, ◌+◌, ◌*◌, ◌<◌, ◌≤◌, List, length, is_some, All, IsTrue};
-ghost use Rattle.std.specs.Prelude.{IfOk, OnOk, OnErr};
+ghost use Rattle.std.specs.Prelude.{◌≡◌, ℕ, ◌+◌, ◌*◌, ◌%◌, ◌<◌, ◌≤◌, List, length, is_some};
+ghost use Rattle.std.specs.Prelude.{All, IsTrue, IfOk, OnOk, OnErr};
 ghost use Rattle.dp_blend.specs.Color.{Channels, IsPixel, clear};
-ghost use Rattle.dp_blend.specs.Canvas.{canvas_of, pixel_at};
+ghost use Rattle.dp_blend.specs.Canvas.{canvas_of, part_of_row, pixel_at};
+ghost use Rattle.dp_blend.specs.Stretches.{IsStretch};
 ghost use Rattle.dp_msg_draw.specs.declared.draw.Draw.{Draw as Message};
 ghost use Rattle.dp_pixels.specs.Commands.{pixels_after};
 ghost use Rattle.dp_plain.specs.Commands.{painted_layer};
-ghost use Rattle.dp_plain.specs.Resizes.{pixels_resized};
-ghost use Rattle.dp_plain.specs.View.{pixels_in_part};
+ghost use Rattle.dp_pixels.specs.Resizes.{pixels_resized};
 
-use crate::geometry::Resize;
-use dp_blend::Pixel;
+use dp_blend::{Pixel, Stretch};
 use dp_msg_draw::Draw;
+use dp_pixels::Resize;
 use dp_steps::Steps;
 use std::alloc::{AllocError, Global};
 use std::sync::ledger::Ledger;
@@ -31,9 +31,6 @@ pub trait LayerPixels: Sized + Drop {
 
     /// The most tiles that a resize makes.
     ghost resizing: { ℕ };
-
-    /// A content of no canvas, which takes no memory: it fills the place of one that is taken out.
-    fn placeholder(alloc: Global) -> Self;
 
     /// The clear content of a canvas. It makes no tile.
     fn clear<T: Ledger>(
@@ -103,7 +100,17 @@ pub trait LayerPixels: Sized + Drop {
         requires inside { y < height }
         requires within { x + length part.old ≤ width }
         ensures { part.new
-            ≡ pixels_in_part width (pixels width height self.now) x y (length part.old) };
+            ≡ part_of_row width (pixels width height self.now) x y (length part.old) };
+
+    /// `count` pixels of the row y, from x on. They lie within 64 columns that begin at a multiple
+    /// of 64.
+    fn stretch(&self, width: u32, height: u32, x: u32, y: u32, count: u32) -> Stretch<'_>
+        requires fits { fits width height self.now }
+        requires inside { y < height }
+        requires within { x + count ≤ width }
+        requires one_column { x % 64 + count ≤ 64 }
+        ensures { IsStretch result
+            (part_of_row width (pixels width height self.now) x y count) };
 
     /// The pixel at a place.
     fn pixel(&self, width: u32, height: u32, x: u32, y: u32) -> Pixel

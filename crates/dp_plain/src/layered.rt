@@ -1,24 +1,25 @@
 //! The board over contents of any kind: the dispatch of the commands.
 
 ghost use Rattle.std.specs.Prelude.{◌≡◌, ◌+◌, ◌*◌, ◌≤◌, pos, ◌+ℤ◌, ◌&&◌, true, false, Some};
-ghost use Rattle.std.specs.Prelude.{OnOk, OnErr};
+ghost use Rattle.std.specs.Prelude.{option_copied, option_map, IfSome, OnOk, OnErr};
 ghost use Rattle.dp_layers.specs.Layers.{is_paint_row, row_limit};
-ghost use Rattle.dp_layers.specs.Rows.{layers_of};
+ghost use Rattle.dp_layers.specs.Rows.{content_of, layers_of};
 ghost use Rattle.dp_layers.specs.Changes.{IsCreate, has_effect};
+ghost use Rattle.dp_pixels.specs.Resizes.{is_side};
 ghost use Rattle.dp_plain.specs.Board.{empty_board, IsBoard};
 ghost use Rattle.dp_plain.specs.Commands.{draw, resized, arranged, painted, painted_layer};
-ghost use Rattle.dp_plain.specs.Commands.{IsArranging, is_accepted, is_side};
+ghost use Rattle.dp_plain.specs.Commands.{IsArranging, is_accepted};
 ghost use Rattle.dp_plain.specs.Weights.{board_weight};
 
-use crate::geometry::{Resize, new_side};
 use crate::layer_pixels::LayerPixels;
 use crate::plain::PlainPixels;
 use crate::trees::{arrange_rows, new_content, paint_content, resized_tree, shared_tree};
 use crate::view::BoardView;
-use dp_blend::Pixel;
+use dp_blend::{Pixel, Stretch};
 use dp_board::Board;
 use dp_layers::{LayerRow, Tree, contents_ride_along, trees_stay_trees};
 use dp_msg_draw::Draw;
+use dp_pixels::Resize;
 use dp_steps::Steps;
 use std::alloc::{AllocError, Global};
 use std::marker::Model;
@@ -64,6 +65,17 @@ impl<C: LayerPixels> LayeredBoard<C> {
             tree: Tree::new(alloc),
             alloc,
         }
+    }
+
+    /// What the paint layer of the id holds, or `None` where no paint layer has the id.
+    pub fn content(&self, id: u16) -> Option<&C>
+        ensures pixels { option_map (C.pixels self.now.width self.now.height)
+            (option_copied result) ≡ content_of self.now.rows id }
+        ensures fits { IfSome result (λ content.
+            C.fits self.now.width self.now.height content.now) }
+    {
+        contents_ride_along::<C, PlainPixels>();
+        self.tree.content(id)
     }
 
     /// Draws the command, as `draw` of the trait does, without counting a draw.
@@ -115,23 +127,13 @@ impl<C: LayerPixels> LayeredBoard<C> {
         ensures tiles_rise { tiles.old ≤ tiles.new }
         ensures few_tiles { tiles.new ≤ tiles.old + row_limit * C.resizing }
     {
-        let (Some(new_width), Some(new_height)) = (
-            new_side(self.width, left, right),
-            new_side(self.height, top, bottom),
-        ) else {
+        let Some(change) = Resize::of_sides(self.width, self.height, top, right, bottom, left)
+        else {
             return Ok(());
         };
-        let change = Resize {
-            width: self.width as usize,
-            height: self.height as usize,
-            new_width: new_width as usize,
-            new_height: new_height as usize,
-            left,
-            top,
-        };
         self.tree = resized_tree(self.alloc, &self.tree, change, tiles)?;
-        self.width = new_width;
-        self.height = new_height;
+        self.width = change.new_width as u32;
+        self.height = change.new_height as u32;
         Ok(())
     }
 
@@ -286,6 +288,13 @@ impl<C: LayerPixels> BoardView for LayeredBoard<C> {
     fn copy_part(&self, id: u16, x: u32, y: u32, part: &mut [Pixel]) {
         if let Some(content) = self.tree.content(id) {
             content.copy_part(self.width, self.height, x, y, part);
+        }
+    }
+
+    fn stretch(&self, id: u16, x: u32, y: u32, count: u32) -> Stretch<'_> {
+        match self.tree.content(id) {
+            Some(content) => content.stretch(self.width, self.height, x, y, count),
+            None => Stretch::Solid(Pixel::CLEAR),
         }
     }
 

@@ -6,7 +6,6 @@
 #![tactic(auto)]
 
 mod colors;
-mod geometry;
 mod laws;
 mod layer_pixels;
 mod layered;
@@ -16,7 +15,7 @@ mod resize;
 mod trees;
 mod view;
 
-pub use geometry::Resize;
+pub use colors::known_colors;
 pub use laws::spelled_commands_keep_pixels;
 pub use layer_pixels::LayerPixels;
 pub use layered::LayeredBoard;

@@ -4,13 +4,12 @@ ghost use Rattle.std.specs.Prelude.{◌≡◌, ◌*◌, length, All};
 ghost use Rattle.dp_blend.specs.Color.{IsPixel};
 
 use crate::colors::known_colors;
-use crate::geometry::Resize;
 use crate::layer_pixels::LayerPixels;
 use crate::layered::LayeredBoard;
 use crate::resize::moved_pixels;
-use dp_blend::Pixel;
+use dp_blend::{Pixel, Stretch};
 use dp_msg_draw::Draw;
-use dp_pixels::{draw_pixels, pixels_stay_pixels};
+use dp_pixels::{Resize, draw_pixels, pixels_stay_pixels};
 use dp_steps::Steps;
 use std::alloc::{AllocError, Global};
 use std::marker::Model;
@@ -44,12 +43,6 @@ impl LayerPixels for PlainPixels {
     ghost weight = { λ _. 0 };
 
     ghost resizing = { 0 };
-
-    fn placeholder(alloc: Global) -> Self {
-        PlainPixels {
-            pixels: Vec::new(alloc),
-        }
-    }
 
     fn clear<T: Ledger>(
         alloc: Global,
@@ -96,6 +89,11 @@ impl LayerPixels for PlainPixels {
     fn copy_part(&self, width: u32, _height: u32, x: u32, y: u32, part: &mut [Pixel]) {
         let start = y as usize * width as usize + x as usize;
         part.copy_from_slice(&self.pixels[start..start + part.len()]);
+    }
+
+    fn stretch(&self, width: u32, _height: u32, x: u32, y: u32, count: u32) -> Stretch<'_> {
+        let start = y as usize * width as usize + x as usize;
+        Stretch::Pixels(&self.pixels[start..start + count as usize])
     }
 
     fn pixel(&self, width: u32, _height: u32, x: u32, y: u32) -> Pixel {

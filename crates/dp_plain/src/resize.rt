@@ -3,10 +3,10 @@
 ghost use Rattle.std.specs.Prelude.{◌≡◌, ◌*◌, ◌≤◌, ℤ, ◌++◌, length, IfOk, OnOk};
 ghost use Rattle.dp_pixels.specs.Commands.{pixel_of};
 ghost use Rattle.dp_plain.specs.Moves.{pixel_in, row_moved};
-ghost use Rattle.dp_plain.specs.Resizes.{pixels_resized};
+ghost use Rattle.dp_pixels.specs.Resizes.{pixels_resized};
 
-use crate::geometry::Resize;
 use dp_blend::Pixel;
+use dp_pixels::Resize;
 use std::alloc::{AllocError, Global};
 
 /// The pixel at a place of a row, clear outside it.

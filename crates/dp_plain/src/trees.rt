@@ -12,14 +12,14 @@ ghost use Rattle.dp_layers.specs.Rows.{layers_of, map_contents, contents_of};
 ghost use Rattle.dp_layers.specs.Tree.{IsTree};
 ghost use Rattle.dp_pixels.specs.Commands.{pixels_after};
 ghost use Rattle.dp_plain.specs.Commands.{painted_layer, with_change, IsArranging};
-ghost use Rattle.dp_plain.specs.Resizes.{pixels_resized};
+ghost use Rattle.dp_pixels.specs.Resizes.{pixels_resized};
 ghost use Rattle.dp_plain.specs.Contents.{ContentsFit, IsHeld};
 
-use crate::geometry::Resize;
 use crate::layer_pixels::LayerPixels;
 use crate::plain::PlainPixels;
 use dp_layers::{Tree, contents_in_order, one_tree, trees_stay_trees};
 use dp_msg_draw::Draw;
+use dp_pixels::Resize;
 use dp_steps::Steps;
 use std::alloc::{AllocError, Global};
 use std::sync::ledger::Ledger;
@@ -87,13 +87,10 @@ pub(crate) fn paint_content<C: LayerPixels, T: Ledger>(
     ensures few_tiles { tiles.new ≤ tiles.old + C.weight command.now }
 {
     trees_stay_trees::<C>();
-    if tree.content(id).is_none() {
-        return Ok(());
+    match tree.content_mut(id) {
+        Some(content) => content.paint(alloc, width, height, command, tiles),
+        None => Ok(()),
     }
-    let mut content = tree.put_content(id, C::placeholder(alloc));
-    let painted = content.paint(alloc, width, height, command, tiles);
-    let _placeholder = tree.put_content(id, content);
-    painted
 }
 
 /// The tree on a canvas of the new sides.

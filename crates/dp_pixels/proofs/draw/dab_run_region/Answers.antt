@@ -21,8 +21,8 @@ loop-dab-preserved c =
       last = next.last;
       drawn = dabs_more c.args.region.now c.args.stride s.shape c.in-Some.mode c.args.color
           (placed_dabs s.at.x s.at.y s.dabs.now) c.loop-dab.dab-index c.behind-placed.result
-          c.args.pixels.now c.loop-dab.pixels c.dab_region.new.pixels next.within next.is
-          c.loop-dab.invariant.drawn c.dab_region.ensures;
+          c.args.pixels.now c.loop-dab.pixels c.draw_dab.new.pixels next.within next.is
+          c.loop-dab.invariant.drawn c.draw_dab.ensures;
     }
 
 pub returns : goal.returns

@@ -10,6 +10,6 @@ abbrev pub invariant-loop-dab : goal.invariant-loop-dab
 invariant-loop-dab l = record {
   last : IsLast l.run.at.x l.run.at.y l.run.dabs.now l.dab-index l.last;
   drawn : IsPainted l.region l.stride (on_canvas l.region
-      (dabs_blended l.run.shape l.mode l.color (take l.dab-index
+      (dabs_blended l.brush.shape l.brush.mode l.brush.color (take l.dab-index
       (placed_dabs l.run.at.x l.run.at.y l.run.dabs.now)))) l.initial.pixels l.pixels;
 }

@@ -2,7 +2,7 @@ use Rattle.std.proofs.Common.{arith, rules, ◌∙◌, ◌++◌, ap, w32}
 use Rattle.std.specs.Prelude.{ℤ, FitsSigned}
 use Rattle.std.proofs.lemmas.Int.{ints, to_z-of_z}
 use Rattle.dp_plain.specs.Moves.{row_moved}
-use Rattle.dp_plain.proofs.Moves.{difference, pixels_moved_more}
+use Rattle.dp_plain.proofs.Moves.{difference, pixels_shifted_more}
 use Rattle.dp_plain.proofs.resize.moved_pixels.Goals as goal
 
 pub loop-y-preserved : goal.loop-y-preserved
@@ -14,7 +14,7 @@ loop-y-preserved c =
     ∙
     (ap (λ (z : ℤ). c.loop-y.moved.items ++ row_moved r.new_width c.row_at-row.result.now z)
     (to_z-of_z w32 r.left left_fits)
-    ∙ pixels_moved_more r.width r.height c.args.pixels.now c.loop-y.moved.items
+    ∙ pixels_shifted_more r.width r.height c.args.pixels.now c.loop-y.moved.items
     c.row_at-row.result.now
     r.new_width c.loop-y.y r.left r.top (difference c.loop-y.y r.top)
     c.loop-y.invariant (omega (arith, ints)) c.row_at-row.ensures)

@@ -3,7 +3,7 @@ use Rattle.std.specs.Prelude.{All}
 use Rattle.std.proofs.lemmas.List.Elements.{All-push}
 use Rattle.dp_layers.specs.declared.row.LayerRow.{LayerRow}
 use Rattle.dp_layers.specs.Rows.{content_of}
-use Rattle.dp_plain.specs.Resizes.{pixels_resized}
+use Rattle.dp_pixels.specs.Resizes.{pixels_resized}
 use Rattle.dp_plain.proofs.Holds.{fit_found}
 use Rattle.dp_plain.proofs.Remaking.{none_next, changed_next}
 use Rattle.dp_plain.proofs.trees.resized_contents.Goals as goal

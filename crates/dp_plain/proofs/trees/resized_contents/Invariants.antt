@@ -2,7 +2,7 @@ use Rattle.std.proofs.Common.{◌≡◌, ◌+◌, ◌*◌, ◌≤◌, map, take}
 use Rattle.std.specs.Prelude.{All}
 use Rattle.std.specs.List.{filter_map}
 use Rattle.dp_layers.specs.Rows.{content_of}
-use Rattle.dp_plain.specs.Resizes.{pixels_resized}
+use Rattle.dp_pixels.specs.Resizes.{pixels_resized}
 use Rattle.dp_plain.proofs.trees.resized_contents.Given as goal
 
 -- the contents of the rows before the place are resized

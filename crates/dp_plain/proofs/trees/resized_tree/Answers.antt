@@ -1,6 +1,6 @@
 use Rattle.std.proofs.Common.{◌∙◌, ap, map, sym, subst}
 use Rattle.std.specs.Prelude.{All}
-use Rattle.dp_plain.specs.Resizes.{pixels_resized}
+use Rattle.dp_pixels.specs.Resizes.{pixels_resized}
 use Rattle.dp_plain.proofs.Holds.{fit_contents}
 use Rattle.dp_plain.proofs.Remaking.{changed_tree}
 use Rattle.dp_plain.proofs.trees.resized_tree.Goals as goal

@@ -4,7 +4,7 @@ use Rattle.dp_layers.specs.Layers.{is_paint_row}
 use Rattle.dp_layers.specs.Rows.{layers_of}
 use Rattle.dp_plain.specs.Board.{Board}
 use Rattle.dp_plain.specs.Picture.{pixels_of}
-use Rattle.dp_plain.specs.View.{pixels_in_part}
+use Rattle.dp_blend.specs.Canvas.{part_of_row}
 use Rattle.dp_plain.proofs.Holds.{fit_found}
 use Rattle.dp_plain.proofs.Views.{layers_seen, pixels_seen}
 use Rattle.dp_plain.proofs.layered.LayeredBoardBoardView.copy_part.Goals as goal
@@ -20,9 +20,9 @@ pub returns-in-Some : goal.returns-in-Some
 returns-in-Some g c =
     let inside = c.self.inside in
     subst
-    (λ (board : Board). c.copy_part.new.part ≡ pixels_in_part board.width
+    (λ (board : Board). c.copy_part.new.part ≡ part_of_row board.width
     (pixels_of board c.args.id) c.args.x c.args.y (length c.args.part.now)) c.self.view_is
-    (c.copy_part.ensures ∙ ap (λ pixels. pixels_in_part inside.width pixels c.args.x c.args.y
+    (c.copy_part.ensures ∙ ap (λ pixels. part_of_row inside.width pixels c.args.x c.args.y
     (length c.args.part.now))
     (sym
     (pixels_seen (g.C.LayerPixels.pixels inside.width inside.height) inside.tree c.args.id

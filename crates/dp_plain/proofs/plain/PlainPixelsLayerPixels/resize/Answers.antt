@@ -2,8 +2,8 @@ use Rattle.std.proofs.Common.{◌∙◌, ap, sym, subst, length, List}
 use Rattle.std.specs.Prelude.{All}
 use Rattle.dp_blend.specs.Color.{Channels, IsPixel}
 use Rattle.dp_blend.proofs.Canvas.{length-canvas_of}
-use Rattle.dp_plain.specs.Resizes.{pixels_resized}
-use Rattle.dp_plain.proofs.Pixels.{pixels_moved-All}
+use Rattle.dp_pixels.specs.Resizes.{pixels_resized}
+use Rattle.dp_plain.proofs.Pixels.{pixels_shifted-All}
 use Rattle.dp_plain.proofs.plain.PlainPixelsLayerPixels.resize.Goals as goal
 
 pub returns-clause-fits : goal.returns-clause-fits
@@ -14,6 +14,6 @@ returns-clause-fits g c =
       ap (λ (pixels : List Channels). length pixels) is
           ∙ length-canvas_of change.new_width change.new_height _,
       subst (All IsPixel) (sym is)
-          (pixels_moved-All change.width change.height c.args.self.now change.new_width
+          (pixels_shifted-All change.width change.height c.args.self.now change.new_width
           change.new_height change.left change.top c.requires.fits.1),
     )

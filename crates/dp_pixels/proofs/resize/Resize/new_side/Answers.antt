@@ -1,10 +1,10 @@
 use Rattle.std.proofs.Common.{arith}
 use Rattle.std.specs.Prelude.{ℤ, pos, ◌+ℤ◌}
 use Rattle.std.proofs.lemmas.Int.{ints}
-use Rattle.dp_plain.proofs.Moves.{grown, side_from_range, none_below_side, none_above_side}
-use Rattle.dp_plain.proofs.geometry.new_side.Goals as goal
-use Rattle.dp_plain.proofs.geometry.new_side.Goals.{else-new-ge1-via-then-new-ge1+else-new-le-MAX_SIDE}
-use Rattle.dp_plain.proofs.geometry.new_side.Goals.{else-new-ge1-via-else-new-ge1}
+use Rattle.dp_pixels.proofs.Sides.{grown, side_from_range, none_below_side, none_above_side}
+use Rattle.dp_pixels.proofs.resize.Resize.new_side.Goals as goal
+use Rattle.dp_pixels.proofs.resize.Resize.new_side.Goals.{else-new-ge1-via-then-new-ge1+else-new-le-MAX_SIDE}
+use Rattle.dp_pixels.proofs.resize.Resize.new_side.Goals.{else-new-ge1-via-else-new-ge1}
 
 pub returns-then-new-le-MAX_SIDE-clause-value : goal.returns-then-new-le-MAX_SIDE-clause-value
 returns-then-new-le-MAX_SIDE-clause-value c =
