@@ -1,5 +1,11 @@
-pub mod Around
+pub mod Strokes
 pub mod Drawn
 pub mod FootLemmas
+pub mod Moving
 pub mod Painting
 pub mod Plain
+pub mod Read
+pub mod Resized
+pub mod RowLemmas
+pub mod Shown
+pub mod Tiles

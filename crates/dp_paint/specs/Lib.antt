@@ -1,1 +1,4 @@
 pub mod Painting
+pub mod Strokes
+pub mod Reading
+pub mod Movements

@@ -1,109 +1,223 @@
-//! The rectangle around the dabs of a message.
+//! The dabs of a message, tile by tile.
 
-ghost use Rattle.std.specs.Prelude.{◌≡◌, ◌+◌, ◌/◌, ◌<◌, ◌≤◌, ◌^◌, ◌+ℤ◌, ◌-ℤ◌, pos, length};
-ghost use Rattle.std.specs.Prelude.{unsigned_abs};
-ghost use Rattle.std.specs.Option.{option_map_or};
-ghost use Rattle.dp_pixels.specs.Rectangles.{joined, rect_at};
-ghost use Rattle.dp_pixels.specs.Dabs.{placed_dabs};
-ghost use Rattle.dp_pixels.specs.Feet.{around};
+ghost use Rattle.std.specs.Prelude.{◌≡◌, [], ◌∷◌, ◌++◌, ℕ, ◌+◌, ◌-◌, ◌*◌, ◌<◌, ◌≤◌, ◌&&◌};
+ghost use Rattle.std.specs.Prelude.{nat_le, nat_lt, List, map, replicate, length};
+ghost use Rattle.std.specs.Prelude.{IsTrue, IfOk, OnOk};
+ghost use Rattle.dp_pixels.specs.declared.dabs.PlacedDab.{PlacedDab};
+ghost use Rattle.dp_pixels.specs.Rectangles.{share_place};
+ghost use Rattle.dp_pixels.specs.Commands.{dabs_blended};
+ghost use Rattle.dp_pixels.specs.Regions.{IsPainted, on_canvas};
+ghost use Rattle.dp_paint.specs.Strokes.{AreFiled, IsFiled, meets_stretch, tile_square};
 
-use dp_msg_draw::Dab;
-use dp_pixels::Rect;
+use dp_blend::Pixel;
+use dp_pixels::{Brush, NearDab, Rect, Region, draw_dab};
+use dp_tile::{CellArea, SIDE};
+use std::alloc::{AllocError, Global};
+use std::marker::Model;
 
-/// The least rectangle that has the places of both.
-fn joined(a: Rect, b: Rect) -> Rect
-    ensures { result ≡ joined a b }
-{
-    Rect {
-        x0: a.x0.min(b.x0),
-        y0: a.y0.min(b.y0),
-        x1: a.x1.max(b.x1),
-        y1: a.y1.max(b.y1),
+/// The greatest length of a side, in pixels.
+const MAX_SIDE: i64 = 4096;
+
+/// The dabs of a tile. They are seen as where each of them stands, in order.
+#[derive(Drop)]
+pub(crate) struct DabList {
+    dabs: Vec<NearDab>,
+}
+
+impl Model for DabList {
+    ghost use Rattle.std.specs.Prelude.{List, map};
+    ghost use Rattle.dp_pixels.specs.declared.dabs.PlacedDab.{PlacedDab};
+
+    ghost Value = { List PlacedDab };
+
+    ghost view = { λ l. map (λ near. near.dab) l.dabs.items };
+}
+
+impl DabList {
+    /// No dab. It takes no memory.
+    fn new(alloc: Global) -> DabList
+        ensures { result ≡ [] }
+    {
+        DabList {
+            dabs: Vec::new(alloc),
+        }
+    }
+
+    /// Adds a dab after the others.
+    fn push(&mut self, dab: NearDab) -> Result<(), AllocError>
+        ensures { OnOk result (self.new ≡ self.old ++ dab.dab ∷ []) }
+    {
+        self.dabs.push(dab)?;
+        Ok(())
+    }
+
+    /// Whether there is no dab.
+    pub(crate) fn is_empty(&self) -> bool
+        ensures { IsTrue result → self.now ≡ [] }
+    {
+        self.dabs.is_empty()
+    }
+
+    /// Draws the dabs one after the other on a region as wide as a tile.
+    pub(crate) fn draw(&self, brush: &Brush, region: &Region, pixels: &mut [Pixel])
+        requires wide { region.now.width ≤ 64 }
+        requires long { region.now.height * 64 ≤ length pixels.old }
+        ensures { IsPainted region.now 64
+            (on_canvas region.now
+            (dabs_blended brush.now.shape brush.now.mode brush.now.color self.now))
+            pixels.old pixels.new }
+    {
+        for dab in &self.dabs {
+            draw_dab(brush, *dab, region, SIDE, pixels);
+        }
     }
 }
 
-/// The rectangle, with the places of another too where there is one.
-fn extended(all: Option<Rect>, cells: Rect) -> Rect
-    ensures { result ≡ option_map_or (λ rect. joined rect cells) all cells }
+/// Lists of so many tiles without a dab.
+fn empty_lists(alloc: Global, count: usize) -> Result<Vec<DabList>, AllocError>
+    ensures { IfOk result (λ lists. lists.items ≡ replicate count []) }
 {
-    match all {
-        None => cells,
-        Some(rect) => joined(rect, cells),
+    let mut lists = Vec::with_capacity(alloc, count)?;
+    for _made in 0..count {
+        lists.push(DabList::new(alloc))?;
+    }
+    Ok(lists)
+}
+
+/// Adds a dab to each list.
+fn push_to_each(lists: &mut [DabList], dab: NearDab) -> Result<(), AllocError>
+    ensures { OnOk result (lists.new ≡ map (λ dabs. dabs ++ dab.dab ∷ []) lists.old) }
+{
+    for list in lists.iter_mut() {
+        list.push(dab)?;
+    }
+    Ok(())
+}
+
+/// Of the tiles along a side, from `left` on before `right`, those that have one of the places from
+/// one on before another, counted from `left`: the first of them, and the first after them.
+fn tiles_met(from: i64, to: i64, left: u32, right: u32) -> (usize, usize)
+    requires order { left ≤ right }
+    requires few { right ≤ 64 }
+    ensures order { result.0 ≤ result.1 }
+    ensures within { result.1 ≤ right - left }
+    ensures met { (k : ℕ) → k < right - left
+        → (nat_le result.0 k && nat_lt k result.1) ≡ meets_stretch from to (left + k) }
+{
+    if from >= to {
+        return (0, 0);
+    }
+    let first = from.clamp(0, MAX_SIDE) as u32 / 64;
+    let behind = (to.clamp(0, MAX_SIDE) as u32 + 63) / 64;
+    let start = first.clamp(left, right) - left;
+    let end = behind.clamp(left, right) - left;
+    (start as usize, end as usize)
+}
+
+/// Of the tiles of a row, from column `left` on before `right`, those that a square meets, counted
+/// from `left`: the first of them, and the first after them.
+fn columns_met(square: Rect, left: u32, right: u32, row: u32) -> (usize, usize)
+    requires order { left ≤ right }
+    requires few { right ≤ 64 }
+    requires row { row < 64 }
+    ensures order { result.0 ≤ result.1 }
+    ensures within { result.1 ≤ right - left }
+    ensures met { (k : ℕ) → k < right - left
+        → (nat_le result.0 k && nat_lt k result.1)
+        ≡ share_place square (tile_square (left + k) row) }
+{
+    let (top, bottom) = tiles_met(square.y0, square.y1, row, row + 1);
+    if top < bottom {
+        tiles_met(square.x0, square.x1, left, right)
+    } else {
+        (0, 0)
     }
 }
 
-/// Where a dab stands.
-#[derive(Clone, Copy)]
-struct Spot {
-    x: i64,
-    y: i64,
+/// Puts a dab to the tiles of a row, from column `left` on before `right`, that its square meets.
+fn put_dab(
+    cells: &mut [DabList],
+    left: u32,
+    right: u32,
+    row: u32,
+    dab: NearDab,
+) -> Result<(), AllocError>
+    requires order { left ≤ right }
+    requires few { right ≤ 64 }
+    requires row { row < 64 }
+    requires cells { length cells.old ≡ right - left }
+    ensures { OnOk result ((dabs : List PlacedDab)
+        → IsFiled left (right - left) row dabs cells.old
+        → IsFiled left (right - left) row (dabs ++ dab.dab ∷ []) cells.new) }
+{
+    let (start, end) = columns_met(dab.rect(), left, right, row);
+    push_to_each(&mut cells[start..end], dab)
 }
 
-/// The place of a dab after the place of the one before it.
-fn behind(last: Spot, dab: Dab) -> Spot
-    requires x { unsigned_abs last.x < 2 ^ 40 }
-    requires y { unsigned_abs last.y < 2 ^ 40 }
-    ensures x { result.x ≡ last.x +ℤ dab.dx }
-    ensures y { result.y ≡ last.y +ℤ dab.dy }
-    ensures near_x { unsigned_abs result.x ≤ unsigned_abs last.x + 128 }
-    ensures near_y { unsigned_abs result.y ≤ unsigned_abs last.y + 128 }
-{
-    Spot {
-        x: last.x + dab.dx as i64,
-        y: last.y + dab.dy as i64,
+/// The dabs of the tiles of a row, from a column on. They are seen as the list of the tiles' dabs.
+#[derive(Drop)]
+pub(crate) struct DabRow {
+    cells: Vec<DabList>,
+}
+
+impl Model for DabRow {
+    ghost use Rattle.std.specs.Prelude.{List};
+    ghost use Rattle.dp_pixels.specs.declared.dabs.PlacedDab.{PlacedDab};
+
+    ghost Value = { List (List PlacedDab) };
+
+    ghost view = { λ r. r.cells.items };
+}
+
+impl DabRow {
+    ghost use Rattle.std.specs.Prelude.{slice_index_or, IfSome, IfNone};
+
+    /// Puts each dab to the tiles of a row that its square meets, of those from column `left` on
+    /// before `right`.
+    fn file(
+        alloc: Global,
+        left: u32,
+        right: u32,
+        row: u32,
+        dabs: &[NearDab],
+    ) -> Result<DabRow, AllocError>
+        requires order { left ≤ right }
+        requires few { right ≤ 64 }
+        requires row { row < 64 }
+        ensures { IfOk result
+            (IsFiled left (right - left) row (map (λ near. near.dab) dabs.now)) }
+    {
+        let mut cells = empty_lists(alloc, (right - left) as usize)?;
+        for dab in dabs {
+            put_dab(cells.as_mut_slice(), left, right, row, *dab)?;
+        }
+        Ok(DabRow { cells })
+    }
+
+    /// The dabs of a tile, counted from the first one, if it is one of the row's.
+    pub(crate) fn cell(&self, k: usize) -> Option<&DabList>
+        ensures some { IfSome result (λ dabs. dabs.now ≡ slice_index_or self.now k []) }
+        ensures none { IfNone result (slice_index_or self.now k [] ≡ []) }
+    {
+        self.cells.get(k)
     }
 }
 
-/// The square of this corner and side.
-fn square_at(corner: Spot, size: u8) -> Rect
-    requires x { unsigned_abs corner.x < 2 ^ 40 }
-    requires y { unsigned_abs corner.y < 2 ^ 40 }
-    ensures { result ≡ rect_at corner.x corner.y size size }
+/// Puts each dab to the tiles of an area that its square meets.
+pub(crate) fn file_rows(
+    alloc: Global,
+    area: CellArea,
+    dabs: &[NearDab],
+) -> Result<Vec<DabRow>, AllocError>
+    requires across { area.left ≤ area.right }
+    requires down { area.top ≤ area.bottom }
+    requires cols { area.right ≤ 64 }
+    requires rows { area.bottom ≤ 64 }
+    ensures { IfOk result (λ rows. AreFiled area (map (λ near. near.dab) dabs.now) rows.items) }
 {
-    Rect {
-        x0: corner.x,
-        y0: corner.y,
-        x1: corner.x + size as i64,
-        y1: corner.y + size as i64,
+    let mut rows = Vec::with_capacity(alloc, (area.bottom - area.top) as usize)?;
+    for row in area.top..area.bottom {
+        rows.push(DabRow::file(alloc, area.left, area.right, row, dabs)?)?;
     }
-}
-
-/// The square of the cells of a dab.
-fn square(at: Spot, size: u8) -> Rect
-    requires x { unsigned_abs at.x < 2 ^ 39 }
-    requires y { unsigned_abs at.y < 2 ^ 39 }
-    ensures { result
-        ≡ rect_at (at.x -ℤ pos (size / 2)) (at.y -ℤ pos (size / 2)) size size }
-{
-    let half = (size / 2) as i64;
-    let corner = Spot {
-        x: at.x - half,
-        y: at.y - half,
-    };
-    square_at(corner, size)
-}
-
-/// The least rectangle around dabs. Without a dab it has no place.
-pub(crate) fn around(x: i32, y: i32, dabs: &[Dab]) -> Rect
-    requires { length dabs.now ≤ 16380 }
-    ensures { result ≡ around (placed_dabs x y dabs.now) }
-{
-    let mut last = Spot {
-        x: x as i64,
-        y: y as i64,
-    };
-    let mut all = None;
-    for dab in dabs {
-        last = behind(last, *dab);
-        all = Some(extended(all, square(last, dab.size)));
-    }
-    match all {
-        Some(rect) => rect,
-        None => Rect {
-            x0: 0,
-            y0: 0,
-            x1: 0,
-            y1: 0,
-        },
-    }
+    Ok(rows)
 }

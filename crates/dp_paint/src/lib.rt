@@ -3,12 +3,21 @@
 //! The rule: docs/protocol.md, "Pixel commands".
 #![tactic(auto)]
 
+mod cells;
 mod dabs;
 mod feet;
+mod fetch;
+mod movement;
 mod paint;
 mod painter;
+mod reading;
+mod resize;
+mod rows;
+mod stroke;
 
+pub use movement::{move_in_place, move_one};
 pub use paint::{paint_in_place, paint_one};
+pub use resize::{resize_grid, resized_grid};
 
 #[cfg(test)]
 mod tests;

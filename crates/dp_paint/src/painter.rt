@@ -1,10 +1,11 @@
 //! What a command does to a tile.
 
-ghost use Rattle.std.specs.Prelude.{◌≡◌, ◌+◌, ◌*◌, ◌<◌, ◌≤◌, pos, true, IsTrue};
+ghost use Rattle.std.specs.Prelude.{◌≡◌, ◌+◌, ◌*◌, ◌<◌, ◌≤◌, pos, true, false, IsTrue, length};
 ghost use Rattle.dp_pixels.specs.Rectangles.{rect_at};
 ghost use Rattle.dp_pixels.specs.Commands.{is_stamp, pixel_after};
 ghost use Rattle.dp_paint.specs.Painting.{IsTileWithin, length-tile_drawn, tile_drawn};
 
+use crate::fetch::Fill;
 use dp_blend::Pixel;
 use dp_msg_draw::Draw;
 use dp_pixels::{Region, draw_region, pixel_after};
@@ -16,15 +17,6 @@ pub(crate) struct CommandPainter<'a> {
     pub command: &'a Draw,
     pub width: u32,
     pub height: u32,
-}
-
-/// A rectangle: its corner and its sides.
-#[derive(Clone, Copy)]
-struct Fill {
-    x: u32,
-    y: u32,
-    w: u32,
-    h: u32,
 }
 
 /// Whether all 64 numbers of a stretch are among `len` from `from` on, and below a limit.
@@ -58,6 +50,27 @@ impl CommandPainter<'_> {
     {
         pixel_after(self.command, col as i64 * 64, row as i64 * 64, old)
     }
+
+    /// Fetches what a fill paints of the tile at a column and a row. The answer is no.
+    fn fetch(&self, col: u32, row: u32, pixels: &[Pixel]) -> bool
+        requires col { col < 64 }
+        requires row { row < 64 }
+        requires count { length pixels.now ≡ 4096 }
+        ensures { result ≡ false }
+    {
+        match self.command {
+            Draw::FillRect { x, y, w, h, .. } => {
+                let area = Fill {
+                    x: *x,
+                    y: *y,
+                    w: *w,
+                    h: *h,
+                };
+                area.fetch(col, row, pixels)
+            }
+            _ => false,
+        }
+    }
 }
 
 impl TilePainter for CommandPainter<'_> {
@@ -86,6 +99,10 @@ impl TilePainter for CommandPainter<'_> {
     }
 
     fn paint(&self, col: u32, row: u32, pixels: &mut [Pixel]) {
+        if self.fetch(col, row, pixels) {
+            // This is never so. The test has the compiler keep what is read for it.
+            return;
+        }
         let region = Region {
             x: col * 64,
             y: row * 64,

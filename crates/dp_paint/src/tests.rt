@@ -2,7 +2,7 @@ ghost use Rattle.std.specs.Prelude.{◌≡◌, ◌<◌};
 
 use crate::paint_one;
 use dp_blend::Pixel;
-use dp_msg_draw::Draw;
+use dp_msg_draw::{Dab, Dabs, Draw};
 use dp_steps::Steps;
 use dp_tile::Grid;
 use std::alloc::{AllocError, Global};
@@ -40,5 +40,47 @@ fn a_fill_stays_on_the_canvas(rt: HostRuntime) -> Result<(), AllocError> {
     let pixels = filled::<Brand>(rt.alloc(), Blank::new(1))?;
     let (white, clear) = (Pixel::WHITE, Pixel::CLEAR);
     assert_eq!(rt; pixels, [clear, white, white, clear]);
+    Ok(())
+}
+
+/// Which tiles of a canvas of 256 by 64 are there after two square dabs, in the first and in the
+/// third of them.
+fn stroked<T: Ledger>(alloc: Global, blank: Blank) -> Result<[bool; 4], AllocError>
+    requires name { blank.name ≡ T.name }
+    requires parts { blank.parts ≡ T.parts }
+    requires some { 0 < blank.parts }
+{
+    let mut tiles = Steps::<T>::new(blank);
+    let old = Grid::new(alloc, 4, 1)?;
+    let first = Dab {
+        dx: 0,
+        dy: 0,
+        size: 4,
+        opacity: 255,
+    };
+    let list = vec![in alloc; first, Dab { dx: 127, ..first }]?;
+    let stroke = Draw::DabsSquare {
+        layer: 1,
+        x: 20,
+        y: 20,
+        r: 255,
+        g: 255,
+        b: 255,
+        mode: 1,
+        dabs: Dabs::from_vec(list),
+    };
+    let grid = paint_one(&old, 256, 64, &stroke, &mut tiles)?;
+    Ok([
+        grid.tile(0, 0).is_some(),
+        grid.tile(1, 0).is_some(),
+        grid.tile(2, 0).is_some(),
+        grid.tile(3, 0).is_some(),
+    ])
+}
+
+#[test]
+fn a_stroke_makes_no_tile_between_its_dabs(rt: HostRuntime) -> Result<(), AllocError> {
+    let tiles = stroked::<Brand>(rt.alloc(), Blank::new(1))?;
+    assert_eq!(rt; tiles, [true, false, true, false]);
     Ok(())
 }

@@ -1,0 +1,339 @@
+//! Rectangles that move on a grid.
+
+ghost use Rattle.std.specs.Prelude.{◌≡◌, ℕ, ℤ, ◌+◌, ◌<◌, ◌≤◌, ◌^◌, ◌≤ℤ◌, ◌<ℤ◌, ◌+ℤ◌, ◌-ℤ◌, true};
+ghost use Rattle.std.specs.Prelude.{false, pos};
+ghost use Rattle.std.specs.Prelude.{map, length, slice_index_or, unsigned_abs};
+ghost use Rattle.std.specs.Prelude.{IfOk, OnOk, OnErr};
+ghost use Rattle.dp_blend.specs.Color.{Channels, clear};
+ghost use Rattle.dp_blend.specs.Blending.{blend};
+ghost use Rattle.dp_blend.specs.Canvas.{below};
+ghost use Rattle.dp_pixels.specs.Rectangles.{canvas_rect, clipped, rect_at};
+ghost use Rattle.dp_pixels.specs.Commands.{pixels_after};
+ghost use Rattle.dp_pixels.specs.Feet.{reach};
+ghost use Rattle.dp_tile.specs.Tiles.{grid_pixels};
+ghost use Rattle.dp_paint.specs.Painting.{IsGridOf};
+ghost use Rattle.dp_paint.specs.Reading.{ArePainted, IsAreaOf, IsMove, cells_of, moved_part};
+ghost use Rattle.dp_paint.specs.Movements.{move_of};
+ghost use Rattle.dp_paint.specs.Reading.{cleared, laid, lifted, row_from, shown};
+
+use crate::cells::{cells_in, on_greatest};
+use crate::feet::rect_of;
+use crate::reading::{Shown, clear_row, count_below, place_after};
+use crate::rows::{RowPainter, RowSource};
+use dp_blend::{Mode, ONE, Pixel, fade_by_one_keeps, row_merge};
+use dp_msg_draw::Draw;
+use dp_pixels::{Rect, pixels_stay_outside_the_foot};
+use dp_steps::Steps;
+use dp_tile::{CellArea, Grid, SIDE, TileChange};
+use std::alloc::AllocError;
+use std::sync::ledger::Ledger;
+
+/// A MoveRect, as it is drawn: the canvas before it, its source as far as that is on the canvas,
+/// and how far the source moves.
+#[derive(Clone, Copy)]
+struct Moved<'a> {
+    old: Shown<'a>,
+    source: Rect,
+    right: i64,
+    down: i64,
+    ghost near_x0: { unsigned_abs source.x0 < 2 ^ 38 },
+    ghost near_x1: { unsigned_abs source.x1 < 2 ^ 38 },
+    ghost near_right: { unsigned_abs right < 2 ^ 38 },
+    ghost near_down: { unsigned_abs down < 2 ^ 38 },
+}
+
+impl Moved<'_> {
+    /// Whether the source has a place in the row y.
+    fn has_row(self, y: i64) -> bool
+        ensures yes { result ≡ true → (self.entry.source.y0 ≤ℤ y) × (y <ℤ self.entry.source.y1) }
+        ensures no { result ≡ false → self.entry.source.y0 ≤ℤ y → y <ℤ self.entry.source.y1
+            → ⊥ }
+    {
+        self.source.y0 <= y && y < self.source.y1
+    }
+
+    /// Clears the places of a row that are in the source.
+    fn clear(self, x: i64, y: i64, row: &mut [Pixel])
+        requires x { unsigned_abs x < 2 ^ 32 }
+        requires len { length row.old ≤ 64 }
+        ensures { (pixel : ℤ → ℤ → Channels) → row.old ≡ row_from pixel x y (length row.old)
+            → row.new ≡ row_from (cleared self.entry.source pixel) x y (length row.old) }
+    {
+        let start = count_below(self.source.x0, x, row.len());
+        let end = count_below(self.source.x1, x, row.len());
+        if self.has_row(y) && start < end {
+            clear_row(&mut row[start..end]);
+        }
+    }
+
+    /// Blends the old pixels that begin at a place on those of a row.
+    fn lay_part(self, x: i64, y: i64, row: &mut [Pixel])
+        requires x { unsigned_abs x < 2 ^ 40 }
+        requires y { unsigned_abs y < 2 ^ 40 }
+        requires len { length row.old ≤ 64 }
+        ensures len { length row.new ≡ length row.old }
+        ensures places { (i : ℕ) → i < length row.old → slice_index_or row.new i clear
+            ≡ blend Mode.Normal (shown self.entry.old.width self.entry.old.height
+            self.entry.old.grid.now (x +ℤ pos i) y) (slice_index_or row.old i clear) }
+    {
+        let mut lifted = [Pixel::CLEAR; SIDE];
+        self.lay_lifted(x, y, &mut lifted[..row.len()], row);
+    }
+
+    /// The same by way of a copy of the old pixels.
+    fn lay_lifted(self, x: i64, y: i64, lifted: &mut [Pixel], row: &mut [Pixel])
+        requires x { unsigned_abs x < 2 ^ 40 }
+        requires y { unsigned_abs y < 2 ^ 40 }
+        requires len { length row.old ≤ 64 }
+        requires same { length lifted.old ≡ length row.old }
+        ensures len { length row.new ≡ length row.old }
+        ensures places { (i : ℕ) → i < length row.old → slice_index_or row.new i clear
+            ≡ blend Mode.Normal (shown self.entry.old.width self.entry.old.height
+            self.entry.old.grid.now (x +ℤ pos i) y) (slice_index_or row.old i clear) }
+    {
+        self.old.read(x, y, lifted);
+        lay_row(lifted, row);
+    }
+
+    /// Blends the old pixels that begin at a place on those of a row, where they are of the source.
+    fn lay_source(self, x: i64, y: i64, row: &mut [Pixel])
+        requires x { unsigned_abs x < 2 ^ 39 }
+        requires y { unsigned_abs y < 2 ^ 39 }
+        requires len { length row.old ≤ 64 }
+        ensures { (under : ℕ → Channels) → row.old ≡ map under (below (length row.old))
+            → row.new ≡ map (lifted self.entry.source x y (shown self.entry.old.width
+            self.entry.old.height self.entry.old.grid.now) under) (below (length row.old)) }
+    {
+        let start = count_below(self.source.x0, x, row.len());
+        let end = count_below(self.source.x1, x, row.len());
+        if self.has_row(y) && start < end {
+            self.lay_part(place_after(x, start), y, &mut row[start..end]);
+        }
+    }
+
+    /// Blends what moved to a row.
+    fn lay(self, x: i64, y: i64, row: &mut [Pixel])
+        requires x { unsigned_abs x < 2 ^ 32 }
+        requires y { unsigned_abs y < 2 ^ 32 }
+        requires len { length row.old ≤ 64 }
+        ensures { (pixel : ℤ → ℤ → Channels) → row.old ≡ row_from pixel x y (length row.old)
+            → row.new ≡ row_from (laid self.entry.source self.entry.right self.entry.down
+            (shown self.entry.old.width self.entry.old.height self.entry.old.grid.now) pixel)
+            x y (length row.old) }
+    {
+        self.lay_source(x - self.right, y - self.down, row);
+    }
+}
+
+/// Blends pixels on those of a row.
+fn lay_row(sources: &[Pixel], row: &mut [Pixel])
+    requires { length sources.now ≡ length row.old }
+    ensures len { length row.new ≡ length row.old }
+    ensures places { (k : ℕ) → k < length row.old → slice_index_or row.new k clear
+        ≡ blend Mode.Normal (slice_index_or sources.now k clear) (slice_index_or row.old k clear) }
+{
+    fade_by_one_keeps();
+    row_merge(Mode::Normal, ONE, sources, row);
+}
+
+impl RowSource for Moved<'_> {
+    ghost use Rattle.dp_paint.specs.Reading.{moved_part, shown};
+
+    ghost pixel = { λ m. moved_part m.source m.right m.down
+        (shown m.old.width m.old.height m.old.grid.now) };
+
+    fn put_row(&self, x: i64, y: i64, row: &mut [Pixel]) {
+        self.old.read(x, y, row);
+        self.clear(x, y, row);
+        self.lay(x, y, row);
+    }
+
+    fn change(&self, _col: u32, _row: u32, _color: Option<Pixel>) -> TileChange {
+        TileChange::Unknown
+    }
+}
+
+/// A rectangle that moves: the corner and the sides of its source, and the corner of its target.
+#[derive(Clone, Copy)]
+struct Movement {
+    sx: u32,
+    sy: u32,
+    w: u32,
+    h: u32,
+    tx: i32,
+    ty: i32,
+}
+
+/// The rectangle of this corner and these sides.
+fn target_rect(x: i32, y: i32, w: u32, h: u32) -> Rect
+    ensures { result ≡ rect_at x y w h }
+{
+    Rect {
+        x0: x as i64,
+        y0: y as i64,
+        x1: x as i64 + w as i64,
+        y1: y as i64 + h as i64,
+    }
+}
+
+/// How far it is from a place to another one.
+fn way(from: u32, to: i32) -> i64
+    ensures value { result ≡ to -ℤ pos from }
+    ensures near { unsigned_abs result < 2 ^ 38 }
+{
+    to as i64 - from as i64
+}
+
+/// The part of a rectangle that is on a canvas.
+fn on_canvas(rect: Rect, width: u32, height: u32) -> Rect
+    requires x0 { unsigned_abs rect.x0 < 2 ^ 38 }
+    requires x1 { unsigned_abs rect.x1 < 2 ^ 38 }
+    ensures value { result ≡ clipped rect (canvas_rect width height) }
+    ensures x0 { unsigned_abs result.x0 < 2 ^ 38 }
+    ensures x1 { unsigned_abs result.x1 < 2 ^ 38 }
+{
+    rect.clipped(Rect::canvas(width, height))
+}
+
+/// Paints what moved on two areas of a grid. Where it is refused, one of them may be painted.
+fn paint_areas<T: Ledger>(
+    grid: &mut Grid,
+    moved: &Moved,
+    from: CellArea,
+    to: CellArea,
+    tiles: &mut Steps<T>,
+) -> Result<(), AllocError>
+    requires from { IsAreaOf grid.old from }
+    requires to { IsAreaOf grid.old to }
+    ensures painted { OnOk result (ArePainted from to
+        (moved_part moved.now.source moved.now.right moved.now.down
+        (shown moved.now.old.width moved.now.old.height moved.now.old.grid.now))
+        grid.old grid.new) }
+    ensures tiles_rise { tiles.old ≤ tiles.new }
+    ensures few_tiles { tiles.new ≤ tiles.old + cells_of from + cells_of to }
+{
+    let painter = RowPainter { source: moved };
+    grid.paint_area(from, &painter, tiles)?;
+    grid.paint_area(to, &painter, tiles)
+}
+
+/// Moves a rectangle on a grid, as another grid of the same pixels shows it. Where it is refused, a
+/// part may be painted.
+fn paint_move<T: Ledger>(
+    grid: &mut Grid,
+    old: Shown,
+    movement: Movement,
+    tiles: &mut Steps<T>,
+) -> Result<(), AllocError>
+    requires same { old.grid.now ≡ grid.old }
+    ensures grid { OnOk result (IsGridOf old.entry.width old.entry.height grid.new) }
+    ensures pixels { (layer : ℕ) → OnOk result (grid_pixels old.entry.width old.entry.height grid.new
+        ≡ pixels_after old.entry.width old.entry.height (move_of layer movement)
+        (grid_pixels old.entry.width old.entry.height grid.old)) }
+    ensures tiles_rise { tiles.old ≤ tiles.new }
+    ensures few_tiles { (layer : ℕ) → tiles.new ≤ tiles.old + reach (move_of layer movement) }
+{
+    pixels_stay_outside_the_foot();
+    let Movement {
+        sx,
+        sy,
+        w,
+        h,
+        tx,
+        ty,
+    } = movement;
+    let source = rect_of(sx, sy, w, h);
+    let moved = Moved {
+        old,
+        source: on_canvas(source, old.width, old.height),
+        right: way(sx, tx),
+        down: way(sy, ty),
+    };
+    let (cols, rows) = (old.grid.cols(), old.grid.rows());
+    let from = cells_in(on_greatest(source), cols, rows);
+    let to = cells_in(on_greatest(target_rect(tx, ty, w, h)), cols, rows);
+    paint_areas(grid, &moved, from, to, tiles)
+}
+
+/// The movement of a MoveRect.
+fn movement_of(command: &Draw) -> Movement
+    requires { IsMove command.now }
+    ensures { (layer : ℕ) × (command.now ≡ move_of layer result) }
+{
+    match command {
+        Draw::MoveRect {
+            sx,
+            sy,
+            w,
+            h,
+            tx,
+            ty,
+            ..
+        } => Movement {
+            sx: *sx,
+            sy: *sy,
+            w: *w,
+            h: *h,
+            tx: *tx,
+            ty: *ty,
+        },
+        _ => unreachable!(),
+    }
+}
+
+/// Paints a MoveRect on a grid.
+///
+/// # Errors
+///
+/// The grid is as it was, and tiles that were made are counted.
+pub fn move_in_place<T: Ledger>(
+    grid: &mut Grid,
+    width: u32,
+    height: u32,
+    command: &Draw,
+    tiles: &mut Steps<T>,
+) -> Result<(), AllocError>
+    requires grid { IsGridOf width height grid.old }
+    requires command { IsMove command.now }
+    ensures grid { OnOk result (IsGridOf width height grid.new) }
+    ensures pixels { OnOk result (grid_pixels width height grid.new
+        ≡ pixels_after width height command.now (grid_pixels width height grid.old)) }
+    ensures err { OnErr result (grid.new ≡ grid.old) }
+    ensures tiles_rise { tiles.old ≤ tiles.new }
+    ensures few_tiles { tiles.new ≤ tiles.old + reach command.now }
+{
+    let old = grid.share()?;
+    let shown = Shown {
+        grid: &old,
+        width,
+        height,
+    };
+    match paint_move(grid, shown, movement_of(command), tiles) {
+        Ok(()) => Ok(()),
+        Err(refused) => {
+            *grid = old;
+            Err(refused)
+        }
+    }
+}
+
+/// The grid after a MoveRect. It shares the tiles that the command doesn't change.
+pub fn move_one<T: Ledger>(
+    grid: &Grid,
+    width: u32,
+    height: u32,
+    command: &Draw,
+    tiles: &mut Steps<T>,
+) -> Result<Grid, AllocError>
+    requires grid { IsGridOf width height grid.now }
+    requires command { IsMove command.now }
+    ensures grid { IfOk result (IsGridOf width height) }
+    ensures pixels { IfOk result (λ moved. grid_pixels width height moved
+        ≡ pixels_after width height command.now (grid_pixels width height grid.now)) }
+    ensures tiles_rise { tiles.old ≤ tiles.new }
+    ensures few_tiles { tiles.new ≤ tiles.old + reach command.now }
+{
+    let mut moved = grid.share()?;
+    move_in_place(&mut moved, width, height, command, tiles)?;
+    Ok(moved)
+}

@@ -1,0 +1,154 @@
+//! Grids of a canvas that gets new sides.
+
+ghost use Rattle.std.specs.Prelude.{◌≡◌, ◌+◌, ◌*◌, ◌<◌, ◌≤◌, ◌^◌, ℕ, pos, ◌+ℤ◌, ◌-ℤ◌, true};
+ghost use Rattle.std.specs.Prelude.{unsigned_abs, Some, IfOk};
+ghost use Rattle.dp_blend.specs.Color.{clear};
+ghost use Rattle.dp_pixels.specs.declared.resize.Resize.{Resize as Change};
+ghost use Rattle.dp_pixels.specs.Tiles.{tiles_along};
+ghost use Rattle.dp_paint.specs.Painting.{IsGridOf};
+ghost use Rattle.dp_paint.specs.Reading.{IsResizeBy, IsResized};
+
+use crate::reading::Shown;
+use crate::rows::{RowPainter, RowSource};
+use dp_blend::Pixel;
+use dp_msg_draw::Draw;
+use dp_pixels::Resize;
+use dp_steps::Steps;
+use dp_tile::{CellArea, Grid, TileChange};
+use std::alloc::AllocError;
+use std::sync::ledger::Ledger;
+
+/// How many tiles there are along a side.
+fn tiles_along(side: usize) -> u32
+    requires { side ≤ 4096 }
+    ensures value { result ≡ tiles_along side }
+    ensures few { result ≤ 64 }
+{
+    (side as u32 + 63) / 64
+}
+
+/// A canvas, as it stands on one of other sides.
+#[derive(Clone, Copy)]
+struct Shifted<'a> {
+    old: Shown<'a>,
+    left: i32,
+    top: i32,
+}
+
+/// A place, so far back.
+fn place_back(x: i64, by: i32) -> i64
+    requires { unsigned_abs x < 2 ^ 32 }
+    ensures value { result ≡ x -ℤ by }
+    ensures near { unsigned_abs result < 2 ^ 34 }
+{
+    x - by as i64
+}
+
+/// The first place of a column or row of tiles, so far back.
+fn tile_back(tile: u32, by: i32) -> i64
+    requires { tile < 64 }
+    ensures value { result ≡ pos (tile * 64) -ℤ by }
+    ensures near { unsigned_abs result < 2 ^ 34 }
+{
+    tile as i64 * 64 - by as i64
+}
+
+/// Whether it is the colour of what is clear.
+fn is_clear_color(color: Option<Pixel>) -> bool
+    ensures { result ≡ true → color ≡ Some clear }
+{
+    match color {
+        Some(p) => p == Pixel::CLEAR,
+        None => false,
+    }
+}
+
+impl RowSource for Shifted<'_> {
+    ghost use Rattle.std.specs.Prelude.{◌-ℤ◌};
+    ghost use Rattle.dp_paint.specs.Reading.{shown};
+
+    ghost pixel = { λ s x y. shown s.old.width s.old.height s.old.grid.now (x -ℤ s.left)
+        (y -ℤ s.top) };
+
+    fn put_row(&self, x: i64, y: i64, row: &mut [Pixel]) {
+        self.old
+            .read(place_back(x, self.left), place_back(y, self.top), row);
+    }
+
+    fn change(&self, col: u32, row: u32, color: Option<Pixel>) -> TileChange {
+        let (x, y) = (tile_back(col, self.left), tile_back(row, self.top));
+        if is_clear_color(color) && self.old.is_clear(x, y) {
+            TileChange::Stays
+        } else {
+            TileChange::Unknown
+        }
+    }
+}
+
+/// The grid on a canvas of the new sides. Where the canvas was clear, no tile is made.
+pub fn resized_grid<T: Ledger>(
+    grid: &Grid,
+    change: Resize,
+    tiles: &mut Steps<T>,
+) -> Result<Grid, AllocError>
+    requires { IsGridOf change.width change.height grid.now }
+    ensures resized { IfOk result (IsResized change grid.now) }
+    ensures tiles_rise { tiles.old ≤ tiles.new }
+    ensures few_tiles { tiles.new
+        ≤ tiles.old + tiles_along change.new_height * tiles_along change.new_width }
+{
+    let (cols, rows) = (
+        tiles_along(change.new_width),
+        tiles_along(change.new_height),
+    );
+    let shifted = Shifted {
+        old: Shown {
+            grid,
+            width: change.width as u32,
+            height: change.height as u32,
+        },
+        left: change.left,
+        top: change.top,
+    };
+    let painter = RowPainter { source: &shifted };
+    let all = CellArea {
+        left: 0,
+        right: cols,
+        top: 0,
+        bottom: rows,
+    };
+    let mut resized = Grid::new(grid.alloc(), cols, rows)?;
+    resized.paint_area(all, &painter, tiles)?;
+    Ok(resized)
+}
+
+/// The grid after a CanvasResize that has an effect on a canvas of these sides.
+pub fn resize_grid<T: Ledger>(
+    grid: &Grid,
+    width: u32,
+    height: u32,
+    command: &Draw,
+    tiles: &mut Steps<T>,
+) -> Result<Grid, AllocError>
+    requires grid { IsGridOf width height grid.now }
+    requires effect { (change : Change) × IsResizeBy width height command.now change }
+    ensures resized { IfOk result (λ resized. (change : Change)
+        × IsResizeBy width height command.now change × IsResized change grid.now resized) }
+    ensures tiles_rise { tiles.old ≤ tiles.new }
+    ensures few_tiles { (change : Change) → IsResizeBy width height command.now change
+        → tiles.new ≤ tiles.old + tiles_along change.new_height * tiles_along change.new_width }
+{
+    let Draw::CanvasResize {
+        top,
+        right,
+        bottom,
+        left,
+    } = command
+    else {
+        unreachable!()
+    };
+    match Resize::of_sides(width, height, *top, *right, *bottom, *left) {
+        Some(change) => resized_grid(grid, change, tiles),
+        None => unreachable!(),
+    }
+}
