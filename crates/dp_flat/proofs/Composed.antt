@@ -1,34 +1,18 @@
 -- A pixel while the rows of a parent are laid on it, one after the other.
-use Rattle.std.proofs.Common.{◌≡◌, ◌≢◌, ℕ, ◌+◌, ◌-◌, ◌<◌, ◌≤◌, suc, zero, true, false, cond, List}
-use Rattle.std.proofs.Common.{[]}
-use Rattle.std.proofs.Common.{◌∷◌, ◌++◌, length, get_or, take, refl, sym, ap, ◌∙◌, arith}
-use Rattle.std.proofs.lemmas.Bool.Decides.{nat_tests}
-use Rattle.std.proofs.Math.Seq.{take-append_seam}
-use Rattle.std.proofs.lemmas.List.{append_assoc, append-nil, take_all}
-use Rattle.std.proofs.lemmas.List.FromFn.{fill_by_all, get_or-map-range_with_len}
-use Rattle.std.proofs.lemmas.List.Elements.{filter_more}
-use Rattle.std.proofs.lemmas.List.Sums.{fold_push}
+use Rattle.std.proofs.Common.{◌≡◌, ℕ, ◌+◌, ◌-◌, ◌<◌, ◌≤◌, suc, zero, true, false, cond, List}
+use Rattle.std.proofs.Common.{◌∷◌, ◌++◌, length, get_or, take, drop, sym, ap, ◌∙◌, subst, refl}
+use Rattle.std.proofs.Common.{arith}
+use Rattle.std.proofs.lemmas.List.{take_all, take_rest, take-append-drop, drop_more}
+use Rattle.std.proofs.lemmas.List.Elements.{filter-append}
+use Rattle.std.proofs.lemmas.List.Sums.{fold-append}
 use Rattle.std.specs.List.{filter, fold}
-use Rattle.dp_blend.specs.Color.{Channels, clear, white, of_argb}
-use Rattle.dp_blend.specs.Blending.{blend}
-use Rattle.dp_blend.specs.declared.modes.Mode.TheVariants.{Normal}
-use Rattle.dp_blend.specs.Canvas.{pixel_at}
+use Rattle.dp_blend.specs.Color.{Channels, clear}
 use Rattle.dp_layers.specs.declared.row.LayerRow.{LayerRow}
-use Rattle.dp_layers.specs.Layers.{nesting_limit}
 use Rattle.dp_layers.specs.Rows.{layers_of}
 use Rattle.dp_plain.specs.Board.{Board}
-use Rattle.dp_plain.specs.Picture.{compose, is_seen_in, laid, pixels_of, row_pixel, seen}
-use Rattle.dp_plain.specs.View.{pixels_in_row}
-use Rattle.dp_flat.specs.Composed.{shown, seen_row, IsShown}
-
--- the pixel after one more row of the list was laid on it
-abbrev pub laid_on : Board → ℕ → ℕ → ℕ → Channels → LayerRow → Channels
-laid_on board depth x y under row = laid row (shown board depth row x y) under
-
--- the pixel after those of these rows that are seen in the parent
-abbrev pub composed_by : Board → ℕ → ℕ → List LayerRow → ℕ → ℕ → Channels → Channels
-composed_by board depth parent rows x y start = fold (laid_on board depth x y) start
-    (filter (is_seen_in parent) rows)
+use Rattle.dp_plain.specs.Picture.{compose, is_seen_in, laid, row_pixel, seen}
+use Rattle.dp_flat.specs.declared.chunk.Chunk.{Chunk}
+use Rattle.dp_flat.specs.Composed.{shown, laid_on, composed_by, HidesBelow, IsEnough}
 
 -- no level is left
 pub compose-zero : (board : Board) (parent x y : ℕ) (start : Channels)
@@ -42,36 +26,6 @@ pub compose-suc : (board : Board) (depth parent x y : ℕ) (start : Channels)
     ≡ composed_by board depth parent (layers_of board.rows) x y start
 unfolding compose
 compose-suc board depth parent x y start = refl
-
--- one more row, which is seen
-pub composed_more_yes : (board : Board) (depth parent : ℕ) (rows : List LayerRow) (x y : ℕ)
-    (start : Channels) (i : ℕ) (row : LayerRow)
-    → i < length rows → row ≡ get_or rows i row → is_seen_in parent row ≡ true
-    → composed_by board depth parent (take (i + 1) rows) x y start
-    ≡ laid_on board depth x y (composed_by board depth parent (take i rows) x y start) row
-composed_more_yes board depth parent rows x y start i row inside is seen =
-    let step : filter (is_seen_in parent) (take (i + 1) rows)
-    ≡ filter (is_seen_in parent) (take i rows)
-    ++ cond (is_seen_in parent row) (row ∷ []) [] =
-    rw is (filter_more (is_seen_in parent) rows i row inside) in
-    ap (fold (laid_on board depth x y) start)
-    (step ∙ ap (λ b. filter (is_seen_in parent) (take i rows) ++ cond b (row ∷ []) []) seen)
-    ∙ fold_push (laid_on board depth x y) start (filter (is_seen_in parent) (take i rows)) row
-
--- one more row, which isn't seen
-pub composed_more_no : (board : Board) (depth parent : ℕ) (rows : List LayerRow) (x y : ℕ)
-    (start : Channels) (i : ℕ) (row : LayerRow)
-    → i < length rows → row ≡ get_or rows i row → is_seen_in parent row ≡ false
-    → composed_by board depth parent (take (i + 1) rows) x y start
-    ≡ composed_by board depth parent (take i rows) x y start
-composed_more_no board depth parent rows x y start i row inside is unseen =
-    let step : filter (is_seen_in parent) (take (i + 1) rows)
-    ≡ filter (is_seen_in parent) (take i rows)
-    ++ cond (is_seen_in parent row) (row ∷ []) [] =
-    rw is (filter_more (is_seen_in parent) rows i row inside) in
-    ap (fold (laid_on board depth x y) start)
-    (step ∙ ap (λ b. filter (is_seen_in parent) (take i rows) ++ cond b (row ∷ []) []) unseen
-    ∙ append-nil (filter (is_seen_in parent) (take i rows)))
 
 -- with no level left nothing is laid
 pub compose_none : (board : Board) (depth parent x y : ℕ) (start : Channels) → depth ≡ 0
@@ -93,72 +47,76 @@ composed_all board depth parent rows x y start i some is all =
     ∙ sym (compose-suc board (depth - 1) parent x y start)
     ∙ ap (λ n. compose n (row_pixel board x y) (layers_of board.rows) parent start) one_more
 
--- whether a row is seen
-pub seen_yes : (parent : ℕ) (row : LayerRow) → row.parent ≡ parent → row.hidden ≡ false
-    → is_seen_in parent row ≡ true
-seen_yes parent row inside shows = grind (arith, nat_tests)
-
-pub hidden_no : (parent : ℕ) (row : LayerRow) → row.hidden ≡ true → is_seen_in parent row ≡ false
-hidden_no parent row hides = rw hides (grind (arith, nat_tests))
-
-pub elsewhere_no : (parent : ℕ) (row : LayerRow) → row.parent ≢ parent
-    → is_seen_in parent row ≡ false
-elsewhere_no parent row outside = grind (arith, nat_tests)
-
--- the pixel after one more row, which is seen
-pub laid_more : (board : Board) (depth parent : ℕ) (rows : List LayerRow) (x y : ℕ)
-    (start : Channels)
-    (i : ℕ) (row : LayerRow) (under source now : Channels)
-    → i < length rows → row ≡ get_or rows i row → row.parent ≡ parent → row.hidden ≡ false
-    → under ≡ composed_by board depth parent (take i rows) x y start
-    → source ≡ shown board depth row x y → now ≡ laid row source under
-    → now ≡ composed_by board depth parent (take (i + 1) rows) x y start
-laid_more board depth parent rows x y start i row under source now inside is stands shows before
-    shown_there after =
-    after ∙ ap (λ s. laid row s under) shown_there ∙ ap (λ p. laid_on board depth x y p row) before
-    ∙ sym (composed_more_yes board depth parent rows x y start i row inside is
-    (seen_yes parent row stands shows))
-
--- the pixel after one more row, which isn't seen
-pub passed_more : (board : Board) (depth parent : ℕ) (rows : List LayerRow) (x y : ℕ)
-    (start : Channels)
-    (i : ℕ) (row : LayerRow) (under : Channels)
-    → i < length rows → row ≡ get_or rows i row → is_seen_in parent row ≡ false
-    → under ≡ composed_by board depth parent (take i rows) x y start
-    → under ≡ composed_by board depth parent (take (i + 1) rows) x y start
-passed_more board depth parent rows x y start i row under inside is unseen before =
-    before ∙ sym (composed_more_no board depth parent rows x y start i row inside is unseen)
-
--- the pixel that a paint row shows
-pub shown_paint : (board : Board) (depth : ℕ) (row : LayerRow) (y : ℕ) (source : List Channels)
-    → row.group ≡ false
-    → source ≡ pixels_in_row board.width (pixels_of board row.id) y → length source ≡ board.width
-    → IsShown board depth row y source
-shown_paint board depth row y source paints is long = λ x in_row.
-    let pixel = λ (x : ℕ). pixel_at board.width (pixels_of board row.id) x y in
-    ap (λ l. get_or l x clear) is
-    ∙ get_or-map-range_with_len pixel 0 board.width x x clear (omega arith) (omega arith)
-    ∙ ap (λ b. cond b (compose depth (row_pixel board x y) (layers_of board.rows) row.id clear)
+-- what a paint row shows, and a group
+pub shown_paint : (board : Board) (depth : ℕ) (row : LayerRow) (x y : ℕ) → row.group ≡ false
+    → row_pixel board x y row ≡ shown board depth row x y
+shown_paint board depth row x y paints =
+    ap (λ b. cond b (compose depth (row_pixel board x y) (layers_of board.rows) row.id clear)
     (row_pixel board x y row)) (sym paints)
 
--- what is seen at a place: the root's rows on the background, and that on white
-pub seen_at : (board : Board) (x y : ℕ) (shown whole root : Channels)
-    → shown ≡ blend Normal whole white
-    → whole ≡ compose nesting_limit (row_pixel board x y) (layers_of board.rows) 0 root
-    → root ≡ of_argb board.background
-    → shown ≡ seen board x y
-seen_at board x y shown whole root on_white composed on_background =
-    on_white ∙ ap (λ (p : Channels). blend Normal p white)
-    (composed ∙ ap (compose nesting_limit (row_pixel board x y) (layers_of board.rows) 0)
-    on_background)
+-- ---- rows that hide what is below them
 
--- the first of some rows is a row of the picture, where it has at each place what is seen there
-pub is_seen_row : (board : Board) (y : ℕ) (row others last : List Channels)
-    → length row ≡ board.width
-    → ((x : ℕ) → x < board.width → get_or row x clear ≡ seen board x y)
-    → take board.width (row ++ others ++ last) ≡ seen_row board y
-is_seen_row board y row others last long same =
-    ap (take board.width) (append_assoc row others last)
-    ∙ ap (λ n. take n (row ++ (others ++ last))) (sym long)
-    ∙ take-append_seam row (others ++ last)
-    ∙ fill_by_all (λ x. seen board x y) row board.width clear long same
+composed_by-append : (board : Board) (depth parent : ℕ) (first rest : List LayerRow) (x y : ℕ)
+    (start : Channels)
+    → composed_by board depth parent (first ++ rest) x y start
+    ≡ composed_by board depth parent rest x y (composed_by board depth parent first x y start)
+composed_by-append board depth parent first rest x y start =
+    ap (fold (laid_on board depth x y) start) (filter-append (is_seen_in parent) first rest)
+    ∙ fold-append (laid_on board depth x y) start (filter (is_seen_in parent) first)
+    (filter (is_seen_in parent) rest)
+
+-- from such a row on it doesn't matter what the rows are laid on
+from_hiding : (board : Board) (depth parent : ℕ) (row : LayerRow) (rest : List LayerRow) (x y : ℕ)
+    (start other : Channels)
+    → is_seen_in parent row ≡ true
+    → laid_on board depth x y start row ≡ laid_on board depth x y other row
+    → composed_by board depth parent (row ∷ rest) x y start
+    ≡ composed_by board depth parent (row ∷ rest) x y other
+from_hiding board depth parent row rest x y start other seen hides =
+    let above = filter (is_seen_in parent) rest in
+    let step = laid_on board depth x y in
+    let folded : (s : Channels)
+    → fold step s (filter (is_seen_in parent) (row ∷ rest)) ≡ fold step (step s row) above =
+    λ s. ap (λ b. fold step s (cond b (row ∷ above) above)) seen in
+    folded start ∙ ap (λ s. fold step s above) hides ∙ sym (folded other)
+
+-- the rows from such a row on are enough
+pub enough_from : (board : Board) (parent : ℕ) (chunk : Chunk) (rows : List LayerRow) (k : ℕ)
+    (row : LayerRow)
+    → k < length rows → row ≡ get_or rows k row → rows ≡ layers_of board.rows
+    → is_seen_in parent row ≡ true → HidesBelow board row chunk → IsEnough board parent chunk k
+enough_from board parent chunk rows k row inside is all seen hides = λ depth i start in_chunk.
+    let by = λ (rs : List LayerRow) (s : Channels).
+    composed_by board depth parent rs (chunk.x + i) chunk.y s in
+    let here : drop k rows ≡ row ∷ drop (k + 1) rows = drop_more rows k row inside
+    ∙ ap (λ r. r ∷ drop (k + 1) rows) (sym is) in
+    let from : (s t : Channels) → by (drop k rows) s ≡ by (drop k rows) t = λ s t.
+    ap (λ rs. by rs s) here
+    ∙ from_hiding board depth parent row (drop (k + 1) rows) (chunk.x + i) chunk.y s t seen
+    (hides depth i s t in_chunk)
+    ∙ sym (ap (λ rs. by rs t) here) in
+    let whole : by (drop k rows) start ≡ by rows start =
+    from start (by (take k rows) start)
+    ∙ sym (composed_by-append board depth parent (take k rows) (drop k rows) (chunk.x + i) chunk.y
+    start)
+    ∙ ap (λ rs. by rs start) (take-append-drop k rows) in
+    subst (λ rs. by (drop k rs) start ≡ by rs start) all whole
+
+-- once the rows that are enough are laid, all are composed
+pub composed_enough : (board : Board) (depth parent : ℕ) (chunk : Chunk)
+    (rows above : List LayerRow) (first n i : ℕ) (start now : Channels)
+    → IsEnough board parent chunk first → 0 < depth → rows ≡ layers_of board.rows
+    → above ≡ take (length rows - first) (drop first rows) → length above ≤ n → i < chunk.count
+    → now ≡ composed_by board (depth - 1) parent (take n above) (chunk.x + i) chunk.y start
+    → now ≡ compose depth (row_pixel board (chunk.x + i) chunk.y) (layers_of board.rows) parent
+    start
+composed_enough board depth parent chunk rows above first n i start now enough some all are last
+    in_chunk laid =
+    let by = λ (rs : List LayerRow).
+    composed_by board (depth - 1) parent rs (chunk.x + i) chunk.y start in
+    let more : suc (depth - 1) ≡ depth = omega arith in
+    laid ∙ ap by (take_all n above last ∙ are ∙ take_rest rows first ∙ ap (drop first) all)
+    ∙ enough (depth - 1) i start in_chunk
+    ∙ sym (compose-suc board (depth - 1) parent (chunk.x + i) chunk.y start)
+    ∙ ap (λ d. compose d (row_pixel board (chunk.x + i) chunk.y) (layers_of board.rows) parent
+    start) more

@@ -1,3 +1,5 @@
+pub mod Chunks
 pub mod Composed
 pub mod Prefixes
+pub mod RedAndBlue
 pub mod Rows

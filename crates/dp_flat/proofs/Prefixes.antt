@@ -1,21 +1,15 @@
 -- What a sink holds after several pieces of a text, the last of them perhaps in part.
-use Rattle.std.proofs.Common.{◌≡◌, ℕ, List, [], ◌++◌, Ok, Err, OnOk, subst, refl}
+use Rattle.std.proofs.Common.{◌≡◌, ℕ, List, ◌++◌, Ok, Err, OnOk, subst}
 use Rattle.std.proofs.Common.{sym}
 use Rattle.std.proofs.Common.{ap, ◌∙◌}
 use Rattle.std.proofs.lemmas.List.{append_assoc}
-use Rattle.std.proofs.KnownBytes.{Appends-nil, Appends-trans}
+use Rattle.std.proofs.KnownBytes.{Appends-trans}
 use Rattle.std.specs.declared.option.Option.{Option}
 use Rattle.std.specs.declared.result.Result.{Result}
 use Rattle.std.specs.Io.KnownBytes.{Appends}
 use Rattle.dp_io.specs.Streams.{GrowsByPrefix}
-use Rattle.dp_io.proofs.Prefixes.{grows_within, grows_after}
+use Rattle.dp_io.proofs.Prefixes.{grows_after}
 use Rattle.dp_flat.specs.Texts.{GrowsBefore}
-
--- ---- a text that was appended but for a piece at its end
-
--- nothing is appended yet
-pub before_none : (a : Option (List ℕ)) (piece : List ℕ) → GrowsBefore a a piece piece
-before_none a piece = record { bytes = []; appended = Appends-nil a; whole = refl }
 
 -- more of the text was put into the piece
 pub before_more : (a b : Option (List ℕ)) (piece text more now : List ℕ)
@@ -64,36 +58,6 @@ pub before_cut : (a b c : Option (List ℕ)) (piece text : List ℕ) → GrowsBe
 before_cut a b c piece text before some =
     subst (GrowsByPrefix a c) before.whole (grows_after a b c before.bytes piece before.appended
     some)
-
--- ---- a text of which some is still to come
-
--- the text was appended, but for the piece and for what is still to come after it
-pub record GrowsToward (old new : Option (List ℕ)) (piece rest text : List ℕ) : Type 0 where
-  pub done : List ℕ
-  pub before : GrowsBefore old new piece done
-  pub left : done ++ rest ≡ text
-
--- the piece was written, and more of the text was put into the next one
-pub toward_more : (a b c : Option (List ℕ)) (piece room now more rest others text : List ℕ)
-    → GrowsToward a b piece rest text
-    → GrowsBefore b c room piece → now ≡ room ++ more → rest ≡ more ++ others
-    → GrowsToward a c now others text
-toward_more a b c piece room now more rest others text before made put split = record {
-  done = before.done ++ more;
-  before = before_on a b c piece before.done more now before.before
-      (before_more b c room piece more now made put);
-  left = append_assoc before.done more others ∙ ap (λ l. before.done ++ l) (sym split)
-      ∙ before.left;
-}
-
--- the piece was written in part
-pub toward_failed : (a b c : Option (List ℕ)) (piece rest text : List ℕ)
-    → GrowsToward a b piece rest text
-    → GrowsByPrefix b c piece
-    → GrowsByPrefix a c text
-toward_failed a b c piece rest text before some =
-    subst (GrowsByPrefix a c) before.left
-    (grows_within a c before.done rest (before_cut a b c piece before.done before.before some))
 
 -- the last piece was written, where the call says so
 pub last_written : {T E : Type 0} (a b c : Option (List ℕ)) (piece last text : List ℕ)

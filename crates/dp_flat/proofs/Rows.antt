@@ -1,17 +1,18 @@
 -- The text of a picture by its rows.
-use Rattle.std.proofs.Common.{◌≡◌, ℕ, ◌+◌, ◌-◌, ◌<◌, List, ◌∷◌, ◌++◌, map, suc, zero, sym, ap, ◌∙◌}
-use Rattle.std.proofs.Common.{subst}
-use Rattle.std.proofs.Common.{arith}
-use Rattle.std.proofs.lemmas.List.{append_assoc, append-nil}
+use Rattle.std.proofs.Common.{◌≡◌, ℕ, ◌+◌, ◌-◌, ◌<◌, ◌≤◌, List, ◌∷◌, ◌++◌, map, suc, zero, sym, ap}
+use Rattle.std.proofs.Common.{◌∙◌, subst, arith, replicate, refl}
+use Rattle.std.proofs.lemmas.List.{append_assoc, append-nil, map-append}
+use Rattle.std.proofs.lemmas.List.FromFn.{fill_by_all, get_or-map-range_with_len}
+use Rattle.std.proofs.lemmas.List.FromFn.{length-map-range_with_len}
 use Rattle.std.proofs.lemmas.Grind.{flat_map-append}
 use Rattle.std.specs.List.{range_with_len, flat_map}
 use Rattle.std.specs.declared.option.Option.{Option}
-use Rattle.dp_blend.specs.Color.{Channels}
+use Rattle.dp_blend.specs.Color.{Channels, clear}
 use Rattle.dp_blend.specs.Canvas.{below, canvas_of}
 use Rattle.dp_plain.specs.Board.{Board}
 use Rattle.dp_plain.specs.Picture.{picture, seen}
 use Rattle.dp_io.specs.Streams.{GrowsByPrefix}
-use Rattle.dp_flat.specs.Composed.{seen_row}
+use Rattle.dp_flat.specs.Composed.{seen_first, seen_row}
 use Rattle.dp_flat.specs.Texts.{GrowsBefore}
 use Rattle.dp_io.proofs.Prefixes.{grows_within}
 
@@ -46,25 +47,24 @@ rows_more board y =
 
 -- the text so far and that of one more row
 pub text_more : (text : Channels → List ℕ) (board : Board) (y : ℕ) (front : List ℕ)
-    (row : List Channels)
-    → row ≡ seen_row board y
-    → front ++ flat_map text (canvas_of board.width y (seen board)) ++ flat_map text row
+    → front ++ flat_map text (canvas_of board.width y (seen board))
+    ++ flat_map text (seen_row board y)
     ≡ front ++ flat_map text (canvas_of board.width (y + 1) (seen board))
-text_more text board y front row is =
-    append_assoc front (flat_map text (canvas_of board.width y (seen board))) (flat_map text row)
-    ∙ ap (λ l. front ++ l) (ap (λ r. flat_map text (canvas_of board.width y (seen board))
-    ++ flat_map text r) is
-    ∙ sym (flat_map-append text (canvas_of board.width y (seen board)) (seen_row board y))
+text_more text board y front =
+    append_assoc front (flat_map text (canvas_of board.width y (seen board)))
+    (flat_map text (seen_row board y))
+    ∙ ap (λ l. front ++ l)
+    (sym (flat_map-append text (canvas_of board.width y (seen board)) (seen_row board y))
     ∙ ap (flat_map text) (sym (rows_more board y)))
 
 -- a prefix of the text so far and of one more row is one of the whole text
 pub text_failed : (a b : Option (List ℕ)) (text : Channels → List ℕ) (board : Board) (y : ℕ)
-    (front : List ℕ) (row : List Channels)
-    → row ≡ seen_row board y → y < board.height
+    (front : List ℕ)
+    → y < board.height
     → GrowsByPrefix a b (front ++ flat_map text (canvas_of board.width y (seen board))
-    ++ flat_map text row)
+    ++ flat_map text (seen_row board y))
     → GrowsByPrefix a b (front ++ flat_map text (canvas_of board.width board.height (seen board)))
-text_failed a b text board y front row is inside some =
+text_failed a b text board y front inside some =
     let rest = board.height - (y + 1) in
     let all : y + 1 + rest ≡ board.height = omega arith in
     let pixels_of = λ (y : ℕ). map (λ x. seen board x y) (below board.width) in
@@ -81,7 +81,7 @@ text_failed a b text board y front row is inside some =
     subst (GrowsByPrefix a b) whole
     (grows_within a b (front ++ flat_map text (canvas_of board.width (y + 1) (seen board)))
     (flat_map text others)
-    (subst (GrowsByPrefix a b) (text_more text board y front row is) some))
+    (subst (GrowsByPrefix a b) (text_more text board y front) some))
 
 -- once all rows are there, the text is whole
 pub text_all : (a b : Option (List ℕ)) (text : Channels → List ℕ) (board : Board) (y : ℕ)
@@ -91,3 +91,57 @@ pub text_all : (a b : Option (List ℕ)) (text : Channels → List ℕ) (board :
 text_all a b text board y front piece all before =
     subst (GrowsBefore a b piece)
     (ap (λ n. front ++ flat_map text (canvas_of board.width n (seen board))) all) before
+
+-- ---- the chunks of a row
+
+-- the first pixels of a row, and those after them
+seen_split : (board : Board) (y x count : ℕ)
+    → seen_first board y (x + count)
+    ≡ seen_first board y x ++ map (λ i. seen board (x + i) y) (below count)
+seen_split board y x count =
+    let f = λ (x : ℕ). seen board x y in
+    let later : map f (range_with_len (0 + x) count) ≡ map (λ i. f (x + i)) (below count) =
+    fill_by_all (λ i. f (x + i)) (map f (range_with_len (0 + x) count)) count clear
+    (length-map-range_with_len f (0 + x) count)
+    (λ i inside.
+    get_or-map-range_with_len f (0 + x) count i (x + i) clear inside (omega arith)) in
+    ap (map f) (range_split 0 x count)
+    ∙ map-append f (range_with_len 0 x) (range_with_len (0 + x) count)
+    ∙ ap (λ l. seen_first board y x ++ l) later
+
+-- the text so far and that of one more chunk
+pub chunk_more : (text : Channels → List ℕ) (board : Board) (y x count m n : ℕ) (front : List ℕ)
+    → m ≡ x → n ≡ x + count
+    → front ++ flat_map text (seen_first board y m)
+    ++ flat_map text (map (λ i. seen board (x + i) y) (below count))
+    ≡ front ++ flat_map text (seen_first board y n)
+chunk_more text board y x count m n front here after =
+    let chunk = map (λ i. seen board (x + i) y) (below count) in
+    append_assoc front (flat_map text (seen_first board y m)) (flat_map text chunk)
+    ∙ ap (λ l. front ++ l)
+    (ap (λ k. flat_map text (seen_first board y k) ++ flat_map text chunk) here
+    ∙ sym (flat_map-append text (seen_first board y x) chunk)
+    ∙ ap (flat_map text) (sym (seen_split board y x count) ∙ ap (seen_first board y) (sym after)))
+
+-- a prefix of the text so far is one of the text with the whole row
+pub row_failed : (a b : Option (List ℕ)) (text : Channels → List ℕ) (board : Board) (y n : ℕ)
+    (front : List ℕ)
+    → n ≤ board.width
+    → GrowsByPrefix a b (front ++ flat_map text (seen_first board y n))
+    → GrowsByPrefix a b (front ++ flat_map text (seen_row board y))
+row_failed a b text board y n front within some =
+    let rest = board.width - n in
+    let all : board.width ≡ n + rest = omega arith in
+    subst (GrowsByPrefix a b)
+    (chunk_more text board y n rest n board.width front refl all)
+    (grows_within a b (front ++ flat_map text (seen_first board y n))
+    (flat_map text (map (λ i. seen board (n + i) y) (below rest))) some)
+
+-- copies of a pixel's text are the texts of copies of the pixel
+pub copies_text : (text : Channels → List ℕ) (pixel : Channels) (bytes : List ℕ) (count : ℕ)
+    → bytes ≡ text pixel
+    → flat_map (λ copy. copy) (replicate count bytes) ≡ flat_map text (replicate count pixel)
+copies_text text pixel bytes zero is = refl
+copies_text text pixel bytes (suc count) is =
+    ap (λ l. l ++ flat_map (λ copy. copy) (replicate count bytes)) is
+    ∙ ap (λ l. text pixel ++ l) (copies_text text pixel bytes count is)

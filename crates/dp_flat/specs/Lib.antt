@@ -1,3 +1,4 @@
+pub mod Chunks
 pub mod Composed
 pub mod Ends
 pub mod Texts

@@ -1,117 +1,157 @@
-//! Layers composed a row of pixels at a time.
+//! Layers composed a chunk of a row at a time.
 
-ghost use Rattle.std.specs.Prelude.{◌≡◌, ◌*◌, ◌<◌, ℕ, Some, length, take, slice_index_or};
-ghost use Rattle.dp_blend.specs.Color.{clear, white};
-ghost use Rattle.dp_blend.specs.Blending.{blend};
+ghost use Rattle.std.specs.Prelude.{◌≡◌, ◌+◌, ◌*◌, ◌<◌, ◌≤◌, ℕ, Some, IsTrue, false, length};
 ghost use Rattle.dp_layers.specs.Layers.{row_of};
 ghost use Rattle.dp_layers.specs.Rows.{layers_of};
 ghost use Rattle.dp_plain.specs.Board.{IsBoard};
-ghost use Rattle.dp_plain.specs.Picture.{laid, mode_of};
-ghost use Rattle.dp_flat.specs.Composed.{IsComposed, IsShown, seen_row};
+ghost use Rattle.dp_plain.specs.Picture.{is_seen_in, laid, seen};
+ghost use Rattle.dp_flat.specs.Chunks.{IsAsLong, stretch_at, tone_at};
+ghost use Rattle.dp_flat.specs.Composed.{HidesBelow, IsChunk, IsComposed, IsEnough, shown};
 
-use dp_blend::{Mode, ONE, Pixel, fade_by_one_keeps, from8, of_argb, row_fill, row_merge};
+use crate::chunk::{BUFFER, Chunk, Tone, hides, lay, lay_on_white, mode_of};
+use dp_blend::{Mode, Pixel, Stretch, fade, from8, of_argb};
 use dp_layers::{LayerRow, rows_by_id};
 use dp_plain::BoardView;
 
 /// How deep groups are nested at most.
 pub(crate) const LEVELS: usize = 16;
 
-/// How many rows of pixels the drawing of the picture's rows takes: one for the root's rows, and
-/// one for each level of groups.
-pub(crate) const ROWS: usize = LEVELS + 1;
+/// How many pixels of memory the drawing of chunks takes: a buffer for the root's rows, and one
+/// for each level of groups.
+pub(crate) const MEMORY: usize = (LEVELS + 1) * BUFFER;
 
-/// Leaves the row y of the picture in the first row of this memory.
-pub(crate) fn draw_row<V: BoardView>(board: &V, y: u32, memory: &mut [Pixel])
-    requires inside { y < (V.board board.now).height }
-    requires long { length memory.old ≡ ROWS * (V.board board.now).width }
-    ensures { take (V.board board.now).width memory.new ≡ seen_row (V.board board.now) y }
+/// Draws a chunk of the picture, with the first pixels of this memory as its buffer.
+pub(crate) fn draw_chunk<V: BoardView>(board: &V, chunk: Chunk, memory: &mut [Pixel]) -> Tone
+    requires board { IsBoard (V.board board.now) }
+    requires chunk { IsChunk (V.board board.now) chunk }
+    requires long { length memory.old ≡ MEMORY }
+    ensures { (i : ℕ) → i < chunk.count
+        → tone_at result memory.new i ≡ seen (V.board board.now) (chunk.x + i) chunk.y }
 {
-    let width = board.width() as usize;
-    let (levels, row) = memory.split_at_mut(LEVELS * width);
-    row_fill(Mode::Replace, of_argb(board.background()), row);
-    compose_row(board, LEVELS, 0, y, levels, row);
-    lay_on_white(row, &mut levels[..width]);
+    let (levels, root) = memory.split_at_mut(LEVELS * BUFFER);
+    let count = chunk.count as usize;
+    let root = &mut root[..count];
+    let start = of_argb(board.background());
+    let whole = compose_chunk(board, LEVELS, 0, chunk, start, levels, root);
+    lay_on_white(whole, root, &mut levels[..count])
 }
 
-/// Leaves the pixels of the row in `shown`, each laid on white.
-fn lay_on_white(row: &[Pixel], shown: &mut [Pixel])
-    requires { length row.now ≡ length shown.old }
-    ensures { (x : ℕ) → x < length shown.old → slice_index_or shown.new x clear
-        ≡ blend Mode.Normal (slice_index_or row.now x clear) white }
-{
-    fade_by_one_keeps();
-    row_fill(Mode::Replace, Pixel::WHITE, shown);
-    row_merge(Mode::Normal, ONE, row, shown);
-}
-
-/// Lays the rows of the parent that aren't hidden on what `out` holds of the row y, going down into
-/// groups so deep. `levels` has a row of pixels for each level.
+/// Lays the rows of the parent that aren't hidden on a chunk of the colour `start`, going down into
+/// groups so deep. `levels` has a buffer for each level.
 #[cycle(composing)]
-fn compose_row<V: BoardView>(
+fn compose_chunk<V: BoardView>(
     board: &V,
     depth: usize,
     parent: u16,
-    y: u32,
+    chunk: Chunk,
+    start: Pixel,
     levels: &mut [Pixel],
-    out: &mut [Pixel],
-)
+    buffer: &mut [Pixel],
+) -> Tone
     requires board { IsBoard (V.board board.now) }
-    requires inside { y < (V.board board.now).height }
-    requires long { length out.old ≡ (V.board board.now).width }
-    requires levels { length levels.old ≡ depth * (V.board board.now).width }
-    ensures { IsComposed (V.board board.now) depth parent y out.old out.new }
+    requires chunk { IsChunk (V.board board.now) chunk }
+    requires long { length buffer.old ≡ chunk.count }
+    requires levels { length levels.old ≡ BUFFER * depth }
+    ensures { IsComposed (V.board board.now) depth parent chunk start result buffer.new }
 {
+    let mut tone = Tone::Solid(start);
     if depth == 0 {
-        return;
+        return tone;
     }
     rows_by_id();
-    let (source, deeper) = levels.split_at_mut(out.len());
-    for row in board.rows() {
-        if row.parent == parent && !row.hidden {
-            show_row(board, depth - 1, row, y, deeper, source);
-            lay(row, source, out);
+    let first = first_to_lay(board, parent, chunk);
+    for row in &board.rows()[first..] {
+        if is_seen_in(parent, row) {
+            tone = lay_row(board, depth - 1, row, chunk, tone, levels, buffer);
         }
     }
+    tone
 }
 
-/// What a row of the list shows of the row y: a paint row its pixels, and a group what its own rows
+/// Lays a row of the list on a chunk: a paint row by its pixels, and a group by what its own rows
 /// make from clear.
 #[cycle(composing)]
-fn show_row<V: BoardView>(
+fn lay_row<V: BoardView>(
     board: &V,
     depth: usize,
     row: &LayerRow,
-    y: u32,
+    chunk: Chunk,
+    under: Tone,
     levels: &mut [Pixel],
-    source: &mut [Pixel],
-)
+    buffer: &mut [Pixel],
+) -> Tone
     requires board { IsBoard (V.board board.now) }
     requires known { row_of (layers_of (V.board board.now).rows) row.now.id ≡ Some row.now }
-    requires inside { y < (V.board board.now).height }
-    requires long { length source.old ≡ (V.board board.now).width }
-    requires levels { length levels.old ≡ depth * (V.board board.now).width }
-    ensures { IsShown (V.board board.now) depth row.now y source.new }
+    requires chunk { IsChunk (V.board board.now) chunk }
+    requires long { length buffer.old ≡ chunk.count }
+    requires levels { length levels.old ≡ BUFFER * (depth + 1) }
+    ensures { (i : ℕ) → i < chunk.count → tone_at result buffer.new i ≡ laid row.now
+        (shown (V.board board.now) depth row.now (chunk.x + i) chunk.y)
+        (tone_at under buffer.old i) }
 {
     if row.group {
-        row_fill(Mode::Replace, Pixel::CLEAR, source);
-        compose_row(board, depth, row.id, y, levels, source);
+        let (source, deeper) = levels.split_at_mut(BUFFER);
+        let source = &mut source[..buffer.len()];
+        let tone = compose_chunk(board, depth, row.id, chunk, Pixel::CLEAR, deeper, source);
+        lay(row, tone.shown(source), under, buffer)
     } else {
-        board.copy_row(row.id, y, source);
+        lay(row, paint_stretch(board, row, chunk), under, buffer)
     }
 }
 
-/// Lays what a row of the list shows on what is under it.
-fn lay(row: &LayerRow, source: &[Pixel], under: &mut [Pixel])
-    requires { length source.now ≡ length under.old }
-    ensures { (x : ℕ) → x < length under.old → slice_index_or under.new x clear
-        ≡ laid row.now (slice_index_or source.now x clear) (slice_index_or under.old x clear) }
+/// The stretch of a paint row.
+fn paint_stretch<'a, V: BoardView>(board: &'a V, row: &LayerRow, chunk: Chunk) -> Stretch<'a>
+    requires known { row_of (layers_of (V.board board.now).rows) row.now.id ≡ Some row.now }
+    requires paint { row.now.group ≡ false }
+    requires chunk { IsChunk (V.board board.now) chunk }
+    ensures shows { (depth i : ℕ) → i < chunk.count → stretch_at result i
+        ≡ shown (V.board board.now) depth row.now (chunk.x + i) chunk.y }
+    ensures long { (n : ℕ) → n ≡ chunk.count → IsAsLong result n }
 {
-    row_merge(mode_of(row), from8(row.opacity), source, under);
+    board.stretch(row.id, chunk.x, chunk.y, chunk.count)
 }
 
-/// The row's blend mode.
-pub(crate) fn mode_of(row: &LayerRow) -> Mode
-    ensures { result ≡ mode_of row.now }
+/// The place in the list from which on rows are laid: that of the topmost row of the parent that
+/// hides what is below it, or 0.
+fn first_to_lay<V: BoardView>(board: &V, parent: u16, chunk: Chunk) -> usize
+    requires board { IsBoard (V.board board.now) }
+    requires chunk { IsChunk (V.board board.now) chunk }
+    ensures inside { result ≤ length (layers_of (V.board board.now).rows) }
+    ensures enough { IsEnough (V.board board.now) parent chunk result }
 {
-    Mode::from_u8(row.mode).unwrap_or(Mode::Normal)
+    rows_by_id();
+    let rows = board.rows();
+    for k in (0..rows.len()).rev() {
+        let row = &rows[k];
+        if is_seen_in(parent, row) && hides_below(board, row, chunk) {
+            return k;
+        }
+    }
+    0
+}
+
+/// Whether a row of the list hides what is below it in its parent.
+fn hides_below<V: BoardView>(board: &V, row: &LayerRow, chunk: Chunk) -> bool
+    requires known { row_of (layers_of (V.board board.now).rows) row.now.id ≡ Some row.now }
+    requires chunk { IsChunk (V.board board.now) chunk }
+    ensures { IsTrue result → HidesBelow (V.board board.now) row.now chunk }
+{
+    let mode = mode_of(row);
+    if mode == Mode::Replace {
+        return true;
+    }
+    if row.group || mode != Mode::Normal || row.opacity < 255 {
+        return false;
+    }
+    match paint_stretch(board, row, chunk) {
+        Stretch::Solid(color) => hides(mode, fade(color, from8(row.opacity))),
+        Stretch::Pixels(_) => false,
+    }
+}
+
+/// Whether the row stands in the parent and isn't hidden.
+pub(crate) fn is_seen_in(parent: u16, row: &LayerRow) -> bool
+    ensures { result ≡ is_seen_in parent row.now }
+{
+    row.parent == parent && !row.hidden
 }

@@ -2,20 +2,21 @@
 //!
 //! The rule: docs/protocol.md, "The picture".
 
-ghost use Rattle.std.specs.Prelude.{◌≡◌, ◌+◌, ◌*◌, ◌≤◌, ◌++◌, length, IsErrOf, OnOk, OnErr};
+ghost use Rattle.std.specs.Prelude.{◌≡◌, ◌+◌, ◌<◌, ◌≤◌, ◌++◌, length, IsErrOf, OnOk, OnErr};
 ghost use Rattle.std.specs.List.{flat_map};
 ghost use Rattle.std.specs.Io.KnownBytes.{Appends, Keeps};
 ghost use Rattle.arrayvec.specs.ArrayVec.{array_vec_len};
 ghost use Rattle.dp_io.specs.Faults.{HasCause, any_fault};
 ghost use Rattle.dp_io.specs.Streams.{GrowsByPrefix};
+ghost use Rattle.dp_plain.specs.Board.{IsBoard};
 ghost use Rattle.dp_plain.specs.Picture.{p3, p6, picture_text};
+ghost use Rattle.dp_flat.specs.Composed.{IsChunk, seen_chunk, seen_row};
 ghost use Rattle.dp_flat.specs.Ends.{is_sink_fault};
 ghost use Rattle.dp_flat.specs.Texts.{GrowsBefore, name_of, pixel_text_of};
 
-use crate::compose::{ROWS, draw_row};
-use crate::text::{
-    Format, PIECE_BYTES, Piece, STRETCH, STRETCH_BYTES, head_of, push_all, push_pixels,
-};
+use crate::chunk::{COLUMNS, Chunk};
+use crate::compose::{MEMORY, draw_chunk};
+use crate::text::{CHUNK_BYTES, Format, PIECE_BYTES, Piece, head_of, push_all, push_chunk};
 use dp_blend::Pixel;
 use dp_io::{Failed, Sink, put_all};
 use dp_plain::BoardView;
@@ -54,7 +55,7 @@ impl From<AllocError> for PictureEnd {
 ///
 /// # Errors
 ///
-/// `Memory` where memory for 17 rows of pixels is refused: nothing was written. `Failed` where the
+/// `Memory` where memory for 17 times 64 pixels is refused: nothing was written. `Failed` where the
 /// sink failed: a prefix of the file was written.
 pub fn write_p6<V: BoardView, S: Sink>(
     alloc: Global,
@@ -76,7 +77,7 @@ pub fn write_p6<V: BoardView, S: Sink>(
 ///
 /// # Errors
 ///
-/// `Memory` where memory for 17 rows of pixels is refused: nothing was written. `Failed` where the
+/// `Memory` where memory for 17 times 64 pixels is refused: nothing was written. `Failed` where the
 /// sink failed: a prefix of the file was written.
 pub fn write_p3<V: BoardView, S: Sink>(
     alloc: Global,
@@ -110,20 +111,19 @@ fn write_picture<V: BoardView, S: Sink>(
         → S.faults out.new ≡ S.faults out.old }
     ensures cause { HasCause is_sink_fault (S.faults out.old) (S.faults out.new) result }
 {
-    let width = board.width() as usize;
-    let mut memory = vec![in alloc; Pixel::CLEAR; ROWS * width]?;
+    let mut memory = vec![in alloc; Pixel::CLEAR; MEMORY]?;
     put_picture(format, board, &mut memory, out)?;
     Ok(())
 }
 
-/// Writes the picture of the board in the format, a row at a time in this memory.
+/// Writes the picture of the board in the format, a chunk of a row at a time in this memory.
 fn put_picture<V: BoardView, S: Sink>(
     format: Format,
     board: &V,
     memory: &mut [Pixel],
     out: &mut S,
 ) -> Result<(), Failed>
-    requires { length memory.old ≡ ROWS * (V.board board.now).width }
+    requires { length memory.old ≡ MEMORY }
     ensures written { OnOk result (Appends (S.held out.old) (S.held out.new)
         (picture_text (name_of format) (pixel_text_of format) (V.board board.now))) }
     ensures prefix { GrowsByPrefix (S.held out.old) (S.held out.new)
@@ -134,42 +134,72 @@ fn put_picture<V: BoardView, S: Sink>(
     let mut piece = Piece::new();
     push_all(head_of(format, width, height).as_bytes(), &mut piece);
     for y in 0..height {
-        draw_row(board, y, memory);
-        put_row(format, &memory[..width as usize], &mut piece, out)?;
+        put_row(format, board, y, memory, &mut piece, out)?;
     }
     put_all(out, piece.as_slice())
 }
 
-/// Adds the texts of the row's pixels to the piece, and writes the piece where it is full.
-fn put_row<S: Sink>(
+/// Adds the texts of the pixels of the row y to the piece, and writes the piece where it is full.
+fn put_row<V: BoardView, S: Sink>(
     format: Format,
-    row: &[Pixel],
+    board: &V,
+    y: u32,
+    memory: &mut [Pixel],
     piece: &mut Piece,
     out: &mut S,
 ) -> Result<(), Failed>
+    requires inside { y < (V.board board.now).height }
+    requires long { length memory.old ≡ MEMORY }
     ensures before { OnOk result (GrowsBefore (S.held out.old) (S.held out.new) piece.new.items
-        (piece.old.items ++ flat_map (pixel_text_of format) row.now)) }
+        (piece.old.items ++ flat_map (pixel_text_of format) (seen_row (V.board board.now) y))) }
     ensures prefix { OnErr result (GrowsByPrefix (S.held out.old) (S.held out.new)
-        (piece.old.items ++ flat_map (pixel_text_of format) row.now)) }
+        (piece.old.items ++ flat_map (pixel_text_of format) (seen_row (V.board board.now) y))) }
     ensures cause { HasCause any_fault (S.faults out.old) (S.faults out.new) result }
 {
-    for pixels in row.chunks(STRETCH) {
-        make_room(piece, out)?;
-        push_pixels(format, pixels, piece);
+    let width = board.width();
+    for column in 0..width.div_ceil(COLUMNS) {
+        let x = column * COLUMNS;
+        let count = COLUMNS.min(width - x);
+        put_chunk(format, board, Chunk { x, y, count }, memory, piece, out)?;
     }
     Ok(())
 }
 
-/// Writes the piece, where it has no room for a stretch of pixels.
+/// Adds the texts of the pixels of a chunk to the piece, after the piece was written if it is full.
+fn put_chunk<V: BoardView, S: Sink>(
+    format: Format,
+    board: &V,
+    chunk: Chunk,
+    memory: &mut [Pixel],
+    piece: &mut Piece,
+    out: &mut S,
+) -> Result<(), Failed>
+    requires board { IsBoard (V.board board.now) }
+    requires chunk { IsChunk (V.board board.now) chunk }
+    requires long { length memory.old ≡ MEMORY }
+    ensures before { OnOk result (GrowsBefore (S.held out.old) (S.held out.new) piece.new.items
+        (piece.old.items
+        ++ flat_map (pixel_text_of format) (seen_chunk (V.board board.now) chunk))) }
+    ensures prefix { OnErr result (GrowsByPrefix (S.held out.old) (S.held out.new)
+        piece.old.items) }
+    ensures cause { HasCause any_fault (S.faults out.old) (S.faults out.new) result }
+{
+    make_room(piece, out)?;
+    let tone = draw_chunk(board, chunk, memory);
+    push_chunk(format, tone, &memory[..chunk.count as usize], piece);
+    Ok(())
+}
+
+/// Writes the piece, where it has no room for a chunk.
 fn make_room<S: Sink>(piece: &mut Piece, out: &mut S) -> Result<(), Failed>
-    ensures room { OnOk result (array_vec_len piece.new + STRETCH_BYTES ≤ PIECE_BYTES) }
+    ensures room { OnOk result (array_vec_len piece.new + CHUNK_BYTES ≤ PIECE_BYTES) }
     ensures before { OnOk result (GrowsBefore (S.held out.old) (S.held out.new) piece.new.items
         piece.old.items) }
     ensures prefix { OnErr result (GrowsByPrefix (S.held out.old) (S.held out.new)
         piece.old.items) }
     ensures cause { HasCause any_fault (S.faults out.old) (S.faults out.new) result }
 {
-    if piece.remaining_capacity() >= STRETCH_BYTES {
+    if piece.remaining_capacity() >= CHUNK_BYTES {
         return Ok(());
     }
     put_all(out, piece.as_slice())?;

@@ -7,7 +7,8 @@ ghost use Rattle.dp_layers.specs.Rows.{layers_of};
 ghost use Rattle.dp_plain.specs.Picture.{compose, row_pixel, seen};
 ghost use Rattle.dp_flat.specs.Composed.{shown};
 
-use crate::compose::{LEVELS, mode_of};
+use crate::chunk::mode_of;
+use crate::compose::{LEVELS, is_seen_in};
 use dp_blend::{Mode, Pixel, blend, fade, from8, of_argb};
 use dp_layers::LayerRow;
 use dp_plain::BoardView;
@@ -43,7 +44,7 @@ fn compose_pixel<V: BoardView>(
     }
     let mut under = start;
     for row in board.rows() {
-        if row.parent == parent && !row.hidden {
+        if is_seen_in(parent, row) {
             let source = show_pixel(board, depth - 1, row, place);
             under = blend(mode_of(row), fade(source, from8(row.opacity)), under);
         }

@@ -4,7 +4,7 @@ ghost use Rattle.std.specs.Prelude.{◌≡◌, ◌≤◌, if◌then◌else◌};
 ghost use Rattle.dp_blend.specs.Color.{of_argb};
 
 use crate::{PictureEnd, flatten, write_p3, write_p6};
-use dp_blend::{Mode, Pixel, length_of_canvas, of_argb, pixel_of_canvas, row_fill, to8};
+use dp_blend::{Mode, Pixel, Stretch, length_of_canvas, of_argb, pixel_of_canvas, row_fill, to8};
 use dp_io::MemSink;
 use dp_layers::{LayerRow, Tree, contents_ride_along};
 use dp_msg_draw::{Draw, Title};
@@ -72,6 +72,13 @@ impl BoardView for RedAndBlue {
         pixel_of_canvas();
         let is_red = self.tree.content(id).copied().unwrap_or(false);
         row_fill(Mode::Replace, color_of(is_red), part);
+    }
+
+    fn stretch(&self, id: u16, _x: u32, _y: u32, _count: u32) -> Stretch<'_> {
+        contents_ride_along::<bool, [Pixel; 1]>();
+        pixel_of_canvas();
+        let is_red = self.tree.content(id).copied().unwrap_or(false);
+        Stretch::Solid(color_of(is_red))
     }
 
     fn pixel(&self, id: u16, x: u32, y: u32) -> Option<Pixel> {
@@ -180,7 +187,7 @@ fn writes_lines(rt: HostRuntime) -> Result<(), Fail> {
     Ok(())
 }
 
-// Rows of one pixel share a piece: the head and 3068 pixels are in the first.
+// Rows of one pixel share a piece: the head and 3836 pixels are in the first.
 #[test]
 fn a_failing_sink_holds_a_prefix(rt: HostRuntime) -> Result<(), Fail> {
     let alloc = rt.alloc();
@@ -192,6 +199,6 @@ fn a_failing_sink_holds_a_prefix(rt: HostRuntime) -> Result<(), Fail> {
     };
     let mut sink = MemSink::new(alloc, 20000, 20000, [2].to_vec(alloc)?)?;
     assert_eq!(rt; write_p6(alloc, &board, &mut sink), Err(PictureEnd::Failed));
-    assert_eq!(rt; sink.as_slice().len(), 14 + 3 * 3068);
+    assert_eq!(rt; sink.as_slice().len(), 14 + 3 * 3836);
     Ok(())
 }

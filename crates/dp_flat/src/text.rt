@@ -1,26 +1,25 @@
 //! The texts of pixels, in pieces.
 
-ghost use Rattle.std.specs.Prelude.{◌≡◌, ◌+◌, ◌≤◌, ◌++◌, length, codes, decimal};
+ghost use Rattle.std.specs.Prelude.{◌≡◌, ◌+◌, ◌*◌, ◌≤◌, ◌++◌, length, codes, decimal, replicate};
 ghost use Rattle.std.specs.List.{flat_map};
 ghost use Rattle.arrayvec.specs.ArrayVec.{array_vec_len};
-ghost use Rattle.dp_plain.specs.Picture.{head};
+ghost use Rattle.dp_plain.specs.Picture.{head, rgb};
+ghost use Rattle.dp_flat.specs.Chunks.{tone_pixels};
 ghost use Rattle.dp_flat.specs.Texts.{name_of, pixel_text_of};
 
+use crate::chunk::{BUFFER, Tone};
 use arrayvec::{ArrayString, ArrayVec};
 use dp_blend::{Pixel, to8};
 use itoa::Buffer;
 
-/// The most pixels that are put into a piece at once.
-pub(crate) const STRETCH: usize = 256;
-
 /// The most bytes of a pixel: those of the line `255 255 255`.
 const PIXEL_BYTES: usize = 12;
 
-/// The most bytes of `STRETCH` pixels.
-pub(crate) const STRETCH_BYTES: usize = STRETCH * PIXEL_BYTES;
+/// The most bytes of a chunk.
+pub(crate) const CHUNK_BYTES: usize = BUFFER * PIXEL_BYTES;
 
 /// The most bytes that are written at once.
-pub(crate) const PIECE_BYTES: usize = 4 * STRETCH_BYTES;
+pub(crate) const PIECE_BYTES: usize = 16 * CHUNK_BYTES;
 
 /// A piece of a text.
 pub(crate) type Piece = ArrayVec<u8, PIECE_BYTES>;
@@ -61,10 +60,50 @@ pub(crate) fn head_of(format: Format, width: u32, height: u32) -> ArrayString<96
     head
 }
 
+/// Adds the texts of the pixels of a chunk of this tone, with this buffer.
+pub(crate) fn push_chunk(format: Format, tone: Tone, buffer: &[Pixel], piece: &mut Piece)
+    requires few { length buffer.now ≤ BUFFER }
+    requires room { array_vec_len piece.old + CHUNK_BYTES ≤ PIECE_BYTES }
+    ensures { piece.new.items
+        ≡ piece.old.items ++ flat_map (pixel_text_of format) (tone_pixels tone buffer.now) }
+{
+    match tone {
+        Tone::Solid(color) => push_repeated(format, color, buffer.len(), piece),
+        Tone::Mixed => push_pixels(format, buffer, piece),
+    }
+}
+
+/// Adds the text of a pixel `count` times.
+#[tactic(auto, using(crate::proofs::Rows::copies_text))]
+fn push_repeated(format: Format, pixel: Pixel, count: usize, piece: &mut Piece)
+    requires few { count ≤ BUFFER }
+    requires room { array_vec_len piece.old + CHUNK_BYTES ≤ PIECE_BYTES }
+    ensures { piece.new.items
+        ≡ piece.old.items ++ flat_map (pixel_text_of format) (replicate count pixel) }
+{
+    let [red, green, blue] = bytes_of(pixel);
+    match format {
+        Format::P6 => push_copies(&[red, green, blue], count, piece),
+        Format::P3 => push_copies(line_of(red, green, blue).as_bytes(), count, piece),
+    }
+}
+
+/// Adds the bytes `count` times.
+fn push_copies(bytes: &[u8], count: usize, piece: &mut Piece)
+    requires short { length bytes.now ≤ PIXEL_BYTES }
+    requires room { array_vec_len piece.old + count * PIXEL_BYTES ≤ PIECE_BYTES }
+    ensures { piece.new.items
+        ≡ piece.old.items ++ flat_map (λ copy. copy) (replicate count bytes.now) }
+{
+    for _ in 0..count {
+        push_all(bytes, piece);
+    }
+}
+
 /// Adds the texts of some pixels.
-pub(crate) fn push_pixels(format: Format, pixels: &[Pixel], piece: &mut Piece)
-    requires few { length pixels.now ≤ STRETCH }
-    requires room { array_vec_len piece.old + STRETCH_BYTES ≤ PIECE_BYTES }
+fn push_pixels(format: Format, pixels: &[Pixel], piece: &mut Piece)
+    requires few { length pixels.now ≤ BUFFER }
+    requires room { array_vec_len piece.old + CHUNK_BYTES ≤ PIECE_BYTES }
     ensures { piece.new.items ≡ piece.old.items ++ flat_map (pixel_text_of format) pixels.now }
 {
     for pixel in pixels {
@@ -79,11 +118,19 @@ fn push_pixel(format: Format, pixel: Pixel, piece: &mut Piece)
     ensures items { piece.new.items ≡ piece.old.items ++ pixel_text_of format pixel }
     ensures short { array_vec_len piece.new ≤ array_vec_len piece.old + PIXEL_BYTES }
 {
-    let [red, green, blue] = [to8(pixel.r()), to8(pixel.g()), to8(pixel.b())];
+    let [red, green, blue] = bytes_of(pixel);
     match format {
         Format::P6 => push_all(&[red, green, blue], piece),
         Format::P3 => push_all(line_of(red, green, blue).as_bytes(), piece),
     }
+}
+
+/// The bytes of a pixel: red, green and blue.
+#[inline]
+fn bytes_of(pixel: Pixel) -> [u8; 3]
+    ensures { result ≡ rgb pixel }
+{
+    [to8(pixel.r()), to8(pixel.g()), to8(pixel.b())]
 }
 
 /// Adds the bytes.

@@ -1,5 +1,5 @@
 -- Each row's text stands after those above, and the last piece ends the text.
-use Rattle.std.proofs.Common.{◌≡◌, ◌++◌, take, subst, ap, ◌∙◌, arith}
+use Rattle.std.proofs.Common.{◌≡◌, ◌++◌, subst, ◌∙◌, arith}
 use Rattle.std.specs.List.{flat_map}
 use Rattle.dp_blend.specs.Canvas.{canvas_of}
 use Rattle.dp_plain.specs.Picture.{head, seen}
@@ -15,14 +15,12 @@ returns-in_err-put_row-clause-prefix g c =
     let held = g.S.Sink.held in
     let text = pixel_text_of c.args.format in
     let front = head (name_of c.args.format) board.width board.height in
-    let shown = take c.width-width.result c.draw_row.new.memory in
-    let row : shown ≡ seen_row board c.loop-y.y =
-    ap (λ n. take n c.draw_row.new.memory) c.width-width.ensures.value ∙ c.draw_row.ensures in
-    text_failed (held c.args.out.now) (held c.put_row.new.out) text board c.loop-y.y front shown row
+    text_failed (held c.args.out.now) (held c.put_row.new.out) text board c.loop-y.y front
     (omega (arith, c.height-height.ensures.value))
     (before_failed (held c.args.out.now) (held c.loop-y.out) (held c.put_row.new.out)
     c.loop-y.piece.items
-    (front ++ flat_map text (canvas_of board.width c.loop-y.y (seen board))) (flat_map text shown)
+    (front ++ flat_map text (canvas_of board.width c.loop-y.y (seen board)))
+    (flat_map text (seen_row board c.loop-y.y))
     c.loop-y.invariant.before c.in_err-put_row.ensures.prefix)
 
 pub loop-y-preserved : goal.loop-y-preserved
@@ -31,16 +29,13 @@ loop-y-preserved g c =
     let held = g.S.Sink.held in
     let text = pixel_text_of c.args.format in
     let front = head (name_of c.args.format) board.width board.height in
-    let shown = take c.width-width.result c.draw_row.new.memory in
-    let row : shown ≡ seen_row board c.loop-y.y =
-    ap (λ n. take n c.draw_row.new.memory) c.width-width.ensures.value ∙ c.draw_row.ensures in
     record {
       before = subst (GrowsBefore (held c.args.out.now) (held c.put_row.new.out)
-          c.put_row.new.piece.items) (text_more text board c.loop-y.y front shown row)
+          c.put_row.new.piece.items) (text_more text board c.loop-y.y front)
           (before_on (held c.args.out.now) (held c.loop-y.out) (held c.put_row.new.out)
           c.loop-y.piece.items
           (front ++ flat_map text (canvas_of board.width c.loop-y.y (seen board)))
-          (flat_map text shown)
+          (flat_map text (seen_row board c.loop-y.y))
           c.put_row.new.piece.items
           c.loop-y.invariant.before c.in_ok-put_row.ensures.before);
       kept = c.in_ok-put_row.ensures.cause.kept ∙ c.loop-y.invariant.kept;

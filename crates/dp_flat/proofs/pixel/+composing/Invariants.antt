@@ -1,5 +1,5 @@
 use Rattle.std.proofs.Common.{◌≡◌, ◌+◌, ◌*◌, ◌-◌, take}
-use Rattle.dp_flat.proofs.Composed.{composed_by}
+use Rattle.dp_flat.specs.Composed.{composed_by}
 use Rattle.dp_flat.proofs.pixel.+composing.Given as goal
 
 abbrev pub decreases-compose_pixel : goal.decreases-compose_pixel

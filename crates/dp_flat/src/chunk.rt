@@ -1,0 +1,166 @@
+//! A chunk of a row of pixels, and layers laid on it.
+//!
+//! A chunk that is of one colour stays a colour, and takes one blend a layer.
+//!
+//! The rule: docs/protocol.md, "The picture".
+
+ghost use Rattle.std.specs.Prelude.{◌≡◌, ◌<◌, ◌≤◌, ℕ, All, IsTrue, length, slice_index_or};
+ghost use Rattle.dp_blend.specs.Color.{Channels, IsPixel, clear, fade, white};
+ghost use Rattle.dp_blend.specs.Blending.{blend};
+ghost use Rattle.dp_plain.specs.Picture.{laid, mode_of};
+ghost use Rattle.dp_flat.specs.Chunks.{IsAsLong, stretch_at, tone_at};
+
+use dp_blend::{
+    Mode, ONE, Pixel, Stretch, blend, fade, fade_by_one_keeps, from8, row_fill, row_merge,
+};
+use dp_layers::LayerRow;
+
+/// The most columns of a chunk.
+pub(crate) const COLUMNS: u32 = 64;
+
+/// How many pixels a buffer has: the most of a chunk.
+pub(crate) const BUFFER: usize = COLUMNS as usize;
+
+/// A chunk of the row y of the canvas: `count` columns from x on.
+#[derive(Clone, Copy)]
+pub(crate) struct Chunk {
+    pub(crate) x: u32,
+    pub(crate) y: u32,
+    pub(crate) count: u32,
+}
+
+/// What a chunk shows: one colour, or the pixels of a buffer.
+#[derive(Clone, Copy)]
+pub(crate) enum Tone {
+    /// All of one colour, whatever the buffer holds.
+    Solid(Pixel),
+    /// The pixels of the buffer.
+    Mixed,
+}
+
+impl Tone {
+    /// What is shown, with this buffer.
+    pub(crate) fn shown(self, buffer: &[Pixel]) -> Stretch<'_>
+        ensures places { (i : ℕ) → stretch_at result i ≡ tone_at self buffer.now i }
+        ensures long { IsAsLong result (length buffer.now) }
+    {
+        match self {
+            Tone::Solid(color) => Stretch::Solid(color),
+            Tone::Mixed => Stretch::Pixels(buffer),
+        }
+    }
+}
+
+/// Lays what a row of the list shows on a chunk, and gives the chunk's tone.
+pub(crate) fn lay(row: &LayerRow, shown: Stretch<'_>, under: Tone, buffer: &mut [Pixel]) -> Tone
+    requires { IsAsLong shown (length buffer.old) }
+    ensures { (i : ℕ) → i < length buffer.old → tone_at result buffer.new i
+        ≡ laid row.now (stretch_at shown.entry i) (tone_at under buffer.old i) }
+{
+    let mode = mode_of(row);
+    let opacity = from8(row.opacity);
+    match shown {
+        Stretch::Solid(color) => lay_color(mode, fade(color, opacity), under, buffer),
+        Stretch::Pixels(pixels) => lay_pixels(mode, opacity, pixels, under, buffer),
+    }
+}
+
+/// Lays a colour on a chunk.
+fn lay_color(mode: Mode, color: Pixel, under: Tone, buffer: &mut [Pixel]) -> Tone
+    ensures { (i : ℕ) → i < length buffer.old → tone_at result buffer.new i
+        ≡ blend mode color (tone_at under buffer.old i) }
+{
+    match under {
+        Tone::Solid(below) => Tone::Solid(blend(mode, color, below)),
+        Tone::Mixed => lay_on_pixels(mode, color, buffer),
+    }
+}
+
+/// Lays a colour on the pixels of a buffer.
+fn lay_on_pixels(mode: Mode, color: Pixel, buffer: &mut [Pixel]) -> Tone
+    ensures { (i : ℕ) → i < length buffer.old → tone_at result buffer.new i
+        ≡ blend mode color (slice_index_or buffer.old i clear) }
+{
+    if hides(mode, color) {
+        return Tone::Solid(color);
+    }
+    if shows_nothing(mode, color) {
+        known_pixels(buffer);
+        return Tone::Mixed;
+    }
+    row_fill(mode, color, buffer);
+    Tone::Mixed
+}
+
+/// No channel of these pixels is above alpha. The call does nothing.
+fn known_pixels(pixels: &[Pixel])
+    ensures { All IsPixel pixels.now }
+{
+    for pixel in pixels {
+        let _alpha = pixel.a();
+    }
+}
+
+/// Whether the colour takes the place of whatever it is laid on.
+pub(crate) fn hides(mode: Mode, color: Pixel) -> bool
+    ensures { IsTrue result → (under : Channels) → blend mode color under ≡ color }
+{
+    match mode {
+        Mode::Replace => true,
+        Mode::Normal => color.a() == ONE,
+        _ => false,
+    }
+}
+
+/// Whether each pixel stays as it is where the colour is laid on it.
+fn shows_nothing(mode: Mode, color: Pixel) -> bool
+    ensures { IsTrue result → (under : Channels) → IsPixel under → blend mode color under ≡ under }
+{
+    color == Pixel::CLEAR && mode != Mode::Replace
+}
+
+/// Lays pixels, faded by the opacity, on a chunk.
+fn lay_pixels(mode: Mode, opacity: u16, pixels: &[Pixel], under: Tone, buffer: &mut [Pixel]) -> Tone
+    requires opacity { opacity ≤ 32768 }
+    requires long { length pixels.now ≡ length buffer.old }
+    ensures { (i : ℕ) → i < length buffer.old → tone_at result buffer.new i
+        ≡ blend mode (fade (slice_index_or pixels.now i clear) opacity)
+        (tone_at under buffer.old i) }
+{
+    spread(under, buffer);
+    row_merge(mode, opacity, pixels, buffer);
+    Tone::Mixed
+}
+
+/// Leaves what is shown in the buffer.
+fn spread(tone: Tone, buffer: &mut [Pixel])
+    ensures { (i : ℕ) → i < length buffer.old
+        → slice_index_or buffer.new i clear ≡ tone_at tone buffer.old i }
+{
+    if let Tone::Solid(color) = tone {
+        row_fill(Mode::Replace, color, buffer);
+    }
+}
+
+/// Lays what a chunk shows on white.
+pub(crate) fn lay_on_white(tone: Tone, pixels: &[Pixel], buffer: &mut [Pixel]) -> Tone
+    requires { length pixels.now ≡ length buffer.old }
+    ensures { (i : ℕ) → i < length buffer.old → tone_at result buffer.new i
+        ≡ blend Mode.Normal (tone_at tone pixels.now i) white }
+{
+    fade_by_one_keeps();
+    match tone {
+        Tone::Solid(color) => Tone::Solid(blend(Mode::Normal, color, Pixel::WHITE)),
+        Tone::Mixed => {
+            let white = Tone::Solid(Pixel::WHITE);
+            lay_pixels(Mode::Normal, ONE, pixels, white, buffer)
+        }
+    }
+}
+
+/// The row's blend mode.
+pub(crate) fn mode_of(row: &LayerRow) -> Mode
+    ensures { result ≡ mode_of row.now }
+{
+    Mode::from_u8(row.mode).unwrap_or(Mode::Normal)
+}
