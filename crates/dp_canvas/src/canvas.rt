@@ -1,25 +1,30 @@
 //! The canvas.
 
-ghost use Rattle.std.specs.Prelude.{◌≡◌, false};
+ghost use Rattle.std.specs.Prelude.{◌≡◌, false, option_copied, option_map, IfSome};
+ghost use Rattle.dp_layers.specs.Rows.{content_of};
+ghost use Rattle.dp_paint.specs.Painting.{IsGridOf};
 ghost use Rattle.dp_pixels.specs.Feet.{reach};
 ghost use Rattle.dp_plain.specs.Board.{empty_board, IsBoard};
 ghost use Rattle.dp_plain.specs.Commands.{draw};
+ghost use Rattle.dp_tile.specs.Tiles.{grid_pixels};
 
-use dp_blend::Pixel;
+use crate::tiled::TiledPixels;
+use dp_blend::{Pixel, Stretch};
 use dp_board::Board;
 use dp_layers::LayerRow;
 use dp_msg_draw::Draw;
-use dp_plain::{BoardView, LayeredBoard, PlainPixels};
+use dp_plain::{BoardView, LayeredBoard};
 use dp_steps::Steps;
+use dp_tile::Grid;
 use std::alloc::{AllocError, Global};
 use std::marker::Model;
 use std::sync::ledger::Ledger;
 
-/// The board that is drawn on. It is seen as a `Board` of the definitions, and hands out no pixels
-/// but copies of them. So far its layers are plain lists of pixels, and no tile is made.
+/// The board that is drawn on. It is seen as a `Board` of the definitions. Its layers are grids of
+/// tiles, which canvases that were shared have in common until one of them is drawn on.
 #[derive(Drop)]
 pub struct Canvas {
-    board: LayeredBoard<PlainPixels>,
+    board: LayeredBoard<TiledPixels>,
 }
 
 impl Model for Canvas {
@@ -37,6 +42,20 @@ impl Canvas {
     {
         Canvas {
             board: LayeredBoard::new(alloc),
+        }
+    }
+
+    /// The grid whose pixels within the canvas are those of the paint layer of the id, or `None`
+    /// where no paint layer has the id.
+    pub fn grid(&self, id: u16) -> Option<&Grid>
+        ensures pixels { option_map (grid_pixels self.now.width self.now.height)
+            (option_copied result) ≡ content_of self.now.rows id }
+        ensures sides { IfSome result (λ grid.
+            IsGridOf self.now.width self.now.height grid.now) }
+    {
+        match self.board.content(id) {
+            Some(content) => Some(&content.grid),
+            None => None,
         }
     }
 }
@@ -84,7 +103,7 @@ impl Board for Canvas {
     }
 
     fn laws() {
-        LayeredBoard::<PlainPixels>::laws();
+        LayeredBoard::<TiledPixels>::laws();
     }
 }
 
@@ -113,6 +132,10 @@ impl BoardView for Canvas {
 
     fn copy_part(&self, id: u16, x: u32, y: u32, part: &mut [Pixel]) {
         self.board.copy_part(id, x, y, part);
+    }
+
+    fn stretch(&self, id: u16, x: u32, y: u32, count: u32) -> Stretch<'_> {
+        self.board.stretch(id, x, y, count)
     }
 
     fn pixel(&self, id: u16, x: u32, y: u32) -> Option<Pixel> {

@@ -4,5 +4,6 @@
 mod canvas;
 #[cfg(test)]
 mod tests;
+mod tiled;
 
 pub use canvas::Canvas;

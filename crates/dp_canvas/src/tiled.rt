@@ -1,0 +1,117 @@
+//! The pixels of a layer as a grid of tiles.
+
+ghost use Rattle.std.specs.Prelude.{◌≡◌, ◌≤◌};
+ghost use Rattle.dp_pixels.specs.Tiles.{tiles_along};
+
+use dp_blend::{Pixel, Stretch, length_of_canvas};
+use dp_msg_draw::Draw;
+use dp_paint::{move_in_place, paint_in_place, resized_grid};
+use dp_pixels::{Resize, pixels_stay_pixels};
+use dp_plain::{LayerPixels, known_colors};
+use dp_steps::Steps;
+use dp_tile::Grid;
+use std::alloc::{AllocError, Global};
+use std::marker::Model;
+use std::sync::ledger::Ledger;
+
+/// The pixels of a layer, on tiles that layers share until one of them is written to.
+#[derive(Drop)]
+pub(crate) struct TiledPixels {
+    pub grid: Grid,
+}
+
+impl Model for TiledPixels {
+    ghost use Rattle.dp_tile.specs.Tiles.{TileGrid};
+
+    ghost Value = { TileGrid };
+
+    ghost view = { λ t. t.grid };
+}
+
+/// How many tiles there are along a side.
+fn tiles_along(side: u32) -> u32
+    requires { side ≤ 4096 }
+    ensures value { result ≡ tiles_along side }
+    ensures few { result ≤ 64 }
+{
+    (side + 63) / 64
+}
+
+impl LayerPixels for TiledPixels {
+    ghost use Rattle.std.specs.Prelude.{All};
+    ghost use Rattle.dp_blend.specs.Color.{IsPixel};
+    ghost use Rattle.dp_pixels.specs.Feet.{reach};
+    ghost use Rattle.dp_tile.specs.Tiles.{grid_pixels};
+    ghost use Rattle.dp_paint.specs.Painting.{IsGridOf};
+
+    ghost pixels = { grid_pixels };
+
+    ghost fits = { λ width height grid.
+        IsGridOf width height grid × All IsPixel (grid_pixels width height grid) };
+
+    ghost weight = { reach };
+
+    ghost resizing = { 4096 };
+
+    fn clear<T: Ledger>(
+        alloc: Global,
+        width: u32,
+        height: u32,
+        _tiles: &mut Steps<T>,
+    ) -> Result<Self, AllocError> {
+        let grid = Grid::new(alloc, tiles_along(width), tiles_along(height))?;
+        Ok(TiledPixels { grid })
+    }
+
+    fn paint<T: Ledger>(
+        &mut self,
+        _alloc: Global,
+        width: u32,
+        height: u32,
+        command: &Draw,
+        tiles: &mut Steps<T>,
+    ) -> Result<(), AllocError> {
+        pixels_stay_pixels();
+        known_colors(command);
+        match command {
+            Draw::MoveRect { .. } => move_in_place(&mut self.grid, width, height, command, tiles),
+            _ => paint_in_place(&mut self.grid, width, height, command, tiles),
+        }
+    }
+
+    fn resize<T: Ledger>(
+        &self,
+        _alloc: Global,
+        change: Resize,
+        tiles: &mut Steps<T>,
+    ) -> Result<Self, AllocError> {
+        Ok(TiledPixels {
+            grid: resized_grid(&self.grid, change, tiles)?,
+        })
+    }
+
+    fn share<T: Ledger>(&self, _tiles: &mut Steps<T>) -> Result<Self, AllocError> {
+        Ok(TiledPixels {
+            grid: self.grid.share()?,
+        })
+    }
+
+    fn copy_part(&self, _width: u32, _height: u32, x: u32, y: u32, part: &mut [Pixel]) {
+        self.grid.copy_part(x, y, part);
+    }
+
+    fn stretch(&self, _width: u32, _height: u32, x: u32, y: u32, count: u32) -> Stretch<'_> {
+        if count == 0 {
+            return Stretch::Solid(Pixel::CLEAR);
+        }
+        self.grid.stretch(x, y, count)
+    }
+
+    fn pixel(&self, _width: u32, _height: u32, x: u32, y: u32) -> Pixel {
+        self.grid.get(x, y)
+    }
+
+    fn laws() {
+        length_of_canvas();
+    }
+}
