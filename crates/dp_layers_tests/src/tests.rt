@@ -304,7 +304,12 @@ fn contents_are_put_in(rt: HostRuntime) -> Result<(), Fail> {
 #[test]
 fn shared_rows_change_apart(rt: HostRuntime) -> Result<(), Fail> {
     let mut tree = forest(&rt, rt.alloc())?;
-    let other = tree.remake([11, 13, 20].to_vec(rt.alloc())?)?;
+    let contents = [11, 13, 20].to_vec(rt.alloc())?;
+    assert_eq!(rt;
+        tree.rows().iter().filter(|row| !row.group).count(),
+        contents.len()
+    );
+    let other = tree.remake(contents)?;
     assert!(rt; take(rt.alloc(), &mut tree, To(20, 0, 0))?);
     assert!(rt; take(rt.alloc(), &mut tree, Delete(10))?);
     expect(&rt, &tree, &[(20, 0), (30, 0)]);
