@@ -4,3 +4,4 @@ pub mod Pixels
 pub mod Products
 pub mod RowLemmas
 pub mod TwoPixels
+pub mod Parts

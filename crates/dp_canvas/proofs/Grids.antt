@@ -14,7 +14,7 @@ use Rattle.dp_pixels.specs.Feet.{reach}
 use Rattle.dp_plain.specs.Weights.{board_weight}
 use Rattle.dp_tile.specs.Tiles.{TileGrid, cell_at, clear_grid, grid_pixel, grid_pixels}
 use Rattle.dp_tile.specs.Tiles.{part_of_grid, tile_of}
-use Rattle.dp_tile.proofs.Stretches.{parts_same}
+use Rattle.dp_blend.proofs.Parts.{parts_same}
 use Rattle.dp_tile.proofs.Tiles.{pixel-tile_of}
 
 -- a cell of a grid that shows nothing

@@ -1,11 +1,8 @@
 //! The pixels of a layer as a grid of tiles.
 
-ghost use Rattle.std.specs.Prelude.{◌≡◌, ◌≤◌};
-ghost use Rattle.dp_pixels.specs.Tiles.{tiles_along};
-
 use dp_blend::{Pixel, Stretch, length_of_canvas};
 use dp_msg_draw::Draw;
-use dp_paint::{move_in_place, paint_in_place, resized_grid};
+use dp_paint::{blank_grid, move_in_place, paint_in_place, resized_grid};
 use dp_pixels::{Resize, pixels_stay_pixels};
 use dp_plain::{LayerPixels, known_colors};
 use dp_steps::Steps;
@@ -26,15 +23,6 @@ impl Model for TiledPixels {
     ghost Value = { TileGrid };
 
     ghost view = { λ t. t.grid };
-}
-
-/// How many tiles there are along a side.
-fn tiles_along(side: u32) -> u32
-    requires { side ≤ 4096 }
-    ensures value { result ≡ tiles_along side }
-    ensures few { result ≤ 64 }
-{
-    (side + 63) / 64
 }
 
 impl LayerPixels for TiledPixels {
@@ -59,8 +47,9 @@ impl LayerPixels for TiledPixels {
         height: u32,
         _tiles: &mut Steps<T>,
     ) -> Result<Self, AllocError> {
-        let grid = Grid::new(alloc, tiles_along(width), tiles_along(height))?;
-        Ok(TiledPixels { grid })
+        Ok(TiledPixels {
+            grid: blank_grid(alloc, width, height)?,
+        })
     }
 
     fn paint<T: Ledger>(

@@ -16,7 +16,9 @@ ghost use Rattle.dp_flat.specs.Texts.{GrowsBefore, name_of, pixel_text_of};
 
 use crate::chunk::{COLUMNS, Chunk};
 use crate::compose::{MEMORY, draw_chunk};
-use crate::text::{CHUNK_BYTES, Format, PIECE_BYTES, Piece, head_of, push_all, push_chunk};
+use crate::text::{
+    CHUNK_BYTES, Format, PIECE_BYTES, Piece, SolidText, head_of, push_all, push_chunk,
+};
 use dp_blend::Pixel;
 use dp_io::{Failed, Sink, put_all};
 use dp_plain::BoardView;
@@ -131,10 +133,11 @@ fn put_picture<V: BoardView, S: Sink>(
     ensures cause { HasCause any_fault (S.faults out.old) (S.faults out.new) result }
 {
     let (width, height) = (board.width(), board.height());
+    let mut solid = SolidText::new(format, Pixel::WHITE);
     let mut piece = Piece::new();
     push_all(head_of(format, width, height).as_bytes(), &mut piece);
     for y in 0..height {
-        put_row(format, board, y, memory, &mut piece, out)?;
+        put_row(format, board, y, memory, &mut solid, &mut piece, out)?;
     }
     put_all(out, piece.as_slice())
 }
@@ -145,6 +148,7 @@ fn put_row<V: BoardView, S: Sink>(
     board: &V,
     y: u32,
     memory: &mut [Pixel],
+    solid: &mut SolidText,
     piece: &mut Piece,
     out: &mut S,
 ) -> Result<(), Failed>
@@ -160,7 +164,15 @@ fn put_row<V: BoardView, S: Sink>(
     for column in 0..width.div_ceil(COLUMNS) {
         let x = column * COLUMNS;
         let count = COLUMNS.min(width - x);
-        put_chunk(format, board, Chunk { x, y, count }, memory, piece, out)?;
+        put_chunk(
+            format,
+            board,
+            Chunk { x, y, count },
+            memory,
+            solid,
+            piece,
+            out,
+        )?;
     }
     Ok(())
 }
@@ -171,6 +183,7 @@ fn put_chunk<V: BoardView, S: Sink>(
     board: &V,
     chunk: Chunk,
     memory: &mut [Pixel],
+    solid: &mut SolidText,
     piece: &mut Piece,
     out: &mut S,
 ) -> Result<(), Failed>
@@ -186,7 +199,7 @@ fn put_chunk<V: BoardView, S: Sink>(
 {
     make_room(piece, out)?;
     let tone = draw_chunk(board, chunk, memory);
-    push_chunk(format, tone, &memory[..chunk.count as usize], piece);
+    push_chunk(format, tone, &memory[..chunk.count as usize], solid, piece);
     Ok(())
 }
 

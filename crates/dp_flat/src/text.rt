@@ -25,7 +25,7 @@ pub(crate) const PIECE_BYTES: usize = 16 * CHUNK_BYTES;
 pub(crate) type Piece = ArrayVec<u8, PIECE_BYTES>;
 
 /// A form in which the picture is written.
-#[derive(Clone, Copy)]
+#[derive(Clone, Copy, PartialEq, Eq)]
 pub(crate) enum Format {
     /// Three bytes a pixel.
     P6,
@@ -60,24 +60,85 @@ pub(crate) fn head_of(format: Format, width: u32, height: u32) -> ArrayString<96
     head
 }
 
+/// The text of a whole chunk of one colour. It is kept for the chunks of that colour to come.
+#[derive(Drop)]
+pub(crate) struct SolidText {
+    format: Format,
+    color: Pixel,
+    bytes: ArrayVec<u8, CHUNK_BYTES>,
+    ghost whole: { bytes.items ≡ flat_map (pixel_text_of format) (replicate 64 color) },
+}
+
+impl SolidText {
+    /// The text of a chunk of this colour.
+    pub(crate) fn new(format: Format, color: Pixel) -> SolidText
+        ensures format { result.format ≡ format }
+        ensures color { result.color ≡ color }
+    {
+        let mut bytes = ArrayVec::new();
+        push_repeated(format, color, BUFFER, &mut bytes);
+        SolidText {
+            format,
+            color,
+            bytes,
+        }
+    }
+
+    /// The bytes of the text of a chunk of this colour, made anew where another one is kept.
+    fn bytes_of(&mut self, format: Format, color: Pixel) -> &[u8]
+        ensures value { result.now ≡ flat_map (pixel_text_of format) (replicate 64 color) }
+        ensures short { length result.now ≤ CHUNK_BYTES }
+    {
+        if self.color != color || self.format != format {
+            *self = SolidText::new(format, color);
+        }
+        self.bytes.as_slice()
+    }
+}
+
 /// Adds the texts of the pixels of a chunk of this tone, with this buffer.
-pub(crate) fn push_chunk(format: Format, tone: Tone, buffer: &[Pixel], piece: &mut Piece)
+pub(crate) fn push_chunk(
+    format: Format,
+    tone: Tone,
+    buffer: &[Pixel],
+    solid: &mut SolidText,
+    piece: &mut Piece,
+)
     requires few { length buffer.now ≤ BUFFER }
     requires room { array_vec_len piece.old + CHUNK_BYTES ≤ PIECE_BYTES }
     ensures { piece.new.items
         ≡ piece.old.items ++ flat_map (pixel_text_of format) (tone_pixels tone buffer.now) }
 {
     match tone {
-        Tone::Solid(color) => push_repeated(format, color, buffer.len(), piece),
+        Tone::Solid(color) => push_solid(format, color, buffer.len(), solid, piece),
         Tone::Mixed => push_pixels(format, buffer, piece),
+    }
+}
+
+/// Adds the texts of the pixels of a chunk of one colour. That of a whole chunk is copied.
+fn push_solid(format: Format, color: Pixel, count: usize, solid: &mut SolidText, piece: &mut Piece)
+    requires few { count ≤ BUFFER }
+    requires room { array_vec_len piece.old + CHUNK_BYTES ≤ PIECE_BYTES }
+    ensures { piece.new.items
+        ≡ piece.old.items ++ flat_map (pixel_text_of format) (replicate count color) }
+{
+    if count == BUFFER {
+        push_all(solid.bytes_of(format, color), piece);
+    } else {
+        push_repeated(format, color, count, piece);
     }
 }
 
 /// Adds the text of a pixel `count` times.
 #[tactic(auto, using(crate::proofs::Rows::copies_text))]
-fn push_repeated(format: Format, pixel: Pixel, count: usize, piece: &mut Piece)
+fn push_repeated<const CAP: usize>(
+    format: Format,
+    pixel: Pixel,
+    count: usize,
+    piece: &mut ArrayVec<u8, CAP>,
+)
     requires few { count ≤ BUFFER }
-    requires room { array_vec_len piece.old + CHUNK_BYTES ≤ PIECE_BYTES }
+    requires room { array_vec_len piece.old + CHUNK_BYTES ≤ CAP }
     ensures { piece.new.items
         ≡ piece.old.items ++ flat_map (pixel_text_of format) (replicate count pixel) }
 {
@@ -89,14 +150,14 @@ fn push_repeated(format: Format, pixel: Pixel, count: usize, piece: &mut Piece)
 }
 
 /// Adds the bytes `count` times.
-fn push_copies(bytes: &[u8], count: usize, piece: &mut Piece)
+fn push_copies<const CAP: usize>(bytes: &[u8], count: usize, piece: &mut ArrayVec<u8, CAP>)
     requires short { length bytes.now ≤ PIXEL_BYTES }
-    requires room { array_vec_len piece.old + count * PIXEL_BYTES ≤ PIECE_BYTES }
+    requires room { array_vec_len piece.old + count * PIXEL_BYTES ≤ CAP }
     ensures { piece.new.items
         ≡ piece.old.items ++ flat_map (λ copy. copy) (replicate count bytes.now) }
 {
     for _ in 0..count {
-        push_all(bytes, piece);
+        push_few(bytes, piece);
     }
 }
 
@@ -120,8 +181,8 @@ fn push_pixel(format: Format, pixel: Pixel, piece: &mut Piece)
 {
     let [red, green, blue] = bytes_of(pixel);
     match format {
-        Format::P6 => push_all(&[red, green, blue], piece),
-        Format::P3 => push_all(line_of(red, green, blue).as_bytes(), piece),
+        Format::P6 => push_few(&[red, green, blue], piece),
+        Format::P3 => push_few(line_of(red, green, blue).as_bytes(), piece),
     }
 }
 
@@ -133,10 +194,20 @@ fn bytes_of(pixel: Pixel) -> [u8; 3]
     [to8(pixel.r()), to8(pixel.g()), to8(pixel.b())]
 }
 
-/// Adds the bytes.
+/// Adds the bytes, all at once.
+pub(crate) fn push_all<const CAP: usize>(bytes: &[u8], piece: &mut ArrayVec<u8, CAP>)
+    requires { array_vec_len piece.old + length bytes.now ≤ CAP }
+    ensures { piece.new.items ≡ piece.old.items ++ bytes.now }
+{
+    if piece.try_extend_from_slice(bytes).is_err() {
+        unreachable!();
+    }
+}
+
+/// Adds the bytes one by one, which is faster where they are few.
 #[inline]
-pub(crate) fn push_all(bytes: &[u8], piece: &mut Piece)
-    requires { array_vec_len piece.old + length bytes.now ≤ PIECE_BYTES }
+fn push_few<const CAP: usize>(bytes: &[u8], piece: &mut ArrayVec<u8, CAP>)
+    requires { array_vec_len piece.old + length bytes.now ≤ CAP }
     ensures { piece.new.items ≡ piece.old.items ++ bytes.now }
 {
     for byte in bytes {

@@ -95,7 +95,8 @@ fn nested(rt: &impl Abort, alloc: Global, count: u16) -> Result<Tree<u16>, Fail>
     Ok(tree)
 }
 
-/// Group 10 with paint row 11 and group 12, which has paint row 13; paint row 20 and group 30.
+/// The groups 10 and 30 and the paint layer 20. Group 10 holds the paint layer 11 and the group 12,
+/// and that holds the paint layer 13.
 fn forest(rt: &impl Abort, alloc: Global) -> Result<Tree<u16>, Fail> {
     let mut tree = Tree::new(alloc);
     let orders = [

@@ -1,6 +1,6 @@
 -- Grids whose tiles were made of pixels at all places, and MoveRect on them.
-use Rattle.std.proofs.Common.{◌≡◌, ℕ, ◌+◌, ◌*◌, ◌/◌, ◌%◌, ◌<◌, Bool, true, false, cond, refl, sym, ◌∙◌, ap}
-use Rattle.std.proofs.Common.{arith, subst, ⊎_elim, ◌||◌}
+use Rattle.std.proofs.Common.{◌≡◌, ℕ, ◌+◌, ◌*◌, ◌/◌, ◌%◌, ◌<◌, Bool, true, false, refl}
+use Rattle.std.proofs.Common.{sym, ◌∙◌, ap, arith, subst, ⊎_elim, ◌||◌}
 use Rattle.std.specs.Prelude.{ℤ, pos, ◌-ℤ◌}
 use Rattle.std.proofs.lemmas.Bool.{cases_Bool, cond-false, cond-true, false_from_ne_true}
 use Rattle.std.proofs.lemmas.Bool.{false≢true}
@@ -13,7 +13,7 @@ use Rattle.dp_msg_draw.specs.declared.draw.Draw.TheVariants.{MoveRect}
 use Rattle.dp_pixels.specs.declared.rect.Rect.{Rect}
 use Rattle.dp_pixels.specs.Rectangles.{canvas_rect, clipped, is_in, rect_at}
 use Rattle.dp_pixels.specs.Commands.{drawn, moved, pixels_after}
-use Rattle.dp_pixels.specs.Feet.{foot, is_in_foot, on_greatest}
+use Rattle.dp_pixels.specs.Feet.{on_greatest}
 use Rattle.dp_pixels.proofs.Rectangles.{is_in_by}
 use Rattle.dp_tile.specs.declared.area.CellArea.{CellArea}
 use Rattle.dp_tile.specs.Tiles.{TileGrid, cell_at, grid_pixel, grid_pixels}

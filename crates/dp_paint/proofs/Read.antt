@@ -1,5 +1,5 @@
 -- Rows that are read off a canvas of tiles.
-use Rattle.std.proofs.Common.{◌≡◌, ℕ, ◌+◌, ◌-◌, ◌<◌, ◌≤◌, List, length, get_or, map, ap, sym, ◌∙◌}
+use Rattle.std.proofs.Common.{◌≡◌, ℕ, ◌+◌, ◌-◌, ◌<◌, ◌≤◌, List, length, get_or, ap, sym, ◌∙◌}
 use Rattle.std.proofs.Common.{arith, refl, ⊎_elim}
 use Rattle.std.specs.Prelude.{ℤ, pos, ◌+ℤ◌, ◌<ℤ◌, ◌≤ℤ◌}
 use Rattle.std.proofs.lemmas.Bool.{cases_lt}
@@ -7,7 +7,8 @@ use Rattle.std.proofs.lemmas.Int.{ints}
 use Rattle.dp_blend.specs.Color.{Channels, clear}
 use Rattle.dp_tile.specs.Areas.{with_part}
 use Rattle.dp_tile.specs.Tiles.{TileGrid, grid_pixel, part_of_grid}
-use Rattle.dp_tile.proofs.Stretches.{is_part, length-part_of_grid, pixel_of_part}
+use Rattle.dp_blend.proofs.Parts.{is_part, pixel_of_part}
+use Rattle.dp_tile.proofs.Stretches.{length-part_of_grid}
 use Rattle.dp_paint.specs.Reading.{row_from, shown}
 use Rattle.dp_paint.proofs.RowLemmas.{is_row_with_part}
 use Rattle.dp_paint.proofs.Shown.{shown_above, shown_at, shown_below, shown_left, shown_right}

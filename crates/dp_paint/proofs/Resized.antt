@@ -1,8 +1,7 @@
 -- Grids of a canvas that got new sides.
-use Rattle.std.proofs.Common.{◌≡◌, ℕ, ◌/◌, ◌<◌, ◌≤◌, true, refl, ◌∙◌, arith}
-use Rattle.std.specs.Prelude.{ℤ, pos, ◌-ℤ◌}
+use Rattle.std.proofs.Common.{◌≡◌, ℕ, ◌/◌, ◌<◌, ◌≤◌, true, refl, arith}
+use Rattle.std.specs.Prelude.{pos, ◌-ℤ◌}
 use Rattle.std.proofs.lemmas.Bool.{le-leb, lt-ltb}
-use Rattle.dp_blend.specs.Color.{Channels}
 use Rattle.dp_blend.proofs.Canvas.{canvas_of-same}
 use Rattle.dp_pixels.specs.declared.resize.Resize.{Resize}
 use Rattle.dp_pixels.specs.Tiles.{tiles_along}

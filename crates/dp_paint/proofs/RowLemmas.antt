@@ -1,12 +1,11 @@
 -- Rows of which a part was put anew.
-use Rattle.std.proofs.Common.{◌≡◌, ℕ, ◌+◌, ◌-◌, ◌<◌, ◌≤◌, List, length, get_or, map, ap, ◌∙◌, arith}
+use Rattle.std.proofs.Common.{◌≡◌, ℕ, ◌+◌, ◌-◌, ◌<◌, ◌≤◌, List, length, get_or, map, ap}
+use Rattle.std.proofs.Common.{◌∙◌, arith}
 use Rattle.std.proofs.Common.{⊎_elim}
 use Rattle.std.proofs.Common.{cond, false, sym}
 use Rattle.std.specs.Prelude.{ℤ, pos, ◌+ℤ◌, ◌-ℤ◌, ◌<ℤ◌, ◌≤ℤ◌}
 use Rattle.std.proofs.lemmas.Bool.{cases_lt, cond-false, cond-true}
-use Rattle.std.proofs.Common.{take, drop}
-use Rattle.std.proofs.lemmas.List.{length-map, length-take-le, length-drop}
-use Rattle.std.proofs.lemmas.List.{get_or-take, get_or-drop}
+use Rattle.std.proofs.lemmas.List.{length-map}
 use Rattle.std.proofs.lemmas.Int.{ints}
 use Rattle.dp_blend.specs.Blending.{blend}
 use Rattle.dp_blend.specs.declared.modes.Mode.TheVariants.{Normal}
@@ -20,18 +19,7 @@ use Rattle.dp_blend.specs.Color.{Channels, clear}
 use Rattle.dp_blend.specs.Canvas.{below}
 use Rattle.dp_tile.specs.Areas.{with_part}
 use Rattle.dp_tile.proofs.Areas.{length-with_part, get_or-before, get_or-inside, get_or-after}
-use Rattle.dp_tile.proofs.Stretches.{is_part, parts_same, pixel_of_part}
-
--- so many of a list from one on
-pub length-mid : {X : Type 0} (a n : ℕ) (xs : List X) → a ≤ n → n ≤ length xs
-    → length (take (n - a) (drop a xs)) ≡ n - a
-length-mid a n xs order within =
-    length-take-le (n - a) (drop a xs) (omega (arith, length-drop a xs, order, within))
-
-pub pixel-mid : {X : Type 0} (a n i : ℕ) (xs : List X) (d : X) → i < n - a
-    → get_or (take (n - a) (drop a xs)) i d ≡ get_or xs (a + i) d
-pixel-mid a n i xs d few =
-    get_or-take (n - a) (drop a xs) i d few ∙ get_or-drop a xs i d
+use Rattle.dp_blend.proofs.Parts.{is_part, parts_same, pixel_of_part}
 
 -- a row of which a part was put anew
 pub is_row_with_part : (f g h : ℕ → Channels) (from to n : ℕ) (xs ys : List Channels)

@@ -6,7 +6,7 @@ use Rattle.std.specs.Int.{int_min}
 use Rattle.std.proofs.lemmas.Bool.{cases_lt}
 use Rattle.std.proofs.lemmas.Bool.Decides.{nat_tests}
 use Rattle.std.proofs.lemmas.Int.{ints, int_max_is, int_min_is}
-use Rattle.dp_blend.specs.Color.{Channels, clear}
+use Rattle.dp_blend.specs.Color.{clear}
 use Rattle.dp_blend.proofs.Canvas.{pixel_at-canvas_of}
 use Rattle.dp_blend.specs.Canvas.{pixel_at}
 use Rattle.dp_pixels.specs.Feet.{on_greatest}

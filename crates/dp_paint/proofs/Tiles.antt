@@ -9,7 +9,7 @@ use Rattle.dp_blend.specs.Canvas.{pixel_at}
 use Rattle.dp_blend.proofs.Canvas.{is_canvas_of, pixel_at-canvas_of}
 use Rattle.dp_tile.specs.Areas.{with_part}
 use Rattle.dp_tile.proofs.Areas.{get_or-before, get_or-inside, length-with_part}
-use Rattle.dp_tile.proofs.Stretches.{pixel_of_part}
+use Rattle.dp_blend.proofs.Parts.{pixel_of_part}
 use Rattle.dp_paint.specs.Reading.{row_from, tile_from}
 use Rattle.dp_paint.proofs.RowLemmas.{length-row_from}
 
@@ -19,7 +19,8 @@ module _ (pixel : ℤ → ℤ → Channels) (col row : ℕ) where
       → pixel_at 64 (tile_from pixel col row) i j ≡ pixel (pos (col * 64 + i)) (pos (row * 64 + j))
   unfolding tile_from
   pixel-tile_from i j in_x in_y =
-      pixel_at-canvas_of 64 64 (λ i j. pixel (pos (col * 64 + i)) (pos (row * 64 + j))) i j in_x in_y
+      pixel_at-canvas_of 64 64 (λ i j. pixel (pos (col * 64 + i)) (pos (row * 64 + j))) i j in_x
+      in_y
 
   -- a list that has them at its places
   pub is_tile_from : (new : List Channels) → length new ≡ 4096

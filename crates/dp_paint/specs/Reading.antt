@@ -1,5 +1,6 @@
 -- Commands that read a grid at other places than those that they change.
-use Rattle.std.specs.Prelude.{ℕ, ℤ, pos, ◌+◌, ◌*◌, ◌+ℤ◌, ◌-ℤ◌, ◌-◌, ◌≤◌, ◌≡◌, List, length, map, if◌then◌else◌}
+use Rattle.std.specs.Prelude.{◌≡◌, ℕ, ◌+◌, ◌-◌, ◌*◌, ◌≤◌, ℤ, pos, ◌+ℤ◌, ◌-ℤ◌, List, length}
+use Rattle.std.specs.Prelude.{map, if◌then◌else◌}
 use Rattle.dp_blend.specs.Color.{Channels, clear}
 use Rattle.dp_blend.specs.Blending.{blend}
 use Rattle.dp_blend.specs.declared.modes.Mode.TheVariants.{Normal}
@@ -38,6 +39,8 @@ pub record IsResized (r : Resize) (old new : TileGrid) : Type 0 where
   pub pixels : grid_pixels r.new_width r.new_height new
       ≡ pixels_resized r (grid_pixels r.width r.height old)
 
+-- ---- in the words of the code
+
 -- so many pixels of a row, from a place on, of pixels at all places
 abbrev pub row_from : (ℤ → ℤ → Channels) → ℤ → ℤ → ℕ → List Channels
 row_from pixel x y count = map (λ i. pixel (x +ℤ pos i) y) (below count)
@@ -67,10 +70,6 @@ laid source right down old under x y =
 -- pixels at all places, after those in a rectangle moved so far
 abbrev pub moved_part : Rect → ℤ → ℤ → (ℤ → ℤ → Channels) → ℤ → ℤ → Channels
 moved_part source right down old = laid source right down old (cleared source old)
-
--- the pixel at a place of a canvas that got new sides
-abbrev pub shifted : Resize → TileGrid → ℤ → ℤ → Channels
-shifted r g x y = shown r.width r.height g (x -ℤ r.left) (y -ℤ r.top)
 
 -- the area is one of cells of a grid
 pub record IsAreaOf (g : TileGrid) (area : CellArea) : Type 0 where

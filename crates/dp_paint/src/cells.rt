@@ -10,7 +10,7 @@ use dp_pixels::Rect;
 use dp_tile::CellArea;
 
 /// The greatest length of a side, in pixels.
-const MAX_SIDE: i64 = 4096;
+pub(crate) const MAX_SIDE: i64 = 4096;
 
 /// The places of a rectangle that are on the greatest canvas.
 pub(crate) fn on_greatest(rect: Rect) -> Rect

@@ -9,14 +9,12 @@ ghost use Rattle.dp_pixels.specs.Commands.{dabs_blended};
 ghost use Rattle.dp_pixels.specs.Regions.{IsPainted, on_canvas};
 ghost use Rattle.dp_paint.specs.Strokes.{AreFiled, IsFiled, meets_stretch, tile_square};
 
+use crate::cells::MAX_SIDE;
 use dp_blend::Pixel;
 use dp_pixels::{Brush, NearDab, Rect, Region, draw_dab};
 use dp_tile::{CellArea, SIDE};
 use std::alloc::{AllocError, Global};
 use std::marker::Model;
-
-/// The greatest length of a side, in pixels.
-const MAX_SIDE: i64 = 4096;
 
 /// The dabs of a tile. They are seen as where each of them stands, in order.
 #[derive(Drop)]

@@ -13,19 +13,19 @@ const NARROW: usize = 16;
 
 /// The columns or the rows of a tile from `start` on before `end`.
 #[derive(Clone, Copy)]
-struct Stretch {
+struct Span {
     start: usize,
     end: usize,
 }
 
 /// The numbers of a tile's side that are among `len` from `from` on, counted from its first.
-fn stretch_of(tile: u32, from: u32, len: u32) -> Stretch
+fn span_of(tile: u32, from: u32, len: u32) -> Span
     requires { tile < 64 }
     ensures { result.end ≤ 64 }
 {
     let (first, end) = (tile as u64 * 64, tile as u64 * 64 + 64);
     let (from, to) = (from as u64, from as u64 + len as u64);
-    Stretch {
+    Span {
         start: (from.clamp(first, end) - first) as usize,
         end: (to.clamp(first, end) - first) as usize,
     }
@@ -33,7 +33,7 @@ fn stretch_of(tile: u32, from: u32, len: u32) -> Stretch
 
 /// Reads both ends of rows of a tile. The answer keeps the reads: whether an alpha is above one,
 /// which none is.
-fn read_ends(across: Stretch, down: Stretch, pixels: &[Pixel]) -> bool
+fn read_ends(across: Span, down: Span, pixels: &[Pixel]) -> bool
     requires count { length pixels.now ≡ 4096 }
     requires order { across.start < across.end }
     requires across { across.end ≤ 64 }
@@ -65,8 +65,8 @@ impl Fill {
         requires count { length pixels.now ≡ 4096 }
         ensures { result ≡ false }
     {
-        let across = stretch_of(col, self.x, self.w);
-        let down = stretch_of(row, self.y, self.h);
+        let across = span_of(col, self.x, self.w);
+        let down = span_of(row, self.y, self.h);
         if across.start < across.end && across.end - across.start <= NARROW {
             read_ends(across, down, pixels)
         } else {

@@ -3,6 +3,7 @@
 //! The rule: docs/protocol.md, "Pixel commands".
 #![tactic(auto)]
 
+mod blank;
 mod cells;
 mod dabs;
 mod feet;
@@ -15,6 +16,7 @@ mod resize;
 mod rows;
 mod stroke;
 
+pub use blank::blank_grid;
 pub use movement::{move_in_place, move_one};
 pub use paint::{paint_in_place, paint_one};
 pub use resize::{resize_grid, resized_grid};

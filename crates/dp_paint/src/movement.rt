@@ -227,7 +227,8 @@ fn paint_move<T: Ledger>(
 ) -> Result<(), AllocError>
     requires same { old.grid.now ≡ grid.old }
     ensures grid { OnOk result (IsGridOf old.entry.width old.entry.height grid.new) }
-    ensures pixels { (layer : ℕ) → OnOk result (grid_pixels old.entry.width old.entry.height grid.new
+    ensures pixels { (layer : ℕ) → OnOk result
+        (grid_pixels old.entry.width old.entry.height grid.new
         ≡ pixels_after old.entry.width old.entry.height (move_of layer movement)
         (grid_pixels old.entry.width old.entry.height grid.old)) }
     ensures tiles_rise { tiles.old ≤ tiles.new }

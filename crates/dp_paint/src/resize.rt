@@ -8,6 +8,7 @@ ghost use Rattle.dp_pixels.specs.Tiles.{tiles_along};
 ghost use Rattle.dp_paint.specs.Painting.{IsGridOf};
 ghost use Rattle.dp_paint.specs.Reading.{IsResizeBy, IsResized};
 
+use crate::blank::blank_grid;
 use crate::reading::Shown;
 use crate::rows::{RowPainter, RowSource};
 use dp_blend::Pixel;
@@ -17,15 +18,6 @@ use dp_steps::Steps;
 use dp_tile::{CellArea, Grid, TileChange};
 use std::alloc::AllocError;
 use std::sync::ledger::Ledger;
-
-/// How many tiles there are along a side.
-fn tiles_along(side: usize) -> u32
-    requires { side ≤ 4096 }
-    ensures value { result ≡ tiles_along side }
-    ensures few { result ≤ 64 }
-{
-    (side as u32 + 63) / 64
-}
 
 /// A canvas, as it stands on one of other sides.
 #[derive(Clone, Copy)]
@@ -97,10 +89,6 @@ pub fn resized_grid<T: Ledger>(
     ensures few_tiles { tiles.new
         ≤ tiles.old + tiles_along change.new_height * tiles_along change.new_width }
 {
-    let (cols, rows) = (
-        tiles_along(change.new_width),
-        tiles_along(change.new_height),
-    );
     let shifted = Shifted {
         old: Shown {
             grid,
@@ -111,13 +99,17 @@ pub fn resized_grid<T: Ledger>(
         top: change.top,
     };
     let painter = RowPainter { source: &shifted };
+    let mut resized = blank_grid(
+        grid.alloc(),
+        change.new_width as u32,
+        change.new_height as u32,
+    )?;
     let all = CellArea {
         left: 0,
-        right: cols,
+        right: resized.cols(),
         top: 0,
-        bottom: rows,
+        bottom: resized.rows(),
     };
-    let mut resized = Grid::new(grid.alloc(), cols, rows)?;
     resized.paint_area(all, &painter, tiles)?;
     Ok(resized)
 }

@@ -1,6 +1,7 @@
-ghost use Rattle.std.specs.Prelude.{◌≡◌, ◌<◌};
+ghost use Rattle.std.specs.Prelude.{◌≡◌, ◌<◌, IfOk};
+ghost use Rattle.dp_paint.specs.Painting.{IsGridOf};
 
-use crate::paint_one;
+use crate::{blank_grid, move_one, paint_one, resize_grid};
 use dp_blend::Pixel;
 use dp_msg_draw::{Dab, Dabs, Draw};
 use dp_steps::Steps;
@@ -82,5 +83,76 @@ fn stroked<T: Ledger>(alloc: Global, blank: Blank) -> Result<[bool; 4], AllocErr
 fn a_stroke_makes_no_tile_between_its_dabs(rt: HostRuntime) -> Result<(), AllocError> {
     let tiles = stroked::<Brand>(rt.alloc(), Blank::new(1))?;
     assert_eq!(rt; tiles, [true, false, true, false]);
+    Ok(())
+}
+
+/// A canvas of 66 by 3 with one white pixel, at (1, 1).
+fn dotted<T: Ledger>(alloc: Global, tiles: &mut Steps<T>) -> Result<Grid, AllocError>
+    ensures { IfOk result (IsGridOf 66 3) }
+{
+    let dot = Draw::FillRect {
+        layer: 1,
+        mode: 1,
+        x: 1,
+        y: 1,
+        w: 1,
+        h: 1,
+        color: 0xffff_ffff,
+    };
+    paint_one(&blank_grid(alloc, 66, 3)?, 66, 3, &dot, tiles)
+}
+
+/// The places that a pixel moves from and to, and one beside them.
+fn moved<T: Ledger>(alloc: Global, blank: Blank) -> Result<[Pixel; 3], AllocError>
+    requires name { blank.name ≡ T.name }
+    requires parts { blank.parts ≡ T.parts }
+    requires some { 0 < blank.parts }
+{
+    let mut tiles = Steps::<T>::new(blank);
+    let old = dotted(alloc, &mut tiles)?;
+    let to_the_right = Draw::MoveRect {
+        layer: 1,
+        sx: 1,
+        sy: 1,
+        w: 1,
+        h: 1,
+        tx: 65,
+        ty: 2,
+    };
+    let grid = move_one(&old, 66, 3, &to_the_right, &mut tiles)?;
+    Ok([grid.get(1, 1), grid.get(65, 2), grid.get(64, 2)])
+}
+
+#[test]
+fn a_pixel_moves_to_another_tile(rt: HostRuntime) -> Result<(), AllocError> {
+    let pixels = moved::<Brand>(rt.alloc(), Blank::new(1))?;
+    let (white, clear) = (Pixel::WHITE, Pixel::CLEAR);
+    assert_eq!(rt; pixels, [clear, white, clear]);
+    Ok(())
+}
+
+/// Pixels of a canvas that grows by 64 on the left and by 1 above, and its tiles along its width.
+fn grown<T: Ledger>(alloc: Global, blank: Blank) -> Result<([Pixel; 2], u32), AllocError>
+    requires name { blank.name ≡ T.name }
+    requires parts { blank.parts ≡ T.parts }
+    requires some { 0 < blank.parts }
+{
+    let mut tiles = Steps::<T>::new(blank);
+    let old = dotted(alloc, &mut tiles)?;
+    let grow = Draw::CanvasResize {
+        top: 1,
+        right: 0,
+        bottom: 0,
+        left: 64,
+    };
+    let grid = resize_grid(&old, 66, 3, &grow, &mut tiles)?;
+    Ok(([grid.get(1, 1), grid.get(65, 2)], grid.cols()))
+}
+
+#[test]
+fn a_canvas_grows_by_a_column_of_tiles(rt: HostRuntime) -> Result<(), AllocError> {
+    let (pixels, cols) = grown::<Brand>(rt.alloc(), Blank::new(1))?;
+    assert_eq!(rt; pixels, [Pixel::CLEAR, Pixel::WHITE]);
+    assert_eq!(rt; cols, 3);
     Ok(())
 }

@@ -1,9 +1,9 @@
 -- Where commands change pixels, and where they read them.
-use Rattle.std.proofs.Common.{◌≡◌, ℕ, ◌*◌, ◌/◌, ◌<◌, ◌≤◌, List, [], ◌∷◌, Bool, true, false}
-use Rattle.std.proofs.Common.{◌&&◌, ◌||◌, cond, eqb, fold, map, Option, Some, None, refl, sym, ◌∙◌}
-use Rattle.std.proofs.Common.{ap, arith, ◌⊎◌, inl, inr, ⊎_elim}
-use Rattle.std.specs.Prelude.{◌==◌, ℤ, pos, ◌+ℤ◌, ◌-ℤ◌, ◌≤ℤ◌, ◌<ℤ◌, unsigned_abs, slice_get, int_lt}
-use Rattle.std.specs.Prelude.{IsTrue, ◌↔◌}
+use Rattle.std.proofs.Common.{◌≡◌, ℕ, ◌*◌, ◌/◌, ◌<◌, ◌≤◌, List, [], ◌∷◌, Bool}
+use Rattle.std.proofs.Common.{true, false, ◌&&◌, ◌||◌, cond, eqb, fold, map, Option, Some}
+use Rattle.std.proofs.Common.{None, refl, sym, ◌∙◌, ap, arith, ◌⊎◌, inl, inr, ⊎_elim}
+use Rattle.std.specs.Prelude.{◌==◌, ℤ, pos, ◌+ℤ◌, ◌-ℤ◌, ◌≤ℤ◌, ◌<ℤ◌, unsigned_abs}
+use Rattle.std.specs.Prelude.{slice_get, int_lt, IsTrue, ◌↔◌}
 use Rattle.std.specs.Int.{int_max, int_min}
 use Rattle.std.specs.Option.{option_map_or}
 use Rattle.std.proofs.lemmas.Int.{ints, int_max_is, int_min_is}
@@ -284,8 +284,8 @@ moved_keeps width height sx sy w h tx ty old x y narrow low out_from out_to on =
 
 -- ---- the laws
 
-pub drawn_keeps : (width height : ℕ) (d : Draw) (old : ℤ → ℤ → Channels) (x y : ℤ) → width ≤ 4096
-    → height ≤ 4096 → is_in_foot (foot d) x y ≡ false
+pub drawn_keeps : (width height : ℕ) (d : Draw) (old : ℤ → ℤ → Channels) (x y : ℤ)
+    → width ≤ 4096 → height ≤ 4096 → is_in_foot (foot d) x y ≡ false
     → drawn width height d old x y ≡ old x y
 drawn_keeps width height (op.CanvasResize top right bottom left) old x y narrow low out = absurd
     (false≢true (sym out))
@@ -437,7 +437,8 @@ shared a b = (
     below y z h = grind (arith, ints)
 
 -- a place of a rectangle is not in one that it shares no place with
-pub apart : (a b : Rect) (x y : ℤ) → share_place a b ≡ false → is_in a x y ≡ true → is_in b x y ≡ false
+pub apart : (a b : Rect) (x y : ℤ) → share_place a b ≡ false → is_in a x y ≡ true
+    → is_in b x y ≡ false
 apart a b x y none inside =
     false_from_ne_true (is_in b x y) (λ other. false≢true
     (sym none ∙ shared_by a b x y (is_in-true a x y inside) (is_in-true b x y other)))

@@ -1,7 +1,7 @@
 -- The squares of 64 by 64 places that share a place with a rectangle.
-use Rattle.std.proofs.Common.{◌≡◌, ℕ, zero, suc, ◌+◌, ◌-◌, ◌*◌, ◌/◌, ◌<◌, ◌≤◌, min, max, List, []}
-use Rattle.std.proofs.Common.{◌∷◌, Bool, true, false, cond, ◌&&◌, fold, leb, ltb, refl, sym, ◌∙◌}
-use Rattle.std.proofs.Common.{ap, arith, ⊎_elim}
+use Rattle.std.proofs.Common.{◌≡◌, ℕ, zero, suc, ◌+◌, ◌-◌, ◌*◌, ◌/◌, ◌<◌, ◌≤◌}
+use Rattle.std.proofs.Common.{min, max, List, [], ◌∷◌, Bool, true, false, cond, ◌&&◌}
+use Rattle.std.proofs.Common.{fold, leb, ltb, refl, sym, ◌∙◌, ap, arith, ⊎_elim}
 use Rattle.std.specs.Prelude.{ℤ, pos, negsuc, ◌+ℤ◌, ◌≤ℤ◌, ◌<ℤ◌, int_lt, unsigned_abs}
 use Rattle.std.specs.Int.{int_max, int_min}
 use Rattle.std.specs.List.{count_by, range_with_len, sum_by}
@@ -17,8 +17,8 @@ use Rattle.dp_pixels.specs.Feet.{on_greatest, on_side, squares_of, squares_share
 -- ---- sums
 
 -- a sum of products with one number
-scaled : (k : ℕ) (g h : ℕ → ℕ) → ((x : ℕ) → g x ≡ k * h x) → (xs : List ℕ) (s t : ℕ) → t ≡ k * s
-    → fold (λ a x. a + g x) t xs ≡ k * fold (λ a x. a + h x) s xs
+scaled : (k : ℕ) (g h : ℕ → ℕ) → ((x : ℕ) → g x ≡ k * h x) → (xs : List ℕ) (s t : ℕ)
+    → t ≡ k * s → fold (λ a x. a + g x) t xs ≡ k * fold (λ a x. a + h x) s xs
 scaled k g h same [] s t start = start
 scaled k g h same (x ∷ xs) s t start = scaled k g h same xs (s + h x) (t + g x) (next (same x))
   where
@@ -26,7 +26,8 @@ scaled k g h same (x ∷ xs) s t start = scaled k g h same xs (s + h x) (t + g x
     next e = omega (arith, e, start, mul-add k s (h x))
 
 -- how many numbers from a on are at least low and below high
-counted : (p : ℕ → Bool) (low high : ℕ) → ((x : ℕ) → p x ≡ (leb low x && ltb x high)) → (n a s : ℕ)
+counted : (p : ℕ → Bool) (low high : ℕ) → ((x : ℕ) → p x ≡ (leb low x && ltb x high))
+    → (n a s : ℕ)
     → fold (λ m x. m + cond (p x) 1 0) s (range_with_len a n) ≡ s + (min (a + n) high - max a low)
 counted p low high test zero a s = omega arith
 counted p low high test (suc n) a s =
@@ -35,8 +36,8 @@ counted p low high test (suc n) a s =
     ∙ step (leb low a) (ltb a high) (leb-true low a) (leb-false low a) (ltb-true a high)
     (ltb-false a high))
   where
-    step : (t u : Bool) → (t ≡ true → low ≤ a) → (t ≡ false → a < low) → (u ≡ true → a < high)
-        → (u ≡ false → high ≤ a)
+    step : (t u : Bool) → (t ≡ true → low ≤ a) → (t ≡ false → a < low)
+        → (u ≡ true → a < high) → (u ≡ false → high ≤ a)
         → s + cond (t && u) 1 0 + (min (a + 1 + n) high - max (a + 1) low)
         ≡ s + (min (a + suc n) high - max a low)
     step true true from before below above = omega (arith, from refl, below refl)

@@ -80,7 +80,8 @@ pub(crate) fn dabs_of(command: &Draw) -> ColoredDabs<'_>
     ensures dabs { dabs_of_command command.now
         ≡ placed_dabs result.run.at.x result.run.at.y result.run.dabs.now }
     ensures brush { brush_of command.now
-        ≡ option_map (λ mode. record { shape = result.run.shape; mode = mode; color = result.color })
+        ≡ option_map
+        (λ mode. record { shape = result.run.shape; mode = mode; color = result.color })
         (mode_numbered result.mode) }
 {
     match command {

@@ -41,8 +41,8 @@ pub pixels_shifted_more : (width height : ℕ) (pixels now row : List Channels) 
     (left top y : ℤ)
     → now ≡ pixels_shifted width height pixels new_width k left top → y ≡ pos k -ℤ top
     → ((x : ℤ) → pixel_in row x ≡ pixel_of width height pixels x y)
-    → now ++ row_moved new_width row left ≡ pixels_shifted width height pixels new_width (k + 1) left
-    top
+    → now ++ row_moved new_width row left
+    ≡ pixels_shifted width height pixels new_width (k + 1) left top
 pixels_shifted_more width height pixels now row new_width k left top y is place same =
     let moved : row_moved new_width row left ≡ map
     (λ x. pixel_of width height pixels (pos x -ℤ left) (pos k -ℤ top)) (below new_width) =

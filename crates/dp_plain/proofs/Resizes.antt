@@ -1,9 +1,9 @@
 -- The board on new sides.
-use Rattle.std.proofs.Common.{◌≡◌, ℕ, ◌≤◌, cond, true, false, ◌&&◌, Some, None, Option, List}
+use Rattle.std.proofs.Common.{◌≡◌, ℕ, ◌≤◌, cond, true, Some, None, Option, List}
 use Rattle.std.proofs.Common.{sym, ◌∙◌, ap}
 use Rattle.std.specs.Prelude.{ℤ, pos, negsuc, ◌+ℤ◌, nat_le}
 use Rattle.std.proofs.lemmas.Bool.{and_parts, cond-true}
-use Rattle.std.proofs.lemmas.Bool.{cond-false, leb-true, false≢true}
+use Rattle.std.proofs.lemmas.Bool.{leb-true, false≢true}
 use Rattle.std.proofs.lemmas.Option.{cond_some}
 use Rattle.dp_blend.specs.Color.{Channels}
 use Rattle.dp_layers.specs.Rows.{Row, map_contents}
@@ -28,8 +28,8 @@ pub resized_to : (board : Board) (top right bottom left : ℤ) (width height : �
     (rows : List (Row (List Channels)))
     → Some width ≡ side_if (pos board.width +ℤ left +ℤ right)
     → Some height ≡ side_if (pos board.height +ℤ top +ℤ bottom)
-    → rows ≡ map_contents (λ pixels. pixels_shifted board.width board.height pixels width height left
-    top)
+    → rows ≡ map_contents
+    (λ pixels. pixels_shifted board.width board.height pixels width height left top)
     board.rows
     → record { width = width; height = height; background = board.background; rows = rows }
     ≡ resized

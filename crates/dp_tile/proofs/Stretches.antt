@@ -1,29 +1,16 @@
--- Parts of rows of pixels.
-use Rattle.std.proofs.Common.{◌≡◌, ℕ, ◌+◌, ◌*◌, ◌/◌, ◌%◌, ◌<◌, ◌≤◌, List, length, get_or, map}
-use Rattle.std.proofs.Common.{◌-◌, take, drop, ⊎_elim}
+-- Parts of rows of tiles and grids.
+use Rattle.std.proofs.Common.{◌≡◌, ℕ, ◌+◌, ◌-◌, ◌*◌, ◌/◌, ◌%◌, ◌<◌, ◌≤◌, List, length, get_or}
+use Rattle.std.proofs.Common.{map, replicate, refl, sym, ◌∙◌, ap, arith, ⊎_elim}
 use Rattle.std.proofs.lemmas.Bool.{cases_lt}
-use Rattle.std.proofs.lemmas.List.{length-take, length-drop, get_or-take, get_or-drop}
-use Rattle.std.proofs.Common.{replicate, refl, sym, ◌∙◌, ap, arith, zero-add}
 use Rattle.std.proofs.lemmas.List.{get_or-replicate, length-replicate, length-map}
-use Rattle.std.proofs.lemmas.List.{get_or-map}
-use Rattle.std.proofs.lemmas.List.FromFn.{fill_by_all, length-range_with_len, get_or-range_with_len}
+use Rattle.std.proofs.lemmas.List.FromFn.{length-range_with_len}
 use Rattle.dp_blend.specs.Color.{Channels, clear}
 use Rattle.dp_blend.specs.Canvas.{below, part_of_row, pixel_at}
+use Rattle.dp_blend.proofs.Parts.{is_part, length-part_of_row, parts_same, pixel_of_part}
 use Rattle.dp_tile.specs.Tiles.{TileGrid, cell_at, grid_pixel, part_of_grid, tile_of}
 use Rattle.dp_tile.specs.Areas.{with_part}
 use Rattle.dp_tile.proofs.Areas.{length-with_part, get_or-before, get_or-inside}
 use Rattle.dp_tile.proofs.Tiles.{pixel-tile_of}
-
--- a part has as many pixels as it is asked for
-pub length-part_of_row : (w : ℕ) (pixels : List Channels) (x y n : ℕ)
-    → length (part_of_row w pixels x y n) ≡ n
-length-part_of_row w pixels x y n =
-    length-map (below n) (λ i. pixel_at w pixels (x + i) y) ∙ length-range_with_len 0 n
-
--- so many pixels of a function
-pub is_part : (f : ℕ → Channels) (n : ℕ) (xs : List Channels) → length xs ≡ n
-    → ((i : ℕ) → i < n → get_or xs i clear ≡ f i) → xs ≡ map f (below n)
-is_part f n xs len each = fill_by_all f xs n clear len each
 
 -- a part of a tile of one colour
 pub part_of_one_color : (p : Channels) (x y n : ℕ) → x + n ≤ 64 → y < 64
@@ -33,19 +20,6 @@ part_of_one_color p x y n within inside =
     (λ i few. get_or-replicate n i p clear few
     ∙ sym (pixel-tile_of p (y * 64 + (x + i)) (omega (arith, within, inside, few)))))
     ∙ ap (λ k. replicate k p) (sym (length-part_of_row 64 (tile_of p) x y n))
-
--- a pixel of a part
-pub pixel_of_part : (f : ℕ → Channels) (n i : ℕ) → i < n → get_or (map f (below n)) i clear ≡ f i
-pixel_of_part f n i few =
-    get_or-map f (below n) i 0 clear (rw (length-range_with_len 0 n) few)
-    ∙ ap f (get_or-range_with_len 0 n i 0 few ∙ zero-add i)
-
--- two functions with the same pixels
-pub parts_same : (f g : ℕ → Channels) (n : ℕ) → ((i : ℕ) → i < n → f i ≡ g i)
-    → map f (below n) ≡ map g (below n)
-parts_same f g n same =
-    is_part g n (map f (below n)) (length-map (below n) f ∙ length-range_with_len 0 n)
-    (λ i few. pixel_of_part f n i few ∙ same i few)
 
 -- so many pixels of a row of a grid
 pub length-part_of_grid : (g : TileGrid) (x y n : ℕ) → length (part_of_grid g x y n) ≡ n
@@ -62,21 +36,6 @@ part_of_cell g x y n within =
     let col : (x + i) / 64 ≡ x / 64 = omega (arith, within, few) in
     let at : (x + i) % 64 ≡ x % 64 + i = omega (arith, within, few) in
     rw (col, at) refl)
-
--- so many places of a row from x on, as they stand in the list
-pub part_of_pixels : (w x y n : ℕ) (pixels : List Channels) → y * w + x + n ≤ length pixels
-    → take (y * w + x + n - (y * w + x)) (drop (y * w + x) pixels) ≡ part_of_row w pixels x y n
-part_of_pixels w x y n pixels in_list =
-    let start = y * w + x in
-    let count : start + n - start ≡ n = omega arith in
-    let rest : length (drop start pixels) ≡ length pixels - start = length-drop start pixels in
-    let len : length (take n (drop start pixels)) ≡ n = omega
-    (arith, length-take n (drop start pixels)) in
-    rw count (is_part (λ i. pixel_at w pixels (x + i) y) n (take n (drop start pixels)) len
-    (λ i in_part.
-    let at : start + i ≡ y * w + (x + i) = omega arith in
-    get_or-take n (drop start pixels) i clear in_part ∙ get_or-drop start pixels i clear
-    ∙ ap (λ k. get_or pixels k clear) at))
 
 -- a part more is copied
 module _ (f : ℕ → Channels) (done n : ℕ) (xs ys : List Channels) (within : done + n ≤ length xs)

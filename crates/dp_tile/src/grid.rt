@@ -229,9 +229,10 @@ impl Grid {
         self.cells.paint(self.alloc, col, row, painter, tiles)
     }
 
-    /// Paints the tiles of an area. Other grids that shared them keep the old ones. All its tiles are
-    /// made this grid's alone before the first is painted, and then are painted in place. Cells that
-    /// become of one colour have one tile in common. Its depth on the stack is the number of cells.
+    /// Paints the tiles of an area. Other grids that shared them keep the old ones. All its tiles
+    /// are made this grid's alone before the first is painted, and then are painted in place. Cells
+    /// that become of one colour have one tile in common. Its depth on the stack is the number of
+    /// cells.
     ///
     /// # Errors
     ///

@@ -6,7 +6,7 @@ use Rattle.dp_flat.proofs.text.push_copies.Given as goal
 
 -- so many copies as were counted are added
 abbrev pub invariant-loop : goal.invariant-loop
-invariant-loop l = record {
+invariant-loop g l = record {
   text : l.piece.items ≡ l.initial.piece.items ++ flat_map (λ copy. copy)
       (replicate l.counter l.bytes);
   short : array_vec_len l.piece ≤ array_vec_len l.initial.piece + l.counter * PIXEL_BYTES;

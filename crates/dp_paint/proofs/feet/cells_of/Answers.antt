@@ -15,4 +15,5 @@ returns-clause-few c =
 pub returns-clause-all : goal.returns-clause-all
 returns-clause-all c = λ x y in_x in_y is.
     c.cells_in.ensures.all x y in_x in_y
-    (in_area c.foot_rect.result (foot c.args.command.now) (pos x) (pos y) c.foot_rect.ensures.foot is)
+    (in_area c.foot_rect.result (foot c.args.command.now) (pos x) (pos y) c.foot_rect.ensures.foot
+    is)

@@ -21,7 +21,8 @@ returns-clause-pixels g c = λ layer.
     let target = ap on_greatest (simp to_z-of_z at c.target_rect.ensures) in
     on_ok_weaker c.paint_areas.result
     (λ are. grid_moved w h layer m.sx m.sy m.w m.h m.tx m.ty c.cells_in-from.result
-    c.cells_in-to.result c.args.grid.now c.paint_areas.new.grid c.pixels_stay_outside_the_foot.ensures
+    c.cells_in-to.result c.args.grid.now c.paint_areas.new.grid
+    c.pixels_stay_outside_the_foot.ensures
     (rw (← c.requires.same) c.args.old.of)
     (λ x y in_x in_y is. c.cells_in-from.ensures.all x y
     (omega (arith, in_x, c.cols-cols.ensures, ap (λ g. g.cols) c.requires.same))
@@ -32,7 +33,8 @@ returns-clause-pixels g c = λ layer.
     (omega (arith, in_y, c.rows-rows.ensures, ap (λ g. g.rows) c.requires.same))
     (subst (λ r. is_in r (pos x) (pos y) ≡ true) (sym (c.on_greatest-2.ensures.value ∙ target)) is))
     (same_painted c.cells_in-from.result c.cells_in-to.result c.on_canvas.result
-    (clipped (rect_at (pos m.sx) (pos m.sy) m.w m.h) (canvas_rect w h)) c.way.result (m.tx -ℤ pos m.sx)
+    (clipped (rect_at (pos m.sx) (pos m.sy) m.w m.h) (canvas_rect w h)) c.way.result
+    (m.tx -ℤ pos m.sx)
     c.way-2.result (m.ty -ℤ pos m.sy)
     c.args.old.grid.now c.args.grid.now w h c.args.grid.now c.paint_areas.new.grid
     (c.on_canvas.ensures.value ∙ ap (λ r. clipped r (canvas_rect w h)) c.rect_of-source.ensures)
@@ -45,8 +47,8 @@ returns-clause-few_tiles g c = λ layer.
     let m = c.args.movement in
     let tx : SFits w32 m.tx = search rules in
     let ty : SFits w32 m.ty = search rules in
-    let source = ap squares_of (c.on_greatest.ensures.value ∙ ap on_greatest c.rect_of-source.ensures)
-    in
+    let source = ap squares_of
+    (c.on_greatest.ensures.value ∙ ap on_greatest c.rect_of-source.ensures) in
     let target = ap squares_of
     (c.on_greatest-2.ensures.value ∙ ap on_greatest (simp to_z-of_z at c.target_rect.ensures)) in
     omega (
@@ -62,6 +64,6 @@ pub returns-clause-grid : goal.returns-clause-grid
 returns-clause-grid g c =
     on_ok_weaker c.paint_areas.result
     (λ are. is_grid_moved c.args.old.width c.args.old.height c.cells_in-from.result
-    c.cells_in-to.result _ c.args.grid.now c.paint_areas.new.grid (rw (← c.requires.same) c.args.old.of)
-    are)
+    c.cells_in-to.result _ c.args.grid.now c.paint_areas.new.grid
+    (rw (← c.requires.same) c.args.old.of) are)
     c.paint_areas.ensures.painted

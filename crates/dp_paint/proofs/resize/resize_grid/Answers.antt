@@ -33,6 +33,8 @@ returns-clause-few_tiles g c = λ change is.
     let by = simp to_z-of_z at c.in-Some.ensures.value in
     let same : IsResizeOf c.args.width c.args.height r.top r.right r.bottom r.left change =
     subst (λ op. IsResizeBy c.args.width c.args.height op change) r.is is in
-    subst (λ (sides : ℕ × ℕ). c.resized_grid.new.tiles ≤ c.args.tiles.now + tiles_along sides.0 * tiles_along sides.1)
+    subst
+    (λ (sides : ℕ × ℕ). c.resized_grid.new.tiles
+    ≤ c.args.tiles.now + tiles_along sides.0 * tiles_along sides.1)
     (λ i. ((by.to_height ∙ sym same.to_height) i, (by.to_width ∙ sym same.to_width) i))
     c.resized_grid.ensures.few_tiles

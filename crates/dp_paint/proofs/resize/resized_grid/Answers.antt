@@ -7,6 +7,11 @@ pub returns-clause-resized : goal.returns-clause-resized
 returns-clause-resized g c =
     let left : SFits w32 c.args.change.left = search rules in
     let top : SFits w32 c.args.change.top = search rules in
-    let painted = simp (to_z-of_z, c.in_ok-resized.ensures, c.tiles_along-cols.ensures.value, c.tiles_along-rows.ensures.value) at c.in_ok-paint_area.ensures.painted in
+    let painted = simp (
+      to_z-of_z,
+      c.in_ok-resized.ensures,
+      c.cols.ensures,
+      c.rows.ensures,
+    ) at c.in_ok-paint_area.ensures.painted in
     is_resized c.args.change c.args.grid.now c.paint_area.new.self c.args.change.narrow
     c.args.change.low painted

@@ -1,5 +1,5 @@
-use Rattle.std.proofs.Common.{◌≡◌, ℕ, ◌+◌, ◌-◌, ◌<◌, ◌≤◌, List, ◌++◌, length, take, drop, get_or, ap, ◌∙◌}
-use Rattle.std.proofs.Common.{arith, inl, inr, ⊎_elim}
+use Rattle.std.proofs.Common.{◌≡◌, ℕ, ◌+◌, ◌-◌, ◌<◌, ◌≤◌, List, ◌++◌, length, take, drop}
+use Rattle.std.proofs.Common.{get_or, ap, ◌∙◌, arith, inl, inr, ⊎_elim}
 use Rattle.std.proofs.lemmas.List.{length-take-le, length-take, length-drop, length-append}
 use Rattle.dp_messages.specs.declared.message.Entry.{Entry}
 use Rattle.dp_frame_log.specs.Frames.{frames_of, ends_from}
@@ -63,7 +63,8 @@ returns-clause-short c =
     let ends : c.prefix_of-ends.result.now ≡ take most (drop at (ends_from 0 entries)) =
     c.prefix_of-ends.ensures
     ∙ ap (take most) (c.rest_of.ensures
-    ∙ ap (drop at) (c.deref.ensures.value ∙ ap (λ frames. frames.ends) c.self.view_is ∙ are.ends)) in
+    ∙ ap (drop at) (c.deref.ensures.value ∙ ap (λ frames. frames.ends) c.self.view_is
+    ∙ are.ends)) in
     ⊎_elim (λ one. inl one) (λ below. inr (omega (
       arith,
       below,

@@ -3,7 +3,8 @@ use Rattle.std.specs.Prelude.{FitsSigned, pos, ◌+ℤ◌}
 use Rattle.std.proofs.lemmas.Int.{to_z-of_z}
 use Rattle.std.proofs.lemmas.List.{get_or-replicate, length-replicate}
 use Rattle.dp_blend.specs.Color.{clear}
-use Rattle.dp_paint.proofs.RowLemmas.{length-mid, row_changes, row_stays}
+use Rattle.dp_tile.proofs.Areas.{length-part}
+use Rattle.dp_paint.proofs.RowLemmas.{row_changes, row_stays}
 use Rattle.dp_paint.proofs.movement.Moved.clear.Goals as goal
 use Rattle.dp_paint.proofs.movement.Moved.clear.Goals.{else-has_row-via-else-has_row}
 use Rattle.dp_paint.proofs.movement.Moved.clear.Goals.{else-has_row-via-then-has_row+else-start-end}
@@ -18,10 +19,11 @@ returns-then-start-end c = λ pixel are.
     let row = c.args.row.now in
     let start = c.count_below-start.result in
     let end = c.count_below-end.result in
-    let mid = length-mid start end row (omega (arith, c.if-start-end.true))
+    let mid = length-part start end row (omega (arith, c.if-start-end.true))
     c.count_below-end.ensures.within in
     let rows = simp to_z-of_z at c.has_row.ensures.yes in
-    row_changes source c.args.x c.args.y (length row) start end (λ i. pixel (c.args.x +ℤ pos i) c.args.y)
+    row_changes source c.args.x c.args.y (length row) start end
+    (λ i. pixel (c.args.x +ℤ pos i) c.args.y)
     (λ _. clear) row are (simp to_z-of_z at c.count_below-start.ensures.below)
     (simp to_z-of_z at c.count_below-end.ensures.rest) c.clear_row.new.row c.if-start-end.true
     c.count_below-end.ensures.within (rows c.if-has_row.true).0 (rows c.if-has_row.true).1

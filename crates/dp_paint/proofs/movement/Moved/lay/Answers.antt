@@ -15,5 +15,6 @@ returns c = λ pixel are.
     let back_y : SFits w64 (c.args.y -ℤ c.args.self.down) = search rules in
     (simp to_z-of_z at c.lay_source.ensures) (λ i. pixel (c.args.x +ℤ pos i) c.args.y) are
     ∙ lifted_is_laid c.args.self.source c.args.self.right c.args.self.down
-    (shown c.args.self.old.width c.args.self.old.height c.args.self.old.grid.now) pixel c.args.x c.args.y
+    (shown c.args.self.old.width c.args.self.old.height c.args.self.old.grid.now) pixel c.args.x
+    c.args.y
     (length c.args.row.now)

@@ -4,7 +4,7 @@ use Rattle.std.proofs.lemmas.Int.{to_z-of_z}
 use Rattle.dp_blend.specs.Color.{clear}
 use Rattle.dp_blend.specs.Blending.{blend}
 use Rattle.dp_blend.specs.declared.modes.Mode.TheVariants.{Normal}
-use Rattle.dp_tile.proofs.Stretches.{pixel_of_part}
+use Rattle.dp_blend.proofs.Parts.{pixel_of_part}
 use Rattle.dp_paint.specs.Reading.{shown}
 use Rattle.dp_paint.proofs.movement.Moved.lay_lifted.Goals as goal
 

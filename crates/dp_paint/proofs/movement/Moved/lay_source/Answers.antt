@@ -1,12 +1,14 @@
-use Rattle.std.proofs.Common.{◌∙◌, ◌+◌, ◌-◌, ◌≡◌, ℕ, take, drop, ap, length, get_or, arith, rules, SFits, w64}
+use Rattle.std.proofs.Common.{◌∙◌, ◌+◌, ◌-◌, ◌≡◌, ◌≤◌, ℕ, take, drop, ap}
+use Rattle.std.proofs.Common.{length, get_or, arith, rules, SFits, w64}
 use Rattle.std.specs.Prelude.{FitsSigned, ℤ, pos, ◌+ℤ◌}
 use Rattle.std.proofs.lemmas.Int.{ints, to_z-of_z}
 use Rattle.dp_blend.specs.Color.{clear}
 use Rattle.dp_blend.specs.Blending.{blend}
 use Rattle.dp_blend.specs.declared.modes.Mode.TheVariants.{Normal}
 use Rattle.dp_paint.specs.Reading.{shown}
-use Rattle.dp_paint.proofs.RowLemmas.{length-mid, pixel-mid, row_changes, row_stays}
-use Rattle.dp_tile.proofs.Stretches.{pixel_of_part}
+use Rattle.dp_tile.proofs.Areas.{get_or-part, length-part}
+use Rattle.dp_paint.proofs.RowLemmas.{row_changes, row_stays}
+use Rattle.dp_blend.proofs.Parts.{pixel_of_part}
 use Rattle.dp_paint.proofs.movement.Moved.lay_source.Goals as goal
 use Rattle.dp_paint.proofs.movement.Moved.lay_source.Goals.{else-has_row-via-else-has_row}
 use Rattle.dp_paint.proofs.movement.Moved.lay_source.Goals.{else-has_row-via-then-has_row+else-start-end}
@@ -28,8 +30,8 @@ returns-then-start-end c = λ under are.
     let end = c.count_below-end.result in
     let from : SFits w64 c.place_after.result = search rules in
     let at = simp to_z-of_z at c.place_after.ensures.value in
-    let mid = length-mid start end row (omega (arith, c.if-start-end.true))
-    c.count_below-end.ensures.within in
+    let order : start ≤ end = omega (arith, c.if-start-end.true) in
+    let mid = length-part start end row order c.count_below-end.ensures.within in
     let rows = simp to_z-of_z at c.has_row.ensures.yes in
     row_changes source c.args.x c.args.y (length row) start end under
     (λ i. blend Normal (old (c.args.x +ℤ pos i) c.args.y) (under i)) row are
@@ -43,7 +45,8 @@ returns-then-start-end c = λ under are.
     ∙ ap (λ z. blend Normal (old z c.args.y) (get_or (take (end - start) (drop start row)) i clear))
     (at_place c.args.x c.place_after.result start i at)
     ∙ ap (blend Normal (old (c.args.x +ℤ pos (start + i)) c.args.y))
-    (pixel-mid start end i row clear few ∙ ap (λ all. get_or all (start + i) clear) are
+    (get_or-part start end row order c.count_below-end.ensures.within i clear few
+    ∙ ap (λ all. get_or all (start + i) clear) are
     ∙ pixel_of_part under (length row) (start + i)
     (omega (arith, few, c.count_below-end.ensures.within))))
 

@@ -6,7 +6,7 @@ use Rattle.std.proofs.lemmas.Int.{to_z-of_z}
 use Rattle.std.proofs.lemmas.Int.{ints}
 use Rattle.dp_blend.specs.Color.{clear}
 use Rattle.dp_tile.specs.Tiles.{part_of_grid}
-use Rattle.dp_paint.proofs.RowLemmas.{length-mid}
+use Rattle.dp_tile.proofs.Areas.{length-part}
 use Rattle.dp_paint.proofs.Read.{row_above, row_across, row_below, row_beside}
 use Rattle.dp_paint.proofs.reading.Shown.read.Goals as goal
 use Rattle.dp_paint.proofs.reading.Shown.read.Goals.{then-y-lt0-via-then-y-lt0}
@@ -35,7 +35,8 @@ copy_part-requires-clause-within c =
     let end = c.count_below-end.result in
     let inside = simp to_z-of_z at c.count_below-end.ensures.below in
     let left = simp to_z-of_z at c.number_after-left.ensures in
-    let last = inside (end - 1) (omega (arith, c.count_below-end.ensures.within, c.if-start-end.true))
+    let last = inside (end - 1)
+    (omega (arith, c.count_below-end.ensures.within, c.if-start-end.true))
     (omega (arith, c.if-start-end.true)) in
     omega (
       arith,
@@ -44,7 +45,7 @@ copy_part-requires-clause-within c =
       left,
       c.if-start-end.true,
       c.args.self.of.cols,
-      length-mid start end c.clear_row.new.row (omega (arith, c.if-start-end.true))
+      length-part start end c.clear_row.new.row (omega (arith, c.if-start-end.true))
           c.count_below-end.ensures.within,
     )
 
@@ -62,7 +63,8 @@ returns-then-start-end c =
     let past = simp to_z-of_z at c.count_below-end.ensures.rest in
     let at_x = simp to_z-of_z at c.number_after-left.ensures in
     let at_y = simp to_z-of_z at c.number_after-top.ensures in
-    row_across c.args.self.width c.args.self.height g c.args.x c.args.y len c.clear_row.new.row count
+    row_across c.args.self.width c.args.self.height g c.args.x c.args.y len c.clear_row.new.row
+    count
     (λ i few. ap (λ xs. get_or xs i clear) c.clear_row.ensures
     ∙ get_or-replicate len i clear clear few)
     start end (λ i few less. before i (omega (arith, few, count)) less)
@@ -73,7 +75,7 @@ returns-then-start-end c =
     (omega (arith, ints, at_y, c.if-y-self.false))
     (λ i few less. omega (arith, ints, inside i (omega (arith, few, count)) less))
     (c.copy_part.ensures ∙ ap (part_of_grid g c.number_after-left.result c.number_after-top.result)
-    (length-mid start end c.clear_row.new.row (omega (arith, c.if-start-end.true))
+    (length-part start end c.clear_row.new.row (omega (arith, c.if-start-end.true))
     c.count_below-end.ensures.within))
 
 pub returns-else-start-end : goal.returns-else-start-end

@@ -1,6 +1,6 @@
 use Rattle.std.proofs.Common.{◌≡◌, ◌+◌, ◌-◌, ◌*◌, length, take, drop, arith}
 use Rattle.std.proofs.lemmas.Int.{ints}
-use Rattle.dp_paint.proofs.RowLemmas.{length-mid}
+use Rattle.dp_tile.proofs.Areas.{length-part}
 use Rattle.dp_paint.proofs.Tiles.{is_tile_from, length-row_put, row_put}
 use Rattle.dp_paint.proofs.rows.RowPainterTilePainter.paint.Goals as goal
 
@@ -12,7 +12,7 @@ loop-j-preserved g c =
     let wide : length (take (j * 64 + 64 - j * 64) (drop (j * 64) old)) ≡ 64 =
     omega (
       arith,
-      length-mid (j * 64) (j * 64 + 64) old (omega arith)
+      length-part (j * 64) (j * 64 + 64) old (omega arith)
           (omega (arith, c.loop-j-test.true, c.loop-j.invariant.0)),
     ) in (
       length-row_put pixel c.args.col c.args.row j old c.put_row.new.row _ _ _ c.put_row.ensures

@@ -1,7 +1,7 @@
 use Rattle.std.proofs.Common.{◌∙◌, ◌+◌, ◌*◌, ◌-◌, ap, take, drop, arith, List, length}
 use Rattle.std.proofs.lemmas.Nat.{mul-le}
 use Rattle.dp_blend.specs.Color.{Channels}
-use Rattle.dp_plain.proofs.Canvas.{part_of_pixels}
+use Rattle.dp_blend.proofs.Parts.{part_in_list}
 use Rattle.dp_plain.proofs.plain.PlainPixelsLayerPixels.copy_part.Goals as goal
 
 pub returns : goal.returns
@@ -13,7 +13,7 @@ returns c =
     c.copy_from_slice.ensures.after
     ∙ ap (λ (pixels : List Channels). take (y * w + x + n - (y * w + x)) (drop (y * w + x) pixels))
     (c.deref.ensures.value ∙ c.self.view_is)
-    ∙ part_of_pixels w x y n c.args.self.now
+    ∙ part_in_list w x y n c.args.self.now
     (omega (
       arith,
       mul-le (y + 1) w c.args._height w (omega arith) (omega arith),

@@ -1,17 +1,16 @@
-use Rattle.std.proofs.Common.{◌≡◌, ◌∙◌, ◌+◌, ◌-◌, ◌≤◌, ℕ, length, take, drop, ap, sym, arith, List}
-use Rattle.std.proofs.lemmas.List.{length-take-le, length-drop}
-use Rattle.std.proofs.Common.{add_assoc}
+use Rattle.std.proofs.Common.{◌≡◌, ◌∙◌, ◌+◌, ◌-◌, ◌≤◌, ℕ, length, ap, sym, arith, add_assoc}
+use Rattle.std.proofs.Common.{List}
+use Rattle.dp_blend.proofs.Parts.{is_part, parts_same}
 use Rattle.dp_tile.specs.Tiles.{grid_pixel, part_of_grid}
-use Rattle.dp_tile.proofs.Stretches.{copied_more, is_part, length-copied, length-part_of_grid}
-use Rattle.dp_tile.proofs.Stretches.{parts_same}
+use Rattle.dp_tile.specs.Areas.{part}
+use Rattle.dp_tile.proofs.Areas.{length-part}
+use Rattle.dp_tile.proofs.Stretches.{copied_more, length-copied, length-part_of_grid}
 use Rattle.dp_tile.proofs.grid.Grid.copy_part.Goals as goal
 
 -- so many of a list from one on
-length-mid : {X : Type 0} (a n : ℕ) (xs : List X) → a + n ≤ length xs
-    → length (take (a + n - a) (drop a xs)) ≡ n
-length-mid a n xs within =
-    length-take-le (a + n - a) (drop a xs) (omega (arith, length-drop a xs, within))
-    ∙ omega arith
+length-next : {X : Type 0} (a n : ℕ) (xs : List X) → a + n ≤ length xs
+    → length (part a (a + n) xs) ≡ n
+length-next a n xs within = length-part a (a + n) xs (omega arith) within ∙ omega arith
 
 pub put_stretch-requires : goal.put_stretch-requires
 put_stretch-requires c =
@@ -22,7 +21,8 @@ put_stretch-requires c =
     omega (arith, c.min-count.ensures, c.loop-done-test.true) in (
       part_of_grid g at c.args.y n,
       c.stretch-stretch.ensures,
-      length-part_of_grid g at c.args.y n ∙ sym (length-mid c.loop-done.done n c.loop-done.part few),
+      length-part_of_grid g at c.args.y n
+          ∙ sym (length-next c.loop-done.done n c.loop-done.part few),
     )
 
 pub loop-done-preserved : goal.loop-done-preserved
@@ -35,7 +35,7 @@ loop-done-preserved c =
     omega (arith, c.min-count.ensures, c.loop-done-test.true) in
     let f : ℕ → _ = λ i. grid_pixel g (c.args.x + i) c.args.y in
     let are = c.put_stretch.ensures (part_of_grid g at c.args.y n) c.stretch-stretch.ensures
-    (length-part_of_grid g at c.args.y n ∙ sym (length-mid done n c.loop-done.part few))
+    (length-part_of_grid g at c.args.y n ∙ sym (length-next done n c.loop-done.part few))
     ∙ parts_same (λ i. grid_pixel g (at + i) c.args.y) (λ i. f (done + i)) n
     (λ i _. ap (λ x. grid_pixel g x c.args.y) (add_assoc c.args.x done i)) in
     let len = length-copied f done n c.loop-done.part c.put_stretch.new.part few are in (

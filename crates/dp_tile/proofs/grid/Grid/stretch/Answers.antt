@@ -16,4 +16,7 @@ returns c =
     let cell : c.at-slot.result.now ≡ cell_at g (x / 64) (y / 64)
     = c.at-slot.ensures ∙ cell_of_view _ _ _ g _ _ c.self.view_is c.self.invariant in_cols in_rows
     in
-    subst (IsStretch c.stretch.result) (ap (λ cell. part_of_row 64 cell (x % 64) (y % 64) c.args.count) cell ∙ part_of_cell g x y c.args.count c.requires.one_tile) c.stretch.ensures
+    subst (IsStretch c.stretch.result)
+    (ap (λ cell. part_of_row 64 cell (x % 64) (y % 64) c.args.count) cell
+    ∙ part_of_cell g x y c.args.count c.requires.one_tile)
+    c.stretch.ensures
