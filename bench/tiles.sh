@@ -1,13 +1,13 @@
 #!/usr/bin/env bash
-# Times commands on a grid of 4096 by 4096 pixels: small fills at any places, fills of all of it, and round dabs. The program
-# is made in a temporary folder, proved and built there, on copies of the crates; that takes some minutes where no check has
-# kept their proofs.
+# Times commands on a grid of 4096 by 4096 pixels: small fills at any places, one by one and
+# together, fills of all of it, and round dabs. The program is made in a temporary folder, proved and
+# built there, on copies of the crates; that takes some minutes where no check has kept their proofs.
 set -eu
 top=$(cd "$(dirname "$0")/.." && pwd)
 work=$(mktemp -d)
 trap 'rm -rf "$work"' EXIT
 crates="dp_blend dp_fields dp_msg_draw dp_paint dp_pixels dp_steps dp_tile"
-mkdir -p "$work/crates/tiles/src" "$work/crates/tiles/proofs/main"
+mkdir -p "$work/crates/tiles/src" "$work/crates/tiles/proofs/main" "$work/crates/tiles/proofs/fills"
 for name in $crates; do
   mkdir "$work/crates/$name"
   for part in src specs proofs; do
@@ -22,14 +22,35 @@ use Rattle.tiles.proofs.main.Given as goal
 abbrev pub ghosts-measure : goal.ghosts-measure
 ghosts-measure a = record { name = a.blank.name; parts = a.blank.parts }
 ANTT
+cat >"$work/crates/tiles/proofs/fills/Invariants.antt" <<'ANTT'
+use Rattle.std.proofs.Common.{All}
+use Rattle.dp_paint.specs.Painting.{IsPainting}
+use Rattle.tiles.proofs.fills.Given as goal
+
+abbrev pub invariant-loop-made : goal.invariant-loop-made
+invariant-loop-made l = All IsPainting l.list.items
+ANTT
+cat >"$work/crates/tiles/proofs/fills/Answers.antt" <<'ANTT'
+use Rattle.std.proofs.Common.{All, List, sym, subst}
+use Rattle.std.proofs.lemmas.List.Elements.{All-push}
+use Rattle.dp_msg_draw.specs.declared.draw.Draw.{Draw}
+use Rattle.dp_paint.specs.Painting.{IsPainting}
+use Rattle.tiles.proofs.fills.Goals as goal
+
+pub loop-made-preserved : goal.loop-made-preserved
+loop-made-preserved c =
+    subst (λ (l : List Draw). All IsPainting l) (sym c.in_ok-push.ensures.items)
+    (All-push IsPainting c.loop-made.list.items c.fill.result c.loop-made.invariant c.fill.ensures)
+ANTT
 cat >"$work/crates/tiles/src/main.rt" <<'RT'
 //! Times commands on a grid of 4096 by 4096 pixels.
 #![tactic(auto)]
 
-ghost use Rattle.std.specs.Prelude.{◌≡◌, ◌<◌};
+ghost use Rattle.std.specs.Prelude.{◌≡◌, ◌<◌, All, IfOk};
+ghost use Rattle.dp_paint.specs.Painting.{IsPainting};
 
 use dp_msg_draw::{Dab, Dabs, Draw};
-use dp_paint::paint_in_place;
+use dp_paint::{paint_all, paint_in_place};
 use dp_steps::Steps;
 use dp_tile::Grid;
 use std::alloc::Global;
@@ -50,7 +71,9 @@ fn micros(took: Duration) -> u64 {
 }
 
 /// A fill, blended normal.
-fn fill(x: u32, y: u32, side: u32, color: u32) -> Draw {
+fn fill(x: u32, y: u32, side: u32, color: u32) -> Draw
+    ensures { IsPainting result }
+{
     Draw::FillRect {
         layer: 1,
         mode: 1,
@@ -82,13 +105,41 @@ fn next(seed: u64) -> u64 {
 }
 
 /// Fills at any places.
-fn fills<T: Ledger>(grid: &mut Grid, tiles: &mut Steps<T>) -> io::Result<()> {
+fn fills(alloc: Global) -> io::Result<Vec<Draw>>
+    ensures { IfOk result (λ list. All IsPainting list.items) }
+{
+    let mut list = Vec::with_capacity(alloc, FILLS as usize)?;
     let mut seed = 7;
-    for _ in 0..FILLS {
+    for _made in 0..FILLS {
         seed = next(seed);
         let (x, y) = ((seed >> 33) as u32 % (SIDE - 8), (seed >> 45) as u32 % (SIDE - 8));
-        let command = fill(x, y, 8, 0x80ff_4020 ^ (seed >> 40) as u32 % 256);
-        draw(grid, &command, tiles)?;
+        list.push(fill(x, y, 8, 0x80ff_4020 ^ (seed >> 40) as u32 % 256))?;
+    }
+    Ok(list)
+}
+
+/// Paints commands one by one.
+fn draw_each<T: Ledger>(
+    grid: &mut Grid,
+    commands: &[Draw],
+    tiles: &mut Steps<T>,
+) -> io::Result<()> {
+    for command in commands {
+        draw(grid, command, tiles)?;
+    }
+    Ok(())
+}
+
+/// Paints commands together.
+fn draw_all<T: Ledger>(
+    grid: &mut Grid,
+    commands: &[Draw],
+    tiles: &mut Steps<T>,
+) -> io::Result<()>
+    requires { All IsPainting commands.now }
+{
+    if grid.cols() == 64 && grid.rows() == 64 {
+        paint_all(grid, SIDE, SIDE, commands, tiles)?;
     }
     Ok(())
 }
@@ -141,14 +192,29 @@ fn time_all<R: Clock, T: Ledger>(
     Ok(micros(start.elapsed(rt)?) / times.max(1))
 }
 
-/// Microseconds of the fills at any places.
-fn time_fills<R: Clock, T: Ledger>(
+/// Microseconds of commands, one by one.
+fn time_each<R: Clock, T: Ledger>(
     rt: &R,
     grid: &mut Grid,
+    commands: &[Draw],
     tiles: &mut Steps<T>,
 ) -> io::Result<u64> {
     let start = Instant::now(rt)?;
-    fills(grid, tiles)?;
+    draw_each(grid, commands, tiles)?;
+    Ok(micros(start.elapsed(rt)?))
+}
+
+/// Microseconds of commands together.
+fn time_together<R: Clock, T: Ledger>(
+    rt: &R,
+    grid: &mut Grid,
+    commands: &[Draw],
+    tiles: &mut Steps<T>,
+) -> io::Result<u64>
+    requires { All IsPainting commands.now }
+{
+    let start = Instant::now(rt)?;
+    draw_all(grid, commands, tiles)?;
     Ok(micros(start.elapsed(rt)?))
 }
 
@@ -170,28 +236,34 @@ fn time_dabs<R: Clock, T: Ledger>(
 }
 
 /// The times of all rows.
-fn measure<R: Clock, T: Ledger>(rt: &R, alloc: Global, blank: Blank) -> io::Result<[u64; 5]>
+fn measure<R: Clock, T: Ledger>(rt: &R, alloc: Global, blank: Blank) -> io::Result<[u64; 7]>
     requires name { blank.name ≡ T.name }
     requires parts { blank.parts ≡ T.parts }
     requires some { 0 < blank.parts }
 {
     let mut tiles = Steps::<T>::new(blank);
+    let list = fills(alloc)?;
     let mut grid = Grid::new(alloc, 64, 64)?;
     let plain = time_all(rt, &mut grid, 100, &mut tiles)?;
-    let first = time_fills(rt, &mut grid, &mut tiles)?;
-    let small = time_fills(rt, &mut grid, &mut tiles)?;
+    let first = time_each(rt, &mut grid, &list, &mut tiles)?;
+    let each = time_each(rt, &mut grid, &list, &mut tiles)?;
+    let together = time_together(rt, &mut grid, &list, &mut tiles)?;
     let mixed = time_all(rt, &mut grid, 10, &mut tiles)?;
     let dabs = time_dabs(rt, alloc, &mut grid, &mut tiles)?;
-    Ok([plain, first, small, mixed, dabs])
+    let mut blank = Grid::new(alloc, 64, 64)?;
+    let made = time_together(rt, &mut blank, &list, &mut tiles)?;
+    Ok([plain, first, each, made, together, mixed, dabs])
 }
 
 fn main(rt: HostRuntime) -> io::Result<()> {
     let times = measure::<_, Brand>(&rt, rt.alloc(), Blank::new(1))?;
     println!(rt; "fill of all, tiles of one colour: {} us", times[0])?;
-    println!(rt; "1,000,000 fills of 8 by 8, tiles made on the way: {} us", times[1])?;
-    println!(rt; "1,000,000 fills of 8 by 8: {} us", times[2])?;
-    println!(rt; "fill of all, tiles not of one colour: {} us", times[3])?;
-    println!(rt; "100,000 round dabs of size 30: {} us", times[4])
+    println!(rt; "1,000,000 fills of 8 by 8 one by one, tiles made on the way: {} us", times[1])?;
+    println!(rt; "1,000,000 fills of 8 by 8 one by one: {} us", times[2])?;
+    println!(rt; "1,000,000 fills of 8 by 8 together, tiles made on the way: {} us", times[3])?;
+    println!(rt; "1,000,000 fills of 8 by 8 together: {} us", times[4])?;
+    println!(rt; "fill of all, tiles not of one colour: {} us", times[5])?;
+    println!(rt; "100,000 round dabs of size 30: {} us", times[6])
 }
 RT
 cd "$work/crates/tiles"

@@ -1,4 +1,5 @@
 pub mod Strokes
+pub mod Batches
 pub mod Drawn
 pub mod FootLemmas
 pub mod Moving

@@ -31,7 +31,7 @@ tile_painted width height op col row region old new at_x at_y wide high count is
     (is.inside i j clear (omega (arith, wide, in_x)) (omega (arith, high, in_y))))
 
 -- a command that is no move changes each pixel from the old one
-by_pixels : (width height : ℕ) (op : Draw) → IsPainting op → (old : ℤ → ℤ → Channels) (x y : ℤ)
+pub by_pixels : (width height : ℕ) (op : Draw) → IsPainting op → (old : ℤ → ℤ → Channels) (x y : ℤ)
     → drawn width height op old x y ≡ pixel_drawn width height op x y (old x y)
 by_pixels width height (draws.FillRect layer mode x y w h color) is old px py = refl
 by_pixels width height (draws.PutImage layer mode x y w h colors) is old px py = refl

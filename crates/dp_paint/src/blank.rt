@@ -8,7 +8,7 @@ use dp_tile::Grid;
 use std::alloc::{AllocError, Global};
 
 /// How many tiles there are along a side.
-fn tiles_along(side: u32) -> u32
+pub(crate) fn tiles_along(side: u32) -> u32
     requires { side ≤ 4096 }
     ensures value { result ≡ tiles_along side }
     ensures few { result ≤ 64 }

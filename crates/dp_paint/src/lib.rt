@@ -3,6 +3,7 @@
 //! The rule: docs/protocol.md, "Pixel commands".
 #![tactic(auto)]
 
+mod batch;
 mod blank;
 mod cells;
 mod dabs;
@@ -16,6 +17,7 @@ mod resize;
 mod rows;
 mod stroke;
 
+pub use batch::paint_all;
 pub use blank::blank_grid;
 pub use movement::{move_in_place, move_one};
 pub use paint::{paint_in_place, paint_one};

@@ -71,6 +71,25 @@ impl CommandPainter<'_> {
             _ => false,
         }
     }
+
+    /// Draws the command on the tile at a column and a row.
+    pub(crate) fn draw(&self, col: u32, row: u32, pixels: &mut [Pixel])
+        requires col { col < 64 }
+        requires row { row < 64 }
+        requires count { length pixels.old ≡ 4096 }
+        ensures { pixels.new ≡ tile_drawn self.now.width self.now.height self.now.command.now col
+            row pixels.old }
+    {
+        let region = Region {
+            x: col * 64,
+            y: row * 64,
+            width: 64,
+            height: 64,
+            canvas_width: self.width,
+            canvas_height: self.height,
+        };
+        draw_region(self.command, &region, SIDE, pixels);
+    }
 }
 
 impl TilePainter for CommandPainter<'_> {
@@ -103,14 +122,6 @@ impl TilePainter for CommandPainter<'_> {
             // This is never so. The test has the compiler keep what is read for it.
             return;
         }
-        let region = Region {
-            x: col * 64,
-            y: row * 64,
-            width: 64,
-            height: 64,
-            canvas_width: self.width,
-            canvas_height: self.height,
-        };
-        draw_region(self.command, &region, SIDE, pixels);
+        self.draw(col, row, pixels);
     }
 }

@@ -1,8 +1,8 @@
 ghost use Rattle.std.specs.Prelude.{◌≡◌, ◌<◌, IfOk};
-ghost use Rattle.dp_paint.specs.Painting.{IsGridOf};
+ghost use Rattle.dp_paint.specs.Painting.{IsGridOf, IsPainting};
 
-use crate::{blank_grid, move_one, paint_one, resize_grid};
-use dp_blend::Pixel;
+use crate::{blank_grid, move_one, paint_all, paint_one, resize_grid};
+use dp_blend::{Pixel, of_argb};
 use dp_msg_draw::{Dab, Dabs, Draw};
 use dp_steps::Steps;
 use dp_tile::Grid;
@@ -154,5 +154,55 @@ fn a_canvas_grows_by_a_column_of_tiles(rt: HostRuntime) -> Result<(), AllocError
     let (pixels, cols) = grown::<Brand>(rt.alloc(), Blank::new(1))?;
     assert_eq!(rt; pixels, [Pixel::CLEAR, Pixel::WHITE]);
     assert_eq!(rt; cols, 3);
+    Ok(())
+}
+
+/// A fill of two columns and two rows.
+fn square(x: u32, y: u32, color: u32) -> Draw
+    ensures { IsPainting result }
+{
+    Draw::FillRect {
+        layer: 1,
+        mode: 1,
+        x,
+        y,
+        w: 2,
+        h: 2,
+        color,
+    }
+}
+
+/// Pixels of a canvas of 66 by 3 after two fills together, the second one in the right column of
+/// tiles alone, and whether there is a tile in each column.
+fn filled_twice<T: Ledger>(
+    alloc: Global,
+    blank: Blank,
+) -> Result<([Pixel; 4], [bool; 2]), AllocError>
+    requires name { blank.name ≡ T.name }
+    requires parts { blank.parts ≡ T.parts }
+    requires some { 0 < blank.parts }
+{
+    let mut tiles = Steps::<T>::new(blank);
+    let mut grid = blank_grid(alloc, 66, 3)?;
+    let fills = [square(63, 0, 0xffff_ffff), square(64, 1, 0xff00_0000)];
+    paint_all(&mut grid, 66, 3, &fills, &mut tiles)?;
+    let pixels = [
+        grid.get(63, 1),
+        grid.get(64, 0),
+        grid.get(64, 1),
+        grid.get(65, 2),
+    ];
+    Ok((
+        pixels,
+        [grid.tile(0, 0).is_some(), grid.tile(1, 0).is_some()],
+    ))
+}
+
+#[test]
+fn fills_together_are_painted_in_order(rt: HostRuntime) -> Result<(), AllocError> {
+    let (pixels, tiles) = filled_twice::<Brand>(rt.alloc(), Blank::new(1))?;
+    let (white, black) = (Pixel::WHITE, of_argb(0xff00_0000));
+    assert_eq!(rt; pixels, [white, white, black, black]);
+    assert_eq!(rt; tiles, [true, true]);
     Ok(())
 }

@@ -1,6 +1,6 @@
 use Rattle.std.proofs.Common.{refl}
 use Rattle.dp_paint.proofs.Painting.{tile_painted}
-use Rattle.dp_paint.proofs.painter.CommandPainterTilePainter.paint.Goals as goal
+use Rattle.dp_paint.proofs.painter.CommandPainter.draw.Goals as goal
 
 pub returns : goal.returns
 returns c =
