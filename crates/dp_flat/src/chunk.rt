@@ -60,9 +60,22 @@ pub(crate) fn lay(row: &LayerRow, shown: Stretch<'_>, under: Tone, buffer: &mut 
     let mode = mode_of(row);
     let opacity = from8(row.opacity);
     match shown {
-        Stretch::Solid(color) => lay_color(mode, fade(color, opacity), under, buffer),
+        Stretch::Solid(color) => lay_faded(mode, opacity, color, under, buffer),
         Stretch::Pixels(pixels) => lay_pixels(mode, opacity, pixels, under, buffer),
     }
+}
+
+/// Lays a colour, faded by the opacity, on a chunk.
+fn lay_faded(mode: Mode, opacity: u16, color: Pixel, under: Tone, buffer: &mut [Pixel]) -> Tone
+    requires { opacity ≤ 32768 }
+    ensures { (i : ℕ) → i < length buffer.old → tone_at result buffer.new i
+        ≡ blend mode (fade color opacity) (tone_at under buffer.old i) }
+{
+    if shows_nothing(mode, color) {
+        known_pixels(buffer);
+        return under;
+    }
+    lay_color(mode, fade(color, opacity), under, buffer)
 }
 
 /// Lays a colour on a chunk.
@@ -112,9 +125,11 @@ pub(crate) fn hides(mode: Mode, color: Pixel) -> bool
     }
 }
 
-/// Whether each pixel stays as it is where the colour is laid on it.
+/// Whether each pixel stays as it is where the colour is laid on it, whatever it is faded by.
 fn shows_nothing(mode: Mode, color: Pixel) -> bool
-    ensures { IsTrue result → (under : Channels) → IsPixel under → blend mode color under ≡ under }
+    ensures plain { IsTrue result → (under : Channels) → IsPixel under
+        → blend mode color under ≡ under }
+    ensures faded { IsTrue result → (opacity : ℕ) → fade color opacity ≡ color }
 {
     color == Pixel::CLEAR && mode != Mode::Replace
 }

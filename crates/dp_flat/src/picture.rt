@@ -53,7 +53,7 @@ impl From<AllocError> for PictureEnd {
     }
 }
 
-/// Writes the picture of the board as a P6 file, a piece of at most 12288 bytes at a time.
+/// Writes the picture of the board as a P6 file, a piece of at most 49152 bytes at a time.
 ///
 /// # Errors
 ///
@@ -75,7 +75,7 @@ pub fn write_p6<V: BoardView, S: Sink>(
     write_picture(alloc, Format::P6, board, out)
 }
 
-/// Writes the picture of the board as a P3 file, a piece of at most 12288 bytes at a time.
+/// Writes the picture of the board as a P3 file, a piece of at most 49152 bytes at a time.
 ///
 /// # Errors
 ///

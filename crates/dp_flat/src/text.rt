@@ -19,7 +19,7 @@ const PIXEL_BYTES: usize = 12;
 pub(crate) const CHUNK_BYTES: usize = BUFFER * PIXEL_BYTES;
 
 /// The most bytes that are written at once.
-pub(crate) const PIECE_BYTES: usize = 16 * CHUNK_BYTES;
+pub(crate) const PIECE_BYTES: usize = 64 * CHUNK_BYTES;
 
 /// A piece of a text.
 pub(crate) type Piece = ArrayVec<u8, PIECE_BYTES>;
