@@ -187,18 +187,18 @@ fn writes_lines(rt: HostRuntime) -> Result<(), Fail> {
     Ok(())
 }
 
-// Rows of one pixel share a piece: the head and 3836 pixels are in the first.
+// Rows of four pixels share a piece: the head and 4031 rows are in the first.
 #[test]
 fn a_failing_sink_holds_a_prefix(rt: HostRuntime) -> Result<(), Fail> {
     let alloc = rt.alloc();
     let board = RedAndBlue {
-        width: 1,
+        width: 4,
         height: 4096,
         background: 0xff01_0203,
         tree: Tree::new(alloc),
     };
-    let mut sink = MemSink::new(alloc, 20000, 20000, [2].to_vec(alloc)?)?;
+    let mut sink = MemSink::new(alloc, 60_000, 60_000, [2].to_vec(alloc)?)?;
     assert_eq!(rt; write_p6(alloc, &board, &mut sink), Err(PictureEnd::Failed));
-    assert_eq!(rt; sink.as_slice().len(), 14 + 3 * 3836);
+    assert_eq!(rt; sink.as_slice().len(), 14 + 4 * 3 * 4031);
     Ok(())
 }
