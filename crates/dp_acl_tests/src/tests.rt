@@ -34,7 +34,7 @@ fn entry_of(rt: &impl Abort, alloc: Global, user: u8, kind: u8, text: &str) -> R
     let payload = bytes_of(alloc, text)?;
     assert!(rt; payload.len() < 65_536);
     let frame = Frame::new(kind, user, Octets::from_vec(payload));
-    Ok(decode(alloc, &frame)?)
+    Ok(decode(alloc, &frame.view())?)
 }
 
 /// Notes entries, each a user, a kind and a payload.

@@ -38,7 +38,7 @@ fn entry(alloc: Global, word: &str) -> Result<Entry, Fail> {
     let mut splitter = Splitter::new(alloc);
     splitter.feed(frame(word))?;
     let frame = splitter.take_frame()?.ok_or("a frame")?;
-    Ok(decode(alloc, &frame).ok().ok_or("an entry")?)
+    Ok(decode(alloc, &frame.view()).ok().ok_or("an entry")?)
 }
 
 /// A letter for each pixel of the layer: red, blue, clear or another; none where there is no layer.

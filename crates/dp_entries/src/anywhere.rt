@@ -4,7 +4,7 @@ ghost use Rattle.std.specs.Prelude.{◌≡◌};
 ghost use Rattle.dp_entries.specs.Anywhere.{refusal_of};
 
 use crate::{Refusal, Standing};
-use dp_frame::Frame;
+use dp_frame::FrameView;
 use dp_messages::{DecodeError, Entry, decode, one_answer};
 use std::alloc::Global;
 
@@ -20,7 +20,11 @@ impl Standing for Anywhere {
 
     ghost is_cause = { IsCauseAnywhere };
 
-    fn judge(alloc: Global, _before: u64, frame: &Frame) -> Result<Entry, Refusal<DecodeError>> {
+    fn judge(
+        alloc: Global,
+        _before: u64,
+        frame: &FrameView<'_>,
+    ) -> Result<Entry, Refusal<DecodeError>> {
         match decode(alloc, frame) {
             Ok(entry) => Ok(entry),
             Err(error) => Err(refusal_of(error)),

@@ -1,7 +1,7 @@
 //! Which frames may stand in a stream, and for which entries.
 
 use crate::Refusal;
-use dp_frame::Frame;
+use dp_frame::FrameView;
 use dp_messages::Entry;
 use std::alloc::Global;
 
@@ -26,7 +26,11 @@ pub trait Standing {
     /// # Errors
     ///
     /// The cause where it may not stand; `Memory` where memory runs out.
-    fn judge(alloc: Global, before: u64, frame: &Frame) -> Result<Entry, Refusal<Self::Cause>>
+    fn judge(
+        alloc: Global,
+        before: u64,
+        frame: &FrameView<'_>,
+    ) -> Result<Entry, Refusal<Self::Cause>>
         ensures stands { IfOk result (may_stand before frame.now) }
         ensures refused { IfErr result (IfCause (is_cause before frame.now)) };
 

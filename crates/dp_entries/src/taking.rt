@@ -8,7 +8,7 @@ ghost use Rattle.dp_entries.specs.Reading.{TakesBad, TakesEntry};
 use crate::{Refusal, Standing};
 use dp_frame::Splitter;
 use dp_messages::Entry;
-use std::alloc::{AllocError, Global};
+use std::alloc::Global;
 
 /// Why no entry is taken: the frame at this byte of the splitter's stream may not stand there, or
 /// memory ran out.
@@ -23,8 +23,8 @@ pub struct Stop<C> {
 ///
 /// # Errors
 ///
-/// The cause where the frame may not stand, which is taken all the same; `Memory` where memory runs
-/// out, and the frame may be taken then. The place is that of the frame.
+/// The cause where the frame may not stand, `Memory` where memory runs out. The frame is taken all
+/// the same. The place is that of the frame.
 pub fn take_entry<S: Standing>(
     alloc: Global,
     splitter: &mut Splitter,
@@ -42,15 +42,12 @@ pub fn take_entry<S: Standing>(
         ≡ splitter.old.at + length splitter.old.held }
 {
     let at = splitter.at();
-    let frame = match splitter.take_frame() {
-        Ok(Some(frame)) => frame,
-        Ok(None) => return Ok(None),
-        Err(AllocError) => {
-            let why = Refusal::Memory;
-            return Err(Stop { at, why });
-        }
+    let judged = match splitter.front() {
+        Some(frame) => S::judge(alloc, before, &frame),
+        None => return Ok(None),
     };
-    match S::judge(alloc, before, &frame) {
+    splitter.drop_front();
+    match judged {
         Ok(entry) => Ok(Some(entry)),
         Err(why) => Err(Stop { at, why }),
     }

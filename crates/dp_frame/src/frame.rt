@@ -61,6 +61,70 @@ impl Frame {
     {
         &self.body
     }
+
+    /// The frame, to be looked at.
+    pub fn view(&self) -> FrameView<'_>
+        ensures { result ≡ self.now }
+    {
+        FrameView {
+            kind: self.kind,
+            user: self.user,
+            body: self.body.as_slice(),
+        }
+    }
+}
+
+/// A frame whose payload lies elsewhere.
+#[derive(Drop, Debug)]
+pub struct FrameView<'a> {
+    kind: u8,
+    user: u8,
+    body: &'a [u8],
+}
+
+impl<'a> Model for FrameView<'a> {
+    ghost use Rattle.dp_frame.specs.Frames.{FrameParts};
+    ghost use Rattle.std.specs.Prelude.{◌<◌, ◌^◌, length};
+
+    ghost Value = { FrameParts };
+
+    ghost view = { λ f. record { kind = f.kind; user = f.user; body = f.body.now } };
+
+    ghost invariant = { λ f. length f.body.now < 2 ^ 16 };
+}
+
+impl<'a> FrameView<'a> {
+    /// The frame of this type byte, context byte and payload.
+    pub(crate) fn new(kind: u8, user: u8, body: &'a [u8]) -> FrameView<'a>
+        requires { length body.now < 2 ^ 16 }
+        ensures { result ≡ record { kind = kind; user = user; body = body.now } }
+    {
+        FrameView { kind, user, body }
+    }
+
+    /// The type byte, the kind of the message.
+    pub fn kind(&self) -> u8
+        ensures value { result ≡ self.now.kind }
+        ensures fits { IsFrame self.now }
+    {
+        self.kind
+    }
+
+    /// The context byte, the user who sent the message.
+    pub fn user(&self) -> u8
+        ensures value { result ≡ self.now.user }
+        ensures fits { IsFrame self.now }
+    {
+        self.user
+    }
+
+    /// The payload, at most 65,535 bytes.
+    pub fn body(&self) -> &'a [u8]
+        ensures value { result.now ≡ self.now.body }
+        ensures fits { IsFrame self.now }
+    {
+        self.body
+    }
 }
 
 /// Adds the bytes of the frame at the end: four of the header, and the payload.

@@ -2,11 +2,12 @@
 //!
 //! The rule: docs/protocol.md, "Frames".
 
-ghost use Rattle.std.specs.Prelude.{◌≡◌, ◌+◌, ◌<◌, ◌^◌, ◌++◌, [], length};
+ghost use Rattle.std.specs.Prelude.{◌≡◌, ℕ, ◌+◌, ◌<◌, ◌^◌, List, ◌++◌, [], drop, length};
 ghost use Rattle.std.specs.Prelude.{IfSome, IfNone, OnSome, IfOk, OnOk, OnErr};
-ghost use Rattle.dp_frame.specs.Frames.{IsFrame, spelling, HoldsNoFrame, IsFrameLength};
+ghost use Rattle.dp_frame.specs.Frames.{FrameParts, IsFrame, spelling, HoldsNoFrame};
+ghost use Rattle.dp_frame.specs.Frames.{IsFrameLength};
 
-use crate::{Frame, Octets};
+use crate::{Frame, FrameView, Octets};
 use byteorder::{BigEndian, ByteOrder};
 use bytes::BytesMut;
 use std::alloc::{AllocError, Global};
@@ -93,6 +94,34 @@ impl Splitter {
         Ok(Some(frame))
     }
 
+    /// The first frame, if a whole one is held. It stays where it is, and is held until it is
+    /// dropped.
+    pub fn front(&self) -> Option<FrameView<'_>>
+        ensures front { IfSome result (λ f.
+            self.now.held ≡ spelling f ++ drop (length (spelling f)) self.now.held) }
+        ensures fits { IfSome result IsFrame }
+        ensures none { IfNone result (HoldsNoFrame self.now.held) }
+    {
+        let held = self.buffer.as_slice();
+        let len = whole_len(held)?;
+        Some(view_of(&held[..len]))
+    }
+
+    /// Drops the first frame, which is held whole.
+    pub fn drop_front(&mut self)
+        requires { ¬ HoldsNoFrame self.old.held }
+        ensures front { (f : FrameParts) (rest : List ℕ) → IsFrame f
+            → self.old.held ≡ spelling f ++ rest
+            → self.new ≡ record { held = rest; at = self.old.at + length (spelling f) } }
+        ensures count { self.new.at + length self.new.held ≡ self.old.at + length self.old.held }
+        ensures later { self.old.at < self.new.at }
+    {
+        if let Some(len) = whole_len(self.buffer.as_slice()) {
+            self.buffer.advance(len);
+            self.at += len as u64;
+        }
+    }
+
     /// How many bytes are held, of which no frame was taken yet.
     pub fn rest_len(&self) -> usize
         ensures value { result ≡ length self.now.held }
@@ -121,6 +150,15 @@ fn whole_len(bytes: &[u8]) -> Option<usize>
     }
     let len = HEADER_LEN + BigEndian::read_u16(bytes) as usize;
     if len <= bytes.len() { Some(len) } else { None }
+}
+
+/// The frame that the bytes spell, where it lies.
+fn view_of(bytes: &[u8]) -> FrameView<'_>
+    requires { IsFrameLength bytes.now (length bytes.now) }
+    ensures value { bytes.now ≡ spelling result }
+    ensures fits { IsFrame result }
+{
+    FrameView::new(bytes[2], bytes[3], &bytes[HEADER_LEN..])
 }
 
 /// The frame that the bytes spell.

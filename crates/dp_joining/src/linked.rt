@@ -4,7 +4,7 @@ ghost use Rattle.std.specs.Prelude.{◌≡◌};
 ghost use Rattle.dp_joining.specs.Linked.{flaw_of, is_ping, is_welcome, may_come};
 
 use dp_entries::{Refusal, Standing};
-use dp_frame::Frame;
+use dp_frame::FrameView;
 use dp_messages::{DecodeError, Entry, Msg, decode, one_answer};
 use dp_msg_meta::Control;
 use std::alloc::Global;
@@ -34,7 +34,11 @@ impl Standing for Linked {
 
     ghost is_cause = { IsFlaw };
 
-    fn judge(alloc: Global, before: u64, frame: &Frame) -> Result<Entry, Refusal<LinkFlaw>> {
+    fn judge(
+        alloc: Global,
+        before: u64,
+        frame: &FrameView<'_>,
+    ) -> Result<Entry, Refusal<LinkFlaw>> {
         match decode(alloc, frame) {
             Ok(entry) => {
                 if may_come(before, &entry.msg) {

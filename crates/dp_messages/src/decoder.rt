@@ -14,7 +14,7 @@ ghost use Rattle.dp_messages.specs.Decoded.{Carries, IsRefused, Answers};
 use crate::laws::{one_answer, one_message};
 use crate::{Entry, Msg};
 use dp_fields::PayloadError;
-use dp_frame::{Frame, Octets};
+use dp_frame::{FrameView, Octets};
 use dp_msg_draw::{is_listed, one_draw, read_draw};
 use dp_msg_meta::{is_control_kind, is_meta_kind, read_control, read_meta};
 use std::alloc::Global;
@@ -54,7 +54,7 @@ pub(crate) const PAYLOAD_LIMIT: usize = 65_535;
 ///
 /// `Unknown` exactly where no message is of the frame's kind, `Malformed` exactly where none of the
 /// kind has its payload, each with the kind; `Memory` where memory runs out.
-pub fn decode(alloc: Global, frame: &Frame) -> Result<Entry, DecodeError>
+pub fn decode(alloc: Global, frame: &FrameView<'_>) -> Result<Entry, DecodeError>
     ensures found { IfOk result (Carries frame.now) }
     ensures refused { IfErr result (λ why.
         (why ≡ DecodeError.Memory) ⊎ IsRefused frame.now.kind frame.now.body why) }
@@ -66,7 +66,7 @@ pub fn decode(alloc: Global, frame: &Frame) -> Result<Entry, DecodeError>
         → (result ≡ Err why) ⊎ (result ≡ Err DecodeError.Memory) }
 {
     one_answer();
-    let msg = read_message(alloc, frame.kind(), frame.body().as_slice())?;
+    let msg = read_message(alloc, frame.kind(), frame.body())?;
     Ok(Entry {
         user: frame.user(),
         msg,

@@ -44,7 +44,8 @@ pub fn encode(alloc: Global, entry: &Entry) -> Result<Frame, AllocError>
         return Ok(frame_of_nothing(alloc, entry.user));
     }
     let frame = Frame::new(entry.msg.kind(), entry.user, Octets::from_vec(payload));
-    match decode(alloc, &frame) {
+    let read = decode(alloc, &frame.view());
+    match read {
         Ok(again) => {
             if same(&again.msg, &entry.msg) {
                 Ok(frame)

@@ -27,7 +27,7 @@ fn frame_of(rt: &impl Abort, alloc: Global, kind: u8, payload: &[u8]) -> Result<
 /// and so is its copy, which is equal.
 fn answer_to(rt: &impl Abort, alloc: Global, kind: u8, payload: &[u8]) -> Result<Answer, Fail> {
     let frame = frame_of(rt, alloc, kind, payload)?;
-    let (answer, refused) = match decode(alloc, &frame) {
+    let (answer, refused) = match decode(alloc, &frame.view()) {
         Ok(entry) => {
             let copy = entry.copy()?;
             assert!(rt; same(&copy.msg, &entry.msg));
@@ -170,7 +170,10 @@ fn messages_without_a_spelling(rt: HostRuntime) -> Result<(), Fail> {
     for msg in [chat, long, mode] {
         let frame = encode(alloc, &Entry { user: 7, msg })?;
         assert_eq!(rt; (frame.kind(), frame.user(), frame.body().len()), (9, 7, 0));
-        assert_eq!(rt; decode(alloc, &frame).err(), Some(DecodeError::Unknown(9)));
+        assert_eq!(rt;
+            decode(alloc, &frame.view()).err(),
+            Some(DecodeError::Unknown(9))
+        );
     }
     Ok(())
 }

@@ -52,7 +52,7 @@ fn entry_of(alloc: Global, frame: &[u8]) -> Result<Entry, Fail> {
     let mut splitter = Splitter::new(alloc);
     splitter.feed(frame)?;
     let frame = splitter.take_frame()?.ok_or("a frame")?;
-    Ok(decode(alloc, &frame).ok().ok_or("an entry")?)
+    Ok(decode(alloc, &frame.view()).ok().ok_or("an entry")?)
 }
 
 /// A client that has taken the first frames, so many, and has said the next one, if `says`.

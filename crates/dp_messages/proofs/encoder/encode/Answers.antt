@@ -42,8 +42,8 @@ returns-in-Ok-clause-spelled c = λ spelled.
     let m = c.args.entry.now.msg in
     let written = c.from_vec.ensures ∙ c.in_ok-put_payload.ensures.ok
     ∙ ap (λ (xs : List ℕ). xs ++ payload_of m) c.new-payload.ensures.items in
-    let carries = carried c.new-frame.result c.args.entry.now c.kind.result c.from_vec.result
-    c.new-frame.ensures c.kind.ensures written spelled in
+    let carries = carried c.view.result c.args.entry.now c.kind.result c.from_vec.result
+    (c.view.ensures ∙ c.new-frame.ensures) c.kind.ensures written spelled in
     let equal : c.same.result ≡ true =
     elim (c.in-Ok.ensures.only c.args.entry.now carries) as (λ _. c.same.result ≡ true) [
       | inl e ↦ let again : c.in-Ok.again ≡ c.args.entry.now = cc in c.same.ensures.equal.1
