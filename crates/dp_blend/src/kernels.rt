@@ -5,10 +5,10 @@
 //!
 //! The rule: docs/protocol.md, "Numbers and blending".
 
-ghost use Rattle.std.specs.Prelude.{◌≡◌, ◌≤◌};
+ghost use Rattle.std.specs.Prelude.{◌≡◌, ◌≤◌, ℕ};
 ghost use Rattle.dp_blend.specs.Color.{fade};
 ghost use Rattle.dp_blend.specs.Blending.{blend, masked};
-ghost use Rattle.dp_blend.specs.Lanes.{ArePixels, blended_lanes};
+ghost use Rattle.dp_blend.specs.Lanes.{ArePixels, blended_lanes, lanes};
 ghost use Rattle.dp_blend.specs.declared.modes.Mode.{Mode};
 
 use crate::color::{ONE, Pixel};
@@ -115,18 +115,56 @@ pub(crate) fn fill_two<K: Kernel>(src: Pixel, old: (Pixel, Pixel)) -> (Pixel, Pi
     pixels_of(K::blend_lanes(sources, lanes_of(old.0, old.1)))
 }
 
-/// Two sources that are faded by one number, each blended with the pixel at its place.
+/// A number that sources are faded by throughout a row.
+pub(crate) trait Fading: Copy {
+    ghost by: { Self → ℕ };
+
+    /// Two sources, each faded.
+    fn fade_lanes(self, sources: (Pixel, Pixel)) -> u16x8
+        ensures value { result ≡ lanes (fade sources.0 (by self)) (fade sources.1 (by self)) }
+        ensures pixels { ArePixels result };
+}
+
+/// Fading by one, which changes nothing.
+#[derive(Clone, Copy)]
+pub(crate) struct Whole;
+
+impl Fading for Whole {
+    ghost by = { λ _. 32768 };
+
+    #[inline(always)]
+    fn fade_lanes(self, sources: (Pixel, Pixel)) -> u16x8 {
+        lanes_of(sources.0, sources.1)
+    }
+}
+
+/// Fading by a number, of which 32768 is one.
+#[derive(Clone, Copy)]
+pub(crate) struct Faded {
+    pub by: u16,
+    ghost within: { by ≤ 32768 },
+}
+
+impl Fading for Faded {
+    ghost by = { λ f. f.by };
+
+    #[inline(always)]
+    fn fade_lanes(self, sources: (Pixel, Pixel)) -> u16x8 {
+        products(lanes_of(sources.0, sources.1), u16x8::splat(self.by))
+    }
+}
+
+/// Two sources that are faded, each blended with the pixel at its place.
 #[inline(always)]
-pub(crate) fn merge_two<K: Kernel>(
-    by: u16,
+pub(crate) fn merge_two<K: Kernel, F: Fading>(
+    fading: F,
     sources: (Pixel, Pixel),
     old: (Pixel, Pixel),
 ) -> (Pixel, Pixel)
-    requires { by ≤ 32768 }
-    ensures first { result.0 ≡ blend K.mode (fade sources.0 by) old.0 }
-    ensures second { result.1 ≡ blend K.mode (fade sources.1 by) old.1 }
+    ensures first { result.0 ≡ blend K.mode (fade sources.0 (F.by fading)) old.0 }
+    ensures second { result.1 ≡ blend K.mode (fade sources.1 (F.by fading)) old.1 }
 {
-    let faded = products(lanes_of(sources.0, sources.1), u16x8::splat(by));
+    let faded = fading.fade_lanes(sources);
     pixels_of(K::blend_lanes(faded, lanes_of(old.0, old.1)))
 }
 

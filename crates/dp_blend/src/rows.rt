@@ -8,10 +8,10 @@ ghost use Rattle.std.specs.Prelude.{◌≡◌, ◌<◌, ◌≤◌, ℕ, length, 
 ghost use Rattle.dp_blend.specs.Color.{Channels, fade};
 ghost use Rattle.dp_blend.specs.Blending.{blend, masked, row_blended, row_filled, row_merged};
 
-use crate::color::Pixel;
+use crate::color::{ONE, Pixel};
 use crate::kernels::{
-    Adding, Covering, Erasing, Kernel, Multiplying, Recoloring, Replacing, blend_two, fill_two,
-    merge_two,
+    Adding, Covering, Erasing, Faded, Fading, Kernel, Multiplying, Recoloring, Replacing, Whole,
+    blend_two, fill_two, merge_two,
 };
 use crate::modes::Mode;
 
@@ -61,13 +61,10 @@ pub fn row_merge(mode: Mode, by: u16, sources: &[Pixel], row: &mut [Pixel])
         slice_index_or row.new k d
         ≡ blend mode (fade (slice_index_or sources.now k s) by) (slice_index_or row.old k d) }
 {
-    match mode {
-        Mode::Erase => merge_by::<Erasing>(by, sources, row),
-        Mode::Normal => merge_by::<Covering>(by, sources, row),
-        Mode::Multiply => merge_by::<Multiplying>(by, sources, row),
-        Mode::Add => merge_by::<Adding>(by, sources, row),
-        Mode::Recolor => merge_by::<Recoloring>(by, sources, row),
-        Mode::Replace => merge_by::<Replacing>(by, sources, row),
+    if by == ONE {
+        merge_faded(mode, Whole, sources, row);
+    } else {
+        merge_faded(mode, Faded { by }, sources, row);
     }
 }
 
@@ -112,26 +109,43 @@ fn fill_by<K: Kernel>(src: Pixel, row: &mut [Pixel])
     }
 }
 
-/// `row_merge` in the kernel's mode.
-fn merge_by<K: Kernel>(by: u16, sources: &[Pixel], row: &mut [Pixel])
+/// `row_merge` with the number that the sources are faded by.
+fn merge_faded<F: Fading>(mode: Mode, fading: F, sources: &[Pixel], row: &mut [Pixel])
     requires same_length { length sources.now ≡ length row.old }
-    requires within { by ≤ 32768 }
-    ensures value { row.new ≡ row_merged K.mode by sources.now row.old }
+    ensures value { row.new ≡ row_merged mode (F.by fading) sources.now row.old }
     ensures places { (k : ℕ) (s d : Channels) → k < length row.old →
-        slice_index_or row.new k d
-        ≡ blend K.mode (fade (slice_index_or sources.now k s) by) (slice_index_or row.old k d) }
+        slice_index_or row.new k d ≡ blend mode
+        (fade (slice_index_or sources.now k s) (F.by fading)) (slice_index_or row.old k d) }
+{
+    match mode {
+        Mode::Erase => merge_by::<Erasing, F>(fading, sources, row),
+        Mode::Normal => merge_by::<Covering, F>(fading, sources, row),
+        Mode::Multiply => merge_by::<Multiplying, F>(fading, sources, row),
+        Mode::Add => merge_by::<Adding, F>(fading, sources, row),
+        Mode::Recolor => merge_by::<Recoloring, F>(fading, sources, row),
+        Mode::Replace => merge_by::<Replacing, F>(fading, sources, row),
+    }
+}
+
+/// `row_merge` in the kernel's mode.
+fn merge_by<K: Kernel, F: Fading>(fading: F, sources: &[Pixel], row: &mut [Pixel])
+    requires same_length { length sources.now ≡ length row.old }
+    ensures value { row.new ≡ row_merged K.mode (F.by fading) sources.now row.old }
+    ensures places { (k : ℕ) (s d : Channels) → k < length row.old →
+        slice_index_or row.new k d ≡ blend K.mode
+        (fade (slice_index_or sources.now k s) (F.by fading)) (slice_index_or row.old k d) }
 {
     for k in 0..row.len() / 2 {
         let (at, next) = (2 * k, 2 * k + 1);
         let pair = (sources[at], sources[next]);
-        let (first, second) = merge_two::<K>(by, pair, (row[at], row[next]));
+        let (first, second) = merge_two::<K, F>(fading, pair, (row[at], row[next]));
         row[at] = first;
         row[next] = second;
     }
     if row.len() % 2 == 1 {
         let last = row.len() - 1;
         let pair = (sources[last], sources[last]);
-        let (only, _) = merge_two::<K>(by, pair, (row[last], row[last]));
+        let (only, _) = merge_two::<K, F>(fading, pair, (row[last], row[last]));
         row[last] = only;
     }
 }

@@ -7,7 +7,7 @@ use Rattle.dp_blend.proofs.rows.merge_by.Goals as goal
 
 pub loop-k-preserved : goal.loop-k-preserved
 loop-k-preserved g c =
-    let f = λ (s d : Channels). blend g.K.Kernel.mode (fade s c.args.by) d in
+    let f = λ (s d : Channels). blend g.K.Kernel.mode (fade s (g.F.Fading.by c.args.fading)) d in
     let made = c.merge_two-first.ensures in
     let at = c.index-row-at in
     let next = c.index-row-next in
@@ -21,7 +21,7 @@ loop-k-preserved g c =
 pub returns-then-row-eq1 : goal.returns-then-row-eq1
 returns-then-row-eq1 g c =
     let mode = g.K.Kernel.mode in
-    let f = λ (s d : Channels). blend mode (fade s c.args.by) d in
+    let f = λ (s d : Channels). blend mode (fade s (g.F.Fading.by c.args.fading)) d in
     let sources = c.args.sources.now in
     let row = c.args.row.now in
     let last = c.index-row-last in
@@ -30,24 +30,24 @@ returns-then-row-eq1 g c =
     (omega arith) (omega arith) (omega arith) c.loop-k.invariant
     (c.merge_two-only.ensures.first ∙ ap (λ s. f s last.result) c.index-sources-last.is
     ∙ ap (f _) last.is) in
-    let value = whole ∙ sym (row_merged-is mode c.args.by sources row) in
+    let value = whole ∙ sym (row_merged-is mode (g.F.Fading.by c.args.fading) sources row) in
     record {
       value = value;
-      places = row_merged-places mode c.args.by sources row _ value
+      places = row_merged-places mode (g.F.Fading.by c.args.fading) sources row _ value
           c.requires.same_length;
     }
 
 pub returns-else-row-eq1 : goal.returns-else-row-eq1
 returns-else-row-eq1 g c =
     let mode = g.K.Kernel.mode in
-    let f = λ (s d : Channels). blend mode (fade s c.args.by) d in
+    let f = λ (s d : Channels). blend mode (fade s (g.F.Fading.by c.args.fading)) d in
     let sources = c.args.sources.now in
     let row = c.args.row.now in
     let value = changed-all f sources row c.loop-k.row (2 * c.loop-k.k) (omega arith)
     c.loop-k.invariant
-    ∙ sym (row_merged-is mode c.args.by sources row) in
+    ∙ sym (row_merged-is mode (g.F.Fading.by c.args.fading) sources row) in
     record {
       value = value;
-      places = row_merged-places mode c.args.by sources row _ value
+      places = row_merged-places mode (g.F.Fading.by c.args.fading) sources row _ value
           c.requires.same_length;
     }
