@@ -16,13 +16,13 @@ use borrow.Rule.Slice.PartMut.{mid_of, post_of, put_mid, same_len_mid}
 
 -- ---- a part of a list that is written
 
-part_below : {X : Type 0} (a k i : ℕ) (xs ys : List X) (d : X) → i < a → a ≤ length xs
+pub part_below : {X : Type 0} (a k i : ℕ) (xs ys : List X) (d : X) → i < a → a ≤ length xs
     → get_or (put_mid a k xs ys) i d ≡ get_or xs i d
 part_below a k i xs ys d below fits =
     get_or_append_left (take a xs) (ys ++ post_of a k xs) d i
     (omega (arith, length-take-le a xs fits)) ∙ get_or-take a xs i d below
 
-part_within : {X : Type 0} (a k i j : ℕ) (xs ys : List X) (d : X) → i ≡ a + j → j < length ys
+pub part_within : {X : Type 0} (a k i j : ℕ) (xs ys : List X) (d : X) → i ≡ a + j → j < length ys
     → a ≤ length xs → get_or (put_mid a k xs ys) i d ≡ get_or ys j d
 part_within a k i j xs ys d place within fits =
     let past = get_or-append_right (take a xs) (ys ++ post_of a k xs) a i d

@@ -1,9 +1,10 @@
 -- The tiles of a canvas, of 64 by 64 pixels, and what PutTile makes of its pixels.
-use Rattle.std.specs.Prelude.{ℕ, ◌+◌, ◌*◌, ◌/◌, ◌%◌, nat_lt, nat_le, ◌==◌, ℤ, pos, unsigned_abs}
-use Rattle.std.specs.Prelude.{Bool, ◌&&◌, if◌then◌else◌}
-use Rattle.std.specs.Prelude.{Option, Some, slice_get}
+use Rattle.std.specs.Prelude.{◌≡◌, ℕ, ◌+◌, ◌*◌, ◌/◌, ◌%◌, ◌<◌, nat_lt, nat_le, ◌==◌, ℤ, pos}
+use Rattle.std.specs.Prelude.{unsigned_abs, Bool, ◌&&◌, if◌then◌else◌}
+use Rattle.std.specs.Prelude.{Option, Some, None, List, slice_get, slice_index_or}
 use Rattle.std.specs.Option.{option_map_or}
-use Rattle.dp_blend.specs.Color.{Channels}
+use Rattle.dp_blend.specs.Color.{Channels, clear}
+use Rattle.dp_blend.specs.Canvas.{pixel_at}
 use Rattle.dp_msg_draw.specs.declared.draw.TileContent.{TileContent}
 use Rattle.dp_msg_draw.specs.declared.draw.TileContent.TheVariants.{Solid, Pixels}
 use Rattle.dp_msg_draw.specs.declared.lists.TilePixel.{TilePixel}
@@ -66,3 +67,24 @@ tiles_rect width col row repeat =
           pos ((last + 1) * 64);
     }
     else record { x0 = pos 0; y0 = pos (row * 64); x1 = pos width; y1 = pos ((last + 1) * 64) }
+
+-- ---- a tile that was read
+
+-- the column and the row of the canvas at which the k-th pixel of a tile is
+abbrev pub tile_x : ℕ → ℕ → ℕ
+tile_x col k = col * 64 + k % 64
+
+abbrev pub tile_y : ℕ → ℕ → ℕ
+tile_y row k = row * 64 + k / 64
+
+-- the k-th pixel of a tile, where all of them are of one colour, if one is given, and else are these
+abbrev pub tile_pixel : Option Channels → List Channels → ℕ → Channels
+tile_pixel (Some color) pixels k = color
+tile_pixel None pixels k = slice_index_or pixels k clear
+
+-- the tile at a column and a row, given so, shows the pixels of a canvas of these sides, as far as
+-- that goes
+abbrev pub ShowsTile : ℕ → ℕ → List Channels → ℕ → ℕ → Option Channels → List Channels → Type 0
+ShowsTile width height all col row color pixels =
+    (k : ℕ) → k < 4096 → tile_x col k < width → tile_y row k < height
+    → tile_pixel color pixels k ≡ pixel_at width all (tile_x col k) (tile_y row k)

@@ -1,16 +1,16 @@
 //! What a paint layer holds.
 
-ghost use Rattle.std.specs.Prelude.{◌≡◌, ℕ, ◌+◌, ◌*◌, ◌%◌, ◌<◌, ◌≤◌, List, length, is_some};
-ghost use Rattle.std.specs.Prelude.{All, IsTrue, IfOk, OnOk, OnErr};
+ghost use Rattle.std.specs.Prelude.{◌≡◌, ℕ, ◌+◌, ◌*◌, ◌<◌, ◌≤◌, List, [], length, is_some};
+ghost use Rattle.std.specs.Prelude.{All, IsTrue, IfOk, IfSome, OnOk, OnErr};
 ghost use Rattle.dp_blend.specs.Color.{Channels, IsPixel, clear};
 ghost use Rattle.dp_blend.specs.Canvas.{canvas_of, part_of_row, pixel_at};
-ghost use Rattle.dp_blend.specs.Stretches.{IsStretch};
 ghost use Rattle.dp_msg_draw.specs.declared.draw.Draw.{Draw as Message};
 ghost use Rattle.dp_pixels.specs.Commands.{pixels_after};
 ghost use Rattle.dp_plain.specs.Commands.{painted_layer};
 ghost use Rattle.dp_pixels.specs.Resizes.{pixels_resized};
+ghost use Rattle.dp_pixels.specs.Tiles.{ShowsTile};
 
-use dp_blend::{Pixel, Stretch};
+use dp_blend::Pixel;
 use dp_msg_draw::Draw;
 use dp_pixels::Resize;
 use dp_steps::Steps;
@@ -102,15 +102,37 @@ pub trait LayerPixels: Sized + Drop {
         ensures { part.new
             ≡ part_of_row width (pixels width height self.now) x y (length part.old) };
 
-    /// `count` pixels of the row y, from x on. They lie within 64 columns that begin at a multiple
-    /// of 64.
-    fn stretch(&self, width: u32, height: u32, x: u32, y: u32, count: u32) -> Stretch<'_>
+    /// Readies the pixels for being read in tiles, where that takes memory. Nothing that is seen
+    /// changes.
+    fn prepare(&mut self, alloc: Global) -> Result<(), AllocError>
+        ensures { self.new ≡ self.old };
+
+    /// The colour of the tile at a column and a row of tiles, where it is of one and that is known
+    /// without reading it.
+    fn tile_color(&self, width: u32, height: u32, col: u32, row: u32) -> Option<Pixel>
         requires fits { fits width height self.now }
-        requires inside { y < height }
-        requires within { x + count ≤ width }
-        requires one_column { x % 64 + count ≤ 64 }
-        ensures { IsStretch result
-            (part_of_row width (pixels width height self.now) x y count) };
+        requires across { col * 64 < width }
+        requires down { row * 64 < height }
+        ensures { IfSome result (λ color.
+            ShowsTile width height (pixels width height self.now) col row (Some color) []) };
+
+    /// Reads the tile at a column and a row of tiles: gives its colour, where it is known to be of
+    /// one, and else leaves its pixels in the buffer, row by row. Past the canvas it may hold
+    /// anything.
+    fn tile(
+        &self,
+        width: u32,
+        height: u32,
+        col: u32,
+        row: u32,
+        buffer: &mut [Pixel],
+    ) -> Option<Pixel>
+        requires fits { fits width height self.now }
+        requires across { col * 64 < width }
+        requires down { row * 64 < height }
+        requires count { length buffer.old ≡ 4096 }
+        ensures { ShowsTile width height (pixels width height self.now) col row result
+            buffer.new };
 
     /// The pixel at a place.
     fn pixel(&self, width: u32, height: u32, x: u32, y: u32) -> Pixel

@@ -13,9 +13,11 @@ ghost use Rattle.dp_plain.specs.Weights.{board_weight};
 
 use crate::layer_pixels::LayerPixels;
 use crate::plain::PlainPixels;
-use crate::trees::{arrange_rows, new_content, paint_content, resized_tree, shared_tree};
+use crate::trees::{
+    arrange_rows, new_content, paint_content, prepare_rows, resized_tree, shared_tree,
+};
 use crate::view::BoardView;
-use dp_blend::{Pixel, Stretch};
+use dp_blend::Pixel;
 use dp_board::Board;
 use dp_layers::{LayerRow, Tree, contents_ride_along, trees_stay_trees};
 use dp_msg_draw::Draw;
@@ -76,6 +78,14 @@ impl<C: LayerPixels> LayeredBoard<C> {
     {
         contents_ride_along::<C, PlainPixels>();
         self.tree.content(id)
+    }
+
+    /// Readies the pixels of all layers for being read in tiles, as for a picture. It needn't be
+    /// called before, but reading may be slow without. Nothing that is seen changes.
+    pub fn prepare(&mut self) -> Result<(), AllocError>
+        ensures { self.new ≡ self.old }
+    {
+        prepare_rows(&mut self.tree, self.alloc)
     }
 
     /// Draws the command, as `draw` of the trait does, without counting a draw.
@@ -291,10 +301,15 @@ impl<C: LayerPixels> BoardView for LayeredBoard<C> {
         }
     }
 
-    fn stretch(&self, id: u16, x: u32, y: u32, count: u32) -> Stretch<'_> {
+    fn tile_color(&self, id: u16, col: u32, row: u32) -> Option<Pixel> {
+        let content = self.tree.content(id)?;
+        content.tile_color(self.width, self.height, col, row)
+    }
+
+    fn tile(&self, id: u16, col: u32, row: u32, buffer: &mut [Pixel]) -> Option<Pixel> {
         match self.tree.content(id) {
-            Some(content) => content.stretch(self.width, self.height, x, y, count),
-            None => Stretch::Solid(Pixel::CLEAR),
+            Some(content) => content.tile(self.width, self.height, col, row, buffer),
+            None => None,
         }
     }
 

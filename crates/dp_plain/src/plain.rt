@@ -7,7 +7,7 @@ use crate::colors::known_colors;
 use crate::layer_pixels::LayerPixels;
 use crate::layered::LayeredBoard;
 use crate::resize::moved_pixels;
-use dp_blend::{Pixel, Stretch};
+use dp_blend::Pixel;
 use dp_msg_draw::Draw;
 use dp_pixels::{Resize, draw_pixels, pixels_stay_pixels};
 use dp_steps::Steps;
@@ -91,9 +91,29 @@ impl LayerPixels for PlainPixels {
         part.copy_from_slice(&self.pixels[start..start + part.len()]);
     }
 
-    fn stretch(&self, width: u32, _height: u32, x: u32, y: u32, count: u32) -> Stretch<'_> {
-        let start = y as usize * width as usize + x as usize;
-        Stretch::Pixels(&self.pixels[start..start + count as usize])
+    fn prepare(&mut self, _alloc: Global) -> Result<(), AllocError> {
+        Ok(())
+    }
+
+    fn tile_color(&self, _width: u32, _height: u32, _col: u32, _row: u32) -> Option<Pixel> {
+        None
+    }
+
+    fn tile(
+        &self,
+        width: u32,
+        height: u32,
+        col: u32,
+        row: u32,
+        buffer: &mut [Pixel],
+    ) -> Option<Pixel> {
+        let (x, y) = (col * 64, row * 64);
+        let count = (width - x).min(64) as usize;
+        for j in 0..(height - y).min(64) {
+            let start = j as usize * 64;
+            self.copy_part(width, height, x, y + j, &mut buffer[start..start + count]);
+        }
+        None
     }
 
     fn pixel(&self, width: u32, _height: u32, x: u32, y: u32) -> Pixel {

@@ -1,19 +1,19 @@
 //! What is read of a board.
 
-ghost use Rattle.std.specs.Prelude.{◌≡◌, ◌+◌, ◌%◌, ◌<◌, ◌≤◌, length, IsTrue};
+ghost use Rattle.std.specs.Prelude.{◌≡◌, ◌+◌, ◌*◌, ◌<◌, ◌≤◌, [], length, IfSome, IsTrue};
 ghost use Rattle.dp_blend.specs.Canvas.{part_of_row};
-ghost use Rattle.dp_blend.specs.Stretches.{IsStretch};
 ghost use Rattle.dp_layers.specs.Layers.{is_paint_row};
 ghost use Rattle.dp_layers.specs.Rows.{layers_of};
+ghost use Rattle.dp_pixels.specs.Tiles.{ShowsTile};
 ghost use Rattle.dp_plain.specs.Board.{Board, HasPixels, IsBoard};
 ghost use Rattle.dp_plain.specs.Picture.{pixels_of};
 ghost use Rattle.dp_plain.specs.View.{pixel_in, pixels_in_row};
 
-use dp_blend::{Pixel, Stretch};
+use dp_blend::Pixel;
 use dp_layers::LayerRow;
 
-/// A board that can be looked at: its sides, its background, its rows, and their pixels a row at a
-/// time. No call takes memory.
+/// A board that can be looked at: its sides, its background, its rows, and their pixels a part of a
+/// row or a tile at a time. No call takes memory.
 pub trait BoardView {
     /// The board that it is.
     ghost board: { Self → Board };
@@ -59,15 +59,25 @@ pub trait BoardView {
         self.copy_part(id, 0, y, row);
     }
 
-    /// `count` pixels of the row y of the paint layer of the id, from x on. They lie within 64
-    /// columns that begin at a multiple of 64.
-    fn stretch(&self, id: u16, x: u32, y: u32, count: u32) -> Stretch<'_>
+    /// The colour of the tile at a column and a row of tiles, of the paint layer of the id, where it
+    /// is of one and that is known without reading it.
+    fn tile_color(&self, id: u16, col: u32, row: u32) -> Option<Pixel>
         requires paint { IsTrue (is_paint_row (layers_of (board self.now).rows) id) }
-        requires inside { y < (board self.now).height }
-        requires within { x + count ≤ (board self.now).width }
-        requires one_column { x % 64 + count ≤ 64 }
-        ensures { IsStretch result (part_of_row (board self.now).width
-            (pixels_of (board self.now) id) x y count) };
+        requires across { col * 64 < (board self.now).width }
+        requires down { row * 64 < (board self.now).height }
+        ensures { IfSome result (λ color. ShowsTile (board self.now).width (board self.now).height
+            (pixels_of (board self.now) id) col row (Some color) []) };
+
+    /// Reads the tile at a column and a row of tiles, of the paint layer of the id: gives its
+    /// colour, where it is known to be of one, and else leaves its pixels in the buffer, row by
+    /// row. Past the canvas it may hold anything.
+    fn tile(&self, id: u16, col: u32, row: u32, buffer: &mut [Pixel]) -> Option<Pixel>
+        requires paint { IsTrue (is_paint_row (layers_of (board self.now).rows) id) }
+        requires across { col * 64 < (board self.now).width }
+        requires down { row * 64 < (board self.now).height }
+        requires count { length buffer.old ≡ 4096 }
+        ensures { ShowsTile (board self.now).width (board self.now).height
+            (pixels_of (board self.now) id) col row result buffer.new };
 
     /// The pixel of the paint layer of the id at a place, or `None` where no paint layer has the id
     /// or the place is outside.

@@ -4,7 +4,8 @@ ghost use Rattle.std.specs.Prelude.{◌≡◌, ℕ, ◌+◌, ◌-◌, ◌*◌, �
 ghost use Rattle.dp_blend.specs.Color.{Channels};
 ghost use Rattle.std.specs.Prelude.{IfOk, IfSome, IfNone, OnOk, OnErr};
 ghost use Rattle.dp_blend.specs.Color.{clear};
-ghost use Rattle.dp_tile.specs.Tiles.{IsGrid, tile_of, clear_grid, cell_at, with_cell, grid_pixel};
+ghost use Rattle.dp_tile.specs.Tiles.{IsGrid, IsOfColor, cell_at, clear_grid, grid_pixel};
+ghost use Rattle.dp_tile.specs.Tiles.{tile_of, with_cell};
 ghost use Rattle.dp_blend.specs.Stretches.{IsStretch};
 ghost use Rattle.dp_tile.specs.Tiles.{part_of_grid};
 ghost use Rattle.dp_tile.specs.Areas.{IsPaintedOn};
@@ -158,6 +159,29 @@ impl Grid {
             put_stretch(stretch, &mut part[done..done + count]);
             done += count;
         }
+    }
+
+    /// The colour of all pixels of the tile at a column and a row, where that is known.
+    pub fn tile_color(&self, col: u32, row: u32) -> Option<Pixel>
+        requires col { col < self.now.cols }
+        requires row { row < self.now.rows }
+        ensures { IsOfColor result (cell_at self.now col row) }
+    {
+        let slot = self.cells.at(col as usize, row as usize);
+        slot.color()
+    }
+
+    /// Reads the tile at a column and a row: gives its colour where it is known to be of one, and
+    /// else copies its pixels.
+    pub fn read_tile(&self, col: u32, row: u32, pixels: &mut [Pixel]) -> Option<Pixel>
+        requires col { col < self.now.cols }
+        requires row { row < self.now.rows }
+        requires count { length pixels.old ≡ 4096 }
+        ensures color { IfSome result (λ p. cell_at self.now col row ≡ tile_of p) }
+        ensures pixels { IfNone result (pixels.new ≡ cell_at self.now col row) }
+    {
+        let slot = self.cells.at(col as usize, row as usize);
+        slot.read(pixels)
     }
 
     /// The tile at a column and a row. `None` comes only where it shows nothing.

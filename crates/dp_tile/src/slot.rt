@@ -106,6 +106,18 @@ impl Slot {
         }
     }
 
+    // Its colour, where that is known; else its pixels are copied.
+    pub(crate) fn read(&self, pixels: &mut [Pixel]) -> Option<Pixel>
+        requires count { length pixels.old ≡ 4096 }
+        ensures color { IfSome result (λ p. self.now ≡ tile_of p) }
+        ensures pixels { IfNone result (pixels.new ≡ self.now) }
+    {
+        match &self.tile {
+            None => Some(Pixel::CLEAR),
+            Some(tile) => tile.read(pixels),
+        }
+    }
+
     // The tile, if there is one.
     pub(crate) fn tile(&self) -> Option<&Tile>
         ensures pixels { IfSome result (λ tile. tile.now ≡ self.now) }

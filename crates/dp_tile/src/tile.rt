@@ -1,6 +1,7 @@
 //! A square of pixels.
 
-ghost use Rattle.std.specs.Prelude.{◌≡◌, ◌+◌, ◌*◌, ◌<◌, ◌≤◌, length, slice_set, IfOk, OnOk, OnErr};
+ghost use Rattle.std.specs.Prelude.{◌≡◌, ◌+◌, ◌*◌, ◌<◌, ◌≤◌, length, slice_set, IfNone, IfOk};
+ghost use Rattle.std.specs.Prelude.{IfSome, OnOk, OnErr};
 ghost use Rattle.dp_blend.specs.Color.{clear};
 ghost use Rattle.dp_blend.specs.Canvas.{pixel_at};
 ghost use Rattle.dp_blend.specs.Stretches.{IsStretch};
@@ -93,6 +94,18 @@ impl Tile {
     pub fn color(&self) -> Option<Pixel>
         ensures { IsOfColor result self.now }
     {
+        self.color
+    }
+
+    /// Its colour, where that is known; else its pixels are copied.
+    pub fn read(&self, pixels: &mut [Pixel]) -> Option<Pixel>
+        requires count { length pixels.old ≡ 4096 }
+        ensures color { IfSome result (λ p. self.now ≡ tile_of p) }
+        ensures pixels { IfNone result (pixels.new ≡ self.now) }
+    {
+        if self.color.is_none() {
+            pixels.copy_from_slice(&self.pixels);
+        }
         self.color
     }
 

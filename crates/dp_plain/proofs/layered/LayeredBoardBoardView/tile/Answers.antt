@@ -2,16 +2,15 @@ use Rattle.std.proofs.Common.{◌≡◌, ◌∙◌, ap, sym, subst, true}
 use Rattle.std.proofs.lemmas.Bool.{false≢true}
 use Rattle.dp_layers.specs.Layers.{is_paint_row}
 use Rattle.dp_layers.specs.Rows.{layers_of}
+use Rattle.dp_pixels.specs.Tiles.{ShowsTile}
 use Rattle.dp_plain.specs.Board.{Board}
 use Rattle.dp_plain.specs.Picture.{pixels_of}
-use Rattle.dp_blend.specs.Canvas.{part_of_row}
-use Rattle.dp_blend.specs.Stretches.{IsStretch}
 use Rattle.dp_plain.proofs.Holds.{fit_found}
 use Rattle.dp_plain.proofs.Views.{layers_seen, pixels_seen}
-use Rattle.dp_plain.proofs.layered.LayeredBoardBoardView.stretch.Goals as goal
+use Rattle.dp_plain.proofs.layered.LayeredBoardBoardView.tile.Goals as goal
 
-pub stretch-requires-clause-fits : goal.stretch-requires-clause-fits
-stretch-requires-clause-fits g c =
+pub tile-requires-clause-fits : goal.tile-requires-clause-fits
+tile-requires-clause-fits g c =
     let inside = c.self.inside in
     fit_found (g.C.LayerPixels.fits inside.width inside.height) inside.tree c.args.id
     c.in-Some.content.now
@@ -21,13 +20,13 @@ pub returns-in-Some : goal.returns-in-Some
 returns-in-Some g c =
     let inside = c.self.inside in
     subst
-    (λ (board : Board). IsStretch c.stretch.result (part_of_row board.width
-    (pixels_of board c.args.id) c.args.x c.args.y c.args.count)) c.self.view_is
-    (subst (λ pixels. IsStretch c.stretch.result
-    (part_of_row inside.width pixels c.args.x c.args.y c.args.count))
+    (λ (board : Board). ShowsTile board.width board.height (pixels_of board c.args.id) c.args.col
+    c.args.row c.tile.result c.tile.new.buffer) c.self.view_is
+    (subst (λ pixels. ShowsTile inside.width inside.height pixels c.args.col c.args.row
+    c.tile.result c.tile.new.buffer)
     (sym
     (pixels_seen (g.C.LayerPixels.pixels inside.width inside.height) inside.tree c.args.id
-    c.in-Some.content.now (sym c.in-Some.ensures.value))) c.stretch.ensures)
+    c.in-Some.content.now (sym c.in-Some.ensures.value))) c.tile.ensures)
 
 pub returns-in-None : goal.returns-in-None
 returns-in-None g c =
