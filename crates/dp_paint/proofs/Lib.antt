@@ -1,5 +1,6 @@
 pub mod Strokes
-pub mod Batches
+pub mod Fills
+pub mod Layers
 pub mod Drawn
 pub mod FootLemmas
 pub mod Moving

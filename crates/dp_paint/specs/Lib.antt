@@ -1,5 +1,5 @@
 pub mod Painting
 pub mod Strokes
-pub mod Batches
+pub mod Waiting
 pub mod Reading
 pub mod Movements

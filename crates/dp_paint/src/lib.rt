@@ -3,10 +3,10 @@
 //! The rule: docs/protocol.md, "Pixel commands".
 #![tactic(auto)]
 
-mod batch;
 mod blank;
 mod cells;
 mod dabs;
+mod deferred;
 mod feet;
 mod fetch;
 mod movement;
@@ -16,9 +16,10 @@ mod reading;
 mod resize;
 mod rows;
 mod stroke;
+mod waiting;
 
-pub use batch::paint_all;
 pub use blank::blank_grid;
+pub use deferred::DeferredGrid;
 pub use movement::{move_in_place, move_one};
 pub use paint::{paint_in_place, paint_one};
 pub use resize::{resize_grid, resized_grid};

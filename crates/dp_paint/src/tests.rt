@@ -1,7 +1,7 @@
-ghost use Rattle.std.specs.Prelude.{◌≡◌, ◌<◌, IfOk};
+ghost use Rattle.std.specs.Prelude.{◌≡◌, ◌<◌, IfOk, length};
 ghost use Rattle.dp_paint.specs.Painting.{IsGridOf, IsPainting};
 
-use crate::{blank_grid, move_one, paint_all, paint_one, resize_grid};
+use crate::{DeferredGrid, blank_grid, move_one, paint_one, resize_grid};
 use dp_blend::{Pixel, of_argb};
 use dp_msg_draw::{Dab, Dabs, Draw};
 use dp_steps::Steps;
@@ -172,37 +172,73 @@ fn square(x: u32, y: u32, color: u32) -> Draw
     }
 }
 
-/// Pixels of a canvas of 66 by 3 after two fills together, the second one in the right column of
-/// tiles alone, and whether there is a tile in each column.
-fn filled_twice<T: Ledger>(
-    alloc: Global,
-    blank: Blank,
-) -> Result<([Pixel; 4], [bool; 2]), AllocError>
+/// A layer of 70 by 2 on which two fills wait: a white one in both tiles, and over its right column
+/// a black one, which goes past the canvas.
+fn layer_of_two<T: Ledger>(alloc: Global, tiles: &mut Steps<T>) -> Result<DeferredGrid, AllocError>
+    ensures { IfOk result (λ layer. (layer.width ≡ 70) × (layer.height ≡ 2)) }
+{
+    let mut layer = DeferredGrid::blank(alloc, 70, 2)?;
+    layer.paint(&square(63, 0, 0xffff_ffff), tiles)?;
+    layer.paint(&square(64, 1, 0xff00_0000), tiles)?;
+    Ok(layer)
+}
+
+/// The pixels of a layer at (64, 0), (64, 1), (65, 1) and (69, 0), as its right tile is read.
+fn read_right(layer: &DeferredGrid, pixels: &mut [Pixel]) -> [Pixel; 4]
+    requires across { 64 < layer.now.width }
+    requires down { 0 < layer.now.height }
+    requires count { length pixels.old ≡ 4096 }
+{
+    match layer.read_tile(1, 0, pixels) {
+        Some(color) => [color; 4],
+        None => [pixels[0], pixels[64], pixels[65], pixels[5]],
+    }
+}
+
+/// The right tile of a layer on which fills wait, as it is read: before they are listed, after
+/// that, after another fill in white, and after the pixel at (64, 1) moved to (69, 0). Last are the
+/// same pixels before the move, read one by one.
+fn read_waiting<T: Ledger>(alloc: Global, blank: Blank) -> Result<[[Pixel; 4]; 5], AllocError>
     requires name { blank.name ≡ T.name }
     requires parts { blank.parts ≡ T.parts }
     requires some { 0 < blank.parts }
 {
     let mut tiles = Steps::<T>::new(blank);
-    let mut grid = blank_grid(alloc, 66, 3)?;
-    let fills = [square(63, 0, 0xffff_ffff), square(64, 1, 0xff00_0000)];
-    paint_all(&mut grid, 66, 3, &fills, &mut tiles)?;
-    let pixels = [
-        grid.get(63, 1),
-        grid.get(64, 0),
-        grid.get(64, 1),
-        grid.get(65, 2),
+    let mut pixels = vec![in alloc; Pixel::CLEAR; 4096]?;
+    let mut layer = layer_of_two(alloc, &mut tiles)?;
+    let unlisted = read_right(&layer, &mut pixels);
+    layer.list()?;
+    let listed = read_right(&layer, &mut pixels);
+    layer.paint(&square(65, 1, 0xffff_ffff), &mut tiles)?;
+    let filled = read_right(&layer, &mut pixels);
+    let each = [
+        layer.pixel(64, 0),
+        layer.pixel(64, 1),
+        layer.pixel(65, 1),
+        layer.pixel(69, 0),
     ];
-    Ok((
-        pixels,
-        [grid.tile(0, 0).is_some(), grid.tile(1, 0).is_some()],
-    ))
+    let to_the_right = Draw::MoveRect {
+        layer: 1,
+        sx: 64,
+        sy: 1,
+        w: 1,
+        h: 1,
+        tx: 69,
+        ty: 0,
+    };
+    layer.move_rect(&to_the_right, &mut tiles)?;
+    let moved = read_right(&layer, &mut pixels);
+    Ok([unlisted, listed, filled, moved, each])
 }
 
 #[test]
-fn fills_together_are_painted_in_order(rt: HostRuntime) -> Result<(), AllocError> {
-    let (pixels, tiles) = filled_twice::<Brand>(rt.alloc(), Blank::new(1))?;
-    let (white, black) = (Pixel::WHITE, of_argb(0xff00_0000));
-    assert_eq!(rt; pixels, [white, white, black, black]);
-    assert_eq!(rt; tiles, [true, true]);
+fn fills_that_wait_are_read_in_order(rt: HostRuntime) -> Result<(), AllocError> {
+    let [unlisted, listed, filled, moved, each] = read_waiting::<Brand>(rt.alloc(), Blank::new(1))?;
+    let (white, clear, black) = (Pixel::WHITE, Pixel::CLEAR, of_argb(0xff00_0000));
+    assert_eq!(rt; unlisted, [white, black, black, clear]);
+    assert_eq!(rt; listed, [white, black, black, clear]);
+    assert_eq!(rt; filled, [white, black, white, clear]);
+    assert_eq!(rt; moved, [white, clear, white, black]);
+    assert_eq!(rt; each, [white, black, white, clear]);
     Ok(())
 }

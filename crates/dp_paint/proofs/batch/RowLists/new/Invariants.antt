@@ -1,6 +1,0 @@
-use Rattle.std.proofs.Common.{◌≡◌, [], replicate}
-use Rattle.dp_paint.proofs.batch.RowLists.new.Given as goal
-
--- the lists so far have no command
-abbrev pub invariant-loop-made : goal.invariant-loop-made
-invariant-loop-made l = l.lists.items ≡ replicate l._made []

@@ -1,6 +1,0 @@
-use Rattle.std.proofs.Common.{◌≡◌, [], replicate}
-use Rattle.dp_paint.proofs.batch.empty_rows.Given as goal
-
--- the rows so far have lists without a command
-abbrev pub invariant-loop-made : goal.invariant-loop-made
-invariant-loop-made l = l.lists.items ≡ replicate l._made (replicate l.cols [])

@@ -1,0 +1,16 @@
+use Rattle.dp_paint.specs.Waiting.{tile_pixels}
+use Rattle.dp_paint.proofs.Fills.{tile_after_fill}
+use Rattle.dp_paint.proofs.waiting.show_fills.Goals as goal
+
+pub loop-fill-preserved : goal.loop-fill-preserved
+loop-fill-preserved c =
+    record {
+      shown =
+          tile_after_fill c.args.fills.now c.loop-fill.fill-index _ c.loop-fill-test.true
+          c.args.width c.args.height c.args.col c.args.row
+          (tile_pixels c.args.color c.args.pixels.now)
+          (tile_pixels c.loop-fill.color c.loop-fill.pixels)
+          (tile_pixels c.draw_on-color.result c.draw_on-color.new.pixels)
+          c.loop-fill.invariant.shown c.draw_on-color.ensures.shown;
+      count = c.draw_on-color.ensures.count;
+    }
