@@ -1,1 +1,3 @@
+pub mod DeferredLayers
 pub mod Grids
+pub mod Shown

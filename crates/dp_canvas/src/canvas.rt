@@ -9,7 +9,7 @@ ghost use Rattle.dp_plain.specs.Commands.{draw};
 ghost use Rattle.dp_tile.specs.Tiles.{grid_pixels};
 
 use crate::tiled::TiledPixels;
-use dp_blend::{Pixel, Stretch};
+use dp_blend::Pixel;
 use dp_board::Board;
 use dp_layers::LayerRow;
 use dp_msg_draw::Draw;
@@ -134,8 +134,12 @@ impl BoardView for Canvas {
         self.board.copy_part(id, x, y, part);
     }
 
-    fn stretch(&self, id: u16, x: u32, y: u32, count: u32) -> Stretch<'_> {
-        self.board.stretch(id, x, y, count)
+    fn tile_color(&self, id: u16, col: u32, row: u32) -> Option<Pixel> {
+        self.board.tile_color(id, col, row)
+    }
+
+    fn tile(&self, id: u16, col: u32, row: u32, buffer: &mut [Pixel]) -> Option<Pixel> {
+        self.board.tile(id, col, row, buffer)
     }
 
     fn pixel(&self, id: u16, x: u32, y: u32) -> Option<Pixel> {

@@ -2,8 +2,10 @@
 #![tactic(auto)]
 
 mod canvas;
+mod deferred;
 #[cfg(test)]
 mod tests;
 mod tiled;
 
 pub use canvas::Canvas;
+pub use deferred::{DeferredBoard, DeferredPixels};

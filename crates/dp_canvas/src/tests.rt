@@ -1,8 +1,8 @@
-//! The canvas and the plain board, on the same commands.
+//! The canvas, the board with fills that wait and the plain board, on the same commands.
 
 ghost use Rattle.std.specs.Prelude.{◌≡◌, ◌<◌};
 
-use crate::Canvas;
+use crate::{Canvas, DeferredBoard};
 use dp_blend::Pixel;
 use dp_board::Board;
 use dp_msg_draw::{Draw, read_draw};
@@ -90,8 +90,8 @@ fn looks_so<B: BoardView>(rt: &impl Abort, board: &B, case: &Case) {
     }
 }
 
-/// Draws the cases on a plain board and on a canvas, with counters over these blanks.
-fn on_both_boards<D: Ledger, T: Ledger>(
+/// Draws the cases on each kind of board, with counters over these blanks.
+fn on_all_boards<D: Ledger, T: Ledger>(
     rt: &impl Abort,
     alloc: Global,
     cases: &[Case],
@@ -115,6 +115,8 @@ fn on_both_boards<D: Ledger, T: Ledger>(
             &mut made,
         )?;
         draws(rt, alloc, Canvas::new(alloc), case, &mut drawn, &mut made)?;
+        let deferred = DeferredBoard::new(alloc);
+        draws(rt, alloc, deferred, case, &mut drawn, &mut made)?;
     }
     Ok(())
 }
@@ -193,7 +195,7 @@ fn layers(rt: HostRuntime) -> Result<(), Fail> {
             pixels: &[(0x0102, 0, 0, None)],
         },
     ];
-    on_both_boards::<Brand, Brand>(&rt, rt.alloc(), &cases, Blank::new(1), Blank::new(1))
+    on_all_boards::<Brand, Brand>(&rt, rt.alloc(), &cases, Blank::new(1), Blank::new(1))
 }
 
 /// Commands on pixels, one of each kind.
@@ -251,5 +253,5 @@ fn pixels(rt: HostRuntime) -> Result<(), Fail> {
             ],
         },
     ];
-    on_both_boards::<Brand, Brand>(&rt, rt.alloc(), &cases, Blank::new(1), Blank::new(1))
+    on_all_boards::<Brand, Brand>(&rt, rt.alloc(), &cases, Blank::new(1), Blank::new(1))
 }

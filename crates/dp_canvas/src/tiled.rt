@@ -1,6 +1,6 @@
 //! The pixels of a layer as a grid of tiles.
 
-use dp_blend::{Pixel, Stretch, length_of_canvas};
+use dp_blend::{Pixel, length_of_canvas};
 use dp_msg_draw::Draw;
 use dp_paint::{blank_grid, move_in_place, paint_in_place, resized_grid};
 use dp_pixels::{Resize, pixels_stay_pixels};
@@ -89,11 +89,25 @@ impl LayerPixels for TiledPixels {
         self.grid.copy_part(x, y, part);
     }
 
-    fn stretch(&self, _width: u32, _height: u32, x: u32, y: u32, count: u32) -> Stretch<'_> {
-        if count == 0 {
-            return Stretch::Solid(Pixel::CLEAR);
-        }
-        self.grid.stretch(x, y, count)
+    fn prepare(&mut self, _alloc: Global) -> Result<(), AllocError> {
+        Ok(())
+    }
+
+    fn tile_color(&self, _width: u32, _height: u32, col: u32, row: u32) -> Option<Pixel> {
+        self.grid.known();
+        self.grid.tile_color(col, row)
+    }
+
+    fn tile(
+        &self,
+        _width: u32,
+        _height: u32,
+        col: u32,
+        row: u32,
+        buffer: &mut [Pixel],
+    ) -> Option<Pixel> {
+        self.grid.known();
+        self.grid.read_tile(col, row, buffer)
     }
 
     fn pixel(&self, _width: u32, _height: u32, x: u32, y: u32) -> Pixel {

@@ -1,0 +1,117 @@
+//! The board on which `replay` and `play` draw: small fills wait until tiles are read.
+
+use dp_blend::Pixel;
+use dp_msg_draw::Draw;
+use dp_paint::DeferredGrid;
+use dp_pixels::{Resize, pixels_stay_pixels};
+use dp_plain::{LayerPixels, LayeredBoard, known_colors};
+use dp_steps::Steps;
+use std::alloc::{AllocError, Global};
+use std::marker::Model;
+use std::sync::ledger::Ledger;
+
+/// A board for pictures: small fills wait, and each tile is painted by all of its fills when it is
+/// read.
+pub type DeferredBoard = LayeredBoard<DeferredPixels>;
+
+/// The pixels of a layer, on tiles, with fills that wait.
+#[derive(Drop)]
+pub struct DeferredPixels {
+    layer: DeferredGrid,
+}
+
+impl Model for DeferredPixels {
+    ghost use Rattle.dp_paint.specs.Waiting.{LayerOf};
+
+    ghost Value = { LayerOf };
+
+    ghost view = { λ d. d.layer };
+}
+
+impl LayerPixels for DeferredPixels {
+    ghost use Rattle.std.specs.Prelude.{◌≡◌, ◌+◌, ◌*◌, All, length};
+    ghost use Rattle.dp_blend.specs.Color.{IsPixel};
+    ghost use Rattle.dp_pixels.specs.Feet.{reach};
+
+    ghost pixels = { λ width height layer. layer.pixels };
+
+    ghost fits = { λ width height layer. (layer.width ≡ width) × (layer.height ≡ height)
+        × (length layer.pixels ≡ width * height) × All IsPixel layer.pixels };
+
+    ghost weight = { λ command. 4096 + reach command };
+
+    ghost resizing = { 8192 };
+
+    fn clear<T: Ledger>(
+        alloc: Global,
+        width: u32,
+        height: u32,
+        _tiles: &mut Steps<T>,
+    ) -> Result<Self, AllocError> {
+        Ok(DeferredPixels {
+            layer: DeferredGrid::blank(alloc, width, height)?,
+        })
+    }
+
+    fn paint<T: Ledger>(
+        &mut self,
+        _alloc: Global,
+        _width: u32,
+        _height: u32,
+        command: &Draw,
+        tiles: &mut Steps<T>,
+    ) -> Result<(), AllocError> {
+        pixels_stay_pixels();
+        known_colors(command);
+        match command {
+            Draw::MoveRect { .. } => self.layer.move_rect(command, tiles),
+            _ => self.layer.paint(command, tiles),
+        }
+    }
+
+    fn resize<T: Ledger>(
+        &self,
+        _alloc: Global,
+        change: Resize,
+        tiles: &mut Steps<T>,
+    ) -> Result<Self, AllocError> {
+        Ok(DeferredPixels {
+            layer: self.layer.resized(change, tiles)?,
+        })
+    }
+
+    fn share<T: Ledger>(&self, _tiles: &mut Steps<T>) -> Result<Self, AllocError> {
+        Ok(DeferredPixels {
+            layer: self.layer.share()?,
+        })
+    }
+
+    fn copy_part(&self, _width: u32, _height: u32, x: u32, y: u32, part: &mut [Pixel]) {
+        self.layer.copy_part(x, y, part);
+    }
+
+    fn prepare(&mut self, _alloc: Global) -> Result<(), AllocError> {
+        self.layer.list()
+    }
+
+    fn tile_color(&self, _width: u32, _height: u32, col: u32, row: u32) -> Option<Pixel> {
+        self.layer.tile_color(col, row)
+    }
+
+    fn tile(
+        &self,
+        _width: u32,
+        _height: u32,
+        col: u32,
+        row: u32,
+        buffer: &mut [Pixel],
+    ) -> Option<Pixel> {
+        self.layer.read_tile(col, row, buffer)
+    }
+
+    fn pixel(&self, _width: u32, _height: u32, x: u32, y: u32) -> Pixel {
+        self.layer.pixel(x, y)
+    }
+
+    fn laws() {}
+}
