@@ -1,4 +1,4 @@
-pub mod Chunks
+pub mod Bands
 pub mod Composed
 pub mod Prefixes
 pub mod RedAndBlue

@@ -1,21 +1,28 @@
--- A chunk of a row of the canvas while its layers are composed.
-use Rattle.std.specs.Prelude.{◌≡◌, ℕ, ◌+◌, ◌%◌, ◌<◌, ◌≤◌, if◌then◌else◌, List, drop, map}
+-- A tile of the canvas while its layers are composed.
+use Rattle.std.specs.Prelude.{◌≡◌, ℕ, ◌*◌, ◌<◌, if◌then◌else◌, List, drop, map}
 use Rattle.std.specs.List.{filter, fold}
 use Rattle.dp_blend.specs.Canvas.{below}
 use Rattle.dp_blend.specs.Color.{Channels, clear}
 use Rattle.dp_layers.specs.declared.row.LayerRow.{LayerRow}
+use Rattle.dp_layers.specs.Layers.{nesting_limit}
 use Rattle.dp_layers.specs.Rows.{layers_of}
+use Rattle.dp_pixels.specs.Tiles.{tile_x, tile_y}
 use Rattle.dp_plain.specs.Board.{Board}
 use Rattle.dp_plain.specs.Picture.{compose, is_seen_in, laid, row_pixel, seen}
-use Rattle.dp_flat.specs.declared.chunk.Chunk.{Chunk}
-use Rattle.dp_flat.specs.declared.chunk.Tone.{Tone}
-use Rattle.dp_flat.specs.Chunks.{tone_at}
+use Rattle.dp_flat.specs.declared.tone.TileAt.{TileAt}
+use Rattle.dp_flat.specs.declared.tone.Tone.{Tone}
+use Rattle.dp_flat.specs.Tones.{tone_at}
 
--- the chunk lies on the board, within 64 columns that begin at a multiple of 64
-pub record IsChunk (board : Board) (chunk : Chunk) : Type 0 where
-  pub inside : chunk.y < board.height
-  pub within : chunk.x + chunk.count ≤ board.width
-  pub one_column : chunk.x % 64 + chunk.count ≤ 64
+-- the tile has a place on the board
+pub record IsOnBoard (board : Board) (tile : TileAt) : Type 0 where
+  pub across : tile.col * 64 < board.width
+  pub down : tile.row * 64 < board.height
+
+-- the k-th pixel of the tile is on the board
+pub record IsPlace (board : Board) (tile : TileAt) (k : ℕ) : Type 0 where
+  pub count : k < 4096
+  pub across : tile_x tile.col k < board.width
+  pub down : tile_y tile.row k < board.height
 
 -- what a row of the list shows at a place: its pixel, or what its own rows make from clear, going
 -- down into groups so deep
@@ -34,25 +41,35 @@ abbrev pub composed_by : Board → ℕ → ℕ → List LayerRow → ℕ → ℕ
 composed_by board depth parent rows x y start = fold (laid_on board depth x y) start
     (filter (is_seen_in parent) rows)
 
--- in the chunk the rows of the parent were laid on one colour, going down into groups so deep
-abbrev pub IsComposed : Board → ℕ → ℕ → Chunk → Channels → Tone → List Channels → Type 0
-IsComposed board depth parent chunk start tone buffer =
-    (i : ℕ) → i < chunk.count → tone_at tone buffer i
-    ≡ compose depth (row_pixel board (chunk.x + i) chunk.y) (layers_of board.rows) parent start
+-- going down into groups so deep is deep enough for the picture
+abbrev pub IsDeep : Board → ℕ → Type 0
+IsDeep board depth =
+    (x y : ℕ) (start : Channels)
+    → compose depth (row_pixel board x y) (layers_of board.rows) 0 start
+    ≡ compose nesting_limit (row_pixel board x y) (layers_of board.rows) 0 start
 
--- in the chunk the row hides what it is laid on
-abbrev pub HidesBelow : Board → LayerRow → Chunk → Type 0
-HidesBelow board row chunk =
-    (depth i : ℕ) (under other : Channels) → i < chunk.count →
-    laid_on board depth (chunk.x + i) chunk.y under row
-    ≡ laid_on board depth (chunk.x + i) chunk.y other row
+-- in the tile the rows of the parent were laid on one colour, going down into groups so deep
+abbrev pub IsComposed : Board → ℕ → ℕ → TileAt → Channels → Tone → List Channels → Type 0
+IsComposed board depth parent tile start tone buffer =
+    (k : ℕ) → IsPlace board tile k → tone_at tone buffer k
+    ≡ compose depth (row_pixel board (tile_x tile.col k) (tile_y tile.row k))
+    (layers_of board.rows) parent start
 
--- in the chunk the rows of the list from this place on give what all rows give
-abbrev pub IsEnough : Board → ℕ → Chunk → ℕ → Type 0
-IsEnough board parent chunk first =
-    (depth i : ℕ) (start : Channels) → i < chunk.count →
-    composed_by board depth parent (drop first (layers_of board.rows)) (chunk.x + i) chunk.y start
-    ≡ composed_by board depth parent (layers_of board.rows) (chunk.x + i) chunk.y start
+-- in the tile the row hides what it is laid on
+abbrev pub HidesBelow : Board → LayerRow → TileAt → Type 0
+HidesBelow board row tile =
+    (depth k : ℕ) (under other : Channels) → IsPlace board tile k →
+    laid_on board depth (tile_x tile.col k) (tile_y tile.row k) under row
+    ≡ laid_on board depth (tile_x tile.col k) (tile_y tile.row k) other row
+
+-- in the tile the rows of the list from this place on give what all rows give
+abbrev pub IsEnough : Board → ℕ → TileAt → ℕ → Type 0
+IsEnough board parent tile first =
+    (depth k : ℕ) (start : Channels) → IsPlace board tile k →
+    composed_by board depth parent (drop first (layers_of board.rows)) (tile_x tile.col k)
+    (tile_y tile.row k) start
+    ≡ composed_by board depth parent (layers_of board.rows) (tile_x tile.col k)
+    (tile_y tile.row k) start
 
 -- the first pixels of the row y of the picture
 abbrev pub seen_first : Board → ℕ → ℕ → List Channels
@@ -61,7 +78,3 @@ seen_first board y count = map (λ x. seen board x y) (below count)
 -- the row y of the picture
 abbrev pub seen_row : Board → ℕ → List Channels
 seen_row board y = seen_first board y board.width
-
--- the pixels of a chunk of the picture
-abbrev pub seen_chunk : Board → Chunk → List Channels
-seen_chunk board chunk = map (λ i. seen board (chunk.x + i) chunk.y) (below chunk.count)

@@ -1,4 +1,5 @@
-pub mod Chunks
+pub mod Bands
 pub mod Composed
 pub mod Ends
 pub mod Texts
+pub mod Tones

@@ -1,129 +1,160 @@
-//! Layers composed a chunk of a row at a time.
+//! Layers composed a tile at a time.
 
 ghost use Rattle.std.specs.Prelude.{◌≡◌, ◌+◌, ◌*◌, ◌<◌, ◌≤◌, ℕ, Some, IsTrue, false, length};
+ghost use Rattle.dp_blend.specs.Blending.{blend};
+ghost use Rattle.dp_blend.specs.Color.{white};
 ghost use Rattle.dp_layers.specs.Layers.{row_of};
 ghost use Rattle.dp_layers.specs.Rows.{layers_of};
+ghost use Rattle.dp_pixels.specs.Tiles.{tile_x, tile_y};
 ghost use Rattle.dp_plain.specs.Board.{IsBoard};
 ghost use Rattle.dp_plain.specs.Picture.{is_seen_in, laid, seen};
-ghost use Rattle.dp_flat.specs.Chunks.{IsAsLong, stretch_at, tone_at};
-ghost use Rattle.dp_flat.specs.Composed.{HidesBelow, IsChunk, IsComposed, IsEnough, shown};
+ghost use Rattle.dp_flat.specs.Tones.{tone_at};
+ghost use Rattle.dp_flat.specs.Composed.{HidesBelow, IsComposed, IsDeep, IsEnough, IsOnBoard};
+ghost use Rattle.dp_flat.specs.Composed.{IsPlace, shown};
 
-use crate::chunk::{BUFFER, Chunk, Tone, hides, lay, lay_on_white, mode_of};
-use dp_blend::{Mode, Pixel, Stretch, fade, from8, of_argb};
+use crate::tone::{BUFFER, TileAt, Tone, hides, lay, lay_on_white, mode_of};
+use dp_blend::{Mode, Pixel, fade, from8, of_argb};
 use dp_layers::{LayerRow, rows_by_id};
 use dp_plain::BoardView;
 
 /// How deep groups are nested at most.
 pub(crate) const LEVELS: usize = 16;
 
-/// How many pixels of memory the drawing of chunks takes: a buffer for the root's rows, and one
-/// for each level of groups.
-pub(crate) const MEMORY: usize = (LEVELS + 1) * BUFFER;
-
-/// Draws a chunk of the picture, with the first pixels of this memory as its buffer.
-pub(crate) fn draw_chunk<V: BoardView>(board: &V, chunk: Chunk, memory: &mut [Pixel]) -> Tone
-    requires board { IsBoard (V.board board.now) }
-    requires chunk { IsChunk (V.board board.now) chunk }
-    requires long { length memory.old ≡ MEMORY }
-    ensures { (i : ℕ) → i < chunk.count
-        → tone_at result memory.new i ≡ seen (V.board board.now) (chunk.x + i) chunk.y }
+/// How deep groups are gone down into for the picture of a board: one level, for the root's rows,
+/// where no row is a group.
+pub(crate) fn depth_of<V: BoardView>(board: &V) -> usize
+    ensures few { result ≤ LEVELS }
+    ensures some { 1 ≤ result }
+    ensures deep { IsDeep (V.board board.now) result }
 {
-    let (levels, root) = memory.split_at_mut(LEVELS * BUFFER);
-    let count = chunk.count as usize;
-    let root = &mut root[..count];
-    let start = of_argb(board.background());
-    let whole = compose_chunk(board, LEVELS, 0, chunk, start, levels, root);
-    lay_on_white(whole, root, &mut levels[..count])
+    if board.rows().iter().any(|row| row.group) {
+        LEVELS
+    } else {
+        1
+    }
 }
 
-/// Lays the rows of the parent that aren't hidden on a chunk of the colour `start`, going down into
+/// Draws a tile of the picture, going down into groups so deep. Where the tone is mixed, the first
+/// pixels of this memory are its pixels.
+pub(crate) fn draw_tile<V: BoardView>(
+    board: &V,
+    depth: usize,
+    tile: TileAt,
+    memory: &mut [Pixel],
+) -> Tone
+    requires board { IsBoard (V.board board.now) }
+    requires tile { IsOnBoard (V.board board.now) tile }
+    requires some { 1 ≤ depth }
+    requires few { depth ≤ LEVELS }
+    requires deep { IsDeep (V.board board.now) depth }
+    requires long { length memory.old ≡ BUFFER * (depth + 1) }
+    ensures { (k : ℕ) → IsPlace (V.board board.now) tile k → tone_at result memory.new k
+        ≡ seen (V.board board.now) (tile_x tile.col k) (tile_y tile.row k) }
+{
+    let (levels, root) = memory.split_at_mut(depth * BUFFER);
+    let start = of_argb(board.background());
+    let whole = compose_tile(board, depth, 0, tile, start, levels, root);
+    finish_tile(whole, root, levels)
+}
+
+/// Lays what a tile shows on white, in the first buffer of `levels`.
+fn finish_tile(tone: Tone, pixels: &[Pixel], levels: &mut [Pixel]) -> Tone
+    requires pixels { length pixels.now ≡ BUFFER }
+    requires levels { BUFFER ≤ length levels.old }
+    ensures { (k : ℕ) → k < BUFFER → tone_at result levels.new k
+        ≡ blend Mode.Normal (tone_at tone pixels.now k) white }
+{
+    lay_on_white(tone, pixels, &mut levels[..BUFFER])
+}
+
+/// Lays the rows of the parent that aren't hidden on a tile of the colour `start`, going down into
 /// groups so deep. `levels` has a buffer for each level.
 #[cycle(composing)]
-fn compose_chunk<V: BoardView>(
+fn compose_tile<V: BoardView>(
     board: &V,
     depth: usize,
     parent: u16,
-    chunk: Chunk,
+    tile: TileAt,
     start: Pixel,
     levels: &mut [Pixel],
     buffer: &mut [Pixel],
 ) -> Tone
     requires board { IsBoard (V.board board.now) }
-    requires chunk { IsChunk (V.board board.now) chunk }
-    requires long { length buffer.old ≡ chunk.count }
+    requires tile { IsOnBoard (V.board board.now) tile }
+    requires long { length buffer.old ≡ BUFFER }
     requires levels { length levels.old ≡ BUFFER * depth }
-    ensures { IsComposed (V.board board.now) depth parent chunk start result buffer.new }
+    ensures { IsComposed (V.board board.now) depth parent tile start result buffer.new }
 {
     let mut tone = Tone::Solid(start);
     if depth == 0 {
         return tone;
     }
     rows_by_id();
-    let first = first_to_lay(board, parent, chunk);
+    let first = first_to_lay(board, parent, tile);
     for row in &board.rows()[first..] {
         if is_seen_in(parent, row) {
-            tone = lay_row(board, depth - 1, row, chunk, tone, levels, buffer);
+            tone = lay_row(board, depth - 1, row, tile, tone, levels, buffer);
         }
     }
     tone
 }
 
-/// Lays a row of the list on a chunk: a paint row by its pixels, and a group by what its own rows
+/// Lays a row of the list on a tile: a paint row by its pixels, and a group by what its own rows
 /// make from clear.
 #[cycle(composing)]
 fn lay_row<V: BoardView>(
     board: &V,
     depth: usize,
     row: &LayerRow,
-    chunk: Chunk,
+    tile: TileAt,
     under: Tone,
     levels: &mut [Pixel],
     buffer: &mut [Pixel],
 ) -> Tone
     requires board { IsBoard (V.board board.now) }
     requires known { row_of (layers_of (V.board board.now).rows) row.now.id ≡ Some row.now }
-    requires chunk { IsChunk (V.board board.now) chunk }
-    requires long { length buffer.old ≡ chunk.count }
+    requires tile { IsOnBoard (V.board board.now) tile }
+    requires long { length buffer.old ≡ BUFFER }
     requires levels { length levels.old ≡ BUFFER * (depth + 1) }
-    ensures { (i : ℕ) → i < chunk.count → tone_at result buffer.new i ≡ laid row.now
-        (shown (V.board board.now) depth row.now (chunk.x + i) chunk.y)
-        (tone_at under buffer.old i) }
+    ensures { (k : ℕ) → IsPlace (V.board board.now) tile k → tone_at result buffer.new k
+        ≡ laid row.now
+        (shown (V.board board.now) depth row.now (tile_x tile.col k) (tile_y tile.row k))
+        (tone_at under buffer.old k) }
 {
-    if row.group {
-        let (source, deeper) = levels.split_at_mut(BUFFER);
-        let source = &mut source[..buffer.len()];
-        let tone = compose_chunk(board, depth, row.id, chunk, Pixel::CLEAR, deeper, source);
-        lay(row, tone.shown(source), under, buffer)
+    let (source, deeper) = levels.split_at_mut(BUFFER);
+    let tone = if row.group {
+        compose_tile(board, depth, row.id, tile, Pixel::CLEAR, deeper, source)
     } else {
-        lay(row, paint_stretch(board, row, chunk), under, buffer)
-    }
+        read_tile(board, row, tile, source)
+    };
+    lay(row, tone.shown(source), under, buffer)
 }
 
-/// The stretch of a paint row.
-fn paint_stretch<'a, V: BoardView>(board: &'a V, row: &LayerRow, chunk: Chunk) -> Stretch<'a>
+/// Reads the tile of a paint row into a buffer.
+fn read_tile<V: BoardView>(board: &V, row: &LayerRow, tile: TileAt, buffer: &mut [Pixel]) -> Tone
     requires known { row_of (layers_of (V.board board.now).rows) row.now.id ≡ Some row.now }
     requires paint { row.now.group ≡ false }
-    requires chunk { IsChunk (V.board board.now) chunk }
-    ensures shows { (depth i : ℕ) → i < chunk.count → stretch_at result i
-        ≡ shown (V.board board.now) depth row.now (chunk.x + i) chunk.y }
-    ensures long { (n : ℕ) → n ≡ chunk.count → IsAsLong result n }
+    requires tile { IsOnBoard (V.board board.now) tile }
+    requires long { length buffer.old ≡ BUFFER }
+    ensures { (depth k : ℕ) → IsPlace (V.board board.now) tile k → tone_at result buffer.new k
+        ≡ shown (V.board board.now) depth row.now (tile_x tile.col k) (tile_y tile.row k) }
 {
-    board.stretch(row.id, chunk.x, chunk.y, chunk.count)
+    Tone::of(board.tile(row.id, tile.col, tile.row, buffer))
 }
 
 /// The place in the list from which on rows are laid: that of the topmost row of the parent that
 /// hides what is below it, or 0.
-fn first_to_lay<V: BoardView>(board: &V, parent: u16, chunk: Chunk) -> usize
+fn first_to_lay<V: BoardView>(board: &V, parent: u16, tile: TileAt) -> usize
     requires board { IsBoard (V.board board.now) }
-    requires chunk { IsChunk (V.board board.now) chunk }
+    requires tile { IsOnBoard (V.board board.now) tile }
     ensures inside { result ≤ length (layers_of (V.board board.now).rows) }
-    ensures enough { IsEnough (V.board board.now) parent chunk result }
+    ensures enough { IsEnough (V.board board.now) parent tile result }
 {
     rows_by_id();
     let rows = board.rows();
     for k in (0..rows.len()).rev() {
         let row = &rows[k];
-        if is_seen_in(parent, row) && hides_below(board, row, chunk) {
+        if is_seen_in(parent, row) && hides_below(board, row, tile) {
             return k;
         }
     }
@@ -131,10 +162,10 @@ fn first_to_lay<V: BoardView>(board: &V, parent: u16, chunk: Chunk) -> usize
 }
 
 /// Whether a row of the list hides what is below it in its parent.
-fn hides_below<V: BoardView>(board: &V, row: &LayerRow, chunk: Chunk) -> bool
+fn hides_below<V: BoardView>(board: &V, row: &LayerRow, tile: TileAt) -> bool
     requires known { row_of (layers_of (V.board board.now).rows) row.now.id ≡ Some row.now }
-    requires chunk { IsChunk (V.board board.now) chunk }
-    ensures { IsTrue result → HidesBelow (V.board board.now) row.now chunk }
+    requires tile { IsOnBoard (V.board board.now) tile }
+    ensures { IsTrue result → HidesBelow (V.board board.now) row.now tile }
 {
     let mode = mode_of(row);
     if mode == Mode::Replace {
@@ -143,9 +174,9 @@ fn hides_below<V: BoardView>(board: &V, row: &LayerRow, chunk: Chunk) -> bool
     if row.group || mode != Mode::Normal || row.opacity < 255 {
         return false;
     }
-    match paint_stretch(board, row, chunk) {
-        Stretch::Solid(color) => hides(mode, fade(color, from8(row.opacity))),
-        Stretch::Pixels(_) => false,
+    match board.tile_color(row.id, tile.col, tile.row) {
+        Some(color) => hides(mode, fade(color, from8(row.opacity))),
+        None => false,
     }
 }
 

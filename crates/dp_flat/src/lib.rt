@@ -1,17 +1,18 @@
 //! The picture of a board, as one pixel and as the texts of Netpbm files.
 //!
-//! A chunk of a row is composed at a time, at most 64 pixels, with a buffer for each level of
-//! groups. What is of one colour throughout a chunk is blended once, and what is hidden is passed
-//! over.
+//! A tile of 64 by 64 pixels is composed at a time, with a buffer for each level of groups. What is
+//! of one colour throughout a tile is blended once, and what is hidden is passed over. The tiles of
+//! a row of tiles are kept as bytes, and then written row by row.
 //!
 //! The rule: docs/protocol.md, "The picture".
 #![tactic(auto)]
 
-mod chunk;
+mod band;
 mod compose;
 mod picture;
 mod pixel;
 mod text;
+mod tone;
 
 pub use picture::{PictureEnd, write_p3, write_p6};
 pub use pixel::flatten;

@@ -2,23 +2,26 @@
 //!
 //! The rule: docs/protocol.md, "The picture".
 
-ghost use Rattle.std.specs.Prelude.{◌≡◌, ◌+◌, ◌<◌, ◌≤◌, ◌++◌, length, IsErrOf, OnOk, OnErr};
+ghost use Rattle.std.specs.Prelude.{◌≡◌, ◌+◌, ◌*◌, ◌/◌, ◌<◌, ◌≤◌, ◌++◌, length};
+ghost use Rattle.std.specs.Prelude.{IsErrOf, OnOk, OnErr};
 ghost use Rattle.std.specs.List.{flat_map};
 ghost use Rattle.std.specs.Io.KnownBytes.{Appends, Keeps};
 ghost use Rattle.arrayvec.specs.ArrayVec.{array_vec_len};
 ghost use Rattle.dp_io.specs.Faults.{HasCause, any_fault};
 ghost use Rattle.dp_io.specs.Streams.{GrowsByPrefix};
-ghost use Rattle.dp_plain.specs.Board.{IsBoard};
+ghost use Rattle.dp_pixels.specs.Tiles.{tiles_along};
 ghost use Rattle.dp_plain.specs.Picture.{p3, p6, picture_text};
-ghost use Rattle.dp_flat.specs.Composed.{IsChunk, seen_chunk, seen_row};
+ghost use Rattle.dp_flat.specs.Bands.{IsBand, chunk_pixels, rgb_text};
+ghost use Rattle.dp_flat.specs.Composed.{IsDeep, seen_row};
 ghost use Rattle.dp_flat.specs.Ends.{is_sink_fault};
 ghost use Rattle.dp_flat.specs.Texts.{GrowsBefore, name_of, pixel_text_of};
 
-use crate::chunk::{COLUMNS, Chunk};
-use crate::compose::{MEMORY, draw_chunk};
+use crate::band::{Rgb, draw_band, tiles_along};
+use crate::compose::{LEVELS, depth_of};
 use crate::text::{
     CHUNK_BYTES, Format, PIECE_BYTES, Piece, SolidText, head_of, push_all, push_chunk,
 };
+use crate::tone::{BUFFER, SIDE};
 use dp_blend::Pixel;
 use dp_io::{Failed, Sink, put_all};
 use dp_plain::BoardView;
@@ -57,8 +60,9 @@ impl From<AllocError> for PictureEnd {
 ///
 /// # Errors
 ///
-/// `Memory` where memory for 17 times 64 pixels is refused: nothing was written. `Failed` where the
-/// sink failed: a prefix of the file was written.
+/// `Memory` where memory for two tiles, or for 17 where a row is a group, or for the bytes of a row
+/// of tiles is refused: nothing was written. `Failed` where the sink failed: a prefix of the file
+/// was written.
 pub fn write_p6<V: BoardView, S: Sink>(
     alloc: Global,
     board: &V,
@@ -79,8 +83,9 @@ pub fn write_p6<V: BoardView, S: Sink>(
 ///
 /// # Errors
 ///
-/// `Memory` where memory for 17 times 64 pixels is refused: nothing was written. `Failed` where the
-/// sink failed: a prefix of the file was written.
+/// `Memory` where memory for two tiles, or for 17 where a row is a group, or for the bytes of a row
+/// of tiles is refused: nothing was written. `Failed` where the sink failed: a prefix of the file
+/// was written.
 pub fn write_p3<V: BoardView, S: Sink>(
     alloc: Global,
     board: &V,
@@ -113,19 +118,39 @@ fn write_picture<V: BoardView, S: Sink>(
         → S.faults out.new ≡ S.faults out.old }
     ensures cause { HasCause is_sink_fault (S.faults out.old) (S.faults out.new) result }
 {
-    let mut memory = vec![in alloc; Pixel::CLEAR; MEMORY]?;
-    put_picture(format, board, &mut memory, out)?;
+    let cols = tiles_along(board.width()) as usize;
+    let depth = depth_of(board);
+    let mut memory = vec![in alloc; Pixel::CLEAR; BUFFER * (depth + 1)]?;
+    let mut colors = vec![in alloc; None; cols]?;
+    let mut bytes = vec![in alloc; Rgb::BLACK; BUFFER * cols]?;
+    put_picture(
+        format,
+        board,
+        depth,
+        &mut memory,
+        &mut colors,
+        &mut bytes,
+        out,
+    )?;
     Ok(())
 }
 
-/// Writes the picture of the board in the format, a chunk of a row at a time in this memory.
+/// Writes the picture of the board in the format, a row of tiles at a time in this memory.
 fn put_picture<V: BoardView, S: Sink>(
     format: Format,
     board: &V,
+    depth: usize,
     memory: &mut [Pixel],
+    colors: &mut [Option<Rgb>],
+    bytes: &mut [Rgb],
     out: &mut S,
 ) -> Result<(), Failed>
-    requires { length memory.old ≡ MEMORY }
+    requires some { 1 ≤ depth }
+    requires few { depth ≤ LEVELS }
+    requires deep { IsDeep (V.board board.now) depth }
+    requires long { length memory.old ≡ BUFFER * (depth + 1) }
+    requires colors { length colors.old ≡ tiles_along (V.board board.now).width }
+    requires bytes { length bytes.old ≡ BUFFER * tiles_along (V.board board.now).width }
     ensures written { OnOk result (Appends (S.held out.old) (S.held out.new)
         (picture_text (name_of format) (pixel_text_of format) (V.board board.now))) }
     ensures prefix { GrowsByPrefix (S.held out.old) (S.held out.new)
@@ -133,11 +158,14 @@ fn put_picture<V: BoardView, S: Sink>(
     ensures cause { HasCause any_fault (S.faults out.old) (S.faults out.new) result }
 {
     let (width, height) = (board.width(), board.height());
-    let mut solid = SolidText::new(format, Pixel::WHITE);
+    let mut solid = SolidText::new(format, Rgb::BLACK);
     let mut piece = Piece::new();
     push_all(head_of(format, width, height).as_bytes(), &mut piece);
     for y in 0..height {
-        put_row(format, board, y, memory, &mut solid, &mut piece, out)?;
+        if y % SIDE == 0 {
+            draw_band(board, depth, y / SIDE, memory, colors, bytes);
+        }
+        put_row(format, board, y, colors, bytes, &mut solid, &mut piece, out)?;
     }
     put_all(out, piece.as_slice())
 }
@@ -147,13 +175,16 @@ fn put_row<V: BoardView, S: Sink>(
     format: Format,
     board: &V,
     y: u32,
-    memory: &mut [Pixel],
+    colors: &[Option<Rgb>],
+    bytes: &[Rgb],
     solid: &mut SolidText,
     piece: &mut Piece,
     out: &mut S,
 ) -> Result<(), Failed>
     requires inside { y < (V.board board.now).height }
-    requires long { length memory.old ≡ MEMORY }
+    requires colors { length colors.now ≡ tiles_along (V.board board.now).width }
+    requires bytes { length bytes.now ≡ BUFFER * tiles_along (V.board board.now).width }
+    requires band { IsBand (V.board board.now) (y / 64) colors.now bytes.now }
     ensures before { OnOk result (GrowsBefore (S.held out.old) (S.held out.new) piece.new.items
         (piece.old.items ++ flat_map (pixel_text_of format) (seen_row (V.board board.now) y))) }
     ensures prefix { OnErr result (GrowsByPrefix (S.held out.old) (S.held out.new)
@@ -161,45 +192,33 @@ fn put_row<V: BoardView, S: Sink>(
     ensures cause { HasCause any_fault (S.faults out.old) (S.faults out.new) result }
 {
     let width = board.width();
-    for column in 0..width.div_ceil(COLUMNS) {
-        let x = column * COLUMNS;
-        let count = COLUMNS.min(width - x);
-        put_chunk(
-            format,
-            board,
-            Chunk { x, y, count },
-            memory,
-            solid,
-            piece,
-            out,
-        )?;
+    for col in 0..tiles_along(width) {
+        let start = col as usize * BUFFER + (y % SIDE) as usize * SIDE as usize;
+        let count = SIDE.min(width - col * SIDE) as usize;
+        let pixels = &bytes[start..start + count];
+        put_chunk(format, colors[col as usize], pixels, solid, piece, out)?;
     }
     Ok(())
 }
 
 /// Adds the texts of the pixels of a chunk to the piece, after the piece was written if it is full.
-fn put_chunk<V: BoardView, S: Sink>(
+fn put_chunk<S: Sink>(
     format: Format,
-    board: &V,
-    chunk: Chunk,
-    memory: &mut [Pixel],
+    color: Option<Rgb>,
+    pixels: &[Rgb],
     solid: &mut SolidText,
     piece: &mut Piece,
     out: &mut S,
 ) -> Result<(), Failed>
-    requires board { IsBoard (V.board board.now) }
-    requires chunk { IsChunk (V.board board.now) chunk }
-    requires long { length memory.old ≡ MEMORY }
+    requires few { length pixels.now ≤ 64 }
     ensures before { OnOk result (GrowsBefore (S.held out.old) (S.held out.new) piece.new.items
-        (piece.old.items
-        ++ flat_map (pixel_text_of format) (seen_chunk (V.board board.now) chunk))) }
+        (piece.old.items ++ flat_map (rgb_text format) (chunk_pixels color pixels.now))) }
     ensures prefix { OnErr result (GrowsByPrefix (S.held out.old) (S.held out.new)
         piece.old.items) }
     ensures cause { HasCause any_fault (S.faults out.old) (S.faults out.new) result }
 {
     make_room(piece, out)?;
-    let tone = draw_chunk(board, chunk, memory);
-    push_chunk(format, tone, &memory[..chunk.count as usize], solid, piece);
+    push_chunk(format, color, pixels, solid, piece);
     Ok(())
 }
 

@@ -7,8 +7,8 @@ ghost use Rattle.dp_layers.specs.Rows.{layers_of};
 ghost use Rattle.dp_plain.specs.Picture.{compose, row_pixel, seen};
 ghost use Rattle.dp_flat.specs.Composed.{shown};
 
-use crate::chunk::mode_of;
 use crate::compose::{LEVELS, is_seen_in};
+use crate::tone::mode_of;
 use dp_blend::{Mode, Pixel, blend, fade, from8, of_argb};
 use dp_layers::LayerRow;
 use dp_plain::BoardView;

@@ -4,7 +4,7 @@ ghost use Rattle.std.specs.Prelude.{◌≡◌, ◌≤◌, if◌then◌else◌};
 ghost use Rattle.dp_blend.specs.Color.{of_argb};
 
 use crate::{PictureEnd, flatten, write_p3, write_p6};
-use dp_blend::{Mode, Pixel, Stretch, length_of_canvas, of_argb, pixel_of_canvas, row_fill, to8};
+use dp_blend::{Mode, Pixel, length_of_canvas, of_argb, pixel_of_canvas, row_fill, to8};
 use dp_io::MemSink;
 use dp_layers::{LayerRow, Tree, contents_ride_along};
 use dp_msg_draw::{Draw, Title};
@@ -74,11 +74,19 @@ impl BoardView for RedAndBlue {
         row_fill(Mode::Replace, color_of(is_red), part);
     }
 
-    fn stretch(&self, id: u16, _x: u32, _y: u32, _count: u32) -> Stretch<'_> {
+    fn tile_color(&self, id: u16, _col: u32, _row: u32) -> Option<Pixel> {
         contents_ride_along::<bool, [Pixel; 1]>();
         pixel_of_canvas();
         let is_red = self.tree.content(id).copied().unwrap_or(false);
-        Stretch::Solid(color_of(is_red))
+        Some(color_of(is_red))
+    }
+
+    fn tile(&self, id: u16, _col: u32, _row: u32, buffer: &mut [Pixel]) -> Option<Pixel> {
+        contents_ride_along::<bool, [Pixel; 1]>();
+        pixel_of_canvas();
+        let is_red = self.tree.content(id).copied().unwrap_or(false);
+        row_fill(Mode::Replace, color_of(is_red), buffer);
+        None
     }
 
     fn pixel(&self, id: u16, x: u32, y: u32) -> Option<Pixel> {

@@ -1,22 +1,24 @@
 //! The texts of pixels, in pieces.
 
-ghost use Rattle.std.specs.Prelude.{◌≡◌, ◌+◌, ◌*◌, ◌≤◌, ◌++◌, length, codes, decimal, replicate};
+ghost use Rattle.std.specs.Prelude.{◌≡◌, ◌+◌, ◌*◌, ◌≤◌, ◌++◌, length, replicate};
 ghost use Rattle.std.specs.List.{flat_map};
 ghost use Rattle.arrayvec.specs.ArrayVec.{array_vec_len};
-ghost use Rattle.dp_plain.specs.Picture.{head, rgb};
-ghost use Rattle.dp_flat.specs.Chunks.{tone_pixels};
-ghost use Rattle.dp_flat.specs.Texts.{name_of, pixel_text_of};
+ghost use Rattle.dp_plain.specs.Picture.{head};
+ghost use Rattle.dp_flat.specs.Bands.{chunk_pixels, rgb_text};
+ghost use Rattle.dp_flat.specs.Texts.{name_of};
 
-use crate::chunk::{BUFFER, Tone};
+use crate::band::Rgb;
 use arrayvec::{ArrayString, ArrayVec};
-use dp_blend::{Pixel, to8};
 use itoa::Buffer;
 
 /// The most bytes of a pixel: those of the line `255 255 255`.
 const PIXEL_BYTES: usize = 12;
 
+/// The most pixels of a chunk: those of a row of a tile.
+const CHUNK: usize = 64;
+
 /// The most bytes of a chunk.
-pub(crate) const CHUNK_BYTES: usize = BUFFER * PIXEL_BYTES;
+pub(crate) const CHUNK_BYTES: usize = CHUNK * PIXEL_BYTES;
 
 /// The most bytes that are written at once.
 pub(crate) const PIECE_BYTES: usize = 64 * CHUNK_BYTES;
@@ -64,19 +66,19 @@ pub(crate) fn head_of(format: Format, width: u32, height: u32) -> ArrayString<96
 #[derive(Drop)]
 pub(crate) struct SolidText {
     format: Format,
-    color: Pixel,
+    color: Rgb,
     bytes: ArrayVec<u8, CHUNK_BYTES>,
-    ghost whole: { bytes.items ≡ flat_map (pixel_text_of format) (replicate 64 color) },
+    ghost whole: { bytes.items ≡ flat_map (rgb_text format) (replicate 64 color) },
 }
 
 impl SolidText {
     /// The text of a chunk of this colour.
-    pub(crate) fn new(format: Format, color: Pixel) -> SolidText
+    pub(crate) fn new(format: Format, color: Rgb) -> SolidText
         ensures format { result.format ≡ format }
         ensures color { result.color ≡ color }
     {
         let mut bytes = ArrayVec::new();
-        push_repeated(format, color, BUFFER, &mut bytes);
+        push_repeated(format, color, CHUNK, &mut bytes);
         SolidText {
             format,
             color,
@@ -85,8 +87,8 @@ impl SolidText {
     }
 
     /// The bytes of the text of a chunk of this colour, made anew where another one is kept.
-    fn bytes_of(&mut self, format: Format, color: Pixel) -> &[u8]
-        ensures value { result.now ≡ flat_map (pixel_text_of format) (replicate 64 color) }
+    fn bytes_of(&mut self, format: Format, color: Rgb) -> &[u8]
+        ensures value { result.now ≡ flat_map (rgb_text format) (replicate 64 color) }
         ensures short { length result.now ≤ CHUNK_BYTES }
     {
         if self.color != color || self.format != format {
@@ -96,33 +98,34 @@ impl SolidText {
     }
 }
 
-/// Adds the texts of the pixels of a chunk of this tone, with this buffer.
+/// Adds the texts of the pixels of a chunk. It is of one colour, if one is given, and else has
+/// these pixels.
 pub(crate) fn push_chunk(
     format: Format,
-    tone: Tone,
-    buffer: &[Pixel],
+    color: Option<Rgb>,
+    pixels: &[Rgb],
     solid: &mut SolidText,
     piece: &mut Piece,
 )
-    requires few { length buffer.now ≤ BUFFER }
+    requires few { length pixels.now ≤ CHUNK }
     requires room { array_vec_len piece.old + CHUNK_BYTES ≤ PIECE_BYTES }
     ensures { piece.new.items
-        ≡ piece.old.items ++ flat_map (pixel_text_of format) (tone_pixels tone buffer.now) }
+        ≡ piece.old.items ++ flat_map (rgb_text format) (chunk_pixels color pixels.now) }
 {
-    match tone {
-        Tone::Solid(color) => push_solid(format, color, buffer.len(), solid, piece),
-        Tone::Mixed => push_pixels(format, buffer, piece),
+    match color {
+        Some(color) => push_solid(format, color, pixels.len(), solid, piece),
+        None => push_pixels(format, pixels, piece),
     }
 }
 
 /// Adds the texts of the pixels of a chunk of one colour. That of a whole chunk is copied.
-fn push_solid(format: Format, color: Pixel, count: usize, solid: &mut SolidText, piece: &mut Piece)
-    requires few { count ≤ BUFFER }
+fn push_solid(format: Format, color: Rgb, count: usize, solid: &mut SolidText, piece: &mut Piece)
+    requires few { count ≤ CHUNK }
     requires room { array_vec_len piece.old + CHUNK_BYTES ≤ PIECE_BYTES }
     ensures { piece.new.items
-        ≡ piece.old.items ++ flat_map (pixel_text_of format) (replicate count color) }
+        ≡ piece.old.items ++ flat_map (rgb_text format) (replicate count color) }
 {
-    if count == BUFFER {
+    if count == CHUNK {
         push_all(solid.bytes_of(format, color), piece);
     } else {
         push_repeated(format, color, count, piece);
@@ -133,19 +136,18 @@ fn push_solid(format: Format, color: Pixel, count: usize, solid: &mut SolidText,
 #[tactic(auto, using(crate::proofs::Rows::copies_text))]
 fn push_repeated<const CAP: usize>(
     format: Format,
-    pixel: Pixel,
+    pixel: Rgb,
     count: usize,
     piece: &mut ArrayVec<u8, CAP>,
 )
-    requires few { count ≤ BUFFER }
+    requires few { count ≤ CHUNK }
     requires room { array_vec_len piece.old + CHUNK_BYTES ≤ CAP }
     ensures { piece.new.items
-        ≡ piece.old.items ++ flat_map (pixel_text_of format) (replicate count pixel) }
+        ≡ piece.old.items ++ flat_map (rgb_text format) (replicate count pixel) }
 {
-    let [red, green, blue] = bytes_of(pixel);
     match format {
-        Format::P6 => push_copies(&[red, green, blue], count, piece),
-        Format::P3 => push_copies(line_of(red, green, blue).as_bytes(), count, piece),
+        Format::P6 => push_copies(&[pixel.red, pixel.green, pixel.blue], count, piece),
+        Format::P3 => push_copies(line_of(pixel).as_bytes(), count, piece),
     }
 }
 
@@ -162,10 +164,10 @@ fn push_copies<const CAP: usize>(bytes: &[u8], count: usize, piece: &mut ArrayVe
 }
 
 /// Adds the texts of some pixels.
-fn push_pixels(format: Format, pixels: &[Pixel], piece: &mut Piece)
-    requires few { length pixels.now ≤ BUFFER }
+fn push_pixels(format: Format, pixels: &[Rgb], piece: &mut Piece)
+    requires few { length pixels.now ≤ CHUNK }
     requires room { array_vec_len piece.old + CHUNK_BYTES ≤ PIECE_BYTES }
-    ensures { piece.new.items ≡ piece.old.items ++ flat_map (pixel_text_of format) pixels.now }
+    ensures { piece.new.items ≡ piece.old.items ++ flat_map (rgb_text format) pixels.now }
 {
     for pixel in pixels {
         push_pixel(format, *pixel, piece);
@@ -174,24 +176,15 @@ fn push_pixels(format: Format, pixels: &[Pixel], piece: &mut Piece)
 
 /// Adds the text of a pixel.
 #[inline]
-fn push_pixel(format: Format, pixel: Pixel, piece: &mut Piece)
+fn push_pixel(format: Format, pixel: Rgb, piece: &mut Piece)
     requires { array_vec_len piece.old + PIXEL_BYTES ≤ PIECE_BYTES }
-    ensures items { piece.new.items ≡ piece.old.items ++ pixel_text_of format pixel }
+    ensures items { piece.new.items ≡ piece.old.items ++ rgb_text format pixel }
     ensures short { array_vec_len piece.new ≤ array_vec_len piece.old + PIXEL_BYTES }
 {
-    let [red, green, blue] = bytes_of(pixel);
     match format {
-        Format::P6 => push_few(&[red, green, blue], piece),
-        Format::P3 => push_few(line_of(red, green, blue).as_bytes(), piece),
+        Format::P6 => push_few(&[pixel.red, pixel.green, pixel.blue], piece),
+        Format::P3 => push_few(line_of(pixel).as_bytes(), piece),
     }
-}
-
-/// The bytes of a pixel: red, green and blue.
-#[inline]
-fn bytes_of(pixel: Pixel) -> [u8; 3]
-    ensures { result ≡ rgb pixel }
-{
-    [to8(pixel.r()), to8(pixel.g()), to8(pixel.b())]
 }
 
 /// Adds the bytes, all at once.
@@ -215,19 +208,18 @@ fn push_few<const CAP: usize>(bytes: &[u8], piece: &mut ArrayVec<u8, CAP>)
     }
 }
 
-/// The line of a pixel of these bytes.
-fn line_of(red: u8, green: u8, blue: u8) -> ArrayString<PIXEL_BYTES>
-    ensures value { result.bytes
-        ≡ decimal red ++ codes " " ++ decimal green ++ codes " " ++ decimal blue ++ codes "\n" }
+/// The line of a pixel.
+fn line_of(pixel: Rgb) -> ArrayString<PIXEL_BYTES>
+    ensures value { result.bytes ≡ rgb_text Format.P3 pixel }
     ensures short { length result.bytes ≤ PIXEL_BYTES }
 {
     let mut digits = Buffer::new();
     let mut line = ArrayString::new();
-    line.push_str(digits.format(red));
+    line.push_str(digits.format(pixel.red));
     line.push_str(" ");
-    line.push_str(digits.format(green));
+    line.push_str(digits.format(pixel.green));
     line.push_str(" ");
-    line.push_str(digits.format(blue));
+    line.push_str(digits.format(pixel.blue));
     line.push_str("\n");
     line
 }

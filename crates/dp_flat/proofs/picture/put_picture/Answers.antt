@@ -1,13 +1,31 @@
 -- Each row's text stands after those above, and the last piece ends the text.
-use Rattle.std.proofs.Common.{◌≡◌, ◌++◌, subst, ◌∙◌, arith}
+use Rattle.std.proofs.Common.{◌≡◌, ◌+◌, ◌-◌, ◌/◌, ◌++◌, refl, subst, ◌∙◌, arith}
 use Rattle.std.specs.List.{flat_map}
 use Rattle.dp_blend.specs.Canvas.{canvas_of}
 use Rattle.dp_plain.specs.Picture.{head, seen}
 use Rattle.dp_flat.specs.Composed.{seen_row}
 use Rattle.dp_flat.specs.Texts.{GrowsBefore, name_of, pixel_text_of}
+use Rattle.dp_flat.proofs.Bands.{band_same}
 use Rattle.dp_flat.proofs.Prefixes.{before_on, before_failed, last_written, last_cut}
 use Rattle.dp_flat.proofs.Rows.{text_more, text_failed, text_all}
 use Rattle.dp_flat.proofs.picture.put_picture.Goals as goal
+use Rattle.dp_flat.proofs.picture.put_picture.Goals.{then-y-eq0, else-y-eq0}
+
+pub put_row-requires : goal.put_row-requires
+put_row-requires g c =
+    let board = g.V.BoardView.board c.args.board.now in
+    let y = c.loop-y.y in
+    record {
+      inside = omega (arith, c.height-height.ensures.value);
+      colors = omega arith;
+      bytes = omega arith;
+      band = elim c.if-y-eq0.branch [
+        | then-y-eq0 w ↦ band_same board (y / 64) (y / 64) _ _ _ _ w.draw_band.ensures refl
+            w.colors-is w.bytes-is
+        | else-y-eq0 w ↦ band_same board ((y - 1) / 64) (y / 64) _ _ _ _
+            (c.loop-y.invariant.band (omega arith)) (omega arith) w.colors-is w.bytes-is
+      ];
+    }
 
 pub returns-in_err-put_row-clause-prefix : goal.returns-in_err-put_row-clause-prefix
 returns-in_err-put_row-clause-prefix g c =
@@ -26,6 +44,7 @@ returns-in_err-put_row-clause-prefix g c =
 pub loop-y-preserved : goal.loop-y-preserved
 loop-y-preserved g c =
     let board = g.V.BoardView.board c.args.board.now in
+    let y = c.loop-y.y in
     let held = g.S.Sink.held in
     let text = pixel_text_of c.args.format in
     let front = head (name_of c.args.format) board.width board.height in
@@ -38,6 +57,12 @@ loop-y-preserved g c =
           (flat_map text (seen_row board c.loop-y.y))
           c.put_row.new.piece.items
           c.loop-y.invariant.before c.in_ok-put_row.ensures.before);
+      band = λ some. elim c.if-y-eq0.branch [
+        | then-y-eq0 w ↦ band_same board (y / 64) ((y + 1 - 1) / 64) _ _ _ _ w.draw_band.ensures
+            (omega arith) w.colors-is w.bytes-is
+        | else-y-eq0 w ↦ band_same board ((y - 1) / 64) ((y + 1 - 1) / 64) _ _ _ _
+            (c.loop-y.invariant.band (omega arith)) (omega arith) w.colors-is w.bytes-is
+      ];
       kept = c.in_ok-put_row.ensures.cause.kept ∙ c.loop-y.invariant.kept;
     }
 

@@ -2,13 +2,13 @@ use Rattle.std.proofs.Common.{◌≡◌, ◌+◌, ◌*◌, ◌≤◌, ◌++◌, 
 use Rattle.std.specs.List.{flat_map}
 use Rattle.arrayvec.specs.ArrayVec.{array_vec_len}
 use Rattle.dp_flat.specs.declared.text.TheConstants.{PIXEL_BYTES}
-use Rattle.dp_flat.specs.Texts.{pixel_text_of}
+use Rattle.dp_flat.specs.Bands.{rgb_text}
 use Rattle.dp_flat.proofs.text.push_pixels.Given as goal
 
 -- the texts of the pixels before the index are added
 abbrev pub invariant-loop-pixel : goal.invariant-loop-pixel
 invariant-loop-pixel l = record {
-  text : l.piece.items ≡ l.initial.piece.items ++ flat_map (pixel_text_of l.format)
+  text : l.piece.items ≡ l.initial.piece.items ++ flat_map (rgb_text l.format)
       (take l.pixel-index l.pixels);
   short : array_vec_len l.piece ≤ array_vec_len l.initial.piece + PIXEL_BYTES * l.pixel-index;
 }

@@ -1,20 +1,15 @@
--- What a chunk of a row of pixels shows at each of its places.
-use Rattle.std.specs.Prelude.{◌≡◌, ℕ, List, length, replicate, slice_index_or, ⊤}
+-- What a tile shows at each of its places.
+use Rattle.std.specs.Prelude.{◌≡◌, ℕ, List, length, slice_index_or, ⊤}
 use Rattle.dp_blend.specs.Color.{Channels, clear}
 use Rattle.dp_blend.specs.declared.stretch.Stretch.{Stretch}
 use Rattle.dp_blend.specs.declared.stretch.Stretch.TheVariants as stretches
-use Rattle.dp_flat.specs.declared.chunk.Tone.{Tone}
-use Rattle.dp_flat.specs.declared.chunk.Tone.TheVariants as tones
+use Rattle.dp_flat.specs.declared.tone.Tone.{Tone}
+use Rattle.dp_flat.specs.declared.tone.Tone.TheVariants as tones
 
--- what a chunk of this tone, with this buffer, shows at a place
+-- what a tile of this tone, with this buffer, shows at a place
 abbrev pub tone_at : Tone → List Channels → ℕ → Channels
 tone_at (tones.Solid color) buffer i = color
 tone_at tones.Mixed buffer i = slice_index_or buffer i clear
-
--- the pixels of a chunk of this tone, with this buffer
-abbrev pub tone_pixels : Tone → List Channels → List Channels
-tone_pixels (tones.Solid color) buffer = replicate (length buffer) color
-tone_pixels tones.Mixed buffer = buffer
 
 -- what a stretch shows at a place
 abbrev pub stretch_at : Stretch → ℕ → Channels

@@ -1,6 +1,6 @@
 use Rattle.std.proofs.Common.{All, take}
 use Rattle.dp_blend.specs.Color.{IsPixel}
-use Rattle.dp_flat.proofs.chunk.known_pixels.Given as goal
+use Rattle.dp_flat.proofs.tone.known_pixels.Given as goal
 
 -- those before the index are pixels
 abbrev pub invariant-loop-pixel : goal.invariant-loop-pixel

@@ -3,7 +3,7 @@ use Rattle.std.proofs.Common.{All, subst, arith}
 use Rattle.std.proofs.lemmas.List.{take_all}
 use Rattle.std.proofs.lemmas.List.Elements.{All-more}
 use Rattle.dp_blend.specs.Color.{IsPixel}
-use Rattle.dp_flat.proofs.chunk.known_pixels.Goals as goal
+use Rattle.dp_flat.proofs.tone.known_pixels.Goals as goal
 
 pub loop-pixel-preserved : goal.loop-pixel-preserved
 loop-pixel-preserved c =

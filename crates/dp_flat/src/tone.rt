@@ -1,35 +1,35 @@
-//! A chunk of a row of pixels, and layers laid on it.
+//! A tile of pixels, and layers laid on it.
 //!
-//! A chunk that is of one colour stays a colour, and takes one blend a layer.
+//! A tile that is of one colour stays a colour, and takes one blend a layer.
 //!
 //! The rule: docs/protocol.md, "The picture".
 
-ghost use Rattle.std.specs.Prelude.{◌≡◌, ◌<◌, ◌≤◌, ℕ, All, IsTrue, length, slice_index_or};
+ghost use Rattle.std.specs.Prelude.{◌≡◌, ◌<◌, ◌≤◌, ℕ, All, IsTrue, List, length, slice_index_or};
 ghost use Rattle.dp_blend.specs.Color.{Channels, IsPixel, clear, fade, white};
 ghost use Rattle.dp_blend.specs.Blending.{blend};
+ghost use Rattle.dp_pixels.specs.Tiles.{tile_pixel};
 ghost use Rattle.dp_plain.specs.Picture.{laid, mode_of};
-ghost use Rattle.dp_flat.specs.Chunks.{IsAsLong, stretch_at, tone_at};
+ghost use Rattle.dp_flat.specs.Tones.{IsAsLong, stretch_at, tone_at};
 
 use dp_blend::{
     Mode, ONE, Pixel, Stretch, blend, fade, fade_by_one_keeps, from8, row_fill, row_merge,
 };
 use dp_layers::LayerRow;
 
-/// The most columns of a chunk.
-pub(crate) const COLUMNS: u32 = 64;
+/// How many pixels a side of a tile has.
+pub(crate) const SIDE: u32 = 64;
 
-/// How many pixels a buffer has: the most of a chunk.
-pub(crate) const BUFFER: usize = COLUMNS as usize;
+/// How many pixels a buffer has: those of a tile.
+pub(crate) const BUFFER: usize = 4096;
 
-/// A chunk of the row y of the canvas: `count` columns from x on.
+/// The place of a tile: its column and its row. It has 64 by 64 places, as far as the canvas goes.
 #[derive(Clone, Copy)]
-pub(crate) struct Chunk {
-    pub(crate) x: u32,
-    pub(crate) y: u32,
-    pub(crate) count: u32,
+pub(crate) struct TileAt {
+    pub(crate) col: u32,
+    pub(crate) row: u32,
 }
 
-/// What a chunk shows: one colour, or the pixels of a buffer.
+/// What a tile shows: one colour, or the pixels of a buffer.
 #[derive(Clone, Copy)]
 pub(crate) enum Tone {
     /// All of one colour, whatever the buffer holds.
@@ -39,6 +39,17 @@ pub(crate) enum Tone {
 }
 
 impl Tone {
+    /// The tone of a tile that is of one colour, if one is given.
+    pub(crate) fn of(color: Option<Pixel>) -> Tone
+        ensures { (pixels : List Channels) (k : ℕ)
+            → tone_at result pixels k ≡ tile_pixel color pixels k }
+    {
+        match color {
+            Some(color) => Tone::Solid(color),
+            None => Tone::Mixed,
+        }
+    }
+
     /// What is shown, with this buffer.
     pub(crate) fn shown(self, buffer: &[Pixel]) -> Stretch<'_>
         ensures places { (i : ℕ) → stretch_at result i ≡ tone_at self buffer.now i }
@@ -51,7 +62,7 @@ impl Tone {
     }
 }
 
-/// Lays what a row of the list shows on a chunk, and gives the chunk's tone.
+/// Lays what a row of the list shows on a tile, and gives the tile's tone.
 pub(crate) fn lay(row: &LayerRow, shown: Stretch<'_>, under: Tone, buffer: &mut [Pixel]) -> Tone
     requires { IsAsLong shown (length buffer.old) }
     ensures { (i : ℕ) → i < length buffer.old → tone_at result buffer.new i
@@ -65,7 +76,7 @@ pub(crate) fn lay(row: &LayerRow, shown: Stretch<'_>, under: Tone, buffer: &mut 
     }
 }
 
-/// Lays a colour, faded by the opacity, on a chunk.
+/// Lays a colour, faded by the opacity, on a tile.
 fn lay_faded(mode: Mode, opacity: u16, color: Pixel, under: Tone, buffer: &mut [Pixel]) -> Tone
     requires { opacity ≤ 32768 }
     ensures { (i : ℕ) → i < length buffer.old → tone_at result buffer.new i
@@ -78,7 +89,7 @@ fn lay_faded(mode: Mode, opacity: u16, color: Pixel, under: Tone, buffer: &mut [
     lay_color(mode, fade(color, opacity), under, buffer)
 }
 
-/// Lays a colour on a chunk.
+/// Lays a colour on a tile.
 fn lay_color(mode: Mode, color: Pixel, under: Tone, buffer: &mut [Pixel]) -> Tone
     ensures { (i : ℕ) → i < length buffer.old → tone_at result buffer.new i
         ≡ blend mode color (tone_at under buffer.old i) }
@@ -134,7 +145,7 @@ fn shows_nothing(mode: Mode, color: Pixel) -> bool
     color == Pixel::CLEAR && mode != Mode::Replace
 }
 
-/// Lays pixels, faded by the opacity, on a chunk.
+/// Lays pixels, faded by the opacity, on a tile.
 fn lay_pixels(mode: Mode, opacity: u16, pixels: &[Pixel], under: Tone, buffer: &mut [Pixel]) -> Tone
     requires opacity { opacity ≤ 32768 }
     requires long { length pixels.now ≡ length buffer.old }
@@ -157,7 +168,7 @@ fn spread(tone: Tone, buffer: &mut [Pixel])
     }
 }
 
-/// Lays what a chunk shows on white.
+/// Lays what a tile shows on white.
 pub(crate) fn lay_on_white(tone: Tone, pixels: &[Pixel], buffer: &mut [Pixel]) -> Tone
     requires { length pixels.now ≡ length buffer.old }
     ensures { (i : ℕ) → i < length buffer.old → tone_at result buffer.new i
