@@ -1,5 +1,7 @@
 -- How reading a recording for a picture ends.
-use Rattle.std.proofs.Common.{◌≡◌, ◌⊎◌, ℕ, List, [], ◌∷◌, ◌++◌, refl, sym, ◌∙◌, subst, inl, inr}
+use Rattle.std.proofs.Common.{◌≡◌, ◌⊎◌, ℕ, List, [], ◌∷◌, ◌++◌, refl, sym, ap, ◌∙◌, subst}
+use Rattle.std.proofs.Common.{inl, inr}
+use Rattle.std.specs.List.{after_last}
 use Rattle.std.proofs.Math.Seq.{take-nil}
 use Rattle.std.specs.Prelude.{Option, Some, None, IfSome, Result, Ok, Err, OnOk, is_err}
 use Rattle.std.specs.Prelude.{Bool, true, false}
@@ -11,6 +13,7 @@ use Rattle.dp_recording.specs.declared.reader.RecError.{RecError}
 use Rattle.dp_recording.specs.declared.reader.RecError.TheVariants.{BadHeader, Truncated, Message}
 use Rattle.dp_recording.specs.declared.reader.RecError.TheVariants.{ReadFault, Long, Memory}
 use Rattle.dp_recording.specs.Recordings.{Blames, EndsRecording, GoesOn, HasReadOf, end_of}
+use Rattle.dp_plain.specs.Replay.{is_mark}
 use Rattle.dp_viewer.specs.Ways.{first_of, play_way}
 use Rattle.dp_viewer.specs.Reading.{EndsReading, BlamesReading}
 
@@ -62,13 +65,14 @@ pub shows-done : (at : Option ℕ) (input left now : Option (List ℕ)) (shown :
     → IfSome input (λ bytes. EndsReading (play_way at) bytes now shown run.Done)
 shows-done at None left now shown old done told = tt
 shows-done at (Some bytes) left now shown old done (all, read, are) =
-    (all, (done bytes all read).0, are)
+    (all, (done bytes all read).0, ap (after_last is_mark) are)
 
 ends-of : (at : Option ℕ) (bytes : List ℕ) (left : Option (List ℕ)) (shown all : List Entry)
     (error : RecError) → EndsRecording bytes left all error → shown ≡ first_of at all
     → EndsReading (play_way at) bytes left shown (end_of error)
 ends-of at bytes left shown all BadHeader ends are = ((all, ends.0), ends.1)
-ends-of at bytes left shown all (Truncated n) ends are = (all, ends.0, are)
+ends-of at bytes left shown all (Truncated n) ends are =
+    (all, ends.0, ap (after_last is_mark) are)
 ends-of at bytes left shown all (Message n why) ends are = ((all, ends.0), ends.1)
 ends-of at bytes left shown all ReadFault ends are = ends
 ends-of at bytes left shown all Long ends are = ((all, ends.0), ends.1)

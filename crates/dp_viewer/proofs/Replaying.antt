@@ -4,7 +4,9 @@ use Rattle.std.specs.Prelude.{Option, Some, None, IfSome}
 use Rattle.std.specs.Io.KnownBytes.{Appends, IsAtEnd}
 use Rattle.dp_io.specs.Streams.{GrowsByPrefix}
 use Rattle.dp_messages.specs.declared.message.Entry.{Entry}
-use Rattle.dp_plain.specs.Replay.{shown}
+use Rattle.dp_plain.specs.Board.{Board, empty_board}
+use Rattle.dp_plain.specs.Commands.{draw}
+use Rattle.dp_plain.specs.Replay.{replay_on, shown}
 use Rattle.dp_plain.specs.Picture.{p6}
 use Rattle.dp_lines.specs.declared.run_end.RunEnd.{RunEnd}
 use Rattle.dp_lines.specs.declared.run_end.RunEnd.TheVariants.{Done}
@@ -14,6 +16,10 @@ use Rattle.dp_viewer.specs.Ways.{Way}
 use Rattle.dp_viewer.specs.Reading.{EndsReading, BlamesReading, ReadsToEnd, WritesShown}
 use Rattle.dp_viewer.specs.Pictures.{PictureLeaves, ShowsPart}
 
+-- the board after these entries, none of which is a mark
+abbrev replayed : List Entry → Board
+replayed = replay_on draw empty_board
+
 -- the picture is written whole
 whole_left : (way : Way) (told left old new : Option (List ℕ)) (entries : List Entry) (end : RunEnd)
     → IfSome told (λ input. EndsReading way input left entries end) → ReadsToEnd end → IsAtEnd left
@@ -21,10 +27,10 @@ whole_left : (way : Way) (told left old new : Option (List ℕ)) (entries : List
     PictureLeaves way told left old new end
 whole_left way None left old new entries Done h r at a = (at, tt)
 whole_left way (Some input) left old new entries Done (all, comes, are) r at a =
-    (at, (all, comes, subst (λ (es : List Entry). Appends old new (p6 (shown es))) are a))
+    (at, (all, comes, subst (λ (es : List Entry). Appends old new (p6 (replayed es))) are a))
 whole_left way None left old new entries (Truncated n) h r at a = (at, tt)
 whole_left way (Some input) left old new entries (Truncated n) (all, comes, are) r at a =
-    (at, (all, comes, subst (λ (es : List Entry). Appends old new (p6 (shown es))) are a))
+    (at, (all, comes, subst (λ (es : List Entry). Appends old new (p6 (replayed es))) are a))
 whole_left way told left old new entries _ h r at a = absurd r
 
 -- a part of the picture is written
@@ -33,12 +39,12 @@ part_left : (way : Way) (told left old new : Option (List ℕ)) (entries : List 
     → GrowsByPrefix old new (p6 (shown entries)) → ShowsPart way told old new
 part_left way None left old new entries end h r p = tt
 part_left way (Some input) left old new entries Done (all, comes, are) r p =
-    (all, Done, comes, subst (λ (es : List Entry). GrowsByPrefix old new (p6 (shown es))) are p)
+    (all, Done, comes, subst (λ (es : List Entry). GrowsByPrefix old new (p6 (replayed es))) are p)
 part_left way (Some input) left old new entries (Truncated n) (all, comes, are) r p = (
   all,
   Truncated n,
   comes,
-  subst (λ (es : List Entry). GrowsByPrefix old new (p6 (shown es))) are p,
+  subst (λ (es : List Entry). GrowsByPrefix old new (p6 (replayed es))) are p,
 )
 part_left way (Some input) left old new entries _ h r p = absurd r
 

@@ -7,7 +7,7 @@ ghost use Rattle.dp_viewer.specs.Reading.{ReadsToEnd, WritesShown};
 ghost use Rattle.dp_viewer.specs.Ways.{play_way, replay_way};
 
 use crate::reading::{Reading, read_frames, read_recording};
-use dp_canvas::Canvas;
+use dp_canvas::DeferredBoard;
 use dp_flat::{PictureEnd, write_p6};
 use dp_io::{Sink, Source};
 use dp_lines::RunEnd;
@@ -103,10 +103,14 @@ fn write_shown<O: Sink, D: Ledger, T: Ledger>(
         (O.faults output.old) (O.faults output.new) entries.now end result }
     ensures later { O.faults output.old ≤ O.faults output.new }
 {
-    let Ok(canvas) = show_on(alloc, Canvas::new(alloc), entries, draws, tiles) else {
+    let blank = DeferredBoard::new(alloc);
+    let Ok(mut board) = show_on(alloc, blank, entries, draws, tiles) else {
         return RunEnd::Memory;
     };
-    match write_p6(alloc, &canvas, output) {
+    if board.prepare().is_err() {
+        return RunEnd::Memory;
+    }
+    match write_p6(alloc, &board, output) {
         Ok(()) => end,
         Err(PictureEnd::Failed) => RunEnd::WriteFault,
         Err(PictureEnd::Memory) => RunEnd::Memory,

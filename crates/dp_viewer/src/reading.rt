@@ -5,6 +5,7 @@ ghost use Rattle.std.specs.Prelude.{OnErr, OnOk};
 ghost use Rattle.std.specs.Io.KnownBytes.{IsAtEnd};
 ghost use Rattle.dp_messages.specs.declared.message.Entry.{Entry as Item};
 ghost use Rattle.dp_viewer.specs.Reading.{BlamesReading, EndsReading, ReadsToEnd};
+ghost use Rattle.dp_viewer.specs.Reading.{ShowTheSame};
 ghost use Rattle.dp_viewer.specs.Ways.{first_of, play_way, replay_way};
 
 use dp_entries::{Anywhere, EntryReader};
@@ -17,7 +18,7 @@ use std::alloc::{AllocError, Global};
 /// How many bytes of the input of `replay` count: 1 GiB.
 const INPUT_LIMIT: u64 = 1 << 30;
 
-/// The entries of an input that are shown, and how reading it ended.
+/// Entries that show what the input does, and how reading it ended.
 #[derive(Drop)]
 pub(crate) struct Reading {
     pub entries: Vec<Entry>,
@@ -46,11 +47,25 @@ pub(crate) fn read_frames<I: Source>(alloc: Global, input: &mut I) -> Reading
                 return Reading { entries, end };
             }
         };
-        if entries.push(entry).is_err() {
+        if add(&mut entries, entry).is_err() {
             let end = RunEnd::Memory;
             return Reading { entries, end };
         }
     }
+}
+
+/// Adds the next entry. A mark of a reset takes the place of all before it, which show nothing from
+/// there on.
+fn add(entries: &mut Vec<Entry>, entry: Entry) -> Result<(), AllocError>
+    ensures { OnOk result ((all : List Item) → ShowTheSame entries.old.items all
+        → ShowTheSame entries.new.items (all ++ entry ∷ [])) }
+{
+    if entry.msg.is_reset_mark() {
+        entries.clear();
+    } else {
+        entries.push(entry)?;
+    }
+    Ok(())
 }
 
 /// Reads a recording in the same way. Of its entries the first are kept, so many, or all; those

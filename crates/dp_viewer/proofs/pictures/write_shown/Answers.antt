@@ -8,8 +8,9 @@ use Rattle.dp_viewer.proofs.pictures.write_shown.Goals as goal
 
 pub returns-in-Ok-write_p6-clause-shown : goal.returns-in-Ok-write_p6-clause-shown
 returns-in-Ok-write_p6-clause-shown g c =
-    let drawn : c.in-Ok.canvas ≡ shown c.args.entries.now =
-    c.in-Ok.ensures.board ∙ ap (λ (b : Board). shown_on draw b c.args.entries.now) c.new.ensures in
+    let drawn : c.prepare.new.self ≡ shown c.args.entries.now =
+    c.prepare.ensures ∙ c.in-Ok.ensures.board
+    ∙ ap (λ (b : Board). shown_on draw b c.args.entries.now) c.new-blank.ensures in
     let held = g.O.Sink.held in
     inl (
       refl,

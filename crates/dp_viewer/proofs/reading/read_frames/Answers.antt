@@ -1,18 +1,34 @@
-use Rattle.std.proofs.Common.{refl}
-use Rattle.dp_viewer.proofs.Inputs.{told_first, told_done, told_end, blames_of}
+use Rattle.std.proofs.Common.{refl, ◌∙◌}
+use Rattle.dp_viewer.proofs.Inputs.{blames_of, told_done, told_end, told_first, told_further}
+use Rattle.dp_viewer.proofs.Recordings.{on-no-error}
 use Rattle.dp_viewer.proofs.reading.read_frames.Goals as goal
 
 pub entries-init : goal.entries-init
 entries-init g c = record {
   told =
-      rw c.new-entries.ensures.items
-      (told_first (g.I.Source.left c.args.input.now) c.new-reader.result
-      c.new-reader.ensures.begun);
+      told_first (g.I.Source.left c.args.input.now) c.new-entries.result.items c.new-reader.result
+      c.new-entries.ensures.items c.new-reader.ensures.begun;
   first = c.new-reader.ensures.first;
   limit = c.new-reader.ensures.limit;
   not_ended = c.new-reader.ensures.not_ended;
   kept = refl;
 }
+
+pub entries-preserved : goal.entries-preserved
+entries-preserved g c =
+    let given = rw c.in-Ok-Some.field-0-is at c.in-Ok-Some.ensures.given in
+    let added = on-no-error c.add.result c.is_err.result c.is_err.ensures.value c.if-is_err.false
+    c.add.ensures in
+    record {
+      told =
+          told_further (g.I.Source.left c.args.input.now) (g.I.Source.left c.entries.input)
+          (g.I.Source.left c.next.new.input) c.entries.entries.items c.add.new.entries.items
+          c.in-Ok-Some.entry c.entries.reader c.next.new.self given added c.entries.invariant.told;
+      first = c.in-Ok-Some.ensures.first ∙ c.entries.invariant.first;
+      limit = c.in-Ok-Some.ensures.limit ∙ c.entries.invariant.limit;
+      not_ended = rw c.in-Ok-Some.field-0-is at c.in-Ok-Some.ensures.not_ended;
+      kept = c.in-Ok-Some.ensures.kept ∙ c.entries.invariant.kept;
+    }
 
 pub returns-in-Ok-None-clause-told : goal.returns-in-Ok-None-clause-told
 returns-in-Ok-None-clause-told g c =

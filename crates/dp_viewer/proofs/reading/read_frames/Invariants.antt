@@ -1,14 +1,12 @@
 use Rattle.std.proofs.Common.{◌≡◌, ◌-◌, ◌^◌}
-use Rattle.std.specs.Prelude.{IfSome, IsTrue}
-use Rattle.dp_entries.specs.Reader.{HasRead}
-use Rattle.dp_entries.specs.Anywhere.{StandsAnywhere}
+use Rattle.std.specs.Prelude.{IsTrue}
+use Rattle.dp_viewer.proofs.Inputs.{Kept}
 use Rattle.dp_viewer.proofs.reading.read_frames.Given as goal
 
--- what was read of the input gave these entries, and no read failed
+-- the entries show what those do that were read of the input, and no read failed
 abbrev pub invariant-entries : goal.invariant-entries
 invariant-entries g l = record {
-  told : IfSome (g.I.Source.left l.fn.input) (λ bytes.
-      HasRead StandsAnywhere bytes (g.I.Source.left l.input) l.entries.items l.reader);
+  told : Kept (g.I.Source.left l.fn.input) (g.I.Source.left l.input) l.entries.items l.reader;
   first : l.reader.first ≡ 0;
   limit : l.reader.limit ≡ 2 ^ 30;
   not_ended : ¬ IsTrue l.reader.ended;
