@@ -1,13 +1,13 @@
 #!/usr/bin/env bash
-# Times commands on a grid of 4096 by 4096 pixels: small fills at any places, one by one and
-# together, fills of all of it, and round dabs. The program is made in a temporary folder, proved and
-# built there, on copies of the crates; that takes some minutes where no check has kept their proofs.
+# Times commands on a grid of 4096 by 4096 pixels: small fills at any places, one by one and waiting
+# for each other, fills of all of it, and round dabs. The program is made in a temporary folder,
+# proved and built there, on copies of the crates; that takes some minutes.
 set -eu
 top=$(cd "$(dirname "$0")/.." && pwd)
 work=$(mktemp -d)
 trap 'rm -rf "$work"' EXIT
 crates="dp_blend dp_fields dp_msg_draw dp_paint dp_pixels dp_steps dp_tile"
-mkdir -p "$work/crates/tiles/src" "$work/crates/tiles/proofs/main" "$work/crates/tiles/proofs/fills"
+mkdir -p "$work/crates/tiles/src" "$work/crates/tiles/proofs/main"
 for name in $crates; do
   mkdir "$work/crates/$name"
   for part in src specs proofs; do
@@ -22,35 +22,14 @@ use Rattle.tiles.proofs.main.Given as goal
 abbrev pub ghosts-measure : goal.ghosts-measure
 ghosts-measure a = record { name = a.blank.name; parts = a.blank.parts }
 ANTT
-cat >"$work/crates/tiles/proofs/fills/Invariants.antt" <<'ANTT'
-use Rattle.std.proofs.Common.{All}
-use Rattle.dp_paint.specs.Painting.{IsPainting}
-use Rattle.tiles.proofs.fills.Given as goal
-
-abbrev pub invariant-loop-made : goal.invariant-loop-made
-invariant-loop-made l = All IsPainting l.list.items
-ANTT
-cat >"$work/crates/tiles/proofs/fills/Answers.antt" <<'ANTT'
-use Rattle.std.proofs.Common.{All, List, sym, subst}
-use Rattle.std.proofs.lemmas.List.Elements.{All-push}
-use Rattle.dp_msg_draw.specs.declared.draw.Draw.{Draw}
-use Rattle.dp_paint.specs.Painting.{IsPainting}
-use Rattle.tiles.proofs.fills.Goals as goal
-
-pub loop-made-preserved : goal.loop-made-preserved
-loop-made-preserved c =
-    subst (λ (l : List Draw). All IsPainting l) (sym c.in_ok-push.ensures.items)
-    (All-push IsPainting c.loop-made.list.items c.fill.result c.loop-made.invariant c.fill.ensures)
-ANTT
 cat >"$work/crates/tiles/src/main.rt" <<'RT'
 //! Times commands on a grid of 4096 by 4096 pixels.
 #![tactic(auto)]
 
-ghost use Rattle.std.specs.Prelude.{◌≡◌, ◌<◌, All, IfOk};
-ghost use Rattle.dp_paint.specs.Painting.{IsPainting};
+ghost use Rattle.std.specs.Prelude.{◌≡◌, ◌<◌};
 
 use dp_msg_draw::{Dab, Dabs, Draw};
-use dp_paint::{paint_all, paint_in_place};
+use dp_paint::{DeferredGrid, paint_in_place};
 use dp_steps::Steps;
 use dp_tile::Grid;
 use std::alloc::Global;
@@ -71,9 +50,7 @@ fn micros(took: Duration) -> u64 {
 }
 
 /// A fill, blended normal.
-fn fill(x: u32, y: u32, side: u32, color: u32) -> Draw
-    ensures { IsPainting result }
-{
+fn fill(x: u32, y: u32, side: u32, color: u32) -> Draw {
     Draw::FillRect {
         layer: 1,
         mode: 1,
@@ -105,9 +82,7 @@ fn next(seed: u64) -> u64 {
 }
 
 /// Fills at any places.
-fn fills(alloc: Global) -> io::Result<Vec<Draw>>
-    ensures { IfOk result (λ list. All IsPainting list.items) }
-{
+fn fills(alloc: Global) -> io::Result<Vec<Draw>> {
     let mut list = Vec::with_capacity(alloc, FILLS as usize)?;
     let mut seed = 7;
     for _made in 0..FILLS {
@@ -130,18 +105,32 @@ fn draw_each<T: Ledger>(
     Ok(())
 }
 
-/// Paints commands together.
-fn draw_all<T: Ledger>(
-    grid: &mut Grid,
-    commands: &[Draw],
+/// Draws a fill or round dabs on a layer on which fills wait.
+fn put<T: Ledger>(
+    layer: &mut DeferredGrid,
+    command: &Draw,
     tiles: &mut Steps<T>,
-) -> io::Result<()>
-    requires { All IsPainting commands.now }
-{
-    if grid.cols() == 64 && grid.rows() == 64 {
-        paint_all(grid, SIDE, SIDE, commands, tiles)?;
+) -> io::Result<()> {
+    match command {
+        Draw::FillRect { .. } | Draw::DabsRound { .. } => {
+            layer.paint(command, tiles)?;
+            Ok(())
+        }
+        _ => Ok(()),
     }
-    Ok(())
+}
+
+/// Has fills wait for each other, and then paints them all, before a stroke.
+fn put_all<T: Ledger>(
+    layer: &mut DeferredGrid,
+    commands: &[Draw],
+    last: &Draw,
+    tiles: &mut Steps<T>,
+) -> io::Result<()> {
+    for command in commands {
+        put(layer, command, tiles)?;
+    }
+    put(layer, last, tiles)
 }
 
 /// Dabs one after the other.
@@ -204,17 +193,16 @@ fn time_each<R: Clock, T: Ledger>(
     Ok(micros(start.elapsed(rt)?))
 }
 
-/// Microseconds of commands together.
+/// Microseconds of commands that wait for each other.
 fn time_together<R: Clock, T: Ledger>(
     rt: &R,
-    grid: &mut Grid,
+    layer: &mut DeferredGrid,
     commands: &[Draw],
+    last: &Draw,
     tiles: &mut Steps<T>,
-) -> io::Result<u64>
-    requires { All IsPainting commands.now }
-{
+) -> io::Result<u64> {
     let start = Instant::now(rt)?;
-    draw_all(grid, commands, tiles)?;
+    put_all(layer, commands, last, tiles)?;
     Ok(micros(start.elapsed(rt)?))
 }
 
@@ -247,11 +235,12 @@ fn measure<R: Clock, T: Ledger>(rt: &R, alloc: Global, blank: Blank) -> io::Resu
     let plain = time_all(rt, &mut grid, 100, &mut tiles)?;
     let first = time_each(rt, &mut grid, &list, &mut tiles)?;
     let each = time_each(rt, &mut grid, &list, &mut tiles)?;
-    let together = time_together(rt, &mut grid, &list, &mut tiles)?;
     let mixed = time_all(rt, &mut grid, 10, &mut tiles)?;
     let dabs = time_dabs(rt, alloc, &mut grid, &mut tiles)?;
-    let mut blank = Grid::new(alloc, 64, 64)?;
-    let made = time_together(rt, &mut blank, &list, &mut tiles)?;
+    let last = stroke(alloc, 3)?;
+    let mut layer = DeferredGrid::blank(alloc, SIDE, SIDE)?;
+    let made = time_together(rt, &mut layer, &list, &last, &mut tiles)?;
+    let together = time_together(rt, &mut layer, &list, &last, &mut tiles)?;
     Ok([plain, first, each, made, together, mixed, dabs])
 }
 
