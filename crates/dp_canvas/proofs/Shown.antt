@@ -1,5 +1,5 @@
 -- Tiles of a grid that show the pixels of a layer.
-use Rattle.std.proofs.Common.{◌≡◌, ℕ, List, [], length, refl, sym}
+use Rattle.std.proofs.Common.{◌≡◌, ℕ, List, [], refl, sym}
 use Rattle.std.specs.Prelude.{Option, Some, None, IfSome, IfNone}
 use Rattle.dp_blend.specs.Color.{Channels}
 use Rattle.dp_pixels.specs.Tiles.{ShowsTile}

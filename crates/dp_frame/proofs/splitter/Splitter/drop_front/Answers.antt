@@ -1,7 +1,7 @@
-use Rattle.std.proofs.Common.{◌≡◌, ℕ, ◌+◌, List, ◌++◌, length, drop, sym, ap, ◌∙◌, arith, subst, refl}
+use Rattle.std.proofs.Common.{◌≡◌, ℕ, ◌+◌, List, ◌++◌, length, drop, sym, ap, ◌∙◌, arith}
 use Rattle.std.proofs.lemmas.List.{drop_at}
 use Rattle.byteorder.specs.Endian.{big_number}
-use Rattle.dp_frame.specs.Frames.{FrameParts, IsFrame, spelling}
+use Rattle.dp_frame.specs.Frames.{spelling}
 use Rattle.dp_frame.specs.Stream.{Stream}
 use Rattle.dp_frame.proofs.Spellings.{first_number}
 use Rattle.dp_frame.proofs.splitter.Splitter.drop_front.Goals as goal

@@ -1,4 +1,4 @@
-use Rattle.std.proofs.Common.{◌≡◌, Some, [], sym, subst}
+use Rattle.std.proofs.Common.{Some, [], sym, subst}
 use Rattle.std.specs.Prelude.{IfSome}
 use Rattle.dp_pixels.specs.Tiles.{ShowsTile}
 use Rattle.dp_plain.specs.Board.{Board}

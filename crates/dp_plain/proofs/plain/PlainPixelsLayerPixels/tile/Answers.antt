@@ -1,9 +1,9 @@
-use Rattle.std.proofs.Common.{◌≡◌, ℕ, ◌+◌, ◌*◌, ◌-◌, ◌/◌, ◌%◌, ◌<◌, ◌≤◌, length, get_or, ap, ◌∙◌, arith}
-use Rattle.std.proofs.Common.{List, take, drop, ⊎_elim}
+use Rattle.std.proofs.Common.{◌≡◌, ◌+◌, ◌*◌, ◌-◌, ◌<◌, ◌≤◌, List, length, get_or, take, drop}
+use Rattle.std.proofs.Common.{ap, ◌∙◌, arith, ⊎_elim}
 use Rattle.std.proofs.lemmas.Bool.{cases_lt}
 use Rattle.std.proofs.lemmas.List.{length-take-le, length-drop}
 use Rattle.dp_blend.specs.Color.{Channels, clear}
-use Rattle.dp_blend.specs.Canvas.{part_of_row, pixel_at}
+use Rattle.dp_blend.specs.Canvas.{pixel_at}
 use Rattle.dp_blend.proofs.Parts.{length-part_of_row, pixel_of_part}
 use Rattle.dp_pixels.specs.Tiles.{tile_x, tile_y}
 use Rattle.dp_pixels.proofs.Regions.{part_below, part_within}
