@@ -14,10 +14,10 @@ pub const ONE: u16 = 32768;
 /// is one.
 #[derive(Clone, Copy, Debug, PartialEq, Eq)]
 pub struct Pixel {
-    r: u16,
-    g: u16,
-    b: u16,
-    a: u16,
+    pub(crate) r: u16,
+    pub(crate) g: u16,
+    pub(crate) b: u16,
+    pub(crate) a: u16,
 }
 
 impl Model for Pixel {

@@ -5,8 +5,8 @@
 //!
 //! The rule: docs/protocol.md, "Numbers and blending".
 
-ghost use Rattle.std.specs.Prelude.{◌≡◌, ◌≤◌, ℕ};
-ghost use Rattle.dp_blend.specs.Color.{fade};
+ghost use Rattle.std.specs.Prelude.{◌≡◌, ◌<◌, ◌≤◌, ℕ, length, slice_index_or};
+ghost use Rattle.dp_blend.specs.Color.{clear, fade};
 ghost use Rattle.dp_blend.specs.Blending.{blend, masked};
 ghost use Rattle.dp_blend.specs.Lanes.{ArePixels, blended_lanes, lanes};
 ghost use Rattle.dp_blend.specs.declared.modes.Mode.{Mode};
@@ -105,14 +105,21 @@ impl Kernel for Replacing {
     }
 }
 
-/// A source, blended with each of two pixels.
+/// A source, blended with each of two pixels of a row.
 #[inline(always)]
-pub(crate) fn fill_two<K: Kernel>(src: Pixel, old: (Pixel, Pixel)) -> (Pixel, Pixel)
-    ensures first { result.0 ≡ blend K.mode src old.0 }
-    ensures second { result.1 ≡ blend K.mode src old.1 }
+pub(crate) fn fill_two<K: Kernel>(
+    src: Pixel,
+    row: &[Pixel],
+    at: usize,
+    next: usize,
+) -> (Pixel, Pixel)
+    requires at { at < length row.now }
+    requires next { next < length row.now }
+    ensures first { result.0 ≡ blend K.mode src (slice_index_or row.now at clear) }
+    ensures second { result.1 ≡ blend K.mode src (slice_index_or row.now next clear) }
 {
-    let sources = lanes_of(src, src);
-    pixels_of(K::blend_lanes(sources, lanes_of(old.0, old.1)))
+    let sources = lanes_of(&src, &src);
+    pixels_of(K::blend_lanes(sources, lanes_of(&row[at], &row[next])))
 }
 
 /// A number that sources are faded by throughout a row.
@@ -120,8 +127,8 @@ pub(crate) trait Fading: Copy {
     ghost by: { Self → ℕ };
 
     /// Two sources, each faded.
-    fn fade_lanes(self, sources: (Pixel, Pixel)) -> u16x8
-        ensures value { result ≡ lanes (fade sources.0 (by self)) (fade sources.1 (by self)) }
+    fn fade_lanes(self, first: &Pixel, second: &Pixel) -> u16x8
+        ensures value { result ≡ lanes (fade first.now (by self)) (fade second.now (by self)) }
         ensures pixels { ArePixels result };
 }
 
@@ -133,8 +140,8 @@ impl Fading for Whole {
     ghost by = { λ _. 32768 };
 
     #[inline(always)]
-    fn fade_lanes(self, sources: (Pixel, Pixel)) -> u16x8 {
-        lanes_of(sources.0, sources.1)
+    fn fade_lanes(self, first: &Pixel, second: &Pixel) -> u16x8 {
+        lanes_of(first, second)
     }
 }
 
@@ -149,39 +156,52 @@ impl Fading for Faded {
     ghost by = { λ f. f.by };
 
     #[inline(always)]
-    fn fade_lanes(self, sources: (Pixel, Pixel)) -> u16x8 {
-        products(lanes_of(sources.0, sources.1), u16x8::splat(self.by))
+    fn fade_lanes(self, first: &Pixel, second: &Pixel) -> u16x8 {
+        products(lanes_of(first, second), u16x8::splat(self.by))
     }
 }
 
-/// Two sources that are faded, each blended with the pixel at its place.
+/// Two sources of a row, faded, and each blended with the pixel at its place of another row.
 #[inline(always)]
 pub(crate) fn merge_two<K: Kernel, F: Fading>(
     fading: F,
-    sources: (Pixel, Pixel),
-    old: (Pixel, Pixel),
+    sources: &[Pixel],
+    row: &[Pixel],
+    at: usize,
+    next: usize,
 ) -> (Pixel, Pixel)
-    ensures first { result.0 ≡ blend K.mode (fade sources.0 (F.by fading)) old.0 }
-    ensures second { result.1 ≡ blend K.mode (fade sources.1 (F.by fading)) old.1 }
+    requires long { length sources.now ≡ length row.now }
+    requires at { at < length row.now }
+    requires next { next < length row.now }
+    ensures first { result.0 ≡ blend K.mode
+        (fade (slice_index_or sources.now at clear) (F.by fading))
+        (slice_index_or row.now at clear) }
+    ensures second { result.1 ≡ blend K.mode
+        (fade (slice_index_or sources.now next clear) (F.by fading))
+        (slice_index_or row.now next clear) }
 {
-    let faded = fading.fade_lanes(sources);
-    pixels_of(K::blend_lanes(faded, lanes_of(old.0, old.1)))
+    let faded = fading.fade_lanes(&sources[at], &sources[next]);
+    pixels_of(K::blend_lanes(faded, lanes_of(&row[at], &row[next])))
 }
 
-/// A source through two masks, blended with the pixel at the place of each.
+/// A source through two masks, blended with the pixel of a row at the place of each.
 #[inline(always)]
 pub(crate) fn blend_two<K: Kernel>(
     src: Pixel,
     masks: (u16, u16),
-    old: (Pixel, Pixel),
+    row: &[Pixel],
+    at: usize,
+    next: usize,
 ) -> (Pixel, Pixel)
     requires first { masks.0 ≤ 32768 }
     requires second { masks.1 ≤ 32768 }
-    ensures first { result.0 ≡ masked K.mode src masks.0 old.0 }
-    ensures second { result.1 ≡ masked K.mode src masks.1 old.1 }
+    requires at { at < length row.now }
+    requires next { next < length row.now }
+    ensures first { result.0 ≡ masked K.mode src masks.0 (slice_index_or row.now at clear) }
+    ensures second { result.1 ≡ masked K.mode src masks.1 (slice_index_or row.now next clear) }
 {
     let masks = fours_of(masks.0, masks.1);
-    let old = lanes_of(old.0, old.1);
-    let faded = products(masks, lanes_of(src, src));
+    let old = lanes_of(&row[at], &row[next]);
+    let faded = products(masks, lanes_of(&src, &src));
     pixels_of(kept_where_zero(masks, old, K::blend_lanes(faded, old)))
 }

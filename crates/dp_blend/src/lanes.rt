@@ -10,20 +10,13 @@ use std::simd::prelude::*;
 
 /// The lanes of two pixels: of each the channels and then the alpha.
 #[inline(always)]
-pub(crate) fn lanes_of(first: Pixel, second: Pixel) -> u16x8
-    ensures value { result ≡ lanes first second }
-    ensures first_pixel { IsPixel first }
-    ensures second_pixel { IsPixel second }
+pub(crate) fn lanes_of(first: &Pixel, second: &Pixel) -> u16x8
+    ensures value { result ≡ lanes first.now second.now }
+    ensures first_pixel { IsPixel first.now }
+    ensures second_pixel { IsPixel second.now }
 {
     u16x8::from_array([
-        first.r(),
-        first.g(),
-        first.b(),
-        first.a(),
-        second.r(),
-        second.g(),
-        second.b(),
-        second.a(),
+        first.r, first.g, first.b, first.a, second.r, second.g, second.b, second.a,
     ])
 }
 

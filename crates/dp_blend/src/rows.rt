@@ -80,14 +80,14 @@ fn blend_by<K: Kernel>(src: Pixel, mask: &[u16], row: &mut [Pixel])
     for k in 0..row.len() / 2 {
         let (at, next) = (2 * k, 2 * k + 1);
         let masks = (mask[at], mask[next]);
-        let (first, second) = blend_two::<K>(src, masks, (row[at], row[next]));
+        let (first, second) = blend_two::<K>(src, masks, row, at, next);
         row[at] = first;
         row[next] = second;
     }
     if row.len() % 2 == 1 {
         let last = row.len() - 1;
         let masks = (mask[last], mask[last]);
-        let (only, _) = blend_two::<K>(src, masks, (row[last], row[last]));
+        let (only, _) = blend_two::<K>(src, masks, row, last, last);
         row[last] = only;
     }
 }
@@ -98,13 +98,13 @@ fn fill_by<K: Kernel>(src: Pixel, row: &mut [Pixel])
 {
     for k in 0..row.len() / 2 {
         let (at, next) = (2 * k, 2 * k + 1);
-        let (first, second) = fill_two::<K>(src, (row[at], row[next]));
+        let (first, second) = fill_two::<K>(src, row, at, next);
         row[at] = first;
         row[next] = second;
     }
     if row.len() % 2 == 1 {
         let last = row.len() - 1;
-        let (only, _) = fill_two::<K>(src, (row[last], row[last]));
+        let (only, _) = fill_two::<K>(src, row, last, last);
         row[last] = only;
     }
 }
@@ -137,15 +137,13 @@ fn merge_by<K: Kernel, F: Fading>(fading: F, sources: &[Pixel], row: &mut [Pixel
 {
     for k in 0..row.len() / 2 {
         let (at, next) = (2 * k, 2 * k + 1);
-        let pair = (sources[at], sources[next]);
-        let (first, second) = merge_two::<K, F>(fading, pair, (row[at], row[next]));
+        let (first, second) = merge_two::<K, F>(fading, sources, row, at, next);
         row[at] = first;
         row[next] = second;
     }
     if row.len() % 2 == 1 {
         let last = row.len() - 1;
-        let pair = (sources[last], sources[last]);
-        let (only, _) = merge_two::<K, F>(fading, pair, (row[last], row[last]));
+        let (only, _) = merge_two::<K, F>(fading, sources, row, last, last);
         row[last] = only;
     }
 }

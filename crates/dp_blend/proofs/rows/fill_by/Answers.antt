@@ -1,5 +1,5 @@
-use Rattle.std.proofs.Common.{◌+◌, ◌-◌, ◌*◌, length, sym, ap, ◌∙◌, arith}
-use Rattle.dp_blend.specs.Color.{Channels}
+use Rattle.std.proofs.Common.{◌+◌, ◌-◌, ◌*◌, length, sym, ◌∙◌, arith}
+use Rattle.dp_blend.specs.Color.{Channels, clear}
 use Rattle.dp_blend.specs.Blending.{blend}
 use Rattle.dp_blend.proofs.RowLemmas.{changed-all, changed-last, changed-two, row_filled-is}
 use Rattle.dp_blend.proofs.rows.fill_by.Goals as goal
@@ -10,18 +10,16 @@ loop-k-preserved g c =
     let row = c.args.row.now in
     let made = c.fill_two-first.ensures in
     changed-two (λ (_ d : Channels). f d) row row c.loop-k.row (2 * c.loop-k.k)
-    (2 * (c.loop-k.k + 1)) c.args.src c.args.src _ _ _ _
-    (omega arith) (omega arith) (omega arith) c.loop-k.invariant
-    (made.first ∙ ap f c.index-row-at.is) (made.second ∙ ap f c.index-row-next.is)
+    (2 * (c.loop-k.k + 1)) c.args.src c.args.src clear clear _ _
+    (omega arith) (omega arith) (omega arith) c.loop-k.invariant made.first made.second
 
 pub returns-then-row-eq1 : goal.returns-then-row-eq1
 returns-then-row-eq1 g c =
     let f = blend g.K.Kernel.mode c.args.src in
     let row = c.args.row.now in
     changed-last (λ (_ d : Channels). f d) row row c.loop-k.row (2 * c.loop-k.k)
-    (length c.loop-k.row - 1) c.args.src _ _
-    (omega arith) (omega arith) (omega arith) c.loop-k.invariant
-    (c.fill_two-only.ensures.first ∙ ap f c.index-row-last.is)
+    (length c.loop-k.row - 1) c.args.src clear _
+    (omega arith) (omega arith) (omega arith) c.loop-k.invariant c.fill_two-only.ensures.first
     ∙ sym (row_filled-is g.K.Kernel.mode c.args.src row)
 
 pub returns-else-row-eq1 : goal.returns-else-row-eq1

@@ -1,5 +1,5 @@
-use Rattle.std.proofs.Common.{◌+◌, ◌-◌, ◌*◌, length, sym, ap, ◌∙◌, arith}
-use Rattle.dp_blend.specs.Color.{Channels, fade}
+use Rattle.std.proofs.Common.{◌+◌, ◌-◌, ◌*◌, length, sym, ◌∙◌, arith}
+use Rattle.dp_blend.specs.Color.{Channels, clear, fade}
 use Rattle.dp_blend.specs.Blending.{blend}
 use Rattle.dp_blend.proofs.RowLemmas.{changed-all, changed-last, changed-two, row_merged-is}
 use Rattle.dp_blend.proofs.RowLemmas.{row_merged-places}
@@ -9,14 +9,10 @@ pub loop-k-preserved : goal.loop-k-preserved
 loop-k-preserved g c =
     let f = λ (s d : Channels). blend g.K.Kernel.mode (fade s (g.F.Fading.by c.args.fading)) d in
     let made = c.merge_two-first.ensures in
-    let at = c.index-row-at in
-    let next = c.index-row-next in
     changed-two f c.args.sources.now c.args.row.now c.loop-k.row (2 * c.loop-k.k)
     (2 * (c.loop-k.k + 1))
-    c.index-sources-at.result c.index-sources-next.result _ _ _ _ (omega arith) (omega arith)
-    (omega arith) c.loop-k.invariant
-    (made.first ∙ ap (λ s. f s at.result) c.index-sources-at.is ∙ ap (f _) at.is)
-    (made.second ∙ ap (λ s. f s next.result) c.index-sources-next.is ∙ ap (f _) next.is)
+    clear clear clear clear _ _ (omega arith) (omega arith) (omega arith) c.loop-k.invariant
+    made.first made.second
 
 pub returns-then-row-eq1 : goal.returns-then-row-eq1
 returns-then-row-eq1 g c =
@@ -24,12 +20,9 @@ returns-then-row-eq1 g c =
     let f = λ (s d : Channels). blend mode (fade s (g.F.Fading.by c.args.fading)) d in
     let sources = c.args.sources.now in
     let row = c.args.row.now in
-    let last = c.index-row-last in
     let whole = changed-last f sources row c.loop-k.row (2 * c.loop-k.k) (length c.loop-k.row - 1)
-    c.index-sources-last.result _ _
-    (omega arith) (omega arith) (omega arith) c.loop-k.invariant
-    (c.merge_two-only.ensures.first ∙ ap (λ s. f s last.result) c.index-sources-last.is
-    ∙ ap (f _) last.is) in
+    clear clear _
+    (omega arith) (omega arith) (omega arith) c.loop-k.invariant c.merge_two-only.ensures.first in
     let value = whole ∙ sym (row_merged-is mode (g.F.Fading.by c.args.fading) sources row) in
     record {
       value = value;
