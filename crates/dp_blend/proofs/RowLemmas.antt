@@ -1,8 +1,9 @@
 -- Rows whose places are changed one after the other.
-use Rattle.std.proofs.Common.{◌≡◌, ℕ, ◌+◌, ◌<◌, ◌≤◌, ◌≢◌, List, [], ◌∷◌, length, get_or, set, take}
+use Rattle.std.proofs.Common.{◌≡◌, ℕ, ◌+◌, ◌<◌, ◌≤◌, ◌≢◌, List, [], ◌∷◌, ◌++◌, length, get_or}
+use Rattle.std.proofs.Common.{set, take}
 use Rattle.std.proofs.Common.{suc, zero, refl, sym, ap, ◌∙◌, arith, add-one, get_or-set_other}
 use Rattle.std.proofs.lemmas.List.{take_all}
-use Rattle.dp_blend.specs.Color.{Channels, fade}
+use Rattle.dp_blend.specs.Color.{Channels, clear, fade}
 use Rattle.dp_blend.specs.Blending.{blend, masked, row_blended, row_filled, row_merged}
 use Rattle.dp_blend.specs.declared.modes.Mode.{Mode}
 
@@ -48,6 +49,16 @@ changed-two f xs row now k n x y d b e c h i two before first second =
     let both = changed-more f xs row (set now k e) (k + 1) y b c h i one
     (second ∙ ap (f (get_or xs (k + 1) y)) (sym kept)) in
     both ∙ ap (λ m. changed f (take m xs) row) (omega arith)
+
+-- the same of a row in which both were written
+pub changed-next : {X : Type 0} (f : X → Channels → Channels) (xs : List X) (y : X)
+    (row now written : List Channels) (k n : ℕ)
+    → k + 1 < length xs → k + 1 < length row → n ≡ k + 2 → now ≡ changed f (take k xs) row
+    → written ≡ set (set now k (f (get_or xs k y) (get_or now k clear))) (k + 1)
+    (f (get_or xs (k + 1) y) (get_or now (k + 1) clear))
+    → written ≡ changed f (take n xs) row
+changed-next f xs y row now written k n h i two before is =
+    is ∙ changed-two f xs row now k n y y clear clear _ _ h i two before refl refl
 
 -- with all of xs, the whole row is changed
 pub changed-all : {X : Type 0} (f : X → Channels → Channels) (xs : List X) (row now : List Channels)
@@ -110,3 +121,13 @@ pub row_merged-places : (mode : Mode) (by : ℕ) (sources row now : List Channel
 row_merged-places mode by sources row now is same k s d h =
     rw (is, row_merged-is) (get_or-changed (λ s d. blend mode (fade s by) d) sources row k s d
     (omega arith) h)
+
+-- two parts of a row are merged like the whole
+pub row_merged-append : (mode : Mode) (by : ℕ) (xs ys a b : List Channels) → length xs ≡ length a
+    → row_merged mode by xs a ++ row_merged mode by ys b ≡ row_merged mode by (xs ++ ys) (a ++ b)
+row_merged-append mode by [] ys [] b same = refl
+row_merged-append mode by [] ys (d ∷ a) b same = absurd (omega arith)
+row_merged-append mode by (s ∷ xs) ys [] b same = absurd (omega arith)
+row_merged-append mode by (s ∷ xs) ys (d ∷ a) b same =
+    ap (λ rest. blend mode (fade s by) d ∷ rest)
+    (row_merged-append mode by xs ys a b (omega arith))

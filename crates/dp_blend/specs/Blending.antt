@@ -1,5 +1,6 @@
 -- The six ways to blend a source with a destination, and the numbers that name them.
-use Rattle.std.specs.Prelude.{ℕ, ◌+◌, ◌-◌, ◌==◌, min, if◌then◌else◌}
+use Rattle.std.specs.Prelude.{ℕ, ◌+◌, ◌-◌, ◌==◌, ◌&&◌, Bool, nat_le, nat_lt, min}
+use Rattle.std.specs.Prelude.{if◌then◌else◌}
 use Rattle.std.specs.Prelude.{List, [], ◌∷◌, map, Option, Some, None}
 use Rattle.dp_blend.specs.Color.{Channels, mul, fade}
 use Rattle.dp_blend.specs.declared.modes.Mode.{Mode}
@@ -79,3 +80,7 @@ row_merged mode by [] row = row
 row_merged mode by (s ∷ sources) [] = []
 row_merged mode by (s ∷ sources) (d ∷ row) =
     blend mode (fade s by) d ∷ row_merged mode by sources row
+
+-- a column is from one on before another
+abbrev pub is_between : ℕ → ℕ → ℕ → Bool
+is_between left right x = nat_le left x && nat_lt x right

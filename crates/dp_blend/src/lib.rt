@@ -22,7 +22,7 @@ pub use laws::{
     replace_gives_source,
 };
 pub use modes::Mode;
-pub use rows::{row_blend, row_fill, row_merge};
+pub use rows::{row_blend, row_fill, row_merge, rows_fill};
 pub use stretch::Stretch;
 
 #[cfg(test)]

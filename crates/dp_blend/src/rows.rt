@@ -1,12 +1,15 @@
 //! Rows of pixels: one source for each pixel, one through a mask, and a source at each place.
 //!
-//! Two pixels are blended at a time, and the last of an odd row by itself.
+//! Two pixels are blended at a time, and the last of an odd row by itself. A turn of a loop blends
+//! eight, so that what is the same for all is worked out once for them.
 //!
 //! The rule: docs/protocol.md, "Numbers and blending".
 
-ghost use Rattle.std.specs.Prelude.{◌≡◌, ◌<◌, ◌≤◌, ℕ, length, slice_index, slice_index_or, All};
-ghost use Rattle.dp_blend.specs.Color.{Channels, fade};
-ghost use Rattle.dp_blend.specs.Blending.{blend, masked, row_blended, row_filled, row_merged};
+ghost use Rattle.std.specs.Prelude.{◌≡◌, ◌<◌, ◌≤◌, ◌+◌, ◌%◌, ℕ, length, All, if◌then◌else◌};
+ghost use Rattle.std.specs.Prelude.{slice_index, slice_index_or, slice_set};
+ghost use Rattle.dp_blend.specs.Color.{Channels, clear, fade};
+ghost use Rattle.dp_blend.specs.Blending.{blend, is_between, masked, row_blended, row_filled};
+ghost use Rattle.dp_blend.specs.Blending.{row_merged};
 
 use crate::color::{ONE, Pixel};
 use crate::kernels::{
@@ -51,6 +54,36 @@ pub fn row_fill(mode: Mode, src: Pixel, row: &mut [Pixel])
     }
 }
 
+/// Blends the source with the pixels of some rows from column `left` on before `right`. The rows
+/// are `stride` pixels long and stand one after the other. All others stay.
+pub fn rows_fill(
+    mode: Mode,
+    src: Pixel,
+    left: usize,
+    right: usize,
+    stride: usize,
+    rows: &mut [Pixel],
+)
+    requires some { 0 < stride }
+    requires order { left ≤ right }
+    requires within { right ≤ stride }
+    requires whole { length rows.old % stride ≡ 0 }
+    ensures count { length rows.new ≡ length rows.old }
+    ensures places { (k : ℕ) (d : Channels) → k < length rows.old →
+        slice_index_or rows.new k d ≡ (if is_between left right (k % stride)
+        then blend mode src (slice_index_or rows.old k d)
+        else slice_index_or rows.old k d) }
+{
+    match mode {
+        Mode::Erase => rows_by::<Erasing>(src, left, right, stride, rows),
+        Mode::Normal => rows_by::<Covering>(src, left, right, stride, rows),
+        Mode::Multiply => rows_by::<Multiplying>(src, left, right, stride, rows),
+        Mode::Add => rows_by::<Adding>(src, left, right, stride, rows),
+        Mode::Recolor => rows_by::<Recoloring>(src, left, right, stride, rows),
+        Mode::Replace => rows_by::<Replacing>(src, left, right, stride, rows),
+    }
+}
+
 /// Blends with each pixel of the row the source at its place, faded by `by`, of which 32768 is one.
 /// A fade by 0 blends the clear pixel, so that in the mode Replace it leaves the row clear.
 pub fn row_merge(mode: Mode, by: u16, sources: &[Pixel], row: &mut [Pixel])
@@ -92,15 +125,67 @@ fn blend_by<K: Kernel>(src: Pixel, mask: &[u16], row: &mut [Pixel])
     }
 }
 
-/// `row_fill` in the kernel's mode.
+/// `rows_fill` in the kernel's mode.
+fn rows_by<K: Kernel>(src: Pixel, left: usize, right: usize, stride: usize, rows: &mut [Pixel])
+    requires some { 0 < stride }
+    requires order { left ≤ right }
+    requires within { right ≤ stride }
+    requires whole { length rows.old % stride ≡ 0 }
+    ensures { (k : ℕ) (d : Channels) → k < length rows.old →
+        slice_index_or rows.new k d ≡ (if is_between left right (k % stride)
+        then blend K.mode src (slice_index_or rows.old k d)
+        else slice_index_or rows.old k d) }
+{
+    for j in 0..rows.len() / stride {
+        let start = j * stride;
+        fill_by::<K>(src, &mut rows[start + left..start + right]);
+    }
+}
+
+/// `row_fill` in the kernel's mode: eight pixels at a time, and then the last ones.
+#[inline(always)]
 fn fill_by<K: Kernel>(src: Pixel, row: &mut [Pixel])
     ensures { row.new ≡ row_filled K.mode src row.old }
 {
+    let (eights, rest) = row.split_at_mut(row.len() / 8 * 8);
+    fill_eights::<K>(src, eights);
+    fill_twos::<K>(src, rest);
+}
+
+/// Blends the source with the pixels at a place of a row and at the next.
+#[inline(always)]
+fn fill_next<K: Kernel>(src: Pixel, row: &mut [Pixel], at: usize)
+    requires { at + 1 < length row.old }
+    ensures { row.new ≡ slice_set
+        (slice_set row.old at (blend K.mode src (slice_index_or row.old at clear)))
+        (at + 1) (blend K.mode src (slice_index_or row.old (at + 1) clear)) }
+{
+    let (first, second) = fill_two::<K>(src, row, at, at + 1);
+    row[at] = first;
+    row[at + 1] = second;
+}
+
+/// `row_fill` in the kernel's mode, of a row of some times eight pixels.
+#[inline(always)]
+fn fill_eights<K: Kernel>(src: Pixel, row: &mut [Pixel])
+    requires { length row.old % 8 ≡ 0 }
+    ensures { row.new ≡ row_filled K.mode src row.old }
+{
+    for k in 0..row.len() / 8 {
+        fill_next::<K>(src, row, 8 * k);
+        fill_next::<K>(src, row, 8 * k + 2);
+        fill_next::<K>(src, row, 8 * k + 4);
+        fill_next::<K>(src, row, 8 * k + 6);
+    }
+}
+
+/// `row_fill` in the kernel's mode, two pixels at a time.
+#[inline(always)]
+fn fill_twos<K: Kernel>(src: Pixel, row: &mut [Pixel])
+    ensures { row.new ≡ row_filled K.mode src row.old }
+{
     for k in 0..row.len() / 2 {
-        let (at, next) = (2 * k, 2 * k + 1);
-        let (first, second) = fill_two::<K>(src, row, at, next);
-        row[at] = first;
-        row[next] = second;
+        fill_next::<K>(src, row, 2 * k);
     }
     if row.len() % 2 == 1 {
         let last = row.len() - 1;
@@ -127,7 +212,7 @@ fn merge_faded<F: Fading>(mode: Mode, fading: F, sources: &[Pixel], row: &mut [P
     }
 }
 
-/// `row_merge` in the kernel's mode.
+/// `row_merge` in the kernel's mode: eight pixels at a time, and then the last ones.
 fn merge_by<K: Kernel, F: Fading>(fading: F, sources: &[Pixel], row: &mut [Pixel])
     requires same_length { length sources.now ≡ length row.old }
     ensures value { row.new ≡ row_merged K.mode (F.by fading) sources.now row.old }
@@ -135,11 +220,53 @@ fn merge_by<K: Kernel, F: Fading>(fading: F, sources: &[Pixel], row: &mut [Pixel
         slice_index_or row.new k d ≡ blend K.mode
         (fade (slice_index_or sources.now k s) (F.by fading)) (slice_index_or row.old k d) }
 {
+    let (eights, rest) = row.split_at_mut(row.len() / 8 * 8);
+    let (first, last) = sources.split_at(eights.len());
+    merge_eights::<K, F>(fading, first, eights);
+    merge_twos::<K, F>(fading, last, rest);
+}
+
+/// Blends two sources, at a place and at the next, with the pixels of a row there.
+#[inline(always)]
+fn merge_next<K: Kernel, F: Fading>(fading: F, sources: &[Pixel], row: &mut [Pixel], at: usize)
+    requires same_length { length sources.now ≡ length row.old }
+    requires at { at + 1 < length row.old }
+    ensures { row.new ≡ slice_set
+        (slice_set row.old at (blend K.mode
+        (fade (slice_index_or sources.now at clear) (F.by fading))
+        (slice_index_or row.old at clear)))
+        (at + 1) (blend K.mode
+        (fade (slice_index_or sources.now (at + 1) clear) (F.by fading))
+        (slice_index_or row.old (at + 1) clear)) }
+{
+    let (first, second) = merge_two::<K, F>(fading, sources, row, at, at + 1);
+    row[at] = first;
+    row[at + 1] = second;
+}
+
+/// `row_merge` in the kernel's mode, of a row of some times eight pixels.
+#[inline(always)]
+fn merge_eights<K: Kernel, F: Fading>(fading: F, sources: &[Pixel], row: &mut [Pixel])
+    requires same_length { length sources.now ≡ length row.old }
+    requires whole { length row.old % 8 ≡ 0 }
+    ensures { row.new ≡ row_merged K.mode (F.by fading) sources.now row.old }
+{
+    for k in 0..row.len() / 8 {
+        merge_next::<K, F>(fading, sources, row, 8 * k);
+        merge_next::<K, F>(fading, sources, row, 8 * k + 2);
+        merge_next::<K, F>(fading, sources, row, 8 * k + 4);
+        merge_next::<K, F>(fading, sources, row, 8 * k + 6);
+    }
+}
+
+/// `row_merge` in the kernel's mode, two pixels at a time.
+#[inline(always)]
+fn merge_twos<K: Kernel, F: Fading>(fading: F, sources: &[Pixel], row: &mut [Pixel])
+    requires same_length { length sources.now ≡ length row.old }
+    ensures { row.new ≡ row_merged K.mode (F.by fading) sources.now row.old }
+{
     for k in 0..row.len() / 2 {
-        let (at, next) = (2 * k, 2 * k + 1);
-        let (first, second) = merge_two::<K, F>(fading, sources, row, at, next);
-        row[at] = first;
-        row[next] = second;
+        merge_next::<K, F>(fading, sources, row, 2 * k);
     }
     if row.len() % 2 == 1 {
         let last = row.len() - 1;

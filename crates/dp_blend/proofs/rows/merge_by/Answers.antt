@@ -1,46 +1,27 @@
-use Rattle.std.proofs.Common.{◌+◌, ◌-◌, ◌*◌, length, sym, ◌∙◌, arith}
-use Rattle.dp_blend.specs.Color.{Channels, clear, fade}
-use Rattle.dp_blend.specs.Blending.{blend}
-use Rattle.dp_blend.proofs.RowLemmas.{changed-all, changed-last, changed-two, row_merged-is}
-use Rattle.dp_blend.proofs.RowLemmas.{row_merged-places}
+use Rattle.std.proofs.Common.{◌≡◌, ◌++◌, ◌∙◌, length, sym, ap}
+use Rattle.std.proofs.lemmas.List.{take-append-drop}
+use Rattle.dp_blend.specs.Blending.{row_merged}
+use Rattle.dp_blend.proofs.RowLemmas.{row_merged-append, row_merged-places}
 use Rattle.dp_blend.proofs.rows.merge_by.Goals as goal
 
-pub loop-k-preserved : goal.loop-k-preserved
-loop-k-preserved g c =
-    let f = λ (s d : Channels). blend g.K.Kernel.mode (fade s (g.F.Fading.by c.args.fading)) d in
-    let made = c.merge_two-first.ensures in
-    changed-two f c.args.sources.now c.args.row.now c.loop-k.row (2 * c.loop-k.k)
-    (2 * (c.loop-k.k + 1))
-    clear clear clear clear _ _ (omega arith) (omega arith) (omega arith) c.loop-k.invariant
-    made.first made.second
-
-pub returns-then-row-eq1 : goal.returns-then-row-eq1
-returns-then-row-eq1 g c =
+pub returns-clause-value : goal.returns-clause-value
+returns-clause-value g c =
     let mode = g.K.Kernel.mode in
-    let f = λ (s d : Channels). blend mode (fade s (g.F.Fading.by c.args.fading)) d in
-    let sources = c.args.sources.now in
-    let row = c.args.row.now in
-    let whole = changed-last f sources row c.loop-k.row (2 * c.loop-k.k) (length c.loop-k.row - 1)
-    clear clear _
-    (omega arith) (omega arith) (omega arith) c.loop-k.invariant c.merge_two-only.ensures.first in
-    let value = whole ∙ sym (row_merged-is mode (g.F.Fading.by c.args.fading) sources row) in
-    record {
-      value = value;
-      places = row_merged-places mode (g.F.Fading.by c.args.fading) sources row _ value
-          c.requires.same_length;
-    }
+    let by = g.F.Fading.by c.args.fading in
+    let parts = c.split_at_mut-eights in
+    let eights = parts.result.0.now in
+    let rest = parts.result.1.now in
+    let first = c.split_at.result.0.now in
+    let last = c.split_at.result.1.now in
+    let sources : first ++ last ≡ c.args.sources.now =
+    rw (c.split_at.ensures.front, c.split_at.ensures.back)
+    (take-append-drop (length eights) c.args.sources.now) in
+    rw (c.merge_eights.ensures, c.merge_twos.ensures)
+    (row_merged-append mode by first last eights rest c.split_at.ensures.front_len
+    ∙ ap (λ xs. row_merged mode by xs (eights ++ rest)) sources
+    ∙ ap (row_merged mode by c.args.sources.now) (sym parts.ensures.value))
 
-pub returns-else-row-eq1 : goal.returns-else-row-eq1
-returns-else-row-eq1 g c =
-    let mode = g.K.Kernel.mode in
-    let f = λ (s d : Channels). blend mode (fade s (g.F.Fading.by c.args.fading)) d in
-    let sources = c.args.sources.now in
-    let row = c.args.row.now in
-    let value = changed-all f sources row c.loop-k.row (2 * c.loop-k.k) (omega arith)
-    c.loop-k.invariant
-    ∙ sym (row_merged-is mode (g.F.Fading.by c.args.fading) sources row) in
-    record {
-      value = value;
-      places = row_merged-places mode (g.F.Fading.by c.args.fading) sources row _ value
-          c.requires.same_length;
-    }
+pub returns-clause-places : goal.returns-clause-places
+returns-clause-places g c =
+    row_merged-places g.K.Kernel.mode (g.F.Fading.by c.args.fading) c.args.sources.now
+    c.args.row.now _ (returns-clause-value g c) c.requires.same_length

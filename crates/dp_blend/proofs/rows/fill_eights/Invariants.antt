@@ -1,9 +1,9 @@
 use Rattle.std.proofs.Common.{◌≡◌, ◌*◌, take}
 use Rattle.dp_blend.specs.Blending.{blend}
 use Rattle.dp_blend.proofs.RowLemmas.{changed}
-use Rattle.dp_blend.proofs.rows.fill_by.Given as goal
+use Rattle.dp_blend.proofs.rows.fill_eights.Given as goal
 
--- the places before two times k are blended, and the others are as they were
+-- the places before eight times k are blended, and the others are as they were
 abbrev pub invariant-loop-k : goal.invariant-loop-k
 invariant-loop-k g l = l.row ≡ changed (λ _ d. blend g.K.Kernel.mode l.src d)
-    (take (2 * l.k) l.initial.row) l.initial.row
+    (take (8 * l.k) l.initial.row) l.initial.row

@@ -1,17 +1,14 @@
 use Rattle.std.proofs.Common.{◌+◌, ◌-◌, ◌*◌, length, sym, ◌∙◌, arith}
 use Rattle.dp_blend.specs.Color.{Channels, clear}
 use Rattle.dp_blend.specs.Blending.{blend}
-use Rattle.dp_blend.proofs.RowLemmas.{changed-all, changed-last, changed-two, row_filled-is}
-use Rattle.dp_blend.proofs.rows.fill_by.Goals as goal
+use Rattle.dp_blend.proofs.RowLemmas.{changed-all, changed-last, changed-next, row_filled-is}
+use Rattle.dp_blend.proofs.rows.fill_twos.Goals as goal
 
 pub loop-k-preserved : goal.loop-k-preserved
 loop-k-preserved g c =
-    let f = blend g.K.Kernel.mode c.args.src in
-    let row = c.args.row.now in
-    let made = c.fill_two-first.ensures in
-    changed-two (λ (_ d : Channels). f d) row row c.loop-k.row (2 * c.loop-k.k)
-    (2 * (c.loop-k.k + 1)) c.args.src c.args.src clear clear _ _
-    (omega arith) (omega arith) (omega arith) c.loop-k.invariant made.first made.second
+    changed-next (λ (_ d : Channels). blend g.K.Kernel.mode c.args.src d) c.args.row.now
+    clear c.args.row.now c.loop-k.row _ (2 * c.loop-k.k) (2 * (c.loop-k.k + 1)) (omega arith)
+    (omega arith) (omega arith) c.loop-k.invariant c.fill_next.ensures
 
 pub returns-then-row-eq1 : goal.returns-then-row-eq1
 returns-then-row-eq1 g c =

@@ -1,0 +1,10 @@
+use Rattle.std.proofs.Common.{◌≡◌, ◌*◌, take}
+use Rattle.dp_blend.specs.Color.{fade}
+use Rattle.dp_blend.specs.Blending.{blend}
+use Rattle.dp_blend.proofs.RowLemmas.{changed}
+use Rattle.dp_blend.proofs.rows.merge_eights.Given as goal
+
+-- the places before eight times k are blended, and the others are as they were
+abbrev pub invariant-loop-k : goal.invariant-loop-k
+invariant-loop-k g l = l.row ≡ changed (λ s d. blend g.K.Kernel.mode (fade s (g.F.Fading.by l.fading)) d)
+    (take (8 * l.k) l.sources) l.initial.row
