@@ -218,6 +218,29 @@ impl StrokeTable {
         Ok(())
     }
 
+    /// Adds an act in place. It copies no window and no groups.
+    ///
+    /// # Errors
+    ///
+    /// As `next`. The position and the window are as they were. Nothing is said of the groups.
+    pub fn advance<Op>(&mut self, act: &UserAct<Op>) -> Result<(), AllocError>
+        ensures user { concerned act.now < 256 }
+        ensures ok { OnOk result (self.new ≡ table_with (next_strokes self.old act.now) self.old) }
+        ensures reach { OnOk result (oldest_in self.old ≤ oldest_in self.new) }
+        ensures err { OnErr result (self.new ≡ record self.old { users = self.new.users }) }
+    {
+        let user = usize::from(concerned(act));
+        if self.position == usize::MAX {
+            return Err(AllocError);
+        }
+        let groups = &mut self.users[user];
+        groups.take(self.position, &self.window, &act.act)?;
+        self.window.take(self.position, &act.act)?;
+        groups.forget_settled(&self.window);
+        self.position += 1;
+        Ok(())
+    }
+
     /// Adds an act, and keeps all groups.
     fn add<Op>(&mut self, act: &UserAct<Op>) -> Result<(), AllocError>
         requires { self.old.position + 1 < 2 ^ 64 }
