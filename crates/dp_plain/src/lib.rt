@@ -20,5 +20,5 @@ pub use laws::spelled_commands_keep_pixels;
 pub use layer_pixels::LayerPixels;
 pub use layered::LayeredBoard;
 pub use plain::{PlainBoard, PlainPixels};
-pub use replay::{act_of, is_command, plain_replay, replay_on, show_on};
+pub use replay::{UNDO_DEPTH, act_of, act_of_entry, is_command, plain_replay, replay_on, show_on};
 pub use view::BoardView;

@@ -19,7 +19,7 @@ use std::alloc::{AllocError, Global};
 use std::sync::ledger::Ledger;
 
 /// A group of strokes can be undone and redone while its point is among as many last ones.
-const UNDO_DEPTH: u32 = 30;
+pub const UNDO_DEPTH: u32 = 30;
 
 /// What an entry does to strokes, with a copy of its command.
 pub fn act_of(entry: &Entry) -> Result<Act<Draw>, AllocError>
@@ -40,6 +40,28 @@ pub fn act_of(entry: &Entry) -> Result<Act<Draw>, AllocError>
         Msg::Draw(command) => Act::Draw(command.copy()?),
         Msg::Control(_) | Msg::Meta(_) | Msg::Part(_) | Msg::Opaque { .. } => Act::Other,
     })
+}
+
+/// What an entry does to strokes, with the user who sent it. The command is moved, not copied.
+pub fn act_of_entry(entry: Entry) -> UserAct<Draw>
+    ensures { result ≡ user_act_of entry }
+{
+    let Entry { user, msg } = entry;
+    let act = match msg {
+        Msg::Point => Act::Point,
+        Msg::Undo {
+            target,
+            redo: false,
+        } => Act::Undo {
+            who: moved_user(user, target),
+        },
+        Msg::Undo { target, redo: true } => Act::Redo {
+            who: moved_user(user, target),
+        },
+        Msg::Draw(command) => Act::Draw(command),
+        Msg::Control(_) | Msg::Meta(_) | Msg::Part(_) | Msg::Opaque { .. } => Act::Other,
+    };
+    UserAct { user, act }
 }
 
 /// Whether the message is a command.
