@@ -3,11 +3,12 @@ use Rattle.std.proofs.Common.{◌≡◌, ℕ, zero, suc, ◌+◌, ◌-◌, ◌<�
 use Rattle.std.proofs.Common.{length, get_or, take, drop, ap, sym, ◌∙◌, subst, refl, arith}
 use Rattle.std.proofs.Common.{length-append, length-drop, Bool, true, false, cond, ◌&&◌, ⊎_elim}
 use Rattle.std.proofs.Common.{Ok, Err}
-use Rattle.std.specs.Prelude.{All, nat_le, nat_lt, Result, OnOk, OnErr}
+use Rattle.std.proofs.Math.Seq.{drop-length, take-length}
+use Rattle.std.specs.Prelude.{All, replicate, nat_le, nat_lt, Result, OnOk, OnErr}
 use Rattle.std.proofs.lemmas.Bool.{cases_lt, leb-true, ltb-true, le-leb, lt-ltb, and_parts}
 use Rattle.std.proofs.lemmas.Bool.{false≢true}
 use Rattle.std.proofs.lemmas.List.{get_or_append_left, get_or-append-add, length-take-le}
-use Rattle.std.proofs.lemmas.List.{get_or-take, get_or-drop}
+use Rattle.std.proofs.lemmas.List.{get_or-take, get_or-drop, append-nil}
 use Rattle.std.proofs.lemmas.List.Elements.{All-append, All-take, All-drop, All-nil, All-cons}
 use Rattle.std.proofs.lemmas.List.Elements.{All-head, All-tail}
 use Rattle.dp_blend.specs.Color.{Channels, clear}
@@ -194,6 +195,41 @@ module _ (painted : Painted) where
         get_or-after area.top area.bottom rows down within
         (rows_painted painted area.left area.right area.top (part area.top area.bottom rows))
         new_long row e after
+
+-- ---- a row of one colour
+
+-- all elements of a list, and others in the place of all
+pub part_of_all : {X : Type 0} (xs : List X) → part 0 (length xs) xs ≡ xs
+part_of_all xs =
+    let none : length xs - 0 ≡ length xs = omega arith in rw none (take-length xs)
+
+pub with_all : {X : Type 0} (xs others : List X) → with_part 0 (length xs) xs others ≡ others
+with_all xs others =
+    let none : length xs - 0 ≡ length xs = omega arith in
+    rw (none, drop-length xs) (append-nil others)
+
+module _ (painted : Painted) (row : ℕ) (p q : Channels) where
+  -- cells of one colour, each of which becomes of another
+  pub cells_become : (col n : ℕ) → ((k : ℕ) → col ≤ k → k < col + n
+      → painted k row (tile_of p) ≡ tile_of q)
+      → cells_painted painted col row (replicate n (tile_of p)) ≡ replicate n (tile_of q)
+  cells_become col zero each = refl
+  cells_become col (suc n) each =
+      let first = each col (omega arith) (omega arith) in
+      let rest = cells_become (col + 1) n
+      (λ k after below. each k (omega (arith, after)) (omega (arith, below))) in
+      rw (first, rest) refl
+
+  -- a row whose cells are all of one colour and become of another
+  pub row_becomes : (n : ℕ) (cells : List (List Channels)) → length cells ≡ n
+      → cells ≡ replicate n (tile_of p)
+      → ((k : ℕ) → k < n → painted k row (tile_of p) ≡ tile_of q)
+      → row_painted painted 0 n row cells ≡ replicate n (tile_of q)
+  row_becomes n cells long plain each =
+      subst (λ k. row_painted painted 0 k row cells ≡ replicate n (tile_of q)) long
+      (with_all cells (cells_painted painted 0 row (part 0 (length cells) cells))
+      ∙ ap (cells_painted painted 0 row) (part_of_all cells ∙ plain)
+      ∙ cells_become 0 n (λ k after below. each k (omega (arith, below))))
 
 -- ---- the rows stay rows of cells
 

@@ -1,13 +1,16 @@
 //! Rectangles of cells, and painting on all of their tiles.
 
-ghost use Rattle.std.specs.Prelude.{◌≡◌, ◌+◌, ◌*◌, ◌-◌, ◌<◌, ◌≤◌, length, All, OnOk, OnErr};
+ghost use Rattle.std.specs.Prelude.{◌≡◌, ◌+◌, ◌*◌, ◌-◌, ◌<◌, ◌≤◌, length, replicate, All, IfSome};
+ghost use Rattle.std.specs.Prelude.{OnOk, OnErr};
 ghost use Rattle.dp_tile.specs.Areas.{area_painted, cells_painted, row_painted, rows_painted};
+ghost use Rattle.dp_tile.specs.Tiles.{tile_of};
 
 use crate::painter::{TileChange, TilePainter};
 use crate::palette::Palette;
 use crate::row::{Row, own_slots};
 use crate::slot::Slot;
 use crate::tile::Tile;
+use dp_blend::Pixel;
 use dp_steps::Steps;
 use std::alloc::{AllocError, Global};
 use std::sync::Arc;
@@ -73,6 +76,25 @@ pub(crate) fn paint_area<P: TilePainter, T: Ledger>(
     paint_rows(&work, area.top, &mut rows[top..bottom], &mut palette, tiles)
 }
 
+// The colour of a row after it was painted, where all of it is painted and that is known of one
+// colour.
+fn color_after<P: TilePainter>(work: &Work<P>, row: u32, cells: &Row) -> Option<Pixel>
+    requires row { row < 64 }
+    ensures painted { IfSome result (λ p.
+        row_painted (P.painted work.now.painter.now) work.now.left work.now.right row cells.now
+        ≡ replicate work.now.right (tile_of p)) }
+    ensures some_tile { IfSome result (λ p. work.now.left < work.now.right) }
+{
+    if work.left > 0 || work.right == 0 || work.right as usize != cells.len() {
+        return None;
+    }
+    let color = cells.color()?;
+    match work.painter.change_row(row, work.left, work.right, color) {
+        TileChange::Becomes(p) => Some(p),
+        _ => None,
+    }
+}
+
 // Paints the slots that are left of a row, from a cell on, and the columns of the rows below. All
 // tiles are made this grid's alone before the first is painted.
 #[cycle(painting)]
@@ -131,6 +153,66 @@ fn paint_rows<P: TilePainter, T: Ledger>(
 // Paints the columns of a row, and of the rows below.
 #[cycle(painting)]
 fn paint_row<P: TilePainter, T: Ledger>(
+    work: &Work<P>,
+    row: u32,
+    first: &mut Row,
+    below: &mut [Row],
+    palette: &mut Palette,
+    tiles: &mut Steps<T>,
+) -> Result<(), AllocError>
+    requires rows { row + length below.old < 64 }
+    requires first { work.now.right ≤ length first.old }
+    requires wide { All (λ row. work.now.right ≤ length row) below.old }
+    ensures first { OnOk result (first.new
+        ≡ row_painted (P.painted work.now.painter.now) work.now.left work.now.right row first.old) }
+    ensures below { OnOk result (below.new
+        ≡ rows_painted (P.painted work.now.painter.now) work.now.left work.now.right (row + 1)
+        below.old) }
+    ensures first_stays { OnErr result (first.new ≡ first.old) }
+    ensures below_stay { OnErr result (below.new ≡ below.old) }
+    ensures tiles_rise { tiles.old ≤ tiles.new }
+    ensures few_tiles { tiles.new
+        ≤ tiles.old + (length below.old + 1) * (work.now.right - work.now.left) }
+{
+    match color_after(work, row, first) {
+        Some(p) => replace_row(work, row, p, first, below, palette, tiles),
+        None => paint_slots(work, row, first, below, palette, tiles),
+    }
+}
+
+// Puts a row of one colour in the place of a row, and paints the columns of the rows below.
+#[cycle(painting)]
+fn replace_row<P: TilePainter, T: Ledger>(
+    work: &Work<P>,
+    row: u32,
+    p: Pixel,
+    first: &mut Row,
+    below: &mut [Row],
+    palette: &mut Palette,
+    tiles: &mut Steps<T>,
+) -> Result<(), AllocError>
+    requires rows { row + length below.old < 64 }
+    requires some_tile { work.now.left < work.now.right }
+    requires wide { All (λ row. work.now.right ≤ length row) below.old }
+    ensures first { OnOk result (first.new ≡ replicate work.now.right (tile_of p)) }
+    ensures below { OnOk result (below.new
+        ≡ rows_painted (P.painted work.now.painter.now) work.now.left work.now.right (row + 1)
+        below.old) }
+    ensures first_stays { OnErr result (first.new ≡ first.old) }
+    ensures below_stay { OnErr result (below.new ≡ below.old) }
+    ensures tiles_rise { tiles.old ≤ tiles.new }
+    ensures few_tiles { tiles.new
+        ≤ tiles.old + (length below.old + 1) * (work.now.right - work.now.left) }
+{
+    let plain = palette.row(p, work.right as usize, tiles)?;
+    paint_rows(work, row + 1, below, palette, tiles)?;
+    *first = plain;
+    Ok(())
+}
+
+// Makes the slots of a row its own, and paints its columns and those of the rows below.
+#[cycle(painting)]
+fn paint_slots<P: TilePainter, T: Ledger>(
     work: &Work<P>,
     row: u32,
     first: &mut Row,

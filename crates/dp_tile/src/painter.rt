@@ -1,6 +1,6 @@
 //! What is done to tiles.
 
-ghost use Rattle.std.specs.Prelude.{◌≡◌, ◌<◌, ℕ, List, length};
+ghost use Rattle.std.specs.Prelude.{◌≡◌, ◌<◌, ◌≤◌, ℕ, List, length, Some};
 ghost use Rattle.dp_blend.specs.Color.{Channels};
 ghost use Rattle.dp_tile.specs.Painters.{KnownChange};
 
@@ -31,6 +31,19 @@ pub trait TilePainter {
         requires col { col < 64 }
         requires row { row < 64 }
         ensures { KnownChange result color (painted self.now col row) };
+
+    /// What it does to each tile of a row of tiles, from the column `left` on before `right`, as
+    /// far as it is known where all their pixels are of this colour.
+    fn change_row(&self, row: u32, left: u32, right: u32, color: Pixel) -> TileChange
+        requires row { row < 64 }
+        requires order { left < right }
+        requires cols { right ≤ 64 }
+        ensures { (col : ℕ) → left ≤ col → col < right
+            → KnownChange result (Some color) (painted self.now col row) }
+    {
+        let _ = (row, left, right, color);
+        TileChange::Unknown
+    }
 
     /// Paints the pixels of the tile at a column and a row.
     fn paint(&self, col: u32, row: u32, pixels: &mut [Pixel])

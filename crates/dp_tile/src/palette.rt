@@ -1,8 +1,9 @@
-//! Tiles of one colour, each made once.
+//! Tiles of one colour and rows of them, each made once.
 
-ghost use Rattle.std.specs.Prelude.{◌≡◌, ◌+◌, ◌≤◌, [], IfOk};
+ghost use Rattle.std.specs.Prelude.{◌≡◌, ◌+◌, ◌≤◌, [], replicate, IfOk};
 ghost use Rattle.dp_tile.specs.Tiles.{tile_of};
 
+use crate::row::Row;
 use crate::slot::Slot;
 use crate::tile::Tile;
 use dp_blend::Pixel;
@@ -18,10 +19,20 @@ struct PlainSlot {
     ghost plain: { slot ≡ tile_of color },
 }
 
-/// Slots that have tiles of one colour, one for each colour that was asked for.
+// A row of slots that have tiles of one colour.
+#[derive(Drop)]
+struct PlainRow {
+    color: Pixel,
+    count: usize,
+    row: Row,
+    ghost plain: { row ≡ replicate count (tile_of color) },
+}
+
+/// Slots that have tiles of one colour, one for each colour that was asked for, and rows of them.
 #[derive(Drop)]
 pub(crate) struct Palette {
     slots: Vec<PlainSlot>,
+    rows: Vec<PlainRow>,
     alloc: Global,
 }
 
@@ -30,6 +41,7 @@ impl Palette {
     pub(crate) fn new(alloc: Global) -> Palette {
         Palette {
             slots: Vec::new(alloc),
+            rows: Vec::new(alloc),
             alloc,
         }
     }
@@ -57,6 +69,34 @@ impl Palette {
         let slot = Slot::of(self.alloc, tile)?;
         let other = slot.share()?;
         self.slots.push(PlainSlot { color: p, slot })?;
+        Ok(other)
+    }
+
+    // A row of so many slots of this colour. It is made the first time alone.
+    #[inline(never)]
+    pub(crate) fn row<T: Ledger>(
+        &mut self,
+        p: Pixel,
+        count: usize,
+        tiles: &mut Steps<T>,
+    ) -> Result<Row, AllocError>
+        ensures plain { IfOk result (λ row. row ≡ replicate count (tile_of p)) }
+        ensures tiles_rise { tiles.old ≤ tiles.new }
+        ensures one_tile { tiles.new ≤ tiles.old + 1 }
+    {
+        for plain in &self.rows {
+            if plain.color == p && plain.count == count {
+                return plain.row.share();
+            }
+        }
+        let slot = self.slot(p, tiles)?;
+        let row = Row::solid(self.alloc, count, &slot)?;
+        let other = row.share()?;
+        self.rows.push(PlainRow {
+            color: p,
+            count,
+            row,
+        })?;
         Ok(other)
     }
 }

@@ -1,12 +1,13 @@
 //! A row of slots, which grids share until one of them is written to.
 
 ghost use Rattle.std.specs.Prelude.{◌≡◌, ◌+◌, ◌<◌, ◌≤◌, length, replicate, All};
-ghost use Rattle.std.specs.Prelude.{slice_index_or, slice_set, IfOk, OnOk, OnErr};
+ghost use Rattle.std.specs.Prelude.{slice_index_or, slice_set, IfOk, IfSome, OnOk, OnErr};
 ghost use Rattle.dp_blend.specs.Color.{clear};
 ghost use Rattle.dp_tile.specs.Tiles.{tile_of};
 
 use crate::painter::TilePainter;
 use crate::slot::Slot;
+use dp_blend::Pixel;
 use dp_steps::Steps;
 use std::alloc::{AllocError, Global};
 use std::marker::Model;
@@ -33,8 +34,36 @@ impl Row {
     pub(crate) fn clear(alloc: Global, count: usize) -> Result<Row, AllocError>
         ensures { IfOk result (λ row. row ≡ replicate count (tile_of clear)) }
     {
-        let slots = Arc::new(alloc, clear_slots(alloc, count)?)?;
+        Row::solid(alloc, count, &Slot::clear())
+    }
+
+    // So many slots that have the same tile.
+    pub(crate) fn solid(alloc: Global, count: usize, slot: &Slot) -> Result<Row, AllocError>
+        ensures { IfOk result (λ row. row ≡ replicate count slot.now) }
+    {
+        let slots = Arc::new(alloc, solid_slots(alloc, count, slot)?)?;
         Ok(Row { slots })
+    }
+
+    // How many slots it has.
+    pub(crate) fn len(&self) -> usize
+        ensures { result ≡ length self.now }
+    {
+        self.slots.len()
+    }
+
+    // The colour of all its pixels, where it has a slot and the colour of each is known.
+    pub(crate) fn color(&self) -> Option<Pixel>
+        ensures { IfSome result (λ p. self.now ≡ replicate (length self.now) (tile_of p)) }
+    {
+        let slots = self.slots.as_slice();
+        let color = slots.first()?.color()?;
+        for slot in slots {
+            if slot.color() != Some(color) {
+                return None;
+            }
+        }
+        Some(color)
     }
 
     // The same slots once more.
@@ -117,13 +146,13 @@ impl Row {
     }
 }
 
-// So many slots without tiles.
-fn clear_slots(alloc: Global, count: usize) -> Result<Vec<Slot>, AllocError>
-    ensures { IfOk result (λ slots. slots.items ≡ replicate count (tile_of clear)) }
+// So many slots that have the same tile.
+fn solid_slots(alloc: Global, count: usize, slot: &Slot) -> Result<Vec<Slot>, AllocError>
+    ensures { IfOk result (λ slots. slots.items ≡ replicate count slot.now) }
 {
     let mut slots = Vec::with_capacity(alloc, count)?;
     for _made in 0..count {
-        slots.push(Slot::clear())?;
+        slots.push(slot.share()?)?;
     }
     Ok(slots)
 }

@@ -10,8 +10,14 @@ decreases-paint_rows g l = length l.rows.now * 268
 abbrev pub decreases-paint_row : goal.decreases-paint_row
 decreases-paint_row g l = length l.below.now * 268 + 267
 
+abbrev pub decreases-replace_row : goal.decreases-replace_row
+decreases-replace_row g l = length l.below.now * 268 + 266
+
+abbrev pub decreases-paint_slots : goal.decreases-paint_slots
+decreases-paint_slots g l = length l.below.now * 268 + 266
+
 abbrev pub decreases-paint_columns : goal.decreases-paint_columns
-decreases-paint_columns g l = length l.below.now * 268 + 266
+decreases-paint_columns g l = length l.below.now * 268 + 265
 
 abbrev pub decreases-paint_first : goal.decreases-paint_first
 decreases-paint_first g l = (length l.below.now * 67 + length l.others.now) * 4 + 4

@@ -1,4 +1,4 @@
-use Rattle.std.proofs.Common.{◌≡◌, ◌∙◌, ◌+◌, ◌-◌, ◌≤◌, ℕ, length, ap, sym, arith, add_assoc}
+use Rattle.std.proofs.Common.{◌≡◌, ◌∙◌, ◌+◌, ◌≤◌, ℕ, length, ap, sym, arith, add_assoc}
 use Rattle.std.proofs.Common.{List}
 use Rattle.dp_blend.proofs.Parts.{is_part, parts_same}
 use Rattle.dp_tile.specs.Tiles.{grid_pixel, part_of_grid}
