@@ -36,6 +36,26 @@ within_fill : (mode color : ℕ) (area : Rect) (x y : ℤ) (p : Channels) → is
     ≡ option_map_or (λ m. blend m (of_argb color) p) (mode_numbered mode) p
 within_fill mode color area x y p inside = rw inside refl
 
+-- it is the same at any place in the rectangle
+fill_same : (layer mode x y w h color : ℕ) (a b c d : ℤ) (p : Channels)
+    → is_in (rect_at (pos x) (pos y) w h) a b ≡ true
+    → is_in (rect_at (pos x) (pos y) w h) c d ≡ true
+    → pixel_after (draws.FillRect layer mode x y w h color) a b p
+    ≡ pixel_after (draws.FillRect layer mode x y w h color) c d p
+fill_same layer mode x y w h color a b c d p one other =
+    within_fill mode color (rect_at (pos x) (pos y) w h) a b p one
+    ∙ sym (within_fill mode color (rect_at (pos x) (pos y) w h) c d p other)
+
+-- the corner of a tile that is within a rectangle
+corner_in : (width height : ℕ) (area : Rect) (col row : ℕ) → IsTileWithin width height area col row
+    → is_in area (pos (col * 64)) (pos (row * 64)) ≡ true
+corner_in width height area col row within =
+    let at_x : col * 64 + 0 ≡ col * 64 = omega arith in
+    let at_y : row * 64 + 0 ≡ row * 64 = omega arith in
+    ap (λ k. is_in area (pos k) (pos (row * 64))) (sym at_x)
+    ∙ ap (λ k. is_in area (pos (col * 64 + 0)) (pos k)) (sym at_y)
+    ∙ (within 0 0 (omega arith) (omega arith)).0
+
 -- a tile of one colour that is filled, the whole of it
 pub filled_tile : (width height layer mode x y w h color col row : ℕ) (p : Channels)
     → IsTileWithin width height (rect_at (pos x) (pos y) w h) col row
@@ -45,12 +65,7 @@ pub filled_tile : (width height layer mode x y w h color col row : ℕ) (p : Cha
 filled_tile width height layer mode x y w h color col row p within =
     let op = draws.FillRect layer mode x y w h color in
     let area = rect_at (pos x) (pos y) w h in
-    let corner = within 0 0 (omega arith) (omega arith) in
-    let at_x : col * 64 + 0 ≡ col * 64 = omega arith in
-    let at_y : row * 64 + 0 ≡ row * 64 = omega arith in
-    let first : is_in area (pos (col * 64)) (pos (row * 64)) ≡ true
-    = ap (λ k. is_in area (pos k) (pos (row * 64))) (sym at_x)
-    ∙ ap (λ k. is_in area (pos (col * 64 + 0)) (pos k)) (sym at_y) ∙ corner.0 in
+    let first = corner_in width height area col row within in
     becomes width height op col row (tile_of p) (pixel_after op (pos (col * 64)) (pos (row * 64)) p)
     (λ i j in_x in_y.
     let here = within i j in_x in_y in
@@ -59,8 +74,8 @@ filled_tile width height layer mode x y w h color col row p within =
     ap (pixel_drawn width height op (pos (col * 64 + i)) (pos (row * 64 + j))) old
     ∙ cond-true (is_in (canvas_rect width height) (pos (col * 64 + i)) (pos (row * 64 + j)))
     (pixel_after op (pos (col * 64 + i)) (pos (row * 64 + j)) p) p here.1
-    ∙ within_fill mode color area (pos (col * 64 + i)) (pos (row * 64 + j)) p here.0
-    ∙ sym (within_fill mode color area (pos (col * 64)) (pos (row * 64)) p first))
+    ∙ fill_same layer mode x y w h color (pos (col * 64 + i)) (pos (row * 64 + j))
+    (pos (col * 64)) (pos (row * 64)) p here.0 first)
 
 -- a tile on both sides
 pub tile_within : (width height x y w h col row : ℕ) → (x ≤ col * 64) × (col * 64 + 64 ≤ x + w)
@@ -99,3 +114,23 @@ pub fill_becomes : (width height : ℕ) (op : Draw) (layer mode x y w h color co
     → tile_drawn width height op col row pixels ≡ tile_of q
 fill_becomes width height op layer mode x y w h color col row p q pixels is within after plain =
     rw (after, plain, is) (filled_tile width height layer mode x y w h color col row p within)
+
+-- the same, of a tile of a row, by the pixel in the corner of another
+pub fill_of_row_becomes : (width height : ℕ) (op : Draw)
+    (layer mode x y w h color other col row : ℕ) (p q : Channels) (pixels : List Channels)
+    → op ≡ draws.FillRect layer mode x y w h color
+    → IsTileWithin width height (rect_at (pos x) (pos y) w h) other row
+    → IsTileWithin width height (rect_at (pos x) (pos y) w h) col row
+    → q ≡ pixel_after op (pos (other * 64)) (pos (row * 64)) p → pixels ≡ tile_of p
+    → tile_drawn width height op col row pixels ≡ tile_of q
+fill_of_row_becomes width height op layer mode x y w h color other col row p q pixels is
+    other_within within after plain =
+    let area = rect_at (pos x) (pos y) w h in
+    let same : pixel_after op (pos (other * 64)) (pos (row * 64)) p
+    ≡ pixel_after op (pos (col * 64)) (pos (row * 64)) p
+    = rw is (fill_same layer mode x y w h color (pos (other * 64)) (pos (row * 64))
+    (pos (col * 64)) (pos (row * 64)) p
+    (corner_in width height area other row other_within)
+    (corner_in width height area col row within)) in
+    fill_becomes width height op layer mode x y w h color col row p q pixels is within
+    (after ∙ same) plain

@@ -1,6 +1,6 @@
 //! What a command does to a tile.
 
-ghost use Rattle.std.specs.Prelude.{◌≡◌, ◌+◌, ◌*◌, ◌<◌, ◌≤◌, pos, true, false, IsTrue, length};
+ghost use Rattle.std.specs.Prelude.{◌≡◌, ℕ, ◌+◌, ◌*◌, ◌<◌, ◌≤◌, pos, true, false, IsTrue, length};
 ghost use Rattle.dp_pixels.specs.Rectangles.{rect_at};
 ghost use Rattle.dp_pixels.specs.Commands.{is_stamp, pixel_after};
 ghost use Rattle.dp_paint.specs.Painting.{IsTileWithin, length-tile_drawn, tile_drawn};
@@ -38,6 +38,21 @@ impl CommandPainter<'_> {
             (rect_at (pos area.x) (pos area.y) area.w area.h) col row }
     {
         is_side_within(col, area.x, area.w, self.width)
+            && is_side_within(row, area.y, area.h, self.height)
+    }
+
+    /// Whether all of each tile of a row, from the column `left` on before `right`, is in the
+    /// rectangle and on the canvas.
+    fn is_row_within(&self, area: Fill, row: u32, left: u32, right: u32) -> bool
+        requires row { row < 64 }
+        requires order { left < right }
+        requires cols { right ≤ 64 }
+        ensures { result ≡ true → (col : ℕ) → left ≤ col → col < right
+            → IsTileWithin self.now.width self.now.height
+            (rect_at (pos area.x) (pos area.y) area.w area.h) col row }
+    {
+        is_side_within(left, area.x, area.w, self.width)
+            && is_side_within(right - 1, area.x, area.w, self.width)
             && is_side_within(row, area.y, area.h, self.height)
     }
 
@@ -109,6 +124,25 @@ impl TilePainter for CommandPainter<'_> {
                 };
                 if self.is_within(area, col, row) {
                     TileChange::Becomes(self.corner_after(col, row, p))
+                } else {
+                    TileChange::Unknown
+                }
+            }
+            _ => TileChange::Unknown,
+        }
+    }
+
+    fn change_row(&self, row: u32, left: u32, right: u32, color: Pixel) -> TileChange {
+        match self.command {
+            Draw::FillRect { x, y, w, h, .. } => {
+                let area = Fill {
+                    x: *x,
+                    y: *y,
+                    w: *w,
+                    h: *h,
+                };
+                if self.is_row_within(area, row, left, right) {
+                    TileChange::Becomes(self.corner_after(left, row, color))
                 } else {
                     TileChange::Unknown
                 }

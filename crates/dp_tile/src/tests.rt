@@ -92,6 +92,10 @@ impl TilePainter for Repainting {
         }
     }
 
+    fn change_row(&self, _row: u32, _left: u32, _right: u32, color: Pixel) -> TileChange {
+        TileChange::Becomes(color)
+    }
+
     fn paint(&self, _col: u32, _row: u32, _pixels: &mut [Pixel]) {}
 }
 
@@ -124,6 +128,39 @@ fn sharers_of_white<T: Ledger>(alloc: Global, blank: Blank) -> Result<usize, All
 #[test]
 fn cells_of_one_color_have_one_tile(rt: HostRuntime) -> Result<(), AllocError> {
     let sharers = sharers_of_white::<Brand>(rt.alloc(), Blank::new(1))?;
+    assert_eq!(rt; sharers, 2);
+    Ok(())
+}
+
+/// How many slots have one tile, after two rows of two white tiles became white.
+fn sharers_of_white_rows<T: Ledger>(alloc: Global, blank: Blank) -> Result<usize, AllocError>
+    requires name { blank.name ≡ T.name }
+    requires parts { blank.parts ≡ T.parts }
+    requires some { 0 < blank.parts }
+{
+    let mut tiles = Steps::<T>::new(blank);
+    let white = Slot::of(alloc, Tile::solid(alloc, Pixel::WHITE, &mut tiles)?)?;
+    let mut grid = Cells::clear(alloc, 2, 2)?;
+    grid.put(alloc, 0, 0, white.share()?)?;
+    grid.put(alloc, 1, 0, white.share()?)?;
+    grid.put(alloc, 0, 1, white.share()?)?;
+    grid.put(alloc, 1, 1, white)?;
+    let all = CellArea {
+        left: 0,
+        right: 2,
+        top: 0,
+        bottom: 2,
+    };
+    grid.paint_area(alloc, all, &Repainting {}, &mut tiles)?;
+    match &grid.at(1, 1).tile {
+        Some(tile) => Ok(Arc::strong_count(tile)),
+        None => Ok(0),
+    }
+}
+
+#[test]
+fn rows_of_one_color_have_their_slots_in_common(rt: HostRuntime) -> Result<(), AllocError> {
+    let sharers = sharers_of_white_rows::<Brand>(rt.alloc(), Blank::new(1))?;
     assert_eq!(rt; sharers, 2);
     Ok(())
 }
