@@ -150,7 +150,7 @@ pub own_command_is_due : (Op : Type 0) → OwnCommandIsDue Op
 own_command_is_due Op depth acts a none =
     ap (due_by acts a.act) none ∙ sym (due_by-none acts a.act)
 
-length-command_of : {Op : Type 0} → (act : Act Op) (drawn : Bool)
+pub length-command_of : {Op : Type 0} → (act : Act Op) (drawn : Bool)
     → length (command_of act drawn) ≤ 1
 length-command_of (Draw op) true = omega arith
 length-command_of (Draw op) false = omega arith

@@ -3,7 +3,7 @@ use Rattle.std.proofs.Common.{◌≡◌, ℕ, ◌+◌, ◌<◌, ◌≤◌, false
 use Rattle.std.proofs.Common.{length, take, map, Some, None, refl, ap, sym, ◌∙◌}
 use Rattle.std.proofs.Common.{arith}
 use Rattle.std.specs.List.{fold}
-use Rattle.std.proofs.lemmas.List.{take-append-le}
+use Rattle.std.proofs.lemmas.List.{take-append-le, length-map}
 use Rattle.dp_board.specs.declared.act.Act.{Act}
 use Rattle.dp_board.specs.declared.act.Act.TheVariants.{Point, Undo, Redo, Draw, Other}
 use Rattle.dp_board.specs.declared.act.UserAct.{UserAct}
@@ -105,3 +105,20 @@ take-kept_of-unmoved laws depth acts a table n small is none within =
     ap (take n) (kept_of-unmoved laws depth acts a table small is none)
     ∙ take-append-le n (kept_of depth acts) (kept_in table a ∷ [])
     (omega (arith, length-kept_of laws depth acts))
+
+-- the flags up to that Point are as they were
+pub take-marked : {Op : Type 0} → Laws Op → (depth : ℕ) (acts : List (UserAct Op))
+    (a : UserAct Op) (table : Table) (group n : ℕ) → a.user < 256 → IsTableAfter depth acts table
+    → moved_by depth acts a ≡ Some group → n ≤ group + 1 → n ≤ length acts
+    → take n (map (marked (mark_by a group)) (kept_of depth acts)) ≡ take n (kept_of depth acts)
+take-marked laws depth acts a table group n small is some before within =
+    let all = map (marked (mark_by a group)) (kept_of depth acts) in
+    sym (take-append-le n all (kept_in table a ∷ [])
+    (omega (
+      arith,
+      within,
+      length-kept_of laws depth acts,
+      length-map (kept_of depth acts) (marked (mark_by a group)),
+    )))
+    ∙ ap (take n) (sym (kept_of-moved laws depth acts a table group small is some))
+    ∙ take-kept_of-moved laws depth acts a table group n small is some before within

@@ -30,7 +30,7 @@ use Rattle.dp_rollback.specs.Laws.{Laws}
 use Rattle.dp_rollback.proofs.KeptLemmas.{command_of-is_draw, command_of-false}
 use Rattle.dp_rollback.proofs.HistoryLemmas.{length-kept_of, replay-kept_of, moved-no_draw}
 use Rattle.dp_rollback.proofs.HistoryLemmas.{kept_of-unmoved, kept_of-moved, take-kept_of-moved}
-use Rattle.dp_rollback.proofs.HistoryLemmas.{take-kept_of-unmoved}
+use Rattle.dp_rollback.proofs.HistoryLemmas.{take-kept_of-unmoved, take-marked}
 use Rattle.dp_board.specs.Strokes.{strokes}
 
 -- commands of two parts are drawn in turn
@@ -85,7 +85,7 @@ last_save xs count board place none past within = by_test (count % 64 == 0) refl
         absurd (omega (arith, ap length saved, length-append xs (saved_after count board)))
 
 -- what is kept, with one more act
-kept-push : {Op : Type 0} → (base : ℕ) (kept all : List (KeptAct Op)) (k : KeptAct Op)
+pub kept-push : {Op : Type 0} → (base : ℕ) (kept all : List (KeptAct Op)) (k : KeptAct Op)
     → kept ≡ drop base all → base ≤ length all → kept ++ k ∷ [] ≡ drop base (all ++ k ∷ [])
 kept-push base kept all k is within =
     ap (λ xs. xs ++ k ∷ []) is ∙ sym (drop-append-le base all (k ∷ []) within)
@@ -181,7 +181,7 @@ StandsFor-drawn laws draw blank depth acts a r board first saves stays sender kn
     }
 
 -- a part and what comes after it make a longer part
-take-more : {X : Type 0} → (m n : ℕ) (xs : List X) → take m xs ++ take n (drop m xs)
+pub take-more : {X : Type 0} → (m n : ℕ) (xs : List X) → take m xs ++ take n (drop m xs)
     ≡ take (m + n) xs
 take-more m n xs =
     ap (λ ys. take m xs ++ ys) (sym (drop-take m n xs))
@@ -229,14 +229,9 @@ begun laws draw blank depth acts a r group sender st order some is =
     let all = kept_of depth acts in
     let le = place_of-le r mark is in
     let whole = base-within draw blank depth acts r st order in
-    let count = length-kept_of laws depth acts in
-    let within : p ≤ length acts = omega (arith, le, is.before, whole) in
     let same : take p (map (marked mark) all) ≡ take p all =
-    sym (take-append-le p (map (marked mark) all) (kept_in r.table a ∷ [])
-    (omega (arith, within, count, length-map all (marked mark))))
-    ∙ ap (take p) (sym (kept_of-moved laws depth acts a r.table group sender st.table some))
-    ∙ take-kept_of-moved laws depth acts a r.table group p sender st.table some
-    (omega (arith, le)) within in
+    take-marked laws depth acts a r.table group p sender st.table some (omega (arith, le))
+    (omega (arith, le, is.before, whole)) in
     record {
       start = λ none. st.saves (save_before r mark) none (save_before-lt r mark is order)
           ∙ ap (λ kept. fold draw blank (drawn_among kept)) (sym same);

@@ -1,0 +1,230 @@
+//! A board that trails its history.
+
+ghost use Rattle.std.specs.Prelude.{◌≡◌, ℕ, ◌+◌, ◌<◌, ◌≤◌, List, [], ◌∷◌, ◌++◌, length, IfOk, OnOk};
+ghost use Rattle.std.specs.List.{fold};
+ghost use Rattle.std.specs.Option.{ForSome};
+ghost use Rattle.std.specs.Vec.{vec_len, vec_capacity};
+ghost use Rattle.dp_board.specs.declared.act.UserAct.{UserAct as UserActOf};
+ghost use Rattle.dp_board.specs.Replay.{replay};
+ghost use Rattle.dp_rollback.specs.Kept.{drawn_among, commands_among};
+ghost use Rattle.dp_rollback.specs.Trailing.{Trails, IsHeldNext, marked_later, with_act};
+ghost use Rattle.dp_rollback.specs.Trailing.{drawn_to_reach};
+
+use crate::kept::{KeptAct, Mark, mark_all};
+use crate::laws::stroke_laws;
+use crate::redraw::draw_act;
+use crate::rollback::{is_draw, mark_of};
+use crate::room::drop_first;
+use dp_board::{Board, StrokeTable, UserAct, tables_follow};
+use dp_steps::Steps;
+use std::alloc::{AllocError, Global};
+use std::marker::Model;
+use std::sync::ledger::Ledger;
+
+/// How many more acts are held, at least, before those that no act can move any more are drawn.
+const SLACK: usize = 1024;
+
+/// A board that trails its history: drawn up to an act that no later undo or redo comes before. The
+/// acts from there on are held, so that each command is drawn once.
+#[derive(Drop)]
+pub struct TrailingBoard<B: Board> {
+    board: B,
+    table: StrokeTable,
+    base: usize,
+    kept: Vec<KeptAct<B::Op>>,
+    limit: usize,
+}
+
+impl<B: Board> Model for TrailingBoard<B> {
+    ghost use Rattle.std.specs.Vec.{vec_len};
+    ghost use Rattle.dp_board.specs.Table.{oldest_in};
+    ghost use Rattle.dp_rollback.specs.Trailing.{Trailing, IsBehind};
+
+    ghost Value = { Trailing B B.Op };
+
+    ghost view = { λ t. record {
+      board = t.board;
+      table = t.table;
+      base = t.base;
+      kept = t.kept.items;
+    } };
+
+    ghost invariant = { λ t.
+        IsBehind t.table.position (oldest_in t.table) t.base (vec_len t.kept) };
+}
+
+/// Adds an act to those that are held from the position `base` on. The acts of a group that moves
+/// get their new flag: all of them come after its point. It takes no memory.
+fn add_later<Op: Drop>(
+    kept: &mut Vec<KeptAct<Op>>,
+    base: usize,
+    mark: Option<Mark>,
+    act: KeptAct<Op>,
+)
+    requires room { vec_len kept.old < vec_capacity kept.old }
+    requires reach { ForSome mark (λ mark. base ≤ mark.group) }
+    requires before { ForSome mark (λ mark. mark.group < base + vec_len kept.old) }
+    ensures items { kept.new.items ≡ marked_later base mark kept.old.items ++ act ∷ [] }
+    ensures len { vec_len kept.new ≡ vec_len kept.old + 1 }
+{
+    if let Some(mark) = mark {
+        mark_all(&mut kept[mark.group - base..], mark);
+    }
+    kept.push_reserved(act);
+}
+
+/// Draws the commands among acts that are to be drawn.
+///
+/// # Errors
+///
+/// Some of the commands were drawn.
+fn draw_kept<B: Board, D: Ledger, T: Ledger>(
+    board: &mut B,
+    kept: &[KeptAct<B::Op>],
+    draws: &mut Steps<D>,
+    tiles: &mut Steps<T>,
+) -> Result<(), AllocError>
+    ensures board { OnOk result (board.new ≡ fold B.drawn board.old (drawn_among kept.now)) }
+    ensures draws_rise { draws.old ≤ draws.new }
+    ensures few_draws { draws.new ≤ draws.old + length (commands_among kept.now) }
+    ensures tiles_rise { tiles.old ≤ tiles.new }
+{
+    for next in kept {
+        draw_act(board, &next.act.act, next.drawn, draws, tiles)?;
+    }
+    Ok(())
+}
+
+impl<B: Board> TrailingBoard<B> {
+    /// A board before the first act, where undo and redo reach the last `depth` points.
+    pub fn new(alloc: Global, depth: u32, blank: B) -> Result<Self, AllocError>
+        ensures { IfOk result (Trails B.drawn blank depth []) }
+    {
+        tables_follow::<B::Op>();
+        Ok(TrailingBoard {
+            board: blank,
+            table: StrokeTable::new(alloc, depth)?,
+            base: 0,
+            kept: Vec::new(alloc),
+            limit: SLACK,
+        })
+    }
+
+    /// Adds an act to the history.
+    ///
+    /// # Errors
+    ///
+    /// The board may trail no history then. Some commands may have been drawn.
+    pub fn take<D: Ledger, T: Ledger>(
+        &mut self,
+        act: UserAct<B::Op>,
+        draws: &mut Steps<D>,
+        tiles: &mut Steps<T>,
+    ) -> Result<(), AllocError>
+        ensures trails { OnOk result ((blank : B) (depth : ℕ) (acts : List (UserActOf B.Op))
+            → Trails B.drawn blank depth acts self.old
+            → Trails B.drawn blank depth (acts ++ act ∷ []) self.new) }
+        ensures draws_rise { draws.old ≤ draws.new }
+        ensures few_draws { OnOk result (draws.new + length (commands_among self.new.kept)
+            ≤ draws.old + length (commands_among self.old.kept) + 1) }
+        ensures tiles_rise { tiles.old ≤ tiles.new }
+    {
+        self.hold(act)?;
+        self.settle(draws, tiles)
+    }
+
+    /// Holds an act that comes next.
+    fn hold(&mut self, act: UserAct<B::Op>) -> Result<(), AllocError>
+        ensures trails { OnOk result ((blank : B) (depth : ℕ) (acts : List (UserActOf B.Op))
+            → Trails B.drawn blank depth acts self.old
+            → Trails B.drawn blank depth (acts ++ act ∷ []) self.new) }
+        ensures few { OnOk result (length (commands_among self.new.kept)
+            ≤ length (commands_among self.old.kept) + 1) }
+    {
+        stroke_laws::<B::Op>();
+        self.push(act)
+    }
+
+    /// Holds an act that comes next.
+    fn push(&mut self, act: UserAct<B::Op>) -> Result<(), AllocError>
+        ensures known { OnOk result (IsHeldNext self.old act) }
+        ensures held { OnOk result (self.new ≡ with_act act self.old) }
+    {
+        let join = self.table.join_of(&act);
+        let mark = mark_of(&self.table, &act);
+        let drawn = is_draw(&act.act);
+        self.kept.reserve(1)?;
+        self.table.advance(&act)?;
+        let act = KeptAct { act, join, drawn };
+        add_later(&mut self.kept, self.base, mark, act);
+        Ok(())
+    }
+
+    /// Where many acts are held, draws those that no act can move any more, and lets them go.
+    fn settle<D: Ledger, T: Ledger>(
+        &mut self,
+        draws: &mut Steps<D>,
+        tiles: &mut Steps<T>,
+    ) -> Result<(), AllocError>
+        ensures trails { OnOk result ((blank : B) (depth : ℕ) (acts : List (UserActOf B.Op))
+            → Trails B.drawn blank depth acts self.old
+            → Trails B.drawn blank depth acts self.new) }
+        ensures draws_rise { draws.old ≤ draws.new }
+        ensures few_draws { OnOk result (draws.new + length (commands_among self.new.kept)
+            ≤ draws.old + length (commands_among self.old.kept)) }
+        ensures tiles_rise { tiles.old ≤ tiles.new }
+    {
+        if self.kept.len() < self.limit {
+            return Ok(());
+        }
+        self.draw_to_reach(draws, tiles)
+    }
+
+    /// Draws the acts before the oldest point in reach, and lets them go. After that as many acts
+    /// again may come as are left, and some more: so each is moved in memory but a few times.
+    fn draw_to_reach<D: Ledger, T: Ledger>(
+        &mut self,
+        draws: &mut Steps<D>,
+        tiles: &mut Steps<T>,
+    ) -> Result<(), AllocError>
+        ensures drawn { OnOk result (self.new ≡ drawn_to_reach B.drawn self.old) }
+        ensures draws_rise { draws.old ≤ draws.new }
+        ensures few_draws { OnOk result (draws.new + length (commands_among self.new.kept)
+            ≤ draws.old + length (commands_among self.old.kept)) }
+        ensures tiles_rise { tiles.old ≤ tiles.new }
+    {
+        let count = self.table.oldest() - self.base;
+        draw_kept(&mut self.board, &self.kept[..count], draws, tiles)?;
+        drop_first(&mut self.kept, count);
+        self.base += count;
+        self.limit = self.kept.len().saturating_mul(2).saturating_add(SLACK);
+        Ok(())
+    }
+
+    /// The board after all acts.
+    ///
+    /// # Errors
+    ///
+    /// Some of the commands were drawn.
+    pub fn finish<D: Ledger, T: Ledger>(
+        self,
+        draws: &mut Steps<D>,
+        tiles: &mut Steps<T>,
+    ) -> Result<B, AllocError>
+        ensures replay { IfOk result (λ board. (blank : B) (depth : ℕ)
+            (acts : List (UserActOf B.Op)) → Trails B.drawn blank depth acts self
+            → board ≡ replay B.drawn blank depth acts) }
+        ensures draws_rise { draws.old ≤ draws.new }
+        ensures few_draws { draws.new ≤ draws.old + length (commands_among self.kept) }
+        ensures tiles_rise { tiles.old ≤ tiles.new }
+    {
+        stroke_laws::<B::Op>();
+        let TrailingBoard {
+            mut board,
+            kept,
+            ..
+        } = self;
+        draw_kept(&mut board, &kept, draws, tiles)?;
+        Ok(board)
+    }
+}
