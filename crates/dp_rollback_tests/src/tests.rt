@@ -3,7 +3,7 @@
 ghost use Rattle.std.specs.Prelude.{◌≡◌, ◌<◌};
 
 use dp_board::{Act, Change, NumberBoard, SetNumber, UserAct, drawn_flags};
-use dp_rollback::{Rollback, few_are_due};
+use dp_rollback::{Rollback, TrailingBoard, few_are_due};
 use dp_steps::Steps;
 use std::alloc::{AllocError, Global};
 use std::marker::Brand;
@@ -254,4 +254,47 @@ fn check_memory<D: Ledger, T: Ledger>(
 #[test]
 fn a_hundred_thousand_acts(rt: HostRuntime) -> Result<(), Fail> {
     check_memory::<Brand, Brand>(&rt, rt.alloc(), Blank::new(1), Blank::new(1))
+}
+
+/// Has a board trail some two thousand acts, many more than it holds, and compares at the end.
+fn check_trailing<D: Ledger, T: Ledger>(
+    rt: &impl Abort,
+    alloc: Global,
+    draw_blank: Blank,
+    tile_blank: Blank,
+) -> Result<(), Fail>
+    requires draws { (draw_blank.name ≡ D.name) × (draw_blank.parts ≡ D.parts)
+        × (0 < draw_blank.parts) }
+    requires tiles { (tile_blank.name ≡ T.name) × (tile_blank.parts ≡ T.parts)
+        × (0 < tile_blank.parts) }
+{
+    let mut draws = Steps::<D>::new(draw_blank);
+    let mut tiles = Steps::<T>::new(tile_blank);
+    let mut script = String::new(alloc);
+    for number in 0..200 {
+        add_group(&mut script, number, number % 20)?;
+    }
+    for depth in [30, 3] {
+        let blank = NumberBoard::new(alloc, NUMBERS)?;
+        let mut board = TrailingBoard::new(alloc, depth, blank)?;
+        let mut acts = Vec::new(alloc);
+        for word in script.as_str().split_whitespace() {
+            let place = acts.len();
+            board.take(act_of(rt, word, place), &mut draws, &mut tiles)?;
+            acts.push(act_of(rt, word, place))?;
+        }
+        assert!(rt; acts.len() > 2000, "{} acts", acts.len());
+        let board = board.finish(&mut draws, &mut tiles)?;
+        assert_eq!(rt;
+            numbers_of(alloc, &board)?,
+            replayed(alloc, depth, &acts)?,
+            "at {depth}"
+        );
+    }
+    Ok(())
+}
+
+#[test]
+fn a_board_trails_two_thousand_acts(rt: HostRuntime) -> Result<(), Fail> {
+    check_trailing::<Brand, Brand>(&rt, rt.alloc(), Blank::new(1), Blank::new(1))
 }
