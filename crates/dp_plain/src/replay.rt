@@ -59,7 +59,10 @@ pub fn act_of_entry(entry: Entry) -> UserAct<Draw>
             who: moved_user(user, target),
         },
         Msg::Draw(command) => Act::Draw(command),
-        Msg::Control(_) | Msg::Meta(_) | Msg::Part(_) | Msg::Opaque { .. } => Act::Other,
+        Msg::Control(_control) => Act::Other,
+        Msg::Meta(_meta) => Act::Other,
+        Msg::Part(_part) => Act::Other,
+        Msg::Opaque { body: _body, .. } => Act::Other,
     };
     UserAct { user, act }
 }
