@@ -1,70 +1,211 @@
 -- Fills that wait for the tiles of a grid, tile by tile.
-use Rattle.std.proofs.Common.{◌≡◌, ◌≢◌, ℕ, ◌+◌, ◌*◌, ◌/◌, ◌%◌, ◌<◌, ◌≤◌, List, [], ◌∷◌, ◌++◌}
-use Rattle.std.proofs.Common.{length, get_or, set, take, fold, cond, Bool, true, false, ◌&&◌, leb, ltb}
-use Rattle.std.proofs.Common.{All, map, refl, sym, ◌∙◌, ap, subst, arith, ⊎_elim, replicate}
-use Rattle.std.specs.Prelude.{pos}
+use Rattle.std.proofs.Common.{◌≡◌, ℕ, ◌+◌, ◌-◌, ◌*◌, ◌/◌, ◌%◌, ◌<◌, ◌≤◌, List, [], ◌∷◌, ◌++◌}
+use Rattle.std.proofs.Common.{length, get_or, take, cond, Bool, true, false, ◌&&◌, leb, ltb}
+use Rattle.std.proofs.Common.{refl, sym, ◌∙◌, ap, arith, ◌⊎◌, inl, inr, ⊎_elim, replicate}
+use Rattle.std.proofs.Common.{Some, None, min}
+use Rattle.std.specs.Prelude.{pos, ℤ}
+use Rattle.std.proofs.lemmas.Int.{ints}
 use Rattle.std.proofs.lemmas.Bool.{cases_lt, cases_Bool, cond-true, cond-false, false≢true}
-use Rattle.std.proofs.lemmas.Bool.{false_from_ne_true, cases_eq, and_from, and_right, and_parts}
-use Rattle.std.proofs.lemmas.Bool.{le-leb, lt-ltb, le-ltb, leb-true, ltb-true}
-use Rattle.std.proofs.lemmas.List.{get_or-set_same, get_or-set_other, length-set, get_or_past}
-use Rattle.std.proofs.lemmas.List.{get_or-map, get_or-replicate, length-map}
-use Rattle.std.proofs.lemmas.List.{length-replicate, take_more}
-use Rattle.std.proofs.lemmas.List.Elements.{All-cons, All-head, All-nil, All-tail}
+use Rattle.std.proofs.lemmas.Bool.{false_from_ne_true, and_parts}
+use Rattle.std.proofs.lemmas.Bool.{le-leb, lt-ltb, leb-true, ltb-true}
+use Rattle.std.proofs.lemmas.List.{get_or_past, take_more}
 use Rattle.std.proofs.lemmas.List.Sums.{fold-append}
-use Rattle.dp_blend.specs.Color.{Channels, clear}
-use Rattle.dp_blend.specs.Canvas.{canvas_of, pixel_at}
-use Rattle.dp_blend.proofs.Canvas.{canvas_of-same, pixel_at-canvas_of}
+use Rattle.dp_blend.specs.Color.{Channels, clear, of_argb}
+use Rattle.dp_blend.specs.Blending.{blend, mode_numbered}
+use Rattle.dp_blend.specs.declared.modes.Mode.{Mode}
+use Rattle.dp_blend.specs.Canvas.{pixel_at}
+use Rattle.dp_blend.proofs.Canvas.{is_canvas_of, pixel_at-canvas_of}
 use Rattle.dp_msg_draw.specs.declared.draw.Draw.{Draw}
-use Rattle.dp_pixels.specs.Commands.{drawn, pixel_drawn, pixel_of, pixels_after}
-use Rattle.dp_pixels.specs.Feet.{foot, is_in_foot}
-use Rattle.dp_tile.specs.declared.area.CellArea.{CellArea}
-use Rattle.dp_tile.specs.Tiles.{IsGrid, TileGrid, cell_at, grid_pixel, grid_pixels, tile_of}
-use Rattle.dp_tile.specs.Areas.{IsPaintedOn, is_in_cells}
-use Rattle.dp_tile.proofs.Tiles.{length-tile_of}
-use Rattle.dp_paint.specs.Painting.{IsGridOf, IsPainting, tile_drawn}
-use Rattle.dp_paint.specs.declared.waiting.WaitingFill.{WaitingFill}
-use Rattle.dp_paint.specs.Waiting.{AreListed, IsPut, IsPutOn, fill_command, length-tile_after}
-use Rattle.dp_paint.specs.Waiting.{listed_at, pixels_after_all, tile_after}
-use Rattle.dp_paint.proofs.Drawn.{is_tile_drawn, pixel-tile_drawn}
-use Rattle.dp_paint.proofs.Painting.{StaysOutside, by_pixels}
+use Rattle.dp_msg_draw.specs.declared.draw.Draw.TheVariants.{FillRect}
+use Rattle.dp_pixels.specs.Commands.{pixel_after, pixel_drawn}
+use Rattle.dp_pixels.specs.Rectangles.{canvas_rect, is_in, rect_at}
+use Rattle.dp_pixels.proofs.Rectangles.{is_in-true, is_in_by}
+use Rattle.dp_tile.specs.Tiles.{IsGrid, TileGrid, cell_at, tile_of}
+use Rattle.dp_tile.specs.Areas.{with_part}
+use Rattle.dp_tile.proofs.Areas.{get_or-after, get_or-before, get_or-inside, length-with_part}
+use Rattle.dp_tile.proofs.Tiles.{length-tile_of, pixel-tile_of}
+use Rattle.dp_paint.specs.Painting.{tile_drawn}
+use Rattle.dp_paint.specs.declared.tile_fill.RectFill.{RectFill}
+use Rattle.dp_paint.specs.declared.tile_fill.TileFill.{TileFill}
+use Rattle.dp_paint.specs.Waiting.{Draws, fill_command, is_in_fill, length-tile_filled}
+use Rattle.dp_paint.specs.Waiting.{pixel_after_fills, pixel_filled, tile_after, tile_filled}
+use Rattle.dp_paint.proofs.Drawn.{is_tile_drawn}
 
--- ---- one command more
+-- ---- the part of a fill on a tile
 
--- a tile after one command more
-pub tile_after_more : (width height : ℕ) (ops : List Draw) (op : Draw) (col row : ℕ)
-    (pixels : List Channels) → tile_after width height (ops ++ op ∷ []) col row pixels
-    ≡ tile_drawn width height op col row (tile_after width height ops col row pixels)
-tile_after_more width height ops op col row pixels =
-    fold-append (λ old o. tile_drawn width height o col row old) pixels ops (op ∷ [])
+-- a column and a row are among those that are filled
+record IsFilled (f : TileFill) (x y : ℕ) : Type 0 where
+  pub left : f.left ≤ x
+  pub right : x < f.right
+  pub top : f.top ≤ y
+  pub bottom : y < f.bottom
 
--- ---- fills
+fill_facts : (f : TileFill) (x y : ℕ) → is_in_fill f x y ≡ true → IsFilled f x y
+fill_facts f x y t =
+    let a = and_parts (leb f.left x && ltb x f.right && leb f.top y) (ltb y f.bottom) t in
+    let b = and_parts (leb f.left x && ltb x f.right) (leb f.top y) a.0 in
+    let c = and_parts (leb f.left x) (ltb x f.right) b.0 in
+    record {
+      left = leb-true f.left x c.0;
+      right = ltb-true x f.right c.1;
+      top = leb-true f.top y b.1;
+      bottom = ltb-true y f.bottom a.1;
+    }
 
--- the command of each fill changes each pixel from the old one
-pub all_painting : (fills : List WaitingFill) → All IsPainting (map fill_command fills)
-all_painting [] = All-nil IsPainting
-all_painting (fill ∷ fills) =
-    All-cons IsPainting (fill_command fill) (map fill_command fills) tt (all_painting fills)
+fill_by : (f : TileFill) (x y : ℕ) → IsFilled f x y → is_in_fill f x y ≡ true
+fill_by f x y is =
+    rw (
+      le-leb f.left x is.left,
+      lt-ltb x f.right is.right,
+      le-leb f.top y is.top,
+      lt-ltb y f.bottom is.bottom,
+    ) refl
 
-module _ (fills : List WaitingFill) (k : ℕ) (d : WaitingFill) (inside : k < length fills) where
-  -- the commands of one fill more
-  pub commands_more : take (k + 1) (map fill_command fills)
-      ≡ take k (map fill_command fills) ++ fill_command (get_or fills k d) ∷ []
-  commands_more =
-      take_more (map fill_command fills) k (fill_command d)
-      (omega (arith, inside, length-map fills fill_command))
-      ∙ ap (λ (o : Draw). take k (map fill_command fills) ++ o ∷ [])
-      (get_or-map fill_command fills k d (fill_command d) inside)
+module _ (f : TileFill) (width height x y w h col row i j : ℕ)
+    (across : f.left ≤ i → i < f.right
+    → (x ≤ col * 64 + i) × (col * 64 + i < x + w) × (col * 64 + i < width))
+    (back_across : x ≤ col * 64 + i → col * 64 + i < x + w → col * 64 + i < width
+    → (f.left ≤ i) × (i < f.right))
+    (down : f.top ≤ j → j < f.bottom
+    → (y ≤ row * 64 + j) × (row * 64 + j < y + h) × (row * 64 + j < height))
+    (back_down : y ≤ row * 64 + j → row * 64 + j < y + h → row * 64 + j < height
+    → (f.top ≤ j) × (j < f.bottom)) where
+  abbrev at_x : ℤ
+  at_x = pos (col * 64 + i)
 
-  -- a tile after one fill more
-  pub tile_after_fill : (width height col row : ℕ) (start before new : List Channels)
-      → before ≡ tile_after width height (take k (map fill_command fills)) col row start
-      → new ≡ tile_drawn width height (fill_command (get_or fills k d)) col row before
-      → new ≡ tile_after width height (take (k + 1) (map fill_command fills)) col row start
-  tile_after_fill width height col row start before new first then =
-      let op = fill_command (get_or fills k d) in
-      then ∙ ap (tile_drawn width height op col row) first
-      ∙ sym (tile_after_more width height (take k (map fill_command fills)) op col row start)
-      ∙ ap (λ (l : List Draw). tile_after width height l col row start) (sym commands_more)
+  abbrev at_y : ℤ
+  at_y = pos (row * 64 + j)
+
+  -- a place that is filled is in the rectangle and on the canvas
+  filled_in : is_in_fill f i j ≡ true → (is_in (canvas_rect width height) at_x at_y ≡ true)
+      × (is_in (rect_at (pos x) (pos y) w h) at_x at_y ≡ true)
+  filled_in t =
+      let is = fill_facts f i j t in
+      let of_x = across is.left is.right in
+      let of_y = down is.top is.bottom in
+      let x0 = of_x.0 in
+      let x1 = of_x.1 in
+      let x2 = of_x.2 in
+      let y0 = of_y.0 in
+      let y1 = of_y.1 in
+      let y2 = of_y.2 in (
+        is_in_by (canvas_rect width height) at_x at_y (record {
+          x0 = omega (arith, ints);
+          x1 = omega (arith, ints);
+          y0 = omega (arith, ints);
+          y1 = omega (arith, ints);
+        }),
+        is_in_by (rect_at (pos x) (pos y) w h) at_x at_y (record {
+          x0 = omega (arith, ints);
+          x1 = omega (arith, ints);
+          y0 = omega (arith, ints);
+          y1 = omega (arith, ints);
+        }),
+      )
+
+  -- and the other way round
+  in_filled : is_in (canvas_rect width height) at_x at_y ≡ true
+      → is_in (rect_at (pos x) (pos y) w h) at_x at_y ≡ true → is_in_fill f i j ≡ true
+  in_filled canvas rect =
+      let c = is_in-true (canvas_rect width height) at_x at_y canvas in
+      let r = is_in-true (rect_at (pos x) (pos y) w h) at_x at_y rect in
+      let cx = c.x1 in
+      let cy = c.y1 in
+      let x0 = r.x0 in
+      let x1 = r.x1 in
+      let y0 = r.y0 in
+      let y1 = r.y1 in
+      let of_x = back_across (omega (arith, ints)) (omega (arith, ints)) (omega (arith, ints)) in
+      let of_y = back_down (omega (arith, ints)) (omega (arith, ints)) (omega (arith, ints)) in
+      fill_by f i j (record { left = of_x.0; right = of_x.1; top = of_y.0; bottom = of_y.1 })
+
+  module _ (layer mode : ℕ) (m : Mode) (is : mode_numbered mode ≡ Some m) (by : f.mode ≡ m)
+      (p : Channels) where
+    inside_fill : is_in_fill f i j ≡ true
+        → pixel_filled f i j p
+        ≡ pixel_drawn width height (FillRect layer mode x y w h f.color) at_x at_y p
+    inside_fill t =
+        let both = filled_in t in
+        rw (both.0, both.1, is, t, by) refl
+
+    outside_fill : is_in_fill f i j ≡ false
+        → pixel_filled f i j p
+        ≡ pixel_drawn width height (FillRect layer mode x y w h f.color) at_x at_y p
+    outside_fill t =
+        ⊎_elim (λ canvas.
+        let out : is_in (rect_at (pos x) (pos y) w h) at_x at_y ≡ false =
+        false_from_ne_true (is_in (rect_at (pos x) (pos y) w h) at_x at_y)
+        (λ rect. false≢true (sym t ∙ in_filled canvas rect)) in
+        rw (t, canvas, is, out) refl)
+        (λ canvas.
+        cond-false (is_in_fill f i j) (blend f.mode (of_argb f.color) p) p t
+        ∙ sym (cond-false (is_in (canvas_rect width height) at_x at_y)
+        (pixel_after (FillRect layer mode x y w h f.color) at_x at_y p) p canvas))
+        (cases_Bool (is_in (canvas_rect width height) at_x at_y))
+
+    pub fill_pixel : pixel_filled f i j p
+        ≡ pixel_drawn width height (FillRect layer mode x y w h f.color) at_x at_y p
+    fill_pixel = ⊎_elim inside_fill outside_fill (cases_Bool (is_in_fill f i j))
+
+-- a fill of no mode, which is one of no place
+pub no_mode : (f : TileFill) (width height layer mode x y w h color i j : ℕ) (px py : ℤ)
+    (p : Channels) → f.right ≡ 0 → mode_numbered mode ≡ None
+    → pixel_filled f i j p ≡ pixel_drawn width height (FillRect layer mode x y w h color) px py p
+no_mode f width height layer mode x y w h color i j px py p narrow none =
+    let op = FillRect layer mode x y w h color in
+    let on_canvas = is_in (canvas_rect width height) px py in
+    let stays : pixel_after op px py p ≡ p = rw none refl in
+    let out : is_in_fill f i j ≡ false = false_from_ne_true (is_in_fill f i j) (λ t.
+    let right = (fill_facts f i j t).right in
+    absurd (omega (arith, narrow, right))) in
+    cond-false (is_in_fill f i j) (blend f.mode (of_argb f.color) p) p out
+    ∙ sym (⊎_elim (λ canvas. cond-true on_canvas (pixel_after op px py p) p canvas ∙ stays)
+    (λ canvas. cond-false on_canvas (pixel_after op px py p) p canvas)
+    (cases_Bool on_canvas))
+
+-- ---- a tile after a fill
+
+module _ (f : TileFill) (pixels : List Channels) where
+  -- one of its pixels
+  pub pixel-tile_filled : (x y : ℕ) → x < 64 → y < 64
+      → pixel_at 64 (tile_filled f pixels) x y ≡ pixel_filled f x y (pixel_at 64 pixels x y)
+  unfolding tile_filled
+  pixel-tile_filled x y in_x in_y =
+      pixel_at-canvas_of 64 64 (λ x y. pixel_filled f x y (pixel_at 64 pixels x y)) x y in_x in_y
+
+  -- a list that has them at its places
+  pub is_tile_filled : (new : List Channels) → length new ≡ 4096
+      → ((x y : ℕ) → x < 64 → y < 64
+      → pixel_at 64 new x y ≡ pixel_filled f x y (pixel_at 64 pixels x y))
+      → new ≡ tile_filled f pixels
+  unfolding tile_filled
+  is_tile_filled new count each =
+      is_canvas_of 64 64 (λ x y. pixel_filled f x y (pixel_at 64 pixels x y)) new count each
+
+-- a fill that does at each place of a tile what a command does there
+pub is_drawn : (f : TileFill) (width height : ℕ) (op : Draw) (col row : ℕ)
+    → ((i j : ℕ) (p : Channels) → i < 64 → j < 64
+    → pixel_filled f i j p
+    ≡ pixel_drawn width height op (pos (col * 64 + i)) (pos (row * 64 + j)) p)
+    → (pixels : List Channels)
+    → tile_filled f pixels ≡ tile_drawn width height op col row pixels
+is_drawn f width height op col row each pixels =
+    is_tile_drawn width height op col row pixels (tile_filled f pixels)
+    (length-tile_filled f pixels)
+    (λ i j in_x in_y. pixel-tile_filled f pixels i j in_x in_y
+    ∙ each i j (pixel_at 64 pixels i j) in_x in_y)
+
+-- a fill of all of a tile of one colour
+pub whole_filled : (f : TileFill) (p q : Channels)
+    → ((x y : ℕ) → x < 64 → y < 64 → is_in_fill f x y ≡ true)
+    → q ≡ blend f.mode (of_argb f.color) p → tile_of q ≡ tile_filled f (tile_of p)
+whole_filled f p q whole is =
+    is_tile_filled f (tile_of p) (tile_of q) (length-tile_of q)
+    (λ x y in_x in_y.
+    let old : pixel_at 64 (tile_of p) x y ≡ p =
+    pixel-tile_of p (y * 64 + x) (omega (arith, in_x, in_y)) in
+    pixel-tile_of q (y * 64 + x) (omega (arith, in_x, in_y)) ∙ is
+    ∙ (rw (whole x y in_x in_y, old) refl))
 
 -- a tile that was filled with a colour
 pub filled : (p : Channels) (new : List Channels) (count : ℕ) → count ≡ 4096
@@ -72,272 +213,52 @@ pub filled : (p : Channels) (new : List Channels) (count : ℕ) → count ≡ 40
 unfolding tile_of
 filled p new count all is = is ∙ ap (λ (n : ℕ). replicate n p) all
 
--- ---- the lists of the tiles
+-- ---- fills one after the other
 
-either : (t : Bool) (xs ys : List Draw) → t ≡ true → xs ≡ cond t xs ys
-either t xs ys is = sym (cond-true t xs ys is)
+module _ (fills : List TileFill) (k : ℕ) (d : TileFill) (inside : k < length fills) where
+  -- a tile after one fill more
+  pub tile_after_fill : (start before new : List Channels)
+      → before ≡ tile_after (take k fills) start
+      → new ≡ tile_filled (get_or fills k d) before
+      → new ≡ tile_after (take (k + 1) fills) start
+  tile_after_fill start before new first then =
+      let f = get_or fills k d in
+      then ∙ ap (tile_filled f) first
+      ∙ sym (fold-append (λ old g. tile_filled g old) start (take k fills) (f ∷ []))
+      ∙ ap (λ (l : List TileFill). tile_after l start) (sym (take_more fills k d inside))
 
-neither : (t : Bool) (xs ys : List Draw) → t ≡ false → ys ≡ cond t xs ys
-neither t xs ys is = sym (cond-false t xs ys is)
+  -- a pixel after one fill more
+  pub pixel_after_fill : (x y : ℕ) (start before new : Channels)
+      → before ≡ pixel_after_fills (take k fills) x y start
+      → new ≡ pixel_filled (get_or fills k d) x y before
+      → new ≡ pixel_after_fills (take (k + 1) fills) x y start
+  pixel_after_fill x y start before new first then =
+      let f = get_or fills k d in
+      then ∙ ap (pixel_filled f x y) first
+      ∙ sym (fold-append (λ old g. pixel_filled g x y old) start (take k fills) (f ∷ []))
+      ∙ ap (λ (l : List TileFill). pixel_after_fills l x y start) (sym (take_more fills k d inside))
 
--- but for the number itself, the same numbers are below it and the next one
-below_next : (k n : ℕ) → k ≢ n → ltb k n ≡ ltb k (n + 1)
-below_next k n other =
-    ⊎_elim (λ lower. lt-ltb k n lower ∙ sym (lt-ltb k (n + 1) (omega arith)))
-    (λ upper. le-ltb k n upper ∙ sym (le-ltb k (n + 1) (omega (arith, other))))
-    (cases_lt k n)
+-- the pixel at a place of a tile after fills
+pub pixel-tile_after : (fills : List TileFill) (pixels : List Channels) (x y : ℕ) → x < 64 → y < 64
+    → pixel_at 64 (tile_after fills pixels) x y
+    ≡ pixel_after_fills fills x y (pixel_at 64 pixels x y)
+pixel-tile_after [] pixels x y in_x in_y = refl
+pixel-tile_after (f ∷ fills) pixels x y in_x in_y =
+    pixel-tile_after fills (tile_filled f pixels) x y in_x in_y
+    ∙ ap (pixel_after_fills fills x y) (pixel-tile_filled f pixels x y in_x in_y)
 
-module _ (left right : ℕ) (op : Draw) (old new : List (List Draw)) (list : List Draw)
-    (order : left ≤ right) (inside : right < length old) (before : IsPut left right op old new)
-    (is : list ≡ get_or new right [] ++ op ∷ []) where
-  abbrev more : ℕ → Bool
-  more col = leb left col && ltb col (right + 1)
+-- a list with a fill more draws what the fill does
+pub draws_more : (fill : RectFill) (col row : ℕ) (f : TileFill) (old new : List TileFill)
+    → new ≡ old ++ f ∷ []
+    → ((pixels : List Channels) → tile_filled f pixels
+    ≡ tile_drawn fill.width fill.height (fill_command fill) col row pixels)
+    → Draws fill col row old new
+draws_more fill col row f old new is drawn pixels count =
+    ap (λ (l : List TileFill). tile_after l pixels) is
+    ∙ fold-append (λ under g. tile_filled g under) pixels old (f ∷ [])
+    ∙ drawn (tile_after old pixels)
 
-  at_next : get_or (set new right list) right []
-      ≡ cond (more right) (get_or old right [] ++ op ∷ []) (get_or old right [])
-  at_next =
-      let stays : get_or new right [] ≡ get_or old right [] =
-      before.each right inside ∙ cond-false (leb left right && ltb right right)
-      (get_or old right [] ++ op ∷ []) (get_or old right [])
-      (and_right (leb left right) (ltb right right) (le-ltb right right (omega arith))) in
-      get_or-set_same new right list [] (omega (arith, before.len, inside))
-      ∙ is ∙ ap (λ (l : List Draw). l ++ op ∷ []) stays
-      ∙ either (more right) (get_or old right [] ++ op ∷ []) (get_or old right [])
-      (and_from (leb left right) (ltb right (right + 1)) (le-leb left right order)
-      (lt-ltb right (right + 1) (omega arith)))
-
-  at_other : (col : ℕ) → col < length old → col ≢ right → get_or (set new right list) col []
-      ≡ cond (more col) (get_or old col [] ++ op ∷ []) (get_or old col [])
-  at_other col in_row other =
-      get_or-set_other new right col list [] other ∙ before.each col in_row
-      ∙ ap (λ (t : Bool). cond (leb left col && t) (get_or old col [] ++ op ∷ [])
-      (get_or old col [])) (below_next col right other)
-
-  -- the next list of a row gets the command
-  pub put_next : IsPut left (right + 1) op old (set new right list)
-  put_next = record {
-    len = length-set new right list ∙ before.len;
-    each = λ col in_row.
-        ⊎_elim (λ here. rw here at_next) (λ other. at_other col in_row other)
-        (cases_eq col right);
-  }
-
--- no list of the row gets it
-pub put_none : (left : ℕ) (op : Draw) (lists : List (List Draw)) → IsPut left left op lists lists
-put_none left op lists = record {
-  len = refl;
-  each = λ col in_row. neither (leb left col && ltb col left) (get_or lists col [] ++ op ∷ [])
-      (get_or lists col [])
-      (false_from_ne_true (leb left col && ltb col left) (λ t.
-      let both = and_parts (leb left col) (ltb col left) t in
-      absurd (omega (arith, leb-true left col both.0, ltb-true col left both.1))));
-}
-
--- ---- the rows
-
-module _ (area : CellArea) (row : ℕ) (op : Draw) (old new : List (List (List Draw)))
-    (lists : List (List Draw)) (order : area.top ≤ row) (inside : row < length old)
-    (before : IsPutOn (record area { bottom = row }) op old new)
-    (put : IsPut area.left area.right op (get_or new row []) lists) where
-  in_new : row < length new
-  in_new = omega (arith, before.len, inside)
-
-  here : get_or (set new row lists) row [] ≡ lists
-  here = get_or-set_same new row lists [] in_new
-
-  other : (k : ℕ) → k ≢ row → get_or (set new row lists) k [] ≡ get_or new k []
-  other k is = get_or-set_other new row k lists [] is
-
-  -- in the row
-  abbrev across : ℕ → Bool
-  across col = leb area.left col && ltb col area.right
-
-  in_row : (a b : Bool) → (a && b && leb area.top row && ltb row (row + 1)) ≡ (a && b)
-  in_row true true = and_from (leb area.top row) (ltb row (row + 1)) (le-leb area.top row order)
-      (lt-ltb row (row + 1) (omega arith))
-  in_row true false = refl
-  in_row false b = refl
-
-  past_row : (a b : Bool) → (a && b && leb area.top row && ltb row row) ≡ false
-  past_row true true = and_right (leb area.top row) (ltb row row) (le-ltb row row (omega arith))
-  past_row true false = refl
-  past_row false b = refl
-
-  stays : (col : ℕ) → col < length (get_or old row []) → listed_at new col row
-      ≡ listed_at old col row
-  stays col in_cols =
-      before.each col row inside in_cols
-      ∙ cond-false (is_in_cells (record area { bottom = row }) col row)
-      (listed_at old col row ++ op ∷ []) (listed_at old col row)
-      (past_row (leb area.left col) (ltb col area.right))
-
-  at_row : (col : ℕ) → col < length (get_or old row [])
-      → listed_at (set new row lists) col row
-      ≡ cond (is_in_cells (record area { bottom = row + 1 }) col row)
-      (listed_at old col row ++ op ∷ []) (listed_at old col row)
-  at_row col in_cols =
-      ap (λ (l : List (List Draw)). get_or l col []) here
-      ∙ put.each col (omega (arith, before.wide row inside, in_cols))
-      ∙ ap (λ (l : List Draw). cond (across col) (l ++ op ∷ []) l) (stays col in_cols)
-      ∙ ap (λ (t : Bool). cond t (listed_at old col row ++ op ∷ []) (listed_at old col row))
-      (sym (in_row (leb area.left col) (ltb col area.right)))
-
-  at_other_row : (col k : ℕ) → k < length old → col < length (get_or old k []) → k ≢ row
-      → listed_at (set new row lists) col k
-      ≡ cond (is_in_cells (record area { bottom = row + 1 }) col k)
-      (listed_at old col k ++ op ∷ []) (listed_at old col k)
-  at_other_row col k in_old in_cols is =
-      ap (λ (l : List (List Draw)). get_or l col []) (other k is)
-      ∙ before.each col k in_old in_cols
-      ∙ ap (λ (t : Bool). cond (leb area.left col && ltb col area.right && leb area.top k && t)
-      (listed_at old col k ++ op ∷ []) (listed_at old col k)) (below_next k row is)
-
-  -- the next row gets the command
-  pub put_next_row : IsPutOn (record area { bottom = row + 1 }) op old (set new row lists)
-  put_next_row = record {
-    len = length-set new row lists ∙ before.len;
-    wide = λ k in_old.
-        ⊎_elim (λ is. rw is (ap length here ∙ put.len ∙ before.wide row inside))
-        (λ is. ap length (other k is) ∙ before.wide k in_old)
-        (cases_eq k row);
-    each = λ col k in_old in_cols.
-        ⊎_elim (λ is. rw is (at_row col (rw (← is) in_cols)))
-        (λ is. at_other_row col k in_old in_cols is)
-        (cases_eq k row);
-  }
-
--- no row gets it
-pub put_no_row : (area : CellArea) (op : Draw) (lists : List (List (List Draw)))
-    → IsPutOn (record area { bottom = area.top }) op lists lists
-put_no_row area op lists = record {
-  len = refl;
-  wide = λ row in_lists. refl;
-  each = λ col row in_lists in_row.
-      neither (is_in_cells (record area { bottom = area.top }) col row)
-      (listed_at lists col row ++ op ∷ []) (listed_at lists col row)
-      (none (leb area.left col) (ltb col area.right) row);
-}
-  where
-    none : (a b : Bool) (row : ℕ) → (a && b && leb area.top row && ltb row area.top) ≡ false
-    none true true row = false_from_ne_true (leb area.top row && ltb row area.top) (λ t.
-        let both = and_parts (leb area.top row) (ltb row area.top) t in
-        absurd (omega (arith, leb-true area.top row both.0, ltb-true row area.top both.1)))
-    none true false row = refl
-    none false b row = refl
-
--- ---- what is listed for a tile
-
--- so many lists without a command
-abbrev none : ℕ → List (List Draw)
-none cols = replicate cols []
-
--- no command is listed
-pub listed_none : (width height cols rows : ℕ)
-    → AreListed width height cols rows [] (replicate rows (none cols))
-listed_none width height cols rows = record {
-  len = length-replicate rows (none cols);
-  wide = λ row in_rows.
-      ap length (get_or-replicate rows row (none cols) [] in_rows) ∙ length-replicate cols [];
-  each = λ col row pixels in_cols in_rows count.
-      ap (λ (l : List Draw). tile_after width height l col row pixels)
-      (ap (λ (l : List (List Draw)). get_or l col [])
-      (get_or-replicate rows row (none cols) [] in_rows)
-      ∙ get_or-replicate cols col [] [] in_cols);
-}
-
-module _ (width height cols rows : ℕ) (op : Draw) (is : IsPainting op) (law : StaysOutside)
-    (wide : width ≤ 4096) (high : height ≤ 4096) (area : CellArea)
-    (covers : (x y : ℕ) → x < cols * 64 → y < rows * 64
-    → is_in_foot (foot op) (pos x) (pos y) ≡ true → is_in_cells area (x / 64) (y / 64) ≡ true)
-  where
-    -- a tile outside the area stays
-    tile_stays : (col row : ℕ) (pixels : List Channels) → col < cols → row < rows
-        → is_in_cells area col row ≡ false → length pixels ≡ 4096
-        → pixels ≡ tile_drawn width height op col row pixels
-    tile_stays col row pixels in_cols in_rows outside count =
-        is_tile_drawn width height op col row pixels pixels count (λ i j in_x in_y.
-        let x = col * 64 + i in
-        let y = row * 64 + j in
-        let p = pixel_at 64 pixels i j in
-        let at_x : x / 64 ≡ col = omega (arith, in_x) in
-        let at_y : y / 64 ≡ row = omega (arith, in_y) in
-        let out : is_in_foot (foot op) (pos x) (pos y) ≡ false = false_from_ne_true
-        (is_in_foot (foot op) (pos x) (pos y))
-        (λ t. false≢true (sym outside
-        ∙ subst (λ (n : ℕ). is_in_cells area n row ≡ true) at_x
-        (subst (λ (n : ℕ). is_in_cells area (x / 64) n ≡ true) at_y
-        (covers x y (omega (arith, in_x, in_cols)) (omega (arith, in_y, in_rows)) t)))) in
-        sym (sym (by_pixels width height op is (λ _ _. p) (pos x) (pos y))
-        ∙ law width height op (λ _ _. p) (pos x) (pos y) wide high out))
-
-    -- one command more is listed
-    pub listed_more : (ops : List Draw) (old new : List (List (List Draw)))
-        → AreListed width height cols rows ops old → IsPutOn area op old new
-        → AreListed width height cols rows (ops ++ op ∷ []) new
-    listed_more ops old new before put = record {
-      len = put.len ∙ before.len;
-      wide = λ row in_rows.
-          put.wide row (omega (arith, before.len, in_rows)) ∙ before.wide row in_rows;
-      each = λ col row pixels in_cols in_rows count.
-          let now = put.each col row (omega (arith, before.len, in_rows))
-          (omega (arith, before.wide row in_rows, in_cols)) in
-          let after = tile_after width height ops col row pixels in
-          let listed = before.each col row pixels in_cols in_rows count in
-          let old_list = listed_at old col row in
-          let here = λ (l : List Draw). tile_after width height l col row pixels in
-          ⊎_elim (λ inside.
-          ap here (now ∙ cond-true (is_in_cells area col row) (old_list ++ op ∷ []) old_list inside)
-          ∙ tile_after_more width height old_list op col row pixels
-          ∙ ap (tile_drawn width height op col row) listed
-          ∙ sym (tile_after_more width height ops op col row pixels))
-          (λ outside.
-          ap here (now ∙ cond-false (is_in_cells area col row) (old_list ++ op ∷ []) old_list
-          outside)
-          ∙ listed
-          ∙ tile_stays col row after in_cols in_rows outside
-          (length-tile_after width height ops col row pixels count)
-          ∙ sym (tile_after_more width height ops op col row pixels))
-          (cases_Bool (is_in_cells area col row));
-    }
-
--- ---- pixels
-
-module _ (width height : ℕ) where
-  -- the pixel at a place after commands
-  abbrev pub after : List Draw → ℕ → ℕ → Channels → Channels
-  after ops x y p = fold (λ old op. pixel_drawn width height op (pos x) (pos y) old) p ops
-
-  pub pixel-tile_after : (ops : List Draw) (col row : ℕ) (pixels : List Channels) (i j : ℕ)
-      → i < 64 → j < 64 → pixel_at 64 (tile_after width height ops col row pixels) i j
-      ≡ after ops (col * 64 + i) (row * 64 + j) (pixel_at 64 pixels i j)
-  pixel-tile_after [] col row pixels i j in_x in_y = refl
-  pixel-tile_after (op ∷ ops) col row pixels i j in_x in_y =
-      pixel-tile_after ops col row (tile_drawn width height op col row pixels) i j in_x in_y
-      ∙ ap (after ops (col * 64 + i) (row * 64 + j))
-      (pixel-tile_drawn width height op col row pixels i j in_x in_y)
-
-  canvas_drawn : (op : Draw) → IsPainting op → (f : ℕ → ℕ → Channels)
-      → pixels_after width height op (canvas_of width height f)
-      ≡ canvas_of width height (λ x y. pixel_drawn width height op (pos x) (pos y) (f x y))
-  canvas_drawn op is f =
-      let before = pixel_of width height (canvas_of width height f) in
-      canvas_of-same width height (λ x y. drawn width height op before (pos x) (pos y))
-      (λ x y. pixel_drawn width height op (pos x) (pos y) (f x y))
-      (λ x y in_x in_y.
-      let at : before (pos x) (pos y) ≡ f x y = rw (lt-ltb x width in_x, lt-ltb y height in_y)
-      (pixel_at-canvas_of width height f x y in_x in_y) in
-      by_pixels width height op is before (pos x) (pos y)
-      ∙ ap (pixel_drawn width height op (pos x) (pos y)) at)
-
-  pub canvas_after : (ops : List Draw) → All IsPainting ops → (f : ℕ → ℕ → Channels)
-      → pixels_after_all width height ops (canvas_of width height f)
-      ≡ canvas_of width height (λ x y. after ops x y (f x y))
-  canvas_after [] each f = refl
-  canvas_after (op ∷ ops) each f =
-      ap (pixels_after_all width height ops)
-      (canvas_drawn op (All-head IsPainting op ops each) f)
-      ∙ canvas_after ops (All-tail IsPainting op ops each)
-      (λ x y. pixel_drawn width height op (pos x) (pos y) (f x y))
+-- ---- cells
 
 -- a cell has 4096 pixels
 pub length-cell_at : (g : TileGrid) (col row : ℕ) → IsGrid g → length (cell_at g col row) ≡ 4096
@@ -347,39 +268,182 @@ length-cell_at g col row is =
     ∙ length-tile_of clear)
     (cases_lt (row * g.cols + col) (length g.cells))
 
--- a grid whose tiles were painted by what is listed for them
-pub grid_batch : (width height : ℕ) (ops : List Draw) (area : CellArea)
-    (lists : List (List (List Draw))) (old new : TileGrid) → All IsPainting ops → IsGrid old
-    → IsGridOf width height old → area.left ≡ 0 → area.right ≡ old.cols → area.top ≡ 0
-    → area.bottom ≡ old.rows → AreListed width height old.cols old.rows ops lists
-    → IsPaintedOn area (λ col row. tile_after width height (listed_at lists col row) col row)
-    old new
-    → grid_pixels width height new ≡ pixels_after_all width height ops
-    (grid_pixels width height old)
-grid_batch width height ops area lists old new each is_grid is_of left right top bottom listed
-    painted =
-    canvas_of-same width height (grid_pixel new)
-    (λ x y. after width height ops x y (grid_pixel old x y))
+-- ---- rows that are filled
+
+-- rows of a tile, filled from a column on before another, are what the fill makes of the tile
+module _ (f : TileFill) (left right top bottom : ℕ) (old part : List Channels)
+    (at_left : left ≡ f.left) (at_right : right ≡ min f.right 64) (at_top : top ≡ f.top)
+    (at_bottom : bottom ≡ min f.bottom 64) (order : top < bottom) (count : length old ≡ 4096)
+    (long : length part ≡ bottom * 64 - top * 64)
+    (each : (k : ℕ) (d : Channels) → k < bottom * 64 - top * 64 → get_or part k d
+    ≡ cond (leb left (k % 64) && ltb (k % 64) right)
+    (blend f.mode (of_argb f.color) (get_or old (top * 64 + k) d)) (get_or old (top * 64 + k) d))
+  where
+  abbrev new : List Channels
+  new = with_part (top * 64) (bottom * 64) old part
+
+  rising : top * 64 ≤ bottom * 64
+  rising = omega (arith, order)
+
+  fits : bottom * 64 ≤ length old
+  fits = omega (arith, at_bottom, count)
+
+  -- a pixel in the rows
+  in_rows : (x y : ℕ) → x < 64 → top ≤ y → y < bottom → get_or new (y * 64 + x) clear
+      ≡ cond (leb left x && ltb x right)
+      (blend f.mode (of_argb f.color) (get_or old (y * 64 + x) clear))
+      (get_or old (y * 64 + x) clear)
+  in_rows x y in_x from_top to_bottom =
+      let k = y * 64 + x - top * 64 in
+      let at_x : k % 64 ≡ x = omega (arith, in_x, from_top) in
+      let place : top * 64 + k ≡ y * 64 + x = omega (arith, from_top) in
+      get_or-inside (top * 64) (bottom * 64) old rising fits part long (y * 64 + x) clear
+      (omega (arith, from_top)) (omega (arith, to_bottom, in_x))
+      ∙ each k clear (omega (arith, from_top, to_bottom, in_x))
+      ∙ (rw (at_x, place) refl)
+
+  -- a pixel that is filled
+  is_filled : (x y : ℕ) → x < 64 → y < 64 → is_in_fill f x y ≡ true
+      → get_or new (y * 64 + x) clear ≡ pixel_filled f x y (get_or old (y * 64 + x) clear)
+  is_filled x y in_x in_y t =
+      let is = fill_facts f x y t in
+      in_rows x y in_x (omega (arith, at_top, is.top)) (omega (arith, at_bottom, in_y, is.bottom))
+      ∙ (rw (
+        le-leb left x (omega (arith, at_left, is.left)),
+        lt-ltb x right (omega (arith, at_right, in_x, is.right)),
+        t,
+      ) refl)
+
+  -- a pixel that stays
+  is_kept : (x y : ℕ) → x < 64 → y < 64 → is_in_fill f x y ≡ false
+      → get_or new (y * 64 + x) clear ≡ get_or old (y * 64 + x) clear
+  is_kept x y in_x in_y t =
+      ⊎_elim (λ above.
+      get_or-before (top * 64) (bottom * 64) old rising fits part long (y * 64 + x) clear
+      (omega (arith, above, in_x)))
+      (λ from_top. ⊎_elim (λ to_bottom.
+      in_rows x y in_x from_top to_bottom
+      ∙ cond-false (leb left x && ltb x right)
+      (blend f.mode (of_argb f.color) (get_or old (y * 64 + x) clear))
+      (get_or old (y * 64 + x) clear)
+      (false_from_ne_true (leb left x && ltb x right) (λ both.
+      let across = and_parts (leb left x) (ltb x right) both in
+      let from_left = leb-true left x across.0 in
+      let to_right = ltb-true x right across.1 in
+      false≢true (sym t ∙ fill_by f x y (record {
+        left = omega (arith, at_left, from_left);
+        right = omega (arith, at_right, to_right);
+        top = omega (arith, at_top, from_top);
+        bottom = omega (arith, at_bottom, to_bottom);
+      })))))
+      (λ below.
+      get_or-after (top * 64) (bottom * 64) old rising fits part long (y * 64 + x) clear
+      (omega (arith, below)))
+      (cases_lt y bottom))
+      (cases_lt y top)
+
+  pub rows_filled : new ≡ tile_filled f old
+  rows_filled =
+      is_tile_filled f old new
+      (length-with_part (top * 64) (bottom * 64) old rising fits part long ∙ count)
+      (λ x y in_x in_y.
+      ⊎_elim (is_filled x y in_x in_y)
+      (λ t. is_kept x y in_x in_y t ∙ (rw t refl))
+      (cases_Bool (is_in_fill f x y)))
+
+-- a fill without a column or a row keeps the tile
+pub none_filled : (f : TileFill) (old : List Channels) → length old ≡ 4096
+    → (min f.right 64 ≤ f.left) ⊎ (min f.bottom 64 ≤ f.top) → old ≡ tile_filled f old
+none_filled f old count none =
+    is_tile_filled f old old count
     (λ x y in_x in_y.
-    let col = x / 64 in
-    let row = y / 64 in
-    let in_cols : col < old.cols = omega (arith, is_of.cols, in_x) in
-    let in_rows : row < old.rows = omega (arith, is_of.rows, in_y) in
-    let cell = cell_at old col row in
-    let inside : is_in_cells area col row ≡ true = rw (left, right, top, bottom)
-    (rw (
-      le-leb 0 col (omega arith),
-      lt-ltb col old.cols in_cols,
-      le-leb 0 row (omega arith),
-      lt-ltb row old.rows in_rows,
-    ) refl) in
-    let at_x : col * 64 + x % 64 ≡ x = omega arith in
-    let at_y : row * 64 + y % 64 ≡ y = omega arith in
-    ap (λ pixels. pixel_at 64 pixels (x % 64) (y % 64))
-    (painted.cells col row in_cols in_rows
-    ∙ cond-true (is_in_cells area col row)
-    (tile_after width height (listed_at lists col row) col row cell) cell inside
-    ∙ listed.each col row cell in_cols in_rows (length-cell_at old col row is_grid))
-    ∙ pixel-tile_after width height ops col row cell (x % 64) (y % 64) (omega arith) (omega arith)
-    ∙ (rw (at_x, at_y) refl))
-    ∙ sym (canvas_after width height ops each (grid_pixel old))
+    let out : is_in_fill f x y ≡ false = false_from_ne_true (is_in_fill f x y) (λ t.
+    let is = fill_facts f x y t in
+    let a = is.left in
+    let b = is.right in
+    let c = is.top in
+    let d = is.bottom in
+    ⊎_elim (λ narrow. absurd (omega (arith, narrow, a, b, in_x)))
+    (λ low. absurd (omega (arith, low, c, d, in_y))) none) in
+    rw out refl)
+
+-- ---- a row of a tile that is filled
+
+module _ (mode : Mode) (src : Channels) (left right row : ℕ) (start old part : List Channels)
+    (order : left ≤ right) (within : right ≤ 64) (fits : row * 64 + 64 ≤ length old)
+    (long : length part ≡ row * 64 + right - (row * 64 + left))
+    (each : (k : ℕ) (d : Channels) → k < right - left
+    → get_or part k d ≡ blend mode src (get_or old (row * 64 + left + k) d))
+    (done : (k : ℕ) (d : Channels) → k < row * 64 → get_or old k d
+    ≡ cond (leb left (k % 64) && ltb (k % 64) right) (blend mode src (get_or start k d))
+    (get_or start k d))
+    (stay : (k : ℕ) (d : Channels) → row * 64 ≤ k → get_or old k d ≡ get_or start k d) where
+  abbrev from : ℕ
+  from = row * 64 + left
+
+  abbrev to : ℕ
+  to = row * 64 + right
+
+  abbrev filled_row : List Channels
+  filled_row = with_part from to old part
+
+  rising_row : from ≤ to
+  rising_row = omega (arith, order)
+
+  fits_row : to ≤ length old
+  fits_row = omega (arith, within, fits)
+
+  pub length-row_filled : length filled_row ≡ length old
+  length-row_filled = length-with_part from to old rising_row fits_row part long
+
+  -- a pixel of the row, in the columns
+  in_columns : (k : ℕ) (d : Channels) → from ≤ k → k < to
+      → get_or filled_row k d ≡ cond (leb left (k % 64) && ltb (k % 64) right)
+      (blend mode src (get_or start k d)) (get_or start k d)
+  in_columns k d from_left to_right =
+      let place : row * 64 + left + (k - from) ≡ k = omega (arith, from_left) in
+      let x0 : left ≤ k % 64 = omega (arith, within, from_left, to_right) in
+      let x1 : k % 64 < right = omega (arith, within, from_left, to_right) in
+      get_or-inside from to old rising_row fits_row part long k d from_left to_right
+      ∙ each (k - from) d (omega (arith, from_left, to_right))
+      ∙ ap (λ (n : ℕ). blend mode src (get_or old n d)) place
+      ∙ ap (blend mode src) (stay k d (omega (arith, from_left)))
+      ∙ (rw (le-leb left (k % 64) x0, lt-ltb (k % 64) right x1) refl)
+
+  -- one that isn't
+  off_columns : (k : ℕ) (d : Channels) → row * 64 ≤ k → k < row * 64 + 64
+      → (k < from) ⊎ (to ≤ k)
+      → get_or start k d ≡ cond (leb left (k % 64) && ltb (k % 64) right)
+      (blend mode src (get_or start k d)) (get_or start k d)
+  off_columns k d from_row in_row out =
+      sym (cond-false (leb left (k % 64) && ltb (k % 64) right)
+      (blend mode src (get_or start k d)) (get_or start k d)
+      (false_from_ne_true (leb left (k % 64) && ltb (k % 64) right) (λ both.
+      let across = and_parts (leb left (k % 64)) (ltb (k % 64) right) both in
+      let x0 = leb-true left (k % 64) across.0 in
+      let x1 = ltb-true (k % 64) right across.1 in
+      ⊎_elim (λ before. absurd (omega (arith, from_row, in_row, x0, x1, before)))
+      (λ past. absurd (omega (arith, from_row, in_row, x0, x1, past))) out)))
+
+  pub row_done : (k : ℕ) (d : Channels) → k < row * 64 + 64 → get_or filled_row k d
+      ≡ cond (leb left (k % 64) && ltb (k % 64) right) (blend mode src (get_or start k d))
+      (get_or start k d)
+  row_done k d up_to =
+      ⊎_elim (λ before.
+      get_or-before from to old rising_row fits_row part long k d before
+      ∙ ⊎_elim (λ earlier. done k d earlier)
+      (λ here. stay k d here ∙ off_columns k d here up_to (inl before))
+      (cases_lt k (row * 64)))
+      (λ from_left. ⊎_elim (λ to_right. in_columns k d from_left to_right)
+      (λ past.
+      get_or-after from to old rising_row fits_row part long k d past
+      ∙ stay k d (omega (arith, from_left))
+      ∙ off_columns k d (omega (arith, from_left)) up_to (inr past))
+      (cases_lt k to))
+      (cases_lt k from)
+
+  pub rest_stays : (k : ℕ) (d : Channels) → row * 64 + 64 ≤ k
+      → get_or filled_row k d ≡ get_or start k d
+  rest_stays k d past =
+      get_or-after from to old rising_row fits_row part long k d (omega (arith, within, past))
+      ∙ stay k d (omega (arith, past))

@@ -14,9 +14,11 @@ use Rattle.dp_pixels.specs.Commands.{drawn, pixel_drawn, pixel_of, pixels_after}
 use Rattle.dp_pixels.specs.Feet.{foot, is_in_foot}
 use Rattle.dp_pixels.specs.Regions.{IsPainted}
 use Rattle.dp_tile.specs.declared.area.CellArea.{CellArea}
-use Rattle.dp_tile.specs.Tiles.{TileGrid, cell_at, grid_pixel, grid_pixels}
+use Rattle.dp_pixels.specs.Tiles.{tiles_along}
+use Rattle.dp_tile.specs.Tiles.{TileGrid, cell_at, grid_pixels}
 use Rattle.dp_tile.specs.Areas.{IsPaintedOn, is_in_cells}
 use Rattle.dp_paint.specs.Painting.{IsGridOf, IsPainting, tile_drawn}
+use Rattle.dp_paint.specs.Waiting.{pixels_of_cells}
 use Rattle.dp_paint.proofs.Drawn.{is_tile_drawn, pixel-tile_drawn}
 
 -- a window of one tile that was painted
@@ -46,69 +48,88 @@ StaysOutside = (width height : ℕ) (op : Draw) (old : ℤ → ℤ → Channels)
     → width ≤ 4096 → height ≤ 4096 → is_in_foot (foot op) x y ≡ false
     → drawn width height op old x y ≡ old x y
 
-module _ (width height : ℕ) (op : Draw) (is : IsPainting op) (law : StaysOutside) (area : CellArea)
-    (old new : TileGrid) (is_of : IsGridOf width height old)
-    (covers : (x y : ℕ) → x < old.cols * 64 → y < old.rows * 64
+-- what a command makes of the tiles of an area is what it makes of the canvas
+module _ (width height : ℕ) (op : Draw) (is : IsPainting op) (law : StaysOutside)
+    (wide : width ≤ 4096) (high : height ≤ 4096) (area : CellArea)
+    (old new : ℕ → ℕ → List Channels)
+    (covers : (x y : ℕ) → x < tiles_along width * 64 → y < tiles_along height * 64
     → is_in_foot (foot op) (pos x) (pos y) ≡ true → is_in_cells area (x / 64) (y / 64) ≡ true)
-    (painted : IsPaintedOn area (tile_drawn width height op) old new) where
-  in_grid_x : (x : ℕ) → x < width → x / 64 < old.cols
-  in_grid_x x below = omega (arith, is_of.cols)
+    (inside : (col row : ℕ) → col < tiles_along width → row < tiles_along height
+    → is_in_cells area col row ≡ true → new col row ≡ tile_drawn width height op col row (old col row))
+    (outside : (col row : ℕ) → col < tiles_along width → row < tiles_along height
+    → is_in_cells area col row ≡ false → new col row ≡ old col row) where
+  abbrev before : ℕ → ℕ → Channels
+  before x y = pixel_at 64 (old (x / 64) (y / 64)) (x % 64) (y % 64)
 
-  in_grid_y : (y : ℕ) → y < height → y / 64 < old.rows
-  in_grid_y y below = omega (arith, is_of.rows)
+  abbrev after : ℕ → ℕ → Channels
+  after x y = pixel_at 64 (new (x / 64) (y / 64)) (x % 64) (y % 64)
 
   -- in a cell of the area
   in_area : (x y : ℕ) → x < width → y < height → is_in_cells area (x / 64) (y / 64) ≡ true
-      → grid_pixel new x y ≡ pixel_drawn width height op (pos x) (pos y) (grid_pixel old x y)
-  in_area x y in_x in_y inside =
+      → after x y ≡ pixel_drawn width height op (pos x) (pos y) (before x y)
+  in_area x y in_x in_y t =
       let col = x / 64 in
       let row = y / 64 in
-      let cell = painted.cells col row (in_grid_x x in_x) (in_grid_y y in_y) ∙ cond-true
-      (is_in_cells area col row) (tile_drawn width height op col row (cell_at old col row))
-      (cell_at old col row) inside in
+      let cell = inside col row (omega (arith, in_x)) (omega (arith, in_y)) t in
       let at_x : col * 64 + x % 64 ≡ x = omega arith in
       let at_y : row * 64 + y % 64 ≡ y = omega arith in
       ap (λ pixels. pixel_at 64 pixels (x % 64) (y % 64)) cell
-      ∙ pixel-tile_drawn width height op col row (cell_at old col row) (x % 64) (y % 64)
+      ∙ pixel-tile_drawn width height op col row (old col row) (x % 64) (y % 64)
       (omega arith) (omega arith)
       ∙ (rw (at_x, at_y) refl)
 
   -- in another cell
   off_area : (x y : ℕ) → x < width → y < height → is_in_cells area (x / 64) (y / 64) ≡ false
-      → grid_pixel new x y ≡ pixel_drawn width height op (pos x) (pos y) (grid_pixel old x y)
-  off_area x y in_x in_y outside =
+      → after x y ≡ pixel_drawn width height op (pos x) (pos y) (before x y)
+  off_area x y in_x in_y t =
       let col = x / 64 in
       let row = y / 64 in
-      let p = grid_pixel old x y in
-      let cell = painted.cells col row (in_grid_x x in_x) (in_grid_y y in_y) ∙ cond-false
-      (is_in_cells area col row) (tile_drawn width height op col row (cell_at old col row))
-      (cell_at old col row) outside in
+      let p = before x y in
+      let cell = outside col row (omega (arith, in_x)) (omega (arith, in_y)) t in
       let out : is_in_foot (foot op) (pos x) (pos y) ≡ false = false_from_ne_true
       (is_in_foot (foot op) (pos x) (pos y))
-      (λ t. false≢true (sym outside ∙ covers x y (omega (arith, is_of.cols, in_x))
-      (omega (arith, is_of.rows, in_y)) t)) in
+      (λ foot. false≢true (sym t ∙ covers x y (omega (arith, in_x)) (omega (arith, in_y)) foot)) in
       ap (λ pixels. pixel_at 64 pixels (x % 64) (y % 64)) cell
       ∙ sym (sym (by_pixels width height op is (λ _ _. p) (pos x) (pos y))
-      ∙ law width height op (λ _ _. p) (pos x) (pos y) is_of.wide is_of.high out)
+      ∙ law width height op (λ _ _. p) (pos x) (pos y) wide high out)
 
   pixel_painted : (x y : ℕ) → x < width → y < height
-      → grid_pixel new x y ≡ pixel_drawn width height op (pos x) (pos y) (grid_pixel old x y)
+      → after x y ≡ pixel_drawn width height op (pos x) (pos y) (before x y)
   pixel_painted x y in_x in_y =
       ⊎_elim (in_area x y in_x in_y) (off_area x y in_x in_y)
       (cases_Bool (is_in_cells area (x / 64) (y / 64)))
 
   pixel_before : (x y : ℕ) → x < width → y < height
-      → pixel_of width height (grid_pixels width height old) (pos x) (pos y) ≡ grid_pixel old x y
+      → pixel_of width height (pixels_of_cells width height old) (pos x) (pos y) ≡ before x y
   pixel_before x y in_x in_y =
       rw (lt-ltb x width in_x, lt-ltb y height in_y)
-      (pixel_at-canvas_of width height (grid_pixel old) x y in_x in_y)
+      (pixel_at-canvas_of width height before x y in_x in_y)
 
-  pub grid_painted : grid_pixels width height new
-      ≡ pixels_after width height op (grid_pixels width height old)
-  grid_painted =
-      let before = pixel_of width height (grid_pixels width height old) in
-      canvas_of-same width height (grid_pixel new)
-      (λ x y. drawn width height op before (pos x) (pos y))
+  pub cells_painted : pixels_of_cells width height new
+      ≡ pixels_after width height op (pixels_of_cells width height old)
+  cells_painted =
+      let first = pixel_of width height (pixels_of_cells width height old) in
+      canvas_of-same width height after (λ x y. drawn width height op first (pos x) (pos y))
       (λ x y in_x in_y. pixel_painted x y in_x in_y
-      ∙ sym (by_pixels width height op is before (pos x) (pos y)
+      ∙ sym (by_pixels width height op is first (pos x) (pos y)
       ∙ ap (pixel_drawn width height op (pos x) (pos y)) (pixel_before x y in_x in_y)))
+
+-- a grid of which an area was painted
+pub grid_painted : (width height : ℕ) (op : Draw) → IsPainting op → StaysOutside
+    → (area : CellArea) (old new : TileGrid) → IsGridOf width height old
+    → ((x y : ℕ) → x < old.cols * 64 → y < old.rows * 64
+    → is_in_foot (foot op) (pos x) (pos y) ≡ true → is_in_cells area (x / 64) (y / 64) ≡ true)
+    → IsPaintedOn area (tile_drawn width height op) old new
+    → grid_pixels width height new ≡ pixels_after width height op (grid_pixels width height old)
+grid_painted width height op is law area old new is_of covers painted =
+    cells_painted width height op is law is_of.wide is_of.high area (cell_at old) (cell_at new)
+    (λ x y in_x in_y. covers x y (omega (arith, is_of.cols, in_x))
+    (omega (arith, is_of.rows, in_y)))
+    (λ col row in_cols in_rows t.
+    painted.cells col row (omega (arith, is_of.cols, in_cols)) (omega (arith, is_of.rows, in_rows))
+    ∙ cond-true (is_in_cells area col row) (tile_drawn width height op col row (cell_at old col row))
+    (cell_at old col row) t)
+    (λ col row in_cols in_rows t.
+    painted.cells col row (omega (arith, is_of.cols, in_cols)) (omega (arith, is_of.rows, in_rows))
+    ∙ cond-false (is_in_cells area col row)
+    (tile_drawn width height op col row (cell_at old col row)) (cell_at old col row) t)

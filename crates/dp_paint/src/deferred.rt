@@ -1,6 +1,6 @@
 //! The pixels of a layer, with fills that wait until its tiles are painted otherwise or read.
 
-ghost use Rattle.std.specs.Prelude.{◌≡◌, ◌+◌, ◌*◌, ◌<◌, ◌≤◌, [], length, Some};
+ghost use Rattle.std.specs.Prelude.{◌≡◌, ◌+◌, ◌*◌, ◌<◌, ◌≤◌, [], length, Some, true, false};
 ghost use Rattle.std.specs.Prelude.{IfOk, IfSome, OnOk, OnErr};
 ghost use Rattle.dp_blend.specs.Color.{clear};
 ghost use Rattle.dp_blend.specs.Canvas.{canvas_of, part_of_row, pixel_at};
@@ -10,17 +10,17 @@ ghost use Rattle.dp_pixels.specs.Resizes.{pixels_resized};
 ghost use Rattle.dp_paint.specs.Painting.{IsPainting};
 ghost use Rattle.dp_paint.specs.Reading.{IsMove};
 ghost use Rattle.dp_pixels.specs.Tiles.{ShowsTile};
-ghost use Rattle.dp_paint.specs.Waiting.{fill_command};
 
 use crate::blank::{blank_grid, tiles_along};
 use crate::feet::cells_of;
 use crate::movement::move_in_place;
 use crate::paint::paint_in_place;
 use crate::resize::resized_grid;
-use crate::waiting::{RowLists, WaitingFill, fills_at, list_fills, read_filled, settle};
+use crate::tile_fill::RectFill;
+use crate::waiting::{RowLists, listed, paint_lists, put_fill, read_filled, settle, share_lists};
 use dp_blend::Pixel;
 use dp_msg_draw::Draw;
-use dp_pixels::{Resize, pixel_after};
+use dp_pixels::{Resize, pixels_stay_outside_the_foot};
 use dp_steps::Steps;
 use dp_tile::Grid;
 use std::alloc::{AllocError, Global};
@@ -30,7 +30,8 @@ use std::sync::ledger::Ledger;
 /// The most tiles that a fill which waits may change.
 const FEW_TILES: u32 = 64;
 
-/// How many fills wait at most, for each tile of the layer.
+/// On how many tiles fills wait at most, each tile counted for each of its fills, for each tile of
+/// the layer.
 const WAITING: usize = 512;
 
 /// The pixels of a layer on a canvas: a grid of tiles, and small fills that wait until their tiles
@@ -43,30 +44,25 @@ pub struct DeferredGrid {
     width: u32,
     height: u32,
     grid: Grid,
-    fills: Vec<WaitingFill>,
-    listed: Option<Vec<RowLists>>,
+    lists: Vec<RowLists>,
+    waiting: usize,
 }
 
 impl Model for DeferredGrid {
-    ghost use Rattle.std.specs.Prelude.{map};
-    ghost use Rattle.std.specs.Option.{ForSome};
     ghost use Rattle.dp_pixels.specs.Tiles.{tiles_along};
-    ghost use Rattle.dp_tile.specs.Tiles.{grid_pixels};
     ghost use Rattle.dp_paint.specs.Painting.{IsGridOf};
-    ghost use Rattle.dp_paint.specs.Waiting.{AreListed, LayerOf, fill_command, pixels_after_all};
+    ghost use Rattle.dp_paint.specs.Waiting.{AreLists, LayerOf, cell_after, pixels_of_cells};
 
     ghost Value = { LayerOf };
 
     ghost view = { λ d. record {
       width = d.width;
       height = d.height;
-      pixels = pixels_after_all d.width d.height (map fill_command d.fills.items)
-          (grid_pixels d.width d.height d.grid);
+      pixels = pixels_of_cells d.width d.height (cell_after d.lists.items d.grid);
     } };
 
     ghost invariant = { λ d. IsGridOf d.width d.height d.grid
-        × ForSome d.listed (λ rows. AreListed d.width d.height (tiles_along d.width)
-        (tiles_along d.height) (map fill_command d.fills.items) rows.items) };
+        × AreLists (tiles_along d.width) (tiles_along d.height) d.lists.items };
 }
 
 impl DeferredGrid {
@@ -85,8 +81,8 @@ impl DeferredGrid {
             width,
             height,
             grid,
-            fills: Vec::new(alloc),
-            listed: None,
+            lists: Vec::new(alloc),
+            waiting: 0,
         })
     }
 
@@ -99,27 +95,31 @@ impl DeferredGrid {
         let _ = &self.grid;
     }
 
-    /// Whether a fill waits: where it may change few tiles, and not too many wait.
-    fn may_wait(&self, command: &Draw) -> bool
+    /// Has a command wait on its tiles after the others, if it is a fill that changes few of them,
+    /// and not too many wait. Says whether it does.
+    fn wait(&mut self, command: &Draw) -> Result<bool, AllocError>
         requires { IsPainting command.now }
-    {
-        let area = cells_of(command, self.grid.cols(), self.grid.rows());
-        let reached = (area.right - area.left) * (area.bottom - area.top);
-        let all = self.grid.cols() as usize * self.grid.rows() as usize;
-        reached <= FEW_TILES && self.fills.len() < all * WAITING
-    }
-
-    /// Has a fill wait after the others.
-    fn wait(&mut self, fill: WaitingFill) -> Result<(), AllocError>
-        ensures ok { OnOk result (self.new ≡ record self.old {
+        ensures waits { IfOk result (λ waits. waits ≡ true → self.new ≡ record self.old {
           pixels = pixels_after self.old.width
-              self.old.height (fill_command fill) self.old.pixels;
+              self.old.height command.now self.old.pixels;
         }) }
+        ensures paints { IfOk result (λ waits. waits ≡ false → self.new ≡ self.old) }
         ensures err { OnErr result (self.new ≡ self.old) }
     {
-        self.fills.push(fill)?;
-        self.listed = None;
-        Ok(())
+        pixels_stay_outside_the_foot();
+        self.grid.known();
+        let Some(fill) = RectFill::of(command, self.width, self.height) else {
+            return Ok(false);
+        };
+        let (cols, rows) = (self.grid.cols(), self.grid.rows());
+        let area = cells_of(command, cols, rows);
+        let reached = (area.right - area.left) * (area.bottom - area.top);
+        if reached > FEW_TILES || self.waiting >= cols as usize * rows as usize * WAITING {
+            return Ok(false);
+        }
+        put_fill(&mut self.lists, self.grid.alloc(), fill, area, cols, rows)?;
+        self.waiting += reached as usize;
+        Ok(true)
     }
 
     /// Draws a command other than MoveRect.
@@ -141,19 +141,17 @@ impl DeferredGrid {
         ensures tiles_rise { tiles.old ≤ tiles.new }
         ensures few_tiles { tiles.new ≤ tiles.old + (4096 + reach command.now) }
     {
-        if let Some(fill) = WaitingFill::of(command) {
-            if self.may_wait(command) {
-                return self.wait(fill);
-            }
+        if self.wait(command)? {
+            return Ok(());
         }
         settle(
             &mut self.grid,
-            &mut self.fills,
+            &mut self.lists,
             self.width,
             self.height,
             tiles,
         )?;
-        self.listed = None;
+        self.waiting = 0;
         paint_in_place(&mut self.grid, self.width, self.height, command, tiles)
     }
 
@@ -178,12 +176,12 @@ impl DeferredGrid {
     {
         settle(
             &mut self.grid,
-            &mut self.fills,
+            &mut self.lists,
             self.width,
             self.height,
             tiles,
         )?;
-        self.listed = None;
+        self.waiting = 0;
         move_in_place(&mut self.grid, self.width, self.height, command, tiles)
     }
 
@@ -207,15 +205,14 @@ impl DeferredGrid {
         ensures tiles_rise { tiles.old ≤ tiles.new }
         ensures few_tiles { tiles.new ≤ tiles.old + 8192 }
     {
-        let mut fills = self.fills.clone()?;
         let mut grid = self.grid.share()?;
-        settle(&mut grid, &mut fills, self.width, self.height, tiles)?;
+        paint_lists(&mut grid, &self.lists, self.width, self.height, tiles)?;
         Ok(DeferredGrid {
             width: change.new_width as u32,
             height: change.new_height as u32,
             grid: resized_grid(&grid, change, tiles)?,
-            fills,
-            listed: None,
+            lists: Vec::new(grid.alloc()),
+            waiting: 0,
         })
     }
 
@@ -227,23 +224,16 @@ impl DeferredGrid {
             width: self.width,
             height: self.height,
             grid: self.grid.share()?,
-            fills: self.fills.clone()?,
-            listed: None,
+            lists: share_lists(self.grid.alloc(), &self.lists)?,
+            waiting: self.waiting,
         })
     }
 
-    /// Lists the fills that wait by their tiles, so that tiles are read fast. Nothing else changes.
+    /// Readies the tiles to be read. There is nothing to do: fills wait on their tiles from the
+    /// first. Nothing changes.
     pub fn list(&mut self) -> Result<(), AllocError>
         ensures { self.new ≡ self.old }
     {
-        if self.listed.is_none() && !self.fills.is_empty() {
-            self.listed = Some(list_fills(
-                self.grid.alloc(),
-                &self.fills,
-                self.width,
-                self.height,
-            )?);
-        }
         Ok(())
     }
 
@@ -256,7 +246,7 @@ impl DeferredGrid {
             self.now.pixels col row (Some color) []) }
     {
         self.grid.known();
-        if fills_at(&self.listed, &self.fills, col, row).is_empty() {
+        if listed(&self.lists, col, row).is_empty() {
             self.grid.tile_color(col, row)
         } else {
             None
@@ -273,15 +263,8 @@ impl DeferredGrid {
             pixels.new }
     {
         self.grid.known();
-        read_filled(
-            &self.grid,
-            fills_at(&self.listed, &self.fills, col, row),
-            self.width,
-            self.height,
-            col,
-            row,
-            pixels,
-        )
+        let fills = listed(&self.lists, col, row);
+        read_filled(&self.grid, fills, col, row, pixels)
     }
 
     /// The pixel at a place.
@@ -291,8 +274,8 @@ impl DeferredGrid {
         ensures { result ≡ pixel_at self.now.width self.now.pixels x y }
     {
         let mut pixel = self.grid.get(x, y);
-        for fill in &self.fills {
-            pixel = pixel_after(&fill.command(), x as i64, y as i64, pixel);
+        for fill in listed(&self.lists, x / 64, y / 64) {
+            pixel = fill.pixel_after(x % 64, y % 64, pixel);
         }
         pixel
     }

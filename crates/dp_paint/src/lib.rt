@@ -16,6 +16,7 @@ mod reading;
 mod resize;
 mod rows;
 mod stroke;
+mod tile_fill;
 mod waiting;
 
 pub use blank::blank_grid;

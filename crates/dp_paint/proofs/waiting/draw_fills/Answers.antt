@@ -3,6 +3,5 @@ use Rattle.dp_paint.proofs.waiting.draw_fills.Goals as goal
 
 pub loop-fill-preserved : goal.loop-fill-preserved
 loop-fill-preserved c =
-    tile_after_fill c.args.fills.now c.loop-fill.fill-index _ c.loop-fill-test.true c.args.width
-    c.args.height c.args.col c.args.row c.args.pixels.now c.loop-fill.pixels c.draw.new.pixels
-    c.loop-fill.invariant c.draw.ensures
+    tile_after_fill c.args.fills.now c.loop-fill.fill-index _ c.loop-fill-test.true
+    c.args.pixels.now c.loop-fill.pixels c.draw.new.pixels c.loop-fill.invariant c.draw.ensures

@@ -7,7 +7,6 @@ loop-fill-preserved c =
     record {
       shown =
           tile_after_fill c.args.fills.now c.loop-fill.fill-index _ c.loop-fill-test.true
-          c.args.width c.args.height c.args.col c.args.row
           (tile_pixels c.args.color c.args.pixels.now)
           (tile_pixels c.loop-fill.color c.loop-fill.pixels)
           (tile_pixels c.draw_on-color.result c.draw_on-color.new.pixels)

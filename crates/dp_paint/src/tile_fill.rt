@@ -1,0 +1,190 @@
+//! What a fill does on one tile.
+
+ghost use Rattle.std.specs.Prelude.{◌≡◌, ℕ, ◌+◌, ◌*◌, ◌<◌, ◌≤◌, ◌%◌, ◌&&◌, nat_le, nat_lt};
+ghost use Rattle.std.specs.Prelude.{true, List, length, slice_index_or, if◌then◌else◌, IfSome};
+ghost use Rattle.dp_blend.specs.Color.{Channels};
+ghost use Rattle.dp_blend.specs.Blending.{blend};
+ghost use Rattle.dp_paint.specs.Painting.{tile_drawn};
+ghost use Rattle.dp_paint.specs.Waiting.{fill_command, is_in_fill, pixel_filled, tile_filled};
+ghost use Rattle.dp_paint.specs.Waiting.{tile_pixels};
+
+use dp_blend::{Mode, Pixel, blend, of_argb, row_fill};
+use dp_msg_draw::Draw;
+use dp_tile::SIDE;
+
+/// A fill on a canvas: the numbers of its message, and the sides of the canvas.
+#[derive(Clone, Copy)]
+pub(crate) struct RectFill {
+    layer: u16,
+    mode: u8,
+    x: u32,
+    y: u32,
+    w: u32,
+    h: u32,
+    color: u32,
+    width: u32,
+    height: u32,
+}
+
+impl RectFill {
+    /// The fill that a command is, if it is one, on a canvas of these sides.
+    pub(crate) fn of(command: &Draw, width: u32, height: u32) -> Option<RectFill>
+        ensures command { IfSome result (λ fill. fill_command fill ≡ command.now) }
+        ensures width { IfSome result (λ fill. fill.width ≡ width) }
+        ensures height { IfSome result (λ fill. fill.height ≡ height) }
+    {
+        match command {
+            Draw::FillRect {
+                layer,
+                mode,
+                x,
+                y,
+                w,
+                h,
+                color,
+            } => Some(RectFill {
+                layer: *layer,
+                mode: *mode,
+                x: *x,
+                y: *y,
+                w: *w,
+                h: *h,
+                color: *color,
+                width,
+                height,
+            }),
+            _ => None,
+        }
+    }
+}
+
+/// Of the 64 numbers of a tile's side, those that are among `len` from `from` on, and below a limit:
+/// the first of them and the first after them, counted from the side's first. There is none where
+/// the second isn't above the first.
+fn part_of_side(tile: u32, from: u32, len: u32, limit: u32) -> (u8, u8)
+    requires { tile < 64 }
+    ensures among { (i : ℕ) → i < 64 → result.0 ≤ i → i < result.1 →
+        (from ≤ tile * 64 + i) × (tile * 64 + i < from + len) × (tile * 64 + i < limit) }
+    ensures all { (i : ℕ) → i < 64 → from ≤ tile * 64 + i → tile * 64 + i < from + len →
+        tile * 64 + i < limit → (result.0 ≤ i) × (i < result.1) }
+{
+    let first = tile as u64 * 64;
+    let to = (from as u64 + len as u64).min(limit as u64);
+    let start = (from as u64).clamp(first, first + 64) - first;
+    let end = to.clamp(first, first + 64) - first;
+    (start as u8, end as u8)
+}
+
+/// Blends a source with the pixels from `left` on before `right` of each row of a tile. The rows
+/// stand one after the other.
+fn rows_fill(mode: Mode, src: Pixel, left: usize, right: usize, rows: &mut [Pixel])
+    requires order { left ≤ right }
+    requires within { right ≤ 64 }
+    requires whole { length rows.old % 64 ≡ 0 }
+    ensures count { length rows.new ≡ length rows.old }
+    ensures places { (k : ℕ) (d : Channels) → k < length rows.old →
+        slice_index_or rows.new k d ≡ (if nat_le left (k % 64) && nat_lt (k % 64) right
+        then blend mode src (slice_index_or rows.old k d)
+        else slice_index_or rows.old k d) }
+{
+    for row in 0..rows.len() / SIDE {
+        let start = row * SIDE;
+        row_fill(mode, src, &mut rows[start + left..start + right]);
+    }
+}
+
+/// What a fill does on a tile: by a mode, a colour is blended with the pixels in the columns from
+/// `left` on before `right` and in the rows from `top` on before `bottom`.
+#[derive(Clone, Copy)]
+pub(crate) struct TileFill {
+    color: u32,
+    left: u8,
+    right: u8,
+    top: u8,
+    bottom: u8,
+    mode: Mode,
+}
+
+impl TileFill {
+    /// What a fill does on the tile at a column and a row.
+    pub(crate) fn of(fill: RectFill, col: u32, row: u32) -> TileFill
+        requires col { col < 64 }
+        requires row { row < 64 }
+        ensures { (pixels : List Channels) → tile_filled result pixels
+            ≡ tile_drawn fill.width fill.height (fill_command fill) col row pixels }
+    {
+        let (left, right) = part_of_side(col, fill.x, fill.w, fill.width);
+        let (top, bottom) = part_of_side(row, fill.y, fill.h, fill.height);
+        match Mode::from_u8(fill.mode) {
+            Some(mode) => TileFill {
+                color: fill.color,
+                left,
+                right,
+                top,
+                bottom,
+                mode,
+            },
+            None => TileFill {
+                color: fill.color,
+                left,
+                right: 0,
+                top,
+                bottom,
+                mode: Mode::Normal,
+            },
+        }
+    }
+
+    /// Whether it fills all of the tile.
+    fn is_whole(self) -> bool
+        ensures { result ≡ true → (x y : ℕ) → x < 64 → y < 64 → is_in_fill self x y ≡ true }
+    {
+        self.left == 0 && self.right >= 64 && self.top == 0 && self.bottom >= 64
+    }
+
+    /// The pixel at a column and a row of the tile after it, of the old one there.
+    pub(crate) fn pixel_after(self, x: u32, y: u32, old: Pixel) -> Pixel
+        ensures { result ≡ pixel_filled self x y old }
+    {
+        let is_in = self.left as u32 <= x
+            && x < self.right as u32
+            && self.top as u32 <= y
+            && y < self.bottom as u32;
+        if is_in {
+            blend(self.mode, of_argb(self.color), old)
+        } else {
+            old
+        }
+    }
+
+    /// Draws it on a tile.
+    pub(crate) fn draw(self, pixels: &mut [Pixel])
+        requires { length pixels.old ≡ 4096 }
+        ensures { pixels.new ≡ tile_filled self pixels.old }
+    {
+        let (left, right) = (self.left as usize, (self.right as usize).min(SIDE));
+        let (top, bottom) = (self.top as usize, (self.bottom as usize).min(SIDE));
+        if left < right && top < bottom {
+            let rows = &mut pixels[top * SIDE..bottom * SIDE];
+            rows_fill(self.mode, of_argb(self.color), left, right, rows);
+        }
+    }
+
+    /// Draws it on a tile that is of one colour, if one is given, and else has these pixels. Gives
+    /// its colour then, if it is known to be of one.
+    pub(crate) fn draw_on(self, color: Option<Pixel>, pixels: &mut [Pixel]) -> Option<Pixel>
+        requires { length pixels.old ≡ 4096 }
+        ensures shown { tile_pixels result pixels.new
+            ≡ tile_filled self (tile_pixels color pixels.old) }
+        ensures count { length pixels.new ≡ 4096 }
+    {
+        if let Some(p) = color {
+            if self.is_whole() {
+                return Some(blend(self.mode, of_argb(self.color), p));
+            }
+            pixels.fill(p);
+        }
+        self.draw(pixels);
+        None
+    }
+}
