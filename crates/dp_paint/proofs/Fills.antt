@@ -1,6 +1,6 @@
 -- Fills that wait for the tiles of a grid, tile by tile.
-use Rattle.std.proofs.Common.{◌≡◌, ℕ, ◌+◌, ◌-◌, ◌*◌, ◌/◌, ◌%◌, ◌<◌, ◌≤◌, List, [], ◌∷◌, ◌++◌}
-use Rattle.std.proofs.Common.{length, get_or, take, cond, Bool, true, false, ◌&&◌, leb, ltb}
+use Rattle.std.proofs.Common.{◌≡◌, ℕ, ◌+◌, ◌-◌, ◌*◌, ◌%◌, ◌<◌, ◌≤◌, List, [], ◌∷◌, ◌++◌}
+use Rattle.std.proofs.Common.{length, get_or, take, cond, true, false, ◌&&◌, leb, ltb}
 use Rattle.std.proofs.Common.{refl, sym, ◌∙◌, ap, arith, ◌⊎◌, inl, inr, ⊎_elim, replicate}
 use Rattle.std.proofs.Common.{Some, None, min}
 use Rattle.std.specs.Prelude.{pos, ℤ}
@@ -279,77 +279,77 @@ module _ (f : TileFill) (left right top bottom : ℕ) (old part : List Channels)
     ≡ cond (leb left (k % 64) && ltb (k % 64) right)
     (blend f.mode (of_argb f.color) (get_or old (top * 64 + k) d)) (get_or old (top * 64 + k) d))
   where
-  abbrev new : List Channels
-  new = with_part (top * 64) (bottom * 64) old part
+    abbrev new : List Channels
+    new = with_part (top * 64) (bottom * 64) old part
 
-  rising : top * 64 ≤ bottom * 64
-  rising = omega (arith, order)
+    rising : top * 64 ≤ bottom * 64
+    rising = omega (arith, order)
 
-  fits : bottom * 64 ≤ length old
-  fits = omega (arith, at_bottom, count)
+    fits : bottom * 64 ≤ length old
+    fits = omega (arith, at_bottom, count)
 
-  -- a pixel in the rows
-  in_rows : (x y : ℕ) → x < 64 → top ≤ y → y < bottom → get_or new (y * 64 + x) clear
-      ≡ cond (leb left x && ltb x right)
-      (blend f.mode (of_argb f.color) (get_or old (y * 64 + x) clear))
-      (get_or old (y * 64 + x) clear)
-  in_rows x y in_x from_top to_bottom =
-      let k = y * 64 + x - top * 64 in
-      let at_x : k % 64 ≡ x = omega (arith, in_x, from_top) in
-      let place : top * 64 + k ≡ y * 64 + x = omega (arith, from_top) in
-      get_or-inside (top * 64) (bottom * 64) old rising fits part long (y * 64 + x) clear
-      (omega (arith, from_top)) (omega (arith, to_bottom, in_x))
-      ∙ each k clear (omega (arith, from_top, to_bottom, in_x))
-      ∙ (rw (at_x, place) refl)
+    -- a pixel in the rows
+    in_rows : (x y : ℕ) → x < 64 → top ≤ y → y < bottom → get_or new (y * 64 + x) clear
+        ≡ cond (leb left x && ltb x right)
+        (blend f.mode (of_argb f.color) (get_or old (y * 64 + x) clear))
+        (get_or old (y * 64 + x) clear)
+    in_rows x y in_x from_top to_bottom =
+        let k = y * 64 + x - top * 64 in
+        let at_x : k % 64 ≡ x = omega (arith, in_x, from_top) in
+        let place : top * 64 + k ≡ y * 64 + x = omega (arith, from_top) in
+        get_or-inside (top * 64) (bottom * 64) old rising fits part long (y * 64 + x) clear
+        (omega (arith, from_top)) (omega (arith, to_bottom, in_x))
+        ∙ each k clear (omega (arith, from_top, to_bottom, in_x))
+        ∙ (rw (at_x, place) refl)
 
-  -- a pixel that is filled
-  is_filled : (x y : ℕ) → x < 64 → y < 64 → is_in_fill f x y ≡ true
-      → get_or new (y * 64 + x) clear ≡ pixel_filled f x y (get_or old (y * 64 + x) clear)
-  is_filled x y in_x in_y t =
-      let is = fill_facts f x y t in
-      in_rows x y in_x (omega (arith, at_top, is.top)) (omega (arith, at_bottom, in_y, is.bottom))
-      ∙ (rw (
-        le-leb left x (omega (arith, at_left, is.left)),
-        lt-ltb x right (omega (arith, at_right, in_x, is.right)),
-        t,
-      ) refl)
+    -- a pixel that is filled
+    is_filled : (x y : ℕ) → x < 64 → y < 64 → is_in_fill f x y ≡ true
+        → get_or new (y * 64 + x) clear ≡ pixel_filled f x y (get_or old (y * 64 + x) clear)
+    is_filled x y in_x in_y t =
+        let is = fill_facts f x y t in
+        in_rows x y in_x (omega (arith, at_top, is.top)) (omega (arith, at_bottom, in_y, is.bottom))
+        ∙ (rw (
+          le-leb left x (omega (arith, at_left, is.left)),
+          lt-ltb x right (omega (arith, at_right, in_x, is.right)),
+          t,
+        ) refl)
 
-  -- a pixel that stays
-  is_kept : (x y : ℕ) → x < 64 → y < 64 → is_in_fill f x y ≡ false
-      → get_or new (y * 64 + x) clear ≡ get_or old (y * 64 + x) clear
-  is_kept x y in_x in_y t =
-      ⊎_elim (λ above.
-      get_or-before (top * 64) (bottom * 64) old rising fits part long (y * 64 + x) clear
-      (omega (arith, above, in_x)))
-      (λ from_top. ⊎_elim (λ to_bottom.
-      in_rows x y in_x from_top to_bottom
-      ∙ cond-false (leb left x && ltb x right)
-      (blend f.mode (of_argb f.color) (get_or old (y * 64 + x) clear))
-      (get_or old (y * 64 + x) clear)
-      (false_from_ne_true (leb left x && ltb x right) (λ both.
-      let across = and_parts (leb left x) (ltb x right) both in
-      let from_left = leb-true left x across.0 in
-      let to_right = ltb-true x right across.1 in
-      false≢true (sym t ∙ fill_by f x y (record {
-        left = omega (arith, at_left, from_left);
-        right = omega (arith, at_right, to_right);
-        top = omega (arith, at_top, from_top);
-        bottom = omega (arith, at_bottom, to_bottom);
-      })))))
-      (λ below.
-      get_or-after (top * 64) (bottom * 64) old rising fits part long (y * 64 + x) clear
-      (omega (arith, below)))
-      (cases_lt y bottom))
-      (cases_lt y top)
+    -- a pixel that stays
+    is_kept : (x y : ℕ) → x < 64 → y < 64 → is_in_fill f x y ≡ false
+        → get_or new (y * 64 + x) clear ≡ get_or old (y * 64 + x) clear
+    is_kept x y in_x in_y t =
+        ⊎_elim (λ above.
+        get_or-before (top * 64) (bottom * 64) old rising fits part long (y * 64 + x) clear
+        (omega (arith, above, in_x)))
+        (λ from_top. ⊎_elim (λ to_bottom.
+        in_rows x y in_x from_top to_bottom
+        ∙ cond-false (leb left x && ltb x right)
+        (blend f.mode (of_argb f.color) (get_or old (y * 64 + x) clear))
+        (get_or old (y * 64 + x) clear)
+        (false_from_ne_true (leb left x && ltb x right) (λ both.
+        let across = and_parts (leb left x) (ltb x right) both in
+        let from_left = leb-true left x across.0 in
+        let to_right = ltb-true x right across.1 in
+        false≢true (sym t ∙ fill_by f x y (record {
+          left = omega (arith, at_left, from_left);
+          right = omega (arith, at_right, to_right);
+          top = omega (arith, at_top, from_top);
+          bottom = omega (arith, at_bottom, to_bottom);
+        })))))
+        (λ below.
+        get_or-after (top * 64) (bottom * 64) old rising fits part long (y * 64 + x) clear
+        (omega (arith, below)))
+        (cases_lt y bottom))
+        (cases_lt y top)
 
-  pub rows_filled : new ≡ tile_filled f old
-  rows_filled =
-      is_tile_filled f old new
-      (length-with_part (top * 64) (bottom * 64) old rising fits part long ∙ count)
-      (λ x y in_x in_y.
-      ⊎_elim (is_filled x y in_x in_y)
-      (λ t. is_kept x y in_x in_y t ∙ (rw t refl))
-      (cases_Bool (is_in_fill f x y)))
+    pub rows_filled : new ≡ tile_filled f old
+    rows_filled =
+        is_tile_filled f old new
+        (length-with_part (top * 64) (bottom * 64) old rising fits part long ∙ count)
+        (λ x y in_x in_y.
+        ⊎_elim (is_filled x y in_x in_y)
+        (λ t. is_kept x y in_x in_y t ∙ (rw t refl))
+        (cases_Bool (is_in_fill f x y)))
 
 -- a fill without a column or a row keeps the tile
 pub none_filled : (f : TileFill) (old : List Channels) → length old ≡ 4096

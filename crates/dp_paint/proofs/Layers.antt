@@ -1,6 +1,6 @@
 -- The pixels of a layer whose fills wait on the tiles of a grid.
 use Rattle.std.proofs.Common.{◌≡◌, ℕ, ◌+◌, ◌*◌, ◌/◌, ◌%◌, ◌<◌, ◌≤◌, List, [], length}
-use Rattle.std.proofs.Common.{take, ap, sym, ◌∙◌, refl, true, false, arith, slice_index_or, subst}
+use Rattle.std.proofs.Common.{take, ap, sym, ◌∙◌, refl, true, arith, slice_index_or, subst}
 use Rattle.std.proofs.Common.{Ok, Err}
 use Rattle.std.specs.Prelude.{pos, Bool, ◌==◌, Option, Some, None, IfSome, Result, OnErr}
 use Rattle.std.specs.Option.{ForSome}
@@ -25,7 +25,7 @@ use Rattle.dp_paint.specs.declared.tile_fill.RectFill.{RectFill}
 use Rattle.dp_paint.specs.declared.tile_fill.TileFill.{TileFill}
 use Rattle.dp_paint.specs.Painting.{IsGridOf, IsPainting}
 use Rattle.dp_paint.specs.Reading.{IsResized}
-use Rattle.dp_paint.specs.Waiting.{FillList, HaveSameRows, IsAdded, LayerOf, cell_after}
+use Rattle.dp_paint.specs.Waiting.{FillList, IsAdded, LayerOf, cell_after}
 use Rattle.dp_paint.specs.Waiting.{fill_command, listed_at, pixel_after_fills, pixels_of_cells}
 use Rattle.dp_paint.specs.Waiting.{tile_after, tile_pixels}
 use Rattle.dp_paint.proofs.Fills.{length-cell_at, pixel-tile_after}

@@ -1,8 +1,7 @@
 -- Lists of fills that wait, by the columns and rows of their tiles.
 use Rattle.std.proofs.Common.{◌≡◌, ◌≢◌, ℕ, ◌+◌, ◌<◌, ◌≤◌, List, [], length, get_or, set}
 use Rattle.std.proofs.Common.{refl, sym, ◌∙◌, ap, subst, arith, ⊎_elim, ◌&&◌, leb, ltb}
-use Rattle.std.proofs.Common.{true, false, replicate, take, drop, ◌++◌}
-use Rattle.std.specs.Prelude.{All}
+use Rattle.std.proofs.Common.{true, replicate, take, drop, ◌++◌}
 use Rattle.std.proofs.lemmas.Bool.{cases_lt, cases_eq, false≢true, and_parts, leb-true, ltb-true}
 use Rattle.std.proofs.lemmas.Bool.{le-leb, lt-ltb}
 use Rattle.std.proofs.lemmas.List.{get_or-set_same, get_or-set_other, length-set, get_or_past}

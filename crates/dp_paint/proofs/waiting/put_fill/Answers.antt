@@ -1,4 +1,4 @@
-use Rattle.std.proofs.Common.{◌≡◌, ◌∙◌, List, arith, length, subst}
+use Rattle.std.proofs.Common.{◌∙◌, List, arith, subst}
 use Rattle.dp_paint.specs.Waiting.{FillList, HaveSameRows, IsPutOn}
 use Rattle.dp_paint.proofs.Lists.{is_added, refilled}
 use Rattle.dp_paint.proofs.waiting.put_fill.Goals as goal
