@@ -76,8 +76,8 @@ pub(crate) fn paint_area<P: TilePainter, T: Ledger>(
     paint_rows(&work, area.top, &mut rows[top..bottom], &mut palette, tiles)
 }
 
-// The colour of a row after it was painted, where all of it is painted and that is known of one
-// colour.
+// The colour of all tiles of a row after it is painted, where all of the row is painted and that is
+// known.
 fn color_after<P: TilePainter>(work: &Work<P>, row: u32, cells: &Row) -> Option<Pixel>
     requires row { row < 64 }
     ensures painted { IfSome result (λ p.
@@ -150,7 +150,8 @@ fn paint_rows<P: TilePainter, T: Ledger>(
     }
 }
 
-// Paints the columns of a row, and of the rows below.
+// Paints the columns of a row, and of the rows below. A row that becomes of one colour shares its
+// slots with the others that do.
 #[cycle(painting)]
 fn paint_row<P: TilePainter, T: Ledger>(
     work: &Work<P>,

@@ -5,4 +5,5 @@ use Rattle.dp_tile.proofs.row.Row.color.Given as goal
 
 -- the slots so far are of the colour
 abbrev pub invariant-loop-slot : goal.invariant-loop-slot
-invariant-loop-slot l = (k : ℕ) → k < l.slot-index → get_or l.slots k (tile_of clear) ≡ tile_of l.color
+invariant-loop-slot l =
+    (k : ℕ) → k < l.slot-index → get_or l.slots k (tile_of clear) ≡ tile_of l.color
