@@ -1,14 +1,12 @@
 //! What a fill does on one tile.
 
-ghost use Rattle.std.specs.Prelude.{◌≡◌, ℕ, ◌+◌, ◌*◌, ◌<◌, ◌≤◌, ◌%◌, ◌&&◌, nat_le, nat_lt};
-ghost use Rattle.std.specs.Prelude.{true, List, length, slice_index_or, if◌then◌else◌, IfSome};
+ghost use Rattle.std.specs.Prelude.{◌≡◌, ℕ, ◌+◌, ◌*◌, ◌<◌, ◌≤◌, true, List, length, IfSome};
 ghost use Rattle.dp_blend.specs.Color.{Channels};
-ghost use Rattle.dp_blend.specs.Blending.{blend};
 ghost use Rattle.dp_paint.specs.Painting.{tile_drawn};
 ghost use Rattle.dp_paint.specs.Waiting.{fill_command, is_in_fill, pixel_filled, tile_filled};
 ghost use Rattle.dp_paint.specs.Waiting.{tile_pixels};
 
-use dp_blend::{Mode, Pixel, blend, of_argb, row_fill};
+use dp_blend::{Mode, Pixel, blend, of_argb, rows_fill};
 use dp_msg_draw::Draw;
 use dp_tile::SIDE;
 
@@ -73,24 +71,6 @@ fn part_of_side(tile: u32, from: u32, len: u32, limit: u32) -> (u8, u8)
     let start = (from as u64).clamp(first, first + 64) - first;
     let end = to.clamp(first, first + 64) - first;
     (start as u8, end as u8)
-}
-
-/// Blends a source with the pixels from `left` on before `right` of each row of a tile. The rows
-/// stand one after the other.
-fn rows_fill(mode: Mode, src: Pixel, left: usize, right: usize, rows: &mut [Pixel])
-    requires order { left ≤ right }
-    requires within { right ≤ 64 }
-    requires whole { length rows.old % 64 ≡ 0 }
-    ensures count { length rows.new ≡ length rows.old }
-    ensures places { (k : ℕ) (d : Channels) → k < length rows.old →
-        slice_index_or rows.new k d ≡ (if nat_le left (k % 64) && nat_lt (k % 64) right
-        then blend mode src (slice_index_or rows.old k d)
-        else slice_index_or rows.old k d) }
-{
-    for row in 0..rows.len() / SIDE {
-        let start = row * SIDE;
-        row_fill(mode, src, &mut rows[start + left..start + right]);
-    }
 }
 
 /// What a fill does on a tile: by a mode, a colour is blended with the pixels in the columns from
@@ -166,7 +146,7 @@ impl TileFill {
         let (top, bottom) = (self.top as usize, (self.bottom as usize).min(SIDE));
         if left < right && top < bottom {
             let rows = &mut pixels[top * SIDE..bottom * SIDE];
-            rows_fill(self.mode, of_argb(self.color), left, right, rows);
+            rows_fill(self.mode, of_argb(self.color), left, right, SIDE, rows);
         }
     }
 
