@@ -181,7 +181,8 @@ same_fills_layer layer width height old new g view same =
 -- the layer of pixels that a command made
 pub layer_after : (layer : LayerOf) (width height : ℕ) (op : Draw)
     (old new : List (List FillList)) (g h : TileGrid) → layer_of width height old g ≡ layer
-    → layer_pixels width height new h ≡ pixels_after width height op (layer_pixels width height old g)
+    → layer_pixels width height new h
+    ≡ pixels_after width height op (layer_pixels width height old g)
     → layer_of width height new h
     ≡ record {
       width = layer.width;
@@ -241,7 +242,8 @@ pub added_layer : (width height : ℕ) (fill : RectFill) (op : Draw) → IsPaint
     → ((x y : ℕ) → x < g.cols * 64 → y < g.rows * 64
     → is_in_foot (foot op) (pos x) (pos y) ≡ true → is_in_cells area (x / 64) (y / 64) ≡ true)
     → IsAdded fill area old new
-    → layer_pixels width height new g ≡ pixels_after width height op (layer_pixels width height old g)
+    → layer_pixels width height new g
+    ≡ pixels_after width height op (layer_pixels width height old g)
 added_layer width height fill op is law area old new g command wide high is_grid is_of covers
     added =
     cells_painted width height op is law is_of.wide is_of.high area (cell_after old g)

@@ -55,7 +55,8 @@ module _ (width height : ℕ) (op : Draw) (is : IsPainting op) (law : StaysOutsi
     (covers : (x y : ℕ) → x < tiles_along width * 64 → y < tiles_along height * 64
     → is_in_foot (foot op) (pos x) (pos y) ≡ true → is_in_cells area (x / 64) (y / 64) ≡ true)
     (inside : (col row : ℕ) → col < tiles_along width → row < tiles_along height
-    → is_in_cells area col row ≡ true → new col row ≡ tile_drawn width height op col row (old col row))
+    → is_in_cells area col row ≡ true
+    → new col row ≡ tile_drawn width height op col row (old col row))
     (outside : (col row : ℕ) → col < tiles_along width → row < tiles_along height
     → is_in_cells area col row ≡ false → new col row ≡ old col row) where
   abbrev before : ℕ → ℕ → Channels
@@ -127,8 +128,8 @@ grid_painted width height op is law area old new is_of covers painted =
     (omega (arith, is_of.rows, in_y)))
     (λ col row in_cols in_rows t.
     painted.cells col row (omega (arith, is_of.cols, in_cols)) (omega (arith, is_of.rows, in_rows))
-    ∙ cond-true (is_in_cells area col row) (tile_drawn width height op col row (cell_at old col row))
-    (cell_at old col row) t)
+    ∙ cond-true (is_in_cells area col row)
+    (tile_drawn width height op col row (cell_at old col row)) (cell_at old col row) t)
     (λ col row in_cols in_rows t.
     painted.cells col row (omega (arith, is_of.cols, in_cols)) (omega (arith, is_of.rows, in_rows))
     ∙ cond-false (is_in_cells area col row)

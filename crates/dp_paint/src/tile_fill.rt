@@ -56,9 +56,9 @@ impl RectFill {
     }
 }
 
-/// Of the 64 numbers of a tile's side, those that are among `len` from `from` on, and below a limit:
-/// the first of them and the first after them, counted from the side's first. There is none where
-/// the second isn't above the first.
+/// Of the 64 numbers of a tile's side, those among `len` from `from` on that are below a limit: the
+/// first of them and the first after them, counted from the side's first. There is none where the
+/// second isn't above the first.
 fn part_of_side(tile: u32, from: u32, len: u32, limit: u32) -> (u8, u8)
     requires { tile < 64 }
     ensures among { (i : ℕ) → i < 64 → result.0 ≤ i → i < result.1 →

@@ -119,8 +119,8 @@ impl RowLists {
         Ok(())
     }
 
-    /// Puts a fill at the end of the lists from column `left` on before `right`, on the row of tiles
-    /// of this number.
+    /// Puts a fill at the end of the lists from column `left` on before `right`, on the row of
+    /// tiles of this number.
     fn put(&mut self, fill: RectFill, row: u32, left: u32, right: u32)
         requires row { row < 64 }
         requires order { left ≤ right }

@@ -18,5 +18,5 @@ returns c =
     pixel_of_layer c.args.self.now inside.width inside.height inside.lists.items inside.grid fills
     c.loop-fill.fill-index c.args.x c.args.y c.get-pixel.result c.loop-fill.pixel c.self.view_is
     (c.listed-fill-items.ensures ∙ ap (λ (l : List (List FillList)).
-    listed_at l (c.args.x / 64) (c.args.y / 64)) c.deref.ensures.value) end c.get-pixel.ensures c.loop-fill.invariant
-    c.requires.across c.requires.down
+    listed_at l (c.args.x / 64) (c.args.y / 64)) c.deref.ensures.value) end
+    c.get-pixel.ensures c.loop-fill.invariant c.requires.across c.requires.down

@@ -5,7 +5,8 @@ use Rattle.dp_blend.specs.Blending.{blend}
 use Rattle.dp_tile.proofs.Areas.{get_or-part, length-part}
 use Rattle.dp_paint.proofs.Fills.{none_filled, rows_filled}
 use Rattle.dp_paint.proofs.tile_fill.TileFill.draw.Goals as goal
-use Rattle.dp_paint.proofs.tile_fill.TileFill.draw.Goals.{else-left-right-via-then-left-right+else-top-bottom, else-left-right-via-else-left-right}
+use Rattle.dp_paint.proofs.tile_fill.TileFill.draw.Goals.{else-left-right-via-else-left-right}
+use Rattle.dp_paint.proofs.tile_fill.TileFill.draw.Goals.{else-left-right-via-then-left-right+else-top-bottom}
 
 pub returns-then-top-bottom : goal.returns-then-top-bottom
 returns-then-top-bottom c =
