@@ -3,10 +3,9 @@ use Rattle.std.proofs.Common.{◌≡◌, ℕ, List, [], refl, sym}
 use Rattle.std.specs.Prelude.{Option, Some, None, IfSome, IfNone}
 use Rattle.dp_blend.specs.Color.{Channels}
 use Rattle.dp_pixels.specs.Tiles.{ShowsTile}
-use Rattle.dp_tile.specs.Tiles.{IsGrid, IsOfColor, TileGrid, cell_at, grid_pixels, tile_of}
+use Rattle.dp_tile.specs.Tiles.{IsOfColor, TileGrid, cell_at, grid_pixels, tile_of}
 use Rattle.dp_paint.specs.Waiting.{tile_pixels}
 use Rattle.dp_paint.proofs.Layers.{shows_tile}
-use Rattle.dp_paint.proofs.Fills.{length-cell_at}
 
 -- a tile that was read has the pixels of its cell
 is_cell : (color : Option Channels) (pixels cell : List Channels)
@@ -17,19 +16,19 @@ is_cell None pixels cell some none = none
 
 -- it shows the layer
 pub shown_tile : (width height : ℕ) (g : TileGrid) (col row : ℕ) (color : Option Channels)
-    (pixels : List Channels) → IsGrid g
+    (pixels : List Channels)
     → IfSome color (λ p. cell_at g col row ≡ tile_of p)
     → IfNone color (pixels ≡ cell_at g col row)
     → ShowsTile width height (grid_pixels width height g) col row color pixels
-shown_tile width height g col row color pixels is_grid some none =
-    shows_tile width height [] g col row [] color pixels (λ _ _. refl)
-    (length-cell_at g col row is_grid) (is_cell color pixels (cell_at g col row) some none)
+shown_tile width height g col row color pixels some none =
+    shows_tile width height [] g col row color pixels
+    (is_cell color pixels (cell_at g col row) some none)
 
 -- and so does its colour, where it is known
 pub shown_color : (width height : ℕ) (g : TileGrid) (col row : ℕ) (color : Option Channels)
-    → IsGrid g → IsOfColor color (cell_at g col row)
+    → IsOfColor color (cell_at g col row)
     → IfSome color (λ p.
     ShowsTile width height (grid_pixels width height g) col row (Some p) [])
-shown_color width height g col row (Some p) is_grid is =
-    shown_tile width height g col row (Some p) [] is_grid (is p refl) tt
-shown_color width height g col row None is_grid is = tt
+shown_color width height g col row (Some p) is =
+    shown_tile width height g col row (Some p) [] (is p refl) tt
+shown_color width height g col row None is = tt

@@ -11,4 +11,4 @@ returns c =
     subst (λ (g : TileGrid). ShowsTile w h (grid_pixels w h g) c.args.col c.args.row
     c.read_tile.result c.read_tile.new.pixels) c.self.view_is
     (shown_tile w h c.self.inside.grid c.args.col c.args.row c.read_tile.result
-    c.read_tile.new.pixels c.known.ensures c.read_tile.ensures.color c.read_tile.ensures.pixels)
+    c.read_tile.new.pixels c.read_tile.ensures.color c.read_tile.ensures.pixels)

@@ -11,5 +11,5 @@ returns c =
     let h = c.args._height in
     subst (λ (g : TileGrid). IfSome c.tile_color.result (λ p.
     ShowsTile w h (grid_pixels w h g) c.args.col c.args.row (Some p) [])) c.self.view_is
-    (shown_color w h c.self.inside.grid c.args.col c.args.row c.tile_color.result c.known.ensures
+    (shown_color w h c.self.inside.grid c.args.col c.args.row c.tile_color.result
     c.tile_color.ensures)
