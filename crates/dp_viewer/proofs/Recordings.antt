@@ -1,7 +1,6 @@
 -- How reading a recording for a picture ends.
-use Rattle.std.proofs.Common.{◌≡◌, ◌⊎◌, ℕ, List, [], ◌∷◌, ◌++◌, refl, sym, ap, ◌∙◌, subst}
-use Rattle.std.proofs.Common.{inl, inr}
-use Rattle.std.specs.List.{after_last}
+use Rattle.std.proofs.Common.{◌≡◌, ◌⊎◌, ℕ, ◌-◌, List, [], ◌∷◌, ◌++◌, refl, sym, ap, ◌∙◌, subst}
+use Rattle.std.proofs.Common.{inl, inr, arith}
 use Rattle.std.proofs.Math.Seq.{take-nil}
 use Rattle.std.specs.Prelude.{Option, Some, None, IfSome, Result, Ok, Err, OnOk, is_err}
 use Rattle.std.specs.Prelude.{Bool, true, false}
@@ -13,16 +12,19 @@ use Rattle.dp_recording.specs.declared.reader.RecError.{RecError}
 use Rattle.dp_recording.specs.declared.reader.RecError.TheVariants.{BadHeader, Truncated, Message}
 use Rattle.dp_recording.specs.declared.reader.RecError.TheVariants.{ReadFault, Long, Memory}
 use Rattle.dp_recording.specs.Recordings.{Blames, EndsRecording, GoesOn, HasReadOf, end_of}
-use Rattle.dp_plain.specs.Replay.{is_mark}
+use Rattle.dp_msg_draw.specs.declared.draw.Draw.{Draw}
+use Rattle.dp_plain.specs.Board.{Board}
+use Rattle.dp_rollback.specs.Trailing.{Trailing}
 use Rattle.dp_viewer.specs.Ways.{first_of, play_way}
-use Rattle.dp_viewer.specs.Reading.{EndsReading, BlamesReading}
+use Rattle.dp_viewer.specs.Reading.{AreDue, EndsReading, BlamesReading, TrailsShown}
 
--- What was read of an input whose bytes are known, of which those are left: these entries are the
--- first, so many or all, of those that a reader gave.
-abbrev pub Shows : Option ℕ → Option (List ℕ) → Option (List ℕ) → List Entry → Phase → Type 0
-Shows at input left shown reader =
+-- What was read of an input whose bytes are known, of which those are left: the board trails what
+-- the first entries show, so many or all, of those that a reader gave, and `due` are left to show.
+abbrev pub ShowsFirst : Option ℕ → Option (List ℕ) → Option (List ℕ) → Trailing Board Draw
+    → Option ℕ → Phase → Type 0
+ShowsFirst at input left board due reader =
     IfSome input (λ bytes. (all : List Entry) × HasReadOf bytes left all reader
-    × (shown ≡ first_of at all))
+    × TrailsShown board (first_of at all) × AreDue at all due)
 
 -- what holds where a call answers `Ok`, where it didn't answer an error
 pub on-no-error : {A E P : Type 0} (r : Result A E) (b : Bool) → b ≡ is_err r → b ≡ false
@@ -35,59 +37,72 @@ none-first : (at : Option ℕ) → [] ≡ first_of at []
 none-first None = refl
 none-first (Some n) = sym (take-nil n)
 
+-- before the first entry all are due
+all-due : (at : Option ℕ) → AreDue at [] at
+all-due None = refl
+all-due (Some n) = let all : n ≡ n - 0 = omega arith in ap Some all
+
 -- nothing is read yet
-pub shows-first : (at : Option ℕ) (input : Option (List ℕ)) (shown : List Entry) (r : Phase)
-    → shown ≡ [] → r ≡ New → Shows at input input shown r
-shows-first at None shown r none new = tt
-shows-first at (Some bytes) shown r none new = (
+pub shows-first : (at : Option ℕ) (input : Option (List ℕ)) (board : Trailing Board Draw)
+    (r : Phase) → TrailsShown board [] → r ≡ New → ShowsFirst at input input board at r
+shows-first at None board r blank new = tt
+shows-first at (Some bytes) board r blank new = (
   [],
   subst (HasReadOf bytes (Some bytes) []) (sym new) (refl, refl),
-  none ∙ none-first at,
+  subst (TrailsShown board) (none-first at) blank,
+  all-due at,
 )
 
 -- one entry more
-pub shows-further : (at : Option ℕ) (input left now : Option (List ℕ)) (shown later : List Entry)
-    (entry : Entry) (old new : Phase)
+pub shows-further : (at : Option ℕ) (input left now : Option (List ℕ))
+    (board later : Trailing Board Draw) (due less : Option ℕ) (entry : Entry) (old new : Phase)
     → ((bytes : List ℕ) (es : List Entry) → HasReadOf bytes left es old
     → HasReadOf bytes now (es ++ entry ∷ []) new)
-    → ((all : List Entry) → shown ≡ first_of at all → later ≡ first_of at (all ++ entry ∷ []))
-    → Shows at input left shown old → Shows at input now later new
-shows-further at None left now shown later entry old new given kept told = tt
-shows-further at (Some bytes) left now shown later entry old new given kept (all, read, are) =
-    (all ++ entry ∷ [], given bytes all read, kept all are)
+    → ((at : Option ℕ) (all : List Entry) → AreDue at all due → TrailsShown board (first_of at all)
+    → TrailsShown later (first_of at (all ++ entry ∷ [])))
+    → ((at : Option ℕ) (all : List Entry) → AreDue at all due → AreDue at (all ++ entry ∷ []) less)
+    → ShowsFirst at input left board due old → ShowsFirst at input now later less new
+shows-further at None left now board later due less entry old new given more fewer told = tt
+shows-further at (Some bytes) left now board later due less entry old new given more fewer
+    (all, read, trails, are) = (
+      all ++ entry ∷ [],
+      given bytes all read,
+      more at all are trails,
+      fewer at all are,
+    )
 
 -- the recording came to its end
-pub shows-done : (at : Option ℕ) (input left now : Option (List ℕ)) (shown : List Entry)
-    (old : Phase)
+pub shows-done : (at : Option ℕ) (input left now : Option (List ℕ)) (board : Trailing Board Draw)
+    (due : Option ℕ) (old : Phase)
     → ((bytes : List ℕ) (es : List Entry) → HasReadOf bytes left es old
     → HasReadOf bytes now es Finished)
-    → Shows at input left shown old
-    → IfSome input (λ bytes. EndsReading (play_way at) bytes now shown run.Done)
-shows-done at None left now shown old done told = tt
-shows-done at (Some bytes) left now shown old done (all, read, are) =
-    (all, (done bytes all read).0, ap (after_last is_mark) are)
+    → ShowsFirst at input left board due old
+    → IfSome input (λ bytes. EndsReading (play_way at) bytes now board run.Done)
+shows-done at None left now board due old done told = tt
+shows-done at (Some bytes) left now board due old done (all, read, trails, are) =
+    (all, (done bytes all read).0, trails)
 
-ends-of : (at : Option ℕ) (bytes : List ℕ) (left : Option (List ℕ)) (shown all : List Entry)
-    (error : RecError) → EndsRecording bytes left all error → shown ≡ first_of at all
-    → EndsReading (play_way at) bytes left shown (end_of error)
-ends-of at bytes left shown all BadHeader ends are = ((all, ends.0), ends.1)
-ends-of at bytes left shown all (Truncated n) ends are =
-    (all, ends.0, ap (after_last is_mark) are)
-ends-of at bytes left shown all (Message n why) ends are = ((all, ends.0), ends.1)
-ends-of at bytes left shown all ReadFault ends are = ends
-ends-of at bytes left shown all Long ends are = ((all, ends.0), ends.1)
-ends-of at bytes left shown all Memory ends are = tt
+ends-of : (at : Option ℕ) (bytes : List ℕ) (left : Option (List ℕ)) (board : Trailing Board Draw)
+    (all : List Entry) (error : RecError) → EndsRecording bytes left all error
+    → TrailsShown board (first_of at all)
+    → EndsReading (play_way at) bytes left board (end_of error)
+ends-of at bytes left board all BadHeader ends trails = ((all, ends.0), ends.1)
+ends-of at bytes left board all (Truncated n) ends trails = (all, ends.0, trails)
+ends-of at bytes left board all (Message n why) ends trails = ((all, ends.0), ends.1)
+ends-of at bytes left board all ReadFault ends trails = ends
+ends-of at bytes left board all Long ends trails = ((all, ends.0), ends.1)
+ends-of at bytes left board all Memory ends trails = tt
 
 -- reading ended so
-pub shows-end : (at : Option ℕ) (input left now : Option (List ℕ)) (shown : List Entry)
-    (old : Phase) (error : RecError)
+pub shows-end : (at : Option ℕ) (input left now : Option (List ℕ)) (board : Trailing Board Draw)
+    (due : Option ℕ) (old : Phase) (error : RecError)
     → ((bytes : List ℕ) (es : List Entry) → HasReadOf bytes left es old
     → EndsRecording bytes now es error)
-    → Shows at input left shown old
-    → IfSome input (λ bytes. EndsReading (play_way at) bytes now shown (end_of error))
-shows-end at None left now shown old error ends told = tt
-shows-end at (Some bytes) left now shown old error ends (all, read, are) =
-    ends-of at bytes now shown all error (ends bytes all read) are
+    → ShowsFirst at input left board due old
+    → IfSome input (λ bytes. EndsReading (play_way at) bytes now board (end_of error))
+shows-end at None left now board due old error ends told = tt
+shows-end at (Some bytes) left now board due old error ends (all, read, trails, are) =
+    ends-of at bytes now board all error (ends bytes all read) trails
 
 blames-of : (at : Option ℕ) (before now : ℕ) (error : RecError) → Blames before now error
     → BlamesReading (play_way at) before now (end_of error)

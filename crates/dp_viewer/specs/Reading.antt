@@ -1,43 +1,60 @@
 -- What was read of an input, and what is written of it.
-use Rattle.std.specs.Prelude.{◌≡◌, ◌⊎◌, ℕ, List, Option, ⊤}
+use Rattle.std.specs.Prelude.{◌≡◌, ◌⊎◌, ℕ, ◌-◌, nat_lt, Bool, true, List, length, map, ⊤}
+use Rattle.std.specs.Prelude.{Option, Some, None}
 use Rattle.std.specs.Io.KnownBytes.{Appends, Keeps}
 use Rattle.std.specs.List.{after_last}
+use Rattle.std.specs.Option.{option_map}
 use Rattle.dp_io.specs.Faults.{Rose}
 use Rattle.dp_io.specs.Streams.{GrowsByPrefix}
 use Rattle.dp_messages.specs.declared.message.Entry.{Entry}
-use Rattle.dp_plain.specs.Replay.{is_mark, shown}
+use Rattle.dp_msg_draw.specs.declared.draw.Draw.{Draw}
+use Rattle.dp_plain.specs.Board.{Board, empty_board}
+use Rattle.dp_plain.specs.Commands.{draw}
+use Rattle.dp_plain.specs.Replay.{is_mark, shown, undo_depth, user_act_of}
 use Rattle.dp_plain.specs.Picture.{p6}
 use Rattle.dp_lines.specs.declared.run_end.RunEnd.{RunEnd}
 use Rattle.dp_lines.specs.declared.run_end.RunEnd.TheVariants.{Done, BadLine, ReadFault, WriteFault}
 use Rattle.dp_lines.specs.declared.run_end.RunEnd.TheVariants.{LinkFault, Memory, Long, Truncated}
 use Rattle.dp_lines.specs.declared.run_end.RunEnd.TheVariants.{BadMessage, Closed, BadHeader}
+use Rattle.dp_rollback.specs.Trailing.{Trailing, Trails}
 use Rattle.dp_viewer.specs.Ways.{Way}
 
--- these entries show what others do: those after the last mark of a reset are the same
-abbrev pub ShowTheSame : List Entry → List Entry → Type 0
-ShowTheSame kept entries = after_last is_mark kept ≡ after_last is_mark entries
+-- the board trails what these entries show: those after the last mark of a reset, from the empty
+-- board on
+abbrev pub TrailsShown : Trailing Board Draw → List Entry → Type 0
+TrailsShown board entries =
+    Trails draw empty_board undo_depth (map user_act_of (after_last is_mark entries)) board
 
--- How reading an input ended of which these bytes are left, where these entries are kept of it: by
--- its bytes, with a piece at most after what holds no cause; by a fault, with nothing after it; or
--- because memory ran out.
-abbrev pub EndsReading : Way → List ℕ → Option (List ℕ) → List Entry → RunEnd → Type 0
-EndsReading way input left kept Done =
-    (entries : List Entry) × way.comes input entries Done × ShowTheSame kept (way.shows entries)
-EndsReading way input left kept (Truncated n) =
+-- so many of the first entries are left to show after others, or all
+abbrev pub AreDue : Option ℕ → List Entry → Option ℕ → Type 0
+AreDue at entries due = due ≡ option_map (λ n. n - length entries) at
+
+-- one more entry is to be shown where so many are left to show, or all
+abbrev pub is_due : Option ℕ → Bool
+is_due None = true
+is_due (Some n) = nat_lt 0 n
+
+-- How reading an input ended of which these bytes are left, where the board trails what it shows:
+-- by its bytes, with a piece at most after what holds no cause; by a fault, with nothing after it;
+-- or because memory ran out.
+abbrev pub EndsReading : Way → List ℕ → Option (List ℕ) → Trailing Board Draw → RunEnd → Type 0
+EndsReading way input left board Done =
+    (entries : List Entry) × way.comes input entries Done × TrailsShown board (way.shows entries)
+EndsReading way input left board (Truncated n) =
     (entries : List Entry) × way.comes input entries (Truncated n)
-    × ShowTheSame kept (way.shows entries)
-EndsReading way input left kept ReadFault = way.took 0 input left
-EndsReading way input left kept Memory = ⊤
-EndsReading way input left kept Long =
+    × TrailsShown board (way.shows entries)
+EndsReading way input left board ReadFault = way.took 0 input left
+EndsReading way input left board Memory = ⊤
+EndsReading way input left board Long =
     ((entries : List Entry) × way.comes input entries Long) × way.took 4096 input left
-EndsReading way input left kept (BadMessage n) =
+EndsReading way input left board (BadMessage n) =
     ((entries : List Entry) × way.comes input entries (BadMessage n)) × way.took 4096 input left
-EndsReading way input left kept BadHeader =
+EndsReading way input left board BadHeader =
     ((entries : List Entry) × way.comes input entries BadHeader) × way.took 4096 input left
-EndsReading way input left kept (BadLine n) = ⊥
-EndsReading way input left kept WriteFault = ⊥
-EndsReading way input left kept LinkFault = ⊥
-EndsReading way input left kept Closed = ⊥
+EndsReading way input left board (BadLine n) = ⊥
+EndsReading way input left board WriteFault = ⊥
+EndsReading way input left board LinkFault = ⊥
+EndsReading way input left board Closed = ⊥
 
 -- the count of the input's faults after reading that ended so: a fault raised it, and else it
 -- stays; reading ends in no other way
@@ -68,11 +85,13 @@ ReadsToEnd LinkFault = ⊥
 ReadsToEnd Closed = ⊥
 ReadsToEnd BadHeader = ⊥
 
--- the picture was written and the run ends as given; or the output failed after a prefix of it; or
--- memory ran out before it
-abbrev pub WritesShown : Option (List ℕ) → Option (List ℕ) → ℕ → ℕ → List Entry → RunEnd → RunEnd
-    → Type 0
-WritesShown old new before now entries given end =
-    ((end ≡ given) × Appends old new (p6 (shown entries)) × (now ≡ before))
-    ⊎ ((end ≡ WriteFault) × GrowsByPrefix old new (p6 (shown entries)) × Rose before now)
+-- The picture of what the board trails was written and the run ends as given; or the output failed
+-- after a prefix of it; or memory ran out before it.
+abbrev pub WritesShown : Option (List ℕ) → Option (List ℕ) → ℕ → ℕ → Trailing Board Draw → RunEnd
+    → RunEnd → Type 0
+WritesShown old new before now board given end =
+    ((end ≡ given) × ((entries : List Entry) → TrailsShown board entries
+    → Appends old new (p6 (shown entries))) × (now ≡ before))
+    ⊎ ((end ≡ WriteFault) × ((entries : List Entry) → TrailsShown board entries
+    → GrowsByPrefix old new (p6 (shown entries))) × Rose before now)
     ⊎ ((end ≡ Memory) × Keeps old new × (now ≡ before))

@@ -6,13 +6,10 @@ ghost use Rattle.dp_viewer.specs.Pictures.{PictureLeaves};
 ghost use Rattle.dp_viewer.specs.Reading.{ReadsToEnd, WritesShown};
 ghost use Rattle.dp_viewer.specs.Ways.{play_way, replay_way};
 
-use crate::reading::{Reading, read_frames, read_recording};
-use dp_canvas::DeferredBoard;
+use crate::reading::{Reading, ShownBoard, blank_board, read_frames, read_recording};
 use dp_flat::{PictureEnd, write_p6};
 use dp_io::{Sink, Source};
 use dp_lines::RunEnd;
-use dp_messages::Entry;
-use dp_plain::show_on;
 use dp_steps::Steps;
 use std::alloc::Global;
 use std::sync::ledger::Ledger;
@@ -41,9 +38,12 @@ pub fn run_replay<I: Source, O: Sink, D: Ledger, T: Ledger>(
     ensures input_later { I.faults input.old ≤ I.faults input.new }
     ensures output_later { O.faults output.old ≤ O.faults output.new }
 {
-    let Reading { entries, end } = read_frames(alloc, input);
+    let Ok(blank) = blank_board(alloc) else {
+        return RunEnd::Memory;
+    };
+    let Reading { board, end } = read_frames(alloc, input, blank, draws, tiles);
     if reads_to_end(end) {
-        write_shown(alloc, &entries, output, end, draws, tiles)
+        write_shown(alloc, board, output, end, draws, tiles)
     } else {
         end
     }
@@ -74,9 +74,12 @@ pub fn run_play<I: Source, O: Sink, D: Ledger, T: Ledger>(
     ensures input_later { I.faults input.old ≤ I.faults input.new }
     ensures output_later { O.faults output.old ≤ O.faults output.new }
 {
-    let Reading { entries, end } = read_recording(alloc, input, at);
+    let Ok(blank) = blank_board(alloc) else {
+        return RunEnd::Memory;
+    };
+    let Reading { board, end } = read_recording(alloc, input, at, blank, draws, tiles);
     if reads_to_end(end) {
-        write_shown(alloc, &entries, output, end, draws, tiles)
+        write_shown(alloc, board, output, end, draws, tiles)
     } else {
         end
     }
@@ -90,27 +93,26 @@ fn reads_to_end(end: RunEnd) -> bool
     matches!(end, RunEnd::Done | RunEnd::Truncated(_))
 }
 
-/// Writes the picture of what the entries show. Ends as given where it is written.
+/// Writes the picture of what the board trails. Ends as given where it is written.
 fn write_shown<O: Sink, D: Ledger, T: Ledger>(
     alloc: Global,
-    entries: &[Entry],
+    board: ShownBoard,
     output: &mut O,
     end: RunEnd,
     draws: &mut Steps<D>,
     tiles: &mut Steps<T>,
 ) -> RunEnd
     ensures shown { WritesShown (O.held output.old) (O.held output.new)
-        (O.faults output.old) (O.faults output.new) entries.now end result }
+        (O.faults output.old) (O.faults output.new) board end result }
     ensures later { O.faults output.old ≤ O.faults output.new }
 {
-    let blank = DeferredBoard::new(alloc);
-    let Ok(mut board) = show_on(alloc, blank, entries, draws, tiles) else {
+    let Ok(mut picture) = board.finish(draws, tiles) else {
         return RunEnd::Memory;
     };
-    if board.prepare().is_err() {
+    if picture.prepare().is_err() {
         return RunEnd::Memory;
     }
-    match write_p6(alloc, &board, output) {
+    match write_p6(alloc, &picture, output) {
         Ok(()) => end,
         Err(PictureEnd::Failed) => RunEnd::WriteFault,
         Err(PictureEnd::Memory) => RunEnd::Memory,

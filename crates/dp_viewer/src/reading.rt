@@ -1,122 +1,173 @@
-//! The entries of an input that are shown.
+//! The board of what an input shows.
 
-ghost use Rattle.std.specs.Prelude.{◌≡◌, ◌↔◌, ◌<◌, ◌≤◌, List, [], ◌∷◌, ◌++◌, IfSome, IsTrue};
-ghost use Rattle.std.specs.Prelude.{OnErr, OnOk};
+ghost use Rattle.std.specs.Prelude.{◌≡◌, ℕ, ◌-◌, ◌≤◌, List, [], ◌∷◌, ◌++◌, Option, IfSome, IfOk};
+ghost use Rattle.std.specs.Prelude.{OnOk};
 ghost use Rattle.std.specs.Io.KnownBytes.{IsAtEnd};
+ghost use Rattle.std.specs.Option.{option_map};
 ghost use Rattle.dp_messages.specs.declared.message.Entry.{Entry as Item};
 ghost use Rattle.dp_viewer.specs.Reading.{BlamesReading, EndsReading, ReadsToEnd};
-ghost use Rattle.dp_viewer.specs.Reading.{ShowTheSame};
+ghost use Rattle.dp_viewer.specs.Reading.{AreDue, TrailsShown, is_due};
 ghost use Rattle.dp_viewer.specs.Ways.{first_of, play_way, replay_way};
 
+use dp_canvas::DeferredBoard;
 use dp_entries::{Anywhere, EntryReader};
 use dp_io::Source;
 use dp_lines::RunEnd;
 use dp_messages::Entry;
+use dp_plain::{UNDO_DEPTH, act_of_entry};
 use dp_recording::RecordingReader;
+use dp_rollback::TrailingBoard;
+use dp_steps::Steps;
 use std::alloc::{AllocError, Global};
+use std::sync::ledger::Ledger;
 
 /// How many bytes of the input of `replay` count: 1 GiB.
 const INPUT_LIMIT: u64 = 1 << 30;
 
-/// Entries that show what the input does, and how reading it ended.
+/// A board that trails what an input shows.
+pub(crate) type ShownBoard = TrailingBoard<DeferredBoard>;
+
+/// The board of what the input shows, and how reading it ended.
 #[derive(Drop)]
 pub(crate) struct Reading {
-    pub entries: Vec<Entry>,
+    pub board: ShownBoard,
     pub end: RunEnd,
 }
 
-/// Reads frames to the input's end, to the first that carries nothing, or to the limit.
-pub(crate) fn read_frames<I: Source>(alloc: Global, input: &mut I) -> Reading
+/// The board of no entries.
+pub(crate) fn blank_board(alloc: Global) -> Result<ShownBoard, AllocError>
+    ensures { IfOk result (λ board. TrailsShown board []) }
+{
+    TrailingBoard::new(alloc, UNDO_DEPTH, DeferredBoard::new(alloc))
+}
+
+/// Reads frames to the input's end, to the first that carries nothing, or to the limit. What they
+/// show is drawn on the board of no entries.
+pub(crate) fn read_frames<I: Source, D: Ledger, T: Ledger>(
+    alloc: Global,
+    input: &mut I,
+    mut board: ShownBoard,
+    draws: &mut Steps<D>,
+    tiles: &mut Steps<T>,
+) -> Reading
+    requires { TrailsShown board [] }
     ensures told { IfSome (I.left input.old) (λ bytes.
-        EndsReading replay_way bytes (I.left input.new) result.entries.items result.end) }
+        EndsReading replay_way bytes (I.left input.new) result.board result.end) }
     ensures blames { BlamesReading replay_way (I.faults input.old) (I.faults input.new) result.end }
     ensures later { I.faults input.old ≤ I.faults input.new }
     ensures to_end { ReadsToEnd result.end → IsAtEnd (I.left input.new) }
 {
     let mut reader = EntryReader::<Anywhere>::new(alloc, 0, INPUT_LIMIT);
-    let mut entries = Vec::new(alloc);
     'entries: loop {
         let entry = match reader.next(alloc, input) {
             Ok(Some(entry)) => entry,
             Ok(None) => {
                 let end = RunEnd::Done;
-                return Reading { entries, end };
+                return Reading { board, end };
             }
             Err(end) => {
                 let end = end.run_end();
-                return Reading { entries, end };
+                return Reading { board, end };
             }
         };
-        if add(&mut entries, entry).is_err() {
+        if show(alloc, &mut board, entry, draws, tiles).is_err() {
             let end = RunEnd::Memory;
-            return Reading { entries, end };
+            return Reading { board, end };
         }
     }
 }
 
-/// Adds the next entry. A mark of a reset takes the place of all before it, which show nothing from
-/// there on.
-fn add(entries: &mut Vec<Entry>, entry: Entry) -> Result<(), AllocError>
-    ensures { OnOk result ((all : List Item) → ShowTheSame entries.old.items all
-        → ShowTheSame entries.new.items (all ++ entry ∷ [])) }
+/// Shows the next entry. A mark of a reset begins anew: all before it shows nothing from there on.
+fn show<D: Ledger, T: Ledger>(
+    alloc: Global,
+    board: &mut ShownBoard,
+    entry: Entry,
+    draws: &mut Steps<D>,
+    tiles: &mut Steps<T>,
+) -> Result<(), AllocError>
+    ensures { OnOk result ((all : List Item) → TrailsShown board.old all
+        → TrailsShown board.new (all ++ entry ∷ [])) }
 {
     if entry.msg.is_reset_mark() {
-        entries.clear();
+        *board = blank_board(alloc)?;
+        Ok(())
     } else {
-        entries.push(entry)?;
+        board.take(act_of_entry(entry), draws, tiles)
     }
-    Ok(())
 }
 
-/// Reads a recording in the same way. Of its entries the first are kept, so many, or all; those
+/// Reads a recording in the same way. Of its entries the first are shown, so many, or all; those
 /// after them are read all the same.
-pub(crate) fn read_recording<I: Source>(alloc: Global, input: &mut I, at: Option<u32>) -> Reading
+pub(crate) fn read_recording<I: Source, D: Ledger, T: Ledger>(
+    alloc: Global,
+    input: &mut I,
+    at: Option<u32>,
+    mut board: ShownBoard,
+    draws: &mut Steps<D>,
+    tiles: &mut Steps<T>,
+) -> Reading
+    requires { TrailsShown board [] }
     ensures told { IfSome (I.left input.old) (λ bytes.
-        EndsReading (play_way at) bytes (I.left input.new) result.entries.items result.end) }
+        EndsReading (play_way at) bytes (I.left input.new) result.board result.end) }
     ensures blames { BlamesReading (play_way at) (I.faults input.old) (I.faults input.new)
         result.end }
     ensures later { I.faults input.old ≤ I.faults input.new }
     ensures to_end { ReadsToEnd result.end → IsAtEnd (I.left input.new) }
 {
     let mut reader = RecordingReader::new();
-    let mut entries = Vec::new(alloc);
+    let mut due = at;
     'entries: loop {
         let entry = match reader.next(alloc, input) {
             Ok(Some(entry)) => entry,
             Ok(None) => {
                 let end = RunEnd::Done;
-                return Reading { entries, end };
+                return Reading { board, end };
             }
             Err(error) => {
                 let end = error.run_end();
-                return Reading { entries, end };
+                return Reading { board, end };
             }
         };
-        if keep(&mut entries, entry, at).is_err() {
+        if show_due(alloc, &mut board, &mut due, entry, draws, tiles).is_err() {
             let end = RunEnd::Memory;
-            return Reading { entries, end };
+            return Reading { board, end };
         }
     }
 }
 
-/// Adds the next entry where it is one of the first so many. After an error nothing has changed.
-fn keep(entries: &mut Vec<Entry>, entry: Entry, at: Option<u32>) -> Result<(), AllocError>
-    ensures kept { OnOk result ((all : List Item) → entries.old.items ≡ first_of at all
-        → entries.new.items ≡ first_of at (all ++ entry ∷ [])) }
-    ensures err { OnErr result (entries.new.items ≡ entries.old.items) }
+/// Shows the next entry where it is one of the first so many, of which `due` are left, or of all.
+fn show_due<D: Ledger, T: Ledger>(
+    alloc: Global,
+    board: &mut ShownBoard,
+    due: &mut Option<u32>,
+    entry: Entry,
+    draws: &mut Steps<D>,
+    tiles: &mut Steps<T>,
+) -> Result<(), AllocError>
+    ensures shown { OnOk result ((at : Option ℕ) (all : List Item) → AreDue at all due.old
+        → TrailsShown board.old (first_of at all)
+        → TrailsShown board.new (first_of at (all ++ entry ∷ []))) }
+    ensures left { (at : Option ℕ) (all : List Item) → AreDue at all due.old
+        → AreDue at (all ++ entry ∷ []) due.new }
 {
-    if is_shown(at, entries.len()) {
-        entries.push(entry)?;
+    if take_due(due) {
+        show(alloc, board, entry, draws, tiles)
+    } else {
+        Ok(())
     }
-    Ok(())
 }
 
-/// Whether an entry is shown before which so many are.
-fn is_shown(at: Option<u32>, before: usize) -> bool
-    ensures { IsTrue result ↔ IfSome at (λ n. before < n) }
+/// Whether one more entry is shown where `due` are left to show, or all. It is one less then.
+fn take_due(due: &mut Option<u32>) -> bool
+    ensures value { result ≡ is_due due.old }
+    ensures left { due.new ≡ option_map (λ n. n - 1) due.old }
 {
-    match at {
-        Some(n) => before < n as usize,
+    match due {
+        Some(n) => {
+            let is_due = *n > 0;
+            *n = n.saturating_sub(1);
+            is_due
+        }
         None => true,
     }
 }

@@ -1,12 +1,12 @@
 use Rattle.std.proofs.Common.{◌≡◌, ◌-◌, ◌^◌}
 use Rattle.std.specs.Prelude.{IsTrue}
-use Rattle.dp_viewer.proofs.Inputs.{Kept}
+use Rattle.dp_viewer.proofs.Inputs.{IsShown}
 use Rattle.dp_viewer.proofs.reading.read_frames.Given as goal
 
--- the entries show what those do that were read of the input, and no read failed
+-- the board trails what the entries show that were read of the input, and no read failed
 abbrev pub invariant-entries : goal.invariant-entries
 invariant-entries g l = record {
-  told : Kept (g.I.Source.left l.fn.input) (g.I.Source.left l.input) l.entries.items l.reader;
+  told : IsShown (g.I.Source.left l.fn.input) (g.I.Source.left l.input) l.board l.reader;
   first : l.reader.first ≡ 0;
   limit : l.reader.limit ≡ 2 ^ 30;
   not_ended : ¬ IsTrue l.reader.ended;

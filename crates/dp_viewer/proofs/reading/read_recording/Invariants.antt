@@ -1,12 +1,14 @@
 use Rattle.std.proofs.Common.{◌≡◌}
 use Rattle.dp_recording.specs.Recordings.{GoesOn, measure_of}
-use Rattle.dp_viewer.proofs.Recordings.{Shows}
+use Rattle.dp_viewer.proofs.Recordings.{ShowsFirst}
 use Rattle.dp_viewer.proofs.reading.read_recording.Given as goal
 
--- of the entries that the reader gave the first are kept, it has not ended, and no read failed
+-- the board trails what the first entries show that the reader gave, it has not ended, and no read
+-- failed
 abbrev pub invariant-entries : goal.invariant-entries
 invariant-entries g l = record {
-  told : Shows l.at (g.I.Source.left l.fn.input) (g.I.Source.left l.input) l.entries.items l.reader;
+  told : ShowsFirst l.fn.at (g.I.Source.left l.fn.input) (g.I.Source.left l.input) l.board l.due
+      l.reader;
   going : GoesOn l.reader;
   kept : g.I.Source.faults l.input ≡ g.I.Source.faults l.fn.input;
 }
