@@ -17,7 +17,8 @@ use Rattle.dp_board.specs.Strokes.{after_act, strokes, moved}
 use Rattle.dp_board.specs.Users.{groups_of}
 use Rattle.dp_board.specs.Joins.{join_in, join_of, joins}
 use Rattle.dp_board.specs.Table.{Table, strokes_of}
-use Rattle.dp_board.specs.Table.{begins_settled, without_settled, unsettled, next_strokes}
+use Rattle.dp_board.specs.Table.{begins_settled, without_settled, unsettled, kept_after}
+use Rattle.dp_board.specs.Table.{next_strokes}
 use Rattle.dp_board.specs.Table.{table_with, BeginsOutOfReach, IsGuarded, KeepsGroups}
 use Rattle.dp_board.specs.Table.{IsTableAfter, TablesBegin, TablesGoOn, TablesMove, TablesJoin}
 use Rattle.dp_board.proofs.TimesLemmas.{times, one_same, one_other, times-append, times-none}
@@ -258,6 +259,15 @@ KeepsGroups-unsettled w all kept keeps =
       guarded = splits.guarded;
     }
 
+-- they are kept whatever the act
+KeepsGroups-kept_after : {Op : Type 0} → (w : Window) (act : Act Op) (all kept : Groups)
+    → KeepsGroups w all kept → KeepsGroups w all (kept_after w act kept)
+KeepsGroups-kept_after w Point all kept keeps = KeepsGroups-unsettled w all kept keeps
+KeepsGroups-kept_after w (Undo who) all kept keeps = keeps
+KeepsGroups-kept_after w (Redo who) all kept keeps = keeps
+KeepsGroups-kept_after w (Draw op) all kept keeps = keeps
+KeepsGroups-kept_after w Other all kept keeps = keeps
+
 -- the strokes of a user after a history, by the table
 strokes-by_table : {Op : Type 0} → (depth user : ℕ) (acts : List (UserAct Op)) (table : Table)
     → IsTableAfter depth acts table → strokes depth user acts
@@ -358,7 +368,7 @@ groups-concerned depth user acts a table small same is =
     let kept = groups_of table.users user in
     let new : total p all ≡ 0 = (IsSound-strokes depth user acts).below p
     (omega (arith, is.position, position-is depth user acts)) in
-    let step = KeepsGroups-unsettled later (groups_after (strokes_with p w all) a.act)
+    let step = KeepsGroups-kept_after later a.act (groups_after (strokes_with p w all) a.act)
     (groups_after (strokes_with p w kept) a.act)
     (KeepsGroups-step p w all kept a.act new (is.groups user small)) in
     let full : (strokes depth user (acts ++ a ∷ [])).groups
@@ -367,10 +377,10 @@ groups-concerned depth user acts a table small same is =
     ∙ ap (λ b. if b then groups_after (strokes_with p w all) a.act else all)
     (eq-eqb (concerned a) user same) in
     let mine : groups_of (table_with (next_strokes table a) table).users user
-    ≡ unsettled later (groups_after (strokes_with p w kept) a.act) =
-    ap (λ u. groups_of (set table.users u (unsettled later
+    ≡ kept_after later a.act (groups_after (strokes_with p w kept) a.act) =
+    ap (λ u. groups_of (set table.users u (kept_after later a.act
     (groups_after (strokes_of table u) a.act))) user) same
-    ∙ get_or-set_same table.users user (unsettled later
+    ∙ get_or-set_same table.users user (kept_after later a.act
     (groups_after (strokes_with p w kept) a.act)) no_groups
     (omega (arith, is.count, small)) in
     subst (λ g. KeepsGroups later g (groups_of (table_with (next_strokes table a) table).users

@@ -3,6 +3,8 @@ use Rattle.std.specs.Prelude.{◌≡◌, ℕ, ◌+◌, ◌<◌, ◌&&◌, not, n
 use Rattle.std.specs.Prelude.{Option}
 use Rattle.std.specs.Prelude.{List, [], ◌∷◌, ◌++◌, length, slice_set, slice_index, min}
 use Rattle.std.specs.List.{fold, All}
+use Rattle.dp_board.specs.declared.act.Act.{Act}
+use Rattle.dp_board.specs.declared.act.Act.TheVariants.{Point}
 use Rattle.dp_board.specs.declared.act.UserAct.{UserAct}
 use Rattle.dp_board.specs.declared.join.Join.{Join}
 use Rattle.dp_board.specs.Strokes.{Window, Groups, Strokes, no_strokes, is_eligible, concerned}
@@ -68,6 +70,11 @@ without_settled w (group ∷ done) =
 abbrev pub unsettled : Window → Groups → Groups
 unsettled w g = record g { done = without_settled w g.done }
 
+-- a user's groups after an act, in the window after it: a Point has settled ones forgotten
+abbrev pub kept_after : {Op : Type 0} → Window → Act Op → Groups → Groups
+kept_after w Point g = unsettled w g
+kept_after w act g = g
+
 -- what an act makes of the strokes
 abbrev pub next_strokes : {Op : Type 0} → Table → UserAct Op → NextStrokes
 next_strokes table a = let window = window_after table.position a.act table.window in
@@ -75,7 +82,7 @@ next_strokes table a = let window = window_after table.position a.act table.wind
       position = table.position + 1;
       window = window;
       user = concerned a;
-      groups = unsettled window (groups_after (strokes_of table (concerned a)) a.act);
+      groups = kept_after window a.act (groups_after (strokes_of table (concerned a)) a.act);
     }
 
 -- the strokes with what an act makes of them

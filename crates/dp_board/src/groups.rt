@@ -37,7 +37,7 @@ impl UserGroups {
     ghost use Rattle.dp_board.specs.Strokes.{no_groups, last_of, is_eligible};
     ghost use Rattle.dp_board.specs.Strokes.{Strokes, groups_after, open_group, clear_undone};
     ghost use Rattle.dp_board.specs.Strokes.{undo, redo, undoable, redoable};
-    ghost use Rattle.dp_board.specs.Table.{unsettled};
+    ghost use Rattle.dp_board.specs.Table.{kept_after, unsettled};
 
     pub(crate) fn new(alloc: Global) -> Self
         ensures { result ≡ no_groups }
@@ -132,8 +132,18 @@ impl UserGroups {
         })
     }
 
+    /// Where the act that was taken last is a point, forgets done groups that are out of reach and
+    /// come before another that is out of reach.
+    pub(crate) fn tidy<Op>(&mut self, window: &PointWindow, act: &Act<Op>)
+        ensures { self.new ≡ kept_after window.now act.now self.old }
+    {
+        if matches!(act, Act::Point) {
+            self.forget_settled(window);
+        }
+    }
+
     /// Forgets done groups that are out of reach and come before another that is out of reach.
-    pub(crate) fn forget_settled(&mut self, window: &PointWindow)
+    fn forget_settled(&mut self, window: &PointWindow)
         ensures { self.new ≡ unsettled window.now self.old }
     {
         while begins_settled(&self.done, window) {

@@ -179,7 +179,7 @@ impl StrokeTable {
         window.take(self.position, &act.act)?;
         let mut groups = self.users[usize::from(user)].copy(alloc)?;
         groups.take(self.position, &self.window, &act.act)?;
-        groups.forget_settled(&window);
+        groups.tidy(&window, &act.act);
         Ok(NextStrokes {
             position: self.position + 1,
             window,
@@ -236,7 +236,7 @@ impl StrokeTable {
         let groups = &mut self.users[user];
         groups.take(self.position, &self.window, &act.act)?;
         self.window.take(self.position, &act.act)?;
-        groups.forget_settled(&self.window);
+        groups.tidy(&self.window, &act.act);
         self.position += 1;
         Ok(())
     }

@@ -191,9 +191,14 @@ fn without_commands(rt: HostRuntime) -> Result<(), Fail> {
     Ok(())
 }
 
-/// Takes the acts of a script at depth 2 one by one, and writes what each moves and joins: `-` for
-/// nothing, `0` for group 0.
-fn moves(rt: &impl Abort, alloc: Global, script: &str) -> Result<(String, String), AllocError> {
+/// Takes the acts of a script at depth 2 one by one, in place or not, and writes what each moves and
+/// joins: `-` for nothing, `0` for group 0.
+fn moves(
+    rt: &impl Abort,
+    alloc: Global,
+    script: &str,
+    in_place: bool,
+) -> Result<(String, String), AllocError> {
     let mut table = StrokeTable::new(alloc, 2)?;
     let mut moved = String::new(alloc);
     let mut joined = String::new(alloc);
@@ -210,7 +215,11 @@ fn moves(rt: &impl Abort, alloc: Global, script: &str) -> Result<(String, String
                 joined.push_str(format!(in alloc; "g{group}")?.as_str())?;
             }
         }
-        table.take(alloc, &act)?;
+        if in_place {
+            table.advance(&act)?;
+        } else {
+            table.take(alloc, &act)?;
+        }
     }
     Ok((moved, joined))
 }
@@ -228,9 +237,11 @@ fn one_act_at_a_time(rt: HostRuntime) -> Result<(), Fail> {
             "---------g3",
         ),
     ] {
-        let (moves, joins) = moves(&rt, rt.alloc(), script)?;
-        assert_eq!(rt; moves.as_str(), moved, "moved by {script}");
-        assert_eq!(rt; joins.as_str(), joined, "joined by {script}");
+        for in_place in [false, true] {
+            let (moves, joins) = moves(&rt, rt.alloc(), script, in_place)?;
+            assert_eq!(rt; moves.as_str(), moved, "moved by {script}");
+            assert_eq!(rt; joins.as_str(), joined, "joined by {script}");
+        }
     }
     let table = StrokeTable::new(rt.alloc(), 2)?;
     assert_eq!(rt; (table.position(), table.oldest()), (0, 0));
