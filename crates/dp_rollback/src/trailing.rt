@@ -14,7 +14,6 @@ use crate::kept::{KeptAct, Mark, mark_all};
 use crate::laws::stroke_laws;
 use crate::redraw::draw_act;
 use crate::rollback::{is_draw, mark_of};
-use crate::room::drop_first;
 use dp_board::{Board, StrokeTable, UserAct, tables_follow};
 use dp_steps::Steps;
 use std::alloc::{AllocError, Global};
@@ -195,9 +194,11 @@ impl<B: Board> TrailingBoard<B> {
     {
         let count = self.table.oldest() - self.base;
         draw_kept(&mut self.board, &self.kept[..count], draws, tiles)?;
-        drop_first(&mut self.kept, count);
+        self.kept = self.kept.split_off(count)?;
         self.base += count;
-        self.limit = self.kept.len().saturating_mul(2).saturating_add(SLACK);
+        let more = self.kept.len().saturating_add(SLACK);
+        self.kept.reserve(more)?;
+        self.limit = self.kept.len().saturating_add(more);
         Ok(())
     }
 

@@ -12,7 +12,8 @@ returns-clause-few_draws g c =
       arith,
       c.draw_kept.ensures.few_draws,
       ap (λ xs. length (commands_among (take count xs))) c.deref.ensures.value,
-      ap (λ xs. length (commands_among xs)) c.drop_first.ensures.items,
+      ap (λ xs. length (commands_among xs)) c.in_ok-self-inside.ensures.tail,
+      ap (λ xs. length (commands_among xs)) c.reserve.ensures.items,
       length-drawn_up_to count kept,
       ap (λ xs. length (commands_among xs)) same,
     )
