@@ -6,3 +6,4 @@ pub mod Products
 pub mod RowLemmas
 pub mod TwoPixels
 pub mod Parts
+pub mod Written

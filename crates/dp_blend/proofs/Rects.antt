@@ -1,43 +1,18 @@
 -- Rows of which a part is changed, row after row.
-use Rattle.std.proofs.Common.{◌≡◌, ℕ, ◌+◌, ◌-◌, ◌*◌, ◌/◌, ◌%◌, ◌<◌, ◌≤◌, List, ◌++◌, length, map}
-use Rattle.std.proofs.Common.{take, drop, get_or, true, false, sym, ◌∙◌, ap}
+use Rattle.std.proofs.Common.{◌≡◌, ℕ, ◌+◌, ◌-◌, ◌*◌, ◌/◌, ◌%◌, ◌<◌, ◌≤◌, List, length, map}
+use Rattle.std.proofs.Common.{drop, get_or, true, false, sym, ◌∙◌, ap}
 use Rattle.std.proofs.Common.{subst, arith, ⊎_elim, length-append}
 use Rattle.std.specs.Prelude.{if◌then◌else◌}
 use Rattle.std.proofs.lemmas.Bool.{cases_lt, cond-true, cond-false}
 use Rattle.std.proofs.lemmas.Bool.Decides.{nat_tests}
-use Rattle.std.proofs.lemmas.List.{get_or_append_left, get_or-append_right, get_or-take, get_or-drop}
-use Rattle.std.proofs.lemmas.List.{length-take-le, length-take, length-drop, length-map, get_or-map}
+use Rattle.std.proofs.lemmas.List.{get_or-take, get_or-drop, length-take-le, length-take}
+use Rattle.std.proofs.lemmas.List.{length-drop, length-map, get_or-map}
 use Rattle.std.proofs.lemmas.Nat.{div-add-mod', mod_below, div_below}
 use Rattle.std.proofs.Math.Nat.{mul-le-mul_right}
 use Rattle.dp_blend.specs.Color.{Channels}
 use Rattle.dp_blend.specs.Blending.{is_between}
-use borrow.Rule.Slice.PartMut.{mid_of, post_of, put_mid}
-
--- ---- a part of a list that is written
-
-part_below : (a k i : ℕ) (xs ys : List Channels) (d : Channels) → i < a → a ≤ length xs
-    → get_or (put_mid a k xs ys) i d ≡ get_or xs i d
-part_below a k i xs ys d below fits =
-    get_or_append_left (take a xs) (ys ++ post_of a k xs) d i
-    (omega (arith, length-take-le a xs fits)) ∙ get_or-take a xs i d below
-
-part_within : (a k i j : ℕ) (xs ys : List Channels) (d : Channels) → i ≡ a + j → j < length ys
-    → a ≤ length xs → get_or (put_mid a k xs ys) i d ≡ get_or ys j d
-part_within a k i j xs ys d place within fits =
-    let past = get_or-append_right (take a xs) (ys ++ post_of a k xs) a i d
-    (length-take-le a xs fits) (omega arith) in
-    let index : i - a ≡ j = omega arith in
-    rw index at past ∙ get_or_append_left ys (post_of a k xs) d j within
-
-part_above : (a k i : ℕ) (xs ys : List Channels) (d : Channels) → a + k ≤ i → length ys ≡ k
-    → a ≤ length xs → get_or (put_mid a k xs ys) i d ≡ get_or xs i d
-part_above a k i xs ys d above len fits =
-    let past = get_or-append_right (take a xs) (ys ++ post_of a k xs) a i d
-    (length-take-le a xs fits) (omega arith) in
-    let rest = get_or-append_right ys (post_of a k xs) k (i - a) d len (omega arith) in
-    let index : a + (k + (i - a - k)) ≡ i = omega arith in
-    past ∙ (rest ∙ (get_or-drop k (drop a xs) (i - a - k) d
-    ∙ (get_or-drop a xs (k + (i - a - k)) d ∙ ap (λ n. get_or xs n d) index)))
+use Rattle.dp_blend.proofs.Written.{part_above, part_below, part_within}
+use borrow.Rule.Slice.PartMut.{mid_of, put_mid}
 
 -- ---- rows of which a part is changed
 
@@ -89,7 +64,8 @@ module _ (f : Channels → Channels) (left right stride size j : ℕ) (old now p
       let test : is_between left right x ≡ true = grind (arith, nat_tests) in
       let at : start + (x - left) ≡ j * stride + x = omega arith in
       let mid = mid_of start size now in
-      let few : x - left < length mid = omega (arith, sym (ap length made) ∙ len, length-map mid f) in
+      let few : x - left < length mid = omega
+      (arith, sym (ap length made) ∙ len, length-map mid f) in
       part_within start size (j * stride + x) (x - left) now part d (omega arith)
       (omega arith) fits
       ∙ (ap (λ ys. get_or ys (x - left) d) made
@@ -139,7 +115,8 @@ module _ (f : Channels → Channels) (left right stride size j : ℕ) (old now p
 -- once all rows are changed, each place is
 pub filled-all : (f : Channels → Channels) (left right stride j : ℕ) (old now : List Channels)
     → 0 < stride → length old ≤ j * stride → FilledTo f left right stride j old now
-    → (k : ℕ) (d : Channels) → k < length old → get_or now k d ≡ (if is_between left right (k % stride)
+    → (k : ℕ) (d : Channels) → k < length old
+    → get_or now k d ≡ (if is_between left right (k % stride)
     then f (get_or old k d) else get_or old k d)
 filled-all f left right stride j old now some all filled k d in_list =
     let at : k / stride * stride + k % stride ≡ k = div-add-mod' k stride in

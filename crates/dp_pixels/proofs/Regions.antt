@@ -1,44 +1,21 @@
 -- Windows that are painted row by row.
-use Rattle.std.proofs.Common.{◌≡◌, ◌≢◌, ℕ, ◌+◌, ◌-◌, ◌*◌, ◌<◌, ◌≤◌, List, ◌++◌, length, get_or}
-use Rattle.std.proofs.Common.{take, drop, cond, Bool, true, false, ◌&&◌, leb, ltb, refl, sym, ◌∙◌}
+use Rattle.std.proofs.Common.{◌≡◌, ◌≢◌, ℕ, ◌+◌, ◌-◌, ◌*◌, ◌<◌, ◌≤◌, List, length, get_or}
+use Rattle.std.proofs.Common.{drop, cond, Bool, true, false, ◌&&◌, leb, ltb, refl, sym, ◌∙◌}
 use Rattle.std.proofs.Common.{ap, subst, arith, ◌⊎◌, inl, inr, ⊎_elim}
 use Rattle.std.specs.Prelude.{ℤ, pos, int_lt}
 use Rattle.std.proofs.lemmas.Bool.{cases_lt, cases_order, cond-true, cond-false}
 use Rattle.std.proofs.lemmas.Bool.Decides.{nat_tests}
 use Rattle.std.proofs.lemmas.Int.{ints}
-use Rattle.std.proofs.lemmas.List.{get_or_append_left, get_or-append_right, get_or-take}
-use Rattle.std.proofs.lemmas.List.{get_or-drop, length-take-le, length-take, length-drop}
+use Rattle.std.proofs.lemmas.List.{get_or-take}
+use Rattle.std.proofs.lemmas.List.{get_or-drop, length-take, length-drop}
 use Rattle.std.proofs.Math.Nat.{mul-le-mul_right}
 use Rattle.dp_blend.specs.Color.{Channels}
+use Rattle.dp_blend.proofs.Written.{part_above, part_below, part_within}
 use Rattle.dp_pixels.specs.declared.region.Region.{Region}
 use Rattle.dp_pixels.specs.Regions.{IsPainted}
-use borrow.Rule.Slice.PartMut.{mid_of, post_of, put_mid, same_len_mid}
+use borrow.Rule.Slice.PartMut.{mid_of, put_mid, same_len_mid}
 
 -- ---- a part of a list that is written
-
-pub part_below : {X : Type 0} (a k i : ℕ) (xs ys : List X) (d : X) → i < a → a ≤ length xs
-    → get_or (put_mid a k xs ys) i d ≡ get_or xs i d
-part_below a k i xs ys d below fits =
-    get_or_append_left (take a xs) (ys ++ post_of a k xs) d i
-    (omega (arith, length-take-le a xs fits)) ∙ get_or-take a xs i d below
-
-pub part_within : {X : Type 0} (a k i j : ℕ) (xs ys : List X) (d : X) → i ≡ a + j → j < length ys
-    → a ≤ length xs → get_or (put_mid a k xs ys) i d ≡ get_or ys j d
-part_within a k i j xs ys d place within fits =
-    let past = get_or-append_right (take a xs) (ys ++ post_of a k xs) a i d
-    (length-take-le a xs fits) (omega arith) in
-    let index : i - a ≡ j = omega arith in
-    rw index at past ∙ get_or_append_left ys (post_of a k xs) d j within
-
-part_above : {X : Type 0} (a k i : ℕ) (xs ys : List X) (d : X) → a + k ≤ i → length ys ≡ k
-    → a ≤ length xs → get_or (put_mid a k xs ys) i d ≡ get_or xs i d
-part_above a k i xs ys d above len fits =
-    let past = get_or-append_right (take a xs) (ys ++ post_of a k xs) a i d
-    (length-take-le a xs fits) (omega arith) in
-    let behind = get_or-append_right ys (post_of a k xs) k (i - a) d len (omega arith) in
-    let index : a + (k + (i - a - k)) ≡ i = omega arith in
-    past ∙ (behind ∙ (get_or-drop k (drop a xs) (i - a - k) d
-    ∙ (get_or-drop a xs (k + (i - a - k)) d ∙ ap (λ n. get_or xs n d) index)))
 
 -- the element at an index of the part before it is written
 part_old : {X : Type 0} (a k i j : ℕ) (xs : List X) (d : X) → i ≡ a + j → j < k

@@ -77,7 +77,8 @@ tile_x col k = col * 64 + k % 64
 abbrev pub tile_y : ℕ → ℕ → ℕ
 tile_y row k = row * 64 + k / 64
 
--- the k-th pixel of a tile, where all of them are of one colour, if one is given, and else are these
+-- the k-th pixel of a tile, where all of them are of one colour, if one is given, and else are
+-- these
 abbrev pub tile_pixel : Option Channels → List Channels → ℕ → Channels
 tile_pixel (Some color) pixels k = color
 tile_pixel None pixels k = slice_index_or pixels k clear

@@ -11,10 +11,10 @@ loop-k-preserved g c =
     let at = 8 * c.loop-k.k in
     let two = changed-next f row clear row c.loop-k.row c.fill_next.new.row at (at + 2)
     (omega arith) (omega arith) (omega arith) c.loop-k.invariant c.fill_next.ensures in
-    let four = changed-next f row clear row c.fill_next.new.row c.fill_next-in-loop-k.new.row (at + 2)
-    (at + 4) (omega arith) (omega arith) (omega arith) two c.fill_next-in-loop-k.ensures in
-    let six = changed-next f row clear row c.fill_next-in-loop-k.new.row c.fill_next-in-loop-k-2.new.row (at + 4)
-    (at + 6) (omega arith) (omega arith) (omega arith) four c.fill_next-in-loop-k-2.ensures in
+    let four = changed-next f row clear row c.fill_next.new.row c.fill_next-in-loop-k.new.row
+    (at + 2) (at + 4) (omega arith) (omega arith) (omega arith) two c.fill_next-in-loop-k.ensures in
+    let six = changed-next f row clear row c.fill_next-in-loop-k.new.row
+    c.fill_next-in-loop-k-2.new.row (at + 4) (at + 6) (omega arith) (omega arith) (omega arith) four c.fill_next-in-loop-k-2.ensures in
     changed-next f row clear row c.fill_next-in-loop-k-2.new.row _ (at + 6) (8 * (c.loop-k.k + 1))
     (omega arith) (omega arith) (omega arith) six c.fill_next-in-loop-k-3.ensures
 

@@ -6,5 +6,6 @@ use Rattle.dp_blend.proofs.rows.merge_eights.Given as goal
 
 -- the places before eight times k are blended, and the others are as they were
 abbrev pub invariant-loop-k : goal.invariant-loop-k
-invariant-loop-k g l = l.row ≡ changed (λ s d. blend g.K.Kernel.mode (fade s (g.F.Fading.by l.fading)) d)
+invariant-loop-k g l =
+    l.row ≡ changed (λ s d. blend g.K.Kernel.mode (fade s (g.F.Fading.by l.fading)) d)
     (take (8 * l.k) l.sources) l.initial.row
