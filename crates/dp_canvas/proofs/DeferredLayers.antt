@@ -9,7 +9,8 @@ use Rattle.dp_pixels.specs.Colors.{FitsColors}
 use Rattle.dp_pixels.specs.Commands.{drawn, pixel_of, pixels_after}
 use Rattle.dp_pixels.specs.Resizes.{pixels_resized}
 use Rattle.dp_pixels.specs.declared.resize.Resize.{Resize}
-use Rattle.dp_plain.proofs.Pixels.{PixelsStay, clear_canvas-All, pixels_after-All, pixels_shifted-All}
+use Rattle.dp_plain.proofs.Pixels.{PixelsStay, clear_canvas-All, pixels_after-All}
+use Rattle.dp_plain.proofs.Pixels.{pixels_shifted-All}
 use Rattle.dp_paint.specs.Waiting.{LayerOf}
 
 -- the layer belongs to a canvas of these sides
@@ -27,7 +28,8 @@ pub clear_layer : (w h : ℕ) (layer : LayerOf)
     → layer ≡ record { width = w; height = h; pixels = canvas_of w h (λ x y. clear) }
     → Becomes w h layer (canvas_of w h (λ x y. clear))
 clear_layer w h layer is =
-    let pixels : layer.pixels ≡ canvas_of w h (λ x y. clear) = ap (λ (l : LayerOf). l.pixels) is in (
+    let pixels : layer.pixels ≡ canvas_of w h (λ x y. clear) =
+    ap (λ (l : LayerOf). l.pixels) is in (
       (
         ap (λ (l : LayerOf). l.width) is,
         ap (λ (l : LayerOf). l.height) is,

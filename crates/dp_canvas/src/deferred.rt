@@ -90,10 +90,6 @@ impl LayerPixels for DeferredPixels {
         self.layer.copy_part(x, y, part);
     }
 
-    fn prepare(&mut self, _alloc: Global) -> Result<(), AllocError> {
-        self.layer.list()
-    }
-
     fn tile_color(&self, _width: u32, _height: u32, col: u32, row: u32) -> Option<Pixel> {
         self.layer.tile_color(col, row)
     }

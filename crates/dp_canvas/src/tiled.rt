@@ -89,10 +89,6 @@ impl LayerPixels for TiledPixels {
         self.grid.copy_part(x, y, part);
     }
 
-    fn prepare(&mut self, _alloc: Global) -> Result<(), AllocError> {
-        Ok(())
-    }
-
     fn tile_color(&self, _width: u32, _height: u32, col: u32, row: u32) -> Option<Pixel> {
         self.grid.known();
         self.grid.tile_color(col, row)

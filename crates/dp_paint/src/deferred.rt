@@ -32,7 +32,7 @@ const FEW_TILES: u32 = 64;
 
 /// On how many tiles fills wait at most, each tile counted for each of its fills, for each tile of
 /// the layer.
-const WAITING: usize = 512;
+const WAITING: usize = 1024;
 
 /// The pixels of a layer on a canvas: a grid of tiles, and small fills that wait until their tiles
 /// are painted otherwise or read. A tile is then painted once by all of them. Layers that are
@@ -227,14 +227,6 @@ impl DeferredGrid {
             lists: share_lists(self.grid.alloc(), &self.lists)?,
             waiting: self.waiting,
         })
-    }
-
-    /// Readies the tiles to be read. There is nothing to do: fills wait on their tiles from the
-    /// first. Nothing changes.
-    pub fn list(&mut self) -> Result<(), AllocError>
-        ensures { self.new ≡ self.old }
-    {
-        Ok(())
     }
 
     /// The colour of the tile at a column and a row, where it is of one and that is known without

@@ -48,8 +48,8 @@ fn read_ends(across: Span, down: Span, pixels: &[Pixel]) -> bool
     above
 }
 
-/// Reads each line of memory of a tile, 8 pixels long, in order. The answer keeps the reads: whether
-/// an alpha is above one, which none is.
+/// Reads each line of memory of a tile, 8 pixels long, in order. The answer keeps the reads:
+/// whether an alpha is above one, which none is.
 pub(crate) fn read_tile(pixels: &[Pixel]) -> bool
     requires { length pixels.now ≡ 4096 }
     ensures { result ≡ false }

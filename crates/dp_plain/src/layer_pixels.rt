@@ -102,11 +102,6 @@ pub trait LayerPixels: Sized + Drop {
         ensures { part.new
             ≡ part_of_row width (pixels width height self.now) x y (length part.old) };
 
-    /// Readies the pixels for being read in tiles, where that takes memory. Nothing that is seen
-    /// changes.
-    fn prepare(&mut self, alloc: Global) -> Result<(), AllocError>
-        ensures { self.new ≡ self.old };
-
     /// The colour of the tile at a column and a row of tiles, where it is of one and that is known
     /// without reading it.
     fn tile_color(&self, width: u32, height: u32, col: u32, row: u32) -> Option<Pixel>

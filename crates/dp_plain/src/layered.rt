@@ -13,9 +13,7 @@ ghost use Rattle.dp_plain.specs.Weights.{board_weight};
 
 use crate::layer_pixels::LayerPixels;
 use crate::plain::PlainPixels;
-use crate::trees::{
-    arrange_rows, new_content, paint_content, prepare_rows, resized_tree, shared_tree,
-};
+use crate::trees::{arrange_rows, new_content, paint_content, resized_tree, shared_tree};
 use crate::view::BoardView;
 use dp_blend::Pixel;
 use dp_board::Board;
@@ -78,14 +76,6 @@ impl<C: LayerPixels> LayeredBoard<C> {
     {
         contents_ride_along::<C, PlainPixels>();
         self.tree.content(id)
-    }
-
-    /// Readies the pixels of all layers for being read in tiles, as for a picture. It needn't be
-    /// called before, but reading may be slow without. Nothing that is seen changes.
-    pub fn prepare(&mut self) -> Result<(), AllocError>
-        ensures { self.new ≡ self.old }
-    {
-        prepare_rows(&mut self.tree, self.alloc)
     }
 
     /// Draws the command, as `draw` of the trait does, without counting a draw.

@@ -91,10 +91,6 @@ impl LayerPixels for PlainPixels {
         part.copy_from_slice(&self.pixels[start..start + part.len()]);
     }
 
-    fn prepare(&mut self, _alloc: Global) -> Result<(), AllocError> {
-        Ok(())
-    }
-
     fn tile_color(&self, _width: u32, _height: u32, _col: u32, _row: u32) -> Option<Pixel> {
         None
     }

@@ -65,37 +65,6 @@ pub(crate) fn arrange_rows<X: Drop>(tree: &mut Tree<X>, command: &Draw) -> Resul
     Ok(())
 }
 
-/// Readies what the rows hold for being read in tiles.
-pub(crate) fn prepare_rows<C: LayerPixels>(
-    tree: &mut Tree<C>,
-    alloc: Global,
-) -> Result<(), AllocError>
-    ensures { tree.new ≡ tree.old }
-{
-    for place in 0..tree.rows().len() {
-        prepare_row(tree, place, alloc)?;
-    }
-    Ok(())
-}
-
-/// Readies what the row at a place of the list holds for being read in tiles.
-fn prepare_row<C: LayerPixels>(
-    tree: &mut Tree<C>,
-    place: usize,
-    alloc: Global,
-) -> Result<(), AllocError>
-    ensures { tree.new ≡ tree.old }
-{
-    let Some(row) = tree.rows().get(place) else {
-        return Ok(());
-    };
-    let id = row.id;
-    match tree.content_mut(id) {
-        Some(content) => content.prepare(alloc),
-        None => Ok(()),
-    }
-}
-
 /// Draws a command on the content of the paint layer of the id, if there is one.
 pub(crate) fn paint_content<C: LayerPixels, T: Ledger>(
     tree: &mut Tree<C>,

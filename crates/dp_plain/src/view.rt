@@ -59,8 +59,8 @@ pub trait BoardView {
         self.copy_part(id, 0, y, row);
     }
 
-    /// The colour of the tile at a column and a row of tiles, of the paint layer of the id, where it
-    /// is of one and that is known without reading it.
+    /// The colour of the tile at a column and a row of tiles, of the paint layer of the id, where
+    /// it is of one and that is known without reading it.
     fn tile_color(&self, id: u16, col: u32, row: u32) -> Option<Pixel>
         requires paint { IsTrue (is_paint_row (layers_of (board self.now).rows) id) }
         requires across { col * 64 < (board self.now).width }

@@ -106,12 +106,9 @@ fn write_shown<O: Sink, D: Ledger, T: Ledger>(
         (O.faults output.old) (O.faults output.new) board end result }
     ensures later { O.faults output.old ≤ O.faults output.new }
 {
-    let Ok(mut picture) = board.finish(draws, tiles) else {
+    let Ok(picture) = board.finish(draws, tiles) else {
         return RunEnd::Memory;
     };
-    if picture.prepare().is_err() {
-        return RunEnd::Memory;
-    }
     match write_p6(alloc, &picture, output) {
         Ok(()) => end,
         Err(PictureEnd::Failed) => RunEnd::WriteFault,

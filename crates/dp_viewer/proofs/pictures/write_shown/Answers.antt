@@ -1,4 +1,4 @@
-use Rattle.std.proofs.Common.{◌∙◌, map, subst, refl, inl, inr}
+use Rattle.std.proofs.Common.{map, subst, refl, inl, inr}
 use Rattle.std.specs.Bool.{OnTrue}
 use Rattle.std.specs.List.{after_last}
 use Rattle.std.specs.Io.KnownBytes.{Appends}
@@ -18,7 +18,7 @@ returns-in-Ok-write_p6-clause-shown g c =
       refl,
       λ entries trails. subst (λ (b : Board). Appends (held c.args.output.now)
           (held c.write_p6.new.out) (p6 b))
-          (c.prepare.ensures ∙ c.in-Ok.ensures.replay empty_board undo_depth
+          (c.in-Ok.ensures.replay empty_board undo_depth
           (map user_act_of (after_last is_mark entries)) trails)
           c.in-Ok-write_p6.ensures.written,
       c.in-Ok-write_p6.ensures.cause.kept,
@@ -36,7 +36,7 @@ returns-in-Err-Failed-clause-shown g c =
       refl,
       λ entries trails. subst (λ (b : Board). GrowsByPrefix (held c.args.output.now)
           (held c.write_p6.new.out) (p6 b))
-          (c.prepare.ensures ∙ c.in-Ok.ensures.replay empty_board undo_depth
+          (c.in-Ok.ensures.replay empty_board undo_depth
           (map user_act_of (after_last is_mark entries)) trails)
           c.in-Err-Failed.ensures.prefix,
       rose,

@@ -6,7 +6,7 @@ use Rattle.dp_blend.specs.Color.{Channels, clear}
 use Rattle.dp_blend.specs.Canvas.{pixel_at}
 use Rattle.dp_blend.proofs.Parts.{length-part_of_row, pixel_of_part}
 use Rattle.dp_pixels.specs.Tiles.{tile_x, tile_y}
-use Rattle.dp_pixels.proofs.Regions.{part_below, part_within}
+use Rattle.dp_blend.proofs.Written.{part_below, part_within}
 use Rattle.dp_plain.proofs.plain.PlainPixelsLayerPixels.tile.Goals as goal
 
 pub loop-j-preserved : goal.loop-j-preserved
