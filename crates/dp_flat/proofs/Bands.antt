@@ -2,7 +2,7 @@
 use Rattle.std.proofs.Common.{◌≡◌, ◌≢◌, ℕ, ◌+◌, ◌*◌, ◌/◌, ◌%◌, ◌<◌, ◌≤◌, List, length}
 use Rattle.std.proofs.Common.{get_or, take, drop, map, replicate, set, refl, sym, ap, ◌∙◌, subst}
 use Rattle.std.proofs.Common.{arith, ⊎_elim}
-use Rattle.std.specs.Prelude.{Option, None, Some}
+use Rattle.std.specs.Prelude.{Bool, Option, None, Some}
 use Rattle.std.specs.List.{flat_map}
 use Rattle.std.proofs.lemmas.Bool.{cases_lt}
 use Rattle.std.proofs.lemmas.List.{get_or-replicate, get_or-set_other, length-replicate}
@@ -13,13 +13,13 @@ use Rattle.std.proofs.lemmas.Grind.{get_or-set_at}
 use Rattle.dp_blend.specs.Canvas.{below}
 use Rattle.dp_blend.specs.Color.{Channels}
 use Rattle.dp_pixels.specs.Tiles.{tile_x, tile_y}
-use Rattle.dp_pixels.proofs.Regions.{part_below, part_within}
+use Rattle.dp_blend.proofs.Written.{part_below, part_within}
 use Rattle.dp_plain.specs.Board.{Board}
 use Rattle.dp_plain.specs.Picture.{seen}
 use Rattle.dp_flat.specs.declared.band.Rgb.{Rgb}
 use Rattle.dp_flat.specs.declared.text.Format.{Format}
 use Rattle.dp_flat.specs.declared.text.Format.TheVariants.{P6, P3}
-use Rattle.dp_flat.specs.Bands.{IsBand, band_rgb, black, chunk_pixels, rgb_of, rgb_text}
+use Rattle.dp_flat.specs.Bands.{IsBand, IsLine, band_rgb, black, chunk_pixels, rgb_of, rgb_text}
 use Rattle.dp_flat.specs.Texts.{pixel_text_of}
 use borrow.Rule.Slice.PartMut.{put_mid}
 
@@ -88,6 +88,16 @@ band_same board row now was colors before bytes band same by_colors by_bytes =
     (subst (λ (l : List (Option Rgb)). IsBand board row l bytes) (sym by_colors)
     (subst (λ (l : List Rgb). IsBand board row was l) (sym by_bytes) band))
 
+-- the text of its rows of pixels
+pub line_same : (format : Format) (board : Board) (row now : ℕ) (was known : Bool)
+    (before text : List ℕ)
+    → IsLine format board row was before → row ≡ now → known ≡ was → text ≡ before
+    → IsLine format board now known text
+line_same format board row now was known before text line same by_known by_text =
+    subst (λ n. IsLine format board n known text) same
+    (subst (λ (b : Bool). IsLine format board row b text) (sym by_known)
+    (subst (λ (l : List ℕ). IsLine format board row was l) (sym by_text) line))
+
 -- ---- the text of a chunk
 
 -- the pixels of a chunk that shows f of each place
@@ -137,4 +147,27 @@ chunk_text format board y col size count colors bytes band down few across same 
     ∙ ap (λ n. rgb_of (seen board (col * 64 + i) n)) at_y in
     ap (flat_map (rgb_text format)) (chunk_shows color pixels (λ i. rgb_of (f i)) count
     (part_long start size count bytes same (omega arith)) each)
+    ∙ bytes_text format f (below count)
+
+-- the text of a chunk of the row y, where its tile is of one colour
+pub solid_text : (format : Format) (board : Board) (y row col count : ℕ) (color : Rgb)
+    (colors : List (Option Rgb)) (bytes : List Rgb)
+    → IsBand board row colors bytes → get_or colors col None ≡ Some color → y / 64 ≡ row
+    → y < board.height → count ≤ 64 → col * 64 + count ≤ board.width
+    → flat_map (rgb_text format) (replicate count color)
+    ≡ flat_map (pixel_text_of format) (map (λ i. seen board (col * 64 + i) y) (below count))
+solid_text format board y row col count color colors bytes band solid in_row down few across =
+    let f = λ (i : ℕ). seen board (col * 64 + i) y in
+    let each : (i : ℕ) → i < count → color ≡ rgb_of (f i) = λ i inside.
+    let k = y % 64 * 64 + i in
+    let at_x : tile_x col k ≡ col * 64 + i = omega arith in
+    let at_y : tile_y row k ≡ y = omega arith in
+    ap (λ (o : Option Rgb). band_rgb o bytes (col * 4096 + k)) (sym solid)
+    ∙ band col k (omega arith) (omega arith) (omega arith)
+    ∙ ap (λ n. rgb_of (seen board n (tile_y row k))) at_x
+    ∙ ap (λ n. rgb_of (seen board (col * 64 + i) n)) at_y in
+    ap (flat_map (rgb_text format))
+    (fill_by_all (λ i. rgb_of (f i)) (replicate count color) count color
+    (length-replicate count color)
+    (λ i inside. get_or-replicate count i color color inside ∙ each i inside))
     ∙ bytes_text format f (below count)

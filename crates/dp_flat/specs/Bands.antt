@@ -1,6 +1,7 @@
 -- A row of tiles of the picture as bytes, and the text of these.
-use Rattle.std.specs.Prelude.{◌≡◌, ℕ, ◌+◌, ◌*◌, ◌<◌, List, [], ◌∷◌, ◌++◌, length, replicate}
-use Rattle.std.specs.Prelude.{Option, Some, None, codes, decimal, slice_index_or}
+use Rattle.std.specs.Prelude.{◌≡◌, ℕ, ◌+◌, ◌*◌, ◌/◌, ◌<◌, List, [], ◌∷◌, ◌++◌, length, replicate}
+use Rattle.std.specs.Prelude.{Bool, true, Option, Some, None, codes, decimal, slice_index_or}
+use Rattle.std.specs.List.{flat_map}
 use Rattle.dp_blend.specs.Color.{Channels, to8}
 use Rattle.dp_pixels.specs.Tiles.{tile_x, tile_y}
 use Rattle.dp_plain.specs.Board.{Board}
@@ -8,6 +9,8 @@ use Rattle.dp_plain.specs.Picture.{seen}
 use Rattle.dp_flat.specs.declared.band.Rgb.{Rgb}
 use Rattle.dp_flat.specs.declared.text.Format.{Format}
 use Rattle.dp_flat.specs.declared.text.Format.TheVariants.{P6, P3}
+use Rattle.dp_flat.specs.Composed.{seen_row}
+use Rattle.dp_flat.specs.Texts.{pixel_text_of}
 
 -- the bytes of a pixel
 abbrev pub rgb_of : Channels → Rgb
@@ -40,3 +43,9 @@ IsBand board row colors bytes =
     (col k : ℕ) → k < 4096 → tile_x col k < board.width → tile_y row k < board.height
     → band_rgb (slice_index_or colors col None) bytes (col * 4096 + k)
     ≡ rgb_of (seen board (tile_x col k) (tile_y row k))
+
+-- if it is known, a text is that of each row of pixels of a row of tiles
+abbrev pub IsLine : Format → Board → ℕ → Bool → List ℕ → Type 0
+IsLine format board row known text =
+    known ≡ true → (y : ℕ) → y / 64 ≡ row → y < board.height
+    → text ≡ flat_map (pixel_text_of format) (seen_row board y)

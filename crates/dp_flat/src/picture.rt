@@ -2,7 +2,7 @@
 //!
 //! The rule: docs/protocol.md, "The picture".
 
-ghost use Rattle.std.specs.Prelude.{◌≡◌, ◌+◌, ◌*◌, ◌/◌, ◌<◌, ◌≤◌, ◌++◌, length};
+ghost use Rattle.std.specs.Prelude.{◌≡◌, ◌+◌, ◌*◌, ◌/◌, ◌<◌, ◌≤◌, [], ◌++◌, length};
 ghost use Rattle.std.specs.Prelude.{IsErrOf, OnOk, OnErr};
 ghost use Rattle.std.specs.List.{flat_map};
 ghost use Rattle.std.specs.Io.KnownBytes.{Appends, Keeps};
@@ -11,7 +11,7 @@ ghost use Rattle.dp_io.specs.Faults.{HasCause, any_fault};
 ghost use Rattle.dp_io.specs.Streams.{GrowsByPrefix};
 ghost use Rattle.dp_pixels.specs.Tiles.{tiles_along};
 ghost use Rattle.dp_plain.specs.Picture.{p3, p6, picture_text};
-ghost use Rattle.dp_flat.specs.Bands.{IsBand, chunk_pixels, rgb_text};
+ghost use Rattle.dp_flat.specs.Bands.{IsBand, IsLine, chunk_pixels, rgb_text};
 ghost use Rattle.dp_flat.specs.Composed.{IsDeep, seen_row};
 ghost use Rattle.dp_flat.specs.Ends.{is_sink_fault};
 ghost use Rattle.dp_flat.specs.Texts.{GrowsBefore, name_of, pixel_text_of};
@@ -19,7 +19,7 @@ ghost use Rattle.dp_flat.specs.Texts.{GrowsBefore, name_of, pixel_text_of};
 use crate::band::{Rgb, draw_band, tiles_along};
 use crate::compose::{LEVELS, depth_of};
 use crate::text::{
-    CHUNK_BYTES, Format, PIECE_BYTES, Piece, SolidText, head_of, push_all, push_chunk,
+    CHUNK_BYTES, Format, PIECE_BYTES, Piece, SolidText, head_of, push_all, push_chunk, push_solid,
 };
 use crate::tone::{BUFFER, SIDE};
 use dp_blend::Pixel;
@@ -159,18 +159,131 @@ fn put_picture<V: BoardView, S: Sink>(
 {
     let (width, height) = (board.width(), board.height());
     let mut solid = SolidText::new(format, Rgb::BLACK);
+    let mut line = Line {
+        text: Piece::new(),
+        is_known: false,
+    };
     let mut piece = Piece::new();
     push_all(head_of(format, width, height).as_bytes(), &mut piece);
     for y in 0..height {
         if y % SIDE == 0 {
             draw_band(board, depth, y / SIDE, memory, colors, bytes);
+            line.renew(format, board, y / SIDE, colors, bytes, &mut solid);
         }
-        put_row(format, board, y, colors, bytes, &mut solid, &mut piece, out)?;
+        put_next(
+            format, board, y, &line, colors, bytes, &mut solid, &mut piece, out,
+        )?;
     }
     put_all(out, piece.as_slice())
 }
 
-/// Adds the texts of the pixels of the row y to the piece, and writes the piece where it is full.
+/// The text of each row of pixels of a row of tiles, where it is known that all are the same.
+#[derive(Drop)]
+struct Line {
+    text: Piece,
+    is_known: bool,
+}
+
+impl Line {
+    /// Makes it the text of the rows of another row of tiles. It is known where each tile is of one
+    /// colour.
+    fn renew<V: BoardView>(
+        &mut self,
+        format: Format,
+        board: &V,
+        row: u32,
+        colors: &[Option<Rgb>],
+        bytes: &[Rgb],
+        solid: &mut SolidText,
+    )
+        requires colors { length colors.now ≡ tiles_along (V.board board.now).width }
+        requires bytes { length bytes.now ≡ BUFFER * tiles_along (V.board board.now).width }
+        requires band { IsBand (V.board board.now) row colors.now bytes.now }
+        ensures { IsLine format (V.board board.now) row self.new.is_known self.new.text.items }
+    {
+        self.text.clear();
+        self.is_known = push_line(format, board, row, colors, bytes, solid, &mut self.text);
+    }
+}
+
+/// Adds the text of each row of pixels of a row of tiles, where each tile is of one colour. Says
+/// whether so.
+fn push_line<V: BoardView>(
+    format: Format,
+    board: &V,
+    row: u32,
+    colors: &[Option<Rgb>],
+    bytes: &[Rgb],
+    solid: &mut SolidText,
+    text: &mut Piece,
+) -> bool
+    requires colors { length colors.now ≡ tiles_along (V.board board.now).width }
+    requires bytes { length bytes.now ≡ BUFFER * tiles_along (V.board board.now).width }
+    requires band { IsBand (V.board board.now) row colors.now bytes.now }
+    requires none { text.old.items ≡ [] }
+    ensures { IsLine format (V.board board.now) row result text.new.items }
+{
+    let _ = bytes;
+    let width = board.width();
+    for col in 0..tiles_along(width) {
+        let Some(color) = colors[col as usize] else {
+            return false;
+        };
+        if text.remaining_capacity() < CHUNK_BYTES {
+            return false;
+        }
+        let len = SIDE.min(width - col * SIDE) as usize;
+        push_solid(format, color, len, solid, text);
+    }
+    true
+}
+
+/// Adds a text to the piece, after the piece was written if it has no room.
+fn put_text<S: Sink>(text: &[u8], piece: &mut Piece, out: &mut S) -> Result<(), Failed>
+    requires short { length text.now ≤ PIECE_BYTES }
+    ensures before { OnOk result (GrowsBefore (S.held out.old) (S.held out.new) piece.new.items
+        (piece.old.items ++ text.now)) }
+    ensures prefix { OnErr result (GrowsByPrefix (S.held out.old) (S.held out.new)
+        piece.old.items) }
+    ensures cause { HasCause any_fault (S.faults out.old) (S.faults out.new) result }
+{
+    make_room(text.len(), piece, out)?;
+    push_all(text, piece);
+    Ok(())
+}
+
+/// Adds the text of the row y to the piece, and writes the piece where it is full.
+fn put_next<V: BoardView, S: Sink>(
+    format: Format,
+    board: &V,
+    y: u32,
+    line: &Line,
+    colors: &[Option<Rgb>],
+    bytes: &[Rgb],
+    solid: &mut SolidText,
+    piece: &mut Piece,
+    out: &mut S,
+) -> Result<(), Failed>
+    requires inside { y < (V.board board.now).height }
+    requires colors { length colors.now ≡ tiles_along (V.board board.now).width }
+    requires bytes { length bytes.now ≡ BUFFER * tiles_along (V.board board.now).width }
+    requires band { IsBand (V.board board.now) (y / 64) colors.now bytes.now }
+    requires line { IsLine format (V.board board.now) (y / 64) line.now.is_known
+        line.now.text.items }
+    ensures before { OnOk result (GrowsBefore (S.held out.old) (S.held out.new) piece.new.items
+        (piece.old.items ++ flat_map (pixel_text_of format) (seen_row (V.board board.now) y))) }
+    ensures prefix { OnErr result (GrowsByPrefix (S.held out.old) (S.held out.new)
+        (piece.old.items ++ flat_map (pixel_text_of format) (seen_row (V.board board.now) y))) }
+    ensures cause { HasCause any_fault (S.faults out.old) (S.faults out.new) result }
+{
+    if line.is_known {
+        put_text(line.text.as_slice(), piece, out)
+    } else {
+        put_row(format, board, y, colors, bytes, solid, piece, out)
+    }
+}
+
+/// Adds the texts of the pixels of the row y to the piece, chunk by chunk.
 fn put_row<V: BoardView, S: Sink>(
     format: Format,
     board: &V,
@@ -217,21 +330,22 @@ fn put_chunk<S: Sink>(
         piece.old.items) }
     ensures cause { HasCause any_fault (S.faults out.old) (S.faults out.new) result }
 {
-    make_room(piece, out)?;
+    make_room(CHUNK_BYTES, piece, out)?;
     push_chunk(format, color, pixels, solid, piece);
     Ok(())
 }
 
-/// Writes the piece, where it has no room for a chunk.
-fn make_room<S: Sink>(piece: &mut Piece, out: &mut S) -> Result<(), Failed>
-    ensures room { OnOk result (array_vec_len piece.new + CHUNK_BYTES ≤ PIECE_BYTES) }
+/// Writes the piece, where it has no room for so many bytes.
+fn make_room<S: Sink>(count: usize, piece: &mut Piece, out: &mut S) -> Result<(), Failed>
+    requires { count ≤ PIECE_BYTES }
+    ensures room { OnOk result (array_vec_len piece.new + count ≤ PIECE_BYTES) }
     ensures before { OnOk result (GrowsBefore (S.held out.old) (S.held out.new) piece.new.items
         piece.old.items) }
     ensures prefix { OnErr result (GrowsByPrefix (S.held out.old) (S.held out.new)
         piece.old.items) }
     ensures cause { HasCause any_fault (S.faults out.old) (S.faults out.new) result }
 {
-    if piece.remaining_capacity() >= CHUNK_BYTES {
+    if piece.remaining_capacity() >= count {
         return Ok(());
     }
     put_all(out, piece.as_slice())?;

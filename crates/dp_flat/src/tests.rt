@@ -195,7 +195,7 @@ fn writes_lines(rt: HostRuntime) -> Result<(), Fail> {
     Ok(())
 }
 
-// Rows of four pixels share a piece: the head and 4031 rows are in the first.
+// Rows of four pixels share a piece: the head and 4094 rows are in the first.
 #[test]
 fn a_failing_sink_holds_a_prefix(rt: HostRuntime) -> Result<(), Fail> {
     let alloc = rt.alloc();
@@ -207,6 +207,6 @@ fn a_failing_sink_holds_a_prefix(rt: HostRuntime) -> Result<(), Fail> {
     };
     let mut sink = MemSink::new(alloc, 60_000, 60_000, [2].to_vec(alloc)?)?;
     assert_eq!(rt; write_p6(alloc, &board, &mut sink), Err(PictureEnd::Failed));
-    assert_eq!(rt; sink.as_slice().len(), 14 + 4 * 3 * 4031);
+    assert_eq!(rt; sink.as_slice().len(), 14 + 4 * 3 * 4094);
     Ok(())
 }

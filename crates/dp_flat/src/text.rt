@@ -119,7 +119,13 @@ pub(crate) fn push_chunk(
 }
 
 /// Adds the texts of the pixels of a chunk of one colour. That of a whole chunk is copied.
-fn push_solid(format: Format, color: Rgb, count: usize, solid: &mut SolidText, piece: &mut Piece)
+pub(crate) fn push_solid(
+    format: Format,
+    color: Rgb,
+    count: usize,
+    solid: &mut SolidText,
+    piece: &mut Piece,
+)
     requires few { count ≤ CHUNK }
     requires room { array_vec_len piece.old + CHUNK_BYTES ≤ PIECE_BYTES }
     ensures { piece.new.items

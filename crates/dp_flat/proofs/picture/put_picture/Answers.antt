@@ -1,18 +1,18 @@
 -- Each row's text stands after those above, and the last piece ends the text.
-use Rattle.std.proofs.Common.{◌≡◌, ◌+◌, ◌-◌, ◌/◌, ◌++◌, refl, subst, ◌∙◌, arith}
+use Rattle.std.proofs.Common.{◌≡◌, ◌+◌, ◌-◌, ◌/◌, ◌++◌, refl, subst, ap, ◌∙◌, arith}
 use Rattle.std.specs.List.{flat_map}
 use Rattle.dp_blend.specs.Canvas.{canvas_of}
 use Rattle.dp_plain.specs.Picture.{head, seen}
 use Rattle.dp_flat.specs.Composed.{seen_row}
 use Rattle.dp_flat.specs.Texts.{GrowsBefore, name_of, pixel_text_of}
-use Rattle.dp_flat.proofs.Bands.{band_same}
+use Rattle.dp_flat.proofs.Bands.{band_same, line_same}
 use Rattle.dp_flat.proofs.Prefixes.{before_on, before_failed, last_written, last_cut}
 use Rattle.dp_flat.proofs.Rows.{text_more, text_failed, text_all}
 use Rattle.dp_flat.proofs.picture.put_picture.Goals as goal
 use Rattle.dp_flat.proofs.picture.put_picture.Goals.{then-y-eq0, else-y-eq0}
 
-pub put_row-requires : goal.put_row-requires
-put_row-requires g c =
+pub put_next-requires : goal.put_next-requires
+put_next-requires g c =
     let board = g.V.BoardView.board c.args.board.now in
     let y = c.loop-y.y in
     record {
@@ -25,21 +25,28 @@ put_row-requires g c =
         | else-y-eq0 w ↦ band_same board ((y - 1) / 64) (y / 64) _ _ _ _
             (c.loop-y.invariant.band (omega arith)) (omega arith) w.colors-is w.bytes-is
       ];
+      line = elim c.if-y-eq0.branch [
+        | then-y-eq0 w ↦ line_same c.args.format board (y / 64) (y / 64) _ _ _ _ w.renew.ensures
+            refl (ap (λ l. l.is_known) w.line-is) (ap (λ l. l.text.items) w.line-is)
+        | else-y-eq0 w ↦ line_same c.args.format board ((y - 1) / 64) (y / 64) _ _ _ _
+            (c.loop-y.invariant.line (omega arith)) (omega arith)
+            (ap (λ l. l.is_known) w.line-is) (ap (λ l. l.text.items) w.line-is)
+      ];
     }
 
-pub returns-in_err-put_row-clause-prefix : goal.returns-in_err-put_row-clause-prefix
-returns-in_err-put_row-clause-prefix g c =
+pub returns-in_err-put_next-clause-prefix : goal.returns-in_err-put_next-clause-prefix
+returns-in_err-put_next-clause-prefix g c =
     let board = g.V.BoardView.board c.args.board.now in
     let held = g.S.Sink.held in
     let text = pixel_text_of c.args.format in
     let front = head (name_of c.args.format) board.width board.height in
-    text_failed (held c.args.out.now) (held c.put_row.new.out) text board c.loop-y.y front
+    text_failed (held c.args.out.now) (held c.put_next.new.out) text board c.loop-y.y front
     (omega (arith, c.height-height.ensures.value))
-    (before_failed (held c.args.out.now) (held c.loop-y.out) (held c.put_row.new.out)
+    (before_failed (held c.args.out.now) (held c.loop-y.out) (held c.put_next.new.out)
     c.loop-y.piece.items
     (front ++ flat_map text (canvas_of board.width c.loop-y.y (seen board)))
     (flat_map text (seen_row board c.loop-y.y))
-    c.loop-y.invariant.before c.in_err-put_row.ensures.prefix)
+    c.loop-y.invariant.before c.in_err-put_next.ensures.prefix)
 
 pub loop-y-preserved : goal.loop-y-preserved
 loop-y-preserved g c =
@@ -49,21 +56,29 @@ loop-y-preserved g c =
     let text = pixel_text_of c.args.format in
     let front = head (name_of c.args.format) board.width board.height in
     record {
-      before = subst (GrowsBefore (held c.args.out.now) (held c.put_row.new.out)
-          c.put_row.new.piece.items) (text_more text board c.loop-y.y front)
-          (before_on (held c.args.out.now) (held c.loop-y.out) (held c.put_row.new.out)
+      before = subst (GrowsBefore (held c.args.out.now) (held c.put_next.new.out)
+          c.put_next.new.piece.items) (text_more text board c.loop-y.y front)
+          (before_on (held c.args.out.now) (held c.loop-y.out) (held c.put_next.new.out)
           c.loop-y.piece.items
           (front ++ flat_map text (canvas_of board.width c.loop-y.y (seen board)))
           (flat_map text (seen_row board c.loop-y.y))
-          c.put_row.new.piece.items
-          c.loop-y.invariant.before c.in_ok-put_row.ensures.before);
+          c.put_next.new.piece.items
+          c.loop-y.invariant.before c.in_ok-put_next.ensures.before);
       band = λ some. elim c.if-y-eq0.branch [
         | then-y-eq0 w ↦ band_same board (y / 64) ((y + 1 - 1) / 64) _ _ _ _ w.draw_band.ensures
             (omega arith) w.colors-is w.bytes-is
         | else-y-eq0 w ↦ band_same board ((y - 1) / 64) ((y + 1 - 1) / 64) _ _ _ _
             (c.loop-y.invariant.band (omega arith)) (omega arith) w.colors-is w.bytes-is
       ];
-      kept = c.in_ok-put_row.ensures.cause.kept ∙ c.loop-y.invariant.kept;
+      line = λ some. elim c.if-y-eq0.branch [
+        | then-y-eq0 w ↦ line_same c.args.format board (y / 64) ((y + 1 - 1) / 64) _ _ _ _
+            w.renew.ensures (omega arith) (ap (λ l. l.is_known) w.line-is)
+            (ap (λ l. l.text.items) w.line-is)
+        | else-y-eq0 w ↦ line_same c.args.format board ((y - 1) / 64) ((y + 1 - 1) / 64) _ _ _ _
+            (c.loop-y.invariant.line (omega arith)) (omega arith)
+            (ap (λ l. l.is_known) w.line-is) (ap (λ l. l.text.items) w.line-is)
+      ];
+      kept = c.in_ok-put_next.ensures.cause.kept ∙ c.loop-y.invariant.kept;
     }
 
 pub returns-clause-written : goal.returns-clause-written
