@@ -12,7 +12,7 @@ ghost use Rattle.dp_flat.specs.Tones.{tone_at};
 ghost use Rattle.dp_flat.specs.Composed.{HidesBelow, IsComposed, IsDeep, IsEnough, IsOnBoard};
 ghost use Rattle.dp_flat.specs.Composed.{IsPlace, shown};
 
-use crate::tone::{BUFFER, TileAt, Tone, hides, lay, lay_on_white, mode_of};
+use crate::tone::{BUFFER, TileAt, Tone, hides, lay, mode_of};
 use dp_blend::{Mode, Pixel, fade, from8, of_argb};
 use dp_layers::{LayerRow, rows_by_id};
 use dp_plain::BoardView;
@@ -34,8 +34,8 @@ pub(crate) fn depth_of<V: BoardView>(board: &V) -> usize
     }
 }
 
-/// Draws a tile of the picture, going down into groups so deep. Where the tone is mixed, the first
-/// pixels of this memory are its pixels.
+/// Draws a tile of the picture before it is laid on white, going down into groups so deep. Where
+/// the tone is mixed, the first pixels of this memory are its pixels.
 pub(crate) fn draw_tile<V: BoardView>(
     board: &V,
     depth: usize,
@@ -48,23 +48,13 @@ pub(crate) fn draw_tile<V: BoardView>(
     requires few { depth ≤ LEVELS }
     requires deep { IsDeep (V.board board.now) depth }
     requires long { length memory.old ≡ BUFFER * (depth + 1) }
-    ensures { (k : ℕ) → IsPlace (V.board board.now) tile k → tone_at result memory.new k
+    ensures { (k : ℕ) → IsPlace (V.board board.now) tile k
+        → blend Mode.Normal (tone_at result memory.new k) white
         ≡ seen (V.board board.now) (tile_x tile.col k) (tile_y tile.row k) }
 {
-    let (levels, root) = memory.split_at_mut(depth * BUFFER);
+    let (root, levels) = memory.split_at_mut(BUFFER);
     let start = of_argb(board.background());
-    let whole = compose_tile(board, depth, 0, tile, start, levels, root);
-    finish_tile(whole, root, levels)
-}
-
-/// Lays what a tile shows on white, in the first buffer of `levels`.
-fn finish_tile(tone: Tone, pixels: &[Pixel], levels: &mut [Pixel]) -> Tone
-    requires pixels { length pixels.now ≡ BUFFER }
-    requires levels { BUFFER ≤ length levels.old }
-    ensures { (k : ℕ) → k < BUFFER → tone_at result levels.new k
-        ≡ blend Mode.Normal (tone_at tone pixels.now k) white }
-{
-    lay_on_white(tone, pixels, &mut levels[..BUFFER])
+    compose_tile(board, depth, 0, tile, start, levels, root)
 }
 
 /// Lays the rows of the parent that aren't hidden on a tile of the colour `start`, going down into

@@ -5,14 +5,15 @@
 //! The rule: docs/protocol.md, "The picture".
 
 ghost use Rattle.std.specs.Prelude.{◌≡◌, ◌<◌, ◌≤◌, ℕ, All, IsTrue, List, length, slice_index_or};
-ghost use Rattle.dp_blend.specs.Color.{Channels, IsPixel, clear, fade, white};
+ghost use Rattle.dp_blend.specs.Color.{Channels, IsPixel, clear, fade};
 ghost use Rattle.dp_blend.specs.Blending.{blend};
 ghost use Rattle.dp_pixels.specs.Tiles.{tile_pixel};
 ghost use Rattle.dp_plain.specs.Picture.{laid, mode_of};
 ghost use Rattle.dp_flat.specs.Tones.{IsAsLong, stretch_at, tone_at};
 
 use dp_blend::{
-    Mode, ONE, Pixel, Stretch, blend, fade, fade_by_one_keeps, from8, row_fill, row_merge,
+    Mode, ONE, Pixel, Stretch, blend, fade, fade_by_one_keeps, from8,
+    normal_over_clear_gives_source, row_fill, row_merge,
 };
 use dp_layers::LayerRow;
 
@@ -153,9 +154,27 @@ fn lay_pixels(mode: Mode, opacity: u16, pixels: &[Pixel], under: Tone, buffer: &
         ≡ blend mode (fade (slice_index_or pixels.now i clear) opacity)
         (tone_at under buffer.old i) }
 {
-    spread(under, buffer);
-    row_merge(mode, opacity, pixels, buffer);
+    if shows_source(mode, opacity, &under) {
+        buffer.copy_from_slice(pixels);
+    } else {
+        spread(under, buffer);
+        row_merge(mode, opacity, pixels, buffer);
+    }
     Tone::Mixed
+}
+
+/// Whether a tile shows just the pixels that are laid on it so: it is clear, and they are laid in
+/// the normal mode and not faded.
+fn shows_source(mode: Mode, opacity: u16, under: &Tone) -> bool
+    ensures { IsTrue result → (p : Channels) (pixels : List Channels) (i : ℕ)
+        → blend mode (fade p opacity) (tone_at under.now pixels i) ≡ p }
+{
+    fade_by_one_keeps();
+    normal_over_clear_gives_source();
+    match under {
+        Tone::Solid(below) => mode == Mode::Normal && opacity == ONE && *below == Pixel::CLEAR,
+        Tone::Mixed => false,
+    }
 }
 
 /// Leaves what is shown in the buffer.
@@ -165,22 +184,6 @@ fn spread(tone: Tone, buffer: &mut [Pixel])
 {
     if let Tone::Solid(color) = tone {
         row_fill(Mode::Replace, color, buffer);
-    }
-}
-
-/// Lays what a tile shows on white.
-pub(crate) fn lay_on_white(tone: Tone, pixels: &[Pixel], buffer: &mut [Pixel]) -> Tone
-    requires { length pixels.now ≡ length buffer.old }
-    ensures { (i : ℕ) → i < length buffer.old → tone_at result buffer.new i
-        ≡ blend Mode.Normal (tone_at tone pixels.now i) white }
-{
-    fade_by_one_keeps();
-    match tone {
-        Tone::Solid(color) => Tone::Solid(blend(Mode::Normal, color, Pixel::WHITE)),
-        Tone::Mixed => {
-            let white = Tone::Solid(Pixel::WHITE);
-            lay_pixels(Mode::Normal, ONE, pixels, white, buffer)
-        }
     }
 }
 

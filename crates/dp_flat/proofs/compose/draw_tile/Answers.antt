@@ -1,4 +1,4 @@
--- The root's rows are composed on the background, and that is laid on white.
+-- The root's rows are composed on the background.
 use Rattle.std.proofs.Common.{ap, ◌∙◌, arith}
 use Rattle.dp_blend.specs.Blending.{blend}
 use Rattle.dp_blend.specs.Color.{Channels, of_argb, white}
@@ -15,10 +15,10 @@ returns g c = λ k place.
     let board = g.V.BoardView.board c.args.board.now in
     let x = tile_x c.args.tile.col k in
     let y = tile_y c.args.tile.row k in
-    tone_front c.finish_tile.result c.finish_tile.new.levels
-    c.compose_tile-whole.new.buffer k (omega arith)
-    ∙ c.finish_tile.ensures k place.count
-    ∙ ap (λ (p : Channels). blend Normal p white) (c.compose_tile-whole.ensures k place
+    ap (λ (p : Channels). blend Normal p white)
+    (tone_front c.compose_tile.result c.compose_tile.new.buffer c.compose_tile.new.levels k
+    (omega arith)
+    ∙ c.compose_tile.ensures k place
     ∙ c.requires.deep x y c.of_argb-start.result
     ∙ ap (λ (start : Channels).
     compose nesting_limit (row_pixel board x y) (layers_of board.rows) 0 start)
