@@ -15,7 +15,7 @@ use crate::laws::{one_answer, one_message};
 use crate::{Entry, Msg};
 use dp_fields::PayloadError;
 use dp_frame::{FrameView, Octets};
-use dp_msg_draw::{is_listed, one_draw, read_draw};
+use dp_msg_draw::{FILL_RECT, is_listed, one_draw, read_draw, read_fill};
 use dp_msg_meta::{is_control_kind, is_meta_kind, read_control, read_meta};
 use std::alloc::Global;
 use thiserror::Error;
@@ -98,7 +98,9 @@ pub fn read_message(alloc: Global, kind: u8, payload: &[u8]) -> Result<Msg, Deco
 fn read_by_kind(alloc: Global, kind: u8, payload: &[u8]) -> Result<Msg, DecodeError>
     ensures { Answers kind payload.now result }
 {
-    if is_control_kind(kind) {
+    if kind == FILL_RECT {
+        read_fill_msg(payload)
+    } else if is_control_kind(kind) {
         read_control_msg(alloc, kind, payload)
     } else if is_meta_kind(kind) {
         read_meta_msg(alloc, kind, payload)
@@ -137,6 +139,15 @@ fn read_meta_msg(alloc: Global, kind: u8, payload: &[u8]) -> Result<Msg, DecodeE
     ensures { Answers kind payload.now result }
 {
     answer_of!(read_meta(alloc, kind, payload), kind, Meta)
+}
+
+fn read_fill_msg(payload: &[u8]) -> Result<Msg, DecodeError>
+    ensures { Answers 137 payload.now result }
+{
+    match read_fill(payload) {
+        Some(fill) => Ok(Msg::Draw(fill)),
+        None => Err(DecodeError::Malformed(FILL_RECT)),
+    }
 }
 
 fn read_command(alloc: Global, kind: u8, payload: &[u8]) -> Result<Msg, DecodeError>

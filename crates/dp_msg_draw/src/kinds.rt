@@ -22,7 +22,8 @@ pub(crate) const LAYER_DELETE: u8 = 134;
 
 pub(crate) const PUT_IMAGE: u8 = 136;
 
-pub(crate) const FILL_RECT: u8 = 137;
+/// The kind of a fill.
+pub const FILL_RECT: u8 = 137;
 
 pub(crate) const PUT_TILE: u8 = 146;
 

@@ -15,6 +15,17 @@ use crate::tails::Image;
 use dp_fields::{PayloadError, all, read_both};
 use std::alloc::Global;
 
+/// The fill that a payload spells, the message of kind 137. Sessions have most of these, so there is
+/// a way to read one that moves it from no answer to another.
+#[inline(always)]
+#[rattlefmt::skip]
+pub fn read_fill(payload: &[u8]) -> Option<Draw>
+    ensures { Finds (SpellsDraw 137 payload.now) result }
+{
+    let Some(((layer, Mode(mode)), (((x, y), (w, h)), color))) = all(payload) else { return None };
+    Some(Draw::FillRect { layer, mode, x, y, w, h, color })
+}
+
 /// The message that a payload spells, of a kind that takes no memory.
 #[rattlefmt::skip]
 fn read_plain(kind: u8, payload: &[u8]) -> Option<Draw>
@@ -39,12 +50,7 @@ fn read_plain(kind: u8, payload: &[u8]) -> Option<Draw>
             let Some(id) = all(payload) else { return None };
             Some(Draw::LayerDelete { id })
         }
-        FILL_RECT => {
-            let Some(((layer, Mode(mode)), (((x, y), (w, h)), color))) = all(payload) else {
-                return None;
-            };
-            Some(Draw::FillRect { layer, mode, x, y, w, h, color })
-        }
+        FILL_RECT => read_fill(payload),
         BACKGROUND => {
             let Some(color) = all(payload) else { return None };
             Some(Draw::Background { color })

@@ -1,5 +1,5 @@
 use Rattle.std.proofs.Common.{◌≡◌, arith}
-use Rattle.dp_msg_draw.proofs.Forms.{refused, canvas_resize, layer_attr, layer_move, fill_rect}
+use Rattle.dp_msg_draw.proofs.Forms.{refused, canvas_resize, layer_attr, layer_move}
 use Rattle.dp_msg_draw.proofs.Forms.{move_rect}
 use Rattle.dp_msg_draw.proofs.reader.read_plain.Goals as goal
 
@@ -12,10 +12,7 @@ returns-in_default-all-2 c = refused c.in-131.is layer_attr c.in_default-all-2.e
 pub returns-in_default-all-3 : goal.returns-in_default-all-3
 returns-in_default-all-3 c = refused c.in-133.is layer_move c.in_default-all-3.ensures
 
-pub returns-in_default-all-5 : goal.returns-in_default-all-5
-returns-in_default-all-5 c = refused c.in-137.is fill_rect c.in_default-all-5.ensures
-
-pub returns-in_default-all-7 : goal.returns-in_default-all-7
-returns-in_default-all-7 c =
+pub returns-in_default-all-6 : goal.returns-in_default-all-6
+returns-in_default-all-6 c =
     let kind : c.args.kind ≡ 152 = grind arith in
-    refused kind move_rect c.in_default-all-7.ensures
+    refused kind move_rect c.in_default-all-6.ensures
