@@ -9,7 +9,7 @@ use Rattle.std.proofs.lemmas.Bool.{false≢true}
 use Rattle.std.proofs.lemmas.List.{append-nil, length-drop, length-take, nil_from_length}
 use Rattle.std.proofs.lemmas.List.{take-append-drop}
 use Rattle.std.specs.Io.KnownBytes.{Consumes, Keeps, IsAtEnd}
-use Rattle.dp_frame.specs.Frames.{FrameParts, spelling, HoldsNoFrame}
+use Rattle.dp_frame.specs.Frames.{FrameParts, IsFrame, spelling, HoldsNoFrame}
 use Rattle.dp_frame.specs.Stream.{Stream}
 use Rattle.dp_messages.specs.declared.message.Entry.{Entry}
 use Rattle.dp_lines.specs.declared.run_end.RunEnd.TheVariants as run
@@ -18,7 +18,7 @@ use Rattle.dp_entries.specs.declared.ends.ReadEnd.TheVariants.{Long, Memory}
 use Rattle.dp_entries.specs.declared.ends.ReadEnd.{ReadEnd}
 use Rattle.dp_entries.specs.declared.ends.Refusal.{Refusal}
 use Rattle.dp_entries.specs.declared.ends.Refusal.TheVariants as refusal
-use Rattle.dp_entries.specs.Ends.{IfCause, IsRefusal, end_at}
+use Rattle.dp_entries.specs.Ends.{IfCause, IsRefusal, refused_at}
 use Rattle.dp_entries.specs.Input.{Tells, TellsUpTo, ComesTo, HoldsNoCause}
 use Rattle.dp_entries.specs.Reader.{Reader, Follows, HasRead, measure_of, room_of}
 use Rattle.dp_entries.specs.Reading.{TakesEntry, TakesBad, TookNoCause, EndsReading}
@@ -192,7 +192,7 @@ pub ends_bad : {C : Type 0} (M : ℕ → FrameParts → Entry → Type 0)
     → TakesBad IsCause old.count old.stream new cause → at ≡ old.stream.at
     → HasRead M input left entries old
     → EndsReading M IsCause old.first old.limit input left entries
-    (BadMessage (old.first + at) cause)
+    (BadMessage cause (old.first + at))
 ends_bad M IsCause none input left entries old new at cause within taken place h =
     let fed : List ℕ = h.earlier ++ h.piece in
     let front : List ℕ = h.head ++ fed in
@@ -470,6 +470,40 @@ ends_inside M IsCause input left entries r within none not_over end some h = (
   end,
 )
 
+-- ---- the first frame that is held
+
+-- it is dropped, and stands for the entry
+pub takes_front : (M : ℕ → FrameParts → Entry → Type 0) (before : ℕ) (old new : Stream)
+    (frame : FrameParts) (entry : Entry) → IsFrame frame
+    → old.held ≡ spelling frame ++ drop (length (spelling frame)) old.held
+    → ((f : FrameParts) (rest : List ℕ) → IsFrame f → old.held ≡ spelling f ++ rest
+    → new ≡ record { held = rest; at = old.at + length (spelling f) })
+    → M before frame entry → TakesEntry M before old new entry
+takes_front M before old new frame entry fits front drops stands =
+    let rest : List ℕ = drop (length (spelling frame)) old.held in
+    let after : Stream = record { held = rest; at = old.at + length (spelling frame) } in
+    let is : new ≡ after = drops frame rest fits front in
+    record {
+      frame = frame;
+      fits = fits;
+      held = front ∙ ap (λ (s : Stream). spelling frame ++ s.held) (sym is);
+      at = ap (λ (s : Stream). s.at) is;
+      stands = stands;
+    }
+
+-- it may not stand, or memory runs out at it
+pub refuses_front : {C : Type 0} (IsCause : ℕ → FrameParts → C → Type 0) (before : ℕ)
+    (old : Stream) (frame : FrameParts) (why : Refusal C) → IsFrame frame
+    → old.held ≡ spelling frame ++ drop (length (spelling frame)) old.held
+    → IfCause (IsCause before frame) why
+    → IfCause (TakesBad IsCause before old (record {
+      held = drop (length (spelling frame)) old.held;
+      at = old.at + length (spelling frame);
+    })) why
+refuses_front IsCause before old frame (refusal.Cause cause) fits front is =
+    record { frame = frame; fits = fits; held = front; at = refl; why = is }
+refuses_front IsCause before old frame refusal.Memory fits front is = tt
+
 -- ---- a frame that stops it
 
 -- a frame stops the reading, or memory runs out at it
@@ -482,22 +516,22 @@ pub ends_stop : {C : Type 0} (M : ℕ → FrameParts → Entry → Type 0)
     → old.first + old.stream.at + length old.stream.held ≤ old.limit
     → IfCause (TakesBad IsCause old.count old.stream new) why → at ≡ old.stream.at
     → HasRead M input left entries old
-    → EndsReading M IsCause old.first old.limit input left entries (end_at old.first at why)
+    → EndsReading M IsCause old.first old.limit input left entries (refused_at (old.first + at) why)
 ends_stop M IsCause none input left entries old new at (refusal.Cause cause) within taken place h =
     ends_bad M IsCause none input left entries old new at cause within taken place h
 ends_stop M IsCause none input left entries old new at refusal.Memory within taken place h = tt
 
-pub refusal_of_stop : {C : Type 0} (first at : ℕ) (why : Refusal C)
-    → IsRefusal (end_at first at why)
-refusal_of_stop first at (refusal.Cause cause) = tt
-refusal_of_stop first at refusal.Memory = tt
+pub refusal_of_stop : {C : Type 0} (at : ℕ) (why : Refusal C)
+    → IsRefusal (refused_at at why)
+refusal_of_stop at (refusal.Cause cause) = tt
+refusal_of_stop at refusal.Memory = tt
 
 -- it takes nothing of the input
 pub refusal_blames : {C : Type 0} (count : ℕ) (end : ReadEnd C) → IsRefusal end
     → Blames count count end
 refusal_blames count ReadFault refused = absurd refused
 refusal_blames count (Truncated n) refused = absurd refused
-refusal_blames count (BadMessage n cause) refused = refl
+refusal_blames count (BadMessage cause n) refused = refl
 refusal_blames count Long refused = absurd refused
 refusal_blames count Memory refused = refl
 
@@ -505,6 +539,6 @@ pub refusal_ends : {C : Type 0} (left : Option (List ℕ)) (end : ReadEnd C) →
     → EndsWithInput left end
 refusal_ends left ReadFault refused = absurd refused
 refusal_ends left (Truncated n) refused = absurd refused
-refusal_ends left (BadMessage n cause) refused = tt
+refusal_ends left (BadMessage cause n) refused = tt
 refusal_ends left Long refused = absurd refused
 refusal_ends left Memory refused = tt

@@ -1,10 +1,9 @@
 -- How reading entries ends.
-use Rattle.std.specs.Prelude.{ℕ, ◌+◌, ⊤}
+use Rattle.std.specs.Prelude.{ℕ, ⊤}
 use Rattle.dp_lines.specs.declared.run_end.RunEnd.{RunEnd}
 use Rattle.dp_lines.specs.declared.run_end.RunEnd.TheVariants as run
 use Rattle.dp_entries.specs.declared.ends.Refusal.{Refusal}
 use Rattle.dp_entries.specs.declared.ends.Refusal.TheVariants as refusal
-use Rattle.dp_entries.specs.declared.taking.Stop.{Stop}
 use Rattle.dp_entries.specs.declared.ends.ReadEnd.{ReadEnd}
 use Rattle.dp_entries.specs.declared.ends.ReadEnd.TheVariants.{ReadFault, Truncated, BadMessage}
 use Rattle.dp_entries.specs.declared.ends.ReadEnd.TheVariants.{Long, Memory}
@@ -18,24 +17,19 @@ IfCause P refusal.Memory = ⊤
 abbrev pub end_of : {C : Type 0} → ReadEnd C → RunEnd
 end_of ReadFault = run.ReadFault
 end_of (Truncated n) = run.Truncated n
-end_of (BadMessage n cause) = run.BadMessage n
+end_of (BadMessage cause n) = run.BadMessage n
 end_of Long = run.Long
 end_of Memory = run.Memory
 
--- how reading ends where the frame at this byte of a stream is refused, whose first byte stands at
--- the byte `first` of the input
-abbrev pub end_at : {C : Type 0} → ℕ → ℕ → Refusal C → ReadEnd C
-end_at first at (refusal.Cause cause) = BadMessage (first + at) cause
-end_at first at refusal.Memory = Memory
-
--- the same of a stop
-abbrev pub stop_end : {C : Type 0} → ℕ → Stop C → ReadEnd C
-stop_end first stop = end_at first stop.at stop.why
+-- how reading ends where the frame at this byte gives no entry
+abbrev pub refused_at : {C : Type 0} → ℕ → Refusal C → ReadEnd C
+refused_at at (refusal.Cause cause) = BadMessage cause at
+refused_at at refusal.Memory = Memory
 
 -- it is a frame that may not stand, or memory ran out
 abbrev pub IsRefusal : {C : Type 0} → ReadEnd C → Type 0
 IsRefusal ReadFault = ⊥
 IsRefusal (Truncated n) = ⊥
-IsRefusal (BadMessage n cause) = ⊤
+IsRefusal (BadMessage cause n) = ⊤
 IsRefusal Long = ⊥
 IsRefusal Memory = ⊤

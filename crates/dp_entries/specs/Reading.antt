@@ -57,7 +57,7 @@ EndsReading MayStand IsCause first limit input left entries ReadFault =
     TookNoCause MayStand first limit 0 input left
 EndsReading MayStand IsCause first limit input left entries (Truncated n) =
     ComesTo MayStand first limit input entries (run.Truncated n) × IsAtEnd left
-EndsReading MayStand IsCause first limit input left entries (BadMessage n cause) =
+EndsReading MayStand IsCause first limit input left entries (BadMessage cause n) =
     ComesTo MayStand first limit input entries (run.BadMessage n)
     × TookNoCause MayStand first limit 4096 input left
     × IsBadAt IsCause input (length entries) n cause
@@ -70,7 +70,7 @@ EndsReading MayStand IsCause first limit input left entries Memory = ⊤
 abbrev pub Blames : {C : Type 0} → ℕ → ℕ → ReadEnd C → Type 0
 Blames before now ReadFault = Rose before now
 Blames before now (Truncated n) = now ≡ before
-Blames before now (BadMessage n cause) = now ≡ before
+Blames before now (BadMessage cause n) = now ≡ before
 Blames before now Long = now ≡ before
 Blames before now Memory = now ≡ before
 
@@ -78,6 +78,6 @@ Blames before now Memory = now ≡ before
 abbrev pub EndsWithInput : {C : Type 0} → Option (List ℕ) → ReadEnd C → Type 0
 EndsWithInput left (Truncated n) = IsAtEnd left
 EndsWithInput left ReadFault = ⊤
-EndsWithInput left (BadMessage n cause) = ⊤
+EndsWithInput left (BadMessage cause n) = ⊤
 EndsWithInput left Long = ⊤
 EndsWithInput left Memory = ⊤

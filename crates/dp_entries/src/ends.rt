@@ -21,8 +21,8 @@ pub enum ReadEnd<C> {
     ReadFault,
     /// The input ends inside the frame at this byte.
     Truncated(u64),
-    /// The frame at this byte may not stand there, for this cause.
-    BadMessage(u64, C),
+    /// For this cause the frame at this byte may not stand there.
+    BadMessage(C, u64),
     /// The input has more bytes than count.
     Long,
     /// Memory ran out.
@@ -37,7 +37,7 @@ impl<C> ReadEnd<C> {
         match self {
             ReadEnd::ReadFault => RunEnd::ReadFault,
             ReadEnd::Truncated(at) => RunEnd::Truncated(*at),
-            ReadEnd::BadMessage(at, _) => RunEnd::BadMessage(*at),
+            ReadEnd::BadMessage(_, at) => RunEnd::BadMessage(*at),
             ReadEnd::Long => RunEnd::Long,
             ReadEnd::Memory => RunEnd::Memory,
         }

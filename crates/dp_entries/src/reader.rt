@@ -10,12 +10,11 @@ ghost use Rattle.dp_frame.specs.Frames.{HoldsNoFrame};
 ghost use Rattle.dp_messages.specs.declared.message.Entry.{Entry as Item};
 ghost use Rattle.dp_lines.specs.declared.run_end.RunEnd.TheVariants as run;
 ghost use Rattle.dp_entries.specs.Input.{ComesTo};
-ghost use Rattle.dp_entries.specs.Ends.{IfCause, IsRefusal, stop_end};
+ghost use Rattle.dp_entries.specs.Ends.{IsRefusal, refused_at};
 ghost use Rattle.dp_entries.specs.Reader.{HasRead, measure_of, room_of};
 ghost use Rattle.dp_entries.specs.Reading.{Blames, EndsReading, EndsWithInput, TakesBad};
 ghost use Rattle.dp_entries.specs.Reading.{TakesEntry};
 
-use crate::taking::{Stop, take_entry};
 use crate::{ReadEnd, Refusal, Standing};
 use dp_frame::Splitter;
 use dp_io::{Failed, Source};
@@ -134,12 +133,19 @@ impl<S: Standing> EntryReader<S> {
         if self.ended {
             return Ok(None);
         }
-        match self.pull(alloc, input) {
-            Ok(Some(entry)) => Ok(Some(entry)),
-            Ok(None) => {
+        match self.fill(input) {
+            Ok(true) => {}
+            Ok(false) => {
                 self.ended = true;
-                Ok(None)
+                return Ok(None);
             }
+            Err(end) => {
+                self.ended = true;
+                return Err(end);
+            }
+        }
+        match self.take(alloc) {
+            Ok(entry) => Ok(Some(entry)),
             Err(end) => {
                 self.ended = true;
                 Err(end)
@@ -172,65 +178,72 @@ impl<S: Standing> EntryReader<S> {
         }
     }
 
-    /// Gives the next entry of a reader that has not ended.
-    fn pull<I: Source>(
-        &mut self,
-        alloc: Global,
-        input: &mut I,
-    ) -> Result<Option<Entry>, ReadEnd<S::Cause>>
-        ensures given { IfOk result (λ next. IfSome next (λ entry.
-            (bytes : List ℕ) (entries : List Item)
+    /// Reads until a whole frame is held, and says whether one is; `false` where the input ends after
+    /// a whole frame. It reads pieces of at most 4096 bytes, and only where no whole frame is held.
+    ///
+    /// # Errors
+    ///
+    /// `ReadFault` where the input failed, `Truncated` where it ends inside a frame, `Long` where
+    /// more bytes than count were taken, and `Memory` where memory ran out.
+    pub fn fill<I: Source>(&mut self, input: &mut I) -> Result<bool, ReadEnd<S::Cause>>
+        ensures read { OnOk result ((bytes : List ℕ) (entries : List Item)
             → HasRead S.may_stand bytes (I.left input.old) entries self.old
-            → HasRead S.may_stand bytes (I.left input.new) (entries ++ entry ∷ []) self.new)) }
-        ensures further { IfOk result (λ next. IfSome next (λ _.
-            self.old.stream.at < self.new.stream.at)) }
-        ensures within { self.new.first + self.new.stream.at + length self.new.stream.held
-            ≤ self.new.limit }
-        ensures first { self.new.first ≡ self.old.first }
-        ensures limit { self.new.limit ≡ self.old.limit }
-        ensures same_ended { self.new.ended ≡ self.old.ended }
-        ensures at_end { IfOk result (λ next. IfNone next (IsAtEnd (I.left input.new))) }
-        ensures done { IfOk result (λ next. IfNone next ((bytes : List ℕ) (entries : List Item)
+            → HasRead S.may_stand bytes (I.left input.new) entries self.new) }
+        ensures held { IfOk result (λ more. IsTrue more
+            → ¬ HoldsNoFrame self.new.stream.held) }
+
+        // Where there is none, the input came to its end, or reading it ended so.
+        ensures at_end { IfOk result (λ more. ¬ IsTrue more → IsAtEnd (I.left input.new)) }
+        ensures done { IfOk result (λ more. ¬ IsTrue more → (bytes : List ℕ) (entries : List Item)
             → HasRead S.may_stand bytes (I.left input.old) entries self.old
-            → ComesTo S.may_stand self.old.first self.old.limit bytes entries run.Done)) }
+            → ComesTo S.may_stand self.old.first self.old.limit bytes entries run.Done) }
         ensures ends { IfErr result (λ end. (bytes : List ℕ) (entries : List Item)
             → HasRead S.may_stand bytes (I.left input.old) entries self.old
             → EndsReading S.may_stand S.is_cause self.old.first self.old.limit bytes
             (I.left input.new) entries end) }
         ensures inside { IfErr result (EndsWithInput (I.left input.new)) }
+        ensures within { self.new.first + self.new.stream.at + length self.new.stream.held
+            ≤ self.new.limit }
+        ensures first { self.new.first ≡ self.old.first }
+        ensures limit { self.new.limit ≡ self.old.limit }
+        ensures at { self.new.stream.at ≡ self.old.stream.at }
+        ensures ended { self.new.ended ≡ self.old.ended }
+
+        // A fault is answered where the count of the input's faults rose, and else it stays.
         ensures kept { OnOk result (I.faults input.new ≡ I.faults input.old) }
         ensures blames { IfErr result (Blames (I.faults input.old) (I.faults input.new)) }
         ensures later { I.faults input.old ≤ I.faults input.new }
     {
         'pieces: loop {
-            match self.take_held(alloc)? {
-                Some(entry) => return Ok(Some(entry)),
-                None => {
-                    if !self.read_piece(input)? {
-                        self.check_end()?;
-                        return Ok(None);
-                    }
-                }
+            if self.splitter.front().is_some() {
+                return Ok(true);
+            }
+            if !self.read_piece(input)? {
+                self.check_end()?;
+                return Ok(false);
             }
         }
     }
 
     /// Gives the entry of the first frame that is held.
-    fn take_held(&mut self, alloc: Global) -> Result<Option<Entry>, ReadEnd<S::Cause>>
-        ensures given { IfOk result (λ next. IfSome next (λ entry.
+    ///
+    /// # Errors
+    ///
+    /// `BadMessage` where the frame may not stand, and `Memory` where memory ran out. Nothing has
+    /// changed then.
+    pub fn take(&mut self, alloc: Global) -> Result<Entry, ReadEnd<S::Cause>>
+        requires held { ¬ HoldsNoFrame self.old.stream.held }
+        ensures given { IfOk result (λ entry.
             (bytes : List ℕ) (left : Option (List ℕ)) (entries : List Item)
             → HasRead S.may_stand bytes left entries self.old
-            → HasRead S.may_stand bytes left (entries ++ entry ∷ []) self.new)) }
-        ensures further { IfOk result (λ next. IfSome next (λ _.
-            self.old.stream.at < self.new.stream.at)) }
-        ensures none { IfOk result (λ next. IfNone next (HoldsNoFrame self.old.stream.held)) }
-        ensures same { IfOk result (λ next. IfNone next (self.new ≡ self.old)) }
+            → HasRead S.may_stand bytes left (entries ++ entry ∷ []) self.new) }
+        ensures further { OnOk result (self.old.stream.at < self.new.stream.at) }
         ensures first { self.new.first ≡ self.old.first }
         ensures limit { self.new.limit ≡ self.old.limit }
         ensures ended { self.new.ended ≡ self.old.ended }
         ensures within { self.new.first + self.new.stream.at + length self.new.stream.held
             ≤ self.new.limit }
-        ensures fits { self.new.limit < 2 ^ 64 }
+        ensures err { OnErr result (self.new ≡ self.old) }
         ensures ends { IfErr result (λ end.
             (bytes : List ℕ) (left : Option (List ℕ)) (entries : List Item)
             → HasRead S.may_stand bytes left entries self.old
@@ -239,10 +252,17 @@ impl<S: Standing> EntryReader<S> {
         ensures refused { IfErr result IsRefusal }
     {
         S::one_standing();
-        match self.take_next(alloc) {
-            Ok(Some(entry)) => Ok(Some(entry)),
-            Ok(None) => Ok(None),
-            Err(stop) => Err(self.end_at(stop)),
+        let judged = match self.splitter.front() {
+            Some(frame) => S::judge(alloc, self.count, &frame),
+            None => unreachable!(),
+        };
+        match judged {
+            Ok(entry) => {
+                self.splitter.drop_front();
+                self.count += 1;
+                Ok(entry)
+            }
+            Err(why) => Err(end_of_refusal(self.first + self.splitter.at(), why)),
         }
     }
 
@@ -289,34 +309,6 @@ impl<S: Standing> EntryReader<S> {
             Ok(()) => Ok(true),
             Err(AllocError) => Err(ReadEnd::Memory),
         }
-    }
-
-    /// Takes the first frame that is held, and counts it.
-    fn take_next(&mut self, alloc: Global) -> Result<Option<Entry>, Stop<S::Cause>>
-        ensures taken { IfOk result (λ next. IfSome next
-            (TakesEntry S.may_stand self.old.count self.old.stream self.new.stream)) }
-        ensures counted { IfOk result (λ next. IfSome next (λ _.
-            self.new.count ≡ self.old.count + 1)) }
-        ensures none { IfOk result (λ next. IfNone next (HoldsNoFrame self.old.stream.held)) }
-        ensures same { IfOk result (λ next. IfNone next (self.new ≡ self.old)) }
-        ensures refused { IfErr result (λ stop. IfCause
-            (TakesBad S.is_cause self.old.count self.old.stream self.new.stream) stop.why) }
-        ensures place { IfErr result (λ stop. stop.at ≡ self.old.stream.at) }
-        ensures first { self.new.first ≡ self.old.first }
-        ensures limit { self.new.limit ≡ self.old.limit }
-        ensures ended { self.new.ended ≡ self.old.ended }
-        ensures over { self.new.over ≡ self.old.over }
-        ensures before { self.old.first + self.old.stream.at + length self.old.stream.held
-            ≤ self.old.limit }
-        ensures within { self.new.first + self.new.stream.at + length self.new.stream.held
-            ≤ self.new.limit }
-        ensures fits { self.new.limit < 2 ^ 64 }
-    {
-        let next = take_entry::<S>(alloc, &mut self.splitter, self.count)?;
-        if next.is_some() {
-            self.count += 1;
-        }
-        Ok(next)
     }
 
     /// Holds the bytes that count of those that are next.
@@ -373,16 +365,14 @@ impl<S: Standing> EntryReader<S> {
             Err(ReadEnd::Truncated(self.first + self.splitter.at()))
         }
     }
+}
 
-    /// How reading ends where a frame stops it so.
-    fn end_at(&self, stop: Stop<S::Cause>) -> ReadEnd<S::Cause>
-        requires { self.now.first + stop.at < 2 ^ 64 }
-        ensures { result ≡ stop_end self.now.first stop }
-    {
-        let Stop { at, why } = stop;
-        match why {
-            Refusal::Cause(cause) => ReadEnd::BadMessage(self.first + at, cause),
-            Refusal::Memory => ReadEnd::Memory,
-        }
+/// How reading ends where the frame at this byte gives no entry.
+fn end_of_refusal<C>(at: u64, why: Refusal<C>) -> ReadEnd<C>
+    ensures { result ≡ refused_at at why }
+{
+    match why {
+        Refusal::Cause(cause) => ReadEnd::BadMessage(cause, at),
+        Refusal::Memory => ReadEnd::Memory,
     }
 }

@@ -143,7 +143,7 @@ fn frames_begin_after_other_bytes(rt: HostRuntime) -> Result<(), Fail> {
     assert!(rt;
         matches!(
             end,
-            Err(ReadEnd::BadMessage(34, DecodeError::Unknown(0x14)))
+            Err(ReadEnd::BadMessage(DecodeError::Unknown(0x14), 34))
         )
     );
     assert!(rt; reader.next(alloc, &mut input)?.is_none());

@@ -177,7 +177,7 @@ shows_end s bytes left before ReadFault readable gave still ends =
     gave_begins s bytes before readable gave
 shows_end s bytes left before (Truncated n) readable gave still ends =
     inr (inr (still, n, comes_to s bytes before readable (run.Truncated n) ends.0))
-shows_end s bytes left before (BadMessage n flaw) readable gave still ends =
+shows_end s bytes left before (BadMessage flaw n) readable gave still ends =
     (still, comes_to s bytes before readable (run.BadMessage n) ends.0)
 shows_end s bytes left before read.Long readable gave still ends =
     (still, comes_to s bytes before readable run.Long ends.0)
@@ -188,7 +188,7 @@ blames_end : (before now : ℕ) (end : ReadEnd LinkFlaw) → before ≤ now → 
     → BlamesReading before now (stop_of end)
 blames_end before now ReadFault later blames = (blames, later)
 blames_end before now (Truncated n) later blames = blames
-blames_end before now (BadMessage n flaw) later blames = blames
+blames_end before now (BadMessage flaw n) later blames = blames
 blames_end before now read.Long later blames = blames
 blames_end before now read.Memory later blames = blames
 

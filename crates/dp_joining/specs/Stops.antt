@@ -13,7 +13,7 @@ use Rattle.dp_joining.specs.Outcomes.{link_end}
 abbrev pub stop_of : ReadEnd LinkFlaw → JoinStop
 stop_of read.ReadFault = stop.LinkFault
 stop_of (read.Truncated at) = stop.NoEntry cause.Closed
-stop_of (read.BadMessage at flaw) = stop.NoEntry (cause.BadMessage at)
+stop_of (read.BadMessage flaw at) = stop.NoEntry (cause.BadMessage at)
 stop_of read.Long = stop.NoEntry cause.Long
 stop_of read.Memory = stop.Memory
 

@@ -77,7 +77,7 @@ pub(crate) fn stop_of(end: &ReadEnd<LinkFlaw>) -> JoinStop
     match end {
         ReadEnd::ReadFault => JoinStop::LinkFault,
         ReadEnd::Truncated(_) => JoinStop::NoEntry(LinkCause::Closed),
-        ReadEnd::BadMessage(at, _) => JoinStop::NoEntry(LinkCause::BadMessage(*at)),
+        ReadEnd::BadMessage(_, at) => JoinStop::NoEntry(LinkCause::BadMessage(*at)),
         ReadEnd::Long => JoinStop::NoEntry(LinkCause::Long),
         ReadEnd::Memory => JoinStop::Memory,
     }

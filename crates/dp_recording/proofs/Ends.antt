@@ -106,7 +106,7 @@ pub late-ends : (input : List ℕ) (left : Option (List ℕ)) (entries : List En
     → EndsRecording input left entries (error_of end)
 late-ends input left entries len read.ReadFault header ends = inr (len, header, ends)
 late-ends input left entries len (read.Truncated at) header ends = ((len, header, ends.0), ends.1)
-late-ends input left entries len (read.BadMessage at why) header ends =
+late-ends input left entries len (read.BadMessage why at) header ends =
     ((len, header, ends.0), inr (len, header, ends.1), ends.2)
 late-ends input left entries len read.Long header ends =
     ((len, header, ends.0), inr (len, header, ends.1))

@@ -36,7 +36,7 @@ RecordingComesTo input entries end =
 abbrev pub error_of : ReadEnd DecodeError → RecError
 error_of read.ReadFault = ReadFault
 error_of (read.Truncated at) = Truncated at
-error_of (read.BadMessage at why) = Message at why
+error_of (read.BadMessage why at) = Message at why
 error_of read.Long = Long
 error_of read.Memory = Memory
 

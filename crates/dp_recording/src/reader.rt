@@ -283,7 +283,7 @@ fn error_of(end: ReadEnd<DecodeError>) -> RecError
     match end {
         ReadEnd::ReadFault => RecError::ReadFault,
         ReadEnd::Truncated(at) => RecError::Truncated { at },
-        ReadEnd::BadMessage(at, why) => RecError::Message { at, why },
+        ReadEnd::BadMessage(why, at) => RecError::Message { at, why },
         ReadEnd::Long => RecError::Long,
         ReadEnd::Memory => RecError::Memory,
     }

@@ -1,7 +1,7 @@
 use Rattle.std.proofs.Common.{◌≡◌, List, ℕ}
 use Rattle.dp_messages.specs.declared.message.Entry.{Entry}
 use Rattle.dp_entries.specs.Reader.{HasRead, measure_of}
-use Rattle.dp_entries.proofs.reader.EntryReader.pull.Given as goal
+use Rattle.dp_entries.proofs.reader.EntryReader.fill.Given as goal
 
 -- what was read goes on by the pieces
 abbrev pub invariant-pieces : goal.invariant-pieces

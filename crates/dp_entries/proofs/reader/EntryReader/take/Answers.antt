@@ -1,37 +1,54 @@
-use Rattle.std.proofs.Common.{arith, sym, subst, ℕ}
-use Rattle.dp_entries.specs.Ends.{IsRefusal, end_at}
+use Rattle.std.proofs.Common.{◌+◌, refl, sym, subst, drop, length}
+use Rattle.dp_frame.specs.Frames.{spelling}
+use Rattle.dp_frame.specs.Stream.{Stream}
+use Rattle.dp_entries.specs.Ends.{refused_at}
+use Rattle.dp_entries.specs.Reader.{Reader, HasRead}
 use Rattle.dp_entries.specs.Reading.{EndsReading}
-use Rattle.dp_entries.proofs.Frames.{some_bytes}
-use Rattle.dp_entries.proofs.Reading.{reads_entry, ends_stop, refusal_of_stop}
-use Rattle.dp_entries.proofs.reader.EntryReader.take_held.Goals as goal
+use Rattle.dp_entries.proofs.Reading.{reads_entry, ends_stop, takes_front, refuses_front}
+use Rattle.dp_entries.proofs.reader.EntryReader.take.Goals as goal
 
-pub returns-in-Ok-Some-clause-given : goal.returns-in-Ok-Some-clause-given
-returns-in-Ok-Some-clause-given g c = λ bytes left entries h.
-    let e = c.take_next.ensures in
-    reads_entry g.S.Standing.may_stand bytes left entries c.args.self.now c.take_next.new.self
-    c.in-Ok-Some.entry
-    (rw c.in-Ok-Some.field-0-is at c.in-Ok-Some.ensures.taken)
-    (rw c.in-Ok-Some.field-0-is at c.in-Ok-Some.ensures.counted)
-    e.first e.limit e.over h
-
-pub returns-in-Ok-Some-clause-further : goal.returns-in-Ok-Some-clause-further
-returns-in-Ok-Some-clause-further g c =
-    let taken = rw c.in-Ok-Some.field-0-is at c.in-Ok-Some.ensures.taken in
-    omega (arith, taken.at, some_bytes taken.frame)
+pub returns-in-Ok-clause-given : goal.returns-in-Ok-clause-given
+returns-in-Ok-clause-given g c = λ bytes left entries h.
+    let M = g.S.Standing.may_stand in
+    let inside = c.self.inside in
+    let old : Reader = record {
+      first = inside.first;
+      limit = inside.limit;
+      stream = inside.splitter;
+      count = inside.count;
+      over = inside.over;
+      ended = inside.ended;
+    } in
+    let new : Reader = record old { stream = c.drop_front.new.self; count = inside.count + 1 } in
+    let taken = takes_front M inside.count inside.splitter c.drop_front.new.self c.in-Some.frame
+    c.in-Ok.entry c.in-Some.ensures.fits c.in-Some.ensures.front c.drop_front.ensures.front
+    c.in-Ok.ensures.stands in
+    reads_entry M bytes left entries old new c.in-Ok.entry taken refl refl refl refl
+    (subst (λ (r : Reader). HasRead M bytes left entries r) (sym c.self.view_is) h)
 
 pub returns-in-Err-clause-ends : goal.returns-in-Err-clause-ends
 returns-in-Err-clause-ends g c = λ bytes left entries h.
-    let old = c.args.self.now in
-    let stop = c.in-Err.stop in
-    rw c.end_at.ensures
-    (subst (λ (first : ℕ). EndsReading g.S.Standing.may_stand g.S.Standing.is_cause
-    old.first old.limit bytes left entries (end_at first stop.at stop.why))
-    (sym c.take_next.ensures.first)
-    (ends_stop g.S.Standing.may_stand g.S.Standing.is_cause c.one_standing.ensures.none
-    bytes left entries old c.take_next.new.self.stream stop.at stop.why
-    c.take_next.ensures.before c.in-Err.ensures.refused c.in-Err.ensures.place h))
-
-pub returns-in-Err-clause-refused : goal.returns-in-Err-clause-refused
-returns-in-Err-clause-refused g c =
-    subst IsRefusal (sym c.end_at.ensures)
-    (refusal_of_stop c.take_next.new.self.first c.in-Err.stop.at c.in-Err.stop.why)
+    let M = g.S.Standing.may_stand in
+    let IsCause = g.S.Standing.is_cause in
+    let inside = c.self.inside in
+    let old : Reader = record {
+      first = inside.first;
+      limit = inside.limit;
+      stream = inside.splitter;
+      count = inside.count;
+      over = inside.over;
+      ended = inside.ended;
+    } in
+    let frame = c.in-Some.frame in
+    let after : Stream = record {
+      held = drop (length (spelling frame)) inside.splitter.held;
+      at = inside.splitter.at + length (spelling frame);
+    } in
+    let bad = refuses_front IsCause inside.count inside.splitter frame c.in-Err.why
+    c.in-Some.ensures.fits c.in-Some.ensures.front c.in-Err.ensures.refused in
+    rw c.end_of_refusal.ensures
+    (subst (λ (r : Reader). EndsReading M IsCause r.first r.limit bytes left entries
+    (refused_at (inside.first + c.at.result) c.in-Err.why)) c.self.view_is
+    (ends_stop M IsCause c.one_standing.ensures.none bytes left entries old after c.at.result
+    c.in-Err.why c.self.invariant.0 bad c.at.ensures.value
+    (subst (λ (r : Reader). HasRead M bytes left entries r) (sym c.self.view_is) h)))
