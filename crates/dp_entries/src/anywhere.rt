@@ -1,11 +1,13 @@
 //! Frames that may stand wherever they are.
 
-ghost use Rattle.std.specs.Prelude.{◌≡◌};
+ghost use Rattle.std.specs.Prelude.{◌≡◌, IfSome};
+ghost use Rattle.dp_messages.specs.Decoded.{Carries};
 ghost use Rattle.dp_entries.specs.Anywhere.{refusal_of};
 
 use crate::{Refusal, Standing};
 use dp_frame::FrameView;
-use dp_messages::{DecodeError, Entry, decode, one_answer};
+use dp_messages::{DecodeError, Entry, Msg, decode, one_answer};
+use dp_msg_draw::{FILL_RECT, read_fill};
 use std::alloc::Global;
 
 /// Each frame that carries an entry may stand, wherever it is.
@@ -25,6 +27,9 @@ impl Standing for Anywhere {
         _before: u64,
         frame: &FrameView<'_>,
     ) -> Result<Entry, Refusal<DecodeError>> {
+        if let Some(entry) = fill_of(frame) {
+            return Ok(entry);
+        }
         match decode(alloc, frame) {
             Ok(entry) => Ok(entry),
             Err(error) => Err(refusal_of(error)),
@@ -33,6 +38,23 @@ impl Standing for Anywhere {
 
     fn one_standing() {
         one_answer();
+    }
+}
+
+/// The entry of a frame that carries a fill. `decode` gives the same; but sessions have most of
+/// these, and this entry is made at once, where `decode` moves it from answer to answer.
+fn fill_of(frame: &FrameView<'_>) -> Option<Entry>
+    ensures { IfSome result (Carries frame.now) }
+{
+    if frame.kind() != FILL_RECT {
+        return None;
+    }
+    match read_fill(frame.body()) {
+        Some(fill) => Some(Entry {
+            user: frame.user(),
+            msg: Msg::Draw(fill),
+        }),
+        None => None,
     }
 }
 
