@@ -12,7 +12,6 @@ ghost use Rattle.dp_paint.specs.Reading.{IsMove};
 ghost use Rattle.dp_pixels.specs.Tiles.{ShowsTile};
 
 use crate::blank::{blank_grid, tiles_along};
-use crate::feet::cells_of;
 use crate::movement::move_in_place;
 use crate::paint::paint_in_place;
 use crate::resize::resized_grid;
@@ -112,7 +111,7 @@ impl DeferredGrid {
             return Ok(false);
         };
         let (cols, rows) = (self.grid.cols(), self.grid.rows());
-        let area = cells_of(command, cols, rows);
+        let area = fill.cells(cols, rows);
         let reached = (area.right - area.left) * (area.bottom - area.top);
         if reached > FEW_TILES || self.waiting >= cols as usize * rows as usize * WAITING {
             return Ok(false);

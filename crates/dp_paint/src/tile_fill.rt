@@ -1,14 +1,19 @@
 //! What a fill does on one tile.
 
-ghost use Rattle.std.specs.Prelude.{◌≡◌, ℕ, ◌+◌, ◌*◌, ◌<◌, ◌≤◌, true, List, length, IfSome};
+ghost use Rattle.std.specs.Prelude.{◌≡◌, ℕ, ◌+◌, ◌*◌, ◌/◌, ◌<◌, ◌≤◌, true, List, length, IfSome};
+ghost use Rattle.std.specs.Prelude.{pos};
+ghost use Rattle.dp_pixels.specs.Feet.{foot, is_in_foot};
+ghost use Rattle.dp_tile.specs.Areas.{is_in_cells};
 ghost use Rattle.dp_blend.specs.Color.{Channels};
 ghost use Rattle.dp_paint.specs.Painting.{tile_drawn};
 ghost use Rattle.dp_paint.specs.Waiting.{fill_command, is_in_fill, pixel_filled, tile_filled};
 ghost use Rattle.dp_paint.specs.Waiting.{tile_pixels};
 
+use crate::cells::{cells_in, on_greatest};
+use crate::feet::rect_of;
 use dp_blend::{Mode, Pixel, blend, of_argb, rows_fill};
 use dp_msg_draw::Draw;
-use dp_tile::SIDE;
+use dp_tile::{CellArea, SIDE};
 
 /// A fill on a canvas: the numbers of its message, and the sides of the canvas.
 #[derive(Clone, Copy)]
@@ -53,6 +58,23 @@ impl RectFill {
             }),
             _ => None,
         }
+    }
+
+    /// The cells of a grid of so many columns and rows that it may change.
+    pub(crate) fn cells(self, cols: u32, rows: u32) -> CellArea
+        ensures across { result.left ≤ result.right }
+        ensures down { result.top ≤ result.bottom }
+        ensures cols { result.right ≤ cols }
+        ensures rows { result.bottom ≤ rows }
+        ensures all { (x y : ℕ) → x < cols * 64 → y < rows * 64
+            → is_in_foot (foot (fill_command self)) (pos x) (pos y) ≡ true
+            → is_in_cells result (x / 64) (y / 64) ≡ true }
+    {
+        cells_in(
+            on_greatest(rect_of(self.x, self.y, self.w, self.h)),
+            cols,
+            rows,
+        )
     }
 }
 

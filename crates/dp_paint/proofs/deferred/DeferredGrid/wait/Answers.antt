@@ -1,3 +1,7 @@
+use Rattle.std.proofs.Common.{◌≡◌, true, sym, subst}
+use Rattle.std.specs.Prelude.{pos}
+use Rattle.dp_msg_draw.specs.declared.draw.Draw.{Draw}
+use Rattle.dp_pixels.specs.Feet.{foot, is_in_foot}
 use Rattle.dp_paint.proofs.Layers.{added_layer, always_on_err, layer_after, same_fills_layer}
 use Rattle.dp_paint.proofs.deferred.DeferredGrid.wait.Goals as goal
 
@@ -16,9 +20,11 @@ returns-clause-waits c = λ _.
     layer_after c.args.self.now inside.width inside.height op inside.lists.items
     c.put_fill.new.lists.items inside.grid inside.grid c.self.view_is
     (added_layer inside.width inside.height fill op c.requires
-    c.pixels_stay_outside_the_foot.ensures c.cells_of-area.result inside.lists.items
+    c.pixels_stay_outside_the_foot.ensures c.cells-area.result inside.lists.items
     c.put_fill.new.lists.items inside.grid c.in-Some.ensures.command c.in-Some.ensures.width
     c.in-Some.ensures.height c.known.ensures c.self.invariant.0
-    (λ x y in_x in_y is. c.cells_of-area.ensures.all x y (rw c.cols-cols.ensures in_x)
-    (rw c.rows-rows.ensures in_y) is)
+    (λ x y in_x in_y is. c.cells-area.ensures.all x y (rw c.cols-cols.ensures in_x)
+    (rw c.rows-rows.ensures in_y)
+    (subst (λ (command : Draw). is_in_foot (foot command) (pos x) (pos y) ≡ true)
+    (sym c.in-Some.ensures.command) is))
     c.in_ok-put_fill.ensures.put)
