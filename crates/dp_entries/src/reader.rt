@@ -178,8 +178,8 @@ impl<S: Standing> EntryReader<S> {
         }
     }
 
-    /// Reads until a whole frame is held, and says whether one is; `false` where the input ends after
-    /// a whole frame. It reads pieces of at most 4096 bytes, and only where no whole frame is held.
+    /// Reads until a whole frame is held, and says whether one is; `false` where the input ends
+    /// after a whole frame. It reads pieces of at most 4096 bytes, and only where none is held.
     ///
     /// # Errors
     ///

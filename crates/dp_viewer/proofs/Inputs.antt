@@ -16,7 +16,7 @@ use Rattle.dp_msg_draw.specs.declared.draw.Draw.{Draw}
 use Rattle.dp_plain.specs.Board.{Board}
 use Rattle.dp_rollback.specs.Trailing.{Trailing}
 use Rattle.dp_viewer.specs.Ways.{replay_limit, replay_way}
-use Rattle.dp_viewer.specs.Reading.{BlamesReading, EndsReading, TrailsShown}
+use Rattle.dp_viewer.specs.Reading.{EndsReading, TrailsShown}
 
 -- What was read of an input whose bytes are known, of which those are left: the board trails what
 -- the entries show that a reader gave.
@@ -33,6 +33,16 @@ pub told_first : (input : Option (List ℕ)) (board : Trailing Board Draw) (r : 
     → IsShown input input board r
 told_first None board r blank begun = tt
 told_first (Some bytes) board r blank begun = ([], begun bytes [] bytes refl refl, blank)
+
+-- a piece more of the input is read, or none
+pub told_filled : (input left now : Option (List ℕ)) (board : Trailing Board Draw)
+    (old new : Reader)
+    → ((bytes : List ℕ) (es : List Entry) → HasRead StandsAnywhere bytes left es old
+    → HasRead StandsAnywhere bytes now es new)
+    → IsShown input left board old → IsShown input now board new
+told_filled None left now board old new read told = tt
+told_filled (Some bytes) left now board old new read (all, had, trails) =
+    (all, read bytes all had, trails)
 
 -- one entry more
 pub told_further : (input left now : Option (List ℕ)) (board later : Trailing Board Draw)
@@ -67,7 +77,7 @@ ends_of : (bytes : List ℕ) (left : Option (List ℕ)) (board : Trailing Board 
     → TrailsShown board all → EndsReading replay_way bytes left board (end_of end)
 ends_of bytes left board all ReadFault ends trails = ends
 ends_of bytes left board all (Truncated n) ends trails = (all, ends.0, trails)
-ends_of bytes left board all (BadMessage n cause) ends trails = ((all, ends.0), ends.1)
+ends_of bytes left board all (BadMessage cause n) ends trails = ((all, ends.0), ends.1)
 ends_of bytes left board all Long ends trails = ((all, ends.0), ends.1)
 ends_of bytes left board all Memory ends trails = tt
 
@@ -86,11 +96,3 @@ told_end (Some bytes) left now board r end first limit ends (all, read, trails) 
     all end) first
     (subst (λ (n : ℕ). reading.EndsReading StandsAnywhere IsCauseAnywhere r.first n bytes now
     all end) limit (ends bytes all read))) trails
-
-pub blames_of : (before now : ℕ) (end : ReadEnd DecodeError) → reading.Blames before now end
-    → BlamesReading replay_way before now (end_of end)
-blames_of before now ReadFault blames = blames
-blames_of before now (Truncated n) blames = blames
-blames_of before now (BadMessage n cause) blames = blames
-blames_of before now Long blames = blames
-blames_of before now Memory blames = blames

@@ -59,9 +59,9 @@ pub(crate) fn read_frames<I: Source, D: Ledger, T: Ledger>(
 {
     let mut reader = EntryReader::<Anywhere>::new(alloc, 0, INPUT_LIMIT);
     'entries: loop {
-        let entry = match reader.next(alloc, input) {
-            Ok(Some(entry)) => entry,
-            Ok(None) => {
+        match reader.fill(input) {
+            Ok(true) => {}
+            Ok(false) => {
                 let end = RunEnd::Done;
                 return Reading { board, end };
             }
@@ -69,8 +69,15 @@ pub(crate) fn read_frames<I: Source, D: Ledger, T: Ledger>(
                 let end = end.run_end();
                 return Reading { board, end };
             }
+        }
+        let shown = match reader.take(alloc) {
+            Ok(entry) => show(alloc, &mut board, entry, draws, tiles),
+            Err(why) => {
+                let end = why.run_end();
+                return Reading { board, end };
+            }
         };
-        if show(alloc, &mut board, entry, draws, tiles).is_err() {
+        if shown.is_err() {
             let end = RunEnd::Memory;
             return Reading { board, end };
         }

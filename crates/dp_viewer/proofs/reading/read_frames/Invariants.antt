@@ -1,5 +1,4 @@
 use Rattle.std.proofs.Common.{◌≡◌, ◌-◌, ◌^◌}
-use Rattle.std.specs.Prelude.{IsTrue}
 use Rattle.dp_viewer.proofs.Inputs.{IsShown}
 use Rattle.dp_viewer.proofs.reading.read_frames.Given as goal
 
@@ -9,7 +8,6 @@ invariant-entries g l = record {
   told : IsShown (g.I.Source.left l.fn.input) (g.I.Source.left l.input) l.board l.reader;
   first : l.reader.first ≡ 0;
   limit : l.reader.limit ≡ 2 ^ 30;
-  not_ended : ¬ IsTrue l.reader.ended;
   kept : g.I.Source.faults l.input ≡ g.I.Source.faults l.fn.input;
 }
 
