@@ -1,10 +1,13 @@
 -- Fills that wait for the tiles of a grid.
-use Rattle.std.specs.Prelude.{◌≡◌, ℕ, ◌/◌, ◌%◌, ◌<◌, ◌≤◌, Bool, true, false}
+use Rattle.std.specs.Prelude.{◌≡◌, ◌==◌, ℕ, ◌/◌, ◌%◌, ◌<◌, ◌≤◌, Bool, true, false}
 use Rattle.std.specs.Prelude.{◌&&◌, nat_le, nat_lt, if◌then◌else◌, Option, Some, None, All}
 use Rattle.std.specs.Prelude.{List, [], ◌∷◌, length, slice_index_or}
 use Rattle.std.specs.List.{fold}
 use Rattle.dp_blend.specs.Color.{Channels, of_argb}
 use Rattle.dp_blend.specs.Blending.{blend}
+use Rattle.dp_blend.specs.declared.modes.Mode.{Mode}
+use Rattle.dp_blend.specs.declared.modes.Mode.TheVariants.{Erase, Normal, Multiply, Add, Recolor}
+use Rattle.dp_blend.specs.declared.modes.Mode.TheVariants.{Replace}
 use Rattle.dp_blend.specs.Canvas.{canvas_of, pixel_at}
 use Rattle.dp_blend.proofs.Canvas.{length-canvas_of}
 use Rattle.dp_msg_draw.specs.declared.draw.Draw.{Draw}
@@ -37,6 +40,25 @@ tile_after fills pixels = fold (λ old f. tile_filled f old) pixels fills
 -- the pixel at a column and a row of a tile after fills
 abbrev pub pixel_after_fills : List TileFill → ℕ → ℕ → Channels → Channels
 pixel_after_fills fills x y pixel = fold (λ old f. pixel_filled f x y old) pixel fills
+
+-- the part that is filled has its sides on the tile
+abbrev pub IsOnTile : TileFill → Type 0
+IsOnTile f = (f.left ≤ 64) × (f.right ≤ 64) × (f.top ≤ 64) × (f.bottom ≤ 64)
+
+-- the number of a mode in a packed fill
+abbrev pub code_of : Mode → ℕ
+code_of Erase = 0
+code_of Normal = 1
+code_of Multiply = 2
+code_of Add = 3
+code_of Recolor = 4
+code_of Replace = 5
+
+-- the mode of a number in a packed fill
+abbrev pub mode_coded : ℕ → Mode
+mode_coded code =
+    if code == 0 then Erase else if code == 1 then Normal else if code == 2 then Multiply
+    else if code == 3 then Add else if code == 4 then Recolor else Replace
 
 -- ---- the tiles of a layer
 

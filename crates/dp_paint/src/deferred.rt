@@ -266,7 +266,7 @@ impl DeferredGrid {
     {
         let mut pixel = self.grid.get(x, y);
         for fill in listed(&self.lists, x / 64, y / 64) {
-            pixel = fill.pixel_after(x % 64, y % 64, pixel);
+            pixel = fill.unpacked().pixel_after(x % 64, y % 64, pixel);
         }
         pixel
     }

@@ -6,7 +6,8 @@ ghost use Rattle.dp_pixels.specs.Feet.{foot, is_in_foot};
 ghost use Rattle.dp_tile.specs.Areas.{is_in_cells};
 ghost use Rattle.dp_blend.specs.Color.{Channels};
 ghost use Rattle.dp_paint.specs.Painting.{tile_drawn};
-ghost use Rattle.dp_paint.specs.Waiting.{fill_command, is_in_fill, pixel_filled, tile_filled};
+ghost use Rattle.dp_paint.specs.Waiting.{IsOnTile, fill_command, is_in_fill, pixel_filled};
+ghost use Rattle.dp_paint.specs.Waiting.{code_of, mode_coded, tile_filled};
 ghost use Rattle.dp_paint.specs.Waiting.{tile_pixels};
 
 use crate::cells::{cells_in, on_greatest};
@@ -14,6 +15,7 @@ use crate::feet::rect_of;
 use dp_blend::{Mode, Pixel, blend, of_argb, rows_fill};
 use dp_msg_draw::Draw;
 use dp_tile::{CellArea, SIDE};
+use std::marker::Model;
 
 /// A fill on a canvas: the numbers of its message, and the sides of the canvas.
 #[derive(Clone, Copy)]
@@ -83,6 +85,7 @@ impl RectFill {
 /// second isn't above the first.
 fn part_of_side(tile: u32, from: u32, len: u32, limit: u32) -> (u8, u8)
     requires { tile < 64 }
+    ensures within { (result.0 ≤ 64) × (result.1 ≤ 64) }
     ensures among { (i : ℕ) → i < 64 → result.0 ≤ i → i < result.1 →
         (from ≤ tile * 64 + i) × (tile * 64 + i < from + len) × (tile * 64 + i < limit) }
     ensures all { (i : ℕ) → i < 64 → from ≤ tile * 64 + i → tile * 64 + i < from + len →
@@ -112,8 +115,9 @@ impl TileFill {
     pub(crate) fn of(fill: RectFill, col: u32, row: u32) -> TileFill
         requires col { col < 64 }
         requires row { row < 64 }
-        ensures { (pixels : List Channels) → tile_filled result pixels
+        ensures drawn { (pixels : List Channels) → tile_filled result pixels
             ≡ tile_drawn fill.width fill.height (fill_command fill) col row pixels }
+        ensures within { IsOnTile result }
     {
         let (left, right) = part_of_side(col, fill.x, fill.w, fill.width);
         let (top, bottom) = part_of_side(row, fill.y, fill.h, fill.height);
@@ -188,5 +192,101 @@ impl TileFill {
         }
         self.draw(pixels);
         None
+    }
+}
+
+/// The number of a mode in a packed fill.
+fn code_of(mode: Mode) -> u16
+    ensures value { result ≡ code_of mode }
+    ensures few { result < 8 }
+{
+    match mode {
+        Mode::Erase => 0,
+        Mode::Normal => 1,
+        Mode::Multiply => 2,
+        Mode::Add => 3,
+        Mode::Recolor => 4,
+        Mode::Replace => 5,
+    }
+}
+
+/// The mode of a number in a packed fill.
+fn mode_coded(code: u16) -> Mode
+    ensures { result ≡ mode_coded code }
+{
+    match code {
+        0 => Mode::Erase,
+        1 => Mode::Normal,
+        2 => Mode::Multiply,
+        3 => Mode::Add,
+        4 => Mode::Recolor,
+        _ => Mode::Replace,
+    }
+}
+
+/// A `TileFill` in eight bytes, since many may wait.
+#[derive(Drop)]
+pub(crate) struct PackedFill {
+    color: u32,
+    /// `left` and `right`, seven bits each, and the lower two bits of the mode's number.
+    across: u16,
+    /// `top` and `bottom`, seven bits each, and the third bit of the mode's number.
+    down: u16,
+}
+
+impl Model for PackedFill {
+    ghost use Rattle.std.specs.Prelude.{◌+◌, ◌*◌, ◌/◌, ◌%◌};
+    ghost use Rattle.dp_paint.specs.declared.tile_fill.TileFill.{TileFill};
+    ghost use Rattle.dp_paint.specs.Waiting.{mode_coded};
+
+    ghost Value = { TileFill };
+
+    ghost view = { λ p. record {
+      color = p.color;
+      left = p.across % 128;
+      right = p.across / 128 % 128;
+      top = p.down % 128;
+      bottom = p.down / 128 % 128;
+      mode = mode_coded (p.across / 16384 + p.down / 16384 * 4);
+    } };
+}
+
+impl PackedFill {
+    /// The fill, packed.
+    pub(crate) fn of(fill: TileFill) -> PackedFill
+        requires { IsOnTile fill }
+        ensures { result ≡ fill }
+    {
+        let code = code_of(fill.mode);
+        PackedFill {
+            color: fill.color,
+            across: fill.left as u16 + fill.right as u16 * 128 + code % 4 * 16384,
+            down: fill.top as u16 + fill.bottom as u16 * 128 + code / 4 * 16384,
+        }
+    }
+
+    /// The same fill once more.
+    pub(crate) fn copy(&self) -> PackedFill
+        ensures { result ≡ self.now }
+    {
+        PackedFill {
+            color: self.color,
+            across: self.across,
+            down: self.down,
+        }
+    }
+
+    /// The fill.
+    pub(crate) fn unpacked(&self) -> TileFill
+        ensures { result ≡ self.now }
+    {
+        TileFill {
+            color: self.color,
+            left: (self.across % 128) as u8,
+            right: (self.across / 128 % 128) as u8,
+            top: (self.down % 128) as u8,
+            bottom: (self.down / 128 % 128) as u8,
+            mode: mode_coded(self.across / 16384 + self.down / 16384 * 4),
+        }
     }
 }

@@ -5,13 +5,13 @@ ghost use Rattle.std.specs.Prelude.{slice_index_or, All, IfOk, OnOk, OnErr};
 ghost use Rattle.dp_pixels.specs.Tiles.{tiles_along};
 ghost use Rattle.dp_tile.specs.Tiles.{cell_at, grid_pixels};
 ghost use Rattle.dp_paint.specs.Painting.{IsGridOf};
-ghost use Rattle.dp_paint.specs.Waiting.{AreLists, HaveRoom, HaveSame, IsAdded, IsPut, IsPutOn};
-ghost use Rattle.dp_paint.specs.Waiting.{HaveSameRows, cell_after, length-tile_after};
+ghost use Rattle.dp_paint.specs.Waiting.{AreLists, HaveRoom, HaveSame, IsAdded, IsOnTile, IsPut};
+ghost use Rattle.dp_paint.specs.Waiting.{HaveSameRows, IsPutOn, cell_after, length-tile_after};
 ghost use Rattle.dp_paint.specs.Waiting.{list_at, listed_at, no_fill, pixels_of_cells, tile_after};
 ghost use Rattle.dp_paint.specs.Waiting.{tile_pixels};
 
 use crate::fetch::read_tile;
-use crate::tile_fill::{RectFill, TileFill};
+use crate::tile_fill::{PackedFill, RectFill, TileFill};
 use dp_blend::Pixel;
 use dp_steps::Steps;
 use dp_tile::{CellArea, Grid, TileChange, TilePainter};
@@ -22,7 +22,7 @@ use std::sync::ledger::Ledger;
 /// The fills that wait on a tile, in order. They are seen with the room that there is for more.
 #[derive(Drop)]
 struct TileFills {
-    fills: Vec<TileFill>,
+    fills: Vec<PackedFill>,
 }
 
 impl Model for TileFills {
@@ -57,22 +57,26 @@ impl TileFills {
 
     /// Adds a fill after the others.
     fn push(&mut self, fill: TileFill)
-        requires { 0 < self.old.room }
+        requires room { 0 < self.old.room }
+        requires within { IsOnTile fill }
         ensures { self.new.fills ≡ self.old.fills ++ fill ∷ [] }
     {
-        self.fills.push_reserved(fill);
+        self.fills.push_reserved(PackedFill::of(fill));
     }
 
     /// The same fills once more.
     fn share(&self) -> Result<TileFills, AllocError>
         ensures { IfOk result (λ copy. copy.fills ≡ self.now.fills) }
     {
-        let fills = self.fills.clone()?;
+        let mut fills = Vec::with_capacity(*self.fills.allocator(), self.fills.len())?;
+        for fill in &self.fills {
+            fills.push(fill.copy())?;
+        }
         Ok(TileFills { fills })
     }
 
     /// The fills.
-    fn fills(&self) -> &[TileFill]
+    fn fills(&self) -> &[PackedFill]
         ensures { result.now ≡ self.now.fills }
     {
         self.fills.as_slice()
@@ -146,7 +150,7 @@ impl RowLists {
     }
 
     /// The fills of a tile, counted from the first one: none past the row's end.
-    fn fills(&self, col: usize) -> &[TileFill]
+    fn fills(&self, col: usize) -> &[PackedFill]
         ensures { result.now ≡ (list_at self.now col).fills }
     {
         match self.lists.get(col) {
@@ -262,7 +266,7 @@ pub(crate) fn share_lists(alloc: Global, rows: &[RowLists]) -> Result<Vec<RowLis
 }
 
 /// The fills that wait on the tile at a column and a row.
-pub(crate) fn listed<'a>(rows: &'a [RowLists], col: u32, row: u32) -> &'a [TileFill]
+pub(crate) fn listed<'a>(rows: &'a [RowLists], col: u32, row: u32) -> &'a [PackedFill]
     ensures { result.now ≡ listed_at rows.now col row }
 {
     match rows.get(row as usize) {
@@ -272,18 +276,18 @@ pub(crate) fn listed<'a>(rows: &'a [RowLists], col: u32, row: u32) -> &'a [TileF
 }
 
 /// Draws fills one after the other on a tile.
-fn draw_fills(fills: &[TileFill], pixels: &mut [Pixel])
+fn draw_fills(fills: &[PackedFill], pixels: &mut [Pixel])
     requires { length pixels.old ≡ 4096 }
     ensures { pixels.new ≡ tile_after fills.now pixels.old }
 {
     for fill in fills {
-        fill.draw(pixels);
+        fill.unpacked().draw(pixels);
     }
 }
 
 /// Draws fills one after the other on a tile that is of one colour, if one is given, and else has
 /// these pixels. Gives its colour then, if it is known to be of one.
-fn show_fills(fills: &[TileFill], color: Option<Pixel>, pixels: &mut [Pixel]) -> Option<Pixel>
+fn show_fills(fills: &[PackedFill], color: Option<Pixel>, pixels: &mut [Pixel]) -> Option<Pixel>
     requires { length pixels.old ≡ 4096 }
     ensures shown { tile_pixels result pixels.new
         ≡ tile_after fills.now (tile_pixels color pixels.old) }
@@ -291,7 +295,7 @@ fn show_fills(fills: &[TileFill], color: Option<Pixel>, pixels: &mut [Pixel]) ->
 {
     let mut color = color;
     for fill in fills {
-        color = fill.draw_on(color, pixels);
+        color = fill.unpacked().draw_on(color, pixels);
     }
     color
 }
@@ -392,7 +396,7 @@ pub(crate) fn settle<T: Ledger>(
 /// known to be of one, and else leaves its pixels.
 pub(crate) fn read_filled(
     grid: &Grid,
-    fills: &[TileFill],
+    fills: &[PackedFill],
     col: u32,
     row: u32,
     pixels: &mut [Pixel],

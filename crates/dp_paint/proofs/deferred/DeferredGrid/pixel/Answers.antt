@@ -1,5 +1,6 @@
 use Rattle.std.proofs.Common.{◌/◌, ◌%◌, ◌≤◌, ◌∙◌, List, ap, length, arith}
-use Rattle.dp_paint.specs.Waiting.{FillList, listed_at}
+use Rattle.dp_paint.specs.declared.tile_fill.TileFill.{TileFill}
+use Rattle.dp_paint.specs.Waiting.{FillList, listed_at, pixel_filled}
 use Rattle.dp_paint.proofs.Fills.{pixel_after_fill}
 use Rattle.dp_paint.proofs.Layers.{pixel_of_layer}
 use Rattle.dp_paint.proofs.deferred.DeferredGrid.pixel.Goals as goal
@@ -8,7 +9,9 @@ pub loop-fill-preserved : goal.loop-fill-preserved
 loop-fill-preserved c =
     pixel_after_fill c.listed-fill-items.result.now c.loop-fill.fill-index _ c.loop-fill-test.true
     (c.args.x % 64) (c.args.y % 64) c.get-pixel.result c.loop-fill.pixel
-    c.pixel_after-pixel.result c.loop-fill.invariant c.pixel_after-pixel.ensures
+    c.pixel_after-pixel.result c.loop-fill.invariant
+    (c.pixel_after-pixel.ensures ∙ ap (λ (f : TileFill). pixel_filled f (c.args.x % 64)
+    (c.args.y % 64) c.loop-fill.pixel) (c.unpacked.ensures ∙ c.fill-item.is))
 
 pub returns : goal.returns
 returns c =

@@ -6,8 +6,8 @@ use Rattle.dp_paint.specs.Waiting.{fill_command}
 use Rattle.dp_paint.proofs.Fills.{fill_pixel, is_drawn, no_mode}
 use Rattle.dp_paint.proofs.tile_fill.TileFill.of.Goals as goal
 
-pub returns-in-Some : goal.returns-in-Some
-returns-in-Some c =
+pub returns-in-Some-clause-drawn : goal.returns-in-Some-clause-drawn
+returns-in-Some-clause-drawn c =
     let fill = c.args.fill in
     is_drawn _ fill.width fill.height (fill_command fill) c.args.col c.args.row
     (λ i j p in_x in_y.
@@ -16,8 +16,8 @@ returns-in-Some c =
     (c.part_of_side-top.ensures.among j in_y) (c.part_of_side-top.ensures.all j in_y)
     fill.layer fill.mode c.in-Some.mode (sym c.from_u8.ensures.value ∙ c.in-Some.is) refl p)
 
-pub returns-in-None : goal.returns-in-None
-returns-in-None c =
+pub returns-in-None-clause-drawn : goal.returns-in-None-clause-drawn
+returns-in-None-clause-drawn c =
     let fill = c.args.fill in
     let f : TileFill = record {
       color = fill.color;

@@ -29,4 +29,4 @@ loop-col-preserved c =
     (c.index_mut.ensures.value ∙ get_or_default now at _ no_fill inside) in
     put_next old now at list inside c.args.fill c.args.row c.args.left order before
     (draws_more c.args.fill at c.args.row c.of.result (list_at now at).fills list.fills more
-    c.of.ensures)
+    c.of.ensures.drawn)
