@@ -150,6 +150,28 @@ fn frames_begin_after_other_bytes(rt: HostRuntime) -> Result<(), Fail> {
     Ok(())
 }
 
+/// Where a whole frame is held nothing is read, and one that may not stand stays.
+#[test]
+fn a_held_frame_needs_no_reading(rt: HostRuntime) -> Result<(), Fail> {
+    let alloc = rt.alloc();
+    let bytes = [0x00, 0x00, 0x80, 0x01, 0x00, 0x00, 0x14, 0x01];
+    let mut input = source(&rt, alloc, &bytes, 8, 0)?;
+    let mut failing = source(&rt, alloc, &[], 1, 1)?;
+    let mut reader = EntryReader::<Anywhere>::new(alloc, 0, 8);
+    assert!(rt; reader.fill(&mut input)?);
+    assert_eq!(rt; reader.take(alloc)?.user, 1);
+    for _ in 0..2 {
+        assert!(rt; reader.fill(&mut failing)?);
+        assert!(rt;
+            matches!(
+                reader.take(alloc),
+                Err(ReadEnd::BadMessage(DecodeError::Unknown(0x14), 4))
+            )
+        );
+    }
+    Ok(())
+}
+
 #[test]
 fn a_splitter_gives_entries(rt: HostRuntime) -> Result<(), Fail> {
     let alloc = rt.alloc();
