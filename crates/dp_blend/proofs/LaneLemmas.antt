@@ -54,6 +54,24 @@ products_is (v ∷ vs) (f ∷ fs) h =
     let rest = products_is vs fs h.1 in
     cc
 
+-- where the factor is below one the product is the upper half of twice the product
+lesser_is : (v f : ℕ) → f < 32768 → v * ((f + f) % 65536) / 65536 ≡ mul v f
+lesser_is v f h =
+    let twice : (f + f) % 65536 ≡ f + f = omega arith in
+    let doubled : v * (f + f) ≡ v * f + v * f = mul-add v f f in
+    rw (twice, doubled) (omega arith)
+
+-- the same in each lane
+pub lessers_are : (v f : List ℕ) → Each1 (λ x. x < 32768) f
+    → zip2 (λ a b. a * b / 65536) v (zip2 (λ a b. (a + b) % 65536) f f) ≡ zip2 mul v f
+lessers_are [] [] h = refl
+lessers_are [] (f ∷ fs) h = refl
+lessers_are (v ∷ vs) [] h = refl
+lessers_are (v ∷ vs) (f ∷ fs) h =
+    let here = lesser_is v f h.0 in
+    let rest = lessers_are vs fs h.1 in
+    cc
+
 -- the smaller of each two lanes is chosen
 pub smaller_is : (v w : List ℕ) → sel_l (zip2 ltb v w) v w ≡ zip2 min v w
 smaller_is [] w = refl

@@ -5,5 +5,6 @@ pub mod Rects
 pub mod Products
 pub mod RowLemmas
 pub mod TwoPixels
+pub mod RowBytes
 pub mod Parts
 pub mod Written

@@ -1,15 +1,18 @@
 -- Rows of which a part is changed, row after row.
 use Rattle.std.proofs.Common.{◌≡◌, ℕ, ◌+◌, ◌-◌, ◌*◌, ◌/◌, ◌%◌, ◌<◌, ◌≤◌, List, length, map}
-use Rattle.std.proofs.Common.{drop, get_or, true, false, sym, ◌∙◌, ap}
+use Rattle.std.proofs.Common.{drop, get_or, set, Bool, true, false, refl, sym, ◌∙◌, ap, ◌≢◌, inl, inr}
+use Rattle.std.proofs.Common.{get_or-set_other}
+use Rattle.std.proofs.lemmas.Grind.{get_or-set_at}
+use Rattle.std.proofs.lemmas.Bool.Decides.{eqb_tells}
 use Rattle.std.proofs.Common.{subst, arith, ⊎_elim, length-append}
 use Rattle.std.specs.Prelude.{if◌then◌else◌}
 use Rattle.std.proofs.lemmas.Bool.{cases_lt, cond-true, cond-false}
 use Rattle.std.proofs.lemmas.Bool.Decides.{nat_tests}
 use Rattle.std.proofs.lemmas.List.{get_or-take, get_or-drop, length-take-le, length-take}
-use Rattle.std.proofs.lemmas.List.{length-drop, length-map, get_or-map}
+use Rattle.std.proofs.lemmas.List.{length-drop, length-map, length-set, get_or-map, get_or_default}
 use Rattle.std.proofs.lemmas.Nat.{div-add-mod', mod_below, div_below}
 use Rattle.std.proofs.Math.Nat.{mul-le-mul_right}
-use Rattle.dp_blend.specs.Color.{Channels}
+use Rattle.dp_blend.specs.Color.{Channels, clear}
 use Rattle.dp_blend.specs.Blending.{is_between}
 use Rattle.dp_blend.proofs.Written.{part_above, part_below, part_within}
 use borrow.Rule.Slice.PartMut.{mid_of, put_mid}
@@ -27,90 +30,56 @@ pub record FilledTo (f : Channels → Channels) (left right stride j : ℕ) (old
   pub rest : (k : ℕ) (d : Channels) → j * stride ≤ k → k < length old
       → get_or now k d ≡ get_or old k d
 
-module _ (f : Channels → Channels) (left right stride size j : ℕ) (old now part : List Channels)
-    (order : left ≤ right) (within : right ≤ stride) (size_is : size ≡ right - left)
-    (room : j * stride + stride ≤ length old)
-    (made : part ≡ map f (mid_of (j * stride + left) size now))
-    (before : FilledTo f left right stride j old now) where
-  -- the part is as long as the columns
-  part_len : length part ≡ size
-  part_len =
-      let start = j * stride + left in
-      let rest : length (drop start now) ≡ length now - start = length-drop start now in
-      let mid : length (mid_of start size now) ≡ size = omega
-      (arith, before.count, length-take size (drop start now)) in
-      ap length made ∙ (length-map (mid_of start size now) f ∙ mid)
+-- a pixel after f, where it stands from one column on before another
+abbrev pub changed_between : (Channels → Channels) → ℕ → ℕ → ℕ → Channels → Channels
+changed_between f left right x p = if is_between left right x then f p else p
 
-  -- a pixel of row j
-  row_now : (x : ℕ) (d : Channels) → x < stride
-      → get_or (put_mid (j * stride + left) size now part) (j * stride + x) d
-      ≡ (if is_between left right x
-      then f (get_or old (j * stride + x) d)
-      else get_or old (j * stride + x) d)
-  row_now x d in_row =
-      let start = j * stride + left in
-      let fits : start ≤ length now = omega (arith, before.count) in
-      let len = part_len in
-      let old_there : get_or now (j * stride + x) d ≡ get_or old (j * stride + x) d =
-      before.rest (j * stride + x) d (omega arith) (omega arith) in
-      ⊎_elim
-      (λ (is_left : x < left).
-      let test : is_between left right x ≡ false = grind (arith, nat_tests) in
-      part_below start size (j * stride + x) now part d (omega arith) fits
-      ∙ (old_there ∙ sym (cond-false (is_between left right x) _ _ test)))
-      (λ (from : left ≤ x).
-      ⊎_elim
-      (λ (to : x < right).
-      let test : is_between left right x ≡ true = grind (arith, nat_tests) in
-      let at : start + (x - left) ≡ j * stride + x = omega arith in
-      let mid = mid_of start size now in
-      let few : x - left < length mid = omega
-      (arith, sym (ap length made) ∙ len, length-map mid f) in
-      part_within start size (j * stride + x) (x - left) now part d (omega arith)
-      (omega arith) fits
-      ∙ (ap (λ ys. get_or ys (x - left) d) made
-      ∙ (get_or-map f mid (x - left) d d few
-      ∙ (ap f (get_or-take size (drop start now) (x - left) d (omega arith)
-      ∙ (get_or-drop start now (x - left) d ∙ (ap (λ n. get_or now n d) at ∙ old_there)))
-      ∙ sym (cond-true (is_between left right x) _ _ test)))))
-      (λ (above : right ≤ x).
-      let test : is_between left right x ≡ false = grind (arith, nat_tests) in
-      part_above start size (j * stride + x) now part d (omega arith) len fits
-      ∙ (old_there ∙ sym (cond-false (is_between left right x) _ _ test)))
-      (cases_lt x right))
-      (cases_lt x left)
-
-  -- with one more row
-  pub filled-more : FilledTo f left right stride (j + 1) old
-      (put_mid (j * stride + left) size now part)
-  filled-more =
-      let start = j * stride + left in
-      let fits : start ≤ length now = omega (arith, before.count) in
-      let len = part_len in
-      record {
-        count =
-            let taken = length-take-le start now fits in
-            let left_out = length-drop size (drop start now) in
-            let dropped = length-drop start now in
-            simp (length-append) (omega (arith, before.count));
-        done = λ i x d row in_row in_list.
-            ⊎_elim
-            (λ (earlier : i < j).
-            let rows : (i + 1) * stride ≤ j * stride = mul-le-mul_right stride (omega arith) in
-            part_below start size (i * stride + x) now part d (omega arith) fits
-            ∙ before.done i x d earlier in_row in_list)
-            (λ (not_earlier : j ≤ i).
-            let same : i ≡ j = omega arith in
-            subst (λ (n : ℕ). get_or (put_mid start size now part) (n * stride + x) d
-            ≡ (if is_between left right x
-            then f (get_or old (n * stride + x) d)
-            else get_or old (n * stride + x) d)) (sym same) (row_now x d in_row))
-            (cases_lt i j);
-        rest = λ k d later in_list.
-            let past : j * stride + stride ≤ k = omega arith in
-            part_above start size k now part d (omega arith) len fits
-            ∙ before.rest k d (omega arith) in_list;
-      }
+-- one more row is changed
+pub filled-more : (f : Channels → Channels) (left right stride size j : ℕ)
+    (old now part : List Channels)
+    → size ≡ stride → j * stride + stride ≤ length old
+    → length part ≡ length (mid_of (j * stride) size now)
+    → ((x : ℕ) (d : Channels) → x < length (mid_of (j * stride) size now)
+    → get_or part x d ≡ changed_between f left right x (get_or (mid_of (j * stride) size now) x d))
+    → FilledTo f left right stride j old now
+    → FilledTo f left right stride (j + 1) old (put_mid (j * stride) size now part)
+filled-more f left right stride size j old now part size_is room long made before =
+    let start = j * stride in
+    let mid = mid_of start size now in
+    let fits : start ≤ length now = omega (arith, before.count) in
+    let rest : length (drop start now) ≡ length now - start = length-drop start now in
+    let mid_len : length mid ≡ stride = omega
+    (arith, before.count, length-take size (drop start now)) in
+    let len : length part ≡ size = long ∙ mid_len ∙ sym size_is in
+    let here : (x : ℕ) (d : Channels) → x < stride
+    → get_or (put_mid start size now part) (start + x) d
+    ≡ changed_between f left right x (get_or old (start + x) d) = λ x d in_row.
+    part_within start size (start + x) x now part d (omega arith) (omega arith) fits
+    ∙ made x d (omega arith)
+    ∙ ap (changed_between f left right x)
+    (get_or-take size (drop start now) x d (omega arith) ∙ get_or-drop start now x d
+    ∙ before.rest (start + x) d (omega arith) (omega arith)) in
+    record {
+      count =
+          let taken = length-take-le start now fits in
+          let left_out = length-drop size (drop start now) in
+          simp (length-append) (omega (arith, before.count));
+      done = λ i x d row in_row in_list.
+          ⊎_elim
+          (λ (earlier : i < j).
+          let rows : (i + 1) * stride ≤ start = mul-le-mul_right stride (omega arith) in
+          part_below start size (i * stride + x) now part d (omega arith) fits
+          ∙ before.done i x d earlier in_row in_list)
+          (λ (not_earlier : j ≤ i).
+          let same : i ≡ j = omega arith in
+          subst (λ (n : ℕ). get_or (put_mid start size now part) (n * stride + x) d
+          ≡ changed_between f left right x (get_or old (n * stride + x) d)) (sym same)
+          (here x d in_row))
+          (cases_lt i j);
+      rest = λ k d later in_list.
+          part_above start size k now part d (omega arith) len fits
+          ∙ before.rest k d (omega arith) in_list;
+    }
 
 -- once all rows are changed, each place is
 pub filled-all : (f : Channels → Channels) (left right stride j : ℕ) (old now : List Channels)
@@ -124,3 +93,127 @@ filled-all f left right stride j old now some all filled k d in_list =
     subst (λ (n : ℕ). get_or now n d ≡ (if is_between left right (k % stride)
     then f (get_or old n d) else get_or old n d)) at
     (filled.done (k / stride) (k % stride) d row (mod_below k stride some) (omega arith))
+
+-- ---- one row of which a part is changed
+
+-- a part of a row is changed, and put in its place
+pub part_filled : (f : Channels → Channels) (left right size : ℕ) (old part : List Channels)
+    → left ≤ right → right ≤ length old → size ≡ right - left
+    → part ≡ map f (mid_of left size old)
+    → (x : ℕ) (d : Channels) → x < length old
+    → get_or (put_mid left size old part) x d
+    ≡ changed_between f left right x (get_or old x d)
+part_filled f left right size old part order within size_is made x d in_row =
+    let mid = mid_of left size old in
+    let fits : left ≤ length old = omega arith in
+    let rest : length (drop left old) ≡ length old - left = length-drop left old in
+    let mid_len : length mid ≡ size = omega (arith, length-take size (drop left old)) in
+    let len : length part ≡ size = ap length made ∙ (length-map mid f ∙ mid_len) in
+    ⊎_elim
+    (λ (is_left : x < left).
+    let test : is_between left right x ≡ false = grind (arith, nat_tests) in
+    part_below left size x old part d is_left fits
+    ∙ sym (cond-false (is_between left right x) _ _ test))
+    (λ (from : left ≤ x).
+    ⊎_elim
+    (λ (to : x < right).
+    let test : is_between left right x ≡ true = grind (arith, nat_tests) in
+    let at : left + (x - left) ≡ x = omega arith in
+    let few : x - left < length mid = omega arith in
+    part_within left size x (x - left) old part d (omega arith) (omega arith) fits
+    ∙ (ap (λ ys. get_or ys (x - left) d) made
+    ∙ (get_or-map f mid (x - left) d d few
+    ∙ (ap f (get_or-take size (drop left old) (x - left) d (omega arith)
+    ∙ (get_or-drop left old (x - left) d ∙ ap (λ n. get_or old n d) at))
+    ∙ sym (cond-true (is_between left right x) _ _ test)))))
+    (λ (above : right ≤ x).
+    let test : is_between left right x ≡ false = grind (arith, nat_tests) in
+    part_above left size x old part d (omega arith) len fits
+    ∙ sym (cond-false (is_between left right x) _ _ test))
+    (cases_lt x right))
+    (cases_lt x left)
+
+-- ---- a row that is changed two places at a time
+
+-- of a list in which a place and the next are written: what stands at the first
+pub first_written : (xs : List Channels) (at k : ℕ) (x y d : Channels) → k ≡ at → at < length xs
+    → get_or (set (set xs at x) (at + 1) y) k d ≡ x
+first_written xs at k x y d here inside =
+    get_or-set_other (set xs at x) (at + 1) k y d (omega arith)
+    ∙ get_or-set_at xs at k x d here inside
+
+-- at the second
+pub second_written : (xs : List Channels) (at k : ℕ) (x y d : Channels) → k ≡ at + 1
+    → at + 1 < length xs → get_or (set (set xs at x) (at + 1) y) k d ≡ y
+second_written xs at k x y d next inside =
+    get_or-set_at (set xs at x) (at + 1) k y d next (omega (arith, length-set xs at x))
+
+-- and at another place
+pub other_written : (xs : List Channels) (at k : ℕ) (x y d : Channels) → k ≢ at → k ≢ at + 1
+    → get_or (set (set xs at x) (at + 1) y) k d ≡ get_or xs k d
+other_written xs at k x y d first second =
+    get_or-set_other (set xs at x) (at + 1) k y d second ∙ get_or-set_other xs at k x d first
+
+-- as many places
+pub two_written_length : (xs : List Channels) (at : ℕ) (x y : Channels)
+    → length (set (set xs at x) (at + 1) y) ≡ length xs
+two_written_length xs at x y = length-set (set xs at x) (at + 1) y ∙ length-set xs at x
+
+-- a row is changed from one column on before another
+pub record FilledBetween (f : Channels → Channels) (left right : ℕ) (old now : List Channels)
+    : Type 0 where
+  pub count : length now ≡ length old
+  pub places : (k : ℕ) (d : Channels) → k < length old
+      → get_or now k d ≡ changed_between f left right k (get_or old k d)
+
+-- before the first column none is
+pub filled-none : (f : Channels → Channels) (left : ℕ) (row : List Channels)
+    → FilledBetween f left left row row
+filled-none f left row =
+    record {
+      count = refl;
+      places = λ k d inside.
+          let test : is_between left left k ≡ false = grind (arith, nat_tests) in
+          sym (cond-false (is_between left left k) _ _ test);
+    }
+
+-- two more places are changed
+pub filled-two : (f : Channels → Channels) (left n m : ℕ) (old now written : List Channels)
+    → left ≤ n → n + 1 < length old → m ≡ n + 2
+    → written ≡ set (set now n (f (get_or now n clear))) (n + 1) (f (get_or now (n + 1) clear))
+    → FilledBetween f left n old now → FilledBetween f left m old written
+filled-two f left n m old now written order inside two is before =
+    let x = f (get_or now n clear) in
+    let y = f (get_or now (n + 1) clear) in
+    let long : n + 1 < length now = omega (arith, before.count) in
+    let kept : (k : ℕ) (d : Channels) → n ≤ k → k < length old
+    → get_or now k clear ≡ get_or old k d = λ k d from in_row.
+    let test : is_between left n k ≡ false = grind (arith, nat_tests) in
+    before.places k clear in_row ∙ cond-false (is_between left n k) _ _ test
+    ∙ get_or_default old k clear d in_row in
+    let changed : (k : ℕ) (d : Channels) → n ≤ k → k < n + 2 → k < length old
+    → f (get_or now k clear) ≡ changed_between f left m k (get_or old k d) =
+    λ k d from to in_row.
+    let test : is_between left m k ≡ true = grind (arith, nat_tests) in
+    ap f (kept k d from in_row) ∙ sym (cond-true (is_between left m k) _ _ test) in
+    let others : (k : ℕ) (d : Channels) → k ≢ n → k ≢ n + 1 → k < length old
+    → get_or now k d ≡ changed_between f left m k (get_or old k d) = λ k d first second in_row.
+    let same : is_between left n k ≡ is_between left m k = grind (arith, nat_tests) in
+    before.places k d in_row
+    ∙ ap (λ (b : Bool). if b then f (get_or old k d) else get_or old k d) same in
+    record {
+      count = ap length is ∙ two_written_length now n x y ∙ before.count;
+      places = λ k d in_row.
+          ap (λ (l : List Channels). get_or l k d) is
+          ∙ elim (eqb_tells k n) [
+            | inl e ↦ first_written now n k x y d e.1 (omega arith)
+                ∙ ap (λ i. f (get_or now i clear)) (sym e.1)
+                ∙ changed k d (omega (arith, e.1)) (omega (arith, e.1)) in_row
+            | inr e ↦ elim (eqb_tells k (n + 1)) [
+              | inl h ↦ second_written now n k x y d h.1 long
+                  ∙ ap (λ i. f (get_or now i clear)) (sym h.1)
+                  ∙ changed k d (omega (arith, h.1)) (omega (arith, h.1)) in_row
+              | inr h ↦ other_written now n k x y d e.1 h.1 ∙ others k d e.1 h.1 in_row
+            ]
+          ];
+    }

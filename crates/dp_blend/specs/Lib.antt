@@ -3,3 +3,4 @@ pub mod Blending
 pub mod Canvas
 pub mod Lanes
 pub mod Stretches
+pub mod White

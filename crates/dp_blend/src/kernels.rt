@@ -5,21 +5,21 @@
 //!
 //! The rule: docs/protocol.md, "Numbers and blending".
 
-ghost use Rattle.std.specs.Prelude.{◌≡◌, ◌<◌, ◌≤◌, ℕ, length, slice_index_or};
-ghost use Rattle.dp_blend.specs.Color.{clear, fade};
+ghost use Rattle.std.specs.Prelude.{◌≡◌, ◌+◌, ◌<◌, ◌≤◌, ℕ, length, slice_index_or, if◌then◌else◌};
+ghost use Rattle.dp_blend.specs.Color.{Channels, clear, fade};
 ghost use Rattle.dp_blend.specs.Blending.{blend, masked};
 ghost use Rattle.dp_blend.specs.Lanes.{ArePixels, blended_lanes, lanes};
 ghost use Rattle.dp_blend.specs.declared.modes.Mode.{Mode};
 
 use crate::color::{ONE, Pixel};
 use crate::lanes::{
-    alphas_of, capped_sums, fours_of, kept_where_zero, lanes_of, pixels_of, products, rests_of,
-    smaller_of, with_alphas,
+    alphas_of, capped_sums, fours_of, kept_where_zero, lanes_of, lesser_products, pixels_of,
+    products, rests_of, smaller_of, twice_of, with_alphas,
 };
 use std::simd::prelude::*;
 
 /// A mode of blending, on the lanes of two pixels.
-pub(crate) trait Kernel {
+pub(crate) trait Kernel: Copy {
     ghost mode: { Mode };
 
     /// Two sources, each blended with the pixel at its place.
@@ -30,6 +30,7 @@ pub(crate) trait Kernel {
 }
 
 /// The mode Erase.
+#[derive(Clone, Copy)]
 pub(crate) struct Erasing;
 
 impl Kernel for Erasing {
@@ -42,6 +43,7 @@ impl Kernel for Erasing {
 }
 
 /// The mode Normal.
+#[derive(Clone, Copy)]
 pub(crate) struct Covering;
 
 impl Kernel for Covering {
@@ -54,6 +56,7 @@ impl Kernel for Covering {
 }
 
 /// The mode Multiply.
+#[derive(Clone, Copy)]
 pub(crate) struct Multiplying;
 
 impl Kernel for Multiplying {
@@ -67,6 +70,7 @@ impl Kernel for Multiplying {
 }
 
 /// The mode Add.
+#[derive(Clone, Copy)]
 pub(crate) struct Adding;
 
 impl Kernel for Adding {
@@ -80,6 +84,7 @@ impl Kernel for Adding {
 }
 
 /// The mode Recolor.
+#[derive(Clone, Copy)]
 pub(crate) struct Recoloring;
 
 impl Kernel for Recoloring {
@@ -94,6 +99,7 @@ impl Kernel for Recoloring {
 }
 
 /// The mode Replace.
+#[derive(Clone, Copy)]
 pub(crate) struct Replacing;
 
 impl Kernel for Replacing {
@@ -105,21 +111,98 @@ impl Kernel for Replacing {
     }
 }
 
+/// A source that a row is filled with, and the mode by which it is blended.
+pub(crate) trait Fill: Copy {
+    ghost mode: { Self → Mode };
+
+    ghost source: { Self → Channels };
+
+    /// The source, blended with each of two pixels.
+    fn fill_lanes(self, old: u16x8) -> u16x8
+        requires { ArePixels old }
+        ensures value { result
+            ≡ blended_lanes (mode self) (lanes (source self) (source self)) old }
+        ensures pixels { ArePixels result };
+}
+
+/// A source in the mode of a kernel.
+#[derive(Clone, Copy)]
+pub(crate) struct Source<K> {
+    kernel: K,
+    src: Pixel,
+}
+
+impl<K: Kernel> Source<K> {
+    /// This source, in the mode of this kernel.
+    #[inline(always)]
+    pub fn of(kernel: K, src: Pixel) -> Source<K>
+        ensures { result.src ≡ src }
+    {
+        Source { kernel, src }
+    }
+}
+
+impl<K: Kernel> Fill for Source<K> {
+    ghost mode = { λ _. K.mode };
+
+    ghost source = { λ f. f.src };
+
+    #[inline(always)]
+    fn fill_lanes(self, old: u16x8) -> u16x8 {
+        K::blend_lanes(twice_of(&self.src), old)
+    }
+}
+
+/// A source in the mode Normal that isn't clear. It lets less than one through, so that the
+/// products need no test of a factor of one.
+#[derive(Clone, Copy)]
+pub(crate) struct Seen {
+    pub src: Pixel,
+    ghost seen: { 0 < src.a },
+}
+
+impl Fill for Seen {
+    ghost mode = { λ _. Mode.Normal };
+
+    ghost source = { λ f. f.src };
+
+    #[inline(always)]
+    fn fill_lanes(self, old: u16x8) -> u16x8 {
+        let sources = twice_of(&self.src);
+        sources + lesser_products(old, rests_of(sources))
+    }
+}
+
 /// A source, blended with each of two pixels of a row.
 #[inline(always)]
-pub(crate) fn fill_two<K: Kernel>(
-    src: Pixel,
-    row: &[Pixel],
-    at: usize,
-    next: usize,
-) -> (Pixel, Pixel)
+pub(crate) fn fill_two<F: Fill>(fill: F, row: &[Pixel], at: usize, next: usize) -> (Pixel, Pixel)
     requires at { at < length row.now }
     requires next { next < length row.now }
-    ensures first { result.0 ≡ blend K.mode src (slice_index_or row.now at clear) }
-    ensures second { result.1 ≡ blend K.mode src (slice_index_or row.now next clear) }
+    ensures first { result.0
+        ≡ blend (F.mode fill) (F.source fill) (slice_index_or row.now at clear) }
+    ensures second { result.1
+        ≡ blend (F.mode fill) (F.source fill) (slice_index_or row.now next clear) }
 {
-    let sources = lanes_of(&src, &src);
-    pixels_of(K::blend_lanes(sources, lanes_of(&row[at], &row[next])))
+    pixels_of(fill.fill_lanes(lanes_of(&row[at], &row[next])))
+}
+
+/// A source, blended with each of two pixels of a row, at a place and at the next, that isn't kept.
+#[inline(always)]
+pub(crate) fn fill_not_kept<F: Fill>(
+    fill: F,
+    keeps: (bool, bool),
+    row: &[Pixel],
+    at: usize,
+) -> (Pixel, Pixel)
+    requires { at + 1 < length row.now }
+    ensures first { result.0 ≡ (if keeps.0 then slice_index_or row.now at clear
+        else blend (F.mode fill) (F.source fill) (slice_index_or row.now at clear)) }
+    ensures second { result.1 ≡ (if keeps.1 then slice_index_or row.now (at + 1) clear
+        else blend (F.mode fill) (F.source fill) (slice_index_or row.now (at + 1) clear)) }
+{
+    let masks = fours_of(!keeps.0 as u16, !keeps.1 as u16);
+    let old = lanes_of(&row[at], &row[at + 1]);
+    pixels_of(kept_where_zero(masks, old, fill.fill_lanes(old)))
 }
 
 /// A number that sources are faded by throughout a row.

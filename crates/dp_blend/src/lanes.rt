@@ -1,6 +1,6 @@
 //! Two pixels at once, in the eight lanes of a vector.
 
-ghost use Rattle.std.specs.Prelude.{◌≡◌, ◌≤◌, ◌+◌, ◌-◌, ◌*◌, ◌/◌, ◌==◌, map, min, slice_index};
+ghost use Rattle.std.specs.Prelude.{◌≡◌, ◌<◌, ◌≤◌, ◌+◌, ◌-◌, ◌*◌, ◌/◌, ◌==◌, map, min, slice_index};
 ghost use Rattle.std.specs.Simd.Lanes.{zip2, sel_l, Each1};
 ghost use Rattle.dp_blend.specs.Color.{IsPixel, mul};
 ghost use Rattle.dp_blend.specs.Lanes.{ArePixels, fours, lanes, with_alphas};
@@ -18,6 +18,16 @@ pub(crate) fn lanes_of(first: &Pixel, second: &Pixel) -> u16x8
     u16x8::from_array([
         first.r, first.g, first.b, first.a, second.r, second.g, second.b, second.a,
     ])
+}
+
+/// The lanes of one pixel, twice. Four numbers are put into a vector here, and not eight.
+#[inline(always)]
+pub(crate) fn twice_of(pixel: &Pixel) -> u16x8
+    ensures value { result ≡ lanes pixel.now pixel.now }
+    ensures pixel { IsPixel pixel.now }
+{
+    let once = u16x8::from_array([pixel.r, pixel.g, pixel.b, pixel.a, 0, 0, 0, 0]);
+    once.swizzle([0, 1, 2, 3, 0, 1, 2, 3])
 }
 
 /// The two pixels whose lanes these are.
@@ -38,7 +48,8 @@ pub(crate) fn pixels_of(values: u16x8) -> (Pixel, Pixel)
 pub(crate) fn fours_of(first: u16, second: u16) -> u16x8
     ensures { result ≡ fours first second }
 {
-    u16x8::from_array([first, first, first, first, second, second, second, second])
+    let both = u16x8::from_array([first, second, 0, 0, 0, 0, 0, 0]);
+    both.swizzle([0, 0, 0, 0, 1, 1, 1, 1])
 }
 
 /// The alpha of its pixel in each lane.
@@ -93,7 +104,7 @@ pub(crate) fn capped_sums(values: u16x8, others: u16x8) -> u16x8
 
 /// The upper halves of the products of the lanes: one instruction of the processor.
 #[inline(always)]
-fn high_halves(values: u16x8, factors: u16x8) -> u16x8
+pub(crate) fn high_halves(values: u16x8, factors: u16x8) -> u16x8
     ensures { result ≡ zip2 (λ v f. v * f / 65536) values factors }
 {
     let products = values.cast::<u32>() * factors.cast::<u32>();
@@ -109,4 +120,13 @@ pub(crate) fn products(values: u16x8, factors: u16x8) -> u16x8
 {
     let is_one = factors.simd_eq(u16x8::splat(ONE));
     is_one.select(values, high_halves(values, factors + factors))
+}
+
+/// The products of the lanes by factors below one.
+#[inline(always)]
+pub(crate) fn lesser_products(values: u16x8, factors: u16x8) -> u16x8
+    requires { Each1 (λ f. f < 32768) factors }
+    ensures { result ≡ zip2 mul values factors }
+{
+    high_halves(values, factors + factors)
 }

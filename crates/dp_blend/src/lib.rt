@@ -13,6 +13,7 @@ mod laws;
 mod modes;
 mod rows;
 mod stretch;
+mod white;
 
 pub use blending::blend;
 pub use color::{ONE, Pixel, fade, from8, of_argb, to8};
@@ -24,6 +25,7 @@ pub use laws::{
 pub use modes::Mode;
 pub use rows::{row_blend, row_fill, row_merge, rows_fill};
 pub use stretch::Stretch;
+pub use white::{rgb_on_white, row_on_white};
 
 #[cfg(test)]
 mod tests;

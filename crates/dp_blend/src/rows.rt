@@ -1,11 +1,12 @@
 //! Rows of pixels: one source for each pixel, one through a mask, and a source at each place.
 //!
 //! Two pixels are blended at a time, and the last of an odd row by itself. A turn of a loop blends
-//! eight, so that what is the same for all is worked out once for them.
+//! eight, so that what is the same for all is worked out once for them. Where few columns of rows
+//! are filled, the first and the last may be half of a pair, whose other pixel is kept.
 //!
 //! The rule: docs/protocol.md, "Numbers and blending".
 
-ghost use Rattle.std.specs.Prelude.{◌≡◌, ◌<◌, ◌≤◌, ◌+◌, ◌%◌, ℕ, length, All, if◌then◌else◌};
+ghost use Rattle.std.specs.Prelude.{◌≡◌, ◌<◌, ◌≤◌, ◌+◌, ◌*◌, ◌/◌, ◌%◌, ℕ, length, All, if◌then◌else◌};
 ghost use Rattle.std.specs.Prelude.{slice_index, slice_index_or, slice_set};
 ghost use Rattle.dp_blend.specs.Color.{Channels, clear, fade};
 ghost use Rattle.dp_blend.specs.Blending.{blend, is_between, masked, row_blended, row_filled};
@@ -13,10 +14,13 @@ ghost use Rattle.dp_blend.specs.Blending.{row_merged};
 
 use crate::color::{ONE, Pixel};
 use crate::kernels::{
-    Adding, Covering, Erasing, Faded, Fading, Kernel, Multiplying, Recoloring, Replacing, Whole,
-    blend_two, fill_two, merge_two,
+    Adding, Covering, Erasing, Faded, Fading, Fill, Kernel, Multiplying, Recoloring, Replacing,
+    Seen, Source, Whole, blend_two, fill_not_kept, fill_two, merge_two,
 };
 use crate::modes::Mode;
+
+/// How many columns are few.
+const FEW: usize = 16;
 
 /// Blends the source with each pixel of the row, faded by the mask at its place: 32768 blends all
 /// of it, and where the mask is 0 the pixel stays.
@@ -45,12 +49,13 @@ pub fn row_fill(mode: Mode, src: Pixel, row: &mut [Pixel])
         slice_index_or row.new k d ≡ blend mode src (slice_index_or row.old k d) }
 {
     match mode {
-        Mode::Erase => fill_by::<Erasing>(src, row),
-        Mode::Normal => fill_by::<Covering>(src, row),
-        Mode::Multiply => fill_by::<Multiplying>(src, row),
-        Mode::Add => fill_by::<Adding>(src, row),
-        Mode::Recolor => fill_by::<Recoloring>(src, row),
-        Mode::Replace => fill_by::<Replacing>(src, row),
+        Mode::Erase => fill_by(Source::of(Erasing, src), row),
+        Mode::Normal if src.a() > 0 => fill_by(Seen { src }, row),
+        Mode::Normal => fill_by(Source::of(Covering, src), row),
+        Mode::Multiply => fill_by(Source::of(Multiplying, src), row),
+        Mode::Add => fill_by(Source::of(Adding, src), row),
+        Mode::Recolor => fill_by(Source::of(Recoloring, src), row),
+        Mode::Replace => fill_by(Source::of(Replacing, src), row),
     }
 }
 
@@ -75,12 +80,13 @@ pub fn rows_fill(
         else slice_index_or rows.old k d) }
 {
     match mode {
-        Mode::Erase => rows_by::<Erasing>(src, left, right, stride, rows),
-        Mode::Normal => rows_by::<Covering>(src, left, right, stride, rows),
-        Mode::Multiply => rows_by::<Multiplying>(src, left, right, stride, rows),
-        Mode::Add => rows_by::<Adding>(src, left, right, stride, rows),
-        Mode::Recolor => rows_by::<Recoloring>(src, left, right, stride, rows),
-        Mode::Replace => rows_by::<Replacing>(src, left, right, stride, rows),
+        Mode::Erase => rows_by(Source::of(Erasing, src), left, right, stride, rows),
+        Mode::Normal if src.a() > 0 => rows_by(Seen { src }, left, right, stride, rows),
+        Mode::Normal => rows_by(Source::of(Covering, src), left, right, stride, rows),
+        Mode::Multiply => rows_by(Source::of(Multiplying, src), left, right, stride, rows),
+        Mode::Add => rows_by(Source::of(Adding, src), left, right, stride, rows),
+        Mode::Recolor => rows_by(Source::of(Recoloring, src), left, right, stride, rows),
+        Mode::Replace => rows_by(Source::of(Replacing, src), left, right, stride, rows),
     }
 }
 
@@ -125,71 +131,175 @@ fn blend_by<K: Kernel>(src: Pixel, mask: &[u16], row: &mut [Pixel])
     }
 }
 
-/// `rows_fill` in the kernel's mode.
-fn rows_by<K: Kernel>(src: Pixel, left: usize, right: usize, stride: usize, rows: &mut [Pixel])
+/// `rows_fill` with a source and its mode. Few columns are filled two at a time, from an even one
+/// on, so that no row ends with a pixel by itself.
+fn rows_by<F: Fill>(fill: F, left: usize, right: usize, stride: usize, rows: &mut [Pixel])
     requires some { 0 < stride }
     requires order { left ≤ right }
     requires within { right ≤ stride }
     requires whole { length rows.old % stride ≡ 0 }
-    ensures { (k : ℕ) (d : Channels) → k < length rows.old →
+    ensures count { length rows.new ≡ length rows.old }
+    ensures places { (k : ℕ) (d : Channels) → k < length rows.old →
         slice_index_or rows.new k d ≡ (if is_between left right (k % stride)
-        then blend K.mode src (slice_index_or rows.old k d)
+        then blend (F.mode fill) (F.source fill) (slice_index_or rows.old k d)
+        else slice_index_or rows.old k d) }
+{
+    let pairs = right.div_ceil(2);
+    if right - left <= FEW && left / 2 + 1 < pairs && pairs <= stride / 2 {
+        rows_by_pairs(fill, left, right, stride, rows);
+    } else {
+        rows_by_parts(fill, left, right, stride, rows);
+    }
+}
+
+/// `rows_by`, row by row.
+fn rows_by_parts<F: Fill>(fill: F, left: usize, right: usize, stride: usize, rows: &mut [Pixel])
+    requires some { 0 < stride }
+    requires order { left ≤ right }
+    requires within { right ≤ stride }
+    requires whole { length rows.old % stride ≡ 0 }
+    ensures count { length rows.new ≡ length rows.old }
+    ensures places { (k : ℕ) (d : Channels) → k < length rows.old →
+        slice_index_or rows.new k d ≡ (if is_between left right (k % stride)
+        then blend (F.mode fill) (F.source fill) (slice_index_or rows.old k d)
         else slice_index_or rows.old k d) }
 {
     for j in 0..rows.len() / stride {
         let start = j * stride;
-        fill_by::<K>(src, &mut rows[start + left..start + right]);
+        fill_part(fill, left, right, &mut rows[start..start + stride]);
     }
 }
 
-/// `row_fill` in the kernel's mode: eight pixels at a time, and then the last ones.
-#[inline(always)]
-fn fill_by<K: Kernel>(src: Pixel, row: &mut [Pixel])
-    ensures { row.new ≡ row_filled K.mode src row.old }
+/// `rows_by`, row by row and two columns at a time from an even one on.
+fn rows_by_pairs<F: Fill>(fill: F, left: usize, right: usize, stride: usize, rows: &mut [Pixel])
+    requires some { 0 < stride }
+    requires pairs { left / 2 + 1 < (right + 1) / 2 }
+    requires within { (right + 1) / 2 * 2 ≤ stride }
+    requires whole { length rows.old % stride ≡ 0 }
+    ensures count { length rows.new ≡ length rows.old }
+    ensures places { (k : ℕ) (d : Channels) → k < length rows.old →
+        slice_index_or rows.new k d ≡ (if is_between left right (k % stride)
+        then blend (F.mode fill) (F.source fill) (slice_index_or rows.old k d)
+        else slice_index_or rows.old k d) }
 {
-    let (eights, rest) = row.split_at_mut(row.len() / 8 * 8);
-    fill_eights::<K>(src, eights);
-    fill_twos::<K>(src, rest);
+    for j in 0..rows.len() / stride {
+        let start = j * stride;
+        fill_pairs(fill, left, right, &mut rows[start..start + stride]);
+    }
 }
 
-/// Blends the source with the pixels at a place of a row and at the next.
+/// Blends the source with the pixels of a row from column `left` on before `right`. All others
+/// stay.
 #[inline(always)]
-fn fill_next<K: Kernel>(src: Pixel, row: &mut [Pixel], at: usize)
-    requires { at + 1 < length row.old }
-    ensures { row.new ≡ slice_set
-        (slice_set row.old at (blend K.mode src (slice_index_or row.old at clear)))
-        (at + 1) (blend K.mode src (slice_index_or row.old (at + 1) clear)) }
+fn fill_part<F: Fill>(fill: F, left: usize, right: usize, row: &mut [Pixel])
+    requires order { left ≤ right }
+    requires within { right ≤ length row.old }
+    ensures count { length row.new ≡ length row.old }
+    ensures places { (k : ℕ) (d : Channels) → k < length row.old →
+        slice_index_or row.new k d ≡ (if is_between left right k
+        then blend (F.mode fill) (F.source fill) (slice_index_or row.old k d)
+        else slice_index_or row.old k d) }
 {
-    let (first, second) = fill_two::<K>(src, row, at, at + 1);
+    fill_by(fill, &mut row[left..right]);
+}
+
+/// `fill_part`, two pixels at a time from an even column on. Of the first two and of the last two
+/// one may be kept.
+#[inline(always)]
+fn fill_pairs<F: Fill>(fill: F, left: usize, right: usize, row: &mut [Pixel])
+    requires pairs { left / 2 + 1 < (right + 1) / 2 }
+    requires within { (right + 1) / 2 * 2 ≤ length row.old }
+    ensures count { length row.new ≡ length row.old }
+    ensures places { (k : ℕ) (d : Channels) → k < length row.old →
+        slice_index_or row.new k d ≡ (if is_between left right k
+        then blend (F.mode fill) (F.source fill) (slice_index_or row.old k d)
+        else slice_index_or row.old k d) }
+{
+    let (first, last) = (left / 2, right.div_ceil(2) - 1);
+    fill_edge(fill, (left % 2 == 1, false), row, 2 * first);
+    fill_inside(fill, first + 1, last, row);
+    fill_edge(fill, (false, right % 2 == 1), row, 2 * last);
+}
+
+/// Blends the source with the pixels at a place of a row and at the next, but for one that is kept.
+#[inline(always)]
+fn fill_edge<F: Fill>(fill: F, keeps: (bool, bool), row: &mut [Pixel], at: usize)
+    requires { at + 1 < length row.old }
+    ensures { row.new ≡ slice_set (slice_set row.old at
+        (if keeps.0 then slice_index_or row.old at clear
+        else blend (F.mode fill) (F.source fill) (slice_index_or row.old at clear))) (at + 1)
+        (if keeps.1 then slice_index_or row.old (at + 1) clear
+        else blend (F.mode fill) (F.source fill) (slice_index_or row.old (at + 1) clear)) }
+{
+    let (first, second) = fill_not_kept(fill, keeps, row, at);
     row[at] = first;
     row[at + 1] = second;
 }
 
-/// `row_fill` in the kernel's mode, of a row of some times eight pixels.
+/// Blends the source with the pairs of pixels of a row from one on before another.
 #[inline(always)]
-fn fill_eights<K: Kernel>(src: Pixel, row: &mut [Pixel])
-    requires { length row.old % 8 ≡ 0 }
-    ensures { row.new ≡ row_filled K.mode src row.old }
+fn fill_inside<F: Fill>(fill: F, from: usize, to: usize, row: &mut [Pixel])
+    requires order { from ≤ to }
+    requires within { to * 2 ≤ length row.old }
+    ensures count { length row.new ≡ length row.old }
+    ensures places { (k : ℕ) (d : Channels) → k < length row.old →
+        slice_index_or row.new k d ≡ (if is_between (2 * from) (2 * to) k
+        then blend (F.mode fill) (F.source fill) (slice_index_or row.old k d)
+        else slice_index_or row.old k d) }
 {
-    for k in 0..row.len() / 8 {
-        fill_next::<K>(src, row, 8 * k);
-        fill_next::<K>(src, row, 8 * k + 2);
-        fill_next::<K>(src, row, 8 * k + 4);
-        fill_next::<K>(src, row, 8 * k + 6);
+    for k in from..to {
+        fill_next(fill, row, 2 * k);
     }
 }
 
-/// `row_fill` in the kernel's mode, two pixels at a time.
+/// `row_fill` with a source and its mode: eight pixels at a time, and then the last ones.
 #[inline(always)]
-fn fill_twos<K: Kernel>(src: Pixel, row: &mut [Pixel])
-    ensures { row.new ≡ row_filled K.mode src row.old }
+fn fill_by<F: Fill>(fill: F, row: &mut [Pixel])
+    ensures { row.new ≡ row_filled (F.mode fill) (F.source fill) row.old }
+{
+    let (eights, rest) = row.split_at_mut(row.len() / 8 * 8);
+    fill_eights(fill, eights);
+    fill_twos(fill, rest);
+}
+
+/// Blends the source with the pixels at a place of a row and at the next.
+#[inline(always)]
+fn fill_next<F: Fill>(fill: F, row: &mut [Pixel], at: usize)
+    requires { at + 1 < length row.old }
+    ensures { row.new ≡ slice_set (slice_set row.old at
+        (blend (F.mode fill) (F.source fill) (slice_index_or row.old at clear))) (at + 1)
+        (blend (F.mode fill) (F.source fill) (slice_index_or row.old (at + 1) clear)) }
+{
+    let (first, second) = fill_two(fill, row, at, at + 1);
+    row[at] = first;
+    row[at + 1] = second;
+}
+
+/// `fill_by`, of a row of some times eight pixels.
+#[inline(always)]
+fn fill_eights<F: Fill>(fill: F, row: &mut [Pixel])
+    requires { length row.old % 8 ≡ 0 }
+    ensures { row.new ≡ row_filled (F.mode fill) (F.source fill) row.old }
+{
+    for k in 0..row.len() / 8 {
+        fill_next(fill, row, 8 * k);
+        fill_next(fill, row, 8 * k + 2);
+        fill_next(fill, row, 8 * k + 4);
+        fill_next(fill, row, 8 * k + 6);
+    }
+}
+
+/// `fill_by`, two pixels at a time.
+#[inline(always)]
+fn fill_twos<F: Fill>(fill: F, row: &mut [Pixel])
+    ensures { row.new ≡ row_filled (F.mode fill) (F.source fill) row.old }
 {
     for k in 0..row.len() / 2 {
-        fill_next::<K>(src, row, 2 * k);
+        fill_next(fill, row, 2 * k);
     }
     if row.len() % 2 == 1 {
         let last = row.len() - 1;
-        let (only, _) = fill_two::<K>(src, row, last, last);
+        let (only, _) = fill_two(fill, row, last, last);
         row[last] = only;
     }
 }

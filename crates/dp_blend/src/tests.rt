@@ -2,7 +2,10 @@
 
 ghost use Rattle.std.specs.Prelude.{◌<◌, ◌≤◌, ◌↔◌, All, IsTrue};
 
-use crate::{Mode, ONE, Pixel, blend, fade, from8, of_argb, row_blend, row_fill, row_merge, to8};
+use crate::{
+    Mode, ONE, Pixel, blend, fade, from8, of_argb, rgb_on_white, row_blend, row_fill, row_merge,
+    row_on_white, to8,
+};
 use std::process::Abort;
 
 const MODES: [Mode; 6] = [
@@ -53,6 +56,29 @@ fn blends_a_half_red_on_white(rt: HostRuntime) {
     assert_eq!(rt; of_argb(0x00ff_ffff), Pixel::default());
     assert_eq!(rt; of_argb(0x00ff_ffff), Pixel::CLEAR);
     assert_eq!(rt; of_argb(0xff01_0203), pixel(&rt, (129, 257, 386, 32768)));
+}
+
+/// A row of five pixels: four are put at a time, and then the last one.
+#[test]
+fn puts_the_bytes_of_a_row_on_white(rt: HostRuntime) {
+    let row = [
+        of_argb(0x80ff_0000),
+        Pixel::CLEAR,
+        of_argb(0xff01_0203),
+        Pixel::WHITE,
+        of_argb(0x8000_0000),
+    ];
+    let mut bytes = [[0; 3]; 5];
+    row_on_white(&row, &mut bytes);
+    let want = [
+        [0xff, 0x7f, 0x7f],
+        [0xff, 0xff, 0xff],
+        [1, 2, 3],
+        [0xff, 0xff, 0xff],
+        [0x7f, 0x7f, 0x7f],
+    ];
+    assert_eq!(rt; bytes, want);
+    assert_eq!(rt; rgb_on_white(row[0]), want[0]);
 }
 
 #[test]

@@ -12,7 +12,6 @@ use Rattle.dp_blend.specs.Canvas.{below, canvas_of}
 use Rattle.dp_plain.specs.Board.{Board}
 use Rattle.dp_plain.specs.Picture.{picture, seen}
 use Rattle.dp_io.specs.Streams.{GrowsByPrefix}
-use Rattle.dp_flat.specs.declared.band.Rgb.{Rgb}
 use Rattle.dp_flat.specs.Composed.{seen_first, seen_row}
 use Rattle.dp_flat.specs.Texts.{GrowsBefore}
 use Rattle.dp_io.proofs.Prefixes.{grows_within}
@@ -139,7 +138,7 @@ row_failed a b text board y n front within some =
     (flat_map text (map (λ i. seen board (n + i) y) (below rest))) some)
 
 -- copies of a pixel's text are the texts of copies of the pixel
-pub copies_text : (text : Rgb → List ℕ) (pixel : Rgb) (bytes : List ℕ) (count : ℕ)
+pub copies_text : (text : List ℕ → List ℕ) (pixel bytes : List ℕ) (count : ℕ)
     → bytes ≡ text pixel
     → flat_map (λ copy. copy) (replicate count bytes) ≡ flat_map text (replicate count pixel)
 copies_text text pixel bytes zero is = refl

@@ -3,7 +3,8 @@ use Rattle.std.specs.Prelude.{◌≡◌, ℕ, List, ◌++◌, codes}
 use Rattle.std.specs.Io.KnownBytes.{Appends}
 use Rattle.std.specs.declared.option.Option.{Option}
 use Rattle.dp_blend.specs.Color.{Channels}
-use Rattle.dp_plain.specs.Picture.{rgb, rgb_line}
+use Rattle.dp_blend.specs.White.{rgb}
+use Rattle.dp_plain.specs.Picture.{rgb_line}
 use Rattle.dp_flat.specs.declared.text.Format.{Format}
 use Rattle.dp_flat.specs.declared.text.Format.TheVariants.{P6, P3}
 

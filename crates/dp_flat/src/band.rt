@@ -1,48 +1,22 @@
 //! A row of tiles of the picture, as bytes.
 
-ghost use Rattle.std.specs.Prelude.{◌≡◌, ◌+◌, ◌*◌, ◌<◌, ◌≤◌, ℕ, length, slice_index_or};
-ghost use Rattle.dp_blend.specs.Color.{clear, white};
-ghost use Rattle.dp_blend.specs.Blending.{blend};
-ghost use Rattle.dp_blend.specs.declared.modes.Mode.TheVariants.{Normal};
+ghost use Rattle.std.specs.Prelude.{◌≡◌, ◌+◌, ◌*◌, ◌<◌, ◌≤◌, ℕ, length};
+ghost use Rattle.dp_blend.specs.White.{rgb_on_white};
 ghost use Rattle.dp_pixels.specs.Tiles.{tiles_along};
-ghost use Rattle.dp_flat.specs.Bands.{IsBand, band_rgb, black, rgb_of};
+ghost use Rattle.dp_flat.specs.Bands.{IsBand, band_rgb};
 ghost use Rattle.dp_flat.specs.Composed.{IsDeep};
 ghost use Rattle.dp_flat.specs.Tones.{tone_at};
 
 use crate::compose::{LEVELS, draw_tile};
 use crate::tone::{BUFFER, SIDE, TileAt, Tone};
-use dp_blend::{ONE, Pixel, to8};
+use dp_blend::{Pixel, rgb_on_white, row_on_white};
 use dp_plain::BoardView;
 
-/// The bytes of a pixel of the picture.
-#[derive(Clone, Copy, PartialEq, Eq)]
-pub(crate) struct Rgb {
-    pub(crate) red: u8,
-    pub(crate) green: u8,
-    pub(crate) blue: u8,
-}
+/// The bytes of a pixel of the picture: red, green and blue.
+pub(crate) type Rgb = [u8; 3];
 
-impl Rgb {
-    /// Black.
-    pub(crate) const BLACK: Rgb = Rgb {
-        red: 0,
-        green: 0,
-        blue: 0,
-    };
-
-    /// The bytes of a pixel that is laid on white. White shows through as far as it isn't opaque.
-    #[inline]
-    pub(crate) fn on_white(pixel: Pixel) -> Rgb
-        ensures { result ≡ rgb_of (blend Normal pixel white) }
-    {
-        let light = ONE - pixel.a();
-        Rgb {
-            red: to8(pixel.r() + light),
-            green: to8(pixel.g() + light),
-            blue: to8(pixel.b() + light),
-        }
-    }
-}
+/// Black.
+pub(crate) const BLACK: Rgb = [0, 0, 0];
 
 /// How many tiles there are along a side.
 pub(crate) fn tiles_along(side: u32) -> u32
@@ -53,30 +27,18 @@ pub(crate) fn tiles_along(side: u32) -> u32
     side.div_ceil(SIDE)
 }
 
-/// Puts the bytes of the first pixels of a buffer on white, as many as there is room for.
-fn put_bytes(buffer: &[Pixel], bytes: &mut [Rgb])
-    requires { length bytes.old ≤ length buffer.now }
-    ensures { (k : ℕ) → k < length bytes.old
-        → slice_index_or bytes.new k black
-        ≡ rgb_of (blend Normal (slice_index_or buffer.now k clear) white) }
-{
-    for k in 0..bytes.len() {
-        bytes[k] = Rgb::on_white(buffer[k]);
-    }
-}
-
 /// Puts the bytes of a tile of this tone on white, whose pixels are the first ones of this buffer,
 /// and gives its colour, if it is of one.
 fn put_tile(tone: Tone, buffer: &[Pixel], bytes: &mut [Rgb]) -> Option<Rgb>
     requires { length bytes.old ≤ length buffer.now }
     ensures { (k : ℕ) → k < length bytes.old
         → band_rgb result bytes.new k
-        ≡ rgb_of (blend Normal (tone_at tone buffer.now k) white) }
+        ≡ rgb_on_white (tone_at tone buffer.now k) }
 {
     match tone {
-        Tone::Solid(color) => Some(Rgb::on_white(color)),
+        Tone::Solid(color) => Some(rgb_on_white(color)),
         Tone::Mixed => {
-            put_bytes(buffer, bytes);
+            row_on_white(&buffer[..bytes.len()], bytes);
             None
         }
     }

@@ -12,7 +12,7 @@ ghost use Rattle.dp_flat.specs.Tones.{tone_at};
 ghost use Rattle.dp_flat.specs.Composed.{HidesBelow, IsComposed, IsDeep, IsEnough, IsOnBoard};
 ghost use Rattle.dp_flat.specs.Composed.{IsPlace, shown};
 
-use crate::tone::{BUFFER, TileAt, Tone, hides, lay, mode_of};
+use crate::tone::{BUFFER, TileAt, Tone, hides, lay, mode_of, shows_source};
 use dp_blend::{Mode, Pixel, fade, from8, of_argb};
 use dp_layers::{LayerRow, rows_by_id};
 use dp_plain::BoardView;
@@ -90,7 +90,8 @@ fn compose_tile<V: BoardView>(
 }
 
 /// Lays a row of the list on a tile: a paint row by its pixels, and a group by what its own rows
-/// make from clear.
+/// make from clear. Where the tile then shows just the pixels of a paint row, these are read into
+/// the tile's own buffer.
 #[cycle(composing)]
 fn lay_row<V: BoardView>(
     board: &V,
@@ -111,6 +112,9 @@ fn lay_row<V: BoardView>(
         (shown (V.board board.now) depth row.now (tile_x tile.col k) (tile_y tile.row k))
         (tone_at under buffer.old k) }
 {
+    if !row.group && shows_source(mode_of(row), from8(row.opacity), &under) {
+        return read_tile(board, row, tile, buffer);
+    }
     let (source, deeper) = levels.split_at_mut(BUFFER);
     let tone = if row.group {
         compose_tile(board, depth, row.id, tile, Pixel::CLEAR, deeper, source)

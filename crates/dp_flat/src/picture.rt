@@ -16,7 +16,7 @@ ghost use Rattle.dp_flat.specs.Composed.{IsDeep, seen_row};
 ghost use Rattle.dp_flat.specs.Ends.{is_sink_fault};
 ghost use Rattle.dp_flat.specs.Texts.{GrowsBefore, name_of, pixel_text_of};
 
-use crate::band::{Rgb, draw_band, tiles_along};
+use crate::band::{BLACK, Rgb, draw_band, tiles_along};
 use crate::compose::{LEVELS, depth_of};
 use crate::text::{
     CHUNK_BYTES, Format, PIECE_BYTES, Piece, SolidText, head_of, push_all, push_chunk, push_solid,
@@ -122,7 +122,7 @@ fn write_picture<V: BoardView, S: Sink>(
     let depth = depth_of(board);
     let mut memory = vec![in alloc; Pixel::CLEAR; BUFFER * (depth + 1)]?;
     let mut colors = vec![in alloc; None; cols]?;
-    let mut bytes = vec![in alloc; Rgb::BLACK; BUFFER * cols]?;
+    let mut bytes = vec![in alloc; BLACK; BUFFER * cols]?;
     put_picture(
         format,
         board,
@@ -158,7 +158,7 @@ fn put_picture<V: BoardView, S: Sink>(
     ensures cause { HasCause any_fault (S.faults out.old) (S.faults out.new) result }
 {
     let (width, height) = (board.width(), board.height());
-    let mut solid = SolidText::new(format, Rgb::BLACK);
+    let mut solid = SolidText::new(format, BLACK);
     let mut line = Line {
         text: Piece::new(),
         is_known: false,

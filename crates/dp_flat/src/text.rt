@@ -152,7 +152,7 @@ fn push_repeated<const CAP: usize>(
         ≡ piece.old.items ++ flat_map (rgb_text format) (replicate count pixel) }
 {
     match format {
-        Format::P6 => push_copies(&[pixel.red, pixel.green, pixel.blue], count, piece),
+        Format::P6 => push_copies(&pixel, count, piece),
         Format::P3 => push_copies(line_of(pixel).as_bytes(), count, piece),
     }
 }
@@ -175,21 +175,20 @@ fn push_pixels(format: Format, pixels: &[Rgb], piece: &mut Piece)
     requires room { array_vec_len piece.old + CHUNK_BYTES ≤ PIECE_BYTES }
     ensures { piece.new.items ≡ piece.old.items ++ flat_map (rgb_text format) pixels.now }
 {
-    for pixel in pixels {
-        push_pixel(format, *pixel, piece);
+    match format {
+        Format::P6 => push_all(pixels.as_flattened(), piece),
+        Format::P3 => push_lines(pixels, piece),
     }
 }
 
-/// Adds the text of a pixel.
-#[inline]
-fn push_pixel(format: Format, pixel: Rgb, piece: &mut Piece)
-    requires { array_vec_len piece.old + PIXEL_BYTES ≤ PIECE_BYTES }
-    ensures items { piece.new.items ≡ piece.old.items ++ rgb_text format pixel }
-    ensures short { array_vec_len piece.new ≤ array_vec_len piece.old + PIXEL_BYTES }
+/// Adds the lines of some pixels.
+fn push_lines(pixels: &[Rgb], piece: &mut Piece)
+    requires few { length pixels.now ≤ CHUNK }
+    requires room { array_vec_len piece.old + CHUNK_BYTES ≤ PIECE_BYTES }
+    ensures { piece.new.items ≡ piece.old.items ++ flat_map (rgb_text Format.P3) pixels.now }
 {
-    match format {
-        Format::P6 => push_few(&[pixel.red, pixel.green, pixel.blue], piece),
-        Format::P3 => push_few(line_of(pixel).as_bytes(), piece),
+    for pixel in pixels {
+        push_few(line_of(*pixel).as_bytes(), piece);
     }
 }
 
@@ -221,11 +220,12 @@ fn line_of(pixel: Rgb) -> ArrayString<PIXEL_BYTES>
 {
     let mut digits = Buffer::new();
     let mut line = ArrayString::new();
-    line.push_str(digits.format(pixel.red));
+    let [red, green, blue] = pixel;
+    line.push_str(digits.format(red));
     line.push_str(" ");
-    line.push_str(digits.format(pixel.green));
+    line.push_str(digits.format(green));
     line.push_str(" ");
-    line.push_str(digits.format(pixel.blue));
+    line.push_str(digits.format(blue));
     line.push_str("\n");
     line
 }

@@ -165,7 +165,7 @@ fn lay_pixels(mode: Mode, opacity: u16, pixels: &[Pixel], under: Tone, buffer: &
 
 /// Whether a tile shows just the pixels that are laid on it so: it is clear, and they are laid in
 /// the normal mode and not faded.
-fn shows_source(mode: Mode, opacity: u16, under: &Tone) -> bool
+pub(crate) fn shows_source(mode: Mode, opacity: u16, under: &Tone) -> bool
     ensures { IsTrue result → (p : Channels) (pixels : List Channels) (i : ℕ)
         → blend mode (fade p opacity) (tone_at under.now pixels i) ≡ p }
 {

@@ -1,10 +1,11 @@
 -- The picture of a board, and its texts.
 use Rattle.std.specs.Prelude.{ℕ, zero, suc, Bool, not, ◌&&◌, ◌==◌, if◌then◌else◌, unwrap_or}
-use Rattle.std.specs.Prelude.{List, [], ◌∷◌, ◌++◌, codes, decimal}
+use Rattle.std.specs.Prelude.{List, [], ◌++◌, codes, decimal}
 use Rattle.std.specs.List.{filter, flat_map, fold}
 use Rattle.dp_blend.specs.Color.{Channels, clear, white, from8, to8, fade, of_argb}
 use Rattle.dp_blend.specs.Blending.{blend, mode_numbered}
 use Rattle.dp_blend.specs.Canvas.{canvas_of, pixel_at}
+use Rattle.dp_blend.specs.White.{rgb}
 use Rattle.dp_blend.specs.declared.modes.Mode.{Mode}
 use Rattle.dp_blend.specs.declared.modes.Mode.TheVariants.{Normal}
 use Rattle.dp_layers.specs.declared.row.LayerRow.{LayerRow}
@@ -61,10 +62,6 @@ head format width height =
 abbrev pub picture_text : List ℕ → (Channels → List ℕ) → Board → List ℕ
 picture_text format pixel_text board =
     head format board.width board.height ++ flat_map pixel_text (picture board)
-
--- the bytes of a pixel: red, green and blue
-abbrev pub rgb : Channels → List ℕ
-rgb p = to8 p.r ∷ to8 p.g ∷ to8 p.b ∷ []
 
 -- the line of a pixel: red, green and blue in decimal, separated by a space
 abbrev pub rgb_line : Channels → List ℕ

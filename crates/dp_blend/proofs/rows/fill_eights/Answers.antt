@@ -6,7 +6,7 @@ use Rattle.dp_blend.proofs.rows.fill_eights.Goals as goal
 
 pub loop-k-preserved : goal.loop-k-preserved
 loop-k-preserved g c =
-    let f = λ (_ d : Channels). blend g.K.Kernel.mode c.args.src d in
+    let f = λ (_ d : Channels). blend (g.F.Fill.mode c.args.fill) (g.F.Fill.source c.args.fill) d in
     let row = c.args.row.now in
     let at = 8 * c.loop-k.k in
     let two = changed-next f row clear row c.loop-k.row c.fill_next.new.row at (at + 2)
@@ -21,6 +21,6 @@ loop-k-preserved g c =
 pub returns : goal.returns
 returns g c =
     let row = c.args.row.now in
-    changed-all (λ (_ d : Channels). blend g.K.Kernel.mode c.args.src d) row row c.loop-k.row
+    changed-all (λ (_ d : Channels). blend (g.F.Fill.mode c.args.fill) (g.F.Fill.source c.args.fill) d) row row c.loop-k.row
     (8 * c.loop-k.k) (omega arith) c.loop-k.invariant
-    ∙ sym (row_filled-is g.K.Kernel.mode c.args.src row)
+    ∙ sym (row_filled-is (g.F.Fill.mode c.args.fill) (g.F.Fill.source c.args.fill) row)

@@ -1,6 +1,6 @@
 -- A tile more is drawn, and in the end all are.
 use Rattle.std.proofs.Common.{◌≡◌, ◌+◌, ◌-◌, ◌*◌, length, take, drop, ap, ◌∙◌, arith}
-use Rattle.dp_flat.specs.Bands.{rgb_of}
+use Rattle.dp_blend.specs.White.{rgb}
 use Rattle.dp_flat.proofs.Bands.{band_more, part_long}
 use Rattle.dp_flat.proofs.band.draw_band.Goals as goal
 
@@ -18,7 +18,7 @@ loop-col-preserved g c =
     band_more board c.args.row col size c.put_tile.result c.loop-col.colors c.loop-col.bytes
     c.put_tile.new.bytes (omega arith) (omega arith) (omega arith) c.loop-col.invariant
     (λ k in_tile across down. c.put_tile.ensures k (omega arith)
-    ∙ ap rgb_of
+    ∙ ap rgb
     (c.draw_tile-tone.ensures k record { count = in_tile; across = across; down = down }))
 
 pub returns : goal.returns
