@@ -63,10 +63,7 @@ impl LayerPixels for DeferredPixels {
     ) -> Result<(), AllocError> {
         pixels_stay_pixels();
         known_colors(command);
-        match command {
-            Draw::MoveRect { .. } => self.layer.move_rect(command, tiles),
-            _ => self.layer.paint(command, tiles),
-        }
+        self.layer.draw(command, tiles)
     }
 
     fn resize<T: Ledger>(

@@ -8,7 +8,9 @@ use Rattle.std.proofs.lemmas.Int.{ints}
 use Rattle.std.proofs.lemmas.Bool.{cases_lt, cases_Bool, cond-true, cond-false, false≢true}
 use Rattle.std.proofs.lemmas.Bool.{false_from_ne_true, and_parts}
 use Rattle.std.proofs.lemmas.Bool.{le-leb, lt-ltb, leb-true, ltb-true}
-use Rattle.std.proofs.lemmas.List.{get_or_past, take_more}
+use Rattle.std.proofs.lemmas.List.{get_or_past, take_more, length-replicate}
+use Rattle.std.proofs.lemmas.List.{replicate-append-replicate}
+use Rattle.std.proofs.Math.Seq.{take-append-add, take-append_seam}
 use Rattle.std.proofs.lemmas.List.Sums.{fold-append}
 use Rattle.dp_blend.specs.Color.{Channels, clear, of_argb}
 use Rattle.dp_blend.specs.Blending.{blend, mode_numbered}
@@ -212,6 +214,24 @@ pub filled : (p : Channels) (new : List Channels) (count : ℕ) → count ≡ 40
     → new ≡ replicate count p → new ≡ tile_of p
 unfolding tile_of
 filled p new count all is = is ∙ ap (λ (n : ℕ). replicate n p) all
+
+-- one more block of a tile has a colour
+pub block_more : (p : Channels) (n m : ℕ) (now front next rest : List Channels)
+    → front ≡ replicate n p → next ≡ replicate 512 p → m ≡ n + 512
+    → now ≡ front ++ (next ++ rest) → take m now ≡ replicate m p
+block_more p n m now front next rest done copied more is =
+    let long : length front ≡ n = ap length done ∙ length-replicate n p in
+    let block : length next ≡ 512 = ap length copied ∙ length-replicate 512 p in
+    let whole : n + 512 ≡ length front + 512 = omega (arith, long) in
+    ap (λ (l : List Channels). take m l) is
+    ∙ ap (λ (i : ℕ). take i (front ++ (next ++ rest))) (more ∙ whole)
+    ∙ take-append-add front (next ++ rest) 512
+    ∙ ap (λ (l : List Channels). front ++ l)
+    (ap (λ (i : ℕ). take i (next ++ rest)) (sym block) ∙ take-append_seam next rest)
+    ∙ ap (λ (l : List Channels). l ++ next) done
+    ∙ ap (λ (l : List Channels). replicate n p ++ l) copied
+    ∙ replicate-append-replicate n 512 p
+    ∙ ap (λ (i : ℕ). replicate i p) (sym more)
 
 -- ---- fills one after the other
 

@@ -23,7 +23,7 @@ use Rattle.dp_tile.specs.Tiles.{tile_of}
 use Rattle.dp_tile.proofs.Tiles.{pixel-tile_of}
 use Rattle.dp_paint.specs.declared.tile_fill.RectFill.{RectFill}
 use Rattle.dp_paint.specs.declared.tile_fill.TileFill.{TileFill}
-use Rattle.dp_paint.specs.Painting.{IsGridOf, IsPainting}
+use Rattle.dp_paint.specs.Painting.{IsGridOf}
 use Rattle.dp_paint.specs.Reading.{IsResized}
 use Rattle.dp_paint.specs.Waiting.{FillList, IsAdded, LayerOf, cell_after}
 use Rattle.dp_paint.specs.Waiting.{fill_command, listed_at, pixel_after_fills, pixels_of_cells}
@@ -235,23 +235,22 @@ blank_layer width height lists g none is =
     ∙ pixel-tile_of clear (y % 64 * 64 + x % 64) (omega arith)))
 
 -- the layer on whose tiles a fill more waits
-pub added_layer : (width height : ℕ) (fill : RectFill) (op : Draw) → IsPainting op → StaysOutside
+pub added_layer : (width height : ℕ) (fill : RectFill) → StaysOutside
     → (area : CellArea) (old new : List (List FillList)) (g : TileGrid)
-    → fill_command fill ≡ op → fill.width ≡ width → fill.height ≡ height
-    → IsGrid g → IsGridOf width height g
+    → fill.width ≡ width → fill.height ≡ height → IsGrid g → IsGridOf width height g
     → ((x y : ℕ) → x < g.cols * 64 → y < g.rows * 64
-    → is_in_foot (foot op) (pos x) (pos y) ≡ true → is_in_cells area (x / 64) (y / 64) ≡ true)
+    → is_in_foot (foot (fill_command fill)) (pos x) (pos y) ≡ true
+    → is_in_cells area (x / 64) (y / 64) ≡ true)
     → IsAdded fill area old new
     → layer_pixels width height new g
-    ≡ pixels_after width height op (layer_pixels width height old g)
-added_layer width height fill op is law area old new g command wide high is_grid is_of covers
-    added =
-    cells_painted width height op is law is_of.wide is_of.high area (cell_after old g)
-    (cell_after new g)
+    ≡ pixels_after width height (fill_command fill) (layer_pixels width height old g)
+added_layer width height fill law area old new g wide high is_grid is_of covers added =
+    cells_painted width height (fill_command fill) tt law is_of.wide is_of.high area
+    (cell_after old g) (cell_after new g)
     (λ x y in_x in_y. covers x y (omega (arith, is_of.cols, in_x))
     (omega (arith, is_of.rows, in_y)))
     (λ col row in_cols in_rows t.
-    rw (← command, ← wide, ← high)
+    rw (← wide, ← high)
     (added.inside col row t (cell_at g col row) (length-cell_at g col row is_grid)))
     (λ col row in_cols in_rows t.
     ap (λ (l : List TileFill). tile_after l (cell_at g col row)) (added.outside col row t))

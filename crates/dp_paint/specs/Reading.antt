@@ -16,12 +16,17 @@ use Rattle.dp_pixels.specs.Resizes.{IsResizeOf, pixels_resized}
 use Rattle.dp_tile.specs.declared.area.CellArea.{CellArea}
 use Rattle.dp_tile.specs.Areas.{IsPaintedOn}
 use Rattle.dp_tile.specs.Tiles.{TileGrid, grid_pixels}
-use Rattle.dp_paint.specs.Painting.{IsGridOf}
+use Rattle.dp_paint.specs.Painting.{IsGridOf, IsPainting}
 
 -- MoveRect
 abbrev pub IsMove : Draw → Type 0
 IsMove (MoveRect layer sx sy w h tx ty) = Unit {0}
 IsMove _ = ⊥
+
+-- a command that changes pixels of a layer
+abbrev pub ChangesPixels : Draw → Type 0
+ChangesPixels (MoveRect layer sx sy w h tx ty) = Unit {0}
+ChangesPixels command = IsPainting command
 
 -- the pixel at a place of a canvas whose tiles are those of a grid, clear past the canvas
 abbrev pub shown : ℕ → ℕ → TileGrid → ℤ → ℤ → Channels

@@ -8,7 +8,8 @@ ghost use Rattle.dp_pixels.specs.Commands.{pixels_after};
 ghost use Rattle.dp_pixels.specs.Feet.{reach};
 ghost use Rattle.dp_pixels.specs.Resizes.{pixels_resized};
 ghost use Rattle.dp_paint.specs.Painting.{IsPainting};
-ghost use Rattle.dp_paint.specs.Reading.{IsMove};
+ghost use Rattle.dp_paint.specs.Reading.{ChangesPixels, IsMove};
+ghost use Rattle.dp_paint.specs.Waiting.{fill_command};
 ghost use Rattle.dp_pixels.specs.Tiles.{ShowsTile};
 
 use crate::blank::{blank_grid, tiles_along};
@@ -94,22 +95,20 @@ impl DeferredGrid {
         let _ = &self.grid;
     }
 
-    /// Has a command wait on its tiles after the others, if it is a fill that changes few of them,
-    /// and not too many wait. Says whether it does.
-    fn wait(&mut self, command: &Draw) -> Result<bool, AllocError>
-        requires { IsPainting command.now }
+    /// Has a fill wait on its tiles after the others, if it changes few of them and not too many
+    /// wait. Says whether it does.
+    fn wait(&mut self, fill: RectFill) -> Result<bool, AllocError>
+        requires width { fill.width ≡ self.old.width }
+        requires height { fill.height ≡ self.old.height }
         ensures waits { IfOk result (λ waits. waits ≡ true → self.new ≡ record self.old {
           pixels = pixels_after self.old.width
-              self.old.height command.now self.old.pixels;
+              self.old.height (fill_command fill) self.old.pixels;
         }) }
         ensures paints { IfOk result (λ waits. waits ≡ false → self.new ≡ self.old) }
         ensures err { OnErr result (self.new ≡ self.old) }
     {
         pixels_stay_outside_the_foot();
         self.grid.known();
-        let Some(fill) = RectFill::of(command, self.width, self.height) else {
-            return Ok(false);
-        };
         let (cols, rows) = (self.grid.cols(), self.grid.rows());
         let area = fill.cells(cols, rows);
         let reached = (area.right - area.left) * (area.bottom - area.top);
@@ -121,16 +120,58 @@ impl DeferredGrid {
         Ok(true)
     }
 
-    /// Draws a command other than MoveRect.
+    /// Draws a command. A small fill waits. Any other command is drawn after the fills that wait.
     ///
     /// # Errors
     ///
     /// The pixels are as they were, and tiles that were made are counted.
-    pub fn paint<T: Ledger>(
+    pub fn draw<T: Ledger>(
         &mut self,
         command: &Draw,
         tiles: &mut Steps<T>,
     ) -> Result<(), AllocError>
+        requires { ChangesPixels command.now }
+        ensures ok { OnOk result (self.new ≡ record self.old {
+          pixels = pixels_after self.old.width
+              self.old.height command.now self.old.pixels;
+        }) }
+        ensures err { OnErr result (self.new ≡ self.old) }
+        ensures tiles_rise { tiles.old ≤ tiles.new }
+        ensures few_tiles { tiles.new ≤ tiles.old + (4096 + reach command.now) }
+    {
+        match command {
+            Draw::FillRect {
+                layer,
+                mode,
+                x,
+                y,
+                w,
+                h,
+                color,
+            } => {
+                let fill = RectFill {
+                    layer: *layer,
+                    mode: *mode,
+                    x: *x,
+                    y: *y,
+                    w: *w,
+                    h: *h,
+                    color: *color,
+                    width: self.width,
+                    height: self.height,
+                };
+                if self.wait(fill)? {
+                    return Ok(());
+                }
+                self.paint(command, tiles)
+            }
+            Draw::MoveRect { .. } => self.move_rect(command, tiles),
+            _ => self.paint(command, tiles),
+        }
+    }
+
+    /// Draws a command other than MoveRect after all fills that wait.
+    fn paint<T: Ledger>(&mut self, command: &Draw, tiles: &mut Steps<T>) -> Result<(), AllocError>
         requires { IsPainting command.now }
         ensures ok { OnOk result (self.new ≡ record self.old {
           pixels = pixels_after self.old.width
@@ -140,9 +181,6 @@ impl DeferredGrid {
         ensures tiles_rise { tiles.old ≤ tiles.new }
         ensures few_tiles { tiles.new ≤ tiles.old + (4096 + reach command.now) }
     {
-        if self.wait(command)? {
-            return Ok(());
-        }
         settle(
             &mut self.grid,
             &mut self.lists,
@@ -154,12 +192,8 @@ impl DeferredGrid {
         paint_in_place(&mut self.grid, self.width, self.height, command, tiles)
     }
 
-    /// Draws a MoveRect.
-    ///
-    /// # Errors
-    ///
-    /// The pixels are as they were, and tiles that were made are counted.
-    pub fn move_rect<T: Ledger>(
+    /// Draws a MoveRect after all fills that wait.
+    fn move_rect<T: Ledger>(
         &mut self,
         command: &Draw,
         tiles: &mut Steps<T>,

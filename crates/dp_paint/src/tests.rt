@@ -1,5 +1,6 @@
 ghost use Rattle.std.specs.Prelude.{◌≡◌, ◌<◌, IfOk, length};
-ghost use Rattle.dp_paint.specs.Painting.{IsGridOf, IsPainting};
+ghost use Rattle.dp_paint.specs.Painting.{IsGridOf};
+ghost use Rattle.dp_paint.specs.Reading.{ChangesPixels};
 
 use crate::{DeferredGrid, blank_grid, move_one, paint_one, resize_grid};
 use dp_blend::{Pixel, of_argb};
@@ -159,7 +160,7 @@ fn a_canvas_grows_by_a_column_of_tiles(rt: HostRuntime) -> Result<(), AllocError
 
 /// A fill of two columns and two rows.
 fn square(x: u32, y: u32, color: u32) -> Draw
-    ensures { IsPainting result }
+    ensures { ChangesPixels result }
 {
     Draw::FillRect {
         layer: 1,
@@ -178,8 +179,8 @@ fn layer_of_two<T: Ledger>(alloc: Global, tiles: &mut Steps<T>) -> Result<Deferr
     ensures { IfOk result (λ layer. (layer.width ≡ 70) × (layer.height ≡ 2)) }
 {
     let mut layer = DeferredGrid::blank(alloc, 70, 2)?;
-    layer.paint(&square(63, 0, 0xffff_ffff), tiles)?;
-    layer.paint(&square(64, 1, 0xff00_0000), tiles)?;
+    layer.draw(&square(63, 0, 0xffff_ffff), tiles)?;
+    layer.draw(&square(64, 1, 0xff00_0000), tiles)?;
     Ok(layer)
 }
 
@@ -207,7 +208,7 @@ fn read_waiting<T: Ledger>(alloc: Global, blank: Blank) -> Result<[[Pixel; 4]; 4
     let mut pixels = vec![in alloc; Pixel::CLEAR; 4096]?;
     let mut layer = layer_of_two(alloc, &mut tiles)?;
     let first = read_right(&layer, &mut pixels);
-    layer.paint(&square(65, 1, 0xffff_ffff), &mut tiles)?;
+    layer.draw(&square(65, 1, 0xffff_ffff), &mut tiles)?;
     let filled = read_right(&layer, &mut pixels);
     let each = [
         layer.pixel(64, 0),
@@ -224,7 +225,7 @@ fn read_waiting<T: Ledger>(alloc: Global, blank: Blank) -> Result<[[Pixel; 4]; 4
         tx: 69,
         ty: 0,
     };
-    layer.move_rect(&to_the_right, &mut tiles)?;
+    layer.draw(&to_the_right, &mut tiles)?;
     let moved = read_right(&layer, &mut pixels);
     Ok([first, filled, moved, each])
 }

@@ -1,9 +1,11 @@
 //! What a fill does on one tile.
 
-ghost use Rattle.std.specs.Prelude.{◌≡◌, ℕ, ◌+◌, ◌*◌, ◌/◌, ◌<◌, ◌≤◌, true, List, length, IfSome};
+ghost use Rattle.std.specs.Prelude.{◌≡◌, ℕ, ◌+◌, ◌*◌, ◌/◌, ◌<◌, ◌≤◌, true, List, length, IfSome, ◌++◌};
+ghost use Rattle.std.specs.Prelude.{take, drop};
 ghost use Rattle.std.specs.Prelude.{pos};
 ghost use Rattle.dp_pixels.specs.Feet.{foot, is_in_foot};
 ghost use Rattle.dp_tile.specs.Areas.{is_in_cells};
+ghost use Rattle.dp_tile.specs.Tiles.{tile_of};
 ghost use Rattle.dp_blend.specs.Color.{Channels};
 ghost use Rattle.dp_paint.specs.Painting.{tile_drawn};
 ghost use Rattle.dp_paint.specs.Waiting.{IsOnTile, fill_command, is_in_fill, pixel_filled};
@@ -20,48 +22,18 @@ use std::marker::Model;
 /// A fill on a canvas: the numbers of its message, and the sides of the canvas.
 #[derive(Clone, Copy)]
 pub(crate) struct RectFill {
-    layer: u16,
-    mode: u8,
-    x: u32,
-    y: u32,
-    w: u32,
-    h: u32,
-    color: u32,
-    width: u32,
-    height: u32,
+    pub(crate) layer: u16,
+    pub(crate) mode: u8,
+    pub(crate) x: u32,
+    pub(crate) y: u32,
+    pub(crate) w: u32,
+    pub(crate) h: u32,
+    pub(crate) color: u32,
+    pub(crate) width: u32,
+    pub(crate) height: u32,
 }
 
 impl RectFill {
-    /// The fill that a command is, if it is one, on a canvas of these sides.
-    pub(crate) fn of(command: &Draw, width: u32, height: u32) -> Option<RectFill>
-        ensures command { IfSome result (λ fill. fill_command fill ≡ command.now) }
-        ensures width { IfSome result (λ fill. fill.width ≡ width) }
-        ensures height { IfSome result (λ fill. fill.height ≡ height) }
-    {
-        match command {
-            Draw::FillRect {
-                layer,
-                mode,
-                x,
-                y,
-                w,
-                h,
-                color,
-            } => Some(RectFill {
-                layer: *layer,
-                mode: *mode,
-                x: *x,
-                y: *y,
-                w: *w,
-                h: *h,
-                color: *color,
-                width,
-                height,
-            }),
-            _ => None,
-        }
-    }
-
     /// The cells of a grid of so many columns and rows that it may change.
     pub(crate) fn cells(self, cols: u32, rows: u32) -> CellArea
         ensures across { result.left ≤ result.right }
@@ -188,11 +160,39 @@ impl TileFill {
             if self.is_whole() {
                 return Some(blend(self.mode, of_argb(self.color), p));
             }
-            pixels.fill(p);
+            fill_tile(p, pixels);
         }
         self.draw(pixels);
         None
     }
+}
+
+/// How many pixels of a tile are filled one by one.
+const BLOCK: usize = 512;
+
+/// Gives each pixel of a tile this colour. The first ones get it one by one, and then they are
+/// copied, which is faster.
+fn fill_tile(color: Pixel, pixels: &mut [Pixel])
+    requires { length pixels.old ≡ 4096 }
+    ensures { pixels.new ≡ tile_of color }
+{
+    let (block, _rest) = pixels.split_at_mut(BLOCK);
+    block.fill(color);
+    for k in 1..SIDE * SIDE / BLOCK {
+        let (done, rest) = pixels.split_at_mut(k * BLOCK);
+        copy_block(done, rest);
+    }
+}
+
+/// Copies the first pixels of a row over the first ones of another, as many as are a block.
+fn copy_block(from: &[Pixel], to: &mut [Pixel])
+    requires from { BLOCK ≤ length from.now }
+    requires to { BLOCK ≤ length to.old }
+    ensures { to.new ≡ take BLOCK from.now ++ drop BLOCK to.old }
+{
+    let (first, _others) = from.split_at(BLOCK);
+    let (block, _rest) = to.split_at_mut(BLOCK);
+    block.copy_from_slice(first);
 }
 
 /// The number of a mode in a packed fill.

@@ -1,7 +1,5 @@
-use Rattle.std.proofs.Common.{◌≡◌, true, sym, subst}
-use Rattle.std.specs.Prelude.{pos}
-use Rattle.dp_msg_draw.specs.declared.draw.Draw.{Draw}
-use Rattle.dp_pixels.specs.Feet.{foot, is_in_foot}
+use Rattle.std.proofs.Common.{◌∙◌, ap, sym}
+use Rattle.dp_paint.specs.Waiting.{LayerOf, fill_command}
 use Rattle.dp_paint.proofs.Layers.{added_layer, always_on_err, layer_after, same_fills_layer}
 use Rattle.dp_paint.proofs.deferred.DeferredGrid.wait.Goals as goal
 
@@ -15,16 +13,16 @@ returns-in_err-put_fill-clause-err c =
 pub returns-clause-waits : goal.returns-clause-waits
 returns-clause-waits c = λ _.
     let inside = c.self.inside in
-    let fill = c.in-Some.fill in
-    let op = c.args.command.now in
-    layer_after c.args.self.now inside.width inside.height op inside.lists.items
-    c.put_fill.new.lists.items inside.grid inside.grid c.self.view_is
-    (added_layer inside.width inside.height fill op c.requires
+    let fill = c.args.fill in
+    let view = c.self.view_is in
+    let wide = c.requires.width ∙ sym (ap (λ (l : LayerOf). l.width) view) in
+    let high = c.requires.height ∙ sym (ap (λ (l : LayerOf). l.height) view) in
+    layer_after c.args.self.now inside.width inside.height (fill_command fill) inside.lists.items
+    c.put_fill.new.lists.items inside.grid inside.grid view
+    (added_layer inside.width inside.height fill
     c.pixels_stay_outside_the_foot.ensures c.cells-area.result inside.lists.items
-    c.put_fill.new.lists.items inside.grid c.in-Some.ensures.command c.in-Some.ensures.width
-    c.in-Some.ensures.height c.known.ensures c.self.invariant.0
+    c.put_fill.new.lists.items inside.grid wide high c.known.ensures
+    c.self.invariant.0
     (λ x y in_x in_y is. c.cells-area.ensures.all x y (rw c.cols-cols.ensures in_x)
-    (rw c.rows-rows.ensures in_y)
-    (subst (λ (command : Draw). is_in_foot (foot command) (pos x) (pos y) ≡ true)
-    (sym c.in-Some.ensures.command) is))
+    (rw c.rows-rows.ensures in_y) is)
     c.in_ok-put_fill.ensures.put)

@@ -2,7 +2,7 @@ use Rattle.std.proofs.Common.{◌≡◌, ap, sym, ◌∙◌}
 use Rattle.dp_blend.specs.Color.{Channels}
 use Rattle.dp_blend.specs.Blending.{blend}
 use Rattle.dp_paint.specs.Waiting.{tile_filled, tile_pixels}
-use Rattle.dp_paint.proofs.Fills.{filled, whole_filled}
+use Rattle.dp_paint.proofs.Fills.{whole_filled}
 use Rattle.dp_paint.proofs.tile_fill.TileFill.draw_on.Goals as goal
 use Rattle.dp_paint.proofs.tile_fill.TileFill.draw_on.Goals.{in-Some+else-is_whole, in_default}
 
@@ -21,7 +21,7 @@ returns-clause-shown c =
     let same : c.match-color.pixels ≡ tile_pixels color pixels =
     elim c.match-color.branch [
       | in-Some+else-is_whole w ↦
-          w.pixels-is ∙ filled w.in-Some.p _ _ c.requires (w.fill.ensures.after (λ y h. h))
+          w.pixels-is ∙ w.fill_tile.ensures
           ∙ ap (λ o. tile_pixels o pixels) (sym w.in-Some.is)
       | in_default w ↦ w.pixels-is ∙ ap (λ o. tile_pixels o pixels) (sym w.in_default.is)
     ] in
