@@ -14,15 +14,13 @@ use Rattle.dp_frame.specs.Stream.{Stream}
 use Rattle.dp_messages.specs.declared.message.Entry.{Entry}
 use Rattle.dp_lines.specs.declared.run_end.RunEnd.TheVariants as run
 use Rattle.dp_entries.specs.declared.ends.ReadEnd.TheVariants.{ReadFault, Truncated, BadMessage}
-use Rattle.dp_entries.specs.declared.ends.ReadEnd.TheVariants.{Long, Memory}
-use Rattle.dp_entries.specs.declared.ends.ReadEnd.{ReadEnd}
+use Rattle.dp_entries.specs.declared.ends.ReadEnd.TheVariants.{Long}
 use Rattle.dp_entries.specs.declared.ends.Refusal.{Refusal}
 use Rattle.dp_entries.specs.declared.ends.Refusal.TheVariants as refusal
-use Rattle.dp_entries.specs.Ends.{IfCause, IsRefusal, refused_at}
+use Rattle.dp_entries.specs.Ends.{IfCause, refused_at}
 use Rattle.dp_entries.specs.Input.{Tells, TellsUpTo, ComesTo, HoldsNoCause}
 use Rattle.dp_entries.specs.Reader.{Reader, Follows, HasRead, measure_of, room_of}
 use Rattle.dp_entries.specs.Reading.{TakesEntry, TakesBad, TookNoCause, EndsReading}
-use Rattle.dp_entries.specs.Reading.{Blames, EndsWithInput}
 use Rattle.dp_entries.proofs.Frames.{none_held, stand_length, fed_length, follows_taken}
 use Rattle.dp_entries.proofs.Frames.{follows_bad, follows_fed, follows_tells}
 
@@ -520,25 +518,3 @@ pub ends_stop : {C : Type 0} (M : ℕ → FrameParts → Entry → Type 0)
 ends_stop M IsCause none input left entries old new at (refusal.Cause cause) within taken place h =
     ends_bad M IsCause none input left entries old new at cause within taken place h
 ends_stop M IsCause none input left entries old new at refusal.Memory within taken place h = tt
-
-pub refusal_of_stop : {C : Type 0} (at : ℕ) (why : Refusal C)
-    → IsRefusal (refused_at at why)
-refusal_of_stop at (refusal.Cause cause) = tt
-refusal_of_stop at refusal.Memory = tt
-
--- it takes nothing of the input
-pub refusal_blames : {C : Type 0} (count : ℕ) (end : ReadEnd C) → IsRefusal end
-    → Blames count count end
-refusal_blames count ReadFault refused = absurd refused
-refusal_blames count (Truncated n) refused = absurd refused
-refusal_blames count (BadMessage cause n) refused = refl
-refusal_blames count Long refused = absurd refused
-refusal_blames count Memory refused = refl
-
-pub refusal_ends : {C : Type 0} (left : Option (List ℕ)) (end : ReadEnd C) → IsRefusal end
-    → EndsWithInput left end
-refusal_ends left ReadFault refused = absurd refused
-refusal_ends left (Truncated n) refused = absurd refused
-refusal_ends left (BadMessage cause n) refused = tt
-refusal_ends left Long refused = absurd refused
-refusal_ends left Memory refused = tt

@@ -12,8 +12,7 @@ ghost use Rattle.dp_lines.specs.declared.run_end.RunEnd.TheVariants as run;
 ghost use Rattle.dp_entries.specs.Input.{ComesTo};
 ghost use Rattle.dp_entries.specs.Ends.{IsRefusal, refused_at};
 ghost use Rattle.dp_entries.specs.Reader.{HasRead, measure_of, room_of};
-ghost use Rattle.dp_entries.specs.Reading.{Blames, EndsReading, EndsWithInput, TakesBad};
-ghost use Rattle.dp_entries.specs.Reading.{TakesEntry};
+ghost use Rattle.dp_entries.specs.Reading.{Blames, EndsReading, EndsWithInput};
 
 use crate::{ReadEnd, Refusal, Standing};
 use dp_frame::Splitter;
@@ -184,13 +183,19 @@ impl<S: Standing> EntryReader<S> {
     /// # Errors
     ///
     /// `ReadFault` where the input failed, `Truncated` where it ends inside a frame, `Long` where
-    /// more bytes than count were taken, and `Memory` where memory ran out.
+    /// more bytes than count were taken, and `Memory` where memory ran out. It reads even where
+    /// `next` has ended.
     pub fn fill<I: Source>(&mut self, input: &mut I) -> Result<bool, ReadEnd<S::Cause>>
         ensures read { OnOk result ((bytes : List ℕ) (entries : List Item)
             → HasRead S.may_stand bytes (I.left input.old) entries self.old
             → HasRead S.may_stand bytes (I.left input.new) entries self.new) }
         ensures held { IfOk result (λ more. IsTrue more
             → ¬ HoldsNoFrame self.new.stream.held) }
+
+        // Where a whole frame is held, nothing is read.
+        ensures ready { ¬ HoldsNoFrame self.old.stream.held → IsOkAnd result (λ more. IsTrue more) }
+        ensures idle { ¬ HoldsNoFrame self.old.stream.held
+            → (self.new ≡ self.old) × (I.left input.new ≡ I.left input.old) }
 
         // Where there is none, the input came to its end, or reading it ended so.
         ensures at_end { IfOk result (λ more. ¬ IsTrue more → IsAtEnd (I.left input.new)) }
@@ -225,12 +230,13 @@ impl<S: Standing> EntryReader<S> {
         }
     }
 
-    /// Gives the entry of the first frame that is held.
+    /// Gives the entry of the first frame that is held, even where `next` has ended.
     ///
     /// # Errors
     ///
     /// `BadMessage` where the frame may not stand, and `Memory` where memory ran out. Nothing has
     /// changed then.
+    #[inline(always)]
     pub fn take(&mut self, alloc: Global) -> Result<Entry, ReadEnd<S::Cause>>
         requires held { ¬ HoldsNoFrame self.old.stream.held }
         ensures given { IfOk result (λ entry.

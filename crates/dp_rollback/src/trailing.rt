@@ -21,7 +21,7 @@ use std::marker::Model;
 use std::sync::ledger::Ledger;
 
 /// How many more acts are held, at least, before those that no act can move any more are drawn.
-const SLACK: usize = 1024;
+const SLACK: usize = 64;
 
 /// A board that trails its history: drawn up to an act that no later undo or redo comes before. The
 /// acts from there on are held, so that each command is drawn once.
@@ -54,6 +54,7 @@ impl<B: Board> Model for TrailingBoard<B> {
 
 /// Adds an act to those that are held from the position `base` on. The acts of a group that moves
 /// get their new flag: all of them come after its point. It takes no memory.
+#[inline(always)]
 fn add_later<Op: Drop>(
     kept: &mut Vec<KeptAct<Op>>,
     base: usize,
@@ -114,6 +115,7 @@ impl<B: Board> TrailingBoard<B> {
     /// # Errors
     ///
     /// The board may trail no history then. Some commands may have been drawn.
+    #[inline(always)]
     pub fn take<D: Ledger, T: Ledger>(
         &mut self,
         act: UserAct<B::Op>,
@@ -133,6 +135,7 @@ impl<B: Board> TrailingBoard<B> {
     }
 
     /// Holds an act that comes next.
+    #[inline(always)]
     fn hold(&mut self, act: UserAct<B::Op>) -> Result<(), AllocError>
         ensures trails { OnOk result ((blank : B) (depth : ℕ) (acts : List (UserActOf B.Op))
             → Trails B.drawn blank depth acts self.old
@@ -145,6 +148,7 @@ impl<B: Board> TrailingBoard<B> {
     }
 
     /// Holds an act that comes next.
+    #[inline(always)]
     fn push(&mut self, act: UserAct<B::Op>) -> Result<(), AllocError>
         ensures known { OnOk result (IsHeldNext self.old act) }
         ensures held { OnOk result (self.new ≡ with_act act self.old) }

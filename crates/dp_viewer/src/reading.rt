@@ -85,6 +85,7 @@ pub(crate) fn read_frames<I: Source, D: Ledger, T: Ledger>(
 }
 
 /// Shows the next entry. A mark of a reset begins anew: all before it shows nothing from there on.
+#[inline(always)]
 fn show<D: Ledger, T: Ledger>(
     alloc: Global,
     board: &mut ShownBoard,

@@ -1,4 +1,5 @@
 use Rattle.std.proofs.Common.{◌≡◌, List, ℕ}
+use Rattle.dp_frame.specs.Frames.{HoldsNoFrame}
 use Rattle.dp_messages.specs.declared.message.Entry.{Entry}
 use Rattle.dp_entries.specs.Reader.{HasRead, measure_of}
 use Rattle.dp_entries.proofs.reader.EntryReader.fill.Given as goal
@@ -14,6 +15,8 @@ invariant-pieces g l = record {
   at : l.self.stream.at ≡ l.fn.self.stream.at;
   ended : l.self.ended ≡ l.fn.self.ended;
   kept : g.I.Source.faults l.input ≡ g.I.Source.faults l.fn.input;
+  idle : ¬ HoldsNoFrame l.fn.self.stream.held
+      → (l.self ≡ l.fn.self) × (g.I.Source.left l.input ≡ g.I.Source.left l.fn.input);
 }
 
 abbrev pub decreases-pieces : goal.decreases-pieces

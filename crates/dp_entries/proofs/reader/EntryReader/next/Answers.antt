@@ -11,3 +11,10 @@ pub returns-in-Ok-clause-given : goal.returns-in-Ok-clause-given
 returns-in-Ok-clause-given g c = λ bytes entries h.
     c.in-Ok.ensures.given bytes (g.I.Source.left c.fill.new.input) entries
     (c.in-Ok-true.ensures.read bytes entries h)
+
+pub returns-in-Err-take-clause-ends : goal.returns-in-Err-take-clause-ends
+returns-in-Err-take-clause-ends g c = λ bytes entries h.
+    let filled = c.in-Ok-true.ensures in
+    rw (← filled.first, ← filled.limit)
+    (c.in-Err-take.ensures.ends bytes (g.I.Source.left c.fill.new.input) entries
+    (filled.read bytes entries h))
