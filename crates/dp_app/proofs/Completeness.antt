@@ -25,7 +25,8 @@ use Rattle.dp_words.specs.declared.command_line.CommandLine.{CommandLine}
 use Rattle.dp_words.specs.declared.command_line.CommandLine.TheVariants.{Replay, World, Play, Join}
 use Rattle.dp_words.specs.declared.command_line.CommandLine.TheVariants.{Serve}
 use Rattle.dp_world.specs.Schedule.{WorldComesTo, world_limit}
-use Rattle.dp_world.specs.RunEnds.{Blames, WorldLeaves}
+use Rattle.dp_lines.specs.RunEnds.{Blames}
+use Rattle.dp_world.specs.RunEnds.{WorldLeaves}
 use Rattle.dp_app.specs.declared.ending.Ending.{Ending}
 use Rattle.dp_app.specs.declared.ending.Ending.TheVariants.{Usage, NoLink, NoWords, Run}
 use Rattle.dp_app.specs.Answer.{Answer, CommandLeaves, DueOf, HasHeadline, IsDue, IsGiven, Says}

@@ -13,7 +13,7 @@ use Rattle.dp_lines.specs.declared.run_end.RunEnd.TheVariants.{Done, BadLine, Re
 use Rattle.dp_lines.specs.declared.run_end.RunEnd.TheVariants.{Memory, Long, Truncated, BadMessage}
 use Rattle.dp_lines.specs.declared.run_end.RunEnd.TheVariants.{BadHeader, Closed, LinkFault}
 use Rattle.dp_wire.specs.Links.{Links}
-use Rattle.dp_world.specs.RunEnds.{Blames}
+use Rattle.dp_lines.specs.RunEnds.{Blames}
 use Rattle.dp_words.specs.declared.command_line.CommandLine.{CommandLine}
 use Rattle.dp_words.specs.declared.command_line.CommandLine.TheVariants.{Join}
 use Rattle.dp_app.specs.declared.ending.Ending.{Ending}

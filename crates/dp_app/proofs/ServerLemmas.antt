@@ -7,7 +7,7 @@ use Rattle.dp_io.specs.Faults.{Rose}
 use Rattle.dp_lines.specs.declared.run_end.RunEnd.{RunEnd}
 use Rattle.dp_lines.specs.declared.run_end.RunEnd.TheVariants.{Done, LinkFault, Memory}
 use Rattle.dp_serve.specs.Serving.{Seen}
-use Rattle.dp_world.specs.RunEnds.{Blames}
+use Rattle.dp_lines.specs.RunEnds.{Blames}
 use Rattle.dp_words.specs.declared.command_line.CommandLine.{CommandLine}
 use Rattle.dp_words.specs.declared.command_line.CommandLine.TheVariants.{Join, Serve}
 use Rattle.dp_app.specs.declared.ending.Ending.{Ending}

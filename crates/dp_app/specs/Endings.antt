@@ -4,7 +4,7 @@ use Rattle.std.specs.declared.string.String.{String}
 use Rattle.std.specs.Io.KnownBytes.{Keeps}
 use Rattle.dp_lines.specs.declared.run_end.RunEnd.TheVariants.{Memory}
 use Rattle.dp_words.specs.declared.command_line.CommandLine.{CommandLine}
-use Rattle.dp_world.specs.RunEnds.{Blames}
+use Rattle.dp_lines.specs.RunEnds.{Blames}
 use Rattle.dp_app.specs.declared.ending.Ending.{Ending}
 use Rattle.dp_app.specs.declared.ending.Ending.TheVariants.{Usage, NoLink, NoWords, Run}
 use Rattle.dp_app.specs.Answer.{CommandLeaves, line_of, no_link_line, status_of, usage_line}

@@ -8,7 +8,7 @@ ghost use Rattle.dp_lines.specs.declared.run_end.RunEnd.{RunEnd};
 ghost use Rattle.dp_lines.specs.declared.run_end.RunEnd.TheVariants.{Memory};
 ghost use Rattle.dp_words.specs.declared.command_line.CommandLine.{CommandLine};
 ghost use Rattle.dp_words.specs.declared.command_line.CommandLine.TheVariants.{Join, Serve};
-ghost use Rattle.dp_world.specs.RunEnds.{Blames};
+ghost use Rattle.dp_lines.specs.RunEnds.{Blames};
 ghost use Rattle.dp_app.specs.Answer.{Answer, CommandLeaves, HasHeadline, IsDue, IsGiven};
 ghost use Rattle.dp_app.specs.Answer.{Says, SaysNoLink, SaysUsage};
 ghost use Rattle.dp_app.specs.Commands.{AskForLink, AskForRun, Asks, IsCommand, IsWorld, Runs};

@@ -10,7 +10,7 @@ use Rattle.dp_messages.specs.Equality.{same_message}
 use Rattle.dp_messages.specs.Properties.{carried_by, command_of, is_filtered, marked}
 use Rattle.dp_plain.specs.Board.{Board}
 use Rattle.dp_plain.specs.Commands.{draw_all}
-use Rattle.dp_plain.specs.Replay.{replay}
+use Rattle.dp_replay.specs.Replay.{replay}
 use Rattle.dp_client.specs.declared.own.Own.{Own}
 use Rattle.dp_client.specs.declared.own.Own.TheVariants.{Stranger, Echo, Dropped, Lost}
 use Rattle.dp_client.specs.declared.client.Taken.{Taken}

@@ -4,7 +4,8 @@ ghost use Rattle.std.specs.Prelude.{◌≡◌, ◌<◌};
 
 use crate::Client;
 use dp_blend::Pixel;
-use dp_frame::{Octets, Splitter};
+use dp_frame::Octets;
+use dp_split::Splitter;
 use dp_messages::{Entry, decode};
 use dp_plain::{BoardView, PlainBoard};
 use dp_steps::Steps;

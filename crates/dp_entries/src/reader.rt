@@ -15,9 +15,9 @@ ghost use Rattle.dp_entries.specs.Reader.{HasRead, measure_of, room_of};
 ghost use Rattle.dp_entries.specs.Reading.{Blames, EndsReading, EndsWithInput};
 
 use crate::{ReadEnd, Refusal, Standing};
-use dp_frame::Splitter;
 use dp_io::{Failed, Source};
 use dp_messages::Entry;
+use dp_split::Splitter;
 use std::alloc::{AllocError, Global};
 use std::marker::{Model, PhantomData};
 

@@ -6,8 +6,8 @@ ghost use Rattle.dp_entries.specs.Ends.{IfCause};
 ghost use Rattle.dp_entries.specs.Reading.{TakesBad, TakesEntry};
 
 use crate::{Refusal, Standing};
-use dp_frame::Splitter;
 use dp_messages::Entry;
+use dp_split::Splitter;
 use std::alloc::Global;
 
 /// Why no entry is taken: the frame at this byte of the splitter's stream may not stand there, or

@@ -1,10 +1,10 @@
 //! Three frames in pieces of each length, with failing reads, at limits, and after other bytes.
 
 use super::*;
-use dp_frame::Splitter;
 use dp_io::MemSource;
 use dp_lines::RunEnd;
 use dp_messages::DecodeError;
+use dp_split::Splitter;
 use std::alloc::Global;
 use std::process::Abort;
 use std::test::Fail;

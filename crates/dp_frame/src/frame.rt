@@ -95,7 +95,7 @@ impl<'a> Model for FrameView<'a> {
 
 impl<'a> FrameView<'a> {
     /// The frame of this type byte, context byte and payload.
-    pub(crate) fn new(kind: u8, user: u8, body: &'a [u8]) -> FrameView<'a>
+    pub fn new(kind: u8, user: u8, body: &'a [u8]) -> FrameView<'a>
         requires { length body.now < 2 ^ 16 }
         ensures { result ≡ record { kind = kind; user = user; body = body.now } }
     {

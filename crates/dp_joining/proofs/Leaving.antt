@@ -23,7 +23,7 @@ use Rattle.dp_script.specs.declared.machine.ScriptEnd.TheVariants.{Memory, Ended
 use Rattle.dp_script.specs.Ends.{BlamesInput}
 use Rattle.dp_script.specs.Leaves.{HoldsLines, IsFrontOf, IsNextOf, ScriptLeaves}
 use Rattle.dp_script.specs.Moments.{Moment}
-use Rattle.dp_script.specs.TakenParts.{TookWithin}
+use Rattle.dp_lines.specs.TakenParts.{TookWithin}
 use Rattle.dp_joining.specs.declared.stops.JoinStop.{JoinStop}
 use Rattle.dp_joining.specs.declared.stops.JoinStop.TheVariants as stop
 use Rattle.dp_joining.specs.declared.stops.LinkCause.{LinkCause}

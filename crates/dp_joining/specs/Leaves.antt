@@ -13,7 +13,7 @@ use Rattle.dp_lines.specs.Ends.{LinesComeTo, seen}
 use Rattle.dp_lines.specs.Ends as ends
 use Rattle.dp_schedule.specs.declared.join_action.JoinAction.{JoinAction}
 use Rattle.dp_script.specs.Leaves.{HoldsLines, IsFrontOf}
-use Rattle.dp_script.specs.TakenParts.{TookWithin}
+use Rattle.dp_lines.specs.TakenParts.{TookWithin}
 use Rattle.dp_joining.specs.Greetings.{newcomer}
 use Rattle.dp_joining.specs.Joining.{Joining, Went, Goes, farewell_bytes, greeted, is_closed}
 use Rattle.dp_joining.specs.Joining.{joined}

@@ -3,4 +3,6 @@ pub mod Held
 pub mod Hexadecimal
 pub mod Lines
 pub mod Numbers
+pub mod RunEnds
 pub mod Taken
+pub mod TakenParts

@@ -7,7 +7,7 @@ use Rattle.std.proofs.lemmas.Bool.{cases_lt}
 use Rattle.std.proofs.lemmas.List.{take-append-drop, length-take-le, take_all}
 use Rattle.std.specs.Io.KnownBytes.{Consumes, Keeps}
 use Rattle.dp_frame.specs.Frames.{FrameParts, IsFrame, spelling, HoldsNoFrame}
-use Rattle.dp_frame.specs.Stream.{Stream}
+use Rattle.dp_split.specs.Stream.{Stream}
 use Rattle.dp_link.specs.declared.pieces.PieceEnd.TheVariants.{Memory}
 use Rattle.dp_link.specs.declared.ends.GreetEnd.TheVariants as greet
 use Rattle.dp_link.specs.Hello.{ReadsName}

@@ -14,7 +14,7 @@ use Rattle.dp_events.specs.Rows.{has_room}
 use Rattle.dp_epochs.specs.State.{State, acted, opened_as, stays, is_name, free_id}
 use Rattle.dp_epochs.specs.Past.{Past, Step, Serves, Accepts, FailsFirst, Refuses, state_of}
 use Rattle.std.specs.Io.KnownBytes.{Keeps}
-use Rattle.dp_frame.specs.Stream.{Stream}
+use Rattle.dp_split.specs.Stream.{Stream}
 use Rattle.dp_hall.specs.Laws.{Continues}
 use Rattle.dp_link.specs.declared.ends.Greeting.{Greeting}
 use Rattle.dp_link.specs.declared.ends.GreetEnd.{GreetEnd}

@@ -7,7 +7,7 @@ use Rattle.std.specs.declared.alloc.AllocError.{AllocError}
 use Rattle.dp_io.specs.Faults.{Rose}
 use Rattle.dp_io.specs.Streams.{GrowsByPrefix}
 use Rattle.dp_frame.specs.Frames.{HoldsNoFrame}
-use Rattle.dp_frame.specs.Stream.{Stream}
+use Rattle.dp_split.specs.Stream.{Stream}
 use Rattle.dp_hall.specs.Laws.{Continues}
 use Rattle.dp_messages.specs.Messages.{entry_bytes}
 use Rattle.dp_messages.specs.declared.message.Msg.{Msg}

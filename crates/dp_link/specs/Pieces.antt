@@ -3,7 +3,7 @@ use Rattle.std.specs.Prelude.{◌≡◌, ◌↔◌, ℕ, ◌-◌, ◌<◌, ◌�
 use Rattle.std.specs.Prelude.{take, slice_index, Option, Result, Ok, Err}
 use Rattle.std.specs.Io.KnownBytes.{Consumes}
 use Rattle.dp_io.specs.Faults.{Rose}
-use Rattle.dp_frame.specs.Stream.{Stream}
+use Rattle.dp_split.specs.Stream.{Stream}
 use Rattle.dp_link.specs.declared.pieces.PieceEnd.{PieceEnd}
 use Rattle.dp_link.specs.declared.pieces.PieceEnd.TheVariants.{ReadFault, End, Memory}
 use Rattle.dp_link.specs.Bytes.{link_limit}

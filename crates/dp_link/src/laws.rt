@@ -3,7 +3,7 @@
 ghost use Rattle.std.specs.Prelude.{ℕ, List, Ok};
 ghost use Rattle.std.specs.declared.option.Option.{Option};
 ghost use mathlib.Core.List.{IsPrefix};
-ghost use Rattle.dp_frame.specs.Stream.{Stream};
+ghost use Rattle.dp_split.specs.Stream.{Stream};
 ghost use Rattle.dp_session_laws.specs.Logs.{HasOpened};
 ghost use Rattle.dp_link.specs.declared.ends.Greeting.{Greeting as Greeted};
 ghost use Rattle.dp_link.specs.Acts.{Act, SeatView};

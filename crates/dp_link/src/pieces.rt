@@ -6,7 +6,7 @@ ghost use Rattle.std.specs.Io.KnownBytes.{IsAtEnd};
 ghost use Rattle.dp_link.specs.Bytes.{link_limit};
 ghost use Rattle.dp_link.specs.Pieces.{ReadsPiece, BlamesPiece, room_after};
 
-use dp_frame::Splitter;
+use dp_split::Splitter;
 use dp_io::{Failed, Source};
 use std::alloc::AllocError;
 

@@ -13,7 +13,7 @@ use crate::acting::{act_once, act_silently};
 use crate::messages::{BadFrame, take_message};
 use crate::pieces::{PieceEnd, read_piece};
 use dp_events::{Event, Reply};
-use dp_frame::Splitter;
+use dp_split::Splitter;
 use dp_hall::{Hall, Seat, calls_add_up};
 use dp_io::Source;
 use dp_keeper::Keeper;

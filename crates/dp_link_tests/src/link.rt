@@ -7,7 +7,7 @@ ghost use Rattle.dp_epochs.specs.Laws.{ShutBefore};
 ghost use Rattle.dp_link.specs.Acts.{Act};
 
 use dp_events::{Event, Journal, Reply, Shut};
-use dp_frame::Splitter;
+use dp_split::Splitter;
 use dp_hall::{Hall, HallError, Seat, calls_add_up, seats_come_back};
 use dp_io::{Sink, Source};
 use dp_keeper::Keeper;

@@ -5,6 +5,4 @@ pub mod Rows
 pub mod Views
 pub mod Remaking
 pub mod Holds
-pub mod Replays
-pub mod Counts
 pub mod Pixels

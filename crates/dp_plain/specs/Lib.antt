@@ -5,6 +5,4 @@ pub mod Weights
 pub mod Moves
 pub mod View
 pub mod Picture
-pub mod Replay
-pub mod Kinds
 pub mod Counts

@@ -1,4 +1,4 @@
-//! The board of a session, and the replay of a history on it.
+//! The board of a session.
 //!
 //! What a layer holds is a `LayerPixels`; a `LayeredBoard` draws every command on contents of one
 //! kind. The boards over plain lists of pixels (`PlainBoard`) are the slow ones with which others
@@ -10,7 +10,6 @@ mod laws;
 mod layer_pixels;
 mod layered;
 mod plain;
-mod replay;
 mod resize;
 mod trees;
 mod view;
@@ -20,5 +19,4 @@ pub use laws::spelled_commands_keep_pixels;
 pub use layer_pixels::LayerPixels;
 pub use layered::LayeredBoard;
 pub use plain::{PlainBoard, PlainPixels};
-pub use replay::{UNDO_DEPTH, act_of, act_of_entry, is_command, plain_replay, replay_on, show_on};
 pub use view::BoardView;

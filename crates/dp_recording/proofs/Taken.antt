@@ -4,7 +4,7 @@ use Rattle.std.proofs.Common.{None}
 use Rattle.std.proofs.Common.{ap, arith, refl, subst, sym, ◌∙◌}
 use Rattle.std.proofs.lemmas.List.{append_assoc, length-append, length-drop, take-append-drop}
 use Rattle.std.specs.Io.KnownBytes.{Consumes}
-use Rattle.dp_script.specs.TakenParts.{TookWithin}
+use Rattle.dp_lines.specs.TakenParts.{TookWithin}
 use Rattle.dp_recording.specs.Headers.{IsHeader, IsShort}
 use Rattle.dp_messages.specs.declared.message.Entry.{Entry}
 use Rattle.dp_entries.specs.Reader.{Reader}

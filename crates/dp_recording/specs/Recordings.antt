@@ -6,7 +6,7 @@ use Rattle.dp_io.specs.Faults.{Rose}
 use Rattle.dp_messages.specs.declared.message.Entry.{Entry}
 use Rattle.dp_lines.specs.declared.run_end.RunEnd.{RunEnd}
 use Rattle.dp_lines.specs.declared.run_end.RunEnd.TheVariants as run
-use Rattle.dp_script.specs.TakenParts.{TookWithin}
+use Rattle.dp_lines.specs.TakenParts.{TookWithin}
 use Rattle.dp_entries.specs.declared.ends.ReadEnd.{ReadEnd}
 use Rattle.dp_entries.specs.declared.ends.ReadEnd.TheVariants as read
 use Rattle.dp_messages.specs.declared.decoder.DecodeError.{DecodeError}

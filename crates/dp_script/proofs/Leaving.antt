@@ -12,7 +12,7 @@ use Rattle.dp_lines.specs.Ends.{AreSteps, seen}
 use Rattle.dp_lines.specs.Held.{Held, IsLeft, NextIsLong, ended_from, lines_from}
 use Rattle.dp_lines.specs.Lines.{ended, open_rest, if_any, is_comment, is_overlong, line_limit}
 use Rattle.dp_lines.specs.Lines.{numbered}
-use Rattle.dp_script.specs.TakenParts.{TookWithin}
+use Rattle.dp_lines.specs.TakenParts.{TookWithin}
 use Rattle.dp_script.specs.declared.machine.ScriptEnd.{ScriptEnd}
 use Rattle.dp_script.specs.declared.machine.ScriptEnd.TheVariants.{Done, BadLine, ReadFault, Long}
 use Rattle.dp_script.specs.declared.machine.ScriptEnd.TheVariants.{Memory, Ended}

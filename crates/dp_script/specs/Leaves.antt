@@ -6,7 +6,7 @@ use Rattle.dp_lines.specs.Ends.{AreSteps, LinesComeTo, seen}
 use Rattle.dp_lines.specs.Ends as ends
 use Rattle.dp_lines.specs.Held.{IsInLimit}
 use Rattle.dp_lines.specs.Lines.{ended, open_rest, is_overlong, numbered}
-use Rattle.dp_script.specs.TakenParts.{TookWithin}
+use Rattle.dp_lines.specs.TakenParts.{TookWithin}
 use Rattle.dp_script.specs.declared.machine.ScriptEnd.{ScriptEnd}
 use Rattle.dp_script.specs.declared.machine.ScriptEnd.TheVariants.{Done, BadLine, ReadFault, Long}
 use Rattle.dp_script.specs.declared.machine.ScriptEnd.TheVariants.{Memory, Ended}

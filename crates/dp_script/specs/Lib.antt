@@ -1,4 +1,3 @@
-pub mod TakenParts
 pub mod Moments
 pub mod Ends
 pub mod Progress

@@ -1,7 +1,7 @@
 //! The run over the lines of a source.
 
 ghost use Rattle.std.specs.Prelude.{◌-◌, ◌^◌, ◌<◌, ◌≤◌, [], IfSome};
-ghost use Rattle.dp_script.specs.TakenParts.{TookWithin};
+ghost use Rattle.dp_lines.specs.TakenParts.{TookWithin};
 ghost use Rattle.dp_script.specs.Ends.{BlamesInput};
 ghost use Rattle.dp_script.specs.Leaves.{HoldsNoCause, ScriptLeaves};
 ghost use Rattle.dp_script.specs.Moments.{moment};

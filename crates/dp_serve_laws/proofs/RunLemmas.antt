@@ -5,7 +5,7 @@ use Rattle.std.proofs.lemmas.Bool.{eqb-true, eq-eqb}
 use Rattle.dp_hall.specs.Names.{IsIn}
 use Rattle.dp_hall.proofs.ListLemmas.{in_left, in_more, is_not}
 use Rattle.dp_messages.specs.declared.message.Msg.{Msg}
-use Rattle.dp_frame.specs.Stream.{Stream}
+use Rattle.dp_split.specs.Stream.{Stream}
 use Rattle.dp_events.specs.declared.event.Event.TheVariants.{Open, Say, Close}
 use Rattle.dp_events.specs.declared.event.Reply.{Reply}
 use Rattle.dp_events.specs.declared.event.Reply.TheVariants as reply

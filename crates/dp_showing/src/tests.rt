@@ -5,7 +5,7 @@ ghost use Rattle.std.specs.Prelude.{◌≡◌, ◌<◌};
 use super::*;
 use dp_client::Client;
 use dp_flat::PictureEnd;
-use dp_frame::Splitter;
+use dp_split::Splitter;
 use dp_io::MemSink;
 use dp_messages::{Entry, decode};
 use dp_steps::Steps;

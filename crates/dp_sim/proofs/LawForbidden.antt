@@ -8,7 +8,7 @@ use Rattle.dp_messages.specs.Messages.{kind_of}
 use Rattle.dp_board.specs.Commands.{drawn_commands}
 use Rattle.dp_plain.specs.Board.{empty_board}
 use Rattle.dp_plain.specs.Commands.{draw}
-use Rattle.dp_plain.specs.Replay.{replay, user_act_of, undo_depth}
+use Rattle.dp_replay.specs.Replay.{replay, user_act_of, undo_depth}
 use Rattle.dp_acl.specs.Laws.{ForbiddenChangesNoRight}
 use Rattle.dp_acl.specs.Laws as acl
 use Rattle.dp_acl.specs.Permitted.{permitted}

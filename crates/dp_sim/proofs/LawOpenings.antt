@@ -19,7 +19,7 @@ use Rattle.dp_board.specs.Strokes.{no_strokes, last_of}
 use Rattle.dp_board.specs.Commands.{command_of, commands}
 use Rattle.dp_plain.specs.Board.{empty_board}
 use Rattle.dp_plain.specs.Commands.{draw, draw_all}
-use Rattle.dp_plain.specs.Replay.{replay, act_of_message, user_act_of, undo_depth}
+use Rattle.dp_replay.specs.Replay.{replay, act_of_message, user_act_of, undo_depth}
 use Rattle.dp_acl.specs.LookBack.{joined, is_join_of}
 use Rattle.dp_acl.specs.Carried.{carried}
 use Rattle.dp_acl.specs.Opening.{server_entry, command_entry, last_join, opening}

@@ -6,7 +6,7 @@ use Rattle.std.proofs.Common.{refl, sym, ap, subst, ◌∙◌, ⊎_elim, arith, 
 use Rattle.std.specs.Prelude.{slice_set, IfSome, nat_lt, nat_le}
 use Rattle.std.specs.List.{slice_get, filter_map}
 use Rattle.dp_plain.specs.Commands.{draw_all}
-use Rattle.dp_plain.specs.Replay.{replay}
+use Rattle.dp_replay.specs.Replay.{replay}
 use Rattle.std.proofs.Math.ListN.{length-set}
 use Rattle.std.proofs.lemmas.Bool.{cond_both, cases_eq, cases_lt, eq-eqb, ne_eqb, ltb-true}
 use Rattle.std.proofs.lemmas.Bool.{and_from, and_parts}

@@ -3,7 +3,7 @@ use Rattle.std.specs.Prelude.{◌≡◌, ℕ, IfSome, List, ◌++◌, take}
 use Rattle.std.specs.List.{filter_map}
 use Rattle.dp_messages.specs.declared.message.Entry.{Entry}
 use Rattle.dp_plain.specs.Commands.{draw_all}
-use Rattle.dp_plain.specs.Replay.{replay}
+use Rattle.dp_replay.specs.Replay.{replay}
 use Rattle.dp_messages.specs.Properties.{command_of}
 use Rattle.dp_client.specs.Client as client
 use Rattle.dp_acl.specs.Permitted.{permitted}

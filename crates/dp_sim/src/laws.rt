@@ -6,7 +6,7 @@ ghost use Rattle.dp_messages.specs.declared.message.Entry.{Entry};
 ghost use Rattle.dp_msg_draw.specs.declared.draw.Draw.{Draw};
 ghost use Rattle.dp_plain.specs.Board.{empty_board};
 ghost use Rattle.dp_plain.specs.Commands.{draw_all};
-ghost use Rattle.dp_plain.specs.Replay.{replay};
+ghost use Rattle.dp_replay.specs.Replay.{replay};
 ghost use Rattle.dp_schedule.specs.declared.action.Action.{Action};
 ghost use Rattle.dp_sim.specs.World.{World, first_world, after, world_after};
 ghost use Rattle.dp_sim.specs.Invariant.{IsWorld};

@@ -16,7 +16,7 @@ use Rattle.dp_layers.specs.Rows.{Row}
 use Rattle.dp_layers.specs.Tree.{IsTree}
 use Rattle.dp_plain.specs.Board.{Board, Covers, HasPixels, IsBoard, empty_board}
 use Rattle.dp_plain.specs.Commands.{draw}
-use Rattle.dp_plain.specs.Replay.{act_of_message, user_act_of}
+use Rattle.dp_replay.specs.Replay.{act_of_message, user_act_of}
 
 -- a command that is drawn is that of a message
 command_spelled : (user : ℕ) (m : Msg) (flag : Bool) → HasSpelling m

@@ -10,7 +10,7 @@ ghost use Rattle.dp_messages.specs.Messages.{HasSpelling};
 ghost use Rattle.dp_msg_draw.specs.declared.draw.Draw.{Draw as Message};
 ghost use Rattle.dp_plain.specs.Board.{Board, HasPixels, IsBoard, empty_board};
 ghost use Rattle.dp_plain.specs.Commands.{draw, draw_all};
-ghost use Rattle.dp_plain.specs.Replay.{replay};
+ghost use Rattle.dp_replay.specs.Replay.{replay};
 ghost use Rattle.dp_snap.specs.Snapshot.{snapshot};
 ghost use Rattle.dp_snap_laws.specs.Acts.{commands_of, IsNoPoint};
 

@@ -6,13 +6,13 @@ use Rattle.dp_io.specs.Streams.{GrowsByPrefix}
 use Rattle.dp_messages.specs.declared.message.Entry.{Entry}
 use Rattle.dp_msg_draw.specs.declared.draw.Draw.{Draw}
 use Rattle.dp_plain.specs.Board.{Board}
-use Rattle.dp_plain.specs.Replay.{shown}
+use Rattle.dp_replay.specs.Replay.{shown}
 use Rattle.dp_plain.specs.Picture.{p6}
 use Rattle.dp_lines.specs.declared.run_end.RunEnd.{RunEnd}
 use Rattle.dp_lines.specs.declared.run_end.RunEnd.TheVariants.{Done, BadLine, ReadFault, WriteFault}
 use Rattle.dp_lines.specs.declared.run_end.RunEnd.TheVariants.{LinkFault, Memory, Long, Truncated}
 use Rattle.dp_lines.specs.declared.run_end.RunEnd.TheVariants.{BadMessage, Closed, BadHeader}
-use Rattle.dp_world.specs.RunEnds.{Blames}
+use Rattle.dp_lines.specs.RunEnds.{Blames}
 use Rattle.dp_rollback.specs.Trailing.{Trailing}
 use Rattle.dp_viewer.specs.Ways.{Way}
 use Rattle.dp_viewer.specs.Reading.{EndsReading, BlamesReading, ReadsToEnd, TrailsShown}

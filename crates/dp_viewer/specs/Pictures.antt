@@ -3,7 +3,7 @@ use Rattle.std.specs.Prelude.{ℕ, List, [], Option, IfSome}
 use Rattle.std.specs.Io.KnownBytes.{Appends, Keeps, IsAtEnd}
 use Rattle.dp_io.specs.Streams.{GrowsByPrefix}
 use Rattle.dp_messages.specs.declared.message.Entry.{Entry}
-use Rattle.dp_plain.specs.Replay.{shown}
+use Rattle.dp_replay.specs.Replay.{shown}
 use Rattle.dp_plain.specs.Picture.{p6}
 use Rattle.dp_lines.specs.declared.run_end.RunEnd.{RunEnd}
 use Rattle.dp_lines.specs.declared.run_end.RunEnd.TheVariants.{Done, BadLine, ReadFault, WriteFault}

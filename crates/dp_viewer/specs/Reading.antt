@@ -10,7 +10,7 @@ use Rattle.dp_messages.specs.declared.message.Entry.{Entry}
 use Rattle.dp_msg_draw.specs.declared.draw.Draw.{Draw}
 use Rattle.dp_plain.specs.Board.{Board, empty_board}
 use Rattle.dp_plain.specs.Commands.{draw}
-use Rattle.dp_plain.specs.Replay.{is_mark, shown, undo_depth, user_act_of}
+use Rattle.dp_replay.specs.Replay.{is_mark, shown, undo_depth, user_act_of}
 use Rattle.dp_plain.specs.Picture.{p6}
 use Rattle.dp_lines.specs.declared.run_end.RunEnd.{RunEnd}
 use Rattle.dp_lines.specs.declared.run_end.RunEnd.TheVariants.{Done, BadLine, ReadFault, WriteFault}

@@ -1,7 +1,7 @@
 //! The commands `replay` and `play`: an input whose picture is written.
 
 ghost use Rattle.std.specs.Prelude.{◌≤◌, IsTrue};
-ghost use Rattle.dp_world.specs.RunEnds.{Blames};
+ghost use Rattle.dp_lines.specs.RunEnds.{Blames};
 ghost use Rattle.dp_viewer.specs.Pictures.{PictureLeaves};
 ghost use Rattle.dp_viewer.specs.Reading.{ReadsToEnd, WritesShown};
 ghost use Rattle.dp_viewer.specs.Ways.{play_way, replay_way};

@@ -3,7 +3,7 @@ use Rattle.std.specs.Prelude.{◌≡◌, ℕ, ◌+◌, ◌||◌, Bool, true, fal
 use Rattle.std.specs.Prelude.{Option, None, Some, Result, Ok, Err}
 use Rattle.std.specs.List.{list_any}
 use Rattle.std.specs.Io.KnownBytes.{Appends, Consumes, IsAtEnd}
-use Rattle.dp_frame.specs.Stream.{Stream}
+use Rattle.dp_split.specs.Stream.{Stream}
 use Rattle.dp_messages.specs.Messages.{entry_bytes}
 use Rattle.dp_events.specs.declared.event.Event.TheVariants.{Open}
 use Rattle.dp_events.specs.declared.event.Reply.TheVariants.{StoreFault}

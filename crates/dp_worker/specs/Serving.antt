@@ -1,7 +1,7 @@
 -- Parts of serving a link.
 use Rattle.std.specs.Prelude.{◌≡◌, ℕ, Bool, true, false, List, [], Option, None, Some}
 use Rattle.std.specs.Io.KnownBytes.{IsAtEnd}
-use Rattle.dp_frame.specs.Stream.{Stream}
+use Rattle.dp_split.specs.Stream.{Stream}
 use Rattle.dp_events.specs.declared.event.Reply.TheVariants.{StoreFault}
 use Rattle.dp_hall.specs.Calls.{JoinsInto}
 use Rattle.dp_hall.specs.Laws.{Continues}

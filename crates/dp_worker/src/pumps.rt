@@ -13,7 +13,7 @@ ghost use Rattle.dp_link.specs.declared.ends.UpEnd.TheVariants.{End};
 ghost use Rattle.dp_worker.specs.Links.{link_seen};
 ghost use Rattle.dp_worker.specs.Serving.{Pumps};
 
-use dp_frame::Splitter;
+use dp_split::Splitter;
 use dp_hall::{Hall, Seat};
 use dp_io::{Sink, Source};
 use dp_keeper::Keeper;

@@ -10,7 +10,7 @@ use Rattle.dp_lines.specs.declared.line.Line.{Line}
 use Rattle.dp_lines.specs.declared.run_end.RunEnd.TheVariants as run
 use Rattle.dp_lines.specs.Ends.{AreSteps, LinesEnd, LinesComeTo, seen}
 use Rattle.dp_lines.specs.Ends as ends
-use Rattle.dp_script.specs.TakenParts.{TookWithin}
+use Rattle.dp_lines.specs.TakenParts.{TookWithin}
 use Rattle.dp_script.specs.declared.machine.ScriptEnd.{ScriptEnd}
 use Rattle.dp_script.specs.declared.machine.ScriptEnd.TheVariants.{Done, BadLine, ReadFault, Long}
 use Rattle.dp_script.specs.declared.machine.ScriptEnd.TheVariants.{Memory, Ended}
@@ -20,7 +20,8 @@ use Rattle.dp_script.specs.Moments.{Moment}
 use Rattle.dp_sim.specs.World.{World, first_world}
 use Rattle.dp_world.specs.Schedule.{AskFor, IsStep, world_limit}
 use Rattle.dp_world.specs.Progress.{HasDone, HasEnded, Wrote}
-use Rattle.dp_world.specs.RunEnds.{Blames, ReportsOf, ReportsPart}
+use Rattle.dp_lines.specs.RunEnds.{Blames}
+use Rattle.dp_world.specs.RunEnds.{ReportsOf, ReportsPart}
 use Rattle.dp_world.specs.RunEnds.{ReportsWhole, TookNoCause, WorldLeaves, run_end_of}
 use Rattle.dp_world.proofs.Called.{FurtherStep}
 use Rattle.dp_world.proofs.Progress.{wrote_done}

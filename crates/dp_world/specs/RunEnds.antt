@@ -1,7 +1,6 @@
--- What a run of a schedule leaves, and which counts of faults rise in it.
+-- What a run of a schedule leaves.
 use Rattle.std.specs.Prelude.{◌≡◌, ℕ, List, ◌++◌, Option, Some, IfSome}
 use Rattle.std.specs.Io.KnownBytes.{Appends, IsAtEnd}
-use Rattle.dp_io.specs.Faults.{Rose}
 use Rattle.dp_io.specs.Streams.{GrowsByPrefix}
 use Rattle.dp_flat.specs.declared.picture.PictureEnd.{PictureEnd}
 use Rattle.dp_flat.specs.declared.picture.PictureEnd.TheVariants as picture
@@ -13,7 +12,7 @@ use Rattle.dp_lines.specs.declared.run_end.RunEnd.TheVariants.{BadMessage, Close
 use Rattle.dp_lines.specs.Ends.{LinesEnd, AreSteps, seen}
 use Rattle.dp_lines.specs.Ends as ends
 use Rattle.dp_lines.specs.Lines.{ended, numbered}
-use Rattle.dp_script.specs.TakenParts.{TookWithin}
+use Rattle.dp_lines.specs.TakenParts.{TookWithin}
 use Rattle.dp_schedule.specs.declared.action.Action.{Action}
 use Rattle.dp_script.specs.declared.machine.ScriptEnd.{ScriptEnd}
 use Rattle.dp_script.specs.declared.machine.ScriptEnd.TheVariants as script
@@ -92,21 +91,3 @@ WorldLeaves input left old new (Truncated n) = ⊥
 WorldLeaves input left old new (BadMessage n) = ⊥
 WorldLeaves input left old new Closed = ⊥
 WorldLeaves input left old new BadHeader = ⊥
-
--- What the counts of faults of the input and the output do in a run that ends so: that of the fault
--- rises, and each other stays what it was.
-abbrev pub Blames : ℕ → ℕ → ℕ → ℕ → RunEnd → Type 0
-Blames input input_now output output_now ReadFault = Rose input input_now × (output_now ≡ output)
-Blames input input_now output output_now WriteFault = (input_now ≡ input) × Rose output output_now
-Blames input input_now output output_now Done = (input_now ≡ input) × (output_now ≡ output)
-Blames input input_now output output_now (BadLine n) =
-    (input_now ≡ input) × (output_now ≡ output)
-Blames input input_now output output_now LinkFault = (input_now ≡ input) × (output_now ≡ output)
-Blames input input_now output output_now Memory = (input_now ≡ input) × (output_now ≡ output)
-Blames input input_now output output_now Long = (input_now ≡ input) × (output_now ≡ output)
-Blames input input_now output output_now (Truncated n) =
-    (input_now ≡ input) × (output_now ≡ output)
-Blames input input_now output output_now (BadMessage n) =
-    (input_now ≡ input) × (output_now ≡ output)
-Blames input input_now output output_now Closed = (input_now ≡ input) × (output_now ≡ output)
-Blames input input_now output output_now BadHeader = (input_now ≡ input) × (output_now ≡ output)

@@ -1,7 +1,8 @@
 //! Running a schedule.
 
 ghost use Rattle.std.specs.Prelude.{◌≡◌, ◌≤◌};
-ghost use Rattle.dp_world.specs.RunEnds.{Blames, WorldLeaves, run_end_of};
+ghost use Rattle.dp_lines.specs.RunEnds.{Blames};
+ghost use Rattle.dp_world.specs.RunEnds.{WorldLeaves, run_end_of};
 
 use crate::line_run::WorldRun;
 use dp_flat::PictureEnd;

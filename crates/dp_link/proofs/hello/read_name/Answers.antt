@@ -1,6 +1,6 @@
 use Rattle.std.proofs.Common.{◌∙◌, sym, subst, ap, arith, length}
 use Rattle.dp_frame.specs.Frames.{HoldsNoFrame}
-use Rattle.dp_frame.specs.Stream.{Stream}
+use Rattle.dp_split.specs.Stream.{Stream}
 use Rattle.dp_link.proofs.PieceLemmas.{HoldsRead, reads-more, reads-lost}
 use Rattle.dp_link.proofs.hello.read_name.Goals as goal
 

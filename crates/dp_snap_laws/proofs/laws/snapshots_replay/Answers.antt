@@ -2,7 +2,7 @@ use Rattle.std.proofs.Common.{◌∙◌, ap}
 use Rattle.std.specs.List.{fold}
 use Rattle.dp_plain.specs.Board.{empty_board}
 use Rattle.dp_plain.specs.Commands.{draw}
-use Rattle.dp_plain.specs.Replay.{replay}
+use Rattle.dp_replay.specs.Replay.{replay}
 use Rattle.dp_snap_laws.proofs.Snapshots.{snapshot_drawn, all_drawn}
 use Rattle.dp_snap_laws.proofs.laws.snapshots_replay.Goals as goal
 

@@ -8,7 +8,7 @@ use Rattle.dp_io.specs.Faults.{Rose}
 use Rattle.dp_io.specs.Streams.{GrowsByPrefix}
 use Rattle.dp_plain.specs.Board.{Board, empty_board}
 use Rattle.dp_plain.specs.Picture.{p6}
-use Rattle.dp_plain.specs.Replay.{is_mark, undo_depth, user_act_of}
+use Rattle.dp_replay.specs.Replay.{is_mark, undo_depth, user_act_of}
 use Rattle.dp_viewer.proofs.pictures.write_shown.Goals as goal
 
 pub returns-in-Ok-write_p6-clause-shown : goal.returns-in-Ok-write_p6-clause-shown

@@ -1,6 +1,6 @@
 use Rattle.std.proofs.Common.{◌+◌, refl, sym, subst, drop, length}
 use Rattle.dp_frame.specs.Frames.{spelling}
-use Rattle.dp_frame.specs.Stream.{Stream}
+use Rattle.dp_split.specs.Stream.{Stream}
 use Rattle.dp_entries.specs.Ends.{refused_at}
 use Rattle.dp_entries.specs.Reader.{Reader, HasRead}
 use Rattle.dp_entries.specs.Reading.{EndsReading}

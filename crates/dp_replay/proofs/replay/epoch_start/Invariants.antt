@@ -1,7 +1,7 @@
 use Rattle.std.proofs.Common.{◌≡◌, ℕ, ◌<◌, ◌≤◌, false, length, get_or}
 use Rattle.dp_messages.specs.declared.message.Entry.{Entry}
-use Rattle.dp_plain.specs.Replay.{is_mark}
-use Rattle.dp_plain.proofs.replay.epoch_start.Given as goal
+use Rattle.dp_replay.specs.Replay.{is_mark}
+use Rattle.dp_replay.proofs.replay.epoch_start.Given as goal
 
 -- no entry from the place on is a mark
 abbrev pub invariant-loop-start : goal.invariant-loop-start

@@ -2,8 +2,8 @@ use Rattle.std.proofs.Common.{◌≡◌, ◌+◌, ◌≤◌, length, map, drop}
 use Rattle.std.specs.Prelude.{sum_by}
 use Rattle.std.specs.List.{fold}
 use Rattle.dp_board.specs.Commands.{commands}
-use Rattle.dp_plain.specs.Replay.{user_act_of}
-use Rattle.dp_plain.proofs.replay.draw_flagged.Given as goal
+use Rattle.dp_replay.specs.Replay.{user_act_of}
+use Rattle.dp_replay.proofs.replay.draw_flagged.Given as goal
 
 -- what is drawn and what is left to draw is all
 abbrev pub invariant-loop-k : goal.invariant-loop-k

@@ -1,5 +1,5 @@
-use Rattle.dp_plain.proofs.Counts.{no_tiles, none_weighs}
-use Rattle.dp_plain.proofs.replay.plain_replay.Goals as goal
+use Rattle.dp_replay.proofs.Counts.{no_tiles, none_weighs}
+use Rattle.dp_replay.proofs.replay.plain_replay.Goals as goal
 
 pub returns-clause-draws_rise : goal.returns-clause-draws_rise
 returns-clause-draws_rise g c = c.show_on.ensures.counts.draws_rise

@@ -1,7 +1,7 @@
 use Rattle.std.proofs.Common.{List, ℕ, sym, ap, ◌∙◌, take}
-use Rattle.dp_frame.specs.Stream.{Stream}
+use Rattle.dp_split.specs.Stream.{Stream}
 use Rattle.dp_frame.proofs.Spellings.{frame_and_rest}
-use Rattle.dp_frame.proofs.splitter.Splitter.take_frame.Goals as goal
+use Rattle.dp_split.proofs.splitter.Splitter.take_frame.Goals as goal
 
 -- the buffer's front is the frame, and the rest of the buffer stays
 pub returns-clause-front : goal.returns-clause-front

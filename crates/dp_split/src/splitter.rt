@@ -7,9 +7,9 @@ ghost use Rattle.std.specs.Prelude.{IfSome, IfNone, OnSome, IfOk, OnOk, OnErr};
 ghost use Rattle.dp_frame.specs.Frames.{FrameParts, IsFrame, spelling, HoldsNoFrame};
 ghost use Rattle.dp_frame.specs.Frames.{IsFrameLength};
 
-use crate::{Frame, FrameView, Octets};
 use byteorder::{BigEndian, ByteOrder};
 use bytes::BytesMut;
+use dp_frame::{Frame, FrameView, Octets};
 use std::alloc::{AllocError, Global};
 use std::marker::Model;
 
@@ -25,7 +25,7 @@ pub struct Splitter {
 
 impl Model for Splitter {
     ghost use Rattle.std.specs.Prelude.{◌+◌, ◌<◌, ◌^◌, length};
-    ghost use Rattle.dp_frame.specs.Stream.{Stream};
+    ghost use Rattle.dp_split.specs.Stream.{Stream};
 
     ghost Value = { Stream };
 

@@ -6,14 +6,14 @@ ghost use Rattle.std.specs.Prelude.{◌≡◌, ◌+◌, ◌≤◌, length, drop,
 ghost use Rattle.std.specs.List.{after_last, fold};
 ghost use Rattle.dp_board.specs.Commands.{command_of, commands, drawn_commands};
 ghost use Rattle.dp_plain.specs.Counts.{CountsFew};
-ghost use Rattle.dp_plain.specs.Kinds.{kind_of_entry};
-ghost use Rattle.dp_plain.specs.Replay.{act_of, user_act_of, is_command, is_mark, moved_user};
-ghost use Rattle.dp_plain.specs.Replay.{undo_depth, shown, shown_on, replay_on};
+ghost use Rattle.dp_replay.specs.Kinds.{kind_of_entry};
+ghost use Rattle.dp_replay.specs.Replay.{act_of, user_act_of, is_command, is_mark, moved_user};
+ghost use Rattle.dp_replay.specs.Replay.{undo_depth, shown, shown_on, replay_on};
 
-use crate::plain::PlainBoard;
 use dp_board::{Act, Board, UserAct, commands_do_not_count, drawn_flags, each_act_has_a_flag};
 use dp_messages::{Entry, Msg};
 use dp_msg_draw::Draw;
+use dp_plain::PlainBoard;
 use dp_steps::Steps;
 use std::alloc::{AllocError, Global};
 use std::sync::ledger::Ledger;

@@ -7,8 +7,8 @@ use Rattle.dp_board.specs.declared.act.UserAct.{UserAct}
 use Rattle.dp_board.specs.Flags.{drawn_flags}
 use Rattle.dp_board.specs.Commands.{map_commands}
 use Rattle.dp_board.specs.Laws.{CommandsDoNotCount, EachActHasAFlag}
-use Rattle.dp_plain.specs.Replay.{user_act_of}
-use Rattle.dp_plain.specs.Kinds.{kind_of_entry}
+use Rattle.dp_replay.specs.Replay.{user_act_of}
+use Rattle.dp_replay.specs.Kinds.{kind_of_entry}
 
 -- the kinds of entries are their acts, with nothing in place of their commands
 kinds_are_acts : (entries : List Entry)

@@ -4,8 +4,8 @@ use Rattle.std.specs.List.{after_last, suffix_len}
 use Rattle.std.proofs.lemmas.List.Sums.{suffix_len_is}
 use Rattle.dp_messages.specs.declared.message.Msg.TheVariants.{Point}
 use Rattle.dp_messages.specs.declared.message.Entry.{Entry}
-use Rattle.dp_plain.specs.Replay.{is_mark}
-use Rattle.dp_plain.proofs.replay.epoch_start.Goals as goal
+use Rattle.dp_replay.specs.Replay.{is_mark}
+use Rattle.dp_replay.proofs.replay.epoch_start.Goals as goal
 
 -- after the last mark stands what begins where no entry is a mark, and the one before is one
 start_is : (entries : List Entry) (start : ℕ) (d : Entry) → start ≤ length entries →

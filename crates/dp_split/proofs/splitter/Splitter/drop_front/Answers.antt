@@ -2,9 +2,9 @@ use Rattle.std.proofs.Common.{◌≡◌, ℕ, ◌+◌, List, ◌++◌, length, d
 use Rattle.std.proofs.lemmas.List.{drop_at}
 use Rattle.byteorder.specs.Endian.{big_number}
 use Rattle.dp_frame.specs.Frames.{spelling}
-use Rattle.dp_frame.specs.Stream.{Stream}
+use Rattle.dp_split.specs.Stream.{Stream}
 use Rattle.dp_frame.proofs.Spellings.{first_number}
-use Rattle.dp_frame.proofs.splitter.Splitter.drop_front.Goals as goal
+use Rattle.dp_split.proofs.splitter.Splitter.drop_front.Goals as goal
 
 abbrev stream : List ℕ → ℕ → Stream
 stream held at = record { held = held; at = at }

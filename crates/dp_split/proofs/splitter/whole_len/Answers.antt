@@ -1,6 +1,6 @@
 use Rattle.std.proofs.Common.{arith}
 use Rattle.dp_frame.proofs.Spellings.{holds_frame}
-use Rattle.dp_frame.proofs.splitter.whole_len.Goals as goal
+use Rattle.dp_split.proofs.splitter.whole_len.Goals as goal
 
 pub returns-then-len-bytes-clause-some : goal.returns-then-len-bytes-clause-some
 returns-then-len-bytes-clause-some c =
