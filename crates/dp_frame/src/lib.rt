@@ -6,8 +6,6 @@ mod frame;
 mod laws;
 mod octets;
 mod splitter;
-#[cfg(test)]
-mod tests;
 
 pub use frame::{Frame, FrameView, write_frame};
 pub use laws::{every_splitting, first_frame, further_frames, no_frames, one_front, one_splitting};
