@@ -9,8 +9,6 @@ mod plan;
 mod sink;
 mod source;
 mod sure_source;
-#[cfg(test)]
-mod tests;
 
 pub use adapters::{StdSink, StdSource};
 pub use memory_sink::MemSink;

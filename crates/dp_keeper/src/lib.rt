@@ -5,8 +5,6 @@ mod keeper;
 mod memory;
 mod row;
 mod sure;
-#[cfg(test)]
-mod tests;
 
 pub use keeper::{KeepError, Keeper};
 pub use memory::MemKeeper;

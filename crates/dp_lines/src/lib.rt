@@ -7,8 +7,6 @@ mod line;
 mod lines;
 mod numbers;
 mod run_end;
-#[cfg(test)]
-mod tests;
 mod words;
 
 pub use hexadecimal::{hex_of, put_hex};

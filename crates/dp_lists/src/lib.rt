@@ -6,6 +6,3 @@ mod listed;
 
 pub use laws::items_are_numbered;
 pub use listed::{Listed, prefix_of, rest_of};
-
-#[cfg(test)]
-mod tests;

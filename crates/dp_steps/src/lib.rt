@@ -6,9 +6,6 @@ ghost use Rattle.std.specs.Prelude.{◌≡◌, ◌+◌, ◌<◌};
 use std::marker::Model;
 use std::sync::ledger::{Blank, Book, Ledger, Share};
 
-#[cfg(test)]
-mod tests;
-
 /// How many steps were taken, over a ledger that no one else has. Nothing but `tick` changes it. It
 /// is seen as that number.
 #[derive(Drop)]

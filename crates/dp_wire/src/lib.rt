@@ -5,8 +5,6 @@ mod crossing;
 mod gate;
 mod memory;
 mod tcp;
-#[cfg(test)]
-mod tests;
 mod wire;
 
 pub use crossing::links_cross_threads;

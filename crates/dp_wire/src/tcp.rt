@@ -7,8 +7,6 @@ ghost use Rattle.dp_io.specs.Faults.{HasCause, one_more};
 ghost use Rattle.dp_wire.specs.Causes.{is_wire_fault};
 
 mod halves;
-#[cfg(test)]
-mod tests;
 
 use crate::{Wire, WireError};
 use halves::link_of;

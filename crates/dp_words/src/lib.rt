@@ -15,6 +15,3 @@ pub use command_line::CommandLine;
 pub use devices::{Devices, wanted};
 pub use laws::{one_command_line, some_command_lines};
 pub use parser::read_words;
-
-#[cfg(test)]
-mod tests;

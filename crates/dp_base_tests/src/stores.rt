@@ -1,13 +1,14 @@
-use crate::{KeepError, Keeper, MemKeeper, Row, RowBytes, Rows, SureKeeper};
-use std::alloc::{AllocError, Global};
+//! Rows in pages, and a store whose listed calls fail.
+
+use dp_keeper::{KeepError, Keeper, MemKeeper, Row, RowBytes, Rows, SureKeeper};
+use std::alloc::Global;
 use std::process::Abort;
-use std::test::Fail;
 
 /// The row of a number, which has one byte.
-fn row(alloc: Global, number: u8) -> Result<Row, AllocError> {
-    let bytes = RowBytes::from_vec(vec![in alloc; number]?);
+fn row(rt: &impl Abort, alloc: Global, number: u8) -> Row {
+    let bytes = RowBytes::from_vec(vec![in alloc; number].expect(rt, "memory"));
     let n = u64::from(number);
-    Ok(Row { n, bytes })
+    Row { n, bytes }
 }
 
 /// Checks the numbers of rows.
@@ -20,9 +21,9 @@ fn check(rt: &impl Abort, rows: &Rows, numbers: &[u8]) {
 }
 
 /// Puts three rows, and reads pages of them.
-fn put_and_read<K: Keeper>(rt: &impl Abort, alloc: Global, keeper: &mut K) -> Result<(), Fail> {
+fn put_and_read<K: Keeper>(rt: &impl Abort, alloc: Global, keeper: &mut K) {
     for n in 0..3 {
-        assert_eq!(rt; keeper.put(&row(alloc, n)?), Ok(()));
+        assert_eq!(rt; keeper.put(&row(rt, alloc, n)), Ok(()));
     }
     for (from, max, numbers) in [
         (0, 9, [0, 1, 2].as_slice()),
@@ -30,37 +31,36 @@ fn put_and_read<K: Keeper>(rt: &impl Abort, alloc: Global, keeper: &mut K) -> Re
         (2, 0, [].as_slice()),
         (3, 4, [].as_slice()),
     ] {
-        let page = keeper.rows(from, max).ok().ok_or("a page")?;
+        let page = keeper.rows(from, max).expect(rt, "a page");
         check(rt, &page, numbers);
     }
     assert_eq!(rt; keeper.count(), 0);
-    Ok(())
 }
 
 #[test]
-fn rows_in_pages(rt: HostRuntime) -> Result<(), Fail> {
+fn rows_in_pages(rt: HostRuntime) {
     let alloc = rt.alloc();
-    put_and_read(&rt, alloc, &mut SureKeeper::new(Rows::new(alloc)))?;
+    put_and_read(&rt, alloc, &mut SureKeeper::new(Rows::new(alloc)));
     let fails = Vec::new(alloc);
     let mut keeper = MemKeeper::new(Rows::new(alloc), fails, Vec::new(alloc));
-    put_and_read(&rt, alloc, &mut keeper)
+    put_and_read(&rt, alloc, &mut keeper);
 }
 
 #[test]
-fn listed_calls_fail(rt: HostRuntime) -> Result<(), Fail> {
+fn listed_calls_fail(rt: HostRuntime) {
     let alloc = rt.alloc();
-    let fails = vec![in alloc; (2, false), (3, true)]?;
-    let mut keeper = MemKeeper::new(Rows::new(alloc), fails, vec![in alloc; 1]?);
+    let fails = vec![in alloc; (2, false), (3, true)].expect(&rt, "memory");
+    let asks = vec![in alloc; 1].expect(&rt, "memory");
+    let mut keeper = MemKeeper::new(Rows::new(alloc), fails, asks);
     for (n, answer) in [
         (0, Ok(())),
         (1, Err(KeepError::Failed)),
         (2, Err(KeepError::Failed)),
         (3, Ok(())),
     ] {
-        assert_eq!(&rt; keeper.put(&row(alloc, n)?), answer);
+        assert_eq!(rt; keeper.put(&row(&rt, alloc, n)), answer);
     }
-    assert_eq!(&rt; keeper.rows(0, 1).err(), Some(KeepError::Failed));
-    assert_eq!(&rt; keeper.count(), 3);
+    assert_eq!(rt; keeper.rows(0, 1).err(), Some(KeepError::Failed));
+    assert_eq!(rt; keeper.count(), 3);
     check(&rt, keeper.held(), &[0, 2, 3]);
-    Ok(())
 }

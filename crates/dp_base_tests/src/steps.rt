@@ -1,6 +1,8 @@
+//! A counter of steps.
+
 ghost use Rattle.std.specs.Prelude.{◌≡◌, ◌<◌};
 
-use crate::Steps;
+use dp_steps::Steps;
 use std::marker::Brand;
 use std::sync::ledger::{Blank, Ledger};
 

@@ -1,10 +1,13 @@
 //! Lines cut at every place, the limit of their length, and tables of words, numbers and digits.
 
-ghost use Rattle.std.specs.Prelude.{◌≡◌, ◌+◌, ◌≤◌, length, ⊤, OnOk};
+ghost use Rattle.std.specs.Prelude.{◌≡◌, ◌+◌, ◌≤◌, length, ⊤};
 
-use super::*;
+use dp_lines::{
+    Line, LineBytes, LineError, Lines, RunEnd, Steps, further_step, hex_of, hex_read_back,
+    lines_seen, number, one_end, one_number, one_way, put_hex, put_number, still_left, whole_lines,
+    word, word_count,
+};
 use std::process::Abort;
-use std::test::Fail;
 
 /// A text, and its lines that aren't passed over.
 type Row = (&'static [u8], &'static [(u32, &'static [u8])]);
@@ -29,30 +32,28 @@ static ROWS: [Row; 6] = [
 ];
 
 /// Feeds a piece, and adds the lines that are held with their newlines.
-fn feed(rt: &impl Abort, lines: &mut Lines, piece: &[u8], given: &mut Vec<Line>) -> Result<(), Fail>
+fn feed(rt: &impl Abort, lines: &mut Lines, piece: &[u8], given: &mut Vec<Line>)
     requires { lines.old.fed ≤ 100 }
-    ensures { OnOk result (lines.new.fed ≡ lines.old.fed + length piece.now) }
+    ensures { lines.new.fed ≡ lines.old.fed + length piece.now }
 {
     assert!(rt; piece.len() < 1000);
-    lines.feed(piece)?;
+    lines.feed(piece).expect(rt, "memory");
     'lines: for _ in 0..20 {
-        let Some(line) = lines.next_line()? else {
-            break;
-        };
-        given.push(line)?;
+        match lines.next_line().expect(rt, "a line") {
+            Some(line) => given.push(line).expect(rt, "memory"),
+            None => return,
+        }
     }
-    Ok(())
 }
 
 /// Adds the lines that are left at the end of the text.
-fn finish(lines: &mut Lines, given: &mut Vec<Line>) -> Result<(), Fail> {
+fn finish(rt: &impl Abort, lines: &mut Lines, given: &mut Vec<Line>) {
     for _ in 0..20 {
-        let Some(line) = lines.finish()? else {
-            break;
-        };
-        given.push(line)?;
+        match lines.finish().expect(rt, "a line") {
+            Some(line) => given.push(line).expect(rt, "memory"),
+            None => return,
+        }
     }
-    Ok(())
 }
 
 /// Compares lines with those that are wanted.
@@ -65,19 +66,18 @@ fn compare(rt: &impl Abort, given: &[Line], wanted: &[(u32, &[u8])]) {
 }
 
 #[test]
-fn lines_do_not_depend_on_the_pieces(rt: HostRuntime) -> Result<(), Fail> {
+fn lines_do_not_depend_on_the_pieces(rt: HostRuntime) {
     for (text, wanted) in &ROWS {
         for cut in 0..=text.len() {
             let mut lines = Lines::new(rt.alloc());
             let mut given = Vec::new(rt.alloc());
             assert!(rt; text.len() <= 100 && cut <= text.len());
-            feed(&rt, &mut lines, &text[..cut], &mut given)?;
-            feed(&rt, &mut lines, &text[cut..], &mut given)?;
-            finish(&mut lines, &mut given)?;
+            feed(&rt, &mut lines, &text[..cut], &mut given);
+            feed(&rt, &mut lines, &text[cut..], &mut given);
+            finish(&rt, &mut lines, &mut given);
             compare(&rt, &given, wanted);
         }
     }
-    Ok(())
 }
 
 /// The number and the length of a line that is given.
@@ -85,8 +85,11 @@ type Told = Result<Option<(u32, usize)>, LineError>;
 
 /// What is given.
 fn told(answer: Result<Option<Line>, LineError>) -> Told {
-    let line = answer?;
-    Ok(line.map(|line| (line.number, line.bytes.as_slice().len())))
+    match answer {
+        Ok(Some(line)) => Ok(Some((line.number, line.bytes.as_slice().len()))),
+        Ok(None) => Ok(None),
+        Err(error) => Err(error),
+    }
 }
 
 /// The first byte of a line, how many bytes it has, whether it has its newline, and what
@@ -104,34 +107,32 @@ static LENGTHS: [(u8, usize, bool, Told, Told); 7] = [
 const LONG: Told = Err(LineError::Long(3));
 
 #[test]
-fn a_line_has_at_most_131100_bytes(rt: HostRuntime) -> Result<(), Fail> {
+fn a_line_has_at_most_131100_bytes(rt: HostRuntime) {
     for (first, len, ended, next, last) in &LENGTHS {
-        let mut text = vec![in rt.alloc(); b'#'; *len]?;
+        let mut text = vec![in rt.alloc(); b'#'; *len].expect(&rt, "memory");
         assert!(rt; 0 < text.len() && text.len() < 1_000_000);
         text[0] = *first;
         let mut lines = Lines::new(rt.alloc());
-        lines.feed(b"#\n\n")?;
-        lines.feed(&text)?;
+        lines.feed(b"#\n\n").expect(&rt, "memory");
+        lines.feed(&text).expect(&rt, "memory");
         if *ended {
-            lines.feed(b"\n")?;
+            lines.feed(b"\n").expect(&rt, "memory");
         }
         assert_eq!(rt; told(lines.next_line()), *next);
         assert_eq!(rt; told(lines.finish()), *last);
     }
-    Ok(())
 }
 
 #[test]
-fn a_comment_without_end_is_counted(rt: HostRuntime) -> Result<(), Fail> {
+fn a_comment_without_end_is_counted(rt: HostRuntime) {
     let mut lines = Lines::new(rt.alloc());
-    lines.feed(b"#a")?;
+    lines.feed(b"#a").expect(&rt, "memory");
     assert_eq!(rt; told(lines.next_line()), Ok(None));
-    lines.feed(b"b\n#c")?;
+    lines.feed(b"b\n#c").expect(&rt, "memory");
     assert_eq!(rt; told(lines.finish()), Ok(None));
-    lines.feed(b"last")?;
+    lines.feed(b"last").expect(&rt, "memory");
     assert_eq!(rt; told(lines.finish()), Ok(Some((3, 4))));
     assert_eq!(rt; told(lines.finish()), Ok(None));
-    Ok(())
 }
 
 /// Lines, and their words.
@@ -145,9 +146,9 @@ static WORDS: [(&[u8], &[&[u8]]); 6] = [
 ];
 
 #[test]
-fn words_are_parted_by_single_spaces(rt: HostRuntime) -> Result<(), Fail> {
+fn words_are_parted_by_single_spaces(rt: HostRuntime) {
     for (bytes, wanted) in &WORDS {
-        let bytes = LineBytes::from_vec(Vec::from_slice(rt.alloc(), bytes)?);
+        let bytes = LineBytes::from_vec(Vec::from_slice(rt.alloc(), bytes).expect(&rt, "memory"));
         let line = Line { number: 1, bytes };
         assert_eq!(rt; word_count(&line), wanted.len());
         for (k, text) in wanted.iter().enumerate() {
@@ -157,7 +158,6 @@ fn words_are_parted_by_single_spaces(rt: HostRuntime) -> Result<(), Fail> {
     }
     let bytes = LineBytes::new(rt.alloc());
     assert_eq!(rt; word_count(&Line { number: 1, bytes }), 1);
-    Ok(())
 }
 
 /// Words, and the numbers that they are.
@@ -177,17 +177,16 @@ static NUMBERS: [(&[u8], Option<u32>); 12] = [
 ];
 
 #[test]
-fn numbers_at_the_edges(rt: HostRuntime) -> Result<(), Fail> {
+fn numbers_at_the_edges(rt: HostRuntime) {
     for (text, wanted) in &NUMBERS {
         assert_eq!(rt; number(text), *wanted);
         if let Some(n) = wanted {
-            let mut out = Vec::from_slice(rt.alloc(), b"n ")?;
-            put_number(*n, &mut out)?;
+            let mut out = Vec::from_slice(rt.alloc(), b"n ").expect(&rt, "memory");
+            put_number(*n, &mut out).expect(&rt, "memory");
             assert!(rt; out.len() > 2);
             assert_eq!(rt; &out[2..], *text);
         }
     }
-    Ok(())
 }
 
 /// Words, and the bytes that they spell.
@@ -202,24 +201,24 @@ static DIGITS: [(&[u8], Option<&[u8]>); 7] = [
 ];
 
 #[test]
-fn digits_of_either_case(rt: HostRuntime) -> Result<(), Fail> {
+fn digits_of_either_case(rt: HostRuntime) {
     for (text, wanted) in &DIGITS {
-        let found = hex_of(rt.alloc(), text)?;
+        let found = hex_of(rt.alloc(), text).expect(&rt, "memory");
         assert_eq!(rt; found.as_ref().map(|bytes| bytes.as_slice()), *wanted);
     }
-    let mut out = Vec::from_slice(rt.alloc(), b"rec ")?;
-    put_hex(b"\x00\xab\x0f", &mut out)?;
+    let mut out = Vec::from_slice(rt.alloc(), b"rec ").expect(&rt, "memory");
+    put_hex(b"\x00\xab\x0f", &mut out).expect(&rt, "memory");
     assert_eq!(rt; out.as_slice(), b"rec 00ab0f".as_slice());
-    Ok(())
 }
 
 #[test]
-fn ends_and_errors_are_told_apart(rt: HostRuntime) -> Result<(), Fail> {
+fn ends_and_errors_are_told_apart(rt: HostRuntime) {
     assert_eq!(rt; RunEnd::BadLine(3), RunEnd::BadLine(3));
     assert_ne!(rt; RunEnd::Closed, RunEnd::LinkFault);
-    let text = format!(in rt.alloc(); "{}, {}", LineError::Long(3), LineError::Memory)?;
+    let text = format!(in rt.alloc(); "{}, {}", LineError::Long(3), LineError::Memory).expect(
+        &rt, "memory",
+    );
     assert_eq!(rt; text.as_str(), "line 3 is too long, out of memory");
-    Ok(())
 }
 
 /// Any line is a step.

@@ -3,21 +3,26 @@
 ghost use Rattle.std.specs.Prelude.{◌≡◌, ◌≤◌, OnErr};
 ghost use Rattle.dp_io.specs.Faults.{Rose};
 
-use super::*;
+use dp_io::{Failed, MemSink, MemSource, Sink, Source, StdSink, StdSource, SureSource, put_all};
 use std::alloc::Global;
-use std::test::Fail;
+use std::process::Abort;
 
 const BYTES: [u8; 7] = [3, 1, 4, 1, 5, 9, 2];
 
+/// A copy of numbers.
+fn list<T: Copy + Drop>(rt: &impl Abort, alloc: Global, items: &[T]) -> Vec<T> {
+    Vec::from_slice(alloc, items).expect(rt, "memory")
+}
+
 /// Reads to the end, in at most 20 calls, through a buffer of three bytes.
-fn read_all<R: Source>(alloc: Global, source: &mut R) -> Result<Vec<u8>, Fail> {
+fn read_all<R: Source>(rt: &impl Abort, alloc: Global, source: &mut R) -> Vec<u8> {
     let mut bytes = Vec::new(alloc);
     let mut buf = [0; 3];
     for _ in 0..20 {
-        let count = source.read(&mut buf)?;
-        bytes.extend_from_slice(&buf[..count])?;
+        let count = source.read(&mut buf).expect(rt, "bytes");
+        bytes.extend_from_slice(&buf[..count]).expect(rt, "memory");
     }
-    Ok(bytes)
+    bytes
 }
 
 /// Reads once, and names a fault by its cause.
@@ -28,21 +33,20 @@ fn read_once<R: Source>(source: &mut R, buf: &mut [u8]) -> Result<usize, Failed>
 }
 
 #[test]
-fn pieces_of_any_length_give_the_same(rt: HostRuntime) -> Result<(), Fail> {
+fn pieces_of_any_length_give_the_same(rt: HostRuntime) {
     let alloc = rt.alloc();
     for piece in 1..9 {
-        let mut source = MemSource::new(BYTES.to_vec(alloc)?, piece, Vec::new(alloc));
-        let bytes = read_all(alloc, &mut source)?;
+        let mut source = MemSource::new(list(&rt, alloc, &BYTES), piece, Vec::new(alloc));
+        let bytes = read_all(&rt, alloc, &mut source);
         assert_eq!(rt; bytes.as_slice(), BYTES.as_slice(), "in pieces of {piece}");
     }
-    Ok(())
 }
 
 #[test]
-fn a_source_fails_at_the_listed_calls(rt: HostRuntime) -> Result<(), Fail> {
+fn a_source_fails_at_the_listed_calls(rt: HostRuntime) {
     let alloc = rt.alloc();
-    let fails = [2, 3, 6].to_vec(alloc)?;
-    let mut source = MemSource::new(BYTES.to_vec(alloc)?, 3, fails);
+    let fails = list(&rt, alloc, &[2, 3, 6]);
+    let mut source = MemSource::new(list(&rt, alloc, &BYTES), 3, fails);
     let mut buf = [0; 4];
     let wants = [
         Ok(3),
@@ -56,14 +60,12 @@ fn a_source_fails_at_the_listed_calls(rt: HostRuntime) -> Result<(), Fail> {
     for want in wants {
         assert_eq!(rt; source.read(&mut buf), want);
     }
-    Ok(())
 }
 
 // Over a source that never fails, a fault is ruled out by what a generic call says of its causes.
 #[test]
-fn a_sure_source_gives_no_fault(rt: HostRuntime) -> Result<(), Fail> {
-    let alloc = rt.alloc();
-    let mut source = SureSource::new(BYTES.to_vec(alloc)?);
+fn a_sure_source_gives_no_fault(rt: HostRuntime) {
+    let mut source = SureSource::new(list(&rt, rt.alloc(), &BYTES));
     let mut buf = [0; 4];
     for want in [4, 3, 0] {
         match read_once(&mut source, &mut buf) {
@@ -71,24 +73,22 @@ fn a_sure_source_gives_no_fault(rt: HostRuntime) -> Result<(), Fail> {
             Err(_) => unreachable!(),
         }
     }
-    Ok(())
 }
 
 #[test]
-fn a_sink_is_full(rt: HostRuntime) -> Result<(), Fail> {
-    let mut sink = MemSink::new(rt.alloc(), 3, 2, Vec::new(rt.alloc()))?;
+fn a_sink_is_full(rt: HostRuntime) {
+    let mut sink = MemSink::new(rt.alloc(), 3, 2, Vec::new(rt.alloc())).expect(&rt, "memory");
     let pieces: [&[u8]; 4] = [&[7, 8, 9], &[9, 6], &[6], &[]];
     let wants = [Ok(2), Ok(1), Err(Failed), Ok(0)];
     for (piece, want) in pieces.iter().zip(wants) {
         assert_eq!(rt; sink.write(piece), want);
     }
     assert_eq!(rt; sink.as_slice(), [7, 8, 9].as_slice());
-    Ok(())
 }
 
 // For each room and failing call: whether all was written, and how much.
 #[test]
-fn put_all_writes_a_prefix(rt: HostRuntime) -> Result<(), Fail> {
+fn put_all_writes_a_prefix(rt: HostRuntime) {
     let alloc = rt.alloc();
     let cases = [
         (7, 5, Ok(()), 7),
@@ -97,27 +97,26 @@ fn put_all_writes_a_prefix(rt: HostRuntime) -> Result<(), Fail> {
         (5, 9, Err(Failed), 5),
     ];
     for (room, fail, want, written) in cases {
-        let mut sink = MemSink::new(alloc, room, 2, [fail].to_vec(alloc)?)?;
+        let fails = list(&rt, alloc, &[fail]);
+        let mut sink = MemSink::new(alloc, room, 2, fails).expect(&rt, "memory");
         assert_eq!(rt; put_all(&mut sink, &BYTES), want);
         assert_eq!(rt; sink.as_slice(), &BYTES[..written]);
     }
-    Ok(())
 }
 
 #[test]
-fn adapters_pass_the_bytes_on(rt: HostRuntime) -> Result<(), Fail> {
+fn adapters_pass_the_bytes_on(rt: HostRuntime) {
     let alloc = rt.alloc();
     let mut source = StdSource::new(BYTES.as_slice());
     let mut front = [0; 3];
     assert_eq!(rt; source.read(&mut front), Ok(3));
     assert_eq!(rt; front, [3, 1, 4]);
     let mut source = StdSource::new(source.into_inner());
-    let bytes = read_all(alloc, &mut source)?;
+    let bytes = read_all(&rt, alloc, &mut source);
     assert_eq!(rt; bytes.as_slice(), [1, 5, 9, 2].as_slice());
     let mut sink = StdSink::new(Vec::new(alloc));
-    put_all(&mut sink, &BYTES)?;
+    assert_eq!(rt; put_all(&mut sink, &BYTES), Ok(()));
     assert_eq!(rt; sink.into_inner().as_slice(), BYTES.as_slice());
-    Ok(())
 }
 
 // A writer that takes nothing has failed.

@@ -1,0 +1,22 @@
+//! The tests of the crates at the base, in a crate of their own: so each of them is proved once, and
+//! not once more with its tests.
+#![tactic(auto)]
+
+#[cfg(test)]
+mod command_lines;
+#[cfg(test)]
+mod frames;
+#[cfg(test)]
+mod lines;
+#[cfg(test)]
+mod links;
+#[cfg(test)]
+mod lists;
+#[cfg(test)]
+mod sockets;
+#[cfg(test)]
+mod steps;
+#[cfg(test)]
+mod stores;
+#[cfg(test)]
+mod streams;
