@@ -7,4 +7,3 @@ pub mod View
 pub mod Picture
 pub mod Replay
 pub mod Kinds
-pub mod Counts
