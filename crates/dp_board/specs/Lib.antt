@@ -8,3 +8,4 @@ pub mod Table
 pub mod Laws
 pub mod Moves
 pub mod Numbers
+pub mod Counts

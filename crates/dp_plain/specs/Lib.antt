@@ -5,4 +5,3 @@ pub mod Weights
 pub mod Moves
 pub mod View
 pub mod Picture
-pub mod Counts

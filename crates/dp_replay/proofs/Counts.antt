@@ -3,7 +3,7 @@ use Rattle.std.proofs.Common.{◌≡◌, ℕ, List, get_or, refl, arith}
 use Rattle.std.proofs.lemmas.List.Sums.{sum_by-le}
 use Rattle.dp_msg_draw.specs.declared.draw.Draw.{Draw}
 use Rattle.dp_msg_draw.specs.declared.draw.Draw.TheVariants.{CanvasResize}
-use Rattle.dp_plain.specs.Counts.{CountsFew}
+use Rattle.dp_board.specs.Counts.{CountsFew}
 use Rattle.dp_plain.specs.Weights.{board_weight}
 
 -- where nothing weighs, no tile is made

@@ -5,7 +5,7 @@
 ghost use Rattle.std.specs.Prelude.{◌≡◌, ◌+◌, ◌≤◌, length, drop, map, IfOk, OnOk};
 ghost use Rattle.std.specs.List.{after_last, fold};
 ghost use Rattle.dp_board.specs.Commands.{command_of, commands, drawn_commands};
-ghost use Rattle.dp_plain.specs.Counts.{CountsFew};
+ghost use Rattle.dp_board.specs.Counts.{CountsFew};
 ghost use Rattle.dp_replay.specs.Kinds.{kind_of_entry};
 ghost use Rattle.dp_replay.specs.Replay.{act_of, user_act_of, is_command, is_mark, moved_user};
 ghost use Rattle.dp_replay.specs.Replay.{undo_depth, shown, shown_on, replay_on};

@@ -1,7 +1,7 @@
 use Rattle.std.proofs.Common.{◌∙◌, ◌+◌, ap, subst, length, map, Bool, List}
 use Rattle.std.specs.List.{fold}
 use Rattle.dp_board.specs.Commands.{commands}
-use Rattle.dp_plain.specs.Counts.{CountsFew}
+use Rattle.dp_board.specs.Counts.{CountsFew}
 use Rattle.dp_replay.specs.Replay.{user_act_of}
 use Rattle.dp_replay.proofs.Replays.{flags_of_acts, flags_fit}
 use Rattle.dp_replay.proofs.replay.replay_on.Goals as goal
