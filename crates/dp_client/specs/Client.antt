@@ -11,8 +11,8 @@ use Rattle.dp_messages.specs.Properties.{carried_by, command_of, is_filtered, ma
 use Rattle.dp_plain.specs.Board.{Board}
 use Rattle.dp_plain.specs.Commands.{draw_all}
 use Rattle.dp_replay.specs.Replay.{replay}
-use Rattle.dp_client.specs.declared.own.Own.{Own}
-use Rattle.dp_client.specs.declared.own.Own.TheVariants.{Stranger, Echo, Dropped, Lost}
+use Rattle.dp_fork.specs.declared.own.Own.{Own}
+use Rattle.dp_fork.specs.declared.own.Own.TheVariants.{Stranger, Echo, Dropped, Lost}
 use Rattle.dp_client.specs.declared.client.Taken.{Taken}
 
 -- The user's id, and the epoch and the index of the user's Join, from the Welcome; the epoch that

@@ -10,8 +10,8 @@ ghost use Rattle.std.specs.List.{filter_map};
 ghost use Rattle.dp_plain.specs.Commands.{draw_all};
 
 use crate::answers::{carried_in, may_answer};
-use crate::own::Own;
 use dp_board::Board;
+use dp_fork::Own;
 use dp_messages::{Entry, Msg, same};
 use dp_plain::PlainBoard;
 use dp_replay::replay_on;

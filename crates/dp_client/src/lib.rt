@@ -6,9 +6,8 @@
 
 mod answers;
 mod client;
-mod own;
 #[cfg(test)]
 mod tests;
 
 pub use client::{Client, Taken};
-pub use own::Own;
+pub use dp_fork::Own;

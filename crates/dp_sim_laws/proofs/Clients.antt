@@ -23,7 +23,7 @@ use Rattle.dp_messages.specs.Equality.{same_message}
 use Rattle.dp_client.specs.Client as client
 use Rattle.dp_client.specs.Client.{Took, is_first_mark, carried_in, last_before, is_own_answer}
 use Rattle.dp_client.specs.Client.{may_answer, answered, own_of, fork_after}
-use Rattle.dp_client.specs.declared.own.Own.TheVariants.{Stranger, Echo, Dropped, Lost}
+use Rattle.dp_fork.specs.declared.own.Own.TheVariants.{Stranger, Echo, Dropped, Lost}
 use Rattle.dp_events.specs.declared.connection.Connection.{Connection}
 use Rattle.dp_events.specs.declared.event.Event.TheVariants as event
 use Rattle.dp_events.specs.declared.event.Reply.{Reply}

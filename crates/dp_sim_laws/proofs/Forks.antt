@@ -12,7 +12,7 @@ use Rattle.dp_messages.specs.declared.message.Entry.{Entry}
 use Rattle.dp_messages.specs.Equality.{same_message}
 use Rattle.dp_client.specs.Client as client
 use Rattle.dp_client.specs.Client.{Step, Said, Took, after_step, after_steps, last_before, own_of}
-use Rattle.dp_client.specs.declared.own.Own.TheVariants.{Lost}
+use Rattle.dp_fork.specs.declared.own.Own.TheVariants.{Lost}
 use Rattle.dp_events.specs.declared.event.Event.{Event}
 use Rattle.dp_events.specs.declared.event.Event.TheVariants as event
 use Rattle.dp_events.specs.declared.event.Reply.{Reply}

@@ -2,7 +2,7 @@
 
 ghost use Rattle.std.specs.Prelude.{◌≡◌, ◌≢◌, ◌≤◌, ℕ, List, length, drop, IfSome};
 ghost use Rattle.dp_client.specs.Client.{own_of};
-ghost use Rattle.dp_client.specs.declared.own.Own.TheVariants.{Lost};
+ghost use Rattle.dp_fork.specs.declared.own.Own.TheVariants.{Lost};
 ghost use Rattle.dp_schedule.specs.declared.action.Action.{Action};
 ghost use Rattle.dp_sim.specs.World.{world_after, participant_of};
 ghost use Rattle.dp_sim_laws.specs.OwnSteps.{own_steps, GoesBy, next_of};

@@ -3,7 +3,7 @@
 
 ghost use Rattle.std.specs.Prelude.{◌≡◌, ◌≢◌, ◌≤◌, ℕ, List, length, drop, IfSome};
 ghost use Rattle.dp_client.specs.Client.{own_of};
-ghost use Rattle.dp_client.specs.declared.own.Own.TheVariants.{Lost};
+ghost use Rattle.dp_fork.specs.declared.own.Own.TheVariants.{Lost};
 ghost use Rattle.dp_lines.specs.declared.line.Line.{Line};
 ghost use Rattle.dp_schedule.specs.declared.action.Action.{Action};
 ghost use Rattle.dp_sim.specs.World.{world_after, participant_of};

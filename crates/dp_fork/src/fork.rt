@@ -1,0 +1,324 @@
+//! What is said and isn't answered.
+
+ghost use Rattle.std.specs.Prelude.{◌≡◌, ◌≤◌, ◌∷◌, ◌++◌, [], true, false, not, ◌&&◌, ◌||◌, length, drop, take};
+ghost use Rattle.std.specs.Prelude.{None, IsTrue, OnOk, OnErr, List, option_map};
+ghost use Rattle.std.specs.List.{fold, list_any};
+ghost use Rattle.dp_board.specs.declared.act.Act.{Act as ActOf};
+ghost use Rattle.dp_board.specs.declared.act.Change.{Change as Changed};
+ghost use Rattle.dp_board.specs.Commands.{command_of};
+ghost use Rattle.dp_board.specs.Moves.{is_draw};
+ghost use Rattle.dp_board.specs.Counts.{CountsFew};
+ghost use Rattle.dp_fork.specs.Fork.{Answers, Became, IsForkOf, MovesBy, Shows};
+ghost use Rattle.dp_fork.specs.Fork.{commands_in, due_on_fork, is_calm, is_quiet, is_settled};
+ghost use Rattle.dp_fork.specs.Fork.{is_apart, is_rebuilt, is_stranger, left_by, seen_on};
+
+use crate::own::Own;
+use crate::pending::{draw_from, has_command, is_apart, is_draw, may_move};
+use dp_board::{Act, Board, Change};
+use dp_steps::Steps;
+use std::alloc::{AllocError, Global};
+use std::collections::VecDeque;
+use std::marker::Model;
+use std::sync::ledger::Ledger;
+
+/// Acts that are said and aren't answered, in order, and a board that shows their commands on a
+/// confirmed one. It has a board of its own only while there is a command to show.
+#[derive(Drop)]
+pub struct Fork<B: Board> {
+    board: Option<B>,
+    acts: VecDeque<Act<B::Op>>,
+}
+
+impl<B: Board> Model for Fork<B> {
+    ghost use Rattle.dp_fork.specs.Fork.{Forked};
+
+    ghost Value = { Forked B B.Op };
+
+    ghost view = { λ f. record { board = f.board; acts = f.acts.items } };
+}
+
+/// Draws the command of an act, where it is one: on the board, or where there is none on a share of
+/// the confirmed one.
+///
+/// # Errors
+///
+/// The board is as it was.
+fn show<B: Board, D: Ledger, T: Ledger>(
+    board: &mut Option<B>,
+    confirmed: &B,
+    act: &Act<B::Op>,
+    draws: &mut Steps<D>,
+    tiles: &mut Steps<T>,
+) -> Result<(), AllocError>
+    ensures shows { OnOk result ((commands : List B.Op)
+        → Shows B.drawn confirmed.now commands board.old
+        → Shows B.drawn confirmed.now (commands ++ command_of act.now true) board.new) }
+    ensures err { OnErr result (board.new ≡ board.old) }
+    ensures counts { CountsFew B.weight (command_of act.now true) draws.old draws.new tiles.old
+        tiles.new }
+{
+    let Act::Draw(op) = act else {
+        return Ok(());
+    };
+    match board {
+        Some(shown) => shown.draw(op, draws, tiles),
+        None => {
+            let mut shown = confirmed.share(draws, tiles)?;
+            shown.draw(op, draws, tiles)?;
+            *board = Some(shown);
+            Ok(())
+        }
+    }
+}
+
+/// Draws the operation on the board, where there is one.
+///
+/// # Errors
+///
+/// The board is as it was.
+fn draw_where<B: Board, D: Ledger, T: Ledger>(
+    board: &mut Option<B>,
+    op: &B::Op,
+    draws: &mut Steps<D>,
+    tiles: &mut Steps<T>,
+) -> Result<(), AllocError>
+    ensures drawn { OnOk result (board.new ≡ option_map (λ b. B.drawn b op.now) board.old) }
+    ensures err { OnErr result (board.new ≡ board.old) }
+    ensures counts { CountsFew B.weight (op.now ∷ []) draws.old draws.new tiles.old tiles.new }
+{
+    match board {
+        Some(shown) => shown.draw(op, draws, tiles),
+        None => Ok(()),
+    }
+}
+
+impl<B: Board> Fork<B> {
+    /// A fork without acts. It takes no memory.
+    pub fn new(alloc: Global) -> Self
+        ensures { result ≡ record { board = None; acts = [] } }
+    {
+        Fork {
+            board: None,
+            acts: VecDeque::new(alloc),
+        }
+    }
+
+    /// How many acts aren't answered. It takes no memory.
+    pub fn pending_len(&self) -> usize
+        ensures { result ≡ length self.now.acts }
+    {
+        self.acts.len()
+    }
+
+    /// What is seen on the confirmed board: the acts' commands are drawn on it. It takes no memory.
+    pub fn view<'a>(&'a self, confirmed: &'a B) -> &'a B
+        ensures value { result.now ≡ seen_on confirmed.now self.now }
+        ensures drawn { IsForkOf B.is_board B.drawn confirmed.now self.now
+            → result.now ≡ fold B.drawn confirmed.now (commands_in self.now.acts) }
+    {
+        match &self.board {
+            Some(board) => board,
+            None => confirmed,
+        }
+    }
+
+    /// Adds an act that is said.
+    ///
+    /// # Errors
+    ///
+    /// The fork is as it was.
+    pub fn say<D: Ledger, T: Ledger>(
+        &mut self,
+        confirmed: &B,
+        act: Act<B::Op>,
+        draws: &mut Steps<D>,
+        tiles: &mut Steps<T>,
+    ) -> Result<(), AllocError>
+        ensures acts { OnOk result (self.new.acts ≡ self.old.acts ++ act ∷ []) }
+        ensures fork { OnOk result (IsForkOf B.is_board B.drawn confirmed.now self.old
+            → IsForkOf B.is_board B.drawn confirmed.now self.new) }
+        ensures err { OnErr result (self.new ≡ self.old) }
+        ensures counts { CountsFew B.weight (command_of act true) draws.old draws.new tiles.old
+            tiles.new }
+    {
+        self.acts.reserve(1)?;
+        show(&mut self.board, confirmed, &act, draws, tiles)?;
+        match self.acts.push_back(act) {
+            Ok(()) => Ok(()),
+            Err(_) => unreachable!(),
+        }
+    }
+
+    /// From which place on acts are left after an answer.
+    fn first_left(&self, own: Own) -> usize
+        ensures within { result ≤ length self.now.acts }
+        ensures left { drop result self.now.acts ≡ left_by own self.now.acts }
+    {
+        match own {
+            Own::Stranger => 0,
+            Own::Echo | Own::Dropped => self.acts.len().min(1),
+            Own::Lost => self.acts.len(),
+        }
+    }
+
+    /// Whether an act that moves no group draws nothing on the fork's board.
+    fn is_calm(&self, act: &Act<B::Op>, own: Own) -> bool
+        ensures { result ≡ is_calm act.now own self.now.acts }
+    {
+        match own {
+            Own::Stranger => !is_draw(act),
+            Own::Echo | Own::Lost => true,
+            Own::Dropped => !is_draw(act) && !self.begins_with_command(),
+        }
+    }
+
+    /// Whether the first act is a command.
+    fn begins_with_command(&self) -> bool
+        ensures { result ≡ list_any is_draw (take 1 self.now.acts) }
+    {
+        match self.acts.front() {
+            Some(act) => is_draw(act),
+            None => false,
+        }
+    }
+
+    /// Whether the fork needs no drawing where such an act is taken, whatever it changes.
+    pub fn is_quiet(&self, act: &Act<B::Op>, own: Own) -> bool
+        ensures value { result ≡ is_quiet act.now own self.now.acts }
+        ensures settled { IsTrue result → (change : Changed) → MovesBy change act.now
+            → is_settled act.now change own self.now.acts ≡ true }
+    {
+        !has_command(&self.acts, self.first_left(own)) || (!may_move(act) && self.is_calm(act, own))
+    }
+
+    /// Whether it needs no drawing where the act has changed the confirmed board so.
+    fn is_settled(&self, act: &Act<B::Op>, change: Change, own: Own) -> bool
+        ensures { result ≡ is_settled act.now change own self.now.acts }
+    {
+        !has_command(&self.acts, self.first_left(own))
+            || (change != Change::Rebuilt && self.is_calm(act, own))
+    }
+
+    /// Takes what is answered from the fork.
+    fn forget(&mut self, own: Own)
+        ensures { self.new ≡ record self.old { acts = left_by own self.old.acts } }
+    {
+        match own {
+            Own::Stranger => {}
+            Own::Echo | Own::Dropped => {
+                let _answered = self.acts.pop_front();
+            }
+            Own::Lost => self.acts.clear(),
+        }
+    }
+
+    /// Goes on to another confirmed board, where that needs no drawing. It takes no memory.
+    pub fn answer(&mut self, own: Own)
+        ensures acts { self.new.acts ≡ left_by own self.old.acts }
+        ensures fork { (before now : B) (act : ActOf B.Op) (change : Changed)
+            → IsForkOf B.is_board B.drawn before self.old → B.is_board now
+            → Became B.drawn before now act change → Answers own act self.old.acts
+            → is_settled act change own self.old.acts ≡ true
+            → IsForkOf B.is_board B.drawn now self.new }
+    {
+        self.forget(own);
+        if !has_command(&self.acts, 0) {
+            self.clear_board();
+        }
+    }
+
+    /// Lets the board go.
+    fn clear_board(&mut self)
+        ensures { self.new ≡ record self.old { board = None } }
+    {
+        self.board = None;
+    }
+
+    /// Goes on to another confirmed board, which an act changed so.
+    ///
+    /// # Errors
+    ///
+    /// The fork is as it was. Some commands may have been drawn on a share of the confirmed board.
+    pub fn settle<D: Ledger, T: Ledger>(
+        &mut self,
+        confirmed: &B,
+        act: &Act<B::Op>,
+        change: Change,
+        own: Own,
+        draws: &mut Steps<D>,
+        tiles: &mut Steps<T>,
+    ) -> Result<(), AllocError>
+        ensures acts { OnOk result (self.new.acts ≡ left_by own self.old.acts) }
+        ensures fork { OnOk result ((before : B)
+            → IsForkOf B.is_board B.drawn before self.old
+            → Became B.drawn before confirmed.now act.now change
+            → Answers own act.now self.old.acts
+            → IsForkOf B.is_board B.drawn confirmed.now self.new) }
+        ensures err { OnErr result (self.new ≡ self.old) }
+        ensures counts { CountsFew B.weight
+            (due_on_fork B.are_apart act.now change own self.old.acts) draws.old draws.new
+            tiles.old tiles.new }
+    {
+        confirmed.known();
+        if self.is_settled(act, change, own) {
+            self.answer(own);
+            return Ok(());
+        }
+        match act {
+            Act::Draw(op) if self.is_beside(op, change, own) => {
+                self.draw_beside(op, draws, tiles)
+            }
+            _ => self.draw_anew(confirmed, own, draws, tiles),
+        }
+    }
+
+    /// Whether a command is a stranger's and apart from each of the fork's.
+    fn is_beside(&self, op: &B::Op, change: Change, own: Own) -> bool
+        ensures { result ≡ (not (is_rebuilt change) && is_stranger own
+            && is_apart B.are_apart op.now (commands_in self.now.acts)) }
+    {
+        change != Change::Rebuilt && own == Own::Stranger && is_apart::<B>(op, &self.acts)
+    }
+
+    /// Draws a command that is apart from each of the fork's on its board.
+    fn draw_beside<D: Ledger, T: Ledger>(
+        &mut self,
+        op: &B::Op,
+        draws: &mut Steps<D>,
+        tiles: &mut Steps<T>,
+    ) -> Result<(), AllocError>
+        ensures acts { self.new.acts ≡ self.old.acts }
+        ensures fork { OnOk result ((before : B)
+            → IsForkOf B.is_board B.drawn before self.old
+            → is_apart B.are_apart op.now (commands_in self.old.acts) ≡ true
+            → IsForkOf B.is_board B.drawn (B.drawn before op.now) self.new) }
+        ensures err { OnErr result (self.new ≡ self.old) }
+        ensures counts { CountsFew B.weight (op.now ∷ []) draws.old draws.new tiles.old tiles.new }
+    {
+        B::laws();
+        draw_where(&mut self.board, op, draws, tiles)
+    }
+
+    /// Draws the commands that are left after an answer on a share of the confirmed board.
+    fn draw_anew<D: Ledger, T: Ledger>(
+        &mut self,
+        confirmed: &B,
+        own: Own,
+        draws: &mut Steps<D>,
+        tiles: &mut Steps<T>,
+    ) -> Result<(), AllocError>
+        ensures acts { OnOk result (self.new.acts ≡ left_by own self.old.acts) }
+        ensures fork { OnOk result (B.is_board confirmed.now
+            → IsForkOf B.is_board B.drawn confirmed.now self.new) }
+        ensures err { OnErr result (self.new ≡ self.old) }
+        ensures counts { CountsFew B.weight (commands_in (left_by own self.old.acts)) draws.old
+            draws.new tiles.old tiles.new }
+    {
+        let mut board = confirmed.share(draws, tiles)?;
+        let first = self.first_left(own);
+        draw_from(&mut board, &self.acts, first, draws, tiles)?;
+        self.board = Some(board);
+        self.forget(own);
+        Ok(())
+    }
+}
