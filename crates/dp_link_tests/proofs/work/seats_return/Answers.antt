@@ -1,6 +1,6 @@
 use Rattle.std.proofs.Common.{◌≡◌, [], ◌∷◌, sym, ap, subst, ◌∙◌}
 use Rattle.dp_hall.specs.Laws.{AllBackBut}
-use Rattle.dp_hall_tests.proofs.work.seats_return.Goals as goal
+use Rattle.dp_link_tests.proofs.work.seats_return.Goals as goal
 
 pub returns-clause-pairs : goal.returns-clause-pairs
 returns-clause-pairs g c v stays given one two w s a b j =

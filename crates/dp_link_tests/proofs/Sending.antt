@@ -5,9 +5,9 @@ use Rattle.std.proofs.Crossing.{crosses}
 use Rattle.dp_hall.proofs.Sending.{seat_send, hall_sync}
 use Rattle.dp_hall.specs.contracts.hall.Hall as Hall
 use Rattle.dp_hall.specs.contracts.seat.Seat as Seat
-use Rattle.dp_hall_tests.specs.contracts.tally.Mark as Mark
-use Rattle.dp_hall_tests.specs.contracts.tally.Tally as Tally
-use Rattle.dp_hall_tests.specs.contracts.tally.TallyMachine.TheImpl as machine
+use Rattle.dp_link_tests.specs.contracts.tally.Mark as Mark
+use Rattle.dp_link_tests.specs.contracts.tally.Tally as Tally
+use Rattle.dp_link_tests.specs.contracts.tally.TallyMachine.TheImpl as machine
 
 tally_send : IsSend Tally.the_row
 tally_send = search (sendable, crosses) depth 20

@@ -2,7 +2,7 @@
 
 ghost use Rattle.std.specs.Prelude.{◌≡◌};
 ghost use Rattle.dp_hall.specs.Calls.{IsOf};
-ghost use Rattle.dp_hall_tests.specs.Working.{Returns, Acted};
+ghost use Rattle.dp_link_tests.specs.Working.{Returns, Acted};
 
 use crate::tally::{Mark, Tally};
 use crate::work::{act_often, seats_return, start};

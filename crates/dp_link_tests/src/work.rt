@@ -4,7 +4,7 @@ ghost use Rattle.std.specs.Prelude.{◌≡◌, IfOk};
 ghost use Rattle.dp_hall.specs.Rule.{first_view};
 ghost use Rattle.dp_hall.specs.declared.view.View.{View as Known};
 ghost use Rattle.dp_hall.specs.Calls.{IsOf, SplitsInto, JoinsInto};
-ghost use Rattle.dp_hall_tests.specs.Working.{Returns, Acted};
+ghost use Rattle.dp_link_tests.specs.Working.{Returns, Acted};
 
 use crate::tally::{GATED, Gate, Mark, REFUSED, Tally, is_raised};
 use dp_hall::{Hall, HallError, Seat, calls_add_up, seats_come_back};

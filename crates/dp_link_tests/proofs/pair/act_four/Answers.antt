@@ -1,4 +1,4 @@
-use Rattle.dp_hall_tests.proofs.pair.act_four.Goals as goal
+use Rattle.dp_link_tests.proofs.pair.act_four.Goals as goal
 
 pub returns-clause-returns : goal.returns-clause-returns
 returns-clause-returns g c =
