@@ -2,7 +2,8 @@
 
 ghost use Rattle.std.specs.Prelude.{◌<◌, ◌≤◌, ◌↔◌, All, IsTrue};
 
-use crate::{
+use crate::colors::pixel;
+use dp_blend::{
     Mode, ONE, Pixel, blend, fade, from8, of_argb, rgb_on_white, row_blend, row_fill, row_merge,
     row_on_white, to8,
 };
@@ -19,11 +20,6 @@ const MODES: [Mode; 6] = [
 
 /// Numbers of which some are at an end of their range.
 const PARTS: [u16; 6] = [0, 1, 32767, 32768, 16448, 20001];
-
-/// The pixel with these channels and this alpha; the test ends where they make none.
-fn pixel(rt: &impl Abort, (r, g, b, a): (u16, u16, u16, u16)) -> Pixel {
-    Pixel::new(r, g, b, a).expect(rt, "no pixel")
-}
 
 #[test]
 fn blends_in_each_mode(rt: HostRuntime) {

@@ -1,4 +1,4 @@
-use Rattle.dp_canvas.proofs.tests.pixels.Given as goal
+use Rattle.dp_painting_tests.proofs.boards.commands_on_all_boards.Given as goal
 
 abbrev pub ghosts-on_all_boards-D-Ledger : goal.ghosts-on_all_boards-D-Ledger
 ghosts-on_all_boards-D-Ledger g a = record { name = a.draw_blank.name; parts = a.draw_blank.parts }

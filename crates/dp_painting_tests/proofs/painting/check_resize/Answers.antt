@@ -1,6 +1,6 @@
 -- The canvas of 66 by 3 gets the sides 130 and 4.
 use Rattle.std.proofs.Common.{pos, refl, rules}
-use Rattle.dp_paint.proofs.tests.grown.Goals as goal
+use Rattle.dp_painting_tests.proofs.painting.check_resize.Goals as goal
 
 pub resize_grid-requires-clause-effect : goal.resize_grid-requires-clause-effect
 resize_grid-requires-clause-effect g c = (

@@ -1,23 +1,14 @@
-//! Worked pixels.
+//! Worked pixels of the pixel commands, on plain lists of pixels.
 
 ghost use Rattle.std.specs.Prelude.{◌<◌, IsTrue};
 ghost use Rattle.dp_pixels.specs.Commands.{is_stamp};
 
-use crate::{Region, covers, draw_pixels, draw_region, pixel_after};
+use crate::colors::{BLUE, CLEAR, RED, pixel};
 use dp_blend::{Pixel, of_argb};
 use dp_msg_draw::{Colors, Dab, Dabs, Draw, TileContent, TilePixel, TilePixels};
+use dp_pixels::{Region, covers, draw_pixels, draw_region, pixel_after};
+use std::alloc::Global;
 use std::process::Abort;
-use std::test::Fail;
-
-const CLEAR: Pixel = Pixel::CLEAR;
-
-const RED: u32 = 0xffff_0000;
-
-const BLUE: u32 = 0xff00_00ff;
-
-fn pixel(rt: &impl Abort, (r, g, b, a): (u16, u16, u16, u16)) -> Pixel {
-    Pixel::new(r, g, b, a).expect(rt, "no pixel")
-}
 
 fn fill(mode: u8, at: (u32, u32, u32, u32), color: u32) -> Draw
     ensures { IsTrue (is_stamp result) }
@@ -34,20 +25,12 @@ fn fill(mode: u8, at: (u32, u32, u32, u32), color: u32) -> Draw
     }
 }
 
-fn dab(dx: i8, dy: i8, size: u8, opacity: u8) -> Dab {
-    Dab {
-        dx,
-        dy,
-        size,
-        opacity,
-    }
-}
-
-/// Red dabs from a place on.
-fn red_dabs(round: bool, at: (i32, i32), dabs: Dabs) -> Draw
+/// Red dabs from a place on, each its differences, size and opacity.
+fn red_dabs(rt: &impl Abort, alloc: Global, round: bool, at: (i32, i32), list: &[Dab]) -> Draw
     ensures { IsTrue (is_stamp result) }
 {
     let (x, y) = at;
+    let dabs = Dabs::from_vec(Vec::from_slice(alloc, list).expect(rt, "memory"));
     let (layer, r, g, b, mode) = (1, 255, 0, 0, 1);
     if round {
         Draw::DabsRound {
@@ -74,8 +57,56 @@ fn red_dabs(round: bool, at: (i32, i32), dabs: Dabs) -> Draw
     }
 }
 
+fn move_of(sx: u32, w: u32, (tx, ty): (i32, i32)) -> Draw {
+    Draw::MoveRect {
+        layer: 1,
+        sx,
+        sy: 0,
+        w,
+        h: 1,
+        tx,
+        ty,
+    }
+}
+
+fn put_tile(col: u16, row: u16, repeat: u16, content: TileContent) -> Draw {
+    Draw::PutTile {
+        layer: 1,
+        col,
+        row,
+        repeat,
+        content,
+    }
+}
+
+fn dab(dx: i8, dy: i8, size: u8, opacity: u8) -> Dab {
+    Dab {
+        dx,
+        dy,
+        size,
+        opacity,
+    }
+}
+
+/// Draws a command on pixels of a canvas of four by four or less, and compares what it leaves.
+fn drawn(
+    rt: &impl Abort,
+    alloc: Global,
+    command: &Draw,
+    width: u32,
+    height: u32,
+    before: &[Pixel],
+    want: &[Pixel],
+) {
+    let mut pixels = Vec::from_slice(alloc, before).expect(rt, "memory");
+    assert!(rt; width <= 4 && height <= 4);
+    assert!(rt; pixels.len() == width as usize * height as usize);
+    draw_pixels(alloc, command, width, height, &mut pixels).expect(rt, "memory");
+    assert!(rt; pixels.as_slice() == want, "{command:?}");
+}
+
 #[test]
-fn round_dabs_cover_a_disc(rt: HostRuntime) -> Result<(), Fail> {
+fn round_dabs_cover_a_disc(rt: HostRuntime) {
     let red = of_argb(RED);
     for (size, want) in [
         (1, [red, CLEAR, CLEAR, CLEAR]),
@@ -83,16 +114,12 @@ fn round_dabs_cover_a_disc(rt: HostRuntime) -> Result<(), Fail> {
         (3, [red, red, red, red]),
         (4, [red, red, red, CLEAR]),
     ] {
-        let dabs = Dabs::from_vec(vec![in rt.alloc(); dab(0, 0, size, 255)]?);
-        let command = red_dabs(true, (0, 0), dabs);
-        let mut pixels = [CLEAR; 4];
-        draw_pixels(rt.alloc(), &command, 2, 2, &mut pixels)?;
-        assert_eq!(rt; pixels, want, "size {size}");
+        let command = red_dabs(&rt, rt.alloc(), true, (0, 0), &[dab(0, 0, size, 255)]);
+        drawn(&rt, rt.alloc(), &command, 2, 2, &[CLEAR; 4], &want);
         assert!(rt; covers(&command, 0, 0));
         assert_eq!(rt; covers(&command, 1, 0), size > 2, "size {size}");
         assert_eq!(rt; covers(&command, 1, 1), size == 3, "size {size}");
     }
-    Ok(())
 }
 
 /// The columns and the rows of the pixels that aren't clear, each from the first to the last.
@@ -123,7 +150,7 @@ fn painted_tiles(pixels: &[Pixel]) -> [[bool; 5]; 5] {
 }
 
 #[test]
-fn dabs_of_the_greatest_size_are_clipped(rt: HostRuntime) -> Result<(), Fail> {
+fn dabs_of_the_greatest_size_are_clipped(rt: HostRuntime) {
     for (round, (x, y), want) in [
         (true, (160, 160), (33, 287, 33, 287)),
         (false, (160, 160), (33, 287, 33, 287)),
@@ -133,10 +160,9 @@ fn dabs_of_the_greatest_size_are_clipped(rt: HostRuntime) -> Result<(), Fail> {
         (false, (-128, 0), (320, 0, 320, 0)),
         (true, (i32::MAX, i32::MIN), (320, 0, 320, 0)),
     ] {
-        let dabs = Dabs::from_vec(vec![in rt.alloc(); dab(0, 0, 255, 255)]?);
-        let command = red_dabs(round, (x, y), dabs);
-        let mut pixels = vec![in rt.alloc(); CLEAR; 102_400]?;
-        draw_pixels(rt.alloc(), &command, 320, 320, &mut pixels)?;
+        let command = red_dabs(&rt, rt.alloc(), round, (x, y), &[dab(0, 0, 255, 255)]);
+        let mut pixels = vec![in rt.alloc(); CLEAR; 102_400].expect(&rt, "memory");
+        draw_pixels(rt.alloc(), &command, 320, 320, &mut pixels).expect(&rt, "memory");
         assert_eq!(rt; painted(&pixels, 320), want, "round {round} at {x} {y}");
         if round && x == 160 {
             let (edge, inner) = ([false, true, true, true, false], [true; 5]);
@@ -144,30 +170,27 @@ fn dabs_of_the_greatest_size_are_clipped(rt: HostRuntime) -> Result<(), Fail> {
             assert_eq!(rt; painted_tiles(&pixels), tiles);
         }
     }
-    Ok(())
 }
 
 #[test]
-fn dabs_stand_by_the_sums_of_their_differences(rt: HostRuntime) -> Result<(), Fail> {
+fn dabs_stand_by_the_sums_of_their_differences(rt: HostRuntime) {
     let red = of_argb(RED);
     let half = pixel(&rt, (16448, 0, 0, 16448));
-    let list = vec![in rt.alloc();
+    let list = [
         dab(1, 0, 1, 255),
         dab(2, 1, 1, 128),
         dab(-3, 0, 1, 255),
         dab(0, 0, 0, 255),
-    ]?;
-    let command = red_dabs(false, (0, 0), Dabs::from_vec(list));
-    let mut pixels = [CLEAR; 8];
-    draw_pixels(rt.alloc(), &command, 4, 2, &mut pixels)?;
-    assert_eq!(rt; pixels, [CLEAR, red, CLEAR, CLEAR, red, CLEAR, CLEAR, half]);
-    Ok(())
+    ];
+    let command = red_dabs(&rt, rt.alloc(), false, (0, 0), &list);
+    let want = [CLEAR, red, CLEAR, CLEAR, red, CLEAR, CLEAR, half];
+    drawn(&rt, rt.alloc(), &command, 4, 2, &[CLEAR; 8], &want);
 }
 
 #[test]
-fn moves_blend_on_what_they_leave_clear(rt: HostRuntime) -> Result<(), Fail> {
+fn moves_blend_on_what_they_leave_clear(rt: HostRuntime) {
     let (red, blue) = (of_argb(RED), of_argb(BLUE));
-    for (sx, w, (tx, ty), want) in [
+    for (sx, w, to, want) in [
         (0, 2, (1, 0), [CLEAR, red, blue]),
         (0, 2, (-1, 0), [blue, CLEAR, CLEAR]),
         (0, 2, (0, 0), [red, blue, CLEAR]),
@@ -176,24 +199,13 @@ fn moves_blend_on_what_they_leave_clear(rt: HostRuntime) -> Result<(), Fail> {
         (3, 1, (0, 0), [red, blue, CLEAR]),
         (1, 1, (i32::MIN, i32::MAX), [red, CLEAR, CLEAR]),
     ] {
-        let command = Draw::MoveRect {
-            layer: 1,
-            sx,
-            sy: 0,
-            w,
-            h: 1,
-            tx,
-            ty,
-        };
-        let mut pixels = [red, blue, CLEAR];
-        draw_pixels(rt.alloc(), &command, 3, 1, &mut pixels)?;
-        assert_eq!(rt; pixels, want, "{w} from {sx} to {tx} {ty}");
+        let before = [red, blue, CLEAR];
+        drawn(&rt, rt.alloc(), &move_of(sx, w, to), 3, 1, &before, &want);
     }
-    Ok(())
 }
 
 #[test]
-fn tiles_are_put_row_by_row(rt: HostRuntime) -> Result<(), Fail> {
+fn tiles_are_put_row_by_row(rt: HostRuntime) {
     let r = 5;
     let content = TilePixel {
         r,
@@ -211,32 +223,25 @@ fn tiles_are_put_row_by_row(rt: HostRuntime) -> Result<(), Fail> {
         (2, 0, 9, [false; 4]),
         (0, 2, 9, [false; 4]),
     ] {
-        let command = Draw::PutTile {
-            layer: 1,
-            col,
-            row,
-            repeat,
-            content: TileContent::Solid(content),
-        };
-        let mut pixels = vec![in rt.alloc(); CLEAR; 8320]?;
-        draw_pixels(rt.alloc(), &command, 65, 128, &mut pixels)?;
+        let command = put_tile(col, row, repeat, TileContent::Solid(content));
+        let mut pixels = vec![in rt.alloc(); CLEAR; 8320].expect(&rt, "memory");
+        draw_pixels(rt.alloc(), &command, 65, 128, &mut pixels).expect(&rt, "memory");
         for (k, pixel) in pixels.iter().enumerate() {
             let tile = k / 4160 % 2 * 2 + k % 65 / 64;
             assert_eq!(rt; *pixel == put, want[tile], "{col} {row} {repeat} at {k}");
         }
     }
-    Ok(())
 }
 
-#[test]
-fn a_tile_of_pixels_is_put_again(rt: HostRuntime) -> Result<(), Fail> {
+/// A tile with a pixel of 1, 2, 3, 4 at 65, one that is no pixel at 66, and clear ones elsewhere.
+fn two_pixels(rt: &impl Abort, alloc: Global) -> TilePixels {
     let clear = TilePixel {
         r: 0,
         g: 0,
         b: 0,
         a: 0,
     };
-    let mut tile = vec![in rt.alloc(); clear; 4096]?;
+    let mut tile = vec![in alloc; clear; 4096].expect(rt, "memory");
     tile[65] = TilePixel {
         r: 1,
         g: 2,
@@ -249,15 +254,15 @@ fn a_tile_of_pixels_is_put_again(rt: HostRuntime) -> Result<(), Fail> {
         b: 0,
         a: 4,
     };
-    let command = Draw::PutTile {
-        layer: 1,
-        col: 0,
-        row: 0,
-        repeat: 1,
-        content: TileContent::Pixels(TilePixels::from_vec(tile)),
-    };
-    let mut pixels = vec![in rt.alloc(); of_argb(RED); 8192]?;
-    draw_pixels(rt.alloc(), &command, 128, 64, &mut pixels)?;
+    TilePixels::from_vec(tile)
+}
+
+#[test]
+fn a_tile_of_pixels_is_put_again(rt: HostRuntime) {
+    let content = TileContent::Pixels(two_pixels(&rt, rt.alloc()));
+    let command = put_tile(0, 0, 1, content);
+    let mut pixels = vec![in rt.alloc(); of_argb(RED); 8192].expect(&rt, "memory");
+    draw_pixels(rt.alloc(), &command, 128, 64, &mut pixels).expect(&rt, "memory");
     let put = pixel(&rt, (1, 2, 3, 4));
     for (k, pixel) in pixels.iter().enumerate() {
         let want = match k {
@@ -267,26 +272,27 @@ fn a_tile_of_pixels_is_put_again(rt: HostRuntime) -> Result<(), Fail> {
         };
         assert_eq!(rt; *pixel, want, "at {k}");
     }
-    Ok(())
 }
 
 #[test]
-fn fills_and_images_blend_where_they_cover(rt: HostRuntime) -> Result<(), Fail> {
+fn fills_and_images_blend_where_they_cover(rt: HostRuntime) {
     let (red, blue) = (of_argb(RED), of_argb(BLUE));
     let half = pixel(&rt, (16320, 0, 0, 16320));
-    for (command, want) in [
-        (fill(0, (1, 0, 1, 9), 0x8012_3456), [red, half, red, half]),
+    for (mode, at, color, want) in [
+        (0, (1, 0, 1, 9), 0x8012_3456, [red, half, red, half]),
         (
-            fill(1, (0, 1, 4_294_967_295, 4_294_967_295), BLUE),
+            1,
+            (0, 1, 4_294_967_295, 4_294_967_295),
+            BLUE,
             [red, red, blue, blue],
         ),
-        (fill(3, (0, 0, 2, 2), BLUE), [red; 4]),
-        (fill(255, (2, 0, 1, 1), BLUE), [red; 4]),
+        (3, (0, 0, 2, 2), BLUE, [red; 4]),
+        (255, (2, 0, 1, 1), BLUE, [red; 4]),
     ] {
-        let mut pixels = [red; 4];
-        draw_pixels(rt.alloc(), &command, 2, 2, &mut pixels)?;
-        assert_eq!(rt; pixels, want, "{command:?}");
+        let command = fill(mode, at, color);
+        drawn(&rt, rt.alloc(), &command, 2, 2, &[red; 4], &want);
     }
+    let colors = Vec::from_slice(rt.alloc(), &[BLUE, RED, 0, BLUE]).expect(&rt, "memory");
     let image = Draw::PutImage {
         layer: 1,
         mode: 1,
@@ -294,12 +300,10 @@ fn fills_and_images_blend_where_they_cover(rt: HostRuntime) -> Result<(), Fail> 
         y: 0,
         w: 2,
         h: 2,
-        colors: Colors::from_vec(vec![in rt.alloc(); BLUE, RED, 0, BLUE]?),
+        colors: Colors::from_vec(colors),
     };
-    let mut pixels = [red; 4];
-    draw_pixels(rt.alloc(), &image, 2, 2, &mut pixels)?;
-    assert_eq!(rt; pixels, [red, blue, red, red]);
-    Ok(())
+    let want = [red, blue, red, red];
+    drawn(&rt, rt.alloc(), &image, 2, 2, &[red; 4], &want);
 }
 
 #[test]
