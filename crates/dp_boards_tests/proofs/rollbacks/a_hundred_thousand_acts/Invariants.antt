@@ -1,4 +1,4 @@
-use Rattle.dp_rollback_tests.proofs.tests.a_hundred_thousand_acts.Given as goal
+use Rattle.dp_boards_tests.proofs.rollbacks.a_hundred_thousand_acts.Given as goal
 
 abbrev pub ghosts-check_memory-D-Ledger : goal.ghosts-check_memory-D-Ledger
 ghosts-check_memory-D-Ledger g a = record { name = a.draw_blank.name; parts = a.draw_blank.parts }
