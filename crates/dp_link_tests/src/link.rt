@@ -7,12 +7,12 @@ ghost use Rattle.dp_epochs.specs.Laws.{ShutBefore};
 ghost use Rattle.dp_link.specs.Acts.{Act};
 
 use dp_events::{Event, Journal, Reply, Shut};
-use dp_split::Splitter;
 use dp_hall::{Hall, HallError, Seat, calls_add_up, seats_come_back};
 use dp_io::{Sink, Source};
 use dp_keeper::Keeper;
 use dp_link::{DownEnd, GreetEnd, UpEnd, UpRun, greet, greetings_are_seen, pump_down, run_up};
 use dp_session::Session;
+use dp_split::Splitter;
 use dp_wire::OpenGate;
 use std::alloc::{AllocError, Global};
 use std::sync::Wait;
