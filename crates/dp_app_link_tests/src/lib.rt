@@ -4,4 +4,6 @@
 #[cfg(test)]
 mod join;
 #[cfg(test)]
+mod running;
+#[cfg(test)]
 mod serve;

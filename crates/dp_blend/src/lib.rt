@@ -26,6 +26,3 @@ pub use modes::Mode;
 pub use rows::{row_blend, row_fill, row_merge, rows_fill};
 pub use stretch::Stretch;
 pub use white::{rgb_on_white, row_on_white};
-
-#[cfg(test)]
-mod tests;

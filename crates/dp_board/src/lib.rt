@@ -15,8 +15,6 @@ mod laws;
 mod number_board;
 mod sorted;
 mod table;
-#[cfg(test)]
-mod tests;
 mod window;
 
 pub use act::{Act, Change, UserAct};

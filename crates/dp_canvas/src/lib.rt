@@ -3,8 +3,6 @@
 
 mod canvas;
 mod deferred;
-#[cfg(test)]
-mod tests;
 mod tiled;
 
 pub use canvas::Canvas;

@@ -1,5 +1,4 @@
 pub mod Bands
 pub mod Composed
 pub mod Prefixes
-pub mod RedAndBlue
 pub mod Rows

@@ -16,6 +16,3 @@ mod tone;
 
 pub use picture::{PictureEnd, write_p3, write_p6};
 pub use pixel::flatten;
-
-#[cfg(test)]
-mod tests;

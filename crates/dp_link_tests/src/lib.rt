@@ -1,6 +1,15 @@
-//! The tests of links, in a crate of their own: one link over memory, from the Hello to the end.
+//! The tests of halls and links, in a crate of their own: seats that act, look and wait on threads
+//! of their own, and one link over memory, from the Hello to the end.
 #![tactic(auto)]
 
-pub mod link;
 #[cfg(test)]
-mod tests;
+mod halls;
+#[cfg(test)]
+mod link;
+#[cfg(test)]
+mod links;
+#[cfg(test)]
+mod pair;
+pub mod tally;
+#[cfg(test)]
+mod work;

@@ -7,22 +7,18 @@ ghost use Rattle.dp_epochs.specs.Laws.{ShutBefore};
 ghost use Rattle.dp_link.specs.Acts.{Act};
 
 use dp_events::{Event, Journal, Reply, Shut};
-use dp_split::Splitter;
 use dp_hall::{Hall, HallError, Seat, calls_add_up, seats_come_back};
 use dp_io::{Sink, Source};
 use dp_keeper::Keeper;
 use dp_link::{DownEnd, GreetEnd, UpEnd, UpRun, greet, greetings_are_seen, pump_down, run_up};
 use dp_session::Session;
+use dp_split::Splitter;
 use dp_wire::OpenGate;
 use std::alloc::{AllocError, Global};
 use std::sync::Wait;
 
-/// How a link ended.
-#[derive(Clone, Copy, Debug, PartialEq)]
-pub enum LinkEnd {
-    NotGreeted(GreetEnd),
-    Served(UpEnd, bool, DownEnd),
-}
+/// How a link ended: how both halves of a greeted one did, and whether its Close was acted.
+pub type LinkEnd = Result<(UpEnd, bool, DownEnd), GreetEnd>;
 
 /// Serves one link to its end, with the two pumps one after the other.
 pub fn serve_link<W: Wait, K: Keeper, R: Source, S: Sink>(
@@ -55,9 +51,9 @@ pub fn serve_link<W: Wait, K: Keeper, R: Source, S: Sink>(
                 &OpenGate,
             );
             let down = pump_down(rt, alloc, hall, seat, tx, &greeting);
-            LinkEnd::Served(end, close.is_ok(), down)
+            Ok((end, close.is_ok(), down))
         }
-        Err(end) => LinkEnd::NotGreeted(end),
+        Err(end) => Err(end),
     }
 }
 

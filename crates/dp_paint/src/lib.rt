@@ -24,6 +24,3 @@ pub use deferred::DeferredGrid;
 pub use movement::{move_in_place, move_one};
 pub use paint::{paint_in_place, paint_one};
 pub use resize::{resize_grid, resized_grid};
-
-#[cfg(test)]
-mod tests;

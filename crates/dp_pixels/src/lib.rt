@@ -33,6 +33,3 @@ pub use rect::{Place, Rect};
 pub use region::Region;
 pub use resize::Resize;
 pub use stroke::{Brush, brush_of, dabs_bounds, draw_dab, place_dabs};
-
-#[cfg(test)]
-mod tests;

@@ -10,90 +10,80 @@ use dp_messages::{Msg, put_entry};
 use dp_msg_draw::Draw;
 use dp_msg_meta::{Control, Ids, Meta};
 use dp_session::Session;
-use std::alloc::{AllocError, Global};
+use std::alloc::Global;
 use std::process::Abort;
-use std::test::Fail;
 
-/// A user asks to join under this name.
-fn open(alloc: Global, name: &[u8]) -> Result<Event, AllocError> {
-    let name = Octets::from_vec(Vec::from_slice(alloc, name)?);
-    let registered = false;
-    Ok(Event::Open { name, registered })
+/// What happens to a session: a user asks to join under a name, or the connection of a number says
+/// something or is closed. `Part` is a command that belongs to a reset.
+#[derive(Clone, Copy, Debug)]
+enum Deed {
+    Open(&'static [u8]),
+    Point(u32),
+    Owners(u32),
+    Ack(u32, u32),
+    Begin(u32),
+    Part(u32),
+    End(u32),
+    Close(u32),
 }
 
-/// A connection says a control message.
-fn control(conn: u32, control: Control) -> Event {
-    Event::Say {
-        conn,
-        msg: Msg::Control(control),
+use Deed::*;
+
+/// A copy of bytes.
+fn octets(rt: &impl Abort, alloc: Global, bytes: &[u8]) -> Octets {
+    Octets::from_vec(Vec::from_slice(alloc, bytes).expect(rt, "memory"))
+}
+
+/// The message that is said.
+fn message(alloc: Global, deed: Deed) -> Msg {
+    match deed {
+        Ack(_, epoch) => Msg::Control(Control::Ack { epoch }),
+        Begin(_) => Msg::Control(Control::ResetBegin),
+        End(_) => Msg::Control(Control::ResetEnd),
+        Part(_) => Msg::Part(Draw::Background { color: 255 }),
+        Owners(_) => {
+            let ids = Ids::from_vec(Vec::new(alloc));
+            Msg::Meta(Meta::Owners { ids })
+        }
+        _ => Msg::Point,
     }
 }
 
-/// A connection says a part of a reset.
-fn part(conn: u32) -> Event {
-    Event::Say {
-        conn,
-        msg: Msg::Part(Draw::Background { color: 255 }),
+/// The event.
+fn event(rt: &impl Abort, alloc: Global, deed: Deed) -> Event {
+    match deed {
+        Open(name) => Event::Open {
+            name: octets(rt, alloc, name),
+            registered: false,
+        },
+        Close(conn) => Event::Close { conn },
+        Point(conn) | Owners(conn) | Ack(conn, _) | Begin(conn) | Part(conn) | End(conn) => {
+            let msg = message(alloc, deed);
+            Event::Say { conn, msg }
+        }
     }
 }
 
-/// The event of a word. A number after the word is that of the connection.
-fn event(alloc: Global, word: &str) -> Result<Event, AllocError> {
-    match word {
-        "OPEN" => open(alloc, b"a"),
-        "OPEN without a name" => open(alloc, b""),
-        "OPEN as no text" => open(alloc, b"\xff"),
-        "OPEN as 32 bytes" => open(alloc, b"abcdefghijklmnopqrstuvwxyz012345"),
-        "OPEN as 33 bytes" => open(alloc, b"abcdefghijklmnopqrstuvwxyz0123456"),
-        "POINT 1" => Ok(Event::Say {
-            conn: 1,
-            msg: Msg::Point,
-        }),
-        "POINT 2" => Ok(Event::Say {
-            conn: 2,
-            msg: Msg::Point,
-        }),
-        "OWNERS 2" => Ok(Event::Say {
-            conn: 2,
-            msg: Msg::Meta(Meta::Owners {
-                ids: Ids::from_vec(Vec::new(alloc)),
-            }),
-        }),
-        "ACK 2" => Ok(Event::Say {
-            conn: 2,
-            msg: Msg::Control(Control::Ack { epoch: 0 }),
-        }),
-        "BEGIN 1" => Ok(control(1, Control::ResetBegin)),
-        "BEGIN 2" => Ok(control(2, Control::ResetBegin)),
-        "END 1" => Ok(control(1, Control::ResetEnd)),
-        "END 2" => Ok(control(2, Control::ResetEnd)),
-        "PART 1" => Ok(part(1)),
-        "PART 2" => Ok(part(2)),
-        "ACK 1 of epoch 1" => Ok(control(1, Control::Ack { epoch: 1 })),
-        "ACK 2 of epoch 1" => Ok(control(2, Control::Ack { epoch: 1 })),
-        "ACK 2 of epoch 2" => Ok(control(2, Control::Ack { epoch: 2 })),
-        "CLOSE 2" => Ok(Event::Close { conn: 2 }),
-        "CLOSE 7" => Ok(Event::Close { conn: 7 }),
-        _ => Ok(Event::Close { conn: 1 }),
-    }
+/// A session over a store that never fails.
+fn session(rt: &impl Abort, alloc: Global) -> Session<SureKeeper> {
+    Session::new(alloc, SureKeeper::new(Rows::new(alloc))).expect(rt, "memory")
 }
 
-/// Serves the event of a word, and checks the answer.
+/// Serves an event, and checks the answer.
 fn serve<K: Keeper>(
     rt: &impl Abort,
     alloc: Global,
     session: &mut Session<K>,
-    word: &str,
+    deed: Deed,
     answer: Reply,
-) -> Result<(), AllocError> {
-    let event = event(alloc, word)?;
-    let given = session.step(&event)?;
-    assert_eq!(rt; given, answer, "{word}");
-    Ok(())
+) {
+    let event = event(rt, alloc, deed);
+    let given = session.step(&event).expect(rt, "memory");
+    assert_eq!(rt; given, answer, "{deed:?}");
 }
 
 /// An Open that is answered so.
-const fn opened(conn: u32, user: u8, at: u32) -> Reply {
+fn opened(conn: u32, user: u8, at: u32) -> Reply {
     Reply::Opened {
         conn,
         user,
@@ -102,235 +92,246 @@ const fn opened(conn: u32, user: u8, at: u32) -> Reply {
     }
 }
 
-/// How many entries a Pull gives, from where on; `None` for Gone.
-fn pull<K: Keeper>(
+/// A Pull: the connection, the epoch, from where on, and how many entries at most.
+type Pull = (u32, u32, u32, u32);
+
+/// Checks how many entries a Pull gives, and from where on; `None` for Gone.
+fn check_pull<K: Keeper>(
+    rt: &impl Abort,
     session: &Session<K>,
-    conn: u32,
-    epoch: u32,
-    at: u32,
-    max: u32,
-) -> Result<Option<(u32, usize)>, AllocError> {
+    (conn, epoch, at, max): Pull,
+    wanted: Option<(u32, usize)>,
+) {
     let query = Query::Pull {
         conn,
         epoch,
         at,
         max,
     };
-    Ok(match session.ask(&query)? {
+    let given = match session.ask(&query).expect(rt, "memory") {
         Answer::Entries { at, list, .. } => Some((at, list.as_slice().len())),
         Answer::Gone => None,
-    })
+    };
+    assert_eq!(rt; given, wanted, "{conn} {epoch} {at} {max}");
 }
 
-/// A page of frames is what a Pull of as many entries is answered.
+/// Checks that a page of frames is what a Pull of as many entries is answered.
 fn check_page<K: Keeper>(
     rt: &impl Abort,
     alloc: Global,
     session: &Session<K>,
-    conn: u32,
-    epoch: u32,
-    at: u32,
-) -> Result<(), Fail> {
+    (conn, epoch, at, _): Pull,
+) {
     let mut frames = Vec::new(alloc);
-    let Some(page) = session.put_page(conn, epoch, at, &mut frames)? else {
-        assert_eq!(rt; pull(session, conn, epoch, at, 1)?, None);
-        return Ok(());
-    };
-    let max = u32::try_from(page.count).unwrap_or(0);
+    let page = session
+        .put_page(conn, epoch, at, &mut frames)
+        .expect(rt, "memory");
+    let max = page.map_or(1, |page| page.count as u32);
     let query = Query::Pull {
         conn,
         epoch,
         at,
         max,
     };
-    let Answer::Entries { epoch, at, list } = session.ask(&query)? else {
-        panic!(rt; "gone")
-    };
     let mut written = Vec::new(alloc);
-    for entry in list.as_slice() {
-        put_entry(entry, &mut written)?;
+    let mut given = None;
+    if let Answer::Entries { epoch, at, list } = session.ask(&query).expect(rt, "memory") {
+        for entry in list.as_slice() {
+            put_entry(entry, &mut written).expect(rt, "memory");
+        }
+        given = Some((epoch, at, list.as_slice().len()));
     }
-    let count = list.as_slice().len();
-    assert_eq!(rt; (page.epoch, page.at, page.count), (epoch, at, count));
+    assert_eq!(rt; page.map(|page| (page.epoch, page.at, page.count)), given);
     assert_eq!(rt; frames.as_slice(), written.as_slice());
-    Ok(())
+}
+
+/// The answers to the first two users who join.
+const FIRST: Reply = Reply::Opened {
+    conn: 1,
+    user: 1,
+    epoch: 0,
+    at: 1,
+};
+
+const SECOND: Reply = Reply::Opened {
+    conn: 2,
+    user: 2,
+    epoch: 0,
+    at: 3,
+};
+
+/// Events with their answers; then how many connections take part in an epoch, and Pulls with what
+/// they give.
+struct Case {
+    events: &'static [(Deed, Reply)],
+    conns: &'static [(u32, Option<u32>)],
+    pulls: &'static [(Pull, Option<(u32, usize)>)],
+}
+
+static CASES: [Case; 3] = [
+    // Each answer.
+    Case {
+        events: &[
+            (Open(b""), Reply::NameRefused),
+            (Open(b"\xff"), Reply::NameRefused),
+            (
+                Open(b"abcdefghijklmnopqrstuvwxyz0123456"),
+                Reply::NameRefused,
+            ),
+            (Open(b"abcdefghijklmnopqrstuvwxyz012345"), FIRST),
+            (Open(b"a"), SECOND),
+            (Owners(2), Reply::Filtered { epoch: 0, at: 4 }),
+            (Point(2), Reply::Placed { epoch: 0, at: 5 }),
+            (Ack(2, 0), Reply::Ignored),
+            (Close(1), Reply::Placed { epoch: 0, at: 6 }),
+            (Close(1), Reply::Ignored),
+        ],
+        conns: &[(0, Some(2))],
+        pulls: &[
+            ((1, 0, 5, 9), Some((5, 2))),
+            ((1, 0, 7, 9), None),
+            ((2, 0, 7, 9), Some((7, 1))),
+            ((2, 1, 7, 0), Some((0, 1))),
+        ],
+    },
+    // Of two users the first is operator, and resets the session. The opening has the mark, two
+    // Joins, four messages about rights, and the command.
+    Case {
+        events: &[
+            (Open(b"a"), FIRST),
+            (Open(b"a"), SECOND),
+            (Part(1), Reply::Filtered { epoch: 0, at: 4 }),
+            (Begin(1), Reply::Noted),
+            (Begin(2), Reply::Filtered { epoch: 0, at: 5 }),
+            (Part(1), Reply::Noted),
+            (Part(2), Reply::Filtered { epoch: 0, at: 6 }),
+            (End(2), Reply::Filtered { epoch: 0, at: 7 }),
+            (End(1), Reply::Placed { epoch: 1, at: 0 }),
+            (Point(2), Reply::Ignored),
+            (Ack(2, 0), Reply::Ignored),
+            (Ack(2, 1), Reply::Noted),
+            (Ack(2, 1), Reply::Ignored),
+            (Point(2), Reply::Placed { epoch: 1, at: 8 }),
+            (Begin(1), Reply::Ignored),
+            (Ack(1, 1), Reply::Noted),
+            (End(1), Reply::Filtered { epoch: 1, at: 9 }),
+        ],
+        conns: &[],
+        pulls: &[
+            ((1, 0, 3, 100), Some((0, 10))),
+            ((2, 1, 8, 1), Some((8, 1))),
+            ((2, 1, 10, 1), Some((10, 0))),
+        ],
+    },
+    // A reset is dropped with its owner, and the next operator may send one.
+    Case {
+        events: &[
+            (Open(b"a"), FIRST),
+            (Open(b"a"), SECOND),
+            (Begin(1), Reply::Noted),
+            (Close(1), Reply::Placed { epoch: 0, at: 4 }),
+            (End(2), Reply::Filtered { epoch: 0, at: 6 }),
+            (Begin(2), Reply::Noted),
+            (End(2), Reply::Placed { epoch: 1, at: 0 }),
+            (Ack(2, 1), Reply::Noted),
+            (Begin(2), Reply::Noted),
+            (End(2), Reply::Placed { epoch: 2, at: 0 }),
+            (Ack(2, 1), Reply::Ignored),
+            (Ack(2, 2), Reply::Noted),
+            (Point(2), Reply::Placed { epoch: 2, at: 6 }),
+        ],
+        conns: &[],
+        pulls: &[((1, 0, 4, 1), None)],
+    },
+];
+
+/// Serves the events of a case, and asks what it asks.
+fn check(rt: &impl Abort, alloc: Global, case: &Case) {
+    let mut session = session(rt, alloc);
+    for (deed, answer) in case.events {
+        serve(rt, alloc, &mut session, *deed, *answer);
+    }
+    for (epoch, count) in case.conns {
+        assert_eq!(rt; session.conns(*epoch), *count);
+    }
+    for (pull, wanted) in case.pulls {
+        check_pull(rt, &session, *pull, *wanted);
+        check_page(rt, alloc, &session, *pull);
+    }
 }
 
 #[test]
-fn each_answer(rt: HostRuntime) -> Result<(), Fail> {
-    let mut session = Session::new(rt.alloc(), SureKeeper::new(Rows::new(rt.alloc())))?;
-    for (word, answer) in [
-        ("OPEN without a name", Reply::NameRefused),
-        ("OPEN as no text", Reply::NameRefused),
-        ("OPEN as 33 bytes", Reply::NameRefused),
-        ("OPEN as 32 bytes", opened(1, 1, 1)),
-        ("OPEN", opened(2, 2, 3)),
-        ("OWNERS 2", Reply::Filtered { epoch: 0, at: 4 }),
-        ("POINT 2", Reply::Placed { epoch: 0, at: 5 }),
-        ("ACK 2", Reply::Ignored),
-        ("CLOSE 1", Reply::Placed { epoch: 0, at: 6 }),
-        ("CLOSE 1", Reply::Ignored),
-    ] {
-        serve(&rt, rt.alloc(), &mut session, word, answer)?;
+fn answers(rt: HostRuntime) {
+    for case in &CASES {
+        check(&rt, rt.alloc(), case);
     }
-    assert_eq!(rt; session.conns(0), Some(2));
-    for ((conn, epoch, at, max), given) in [
-        ((1, 0, 5, 9), Some((5, 2))),
-        ((1, 0, 7, 9), None),
-        ((2, 0, 7, 9), Some((7, 1))),
-        ((2, 1, 7, 0), Some((0, 1))),
-    ] {
-        assert_eq!(rt; pull(&session, conn, epoch, at, max)?, given);
-        check_page(&rt, rt.alloc(), &session, conn, epoch, at)?;
-    }
-    Ok(())
-}
-
-/// Of two users the first is operator, and resets the session. The opening has the mark, two Joins,
-/// four messages about rights, and the command.
-#[test]
-fn a_reset_opens_the_next_epoch(rt: HostRuntime) -> Result<(), Fail> {
-    let mut session = Session::new(rt.alloc(), SureKeeper::new(Rows::new(rt.alloc())))?;
-    for (word, answer) in [
-        ("OPEN", opened(1, 1, 1)),
-        ("OPEN", opened(2, 2, 3)),
-        ("PART 1", Reply::Filtered { epoch: 0, at: 4 }),
-        ("BEGIN 1", Reply::Noted),
-        ("BEGIN 2", Reply::Filtered { epoch: 0, at: 5 }),
-        ("PART 1", Reply::Noted),
-        ("PART 2", Reply::Filtered { epoch: 0, at: 6 }),
-        ("END 2", Reply::Filtered { epoch: 0, at: 7 }),
-        ("END 1", Reply::Placed { epoch: 1, at: 0 }),
-        ("POINT 2", Reply::Ignored),
-        ("ACK 2", Reply::Ignored),
-        ("ACK 2 of epoch 1", Reply::Noted),
-        ("ACK 2 of epoch 1", Reply::Ignored),
-        ("POINT 2", Reply::Placed { epoch: 1, at: 8 }),
-        ("BEGIN 1", Reply::Ignored),
-        ("ACK 1 of epoch 1", Reply::Noted),
-        ("END 1", Reply::Filtered { epoch: 1, at: 9 }),
-    ] {
-        serve(&rt, rt.alloc(), &mut session, word, answer)?;
-    }
-    for ((conn, epoch, at, max), given) in [
-        ((1, 0, 3, 100), Some((0, 10))),
-        ((2, 1, 8, 1), Some((8, 1))),
-        ((2, 1, 10, 1), Some((10, 0))),
-    ] {
-        assert_eq!(rt; pull(&session, conn, epoch, at, max)?, given);
-        check_page(&rt, rt.alloc(), &session, conn, epoch, at)?;
-    }
-    Ok(())
-}
-
-/// A reset is dropped with its owner, and the next operator may send one.
-#[test]
-fn a_reset_ends_with_its_owner(rt: HostRuntime) -> Result<(), Fail> {
-    let mut session = Session::new(rt.alloc(), SureKeeper::new(Rows::new(rt.alloc())))?;
-    for (word, answer) in [
-        ("OPEN", opened(1, 1, 1)),
-        ("OPEN", opened(2, 2, 3)),
-        ("BEGIN 1", Reply::Noted),
-        ("CLOSE 1", Reply::Placed { epoch: 0, at: 4 }),
-        ("END 2", Reply::Filtered { epoch: 0, at: 6 }),
-        ("BEGIN 2", Reply::Noted),
-        ("END 2", Reply::Placed { epoch: 1, at: 0 }),
-        ("ACK 2 of epoch 1", Reply::Noted),
-        ("BEGIN 2", Reply::Noted),
-        ("END 2", Reply::Placed { epoch: 2, at: 0 }),
-        ("ACK 2 of epoch 1", Reply::Ignored),
-        ("ACK 2 of epoch 2", Reply::Noted),
-        ("POINT 2", Reply::Placed { epoch: 2, at: 6 }),
-    ] {
-        serve(&rt, rt.alloc(), &mut session, word, answer)?;
-    }
-    assert_eq!(rt; pull(&session, 1, 0, 4, 1)?, None);
-    Ok(())
 }
 
 #[test]
-fn ids_are_given_again(rt: HostRuntime) -> Result<(), Fail> {
-    let mut session = Session::new(rt.alloc(), SureKeeper::new(Rows::new(rt.alloc())))?;
+fn ids_are_given_again(rt: HostRuntime) {
+    let mut session = session(&rt, rt.alloc());
     for user in 1..255u8 {
         let conn = u32::from(user);
-        let at = if user == 1 { 1 } else { conn + 1 };
-        serve(
-            &rt,
-            rt.alloc(),
-            &mut session,
-            "OPEN",
-            opened(conn, user, at),
-        )?;
+        let answer = opened(conn, user, if user == 1 { 1 } else { conn + 1 });
+        serve(&rt, rt.alloc(), &mut session, Open(b"a"), answer);
     }
-    for (word, answer) in [
-        ("OPEN", Reply::Full),
-        ("CLOSE 7", Reply::Placed { epoch: 0, at: 256 }),
-        ("OPEN", opened(255, 7, 257)),
+    for (deed, answer) in [
+        (Open(b"a"), Reply::Full),
+        (Close(7), Reply::Placed { epoch: 0, at: 256 }),
+        (Open(b"a"), opened(255, 7, 257)),
     ] {
-        serve(&rt, rt.alloc(), &mut session, word, answer)?;
+        serve(&rt, rt.alloc(), &mut session, deed, answer);
     }
-    Ok(())
 }
 
 /// Two users join, say something and leave.
-static EVENTS: [&str; 10] = [
-    "OPEN", "OPEN", "POINT 1", "POINT 2", "POINT 2", "CLOSE 1", "OPEN", "POINT 1", "POINT 2",
-    "CLOSE 2",
+static EVENTS: [Deed; 10] = [
+    Open(b"a"),
+    Open(b"a"),
+    Point(1),
+    Point(2),
+    Point(2),
+    Close(1),
+    Open(b"a"),
+    Point(1),
+    Point(2),
+    Close(2),
 ];
 
-/// The answers to these events over a store that fails at the put of this number: whether each is a
-/// fault.
-fn run_to_fault(
-    rt: &impl Abort,
-    alloc: Global,
-    session: &mut Session<MemKeeper>,
-    call: usize,
-) -> Result<(), AllocError> {
-    for (k, word) in EVENTS.iter().enumerate() {
-        let event = event(alloc, word)?;
-        let answer = session.step(&event)?;
-        assert_eq!(rt;
-            answer == Reply::StoreFault { count: 1 },
-            k + 1 >= call,
-            "{word}"
-        );
+/// Serves these events over a store that fails at the put of this number: all answers from there on
+/// are faults.
+fn run_to_fault(rt: &impl Abort, alloc: Global, session: &mut Session<MemKeeper>, call: usize) {
+    for (k, deed) in EVENTS.iter().enumerate() {
+        let event = event(rt, alloc, *deed);
+        let answer = session.step(&event).expect(rt, "memory");
+        let is_fault = answer == Reply::StoreFault { count: 1 };
+        assert_eq!(rt; is_fault, k + 1 >= call, "{deed:?}");
     }
-    Ok(())
 }
 
 /// A store that fails at the put of this number, with the row kept or lost: the closings after are
 /// `closings`.
-fn fails_at(
-    rt: &impl Abort,
-    alloc: Global,
-    call: usize,
-    kept: bool,
-    closings: &[ShutAt],
-) -> Result<(), Fail> {
-    let fails = vec![in alloc; (call as u64, kept)]?;
+fn fails_at(rt: &impl Abort, alloc: Global, call: usize, kept: bool, closings: &[ShutAt]) {
+    let fails = vec![in alloc; (call as u64, kept)].expect(rt, "memory");
     let keeper = MemKeeper::new(Rows::new(alloc), fails, Vec::new(alloc));
-    let mut session = Session::new(alloc, keeper)?;
-    run_to_fault(rt, alloc, &mut session, call)?;
+    let mut session = Session::new(alloc, keeper).expect(rt, "memory");
+    run_to_fault(rt, alloc, &mut session, call);
     let (keeper, journal, shut) = session.into_parts();
     let before = call.wrapping_sub(1);
-    assert_eq!(rt;
-        keeper.held().as_slice().len(),
-        if kept { call } else { before }
-    );
+    let held = keeper.held().as_slice().len();
+    assert_eq!(rt; held, if kept { call } else { before });
     assert_eq!(rt; journal.as_slice().len(), before);
     assert_eq!(rt; shut.as_slice(), closings);
-    Ok(())
 }
 
 #[test]
-fn a_store_that_fails(rt: HostRuntime) -> Result<(), Fail> {
+fn a_store_that_fails(rt: HostRuntime) {
     let first = [ShutAt { conn: 1, n: 2 }, ShutAt { conn: 2, n: 2 }];
     let last = [ShutAt { conn: 2, n: 9 }];
     for kept in [false, true] {
-        fails_at(&rt, rt.alloc(), 3, kept, &first)?;
-        fails_at(&rt, rt.alloc(), 10, kept, &last)?;
+        fails_at(&rt, rt.alloc(), 3, kept, &first);
+        fails_at(&rt, rt.alloc(), 10, kept, &last);
     }
-    Ok(())
 }
 
 /// A store that keeps nothing.
@@ -357,44 +358,44 @@ impl Keeper for Forgetful {
 
 /// Connection 1 says a message of an unlisted kind, with that many bytes.
 fn say_bytes(
+    rt: &impl Abort,
     alloc: Global,
     session: &mut Session<Forgetful>,
     length: usize,
-) -> Result<Reply, AllocError> {
-    let body = Octets::from_vec(vec![in alloc; 0; length]?);
+) -> Reply {
+    let body = Octets::from_vec(vec![in alloc; 0; length].expect(rt, "memory"));
     let msg = Msg::Opaque { kind: 200, body };
-    session.step(&Event::Say { conn: 1, msg })
+    session
+        .step(&Event::Say { conn: 1, msg })
+        .expect(rt, "memory")
 }
 
 /// The row of the Open has 3 bytes, each Say has 6 beside its payload, and a Close has 5: of 2^30
 /// bytes 49159 are left after 16382 of the greatest payloads.
 #[test]
-fn ends_where_no_room_is_left(rt: HostRuntime) -> Result<(), Fail> {
-    let mut session = Session::new(rt.alloc(), Forgetful {})?;
-    serve(&rt, rt.alloc(), &mut session, "OPEN", opened(1, 1, 1))?;
+fn ends_where_no_room_is_left(rt: HostRuntime) {
+    let mut session = Session::new(rt.alloc(), Forgetful {}).expect(&rt, "memory");
+    serve(&rt, rt.alloc(), &mut session, Open(b"a"), FIRST);
     for k in 0..16382 {
         let placed = Reply::Placed {
             epoch: 0,
             at: k + 3,
         };
-        assert_eq!(rt; say_bytes(rt.alloc(), &mut session, 65535)?, placed);
+        assert_eq!(rt; say_bytes(&rt, rt.alloc(), &mut session, 65535), placed);
     }
+    let last = Reply::Placed {
+        epoch: 0,
+        at: 16385,
+    };
     for (length, answer) in [
         (65535, Reply::Ended),
         (49154, Reply::Ended),
-        (
-            49153,
-            Reply::Placed {
-                epoch: 0,
-                at: 16385,
-            },
-        ),
+        (49153, last),
         (0, Reply::Ended),
     ] {
-        assert_eq!(rt; say_bytes(rt.alloc(), &mut session, length)?, answer);
+        assert_eq!(rt; say_bytes(&rt, rt.alloc(), &mut session, length), answer);
     }
     assert_eq!(rt; session.conns(0), Some(1));
-    serve(&rt, rt.alloc(), &mut session, "CLOSE 1", Reply::Ended)?;
+    serve(&rt, rt.alloc(), &mut session, Close(1), Reply::Ended);
     assert_eq!(rt; session.conns(0), None);
-    Ok(())
 }

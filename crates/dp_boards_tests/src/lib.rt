@@ -1,0 +1,10 @@
+//! The tests of boards, rollbacks and snapshots, in a crate of their own: so each crate of these is
+//! proved once, and not once more with its tests.
+#![tactic(auto)]
+
+#[cfg(test)]
+mod rollbacks;
+#[cfg(test)]
+mod snapshots;
+#[cfg(test)]
+mod strokes;

@@ -1,0 +1,255 @@
+//! Rollbacks of a row of numbers beside the plain replay.
+
+ghost use Rattle.std.specs.Prelude.{◌≡◌, ◌<◌};
+
+use dp_board::{Act, Change, NumberBoard, SetNumber, UserAct, drawn_flags};
+use dp_rollback::{Rollback, TrailingBoard, few_are_due};
+use dp_steps::Steps;
+use std::alloc::{AllocError, Global};
+use std::marker::Brand;
+use std::process::Abort;
+use std::sync::ledger::{Blank, Ledger};
+
+/// How many numbers the row has.
+const NUMBERS: usize = 8;
+
+/// The act of a word: what it does (Point, Draw, Undo, Redo, Other) and a user. A command sets the
+/// number of its user to its place in the history.
+fn act_of(rt: &impl Abort, word: &str, place: usize) -> UserAct<SetNumber> {
+    let [kind, digit] = word.as_bytes() else {
+        panic!(rt; "{word} has not two letters");
+    };
+    let user = *digit % 8;
+    let act = match kind {
+        b'P' => Act::Point,
+        b'D' => Act::Draw(SetNumber {
+            place: usize::from(user),
+            value: (place as u64).saturating_add(1),
+        }),
+        b'U' => Act::Undo { who: user },
+        b'R' => Act::Redo { who: user },
+        _ => Act::Other,
+    };
+    UserAct { user, act }
+}
+
+/// The numbers after the commands that are drawn.
+fn replayed(
+    rt: &impl Abort,
+    alloc: Global,
+    depth: u32,
+    acts: &[UserAct<SetNumber>],
+) -> [u64; NUMBERS] {
+    let mut numbers = [0; NUMBERS];
+    let flags = drawn_flags(alloc, depth, acts).expect(rt, "memory");
+    for (act, drawn) in acts.iter().zip(flags.as_slice()) {
+        if let Act::Draw(op) = &act.act
+            && *drawn
+            && op.place < NUMBERS
+        {
+            numbers[op.place] = op.value;
+        }
+    }
+    numbers
+}
+
+/// The numbers of a board.
+fn numbers_of(rt: &impl Abort, board: &NumberBoard) -> [u64; NUMBERS] {
+    let mut numbers = [0; NUMBERS];
+    for place in 0..NUMBERS {
+        numbers[place] = board.get(place).expect(rt, "a number");
+    }
+    numbers
+}
+
+/// Takes an act, and once more where memory was refused.
+fn take<D: Ledger, T: Ledger>(
+    rollback: &mut Rollback<NumberBoard>,
+    act: &UserAct<SetNumber>,
+    draws: &mut Steps<D>,
+    tiles: &mut Steps<T>,
+) -> Result<Change, AllocError> {
+    match rollback.take(act.user, &act.act, draws, tiles) {
+        Ok(change) => Ok(change),
+        Err(_) => rollback.take(act.user, &act.act, draws, tiles),
+    }
+}
+
+/// The letter of a change.
+fn letter(change: Change) -> u8 {
+    match change {
+        Change::Drew => b'd',
+        Change::Rebuilt => b'r',
+        Change::Nothing => b'-',
+    }
+}
+
+/// Takes the acts of a script one by one, and compares the numbers with the replay after each. The
+/// changes have these letters, if any are given.
+fn check_script<D: Ledger, T: Ledger>(
+    rt: &impl Abort,
+    alloc: Global,
+    (depth, script, changes): (u32, &str, Option<&str>),
+    draws: &mut Steps<D>,
+    tiles: &mut Steps<T>,
+) {
+    let blank = NumberBoard::new(alloc, NUMBERS).expect(rt, "memory");
+    let rollback = Rollback::new(alloc, blank, depth, draws, tiles);
+    let mut rollback = rollback.expect(rt, "memory");
+    let mut acts = Vec::new(alloc);
+    for (k, word) in script.split_whitespace().enumerate() {
+        let act = act_of(rt, word, k);
+        let change = take(&mut rollback, &act, draws, tiles).expect(rt, "memory");
+        if let Some(changes) = changes {
+            let wanted = changes.as_bytes().get(k).copied();
+            assert_eq!(rt; Some(letter(change)), wanted, "{k} of {script} at {depth}");
+        }
+        acts.push(act).expect(rt, "memory");
+        let (numbers, wanted) = (
+            numbers_of(rt, rollback.board()),
+            replayed(rt, alloc, depth, &acts),
+        );
+        assert!(rt; numbers == wanted, "after {word} in {script} at {depth}");
+    }
+}
+
+/// A depth, a script and the letters of its changes.
+static SCRIPTS: [(u32, &str, &str); 8] = [
+    (30, "", ""),
+    (30, "D1 P1 D1 U1 U1", "d-dr-"),
+    (30, "P1 D1 P2 D2 U1 D1 R1", "-d-drd-"),
+    (30, "P1 D1 D2 U1 R1 U1 O1 R1", "-ddrrr-r"),
+    // Undo of another user's group leaves the sender's.
+    (30, "P1 D1 P2 D2 U2 U2 R2", "-d-dr-r"),
+    (0, "P1 D1 U1", "-d-"),
+    (1, "P1 D1 P2 U1 U2", "-d--r"),
+    (2, "P1 D1 P1 D1 P1 D1 U1 U1 U1 R1 R1", "-d-d-drr-rr"),
+];
+
+/// The word of an act of the group of a number, where each third group is undone and each sixth
+/// comes back.
+fn add_group(script: &mut String, number: usize, commands: usize) -> Result<(), AllocError> {
+    let (point, command, undo) = match number % 3 {
+        0 => (" P1", " D1", ""),
+        1 => (" P2", " D2", ""),
+        _ => (" P3", " D3", " U3"),
+    };
+    script.push_str(point)?;
+    for _ in 0..commands {
+        script.push_str(command)?;
+    }
+    script.push_str(undo)?;
+    script.push_str(if number % 6 == 5 { " U1 R3" } else { "" })
+}
+
+/// A script of so many groups. Each has `commands` commands, or, where that is `None`, from 0 to 19
+/// in turn.
+fn script_of(rt: &impl Abort, alloc: Global, groups: usize, commands: Option<usize>) -> String {
+    let mut script = String::new(alloc);
+    for number in 0..groups {
+        let count = commands.unwrap_or(number % 20);
+        add_group(&mut script, number, count).expect(rt, "memory");
+    }
+    script
+}
+
+/// Takes a script again and again, more than a hundred thousand acts. None is held beyond as many as
+/// were held among the first ten thousand.
+fn check_memory<D: Ledger, T: Ledger>(
+    rt: &impl Abort,
+    alloc: Global,
+    draw_blank: Blank,
+    tile_blank: Blank,
+)
+    requires draws { (draw_blank.name ≡ D.name) × (draw_blank.parts ≡ D.parts)
+        × (0 < draw_blank.parts) }
+    requires tiles { (tile_blank.name ≡ T.name) × (tile_blank.parts ≡ T.parts)
+        × (0 < tile_blank.parts) }
+{
+    let mut draws = Steps::<D>::new(draw_blank);
+    let mut tiles = Steps::<T>::new(tile_blank);
+    let blank = NumberBoard::new(alloc, NUMBERS).expect(rt, "memory");
+    let rollback = Rollback::new(alloc, blank, 30, &mut draws, &mut tiles);
+    let mut rollback = rollback.expect(rt, "memory");
+    let script = script_of(rt, alloc, 60, Some(8));
+    let mut most = 0;
+    let mut count: usize = 0;
+    for _ in 0..175 {
+        for word in script.as_str().split_whitespace() {
+            let act = act_of(rt, word, count % 1000);
+            let ready = rollback.ready(act.user, &act.act, &mut draws, &mut tiles);
+            let ready = ready.expect(rt, "memory");
+            assert!(rt; rollback.spare() > 0);
+            rollback.put(ready);
+            count = count.saturating_add(1);
+            if count < 10_000 {
+                most = rollback.kept().max(most);
+            }
+            assert!(rt; rollback.kept() <= most || count < 10_000);
+        }
+    }
+    assert!(rt; count > 100_000, "{count} acts");
+    assert!(rt; most < 500, "{most} acts");
+}
+
+/// Has a board trail some two thousand acts, many more than it holds, and compares at the end.
+fn check_trailing<D: Ledger, T: Ledger>(
+    rt: &impl Abort,
+    alloc: Global,
+    depth: u32,
+    draws: &mut Steps<D>,
+    tiles: &mut Steps<T>,
+) {
+    let script = script_of(rt, alloc, 200, None);
+    let blank = NumberBoard::new(alloc, NUMBERS).expect(rt, "memory");
+    let mut board = TrailingBoard::new(alloc, depth, blank).expect(rt, "memory");
+    let mut acts = Vec::new(alloc);
+    for (place, word) in script.as_str().split_whitespace().enumerate() {
+        board
+            .take(act_of(rt, word, place), draws, tiles)
+            .expect(rt, "memory");
+        acts.push(act_of(rt, word, place)).expect(rt, "memory");
+    }
+    assert!(rt; acts.len() > 2000, "{} acts", acts.len());
+    let board = board.finish(draws, tiles).expect(rt, "memory");
+    let (numbers, wanted) = (numbers_of(rt, &board), replayed(rt, alloc, depth, &acts));
+    assert!(rt; numbers == wanted, "at {depth}");
+}
+
+/// Checks scripts, two hundred groups of a command, and boards that trail, with counters over these
+/// blanks.
+fn check_all<D: Ledger, T: Ledger>(
+    rt: &impl Abort,
+    alloc: Global,
+    draw_blank: Blank,
+    tile_blank: Blank,
+)
+    requires draws { (draw_blank.name ≡ D.name) × (draw_blank.parts ≡ D.parts)
+        × (0 < draw_blank.parts) }
+    requires tiles { (tile_blank.name ≡ T.name) × (tile_blank.parts ≡ T.parts)
+        × (0 < tile_blank.parts) }
+{
+    let mut draws = Steps::<D>::new(draw_blank);
+    let mut tiles = Steps::<T>::new(tile_blank);
+    for (depth, script, changes) in &SCRIPTS {
+        let row = (*depth, *script, Some(*changes));
+        check_script(rt, alloc, row, &mut draws, &mut tiles);
+    }
+    let script = script_of(rt, alloc, 200, Some(1));
+    for depth in [30, 3] {
+        let row = (depth, script.as_str(), None);
+        check_script(rt, alloc, row, &mut draws, &mut tiles);
+        check_trailing(rt, alloc, depth, &mut draws, &mut tiles);
+    }
+}
+
+#[test]
+fn scripts_and_groups(rt: HostRuntime) {
+    few_are_due::<u8>();
+    check_all::<Brand, Brand>(&rt, rt.alloc(), Blank::new(1), Blank::new(1));
+}
+
+#[test]
+fn a_hundred_thousand_acts(rt: HostRuntime) {
+    check_memory::<Brand, Brand>(&rt, rt.alloc(), Blank::new(1), Blank::new(1));
+}

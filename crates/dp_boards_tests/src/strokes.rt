@@ -1,0 +1,214 @@
+//! Which commands of a history are drawn, and what each act moves and joins.
+
+use dp_board::{
+    Act, Join, StrokeTable, UserAct, commands_do_not_count, drawn_flags, each_act_has_a_flag,
+    final_flags_stay, flags_go_on, groups_are_points, groups_come_first, strokes_go_on,
+    tables_follow, window_is_of_last_points,
+};
+use std::alloc::Global;
+use std::process::Abort;
+
+/// The act of a word: its user, what it does (Point, Draw, Undo, Redo, Other) and the user of an
+/// Undo or a Redo. A Draw that is expected to be drawn ends in `+`.
+fn act_of(rt: &impl Abort, word: &str) -> UserAct<u8> {
+    let [user, kind, last] = word.as_bytes() else {
+        panic!(rt; "{word} has not three letters");
+    };
+    let act = match kind {
+        b'P' => Act::Point,
+        b'D' => Act::Draw(*last),
+        b'U' => Act::Undo { who: *last },
+        b'R' => Act::Redo { who: *last },
+        b'O' => Act::Other,
+        _ => panic!(rt; "{word} does nothing known"),
+    };
+    UserAct { user: *user, act }
+}
+
+/// Adds the acts of a script, which has a word for each.
+fn push_acts(rt: &impl Abort, acts: &mut Vec<UserAct<u8>>, script: &str) {
+    for word in script.split_whitespace() {
+        acts.push(act_of(rt, word)).expect(rt, "memory");
+    }
+}
+
+/// Whether each command is drawn, and no other act, that `push_acts` made for it.
+fn is_as_expected(acts: &[UserAct<u8>], flags: &[bool]) -> bool {
+    acts.iter().zip(flags).all(|(act, drawn)| matches!(act.act, Act::Draw(b'+')) == *drawn)
+}
+
+/// The depth of undo, and a history: one script, points of user 2 and another script.
+static HISTORIES: [(u32, &str, u32, &str); 36] = [
+    (30, "", 0, ""),
+    (30, "1P. 1D- 1U1", 0, ""),
+    (30, "1P. 1D- 1D- 1U1", 0, ""),
+    (30, "1D+ 1P. 1D- 1U1", 0, ""),
+    // Group 0 is never undone.
+    (30, "1D+ 1U1 1U1", 0, ""),
+    (30, "1D+ 1P. 1D- 1U1 1U1", 0, ""),
+    // The same history after each of its acts.
+    (30, "1P. 1D+", 0, ""),
+    (30, "1P. 1D+ 1U1 1R1", 0, ""),
+    (30, "1P. 1D+ 1U1 1R1 1R1", 0, ""),
+    (30, "1P. 1D- 1U1 1R1 1R1 1U1", 0, ""),
+    (30, "1P. 1D- 1U1 1R1 1R1 1U1 1D+", 0, ""),
+    (30, "1P. 1D- 1U1 1R1 1R1 1U1 1D+ 1R1", 0, ""),
+    // Undo and redo of another user's group.
+    (30, "1P. 1D- 2U1", 0, ""),
+    (30, "2P. 2D- 1P. 1D+ 1U2", 0, ""),
+    (30, "1P. 1D+ 2U1 2R1", 0, ""),
+    // A point and a command of the user empty the undone groups; those of another do not.
+    (30, "1P. 1D- 1U1 1P. 1R1 1D+", 0, ""),
+    (30, "1P. 1D- 1U1 1D+ 1R1", 0, ""),
+    (30, "1P. 1D+ 1U1 2P. 2D+ 1R1", 0, ""),
+    // The latest undone group comes back first, and a command joins the last done group.
+    (30, "1P. 1D+ 1P. 1D- 1U1 1U1 1R1", 0, ""),
+    (30, "1P. 1D+ 1P. 1D- 1U1 1D+", 0, ""),
+    (30, "1P. 1D- 1P. 1D- 1U1 1D- 1U1", 0, ""),
+    (30, "1P. 2P. 1D- 2D+ 1D- 2D+ 1U1", 0, ""),
+    (30, "1O. 1P. 1O. 1D+ 1O.", 0, ""),
+    // The last points of all are in reach.
+    (30, "1P. 1D-", 29, "1U1"),
+    (30, "1P. 1D+", 30, "1U1"),
+    (30, "1P. 1D+", 30, ""),
+    (30, "1P. 1D+ 1U1", 29, "1R1"),
+    (30, "1P. 1D- 1U1", 30, "1R1"),
+    // Redo passes over a group that is out of reach.
+    (30, "1P. 1D+ 1P. 1D- 1U1 1U1", 28, "1R1"),
+    (30, "1P. 1D- 1P. 1D+ 1U1 1U1", 29, "1R1"),
+    (30, "1P. 1D- 1P. 1D- 1U1 1U1", 30, "1R1"),
+    // Other depths.
+    (0, "1P. 1D+", 0, "1U1"),
+    (1, "1P. 1D-", 0, "1U1"),
+    (1, "1P. 1D+", 1, "1U1"),
+    (1, "1P. 1D+ 1P. 1D-", 0, "1U1 1U1"),
+    (2, "1P. 1D- 1P. 1D-", 0, "1U1 1U1"),
+];
+
+#[test]
+fn drawn_commands(rt: HostRuntime) {
+    for (depth, first, points, last) in &HISTORIES {
+        let mut acts = Vec::new(rt.alloc());
+        push_acts(&rt, &mut acts, first);
+        for _ in 0..*points {
+            let point = UserAct {
+                user: b'2',
+                act: Act::Point,
+            };
+            acts.push(point).expect(&rt, "memory");
+        }
+        push_acts(&rt, &mut acts, last);
+        let flags = drawn_flags(rt.alloc(), *depth, &acts).expect(&rt, "memory");
+        assert_eq!(rt; flags.len(), acts.len());
+        assert!(rt;
+            is_as_expected(&acts, &flags),
+            "{first}, {points} points, {last} at {depth}"
+        );
+    }
+}
+
+/// Ten thousand groups of ten commands. Every third is undone, and every second of these comes
+/// back.
+#[test]
+fn many(rt: HostRuntime) {
+    let mut acts = Vec::new(rt.alloc());
+    let group = "1P. 1D. 1D. 1D. 1D. 1D. 1D. 1D. 1D. 1D. 1D.";
+    for number in 0..10_000_u32 {
+        push_acts(&rt, &mut acts, group);
+        let moves = match number % 6 {
+            0 => "1U1 1R1",
+            3 => "1U1",
+            _ => "",
+        };
+        push_acts(&rt, &mut acts, moves);
+    }
+    let flags = drawn_flags(rt.alloc(), 30, &acts).expect(&rt, "memory");
+    assert_eq!(rt; flags.iter().filter(|flag| **flag).count(), 83_330);
+}
+
+#[test]
+fn without_commands(rt: HostRuntime) {
+    commands_do_not_count::<u8, ()>();
+    each_act_has_a_flag::<u8>();
+    strokes_go_on::<u8>();
+    window_is_of_last_points::<u8>();
+    groups_are_points::<u8>();
+    groups_come_first::<u8>();
+    flags_go_on::<u8>();
+    final_flags_stay::<u8>();
+    tables_follow::<u8>();
+    let acts = [
+        Act::Point,
+        Act::Draw(()),
+        Act::Undo { who: 1 },
+        Act::Draw(()),
+    ];
+    let acts = acts.map(|act| UserAct { user: 1, act });
+    let flags = drawn_flags(rt.alloc(), 30, &acts).expect(&rt, "memory");
+    assert_eq!(rt; flags.as_slice(), [false, false, false, true].as_slice());
+}
+
+/// The digit of a group, of which there are few.
+fn digit(group: usize) -> u8 {
+    b'0' + (group % 10) as u8
+}
+
+/// The letter of what an act joins: `-` for nothing, `.` for group 0, and the digit of any other.
+fn joined(join: Join) -> u8 {
+    match join {
+        Join::NoCommand => b'-',
+        Join::GroupZero => b'.',
+        Join::InGroup { group, .. } => digit(group),
+    }
+}
+
+/// Takes the acts of a script at depth 2 one by one, in place or not. What each moves (`-` for
+/// nothing) and joins has these letters.
+fn check_moves(
+    rt: &impl Abort,
+    alloc: Global,
+    (script, moves, joins): (&str, &str, &str),
+    in_place: bool,
+) {
+    let mut table = StrokeTable::new(alloc, 2).expect(rt, "memory");
+    assert_eq!(rt; (table.position(), table.oldest()), (0, 0));
+    for (k, word) in script.split_whitespace().enumerate() {
+        let act = act_of(rt, word);
+        let moved = table.moved(&act).map_or(b'-', digit);
+        assert_eq!(rt;
+            moves.as_bytes().get(k).copied(),
+            Some(moved),
+            "{k} of {script}"
+        );
+        let joined = joined(table.join_of(&act));
+        assert_eq!(rt;
+            joins.as_bytes().get(k).copied(),
+            Some(joined),
+            "{k} of {script}"
+        );
+        let taken = if in_place {
+            table.advance(&act)
+        } else {
+            table.take(alloc, &act)
+        };
+        taken.expect(rt, "memory");
+    }
+}
+
+#[test]
+fn one_act_at_a_time(rt: HostRuntime) {
+    for row in [
+        ("1D. 1P. 1D. 1U1 1D. 1R1", "---1--", ".-1-.-"),
+        ("1P. 1D. 2U1 2D. 1R1 1D.", "--0-0-", "-0-.-0"),
+        // The first of three groups is out of reach, and commands join it after two undos.
+        ("1P. 1P. 1P. 1U1 1U1 1U1 1D. 1R1", "---21---", "------0-"),
+        (
+            "1P. 1P. 1P. 1P. 1P. 1U1 1U1 1U1 1R1 1D.",
+            "-----43-3-",
+            "---------3",
+        ),
+    ] {
+        check_moves(&rt, rt.alloc(), row, false);
+        check_moves(&rt, rt.alloc(), row, true);
+    }
+}

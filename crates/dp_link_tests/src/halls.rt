@@ -1,0 +1,74 @@
+//! Halls of a machine that notes who acted.
+
+use crate::pair::live_four;
+use crate::tally::{GATED, Gate, Tally};
+use crate::work::{ActLate, ActOnce, ActRefused, CountInside, WaitPast, live, live_both};
+use std::alloc::Global;
+use std::process::Abort;
+use std::sync::Arc;
+use std::sync::atomic::AtomicU64;
+
+const TIMES: u64 = 10_000;
+
+/// A machine that has noted nothing.
+fn empty(rt: &impl Abort, alloc: Global) -> Tally {
+    let gate = Gate {
+        began: AtomicU64::new(0),
+        open: AtomicU64::new(0),
+    };
+    Tally {
+        marks: Vec::new(alloc),
+        gate: Arc::new(alloc, gate).expect(rt, "memory"),
+    }
+}
+
+#[test]
+fn four_threads_act(rt: HostRuntime) {
+    let tally = empty(&rt, rt.alloc());
+    let tally = live_four(&rt, rt.alloc(), tally, TIMES).expect(&rt, "memory");
+    assert_eq!(rt; tally.marks.len(), 40_000);
+    let mut next = [0u64; 4];
+    for mark in tally.marks.iter() {
+        let thread = mark.thread as usize;
+        assert!(rt; thread < 4);
+        assert_eq!(rt; mark.number, next[thread]);
+        next[thread] = mark.number.wrapping_add(1);
+    }
+    assert_eq!(rt; next, [TIMES; 4]);
+}
+
+#[test]
+fn a_wait_ends_at_an_act(rt: HostRuntime) {
+    let (mut wait, mut act) = (WaitPast { rt: &rt, n: 0 }, ActLate { rt: &rt });
+    let tally = empty(&rt, rt.alloc());
+    let (_, (count, ())) = live_both(&rt, rt.alloc(), tally, &mut wait, &mut act).expect(
+        &rt, "memory",
+    );
+    assert_eq!(rt; count, 1);
+}
+
+#[test]
+fn a_count_comes_while_an_act_goes_on(rt: HostRuntime) {
+    let tally = empty(&rt, rt.alloc());
+    let mut count = CountInside {
+        gate: Arc::try_clone(&tally.gate).expect(&rt, "memory"),
+    };
+    let mut act = ActOnce {
+        rt: &rt,
+        number: GATED,
+    };
+    let (_, (count, outcome)) = live_both(&rt, rt.alloc(), tally, &mut count, &mut act).expect(
+        &rt, "memory",
+    );
+    assert_eq!(rt; count, Some(0));
+    assert_eq!(rt; outcome, Ok(true));
+}
+
+#[test]
+fn a_refused_act_is_an_entry(rt: HostRuntime) {
+    let tally = empty(&rt, rt.alloc());
+    let mut act = ActRefused { rt: &rt };
+    let (tally, answers) = live(rt.alloc(), tally, &mut act).expect(&rt, "memory");
+    assert_eq!(rt; answers, (true, 1, true, Some(1)));
+    assert_eq!(rt; tally.marks.len(), 1);
+}

@@ -1,0 +1,121 @@
+//! Four threads that act at once: two pairs.
+
+ghost use Rattle.std.specs.Prelude.{◌≡◌};
+ghost use Rattle.dp_hall.specs.Calls.{IsOf};
+ghost use Rattle.dp_link_tests.specs.Working.{Returns, Acted};
+
+use crate::tally::{Mark, Tally};
+use crate::work::{act_often, seats_return, start};
+use dp_hall::{Hall, Seat, seats_come_back};
+use std::alloc::{AllocError, Global};
+use std::sync::Wait;
+use std::thread::{Threads, join_mut};
+
+/// A hall's whole life, in which threads 0 to 3 act so many times each.
+pub fn live_four<R: Threads + Wait + Sync>(
+    rt: &R,
+    alloc: Global,
+    tally: Tally,
+    times: u64,
+) -> Result<Tally, AllocError> {
+    seats_come_back::<Mark, Result<bool, AllocError>, Tally>();
+    let (hall, mut seat) = start(alloc, tally)?;
+    act_four(rt, &hall, &mut seat, times);
+    Ok(hall.close(seat))
+}
+
+fn act_four<R: Threads + Wait + Sync>(
+    rt: &R,
+    hall: &Hall<Tally>,
+    seat: &mut Seat<Tally>,
+    times: u64,
+)
+    requires { IsOf hall.now seat.old }
+    ensures of { IsOf hall.now seat.new }
+    ensures returns { Returns seat.old.view seat.new.view }
+{
+    seats_return::<Mark, Result<bool, AllocError>, Tally>();
+    let Ok(mut other) = hall.split(seat) else {
+        act_two(rt, hall, seat, 0, times);
+        return;
+    };
+    run_pairs(rt, hall, &mut other, seat, times);
+    hall.join_into(seat, other);
+}
+
+fn run_pairs<R: Threads + Wait + Sync>(
+    rt: &R,
+    hall: &Hall<Tally>,
+    one: &mut Seat<Tally>,
+    two: &mut Seat<Tally>,
+    times: u64,
+)
+    requires { IsOf hall.now one.old × IsOf hall.now two.old }
+    ensures of { IsOf hall.now one.new × IsOf hall.now two.new }
+    ensures one { Returns one.old.view one.new.view }
+    ensures two { Returns two.old.view two.new.view }
+{
+    join_mut(
+        rt,
+        &mut ||
+            requires { IsOf hall.now one.now }
+            ensures { IsOf hall.entry.now one.exit.now
+                × Returns one.entry.now.view one.exit.now.view }
+        { act_two(rt, hall, one, 0, times) },
+        &mut ||
+            requires { IsOf hall.now two.now }
+            ensures { IsOf hall.entry.now two.exit.now
+                × Returns two.entry.now.view two.exit.now.view }
+        { act_two(rt, hall, two, 2, times) },
+    );
+}
+
+/// So many acts of this thread and of the next one.
+fn act_two<R: Threads + Wait + Sync>(
+    rt: &R,
+    hall: &Hall<Tally>,
+    seat: &mut Seat<Tally>,
+    thread: u64,
+    times: u64,
+)
+    requires { IsOf hall.now seat.old }
+    ensures of { IsOf hall.now seat.new }
+    ensures returns { Returns seat.old.view seat.new.view }
+{
+    seats_return::<Mark, Result<bool, AllocError>, Tally>();
+    let Ok(mut other) = hall.split(seat) else {
+        act_often(rt, hall, seat, thread, times);
+        return;
+    };
+    run_pair(rt, hall, &mut other, seat, thread, times);
+    hall.join_into(seat, other);
+}
+
+fn run_pair<R: Threads + Wait + Sync>(
+    rt: &R,
+    hall: &Hall<Tally>,
+    one: &mut Seat<Tally>,
+    two: &mut Seat<Tally>,
+    thread: u64,
+    times: u64,
+)
+    requires { IsOf hall.now one.old × IsOf hall.now two.old }
+    ensures of { IsOf hall.now one.new × IsOf hall.now two.new }
+    ensures one { Acted one.old.view one.new.view }
+    ensures two { Acted two.old.view two.new.view }
+{
+    let next = thread.wrapping_add(1);
+    join_mut(
+        rt,
+        &mut ||
+            requires { IsOf hall.now one.now }
+            ensures { IsOf hall.entry.now one.exit.now
+                × Acted one.entry.now.view one.exit.now.view }
+        { act_often(rt, hall, one, thread, times) },
+        &mut ||
+            requires { IsOf hall.now two.now }
+            ensures { IsOf hall.entry.now two.exit.now
+                × Acted two.entry.now.view two.exit.now.view }
+        { act_often(rt, hall, two, next, times) },
+    );
+}
