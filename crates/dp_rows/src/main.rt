@@ -1,0 +1,103 @@
+//! `dp_rows`: runs rows of the program over memory, and prints what each gives.
+//!
+//! Lines of the standard input are rows. A line that is empty or begins with `#` is passed over.
+//!
+//! - `= NAME TEXT`: the word NAME of the lines below stands for TEXT. In hexadecimal that may be
+//!   several words, and `N*WORD` is one N times.
+//! - `> WORDS ..`: begins a row of the program's words. A word may also be an option of the row:
+//!   `pieces=1,5-9` gives the lengths of the pieces in which it reads and writes (else `1,7,4096`),
+//!   `room=N` how much the output takes; `input=2,7`, `output=..`, `diag=..`, `dial=..`,
+//!   `receive=..` and `send=..` have the calls with these numbers fail, counted from 1; `each=send`
+//!   runs the row again with each call of that object failing in turn.
+//! - `x WORDS`: bytes of the row's input, in words of hexadecimal, and `N*WORD` as above.
+//! - `link WORDS`: the bytes of a link to come. `wire` begins a further wire.
+//! - `repeat N LINE ; LINE`: these lines of the row's input, N times.
+//! - Another line is one of the row's input. `|LINE` is one that would be read as something else.
+//!
+//! For each row it prints its first line, the status, the output, the line on diag after `! `, and
+//! what was sent on each link after `sent `. A picture of bytes is printed as its head and its
+//! pixels, each with how often it stands there. A backslash ends a text that has no newline at its
+//! end. What a length of pieces gives otherwise than the first one follows after `differs`.
+#![tactic(auto)]
+
+mod answer;
+mod each;
+mod fails;
+mod names;
+mod printing;
+mod reading;
+mod row;
+mod running;
+mod source;
+
+use crate::each::put_each;
+use crate::printing::put_answer;
+use crate::reading::{Rows, read_rows};
+use crate::row::Row;
+use crate::running::answer_to;
+use dp_io::{StdSink, put_all};
+use std::alloc::{AllocError, Global};
+use std::io::read_to_string;
+use std::process::ExitCode;
+use std::sync::Wait;
+use std::thread::Threads;
+
+fn main(rt: HostRuntime) -> ExitCode {
+    let alloc = rt.alloc();
+    let mut out = Vec::new(alloc);
+    let status = match read_to_string(alloc, rt.stdin()) {
+        Ok(text) => run(&rt, alloc, text.as_str(), &mut out),
+        Err(_) => 2,
+    };
+    match put_all(&mut StdSink::new(rt.stdout()), &out) {
+        Ok(()) => ExitCode::from(status),
+        Err(_) => ExitCode::from(4),
+    }
+}
+
+/// Runs the rows of a text, and answers the program's status.
+fn run<R: Threads + Wait + Sync>(rt: &R, alloc: Global, text: &str, out: &mut Vec<u8>) -> u8 {
+    let done = match read_rows(alloc, text) {
+        Ok(Rows::Read(rows)) => put_rows(rt, alloc, &rows, out).map(|()| 0),
+        Ok(Rows::Bad(line)) => printing::put_bad_row(line, out).map(|()| 2),
+        Err(error) => Err(error),
+    };
+    done.unwrap_or(7)
+}
+
+/// Adds what each row gives.
+fn put_rows<R: Threads + Wait + Sync>(
+    rt: &R,
+    alloc: Global,
+    rows: &[Row],
+    out: &mut Vec<u8>,
+) -> Result<(), AllocError> {
+    for row in rows {
+        put_row(rt, alloc, row, out)?;
+    }
+    Ok(())
+}
+
+/// Adds what a row gives.
+fn put_row<R: Threads + Wait + Sync>(
+    rt: &R,
+    alloc: Global,
+    row: &Row,
+    out: &mut Vec<u8>,
+) -> Result<(), AllocError> {
+    let first = row.pieces.first().copied().unwrap_or(1);
+    let answer = answer_to(rt, alloc, row, first, None)?;
+    printing::put_parts(&[b"> ", row.head.as_bytes(), b"\n"], out)?;
+    put_answer(&answer, out)?;
+    for piece in row.pieces.iter().skip(1) {
+        let again = answer_to(rt, alloc, row, *piece, None)?;
+        if !again.same(&answer) {
+            printing::put_numbered(b"differs in pieces of ", *piece, b"\n", out)?;
+            put_answer(&again, out)?;
+        }
+    }
+    for object in &row.each {
+        put_each(rt, alloc, row, first, *object, &answer, out)?;
+    }
+    Ok(())
+}

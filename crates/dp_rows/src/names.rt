@@ -1,0 +1,70 @@
+//! Words of rows, and what they stand for.
+
+use crate::row::Part;
+use dp_lines::hex_of;
+use std::alloc::{AllocError, Global};
+
+/// Names, each with its text.
+#[derive(Drop)]
+pub struct Names<'a> {
+    pub pairs: Vec<(&'a str, &'a str)>,
+}
+
+impl<'a> Names<'a> {
+    /// What the word stands for: the text of its name, or itself.
+    pub fn text<'b>(&'b self, word: &'b str) -> &'b str {
+        match self.pairs.iter().rev().find(|pair| pair.0 == word) {
+            Some(pair) => pair.1,
+            None => word,
+        }
+    }
+}
+
+/// How often a word stands there, and the word; never where the number is none.
+fn counted(word: &str) -> (u64, &str) {
+    match word.split_once('*') {
+        Some((times, word)) => (times.parse::<u64>().unwrap_or(0), word),
+        None => (1, word),
+    }
+}
+
+/// The bytes of a word of hexadecimal, `None` where it is none.
+pub fn read_word(alloc: Global, names: &Names<'_>, word: &str) -> Result<Option<Part>, AllocError> {
+    let (times, name) = counted(word);
+    let mut bytes = Vec::new(alloc);
+    let right = put_digits(alloc, names.text(name), &mut bytes)?;
+    Ok(if right && times > 0 {
+        Some(Part { times, bytes })
+    } else {
+        None
+    })
+}
+
+/// Adds the bytes of what a name stands for, and answers whether it is hexadecimal.
+fn put_digits(alloc: Global, text: &str, out: &mut Vec<u8>) -> Result<bool, AllocError> {
+    for word in text.split(' ') {
+        let (times, digits) = counted(word);
+        let Some(bytes) = hex_of(alloc, digits.as_bytes())? else {
+            return Ok(false);
+        };
+        if times == 0 {
+            return Ok(false);
+        }
+        for _ in 0..times {
+            out.extend_from_slice(&bytes)?;
+        }
+    }
+    Ok(true)
+}
+
+/// Adds a line of text, with what its words stand for.
+pub fn put_line(names: &Names<'_>, line: &str, out: &mut Vec<u8>) -> Result<(), AllocError> {
+    for (k, word) in line.split(' ').enumerate() {
+        if k > 0 {
+            out.push(b' ')?;
+        }
+        out.extend_from_slice(names.text(word).as_bytes())?;
+    }
+    out.push(b'\n')?;
+    Ok(())
+}
