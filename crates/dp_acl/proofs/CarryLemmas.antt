@@ -2,6 +2,7 @@
 use Rattle.std.proofs.Common.{◌≡◌, ℕ, zero, suc, ◌+◌, ◌<◌, ◌≤◌, ◌==◌, Bool, true, false}
 use Rattle.std.proofs.Common.{if◌then◌else◌}
 use Rattle.std.proofs.Common.{List, [], ◌∷◌, ◌++◌, length, map, All, Option, Some, None}
+use Rattle.std.specs.Prelude.{option_to_list}
 use Rattle.std.proofs.Common.{refl, sym, ap, subst, ◌∙◌, inl, inr, arith, zero-add}
 use Rattle.std.specs.List.{filter, filter_map, cons_option, range_with_len}
 use Rattle.std.specs.Option.{option_map}
@@ -11,7 +12,7 @@ use Rattle.std.proofs.lemmas.List.Elements.{All-head, All-tail, All-cons, All-ni
 use Rattle.dp_msg_meta.specs.Fields.{RiseFrom}
 use Rattle.dp_msg_meta.specs.declared.message.Meta.{Meta}
 use Rattle.dp_msg_meta.specs.declared.message.Meta.TheVariants.{Owners, Trusted, UserAcl, LayerAcl}
-use Rattle.dp_msg_meta.specs.declared.message.Meta.TheVariants.{FeatureTiers}
+use Rattle.dp_msg_meta.specs.declared.message.Meta.TheVariants.{FeatureTiers, UndoDepth}
 use Rattle.dp_messages.specs.declared.message.Entry.{Entry}
 use Rattle.dp_acl.specs.LookBack.{numbers_below, LayerRule}
 use Rattle.dp_acl.specs.Rights.{is_operator, is_trusted, is_lock_listed}
@@ -159,7 +160,7 @@ pub carried-kept : (kept : Kept) (history : List Entry) (present : List ℕ) →
     ∷ UserAcl ((if kept.all_locked then 0 ∷ [] else []) ++ filter (mark_of kept.lock_listed)
     present)
     ∷ FeatureTiers kept.tiers
-    ∷ map acl_of kept.rules
+    ∷ (option_to_list (option_map UndoDepth kept.depth) ++ map acl_of kept.rules)
     ≡ carried history present
 carried-kept kept history present stands rise rules =
     cc (
@@ -168,16 +169,18 @@ carried-kept kept history present stands rise rules =
       present-same kept.lock_listed (is_lock_listed history) present stands.lock_listed rise,
       stands.all_locked,
       stands.tiers,
+      stands.depth,
       carried_rules-kept kept history stands rules,
     )
 
--- a list that grows from nothing by four messages and the rest
-pub five-pushed : (m0 m1 m2 m3 m4 m5 : List Meta) (a b c d : Meta) (rest : List Meta) → m0 ≡ []
+-- a list that grows from nothing by four messages, those of the depth and the rest
+pub six-pushed : (m0 m1 m2 m3 m4 m5 m6 : List Meta) (a b c d : Meta) (depth rest : List Meta)
+    → m0 ≡ []
     → m1 ≡ m0 ++ a ∷ [] → m2 ≡ m1 ++ b ∷ [] → m3 ≡ m2 ++ c ∷ [] → m4 ≡ m3 ++ d ∷ []
-    → m5 ≡ m4 ++ rest
-    → m5 ≡ a ∷ b ∷ c ∷ d ∷ rest
-five-pushed m0 m1 m2 m3 m4 m5 a b c d rest none first second third fourth last =
-    rw (last, fourth, third, second, first, none) refl
+    → m5 ≡ m4 ++ depth → m6 ≡ m5 ++ rest
+    → m6 ≡ a ∷ b ∷ c ∷ d ∷ (depth ++ rest)
+six-pushed m0 m1 m2 m3 m4 m5 m6 a b c d depth rest none first second third fourth fifth last =
+    rw (last, fifth, fourth, third, second, first, none) refl
 
 -- the first three messages with equal ids
 pub same-start : (a a' b b' c c' : List ℕ) (rest : List Meta) → a ≡ a' → b ≡ b' → c ≡ c'

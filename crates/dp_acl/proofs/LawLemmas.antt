@@ -248,6 +248,7 @@ module _ (one other : List Entry) (user : ℕ)
   control-same (control.Welcome version welcomed epoch at) = refl
   control-same control.ResetBegin = operator-same
   control-same control.ResetEnd = operator-same
+  control-same (control.ResetFrom at) = operator-same
 
   meta-same : (m : Meta) → permits_meta one user m ≡ permits_meta other user m
   meta-same (meta.Join registered name) = refl
@@ -263,6 +264,7 @@ module _ (one other : List Entry) (user : ℕ)
       operator-same
   meta-same (meta.FeatureTiers tiers) = operator-same
   meta-same (meta.Filtered kind) = refl
+  meta-same (meta.UndoDepth depth) = operator-same
 
   draw-same : (m : Draw) → LetAlike one other user (painted_by m)
       → permits_draw one user m ≡ permits_draw other user m

@@ -3,13 +3,15 @@ use Rattle.std.proofs.Common.{◌≡◌, ℕ, ◌<◌, ◌==◌, ◌||◌, Bool,
 use Rattle.std.proofs.Common.{if◌then◌else◌, List, [], ◌∷◌, ◌++◌, map, Option, Some, None}
 use Rattle.std.proofs.Common.{is_some, unwrap_or, refl, sym, ap, subst, ◌∙◌, inl, inr}
 use Rattle.std.proofs.Common.{append_assoc, append-nil}
+use Rattle.std.specs.Prelude.{option_to_list}
 use Rattle.std.specs.List.{filter, filter_map, cons_option}
 use Rattle.std.specs.Option.{option_map, option_or}
 use Rattle.std.proofs.lemmas.Bool.{cases_eq, cond-true, cond-false, eq-eqb, ne_eqb, eqb-true}
 use Rattle.std.proofs.lemmas.Bool.{and_parts, false≢true}
 use Rattle.std.proofs.lemmas.List.Elements.{filter-append}
 use Rattle.dp_msg_draw.specs.declared.draw.Draw.{Draw}
-use Rattle.dp_msg_meta.specs.declared.message.Meta.TheVariants.{Join}
+use Rattle.dp_msg_meta.specs.declared.message.Meta.{Meta}
+use Rattle.dp_msg_meta.specs.declared.message.Meta.TheVariants.{Join, UndoDepth}
 use Rattle.dp_messages.specs.declared.message.Msg.{Msg}
 use Rattle.dp_messages.specs.declared.message.Msg.TheVariants as msg
 use Rattle.dp_messages.specs.declared.message.Entry.{Entry}
@@ -279,6 +281,13 @@ map-filter_map g f [] = refl
 map-filter_map g f (x ∷ xs) =
     cons-map g (f x) (filter_map f xs)
     ∙ ap (cons_option (option_map g (f x))) (map-filter_map g f xs)
+
+-- after the depth that is carried
+pub all-depth : (user layer : ℕ) (o : Option ℕ) (metas : List Meta) (l : Look)
+    → look_all user layer (map server_entry (option_to_list (option_map UndoDepth o) ++ metas)) l
+    ≡ look_all user layer (map server_entry metas) l
+all-depth user layer None metas l = refl
+all-depth user layer (Some depth) metas l = refl
 
 -- what is found after the LayerAcl of a rule, if there is one
 abbrev pub ruled : Option LayerRule → Look → Look

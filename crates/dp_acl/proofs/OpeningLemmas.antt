@@ -19,8 +19,8 @@ use Rattle.dp_messages.specs.Messages.{HasSpelling}
 use Rattle.dp_acl.specs.LookBack as said
 use Rattle.dp_acl.specs.LookBack.{lists, is_join_of, has_joined, last_said, LayerRule}
 use Rattle.dp_acl.specs.Rights.{is_listed, is_operator, is_trusted, is_registered, are_all_locked}
-use Rattle.dp_acl.specs.Rights.{is_lock_listed, tiers_of, rule_of, lets_paint}
-use Rattle.dp_acl.specs.Carried.{carried, lock_of_all}
+use Rattle.dp_acl.specs.Rights.{is_lock_listed, tiers_of, depth_of, rule_of, lets_paint}
+use Rattle.dp_acl.specs.Carried.{carried, carried_rules, lock_of_all}
 use Rattle.dp_acl.specs.Table.{StandsFor, rule_in_order}
 use Rattle.dp_acl.specs.Opening.{server_entry, command_entry, last_join, opening}
 use Rattle.dp_acl.specs.Laws.{CommandsChangeNoRight, OpeningsChangeNoRight}
@@ -30,7 +30,7 @@ use Rattle.dp_acl.proofs.PaintLemmas.{lets-in_order}
 use Rattle.dp_acl.proofs.LawLemmas.{Look, look, but_rule, LetAlike, painted_by, painted_layer}
 use Rattle.dp_acl.proofs.LawLemmas.{permitted-same, lists-below}
 use Rattle.dp_acl.proofs.LookLemmas.{look_all, look-all, all-append, all-commands, all-joins}
-use Rattle.dp_acl.proofs.LookLemmas.{at_start, ruled, all-rules}
+use Rattle.dp_acl.proofs.LookLemmas.{at_start, all-depth, ruled, all-rules}
 
 -- ---- commands
 
@@ -174,7 +174,7 @@ module _ (history : List Entry) (present : List ℕ) (user : ℕ) (rise : RiseFr
   -- what is found of the user after the opening is what was found before it, but that the ids of
   -- the layer's rule stand in order
   look-opening : (epoch : ℕ) (commands : List Draw) (layer : ℕ) → layer < 65536
-      → look (opening epoch history present commands) user layer
+      → look (opening epoch history present commands []) user layer
       ≡ record (look history user layer) {
         rule = option_map rule_in_order (rule_of history layer);
       }
@@ -182,11 +182,13 @@ module _ (history : List Entry) (present : List ℕ) (user : ℕ) (rise : RiseFr
       let joins = filter_map (last_join history) present in
       let rights = map server_entry (carried history present) in
       let rest = map command_entry commands in
-      look-all user layer (opening epoch history present commands) []
+      look-all user layer (opening epoch history present commands []) []
+      ∙ all-append user layer (joins ++ rights ++ rest) [] at_start
       ∙ all-append user layer (joins ++ rights) rest at_start
       ∙ all-commands user layer commands (look_all user layer (joins ++ rights) at_start)
       ∙ all-append user layer joins rights at_start
       ∙ ap (look_all user layer rights) (all-joins user layer history present listed)
+      ∙ all-depth user layer (depth_of history) (carried_rules history) after_rights
       ∙ all-rules user layer history after_rights small
       ∙ rights-same layer
 
@@ -224,9 +226,9 @@ pub openings-change-nothing : OpeningsChangeNoRight
 openings-change-nothing kept epoch history present commands user m stands rise listed spelled =
     let small : painted_layer m < 65536 = painted-small m spelled in
     let found = look-opening history present user rise listed epoch commands in
-    let alike : LetAlike (opening epoch history present commands) history user (painted_layer m) =
+    let alike : LetAlike (opening epoch history present commands []) history user (painted_layer m) =
     ap (λ l. option_map_or (lets_paint history user) l.rule true) (found (painted_layer m) small)
     ∙ let-alike history user (rule_of history (painted_layer m))
     (listed-low 1 user present rise listed) (stands.ids (painted_layer m) small) in
-    permitted-same (opening epoch history present commands) history user
+    permitted-same (opening epoch history present commands []) history user
     (ap but_rule (found 0 (omega arith))) m alike

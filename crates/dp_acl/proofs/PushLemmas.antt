@@ -15,9 +15,9 @@ use Rattle.std.proofs.lemmas.List.Folds.{list_any-append}
 use Rattle.dp_messages.specs.declared.message.Msg.{Msg}
 use Rattle.dp_messages.specs.declared.message.Entry.{Entry}
 use Rattle.dp_acl.specs.LookBack.{lists, last_said, joined, locked_users, feature_tiers, layer_rule}
-use Rattle.dp_acl.specs.LookBack.{is_join_of, has_joined, since_join}
+use Rattle.dp_acl.specs.LookBack.{is_join_of, has_joined, since_join, set_depth}
 use Rattle.dp_acl.specs.Rights.{is_listed, is_registered, are_all_locked, tiers_of, first_tiers}
-use Rattle.dp_acl.specs.Rights.{rule_of}
+use Rattle.dp_acl.specs.Rights.{rule_of, depth_of}
 
 -- ---- lists
 
@@ -101,6 +101,10 @@ pub tiers-push : (history : List Entry) (e : Entry)
 tiers-push history e =
     ap (λ o. unwrap_or o first_tiers) (last_said-push feature_tiers history e)
     ∙ unwrap-or (feature_tiers e.msg) (last_said feature_tiers history) first_tiers
+
+pub depth-push : (history : List Entry) (e : Entry)
+    → depth_of (history ++ e ∷ []) ≡ option_or (set_depth e.msg) (depth_of history)
+depth-push history e = last_said-push set_depth history e
 
 pub rule-push : (history : List Entry) (e : Entry) (layer : ℕ)
     → rule_of (history ++ e ∷ []) layer ≡ option_or (layer_rule layer e.msg) (rule_of history layer)

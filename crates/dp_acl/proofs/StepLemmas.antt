@@ -16,7 +16,7 @@ use Rattle.dp_acl.specs.Marks.{marked}
 use Rattle.dp_acl.specs.Step.{meta_entry, listed_after, IsKeptAfter}
 use Rattle.dp_acl.proofs.PushLemmas.{joined-push, listed-push, registered-push}
 use Rattle.dp_acl.proofs.PushLemmas.{all_locked-push}
-use Rattle.dp_acl.proofs.PushLemmas.{tiers-push, rule-push}
+use Rattle.dp_acl.proofs.PushLemmas.{tiers-push, depth-push, rule-push}
 use Rattle.dp_acl.proofs.IdLemmas.{marked-in_order}
 
 map-or : {X Y : Type 0} (f : X → Y) (o p : Option X)
@@ -58,6 +58,7 @@ module _ (before after : Kept) (history : List Entry) (e : Entry)
         step.lock_listed
         stands.lock_listed;
     tiers = cc (step.tiers, stands.tiers, tiers-push history e);
+    depth = cc (step.depth, stands.depth, depth-push history e);
     rules = λ layer small. cc (
       step.rules layer small,
       stands.rules layer small,
@@ -93,6 +94,7 @@ stands-room kept room history stands = record {
   all_locked = stands.all_locked;
   lock_listed = stands.lock_listed;
   tiers = stands.tiers;
+  depth = stands.depth;
   rules = stands.rules;
   ids = stands.ids;
 }
@@ -125,6 +127,7 @@ kept-rule before rules room user layer locked tier ids marks same bytes put = re
   all_locked = refl;
   lock_listed = λ u low. refl;
   tiers = refl;
+  depth = refl;
   rules = λ other small. put other
       ∙ ap (λ xs. if layer == other then Some (record { locked = locked; tier = tier; ids = xs })
       else kept_rule before.rules other) (marked-in_order marks ids same)

@@ -1,15 +1,15 @@
 -- What of the rights of an epoch is carried into the next one.
 use Rattle.std.specs.Prelude.{ℕ, Option, if◌then◌else◌}
-use Rattle.std.specs.Prelude.{List, [], ◌∷◌, ◌++◌}
+use Rattle.std.specs.Prelude.{List, [], ◌∷◌, ◌++◌, option_to_list}
 use Rattle.std.specs.List.{filter, filter_map}
 use Rattle.std.specs.Option.{option_map}
 use Rattle.dp_msg_meta.specs.declared.message.Meta.{Meta}
 use Rattle.dp_msg_meta.specs.declared.message.Meta.TheVariants.{Owners, Trusted, UserAcl}
-use Rattle.dp_msg_meta.specs.declared.message.Meta.TheVariants.{LayerAcl, FeatureTiers}
+use Rattle.dp_msg_meta.specs.declared.message.Meta.TheVariants.{LayerAcl, FeatureTiers, UndoDepth}
 use Rattle.dp_messages.specs.declared.message.Entry.{Entry}
 use Rattle.dp_acl.specs.LookBack.{numbers_below, lists, LayerRule}
 use Rattle.dp_acl.specs.Rights.{is_operator, is_trusted, are_all_locked, is_lock_listed}
-use Rattle.dp_acl.specs.Rights.{tiers_of, rule_of}
+use Rattle.dp_acl.specs.Rights.{tiers_of, depth_of, rule_of}
 
 -- the operators among the present users
 abbrev pub carried_owners : List Entry → List ℕ → Meta
@@ -31,6 +31,10 @@ carried_locks history present =
 -- the tiers of the features as they stand
 abbrev pub carried_tiers : List Entry → Meta
 carried_tiers history = FeatureTiers (tiers_of history)
+
+-- the depth of undo that was set last, if one was
+abbrev pub carried_depth : List Entry → List Meta
+carried_depth history = option_to_list (option_map UndoDepth (depth_of history))
 
 -- the ids of a list, rising, each once; ids that a message spells stand so
 abbrev pub in_order : List ℕ → List ℕ
@@ -56,4 +60,4 @@ carried history present =
     ∷ carried_trusted history present
     ∷ carried_locks history present
     ∷ carried_tiers history
-    ∷ carried_rules history
+    ∷ (carried_depth history ++ carried_rules history)

@@ -42,11 +42,11 @@ CommandsChangeNoRight =
     (kept : Kept) (history : List Entry) (commands : List Draw)
     → StandsFor kept history → StandsFor kept (history ++ map command_entry commands)
 
--- An opening changes no right of a user who is present: what the user may say is the same after it
--- as after the history before, of messages that have a spelling.
+-- An opening that keeps no entry changes no right of a user who is present: what the user may say
+-- is the same after it as after the history before, of messages that have a spelling.
 abbrev pub OpeningsChangeNoRight : Type 0
 OpeningsChangeNoRight =
     (kept : Kept) (epoch : ℕ) (history : List Entry) (present : List ℕ) (commands : List Draw)
     (user : ℕ) (m : Msg)
     → StandsFor kept history → RiseFrom 1 present → lists present user ≡ true → HasSpelling m
-    → permitted (opening epoch history present commands) user m ≡ permitted history user m
+    → permitted (opening epoch history present commands []) user m ≡ permitted history user m

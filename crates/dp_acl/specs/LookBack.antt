@@ -5,6 +5,7 @@ use Rattle.std.specs.Prelude.{List, [], length, slice_get, is_some}
 use Rattle.std.specs.List.{filter_map, list_any, after_last, range_with_len}
 use Rattle.dp_msg_meta.specs.declared.message.Meta.TheVariants.{Join, Owners, Trusted}
 use Rattle.dp_msg_meta.specs.declared.message.Meta.TheVariants.{UserAcl, LayerAcl, FeatureTiers}
+use Rattle.dp_msg_meta.specs.declared.message.Meta.TheVariants.{UndoDepth}
 use Rattle.dp_msg_meta.specs.declared.message.Tiers.{Tiers}
 use Rattle.dp_messages.specs.declared.message.Msg.{Msg}
 use Rattle.dp_messages.specs.declared.message.Msg.TheVariants as msg
@@ -47,6 +48,11 @@ locked_users m = None
 abbrev pub feature_tiers : Msg → Option Tiers
 feature_tiers (msg.Meta (FeatureTiers tiers)) = Some tiers
 feature_tiers m = None
+
+-- the depth of an UndoDepth
+abbrev pub set_depth : Msg → Option ℕ
+set_depth (msg.Meta (UndoDepth depth)) = Some depth
+set_depth m = None
 
 -- what a LayerAcl says of its layer
 pub record LayerRule : Type 0 where

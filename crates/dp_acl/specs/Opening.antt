@@ -23,25 +23,26 @@ last_join history user =
     let joins = filter (is_join_of user) history in slice_get joins (length joins - 1)
 
 -- What stands after the mark of a new epoch: the last Joins of the present users, what is carried
--- of the rights, and the commands of the reset.
-abbrev pub carried_entries : List Entry → List ℕ → List Draw → List Entry
-carried_entries history present commands =
+-- of the rights, the commands of the reset, and the entries that it keeps.
+abbrev pub carried_entries : List Entry → List ℕ → List Draw → List Entry → List Entry
+carried_entries history present commands kept =
     filter_map (last_join history) present
     ++ map server_entry (carried history present)
     ++ map command_entry commands
+    ++ kept
 
 -- The history that the epoch of this number opens with, after the history of the one before, where
 -- these users are present.
-abbrev pub opening : ℕ → List Entry → List ℕ → List Draw → List Entry
-opening epoch history present commands =
-    let rest = carried_entries history present commands in
+abbrev pub opening : ℕ → List Entry → List ℕ → List Draw → List Entry → List Entry
+opening epoch history present commands kept =
+    let rest = carried_entries history present commands kept in
     server_entry (ResetMark epoch (length rest)) ∷ rest
 
 -- the most commands of a reset
 abbrev pub part_limit : ℕ
 part_limit = 262144
 
--- No opening is longer: the mark, 254 Joins, four entries of rights and the rules of 65,536 layers,
--- and the commands.
+-- No opening has more besides the entries that it keeps: the mark, 254 Joins, four entries of
+-- rights, the depth, the rules of 65,536 layers, and the commands.
 abbrev pub opening_limit : ℕ
-opening_limit = 327939
+opening_limit = 327940

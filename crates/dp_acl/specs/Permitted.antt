@@ -22,6 +22,7 @@ permits_control history user (control.Ack epoch) = true
 permits_control history user (control.Welcome version welcomed epoch at) = false
 permits_control history user control.ResetBegin = is_operator history user
 permits_control history user control.ResetEnd = is_operator history user
+permits_control history user (control.ResetFrom at) = is_operator history user
 
 -- Messages about users and rights. Join, Leave, ResetMark and Filtered are the server's alone.
 abbrev pub permits_meta : List Entry → ℕ → Meta → Bool
@@ -38,6 +39,7 @@ permits_meta history user (meta.LayerAcl layer locked tier ids) =
     is_operator history user || creator_of layer == user
 permits_meta history user (meta.FeatureTiers tiers) = is_operator history user
 permits_meta history user (meta.Filtered kind) = false
+permits_meta history user (meta.UndoDepth depth) = is_operator history user
 
 -- Commands.
 abbrev pub permits_draw : List Entry → ℕ → Draw → Bool

@@ -7,7 +7,8 @@ use Rattle.dp_msg_meta.specs.declared.message.Tiers.{Tiers}
 use Rattle.dp_messages.specs.declared.message.Msg.{Msg}
 use Rattle.dp_messages.specs.declared.message.Entry.{Entry}
 use Rattle.dp_acl.specs.LookBack.{lists, last_said, joined, owners, trusted, locked_users}
-use Rattle.dp_acl.specs.LookBack.{feature_tiers, LayerRule, layer_rule, is_join_of, since_join}
+use Rattle.dp_acl.specs.LookBack.{feature_tiers, set_depth, LayerRule, layer_rule, is_join_of}
+use Rattle.dp_acl.specs.LookBack.{since_join}
 
 -- the last list of this kind stands after the user's last Join, and lists the user
 abbrev pub is_listed : (Msg → Option (List ℕ)) → List Entry → ℕ → Bool
@@ -65,6 +66,10 @@ first_tiers = record {
 -- the tiers of the features: those of the last FeatureTiers
 abbrev pub tiers_of : List Entry → Tiers
 tiers_of history = unwrap_or (last_said feature_tiers history) first_tiers
+
+-- the depth of undo that was set last, if one was
+abbrev pub depth_of : List Entry → Option ℕ
+depth_of history = last_said set_depth history
 
 -- the user has the feature: the user's tier number is at most that of the feature
 abbrev pub has_feature : List Entry → ℕ → (Tiers → ℕ) → Bool

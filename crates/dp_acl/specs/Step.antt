@@ -34,6 +34,7 @@ pub record IsKeptAfter (before : Kept) (e : Entry) (after : Kept) : Type 0 where
   pub lock_listed : Mark after.lock_listed
       (listed_after before e (said.locked_users e.msg) before.lock_listed)
   pub tiers : after.tiers ≡ unwrap_or (said.feature_tiers e.msg) before.tiers
+  pub depth : after.depth ≡ option_or (said.set_depth e.msg) before.depth
   pub rules : (layer : ℕ) → layer < 65536
       → kept_rule after.rules layer
       ≡ option_or (option_map rule_in_order (said.layer_rule layer e.msg))

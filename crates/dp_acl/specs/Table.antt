@@ -7,7 +7,7 @@ use Rattle.dp_msg_meta.specs.declared.message.Tiers.{Tiers}
 use Rattle.dp_messages.specs.declared.message.Entry.{Entry}
 use Rattle.dp_acl.specs.LookBack.{has_joined, LayerRule}
 use Rattle.dp_acl.specs.Rights.{is_operator, is_trusted, is_registered, are_all_locked}
-use Rattle.dp_acl.specs.Rights.{is_lock_listed, tiers_of, rule_of}
+use Rattle.dp_acl.specs.Rights.{is_lock_listed, tiers_of, depth_of, rule_of}
 use Rattle.dp_acl.specs.Carried.{in_order}
 
 -- the rule of a layer, its ids in order
@@ -25,6 +25,7 @@ pub record Kept : Type 0 where
   pub all_locked : Bool
   pub lock_listed : List Bool
   pub tiers : Tiers
+  pub depth : Option ℕ
   pub rules : List KeptRule
   pub room : ℕ
 
@@ -54,6 +55,7 @@ pub record StandsFor (kept : Kept) (history : List Entry) : Type 0 where
   pub all_locked : kept.all_locked ≡ are_all_locked history
   pub lock_listed : Mark kept.lock_listed (is_lock_listed history)
   pub tiers : kept.tiers ≡ tiers_of history
+  pub depth : kept.depth ≡ depth_of history
   pub rules : (layer : ℕ) → layer < 65536
       → kept_rule kept.rules layer ≡ option_map rule_in_order (rule_of history layer)
   pub ids : (layer : ℕ) → layer < 65536

@@ -1,6 +1,9 @@
 //! What of the rights is carried into the next epoch.
 
 ghost use Rattle.std.specs.Prelude.{◌≡◌, ℕ, ◌≤◌, List, [], ◌∷◌, ◌++◌, length, if◌then◌else◌, IfOk};
+ghost use Rattle.std.specs.Prelude.{OnOk, option_to_list};
+ghost use Rattle.std.specs.Option.{option_map};
+ghost use Rattle.dp_msg_meta.specs.declared.message.Meta.TheVariants.{UndoDepth};
 ghost use Rattle.std.specs.List.{filter};
 ghost use Rattle.dp_msg_meta.specs.Fields.{RiseFrom};
 ghost use Rattle.dp_messages.specs.declared.message.Entry.{Entry as Item};
@@ -37,8 +40,20 @@ impl Rights {
             ids: Ids::from_vec(locks),
         })?;
         metas.push(Meta::FeatureTiers { tiers: self.tiers })?;
+        self.carry_depth(&mut metas)?;
         self.rules.carry(&mut metas)?;
         Ok(metas)
+    }
+
+    /// Adds the depth of undo at the end, if one was set.
+    fn carry_depth(&self, metas: &mut Vec<Meta>) -> Result<(), AllocError>
+        ensures { OnOk result (metas.new.items ≡ metas.old.items
+            ++ option_to_list (option_map UndoDepth self.now.depth)) }
+    {
+        match self.depth {
+            Some(depth) => metas.push(Meta::UndoDepth { depth }),
+            None => Ok(()),
+        }
     }
 
     /// 0, where all are locked, and the present ids that are listed.

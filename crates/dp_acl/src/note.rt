@@ -68,6 +68,7 @@ impl Rights {
             } => self.note_rule(*layer, *locked, *tier, ids),
             Meta::FeatureTiers { tiers } => self.note_tiers(*tiers),
             Meta::Filtered { .. } => {}
+            Meta::UndoDepth { depth } => self.note_depth(*depth),
         }
     }
 
@@ -130,5 +131,13 @@ impl Rights {
         ensures room { self.new.room ≡ self.old.room }
     {
         self.tiers = tiers;
+    }
+
+    fn note_depth(&mut self, depth: u8)
+        ensures kept { (user : ℕ)
+            → IsKeptAfter self.old (meta_entry user (said.UndoDepth depth)) self.new }
+        ensures room { self.new.room ≡ self.old.room }
+    {
+        self.depth = Some(depth);
     }
 }

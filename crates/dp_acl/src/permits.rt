@@ -54,6 +54,7 @@ impl Rights {
             Control::Welcome { .. } => false,
             Control::ResetBegin => self.is_operator(user),
             Control::ResetEnd => self.is_operator(user),
+            Control::ResetFrom { .. } => self.is_operator(user),
         }
     }
 
@@ -76,6 +77,7 @@ impl Rights {
             }
             Meta::FeatureTiers { .. } => self.is_operator(user),
             Meta::Filtered { .. } => false,
+            Meta::UndoDepth { .. } => self.is_operator(user),
         }
     }
 

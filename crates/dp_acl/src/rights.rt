@@ -23,6 +23,7 @@ pub struct Rights {
     pub(crate) all_locked: bool,
     pub(crate) lock_listed: IdSet,
     pub(crate) tiers: Tiers,
+    pub(crate) depth: Option<u8>,
     pub(crate) rules: Rules,
 }
 
@@ -39,6 +40,7 @@ impl Model for Rights {
       all_locked = r.all_locked;
       lock_listed = r.lock_listed;
       tiers = r.tiers;
+      depth = r.depth;
       rules = r.rules.rules;
       room = r.rules.room;
     } };
@@ -69,6 +71,7 @@ impl Rights {
             all_locked: false,
             lock_listed: IdSet::new(),
             tiers: FIRST_TIERS,
+            depth: None,
             rules: Rules::new(alloc),
         }
     }

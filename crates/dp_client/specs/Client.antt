@@ -7,7 +7,7 @@ use Rattle.dp_messages.specs.declared.message.Msg.{Msg}
 use Rattle.dp_messages.specs.declared.message.Msg.TheVariants as msg
 use Rattle.dp_messages.specs.declared.message.Entry.{Entry}
 use Rattle.dp_messages.specs.Equality.{same_message}
-use Rattle.dp_messages.specs.Properties.{carried_by, command_of, is_filtered, marked}
+use Rattle.dp_messages.specs.Properties.{carried_in, command_of, is_filtered, marked}
 use Rattle.dp_plain.specs.Board.{Board}
 use Rattle.dp_plain.specs.Commands.{draw_all}
 use Rattle.dp_replay.specs.Replay.{replay}
@@ -46,11 +46,6 @@ may_answer (msg.Meta (Join registered name)) = false
 may_answer (msg.Meta Leave) = false
 may_answer (msg.Meta (Filtered kind)) = nat_le 32 kind
 may_answer m = true
-
--- what the mark that heads the entries says of that
-abbrev pub carried_in : List Entry → ℕ
-carried_in [] = 0
-carried_in (entry ∷ entries) = carried_by entry.msg
 
 -- own answers stand after this index: that of the user's Join in the Welcome's epoch, else that of
 -- the last carried entry

@@ -1,7 +1,8 @@
 //! Which entries answer a send.
 
 ghost use Rattle.std.specs.Prelude.{◌≡◌};
-ghost use Rattle.dp_client.specs.Client.{may_answer, carried_in};
+ghost use Rattle.dp_client.specs.Client.{may_answer};
+ghost use Rattle.dp_messages.specs.Properties.{carried_in};
 
 use dp_messages::{Entry, Msg};
 use dp_msg_meta::Meta;

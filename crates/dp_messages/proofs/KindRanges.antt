@@ -39,19 +39,19 @@ to_draw kind payload m s = record { kind = s.kind; payload = s.payload; spelled 
 
 -- a variant's kinds lie apart from the others
 abbrev pub InRange : Msg → ℕ → Type 0
-InRange (msg.Control m) kind = (kind ≤ 7) × (kind ≢ 6)
-InRange (msg.Meta m) kind = (32 ≤ kind) × (kind ≤ 69)
+InRange (msg.Control m) kind = (kind ≤ 8) × (kind ≢ 6)
+InRange (msg.Meta m) kind = (32 ≤ kind) × (kind ≤ 70)
 InRange (msg.Part command) kind = kind ≡ 6
 InRange msg.Point kind = kind ≡ 128
 InRange (msg.Undo target redo) kind = kind ≡ 255
 InRange (msg.Draw command) kind = (129 ≤ kind) × (kind ≤ 152)
 InRange (msg.Opaque k body) kind = ⊤
 
-pub control_range : (kind : ℕ) → IsControlKind kind → (kind ≤ 7) × (kind ≢ 6)
+pub control_range : (kind : ℕ) → IsControlKind kind → (kind ≤ 8) × (kind ≢ 6)
 control_range kind (inl low) = (omega arith, λ e. omega (arith, e))
-control_range kind (inr seven) = (omega arith, λ e. omega (arith, e))
+control_range kind (inr high) = (omega arith, λ e. omega (arith, e))
 
-pub meta_range : (kind : ℕ) → IsMetaKind kind → (32 ≤ kind) × (kind ≤ 69)
+pub meta_range : (kind : ℕ) → IsMetaKind kind → (32 ≤ kind) × (kind ≤ 70)
 meta_range kind (inl low) = (omega arith, omega arith)
 meta_range kind (inr high) = (omega arith, omega arith)
 

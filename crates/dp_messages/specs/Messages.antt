@@ -1,5 +1,6 @@
 -- The messages of a session: the kind of each, its payload, and which of them have a spelling.
-use Rattle.std.specs.Prelude.{◌≡◌, ℕ, ◌<◌, ◌≤◌, ◌^◌, ◌⊎◌, List, [], ◌++◌, length, ⊤}
+use Rattle.std.specs.Prelude.{◌≡◌, ℕ, ◌<◌, ◌≤◌, ◌^◌, ◌==◌, ◌⊎◌, List, [], ◌++◌, length, ⊤}
+use Rattle.std.specs.Prelude.{if◌then◌else◌}
 use Rattle.dp_frame.specs.Frames.{FrameParts, spelling}
 use Rattle.dp_messages.specs.declared.message.Entry.{Entry}
 use Rattle.dp_messages.specs.declared.message.Msg.{Msg}
@@ -62,6 +63,15 @@ pub record Spells (number : ℕ) (bytes : List ℕ) (m : Msg) : Type 0 where
   pub kind : number ≡ kind_of m
   pub payload : bytes ≡ payload_of m
   pub spelled : HasSpelling m
+
+-- The kind as which a frame of the first profile is read. No message of that profile has kind 70, so
+-- its frames of this kind are opaque: of kind 71.
+abbrev pub lifted_kind : ℕ → ℕ
+lifted_kind kind = if kind == 70 then 71 else kind
+
+-- the payload of this kind spells the message, in a frame of the first profile
+abbrev pub Lifts : ℕ → List ℕ → Msg → Type 0
+Lifts kind payload m = Spells (lifted_kind kind) payload m
 
 -- the frame of an entry: the sender as its context id, the message's kind and the bytes of its
 -- fields

@@ -1,10 +1,11 @@
 -- What the session and its clients ask of a message, whatever its fields.
-use Rattle.std.specs.Prelude.{ℕ, Bool, true, false, Option, None, Some}
+use Rattle.std.specs.Prelude.{ℕ, Bool, true, false, Option, None, Some, List, [], ◌∷◌}
 use Rattle.dp_msg_draw.specs.declared.draw.Draw.{Draw}
 use Rattle.dp_msg_meta.specs.declared.message.Control.TheVariants.{Disconnect}
 use Rattle.dp_msg_meta.specs.declared.message.Meta.TheVariants.{ResetMark, Filtered}
 use Rattle.dp_messages.specs.declared.message.Msg.{Msg}
 use Rattle.dp_messages.specs.declared.message.Msg.TheVariants as msg
+use Rattle.dp_messages.specs.declared.message.Entry.{Entry}
 
 -- the message ends what is heard
 abbrev pub is_disconnect : Msg → Bool
@@ -25,6 +26,11 @@ marked m = None
 abbrev pub carried_by : Msg → ℕ
 carried_by (msg.Meta (ResetMark epoch carried)) = carried
 carried_by m = 0
+
+-- how many entries after its mark a history carried, by the mark
+abbrev pub carried_in : List Entry → ℕ
+carried_in [] = 0
+carried_in (entry ∷ entries) = carried_by entry.msg
 
 -- the message stands in place of one that was not permitted
 abbrev pub is_filtered : Msg → Bool

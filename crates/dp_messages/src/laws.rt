@@ -1,11 +1,12 @@
 //! Laws of messages, each the contract of a function that does nothing.
 
-ghost use Rattle.std.specs.Prelude.{◌≡◌, ◌≤◌, ◌↔◌, ℕ, List, length, IsTrue};
+ghost use Rattle.std.specs.Prelude.{◌≡◌, ◌≢◌, ◌≤◌, ◌↔◌, ℕ, List, length, IsTrue};
 ghost use Rattle.dp_frame.specs.Frames.{FrameParts, IsFrame};
 ghost use Rattle.dp_messages.specs.declared.message.Msg.{Msg as Message};
+ghost use Rattle.dp_messages.specs.declared.message.Msg.TheVariants.{Opaque};
 ghost use Rattle.dp_messages.specs.declared.message.Entry.{Entry};
 ghost use Rattle.dp_messages.specs.declared.decoder.DecodeError.{DecodeError};
-ghost use Rattle.dp_messages.specs.Messages.{Spells, HasSpelling, frame_of};
+ghost use Rattle.dp_messages.specs.Messages.{Spells, Lifts, HasSpelling, frame_of};
 ghost use Rattle.dp_messages.specs.Decoded.{Carries, IsRefused};
 ghost use Rattle.dp_messages.specs.Equality.{same_message};
 ghost use Rattle.dp_messages.specs.Heard.{Hears};
@@ -65,4 +66,17 @@ pub fn one_hearing()
 {
     one_splitting();
     one_message();
+}
+
+/// How frames of the first profile are read: a payload of kind 70 is an opaque message of kind 71,
+/// and every other payload what it spells.
+pub fn lifting()
+    ensures depth { (payload : List ℕ) (m : Message)
+        → Lifts 70 payload m ↔ (m ≡ Opaque 71 payload) × (length payload ≤ 65535) }
+    ensures other { (kind : ℕ) (payload : List ℕ) (m : Message)
+        → kind ≢ 70 → Lifts kind payload m ↔ Spells kind payload m }
+{
+    one_control();
+    one_meta();
+    one_draw();
 }

@@ -7,11 +7,12 @@ use Rattle.std.proofs.lemmas.Slice.Eq.{bytes_eq-Decides}
 use Rattle.dp_msg_meta.specs.declared.message.Control.{Control}
 use Rattle.dp_msg_meta.specs.declared.message.Control.TheVariants.{Hello, Disconnect, Ping, Ack}
 use Rattle.dp_msg_meta.specs.declared.message.Control.TheVariants.{Welcome, ResetBegin, ResetEnd}
+use Rattle.dp_msg_meta.specs.declared.message.Control.TheVariants.{ResetFrom}
 use Rattle.dp_msg_meta.specs.declared.message.Meta.{Meta}
 use Rattle.dp_msg_meta.specs.declared.message.Meta.TheVariants.{Join, Leave, Owners, Chat, Trusted}
 use Rattle.dp_msg_meta.specs.declared.message.Meta.TheVariants.{ResetMark, Laser, MovePointer}
 use Rattle.dp_msg_meta.specs.declared.message.Meta.TheVariants.{UserAcl, LayerAcl, FeatureTiers}
-use Rattle.dp_msg_meta.specs.declared.message.Meta.TheVariants.{Filtered}
+use Rattle.dp_msg_meta.specs.declared.message.Meta.TheVariants.{Filtered, UndoDepth}
 use Rattle.dp_msg_meta.specs.declared.message.Tiers.{Tiers}
 use Rattle.dp_msg_meta.specs.contracts.message.TiersPartialEq.TheImpl as tiers
 use Rattle.dp_msg_meta.specs.Equality.{same_control, same_meta}
@@ -24,6 +25,7 @@ controls_compare (Ack epoch) (Ack epoch') = grind arith
 controls_compare (Welcome version user epoch at) (Welcome version' user' epoch' at') = grind arith
 controls_compare ResetBegin ResetBegin = grind arith
 controls_compare ResetEnd ResetEnd = grind arith
+controls_compare (ResetFrom at) (ResetFrom at') = grind arith
 controls_compare a b = (λ e. absurd (false≢true e), λ e. absurd (cc))
 
 tiers_compare : (a b : Tiers) → Decides (tiers.ghosts.eq a b) (a ≡ b)
@@ -44,4 +46,5 @@ metas_compare (LayerAcl layer locked tier ids) (LayerAcl layer' locked' tier' id
     (arith, bytes_eq-Decides ids ids')
 metas_compare (FeatureTiers t) (FeatureTiers u) = grind (arith, tiers_compare t u)
 metas_compare (Filtered filtered) (Filtered filtered') = grind arith
+metas_compare (UndoDepth depth) (UndoDepth depth') = grind arith
 metas_compare a b = (λ e. absurd (false≢true e), λ e. absurd (cc))

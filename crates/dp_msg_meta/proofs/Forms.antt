@@ -8,13 +8,15 @@ use Rattle.dp_fields.specs.Fields.{one_byte, two_bytes, flag_byte}
 use Rattle.dp_fields.specs.Reading.{Answers, Spells}
 use Rattle.dp_fields.specs.Wholes.{same_error}
 use Rattle.dp_msg_meta.specs.declared.fields.Tier.{Tier}
+use Rattle.dp_msg_meta.specs.declared.fields.Depth.{Depth}
 use Rattle.dp_msg_meta.specs.declared.tails.Name.{Name}
 use Rattle.dp_msg_meta.specs.declared.message.Control.{Control}
 use Rattle.dp_msg_meta.specs.declared.message.Control.TheVariants.{Hello, Welcome}
 use Rattle.dp_msg_meta.specs.declared.message.Meta.{Meta}
 use Rattle.dp_msg_meta.specs.declared.message.Meta.TheVariants.{Join, Owners, Chat, Trusted}
 use Rattle.dp_msg_meta.specs.declared.message.Meta.TheVariants.{ResetMark, Laser, MovePointer}
-use Rattle.dp_msg_meta.specs.declared.message.Meta.TheVariants.{UserAcl, LayerAcl}
+use Rattle.dp_msg_meta.specs.declared.message.Meta.TheVariants.{UserAcl, LayerAcl, UndoDepth}
+use Rattle.dp_msg_meta.specs.FieldLaws.{depth_field}
 use Rattle.dp_msg_meta.specs.Fields.{RiseFrom, IsName, IsText}
 use Rattle.dp_msg_meta.specs.Payloads.{SpellsControl, SpellsMeta}
 
@@ -56,6 +58,16 @@ pub no_move_pointer : {k : ℕ} {bytes : List ℕ} → k ≡ 65
 no_move_pointer is none (MovePointer x y) s = none (x, y)
     (record { bytes_are = s.payload; is_valid = s.spelled })
 no_move_pointer is none m s = absurd (omega (arith, is, s.kind))
+
+abbrev depth_of : ℕ → Depth
+depth_of n = record { 0 = n }
+
+pub no_undo_depth : {k : ℕ} {bytes : List ℕ} → k ≡ 70
+    → Refuses depth_field bytes
+    → (m : Meta) → SpellsMeta k bytes m → ⊥
+no_undo_depth is none (UndoDepth depth) s = none (depth_of depth)
+    (record { bytes_are = s.payload; is_valid = s.spelled })
+no_undo_depth is none m s = absurd (omega (arith, is, s.kind))
 
 -- ---- a name
 

@@ -6,11 +6,12 @@ use Rattle.dp_fields.specs.Fields.{one_byte, two_bytes, four_bytes, four_signed,
 use Rattle.dp_msg_meta.specs.declared.message.Control.{Control}
 use Rattle.dp_msg_meta.specs.declared.message.Control.TheVariants.{Hello, Disconnect, Ping, Ack}
 use Rattle.dp_msg_meta.specs.declared.message.Control.TheVariants.{Welcome, ResetBegin, ResetEnd}
+use Rattle.dp_msg_meta.specs.declared.message.Control.TheVariants.{ResetFrom}
 use Rattle.dp_msg_meta.specs.declared.message.Meta.{Meta}
 use Rattle.dp_msg_meta.specs.declared.message.Meta.TheVariants.{Join, Leave, Owners, Chat, Trusted}
 use Rattle.dp_msg_meta.specs.declared.message.Meta.TheVariants.{ResetMark, Laser, MovePointer}
 use Rattle.dp_msg_meta.specs.declared.message.Meta.TheVariants.{UserAcl, LayerAcl, FeatureTiers}
-use Rattle.dp_msg_meta.specs.declared.message.Meta.TheVariants.{Filtered}
+use Rattle.dp_msg_meta.specs.declared.message.Meta.TheVariants.{Filtered, UndoDepth}
 use Rattle.dp_msg_meta.specs.declared.message.Tiers.{Tiers}
 use Rattle.dp_msg_meta.specs.Fields.{RiseFrom, IsName, IsText}
 
@@ -23,10 +24,11 @@ control_kind (Ack epoch) = 3
 control_kind (Welcome version user epoch at) = 4
 control_kind ResetBegin = 5
 control_kind ResetEnd = 7
+control_kind (ResetFrom at) = 8
 
 -- the kinds of the control messages
 abbrev pub IsControlKind : ℕ → Type 0
-IsControlKind kind = (kind ≤ 5) ⊎ (kind ≡ 7)
+IsControlKind kind = (kind ≤ 5) ⊎ ((7 ≤ kind) × (kind ≤ 8))
 
 -- the bytes of a control message's fields, whether they meet their conditions or not
 abbrev pub control_payload : Control → List ℕ
@@ -38,6 +40,7 @@ control_payload (Welcome version user epoch at) =
     two_bytes version ++ one_byte user ++ four_bytes epoch ++ four_bytes at
 control_payload ResetBegin = []
 control_payload ResetEnd = []
+control_payload (ResetFrom at) = four_bytes at
 
 -- Which control messages have a spelling: each number lies within its width, and a name is one.
 -- (So no payload has more than 32 bytes.)
@@ -50,6 +53,7 @@ ControlHasSpelling (Welcome version user epoch at) =
     (version < 2 ^ 16) × (user < 2 ^ 8) × (epoch < 2 ^ 32) × (at < 2 ^ 32)
 ControlHasSpelling ResetBegin = Unit {0}
 ControlHasSpelling ResetEnd = Unit {0}
+ControlHasSpelling (ResetFrom at) = at < 2 ^ 32
 
 -- these bytes, as the payload of a message of kind k, spell the control message
 pub record SpellsControl (k : ℕ) (bytes : List ℕ) (m : Control) : Type 0 where
@@ -71,10 +75,11 @@ meta_kind (UserAcl ids) = 66
 meta_kind (LayerAcl layer locked tier ids) = 67
 meta_kind (FeatureTiers tiers) = 68
 meta_kind (Filtered filtered) = 69
+meta_kind (UndoDepth depth) = 70
 
 -- the kinds of the meta messages
 abbrev pub IsMetaKind : ℕ → Type 0
-IsMetaKind kind = ((32 ≤ kind) × (kind ≤ 37)) ⊎ ((64 ≤ kind) × (kind ≤ 69))
+IsMetaKind kind = ((32 ≤ kind) × (kind ≤ 37)) ⊎ ((64 ≤ kind) × (kind ≤ 70))
 
 -- a byte for each feature
 abbrev pub tier_bytes : Tiers → List ℕ
@@ -97,6 +102,7 @@ meta_payload (LayerAcl layer locked tier ids) =
     two_bytes layer ++ flag_byte locked ++ one_byte tier ++ ids
 meta_payload (FeatureTiers tiers) = tier_bytes tiers
 meta_payload (Filtered filtered) = one_byte filtered
+meta_payload (UndoDepth depth) = one_byte depth
 
 -- each feature's tier is 0 to 3
 abbrev pub AreTiers : Tiers → Type 0
@@ -120,6 +126,7 @@ MetaHasSpelling (UserAcl ids) = RiseFrom 0 ids
 MetaHasSpelling (LayerAcl layer locked tier ids) = (layer < 2 ^ 16) × (tier ≤ 3) × RiseFrom 1 ids
 MetaHasSpelling (FeatureTiers tiers) = AreTiers tiers
 MetaHasSpelling (Filtered filtered) = filtered < 2 ^ 8
+MetaHasSpelling (UndoDepth depth) = (1 ≤ depth) × (depth < 2 ^ 8)
 
 -- these bytes, as the payload of a message of kind k, spell the meta message
 pub record SpellsMeta (k : ℕ) (bytes : List ℕ) (m : Meta) : Type 0 where

@@ -1,8 +1,8 @@
-//! Tiers, as fields of a payload.
+//! Tiers and depths, as fields of a payload.
 
-ghost use Rattle.std.specs.Prelude.{◌≤◌, ◌↔◌, IsTrue};
+ghost use Rattle.std.specs.Prelude.{◌≤◌, ◌<◌, ◌^◌, ◌↔◌, IsTrue};
 ghost use Rattle.dp_fields.specs.Fields.{one_byte};
-ghost use Rattle.dp_msg_meta.specs.FieldLaws.{tier_field, tiers_field};
+ghost use Rattle.dp_msg_meta.specs.FieldLaws.{tier_field, depth_field, tiers_field};
 ghost use Rattle.dp_msg_meta.specs.Payloads.{tier_bytes, AreTiers};
 
 use crate::message::Tiers;
@@ -23,6 +23,29 @@ impl Field for Tier {
     fn take(bytes: &[u8]) -> Option<(Tier, &[u8])> {
         match bytes {
             [tier, rest @ ..] if *tier <= 3 => Some((Tier(*tier), rest)),
+            _ => None,
+        }
+    }
+
+    fn put(&self, out: &mut Vec<u8>) -> Result<(), AllocError> {
+        self.0.put(out)
+    }
+}
+
+/// A depth of undo. 0 isn't taken.
+#[derive(Drop)]
+pub(crate) struct Depth(pub u8);
+
+impl Field for Depth {
+    ghost spelling = { λ d. one_byte d.0 };
+
+    ghost valid = { λ d. (1 ≤ d.0) × (d.0 < 2 ^ 8) };
+
+    ghost is_field = { depth_field };
+
+    fn take(bytes: &[u8]) -> Option<(Depth, &[u8])> {
+        match bytes {
+            [depth, rest @ ..] if *depth != 0 => Some((Depth(*depth), rest)),
             _ => None,
         }
     }

@@ -23,6 +23,8 @@ pub(crate) const RESET_BEGIN: u8 = 5;
 
 pub(crate) const RESET_END: u8 = 7;
 
+pub(crate) const RESET_FROM: u8 = 8;
+
 pub(crate) const JOIN: u8 = 32;
 
 pub(crate) const LEAVE: u8 = 33;
@@ -47,6 +49,8 @@ pub(crate) const FEATURE_TIERS: u8 = 68;
 
 pub(crate) const FILTERED: u8 = 69;
 
+pub(crate) const UNDO_DEPTH: u8 = 70;
+
 /// The kind of a control message, the type byte of its frame.
 pub fn kind_of_control(m: &Control) -> u8
     ensures value { result ≡ control_kind m.now }
@@ -60,6 +64,7 @@ pub fn kind_of_control(m: &Control) -> u8
         Control::Welcome { .. } => WELCOME,
         Control::ResetBegin => RESET_BEGIN,
         Control::ResetEnd => RESET_END,
+        Control::ResetFrom { .. } => RESET_FROM,
     }
 }
 
@@ -81,6 +86,7 @@ pub fn kind_of_meta(m: &Meta) -> u8
         Meta::LayerAcl { .. } => LAYER_ACL,
         Meta::FeatureTiers { .. } => FEATURE_TIERS,
         Meta::Filtered { .. } => FILTERED,
+        Meta::UndoDepth { .. } => UNDO_DEPTH,
     }
 }
 
@@ -88,14 +94,14 @@ pub fn kind_of_meta(m: &Meta) -> u8
 pub fn is_control_kind(kind: u8) -> bool
     ensures { IsTrue result ↔ IsControlKind kind }
 {
-    matches!(kind, HELLO..=RESET_BEGIN | RESET_END)
+    matches!(kind, HELLO..=RESET_BEGIN | RESET_END..=RESET_FROM)
 }
 
 /// Whether meta messages are of this kind.
 pub fn is_meta_kind(kind: u8) -> bool
     ensures { IsTrue result ↔ IsMetaKind kind }
 {
-    matches!(kind, JOIN..=RESET_MARK | LASER..=FILTERED)
+    matches!(kind, JOIN..=RESET_MARK | LASER..=UNDO_DEPTH)
 }
 
 impl Control {
@@ -122,6 +128,7 @@ impl Control {
             },
             Control::ResetBegin => Control::ResetBegin,
             Control::ResetEnd => Control::ResetEnd,
+            Control::ResetFrom { at } => Control::ResetFrom { at: *at },
         })
     }
 }
@@ -161,6 +168,7 @@ impl Meta {
             },
             Meta::FeatureTiers { tiers } => Meta::FeatureTiers { tiers: *tiers },
             Meta::Filtered { kind } => Meta::Filtered { kind: *kind },
+            Meta::UndoDepth { depth } => Meta::UndoDepth { depth: *depth },
         })
     }
 }

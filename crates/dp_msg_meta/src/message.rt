@@ -34,6 +34,10 @@ pub enum Control {
     ResetBegin,
     /// Ends a reset.
     ResetEnd,
+    /// Begins a reset that keeps what the history has from this place on.
+    ResetFrom {
+        at: u32,
+    },
 }
 
 /// A message of the history that draws nothing.
@@ -91,6 +95,10 @@ pub enum Meta {
     /// In place of a message of this kind that was filtered out.
     Filtered {
         kind: u8,
+    },
+    /// How many of the last undo points can be undone. Not 0.
+    UndoDepth {
+        depth: u8,
     },
 }
 

@@ -7,7 +7,7 @@ ghost use Rattle.dp_fields.specs.Reading.{Answers, Finds};
 ghost use Rattle.dp_msg_meta.specs.Payloads.{IsControlKind, IsMetaKind, TakesMemory};
 ghost use Rattle.dp_msg_meta.specs.Payloads.{SpellsControl, SpellsMeta};
 
-use crate::fields::Tier;
+use crate::fields::{Depth, Tier};
 use crate::kinds::*;
 use crate::message::{Control, Meta};
 use crate::tails::{Name, read_ids};
@@ -39,7 +39,11 @@ fn read_plain_control(kind: u8, payload: &[u8]) -> Option<Control>
             Some(Control::Welcome { version, user, epoch, at })
         }
         RESET_BEGIN => if payload.is_empty() { Some(Control::ResetBegin) } else { None },
-        _ => if payload.is_empty() { Some(Control::ResetEnd) } else { None },
+        RESET_END => if payload.is_empty() { Some(Control::ResetEnd) } else { None },
+        _ => {
+            let Some(at) = all(payload) else { return None };
+            Some(Control::ResetFrom { at })
+        }
     }
 }
 
@@ -100,9 +104,13 @@ fn read_plain_meta(kind: u8, payload: &[u8]) -> Option<Meta>
             let Some(tiers) = all(payload) else { return None };
             Some(Meta::FeatureTiers { tiers })
         }
-        _ => {
+        FILTERED => {
             let Some(kind) = all(payload) else { return None };
             Some(Meta::Filtered { kind })
+        }
+        _ => {
+            let Some(Depth(depth)) = all(payload) else { return None };
+            Some(Meta::UndoDepth { depth })
         }
     }
 }

@@ -23,6 +23,7 @@ fn put_control(m: &Control, out: &mut Vec<u8>) -> Result<(), AllocError>
         Control::Ack { epoch } => epoch.put(out),
         Control::Welcome { version, user, epoch, at } => ((version, user), (epoch, at)).put(out),
         Control::ResetBegin | Control::ResetEnd => Ok(()),
+        Control::ResetFrom { at } => at.put(out),
     }
 }
 
@@ -62,6 +63,7 @@ fn put_meta(m: &Meta, out: &mut Vec<u8>) -> Result<(), AllocError>
         }
         Meta::FeatureTiers { tiers } => tiers.put(out),
         Meta::Filtered { kind } => kind.put(out),
+        Meta::UndoDepth { depth } => depth.put(out),
     }
 }
 

@@ -19,9 +19,10 @@ use Rattle.dp_messages.specs.declared.message.Msg.TheVariants as msg
 use Rattle.dp_messages.specs.declared.message.Entry.{Entry}
 use Rattle.dp_messages.specs.Messages.{kind_of}
 use Rattle.dp_messages.specs.Properties.{is_disconnect, is_filtered, marked, carried_by}
+use Rattle.dp_messages.specs.Properties.{carried_in}
 use Rattle.dp_messages.specs.Equality.{same_message}
 use Rattle.dp_client.specs.Client as client
-use Rattle.dp_client.specs.Client.{Took, is_first_mark, carried_in, last_before, is_own_answer}
+use Rattle.dp_client.specs.Client.{Took, is_first_mark, last_before, is_own_answer}
 use Rattle.dp_client.specs.Client.{may_answer, answered, own_of, fork_after}
 use Rattle.dp_fork.specs.declared.own.Own.TheVariants.{Stranger, Echo, Dropped, Lost}
 use Rattle.dp_events.specs.declared.connection.Connection.{Connection}

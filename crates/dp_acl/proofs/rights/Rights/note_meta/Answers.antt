@@ -36,3 +36,9 @@ pub returns-in-FeatureTiers-clause-kept : goal.returns-in-FeatureTiers-clause-ke
 returns-in-FeatureTiers-clause-kept c =
     subst (λ m. IsKeptAfter c.args.self.now (meta_entry c.args.user m) c.note_tiers.new.self)
     (sym c.in-FeatureTiers.is) (c.note_tiers.ensures.kept c.args.user)
+
+pub returns-in-UndoDepth-clause-kept : goal.returns-in-UndoDepth-clause-kept
+returns-in-UndoDepth-clause-kept c =
+    subst (λ m. IsKeptAfter c.args.self.now (meta_entry c.args.user m) c.note_depth.new.self)
+    (sym c.in-UndoDepth.is)
+    (c.note_depth.ensures.kept c.args.user)
