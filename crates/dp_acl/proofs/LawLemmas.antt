@@ -30,7 +30,7 @@ use Rattle.dp_acl.specs.Permitted.{permits_control, permits_meta, permits_draw, 
 use Rattle.dp_acl.specs.Laws.{filtered, ForbiddenChangesNoRight, OperatorsStay}
 use Rattle.dp_acl.specs.Laws.{SpelledIdsAreInOrder}
 use Rattle.dp_acl.proofs.ListLemmas.{filter-same, filter-none, All-range}
-use Rattle.dp_acl.proofs.PushLemmas.{joined-push, listed_behind, listed-push, registered-push}
+use Rattle.dp_acl.proofs.PushLemmas.{joined-push, listed_after, listed-push, registered-push}
 use Rattle.dp_acl.proofs.PushLemmas.{all_locked-push}
 use Rattle.dp_acl.proofs.PushLemmas.{tiers-push, rule-push}
 
@@ -110,12 +110,12 @@ look history user layer = record {
 abbrev pub look_after : ℕ → ℕ → Entry → Look → Look
 look_after user layer e l = record {
   joined = is_join_of user e || l.joined;
-  operator = listed_behind (is_join_of user e) l.joined (said.owners e.msg) l.operator user;
-  trusted = listed_behind (is_join_of user e) l.joined (said.trusted e.msg) l.trusted user;
+  operator = listed_after (is_join_of user e) l.joined (said.owners e.msg) l.operator user;
+  trusted = listed_after (is_join_of user e) l.joined (said.trusted e.msg) l.trusted user;
   registered = if is_join_of user e then unwrap_or (said.joined e.msg) false else l.registered;
   all_locked = option_map_or (λ listed. lists listed 0) (said.locked_users e.msg) l.all_locked;
   lock_listed =
-      listed_behind (is_join_of user e) l.joined (said.locked_users e.msg) l.lock_listed user;
+      listed_after (is_join_of user e) l.joined (said.locked_users e.msg) l.lock_listed user;
   tiers = unwrap_or (said.feature_tiers e.msg) l.tiers;
   rule = option_or (layer_rule layer e.msg) l.rule;
 }
@@ -308,6 +308,6 @@ forbidden_changes_nothing before after sender kind user m =
 pub operators-stay : OperatorsStay
 operators-stay history e user none other =
     listed-push owners user history e
-    ∙ ap (λ b. listed_behind b (has_joined history user) (owners e.msg) (is_operator history user)
+    ∙ ap (λ b. listed_after b (has_joined history user) (owners e.msg) (is_operator history user)
     user) other
-    ∙ ap (λ o. listed_behind false (has_joined history user) o (is_operator history user) user) none
+    ∙ ap (λ o. listed_after false (has_joined history user) o (is_operator history user) user) none

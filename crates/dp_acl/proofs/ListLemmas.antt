@@ -1,7 +1,7 @@
 -- Facts on lists that std lacks.
 use Rattle.std.proofs.Common.{◌≡◌, ℕ, zero, suc, ◌+◌, ◌<◌, ◌≤◌, ◌==◌, Bool, true, false, ◌&&◌, ◌||◌}
 use Rattle.std.proofs.Common.{cond}
-use Rattle.std.proofs.Common.{List, [], ◌∷◌, ◌++◌, get_or, map, All}
+use Rattle.std.proofs.Common.{List, [], ◌∷◌, ◌++◌, All}
 use Rattle.std.proofs.Common.{refl, sym, ap, subst, ◌∙◌, inl, inr, arith, append-nil, zero-add}
 use Rattle.std.specs.List.{filter, range_with_len}
 use Rattle.std.proofs.lemmas.Bool.{cases_eq, cond-true, cond-false, eq-eqb, ne_eqb, eqb-true}
@@ -9,7 +9,6 @@ use Rattle.std.proofs.lemmas.List.{map-id}
 use Rattle.std.proofs.lemmas.List.Elements.{All-head, All-tail, filter-append}
 use Rattle.std.proofs.lemmas.Map.Views.{any-filter_same}
 use Rattle.std.proofs.lemmas.List.FromFn.{length-range_with_len, get_or-range_with_len}
-use Rattle.std.proofs.lemmas.List.FromFn.{get_or-map-range_with_len}
 use Rattle.std.proofs.lemmas.List.FromFn.{map-range_with_len_more}
 use Rattle.dp_acl.specs.LookBack.{numbers_below, lists}
 
@@ -42,12 +41,6 @@ All-range P low n each k d short =
 pub All-numbers : (P : ℕ → Type 0) (n : ℕ) → ((k : ℕ) → k < n → P k) → All P (numbers_below n)
 unfolding numbers_below
 All-numbers P n each = All-range P 0 n (λ k _ lt. each k (omega arith))
-
--- what a function makes of the numbers below n
-pub get_or-map-numbers : {X : Type 0} (f : ℕ → X) (n k : ℕ) (d : X) → k < n
-    → get_or (map f (numbers_below n)) k d ≡ f k
-unfolding numbers_below
-get_or-map-numbers f n k d lt = get_or-map-range_with_len f 0 n k k d lt (zero-add k)
 
 -- tests that agree below n keep the same numbers below n
 pub filter-numbers : (p q : ℕ → Bool) (n : ℕ) → ((k : ℕ) → k < n → p k ≡ q k)

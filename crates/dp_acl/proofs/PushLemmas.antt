@@ -136,8 +136,8 @@ since-push history e user =
 
 -- whether a user is listed after an entry: whether it is the user's Join, whether the user had
 -- joined, what it lists, and whether the user was listed
-abbrev pub listed_behind : Bool → Bool → Option (List ℕ) → Bool → ℕ → Bool
-listed_behind joins had_joined ids was_listed user =
+abbrev pub listed_after : Bool → Bool → Option (List ℕ) → Bool → ℕ → Bool
+listed_after joins had_joined ids was_listed user =
     if joins then false else option_map_or (λ listed. had_joined && lists listed user) ids
     was_listed
 
@@ -153,7 +153,7 @@ module _ (said : Msg → Option (List ℕ)) (user : ℕ) where
 
   cases : (joins had_joined : Bool) (es : List Entry) (e : Entry)
       → Listed (if joins || had_joined then (if joins then [] else es ++ e ∷ []) else [])
-      ≡ listed_behind joins had_joined (said e.msg) (Listed (if had_joined then es else [])) user
+      ≡ listed_after joins had_joined (said e.msg) (Listed (if had_joined then es else [])) user
   cases true had_joined es e = refl
   cases false true es e =
       ap (λ o. option_map_or (λ listed. lists listed user) o false) (last_said-push said es e)
@@ -162,7 +162,7 @@ module _ (said : Msg → Option (List ℕ)) (user : ℕ) where
 
   pub listed-push : (history : List Entry) (e : Entry)
       → is_listed said (history ++ e ∷ []) user
-      ≡ listed_behind (is_join_of user e) (has_joined history user) (said e.msg)
+      ≡ listed_after (is_join_of user e) (has_joined history user) (said e.msg)
       (is_listed said history user) user
   listed-push history e =
       ap Listed (since-push history e user)

@@ -25,7 +25,7 @@ use Rattle.dp_words.specs.declared.command_line.CommandLine.{CommandLine}
 use Rattle.dp_words.specs.declared.command_line.CommandLine.TheVariants.{Replay, World, Play, Join}
 use Rattle.dp_words.specs.declared.command_line.CommandLine.TheVariants.{Serve}
 use Rattle.dp_world.specs.Schedule.{WorldComesTo, world_limit}
-use Rattle.dp_lines.specs.RunEnds.{Blames}
+use Rattle.dp_lines.specs.RunEnds.{FaultMatchesEnd}
 use Rattle.dp_world.specs.RunEnds.{WorldLeaves}
 use Rattle.dp_app.specs.declared.ending.Ending.{Ending}
 use Rattle.dp_app.specs.declared.ending.Ending.TheVariants.{Usage, NoLink, NoWords, Run}
@@ -87,14 +87,16 @@ due_world bytes left old new _ h read write memory = absurd h
 
 -- no count rose: the run ended by no fault
 not_read : (input input_now output output_now : ℕ) (end : RunEnd)
-    → Blames input input_now output output_now end → ¬ Rose input input_now → end ≢ ReadFault
+    → FaultMatchesEnd input input_now output output_now end → ¬ Rose input input_now
+    → end ≢ ReadFault
 not_read input input_now output output_now end b none e =
-    none (subst (λ (x : RunEnd). Blames input input_now output output_now x) e b).0
+    none (subst (λ (x : RunEnd). FaultMatchesEnd input input_now output output_now x) e b).0
 
 not_write : (input input_now output output_now : ℕ) (end : RunEnd)
-    → Blames input input_now output output_now end → ¬ Rose output output_now → end ≢ WriteFault
+    → FaultMatchesEnd input input_now output output_now end → ¬ Rose output output_now
+    → end ≢ WriteFault
 not_write input input_now output output_now end b none e =
-    none (subst (λ (x : RunEnd). Blames input input_now output output_now x) e b).1
+    none (subst (λ (x : RunEnd). FaultMatchesEnd input input_now output output_now x) e b).1
 
 -- of an input whose bytes may be known
 for_known : {P : List ℕ → Type 0} (told : Option (List ℕ)) → ((bytes : List ℕ)
@@ -172,12 +174,12 @@ complete_ending words bytes s dold dnew status NoLink (command, asks, (runs, sam
 complete_ending words bytes s dold dnew status NoWords same told read write memory code line =
     absurd (memory code)
 complete_ending words bytes s dold dnew status (Run end)
-    (command, asks, (runs, leaves, blames)) told
+    (command, asks, (runs, leaves, fault)) told
     read write memory code line =
     let due = complete_told bytes s.left s.old s.new dold dnew status command end
     (subst (λ (o : Option (List ℕ)). CommandLeaves command o s.left s.old s.new end) told leaves)
-    (not_read s.read s.read_now s.written s.written_now end blames read)
-    (not_write s.read s.read_now s.written s.written_now end blames write)
+    (not_read s.read s.read_now s.written s.written_now end fault read)
+    (not_write s.read s.read_now s.written s.written_now end fault write)
     (λ e. memory (code ∙ e)) code line in
     (due.0, inl (command, asks, due.1), due.2)
 
@@ -264,7 +266,7 @@ exact law words (Some bytes) old new dold dnew status h = λ answer due.
 -- the counts of a run by its status
 pub run_told : (dold dnew : Option (List ℕ)) (input input_now output output_now before now status
     : ℕ) (end : RunEnd) →
-    Blames input input_now output output_now end → Says dold dnew before now status end
+    FaultMatchesEnd input input_now output output_now end → Says dold dnew before now status end
     → input < input_now →
     (status ≡ 3) ⊎ ((status ≡ 4) × Rose before now)
 run_told dold dnew input input_now output output_now before now status end b (inr failed) rose =
@@ -302,7 +304,7 @@ not_four (inr (inr (inr (inr (inr e))))) = omega (arith, e)
 
 pub run_uncounted : (dold dnew : Option (List ℕ))
     (input input_now output output_now before now status : ℕ) (end : RunEnd) →
-    Blames input input_now output output_now end → Says dold dnew before now status end →
+    FaultMatchesEnd input input_now output output_now end → Says dold dnew before now status end →
     IsOfBytes status → (input_now ≡ input) × (output_now ≡ output)
 run_uncounted dold dnew input input_now output output_now before now status end b (inr failed) h =
     absurd (not_four (of_bytes status 4 h failed.0))
@@ -316,7 +318,8 @@ run_uncounted dold dnew input input_now output output_now before now status _ b 
 pub run_read_told : (dold dnew : Option (List ℕ)) (input input_now output output_now before now
     status :
     ℕ) (end : RunEnd) →
-    Blames input input_now output output_now end → Says dold dnew before now status end → status ≡ 3
+    FaultMatchesEnd input input_now output output_now end → Says dold dnew before now status end
+    → status ≡ 3
     → Rose input input_now
 run_read_told dold dnew input input_now output output_now before now status end b (inr failed) h =
     absurd (omega (arith, failed.0, h))
@@ -330,7 +333,8 @@ run_read_told dold dnew input input_now output output_now before now status _ b 
 pub run_write_told : (dold dnew : Option (List ℕ)) (input input_now output output_now before now
     status
     : ℕ) (end : RunEnd) →
-    Blames input input_now output output_now end → Says dold dnew before now status end → status ≡ 4
+    FaultMatchesEnd input input_now output output_now end → Says dold dnew before now status end
+    → status ≡ 4
     →
     Rose output output_now ⊎ Rose before now
 run_write_told dold dnew input input_now output output_now before now status end b (inr failed) h =
@@ -400,7 +404,7 @@ command_at_end told left old new (Serve addr workers conns) end l h = absurd l
 pub headline_of : ((actions : List Action) → Headline (world_after actions))
     → (told : Option (List ℕ)) → IfSome told HasHeadline
 headline_of law None = tt
-headline_of law (Some bytes) = λ done behind actions parts asked. law actions
+headline_of law (Some bytes) = λ done after actions parts asked. law actions
 
 pub run_not_one : (end : RunEnd) → status_of end ≡ 1 → ⊥
 run_not_one Done e = omega (arith, e)
@@ -478,9 +482,9 @@ untouched_of words s NoLink ends none = ends.2.1
 untouched_of words s NoWords ends none = ends
 untouched_of words s (Run end) ends none = absurd (none (ends.0, ends.1, ends.2.0))
 
-no_line : (before : List Line) (line : Line) (behind : List Line) → [] ≡ before ++ line ∷ behind → ⊥
-no_line [] line behind e = cc
-no_line (first ∷ before) line behind e = cc
+no_line : (before : List Line) (line : Line) (after : List Line) → [] ≡ before ++ line ∷ after → ⊥
+no_line [] line after e = cc
+no_line (first ∷ before) line after e = cc
 
 -- a schedule of which nothing is begun
 world_refused : (input left old new : Option (List ℕ)) → Keeps old new
@@ -488,12 +492,12 @@ world_refused : (input left old new : Option (List ℕ)) → Keeps old new
 world_refused None left old new keeps = tt
 world_refused (Some bytes) left old new keeps = record {
   begun = [];
-  behind = seen world_limit bytes;
+  after = seen world_limit bytes;
   parts = refl;
   has = record {
     actions = [];
     asked = tt;
-    steps = λ before line behind e. absurd (no_line before line behind e);
+    steps = λ before line after e. absurd (no_line before line after e);
     text = (0, omega arith, appends_nothing old new keeps);
   };
 }
@@ -513,7 +517,8 @@ pub ends_of : OneCommand → {A : Type 0} (words : List (String A)) (s : Streams
     → SaysLine (code_of ending) (ending_line ending) dold dnew before now status
     → (command : CommandLine) → Asks words command → Runs command
     → (end : RunEnd) × CommandLeaves command s.input s.left s.old s.new end
-    × Blames s.read s.read_now s.written s.written_now end × Says dold dnew before now status end
+    × FaultMatchesEnd s.read s.read_now s.written s.written_now end
+    × Says dold dnew before now status end
 ends_of law words s dold dnew before now status Usage ends says command asks runs =
     absurd (ends.0 (command, asks))
 ends_of law words s dold dnew before now status NoLink ends says command asks runs =

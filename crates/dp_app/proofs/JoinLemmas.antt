@@ -6,21 +6,21 @@ use Rattle.std.specs.Prelude.{Option, Some, None, ◌++◌, map, string_bytes}
 use Rattle.std.specs.declared.string.String.{String}
 use Rattle.std.specs.Io.KnownBytes.{IsAtEnd}
 use Rattle.dp_io.specs.Faults.{Rose}
-use Rattle.dp_joining.specs.Leaves.{BlamesJoin, Counts, JoinLeaves, Traffic}
+use Rattle.dp_joining.specs.Leaves.{FaultMatchesJoin, Counts, JoinLeaves, Traffic}
 use Rattle.dp_joining.specs.Runs.{RunLeaves}
 use Rattle.dp_lines.specs.declared.run_end.RunEnd.{RunEnd}
 use Rattle.dp_lines.specs.declared.run_end.RunEnd.TheVariants.{Done, BadLine, ReadFault, WriteFault}
 use Rattle.dp_lines.specs.declared.run_end.RunEnd.TheVariants.{Memory, Long, Truncated, BadMessage}
 use Rattle.dp_lines.specs.declared.run_end.RunEnd.TheVariants.{BadHeader, Closed, LinkFault}
 use Rattle.dp_wire.specs.Links.{Links}
-use Rattle.dp_lines.specs.RunEnds.{Blames}
+use Rattle.dp_lines.specs.RunEnds.{FaultMatchesEnd}
 use Rattle.dp_words.specs.declared.command_line.CommandLine.{CommandLine}
 use Rattle.dp_words.specs.declared.command_line.CommandLine.TheVariants.{Join}
 use Rattle.dp_app.specs.declared.ending.Ending.{Ending}
 use Rattle.dp_app.specs.declared.ending.Ending.TheVariants.{Usage, NoLink, NoWords, Run}
-use Rattle.dp_app.specs.Answer.{Says, SaysLine, status_of, line_of}
-use Rattle.dp_app.specs.Commands.{Asks, IsCommand, Runs}
-use Rattle.dp_app.specs.Endings.{EndsCommand, EndsWords, Streams, Untouched, code_of, ending_line}
+use Rattle.dp_app.specs.Answer.{Says, SaysLine, status_of}
+use Rattle.dp_app.specs.Commands.{Asks, Runs}
+use Rattle.dp_app.specs.Endings.{EndsWords, Streams, code_of, ending_line}
 use Rattle.dp_app.specs.Joins.{AskAndLack, EndsJoin, EndsLocally, FitsLimits, HasJoined, HasLink}
 use Rattle.dp_app.specs.Joins.{JoinsBy, JoinsOn, LacksWires}
 use Rattle.dp_app.specs.Joins.{ends_of}
@@ -31,19 +31,19 @@ use Rattle.dp_app.proofs.Completeness.{IsOfBytes, OneCommand, neither, run_not_o
 use Rattle.dp_app.proofs.Completeness.{run_told, run_uncounted, run_write_told}
 
 -- of the script and the output alone
-blames-of : (old now : Counts) (end : RunEnd) → BlamesJoin old now end
-    → Blames old.input now.input old.output now.output end
-blames-of old now ReadFault b = (b.0, b.1.output)
-blames-of old now WriteFault b = (b.0, b.1)
-blames-of old now LinkFault b = (b.0, b.1)
-blames-of old now Done b = (b.0, b.1.output)
-blames-of old now (BadLine n) b = (b.0, b.1.output)
-blames-of old now Memory b = (b.0, b.1.output)
-blames-of old now Long b = (b.0, b.1.output)
-blames-of old now (Truncated n) b = (b.0, b.1.output)
-blames-of old now (BadMessage n) b = (b.0, b.1.output)
-blames-of old now Closed b = (b.0, b.1.output)
-blames-of old now BadHeader b = (b.0, b.1.output)
+fault_matches-of : (old now : Counts) (end : RunEnd) → FaultMatchesJoin old now end
+    → FaultMatchesEnd old.input now.input old.output now.output end
+fault_matches-of old now ReadFault b = (b.0, b.1.output)
+fault_matches-of old now WriteFault b = (b.0, b.1)
+fault_matches-of old now LinkFault b = (b.0, b.1)
+fault_matches-of old now Done b = (b.0, b.1.output)
+fault_matches-of old now (BadLine n) b = (b.0, b.1.output)
+fault_matches-of old now Memory b = (b.0, b.1.output)
+fault_matches-of old now Long b = (b.0, b.1.output)
+fault_matches-of old now (Truncated n) b = (b.0, b.1.output)
+fault_matches-of old now (BadMessage n) b = (b.0, b.1.output)
+fault_matches-of old now Closed b = (b.0, b.1.output)
+fault_matches-of old now BadHeader b = (b.0, b.1.output)
 
 -- a run that says it is done has read its script to the end
 at-end : (name : List ℕ) (t : Traffic) (end : RunEnd) → JoinLeaves name t end
@@ -71,32 +71,32 @@ at-end name t Closed leaves h =
 -- how a run over a link has ended, as far as the script, the output and the end that is said go
 pub record Ended (s : Streams) (dold dnew : Option (List ℕ)) (before now status : ℕ) : Type 0 where
   pub end : RunEnd
-  pub blames : Blames s.read s.read_now s.written s.written_now end
+  pub fault : FaultMatchesEnd s.read s.read_now s.written s.written_now end
   pub says : Says dold dnew before now status end
   pub at_end : (status_of end ≡ 0) ⊎ (status_of end ≡ 9) → IsAtEnd s.left
 
 module _ {W R T : Type 0} (links : W → Option (Links R T)) (faults : W → ℕ)
     (left : R → Option (List ℕ)) (read_faults : R → ℕ) (held : T → Option (List ℕ))
     (write_faults : T → ℕ) where
-  leaves-blames : (name : List ℕ) (old new : Option (Links R T)) (before after : ℕ) (s : Streams)
+  leaves-fault : (name : List ℕ) (old new : Option (Links R T)) (before after : ℕ) (s : Streams)
       (end : RunEnd)
       → RunLeaves left read_faults held write_faults name old new before after (ends_of s) end
-      → Blames s.read s.read_now s.written s.written_now end
+      → FaultMatchesEnd s.read s.read_now s.written s.written_now end
       × ((status_of end ≡ 0) ⊎ (status_of end ≡ 9) → IsAtEnd s.left)
-  leaves-blames name old new before after s end (inl (is, rose, same)) =
-      subst (λ (e : RunEnd). Blames s.read s.read_now s.written s.written_now e
+  leaves-fault name old new before after s end (inl (is, rose, same)) =
+      subst (λ (e : RunEnd). FaultMatchesEnd s.read s.read_now s.written s.written_now e
       × ((status_of e ≡ 0) ⊎ (status_of e ≡ 9) → IsAtEnd s.left)) (sym is) (
         (same.input_faults, same.output_faults),
         λ h. absurd (neither 5 5 refl (λ e. omega (arith, e)) (λ e. omega (arith, e)) h),
       )
-  leaves-blames name old new before after s end (inr (inl (is, stays, same))) =
-      subst (λ (e : RunEnd). Blames s.read s.read_now s.written s.written_now e
+  leaves-fault name old new before after s end (inr (inl (is, stays, same))) =
+      subst (λ (e : RunEnd). FaultMatchesEnd s.read s.read_now s.written s.written_now e
       × ((status_of e ≡ 0) ⊎ (status_of e ≡ 9) → IsAtEnd s.left)) (sym is) (
         (same.input_faults, same.output_faults),
         λ h. absurd (neither 7 7 refl (λ e. omega (arith, e)) (λ e. omega (arith, e)) h),
       )
-  leaves-blames name old new before after s end (inr (inr (stays, over))) =
-      (blames-of _ _ end over.blames, at-end name _ end over.leaves)
+  leaves-fault name old new before after s end (inr (inr (stays, over))) =
+      (fault_matches-of _ _ end over.fault, at-end name _ end over.leaves)
 
   pub ended-of : (name : List ℕ) (old new : List W) (s : Streams) (ending : Ending)
       (dold dnew : Option (List ℕ)) (before now status : ℕ)
@@ -104,11 +104,11 @@ module _ {W R T : Type 0} (links : W → Option (Links R T)) (faults : W → ℕ
       → SaysLine (code_of ending) (ending_line ending) dold dnew before now status
       → Ended s dold dnew before now status
   ended-of name old new s ending dold dnew before now status joins says =
-      let h = leaves-blames name (links joins.wire) (links joins.now) (faults joins.wire)
+      let h = leaves-fault name (links joins.wire) (links joins.now) (faults joins.wire)
       (faults joins.now) s joins.end joins.leaves in
       record {
         end = joins.end;
-        blames = h.0;
+        fault = h.0;
         says = subst (λ (e : Ending). SaysLine (code_of e) (ending_line e) dold dnew before now
             status) joins.ends says;
         at_end = h.1;
@@ -227,12 +227,6 @@ within-limits (Some entered) (Serve addr workers conns) asks =
     by_word None h = absurd h
     by_word (Some word) h = h.2
 
--- a client whose link isn't there
-pub no-link : (addr name : List ℕ) (s : Streams) (ending : Ending)
-    → (ending ≡ NoLink) × Untouched s → EndsCommand (Join addr name) s ending
-no-link addr name s ending h =
-    subst (λ (e : Ending). EndsCommand (Join addr name) s e) (sym h.0) ((λ runs. runs), h.1)
-
 module _ (s : Streams) (dold dnew : Option (List ℕ)) (before now status : ℕ)
     (e : Ended s dold dnew before now status) where
   pub not-usage : status ≡ 1 → ⊥
@@ -249,20 +243,20 @@ module _ (s : Streams) (dold dnew : Option (List ℕ)) (before now status : ℕ)
 
   pub joined-told : s.read < s.read_now → (status ≡ 3) ⊎ ((status ≡ 4) × Rose before now)
   joined-told rose =
-      run_told dold dnew s.read s.read_now s.written s.written_now before now status e.end e.blames
+      run_told dold dnew s.read s.read_now s.written s.written_now before now status e.end e.fault
       e.says rose
 
   pub joined-uncounted : IsOfBytes status → (s.read_now ≡ s.read) × (s.written_now ≡ s.written)
   joined-uncounted h =
       run_uncounted dold dnew s.read s.read_now s.written s.written_now before now status e.end
-      e.blames e.says h
+      e.fault e.says h
 
   pub joined-read : status ≡ 3 → Rose s.read s.read_now
   joined-read is =
       run_read_told dold dnew s.read s.read_now s.written s.written_now before now status e.end
-      e.blames e.says is
+      e.fault e.says is
 
   pub joined-write : status ≡ 4 → Rose s.written s.written_now ⊎ Rose before now
   joined-write is =
       run_write_told dold dnew s.read s.read_now s.written s.written_now before now status e.end
-      e.blames e.says is
+      e.fault e.says is

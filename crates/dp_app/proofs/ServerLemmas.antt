@@ -7,7 +7,7 @@ use Rattle.dp_io.specs.Faults.{Rose}
 use Rattle.dp_lines.specs.declared.run_end.RunEnd.{RunEnd}
 use Rattle.dp_lines.specs.declared.run_end.RunEnd.TheVariants.{Done, LinkFault, Memory}
 use Rattle.dp_serve.specs.Serving.{Seen}
-use Rattle.dp_lines.specs.RunEnds.{Blames}
+use Rattle.dp_lines.specs.RunEnds.{FaultMatchesEnd}
 use Rattle.dp_words.specs.declared.command_line.CommandLine.{CommandLine}
 use Rattle.dp_words.specs.declared.command_line.CommandLine.TheVariants.{Join, Serve}
 use Rattle.dp_app.specs.declared.ending.Ending.{Ending}
@@ -24,25 +24,25 @@ use Rattle.dp_app.proofs.Completeness.{run_told, run_uncounted, run_write_told}
 -- the end of a server, as far as the streams and what is said go
 pub record Ran (s : Streams) (dold dnew : Option (List ℕ)) (before now status : ℕ) : Type 0 where
   pub end : RunEnd
-  pub blames : Blames s.read s.read_now s.written s.written_now end
+  pub fault : FaultMatchesEnd s.read s.read_now s.written s.written_now end
   pub says : Says dold dnew before now status end
 
 -- a server is never ended by the input or the output
-flags-blame : (s : Streams) (memory wire : Bool) → Untouched s
-    → Blames s.read s.read_now s.written s.written_now (server_end memory wire)
-flags-blame s true wire same = (same.2, same.3)
-flags-blame s false true same = (same.2, same.3)
-flags-blame s false false same = (same.2, same.3)
+flags-fault : (s : Streams) (memory wire : Bool) → Untouched s
+    → FaultMatchesEnd s.read s.read_now s.written s.written_now (server_end memory wire)
+flags-fault s true wire same = (same.2, same.3)
+flags-fault s false true same = (same.2, same.3)
+flags-fault s false false same = (same.2, same.3)
 
 module _ {W R T : Type 0} (see : Seen W R T) where
-  runs-blame : (s : Streams) (conns : Option ℕ) (old new : List W) (kept : Kept) (end : RunEnd)
+  runs-fault : (s : Streams) (conns : Option ℕ) (old new : List W) (kept : Kept) (end : RunEnd)
       → Untouched s → ServedOn see conns old new kept end ⊎ NotServed old new kept end
-      → Blames s.read s.read_now s.written s.written_now end
-  runs-blame s conns old new kept end same (inl served) =
-      subst (λ (e : RunEnd). Blames s.read s.read_now s.written s.written_now e)
-      (sym served.end_is) (flags-blame s served.memory served.wire same)
-  runs-blame s conns old new kept end same (inr not) =
-      subst (λ (e : RunEnd). Blames s.read s.read_now s.written s.written_now e)
+      → FaultMatchesEnd s.read s.read_now s.written s.written_now end
+  runs-fault s conns old new kept end same (inl served) =
+      subst (λ (e : RunEnd). FaultMatchesEnd s.read s.read_now s.written s.written_now e)
+      (sym served.end_is) (flags-fault s served.memory served.wire same)
+  runs-fault s conns old new kept end same (inr not) =
+      subst (λ (e : RunEnd). FaultMatchesEnd s.read s.read_now s.written s.written_now e)
       (sym not.end_is) (same.2, same.3)
 
 module _ {A W R T : Type 0} (see : Seen W R T) where
@@ -53,7 +53,7 @@ module _ {A W R T : Type 0} (see : Seen W R T) where
       → Ran s dold dnew before now status
   ran-of words old new s kept ending dold dnew before now status by says = record {
     end = by.runs.end;
-    blames = runs-blame see s by.conns old new kept by.runs.end by.untouched by.runs.served;
+    fault = runs-fault see s by.conns old new kept by.runs.end by.untouched by.runs.served;
     says = subst (λ (e : Ending). SaysLine (code_of e) (ending_line e) dold dnew before now status)
         by.runs.ends says;
   }
@@ -127,20 +127,20 @@ module _ (s : Streams) (dold dnew : Option (List ℕ)) (before now status : ℕ)
 
   pub server-told : s.read < s.read_now → (status ≡ 3) ⊎ ((status ≡ 4) × Rose before now)
   server-told rose =
-      run_told dold dnew s.read s.read_now s.written s.written_now before now status e.end e.blames
+      run_told dold dnew s.read s.read_now s.written s.written_now before now status e.end e.fault
       e.says rose
 
   pub server-uncounted : IsOfBytes status → (s.read_now ≡ s.read) × (s.written_now ≡ s.written)
   server-uncounted h =
       run_uncounted dold dnew s.read s.read_now s.written s.written_now before now status e.end
-      e.blames e.says h
+      e.fault e.says h
 
   pub server-read : status ≡ 3 → Rose s.read s.read_now
   server-read is =
       run_read_told dold dnew s.read s.read_now s.written s.written_now before now status e.end
-      e.blames e.says is
+      e.fault e.says is
 
   pub server-write : status ≡ 4 → Rose s.written s.written_now ⊎ Rose before now
   server-write is =
       run_write_told dold dnew s.read s.read_now s.written s.written_now before now status e.end
-      e.blames e.says is
+      e.fault e.says is

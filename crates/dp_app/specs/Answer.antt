@@ -161,6 +161,6 @@ CommandLeaves (Serve addr workers conns) input left old new end = ⊥
 -- so of each world that is printed from
 abbrev pub HasHeadline : List ℕ → Type 0
 HasHeadline bytes =
-    (done behind : List Line) (actions : List Action)
-    → seen world_limit bytes ≡ done ++ behind → AskFor done actions
+    (done after : List Line) (actions : List Action)
+    → seen world_limit bytes ≡ done ++ after → AskFor done actions
     → Headline (world_after actions)

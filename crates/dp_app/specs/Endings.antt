@@ -4,7 +4,7 @@ use Rattle.std.specs.declared.string.String.{String}
 use Rattle.std.specs.Io.KnownBytes.{Keeps}
 use Rattle.dp_lines.specs.declared.run_end.RunEnd.TheVariants.{Memory}
 use Rattle.dp_words.specs.declared.command_line.CommandLine.{CommandLine}
-use Rattle.dp_lines.specs.RunEnds.{Blames}
+use Rattle.dp_lines.specs.RunEnds.{FaultMatchesEnd}
 use Rattle.dp_app.specs.declared.ending.Ending.{Ending}
 use Rattle.dp_app.specs.declared.ending.Ending.TheVariants.{Usage, NoLink, NoWords, Run}
 use Rattle.dp_app.specs.Answer.{CommandLeaves, line_of, no_link_line, status_of, usage_line}
@@ -63,7 +63,7 @@ EndsCommand command s NoLink = ¬ Runs command × Untouched s
 EndsCommand command s NoWords = ⊥
 EndsCommand command s (Run end) =
     Runs command × CommandLeaves command s.input s.left s.old s.new end
-    × Blames s.read s.read_now s.written s.written_now end
+    × FaultMatchesEnd s.read s.read_now s.written s.written_now end
 
 -- what words that end so have left
 abbrev pub EndsWords : {A : Type 0} → List (String A) → Streams → Ending → Type 0

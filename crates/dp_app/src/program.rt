@@ -8,7 +8,7 @@ ghost use Rattle.dp_lines.specs.declared.run_end.RunEnd.{RunEnd};
 ghost use Rattle.dp_lines.specs.declared.run_end.RunEnd.TheVariants.{Memory};
 ghost use Rattle.dp_words.specs.declared.command_line.CommandLine.{CommandLine};
 ghost use Rattle.dp_words.specs.declared.command_line.CommandLine.TheVariants.{Join, Serve};
-ghost use Rattle.dp_lines.specs.RunEnds.{Blames};
+ghost use Rattle.dp_lines.specs.RunEnds.{FaultMatchesEnd};
 ghost use Rattle.dp_app.specs.Answer.{Answer, CommandLeaves, HasHeadline, IsDue, IsGiven};
 ghost use Rattle.dp_app.specs.Answer.{Says, SaysNoLink, SaysUsage};
 ghost use Rattle.dp_app.specs.Commands.{AskForLink, AskForRun, Asks, IsCommand, IsWorld, Runs};
@@ -106,7 +106,7 @@ pub fn drawpile<
         → (end : RunEnd)
         × CommandLeaves command (I.left input.old) (I.left input.new)
         (O.held output.old) (O.held output.new) end
-        × Blames (I.faults input.old) (I.faults input.new)
+        × FaultMatchesEnd (I.faults input.old) (I.faults input.new)
         (O.faults output.old) (O.faults output.new) end
         × Says (E.held diag.old) (E.held diag.new) (E.faults diag.old) (E.faults diag.new)
         result.status end }

@@ -108,9 +108,9 @@ fn put_all_writes_a_prefix(rt: HostRuntime) {
 fn adapters_pass_the_bytes_on(rt: HostRuntime) {
     let alloc = rt.alloc();
     let mut source = StdSource::new(BYTES.as_slice());
-    let mut front = [0; 3];
-    assert_eq!(rt; source.read(&mut front), Ok(3));
-    assert_eq!(rt; front, [3, 1, 4]);
+    let mut prefix = [0; 3];
+    assert_eq!(rt; source.read(&mut prefix), Ok(3));
+    assert_eq!(rt; prefix, [3, 1, 4]);
     let mut source = StdSource::new(source.into_inner());
     let bytes = read_all(&rt, alloc, &mut source);
     assert_eq!(rt; bytes.as_slice(), [1, 5, 9, 2].as_slice());

@@ -25,11 +25,11 @@ get_or-pieces : {X : Type 0} (piece : ℕ → List X) (w a n y x : ℕ) (d : X)
     → get_or (flat_map piece (range_with_len a n)) (y * w + x) d ≡ get_or (piece (a + y)) x d
 get_or-pieces piece w a zero y x d same in_y in_x = absurd (omega arith)
 get_or-pieces piece w a (suc n) zero x d same in_y in_x =
-    let front = get_or_append_left (piece a) (flat_map piece (range_with_len (a + 1) n)) d x
+    let prefix = get_or_append_left (piece a) (flat_map piece (range_with_len (a + 1) n)) d x
     (omega (arith, same a)) in
     let at_start : zero * w + x ≡ x = omega arith in
     let first : a + zero ≡ a = omega arith in
-    rw (at_start, first) front
+    rw (at_start, first) prefix
 get_or-pieces piece w a (suc n) (suc y) x d same in_y in_x =
     let rest = get_or-pieces piece w (a + 1) n y x d same (omega arith) in_x in
     let past = get_or-append-add (piece a) (flat_map piece (range_with_len (a + 1) n)) (y * w + x) d

@@ -1,6 +1,6 @@
 -- Rows of which a part is changed, row after row.
 use Rattle.std.proofs.Common.{◌≡◌, ℕ, ◌+◌, ◌-◌, ◌*◌, ◌/◌, ◌%◌, ◌<◌, ◌≤◌, List, length, map}
-use Rattle.std.proofs.Common.{drop, get_or, set, Bool, true, false, refl, sym, ◌∙◌, ap, ◌≢◌, inl, inr}
+use Rattle.std.proofs.Common.{drop, get_or, set, Bool, true, false, sym, ◌∙◌, ap, ◌≢◌, inl, inr}
 use Rattle.std.proofs.Common.{get_or-set_other}
 use Rattle.std.proofs.lemmas.Grind.{get_or-set_at}
 use Rattle.std.proofs.lemmas.Bool.Decides.{eqb_tells}
@@ -165,17 +165,6 @@ pub record FilledBetween (f : Channels → Channels) (left right : ℕ) (old now
   pub count : length now ≡ length old
   pub places : (k : ℕ) (d : Channels) → k < length old
       → get_or now k d ≡ changed_between f left right k (get_or old k d)
-
--- before the first column none is
-pub filled-none : (f : Channels → Channels) (left : ℕ) (row : List Channels)
-    → FilledBetween f left left row row
-filled-none f left row =
-    record {
-      count = refl;
-      places = λ k d inside.
-          let test : is_between left left k ≡ false = grind (arith, nat_tests) in
-          sym (cond-false (is_between left left k) _ _ test);
-    }
 
 -- two more places are changed
 pub filled-two : (f : Channels → Channels) (left n m : ℕ) (old now written : List Channels)

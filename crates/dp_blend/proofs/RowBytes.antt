@@ -12,10 +12,6 @@ pub record PutTo (k : ℕ) (pixels : List Channels) (old now : List (List ℕ)) 
   pub count : length now ≡ length old
   pub done : (i : ℕ) → i < k → i < length old → get_or now i [] ≡ rgb_on_white (get_or pixels i clear)
 
--- none is put yet
-pub put-none : (pixels : List Channels) (bytes : List (List ℕ)) → PutTo 0 pixels bytes bytes
-put-none pixels bytes = record { count = refl; done = λ i below inside. absurd (omega arith) }
-
 -- those of one more pixel
 pub put-more : (k n : ℕ) (pixels : List Channels) (old now written : List (List ℕ))
     → k < length old → n ≡ k + 1 → written ≡ set now k (rgb_on_white (get_or pixels k clear))

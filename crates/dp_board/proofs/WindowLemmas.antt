@@ -16,21 +16,21 @@ last_few-append : {X : Type 0} → (n : ℕ) (xs ys : List X)
     → last_few n (last_few n xs ++ ys) ≡ last_few n (xs ++ ys)
 last_few-append n xs ys =
     let over : ℕ = length xs - n in
-    let front = take over xs in
+    let prefix = take over xs in
     let back = drop over xs ++ ys in
-    let whole : front ++ back ≡ xs ++ ys = sym (append_assoc front (drop over xs) ys)
+    let whole : prefix ++ back ≡ xs ++ ys = sym (append_assoc prefix (drop over xs) ys)
     ∙ ap (λ zs. zs ++ ys) (take-append-drop over xs) in
-    let count : length (front ++ back) - n ≡ length front
+    let count : length (prefix ++ back) - n ≡ length prefix
     + (length back - n) = omega (
       arith,
-      length-append front back,
+      length-append prefix back,
       length-append (drop over xs)
           ys,
       length-take over xs,
       length-drop over xs,
     ) in
-    sym (drop-append-add front back (length back - n))
-    ∙ ap (λ k. drop k (front ++ back)) (sym count)
+    sym (drop-append-add prefix back (length back - n))
+    ∙ ap (λ k. drop k (prefix ++ back)) (sym count)
     ∙ ap (last_few n) whole
 
 -- an act leaves the depth of the window

@@ -214,7 +214,7 @@ same_reading M laws first limit input es ds (BadMessage n) Long h k =
 same_reading M laws first limit input es ds (BadMessage m) (BadMessage n) h k =
     let same = same_up_to M laws (drop first (take limit input)) es ds h.0 k.0 h.1 k.1 in (
       same.0,
-      ap (λ (at : ℕ). BadMessage at) (h.2 ∙ ap (λ (behind : ℕ). first + behind) same.1
+      ap (λ (at : ℕ). BadMessage at) (h.2 ∙ ap (λ (after : ℕ). first + after) same.1
           ∙ sym k.2),
     )
 same_reading M laws first limit input es ds Done other h k = absurd k

@@ -27,27 +27,27 @@ use Rattle.dp_entries.proofs.Frames.{follows_bad, follows_fed, follows_tells}
 -- ---- lists
 
 -- the first bytes of a front and a rest
-take_front : (xs ys : List ℕ) (m n : ℕ) → m ≡ length xs + n → take m (xs ++ ys) ≡ xs ++ take n ys
-take_front xs ys m n e = ap (λ (k : ℕ). take k (xs ++ ys)) e ∙ take-append-add xs ys n
+take_prefix : (xs ys : List ℕ) (m n : ℕ) → m ≡ length xs + n → take m (xs ++ ys) ≡ xs ++ take n ys
+take_prefix xs ys m n e = ap (λ (k : ℕ). take k (xs ++ ys)) e ∙ take-append-add xs ys n
 
 -- what comes after the first bytes
-drop_front : (xs ys : List ℕ) (n : ℕ) → length xs ≡ n → drop n (xs ++ ys) ≡ ys
-drop_front xs ys n e = ap (λ (k : ℕ). drop k (xs ++ ys)) (sym e) ∙ drop-append_seam xs ys
+drop_prefix : (xs ys : List ℕ) (n : ℕ) → length xs ≡ n → drop n (xs ++ ys) ≡ ys
+drop_prefix xs ys n e = ap (λ (k : ℕ). drop k (xs ++ ys)) (sym e) ∙ drop-append_seam xs ys
 
 -- ---- what was read
 
 -- how many bytes these are: those before the first frame, and those that were fed
-front_length : {M : ℕ → FrameParts → Entry → Type 0} {input : List ℕ} {left : Option (List ℕ)}
+prefix_length : {M : ℕ → FrameParts → Entry → Type 0} {input : List ℕ} {left : Option (List ℕ)}
     {entries : List Entry} {r : Reader} → (h : HasRead M input left entries r)
     → length (h.head ++ (h.earlier ++ h.piece)) ≡ r.first + r.stream.at + length r.stream.held
-front_length h =
+prefix_length h =
     omega (arith, length-append h.head (h.earlier ++ h.piece), h.place, fed_length h.follows)
 
 -- what they are of the input
-front_whole : {M : ℕ → FrameParts → Entry → Type 0} {input : List ℕ} {left : Option (List ℕ)}
+prefix_whole : {M : ℕ → FrameParts → Entry → Type 0} {input : List ℕ} {left : Option (List ℕ)}
     {entries : List Entry} {r : Reader} → (h : HasRead M input left entries r)
     → input ≡ (h.head ++ (h.earlier ++ h.piece)) ++ (h.cut ++ h.untaken)
-front_whole h =
+prefix_whole h =
     h.whole ∙ sym (append_assoc h.head (h.earlier ++ h.piece) (h.cut ++ h.untaken))
 
 -- the bytes that count begin with them
@@ -57,18 +57,19 @@ counted : {M : ℕ → FrameParts → Entry → Type 0} {input : List ℕ} {left
     → take r.limit input ≡ (h.head ++ (h.earlier ++ h.piece))
     ++ take (r.limit - length (h.head ++ (h.earlier ++ h.piece))) (h.cut ++ h.untaken)
 counted {input = input} {r = r} h within =
-    let front : List ℕ = h.head ++ (h.earlier ++ h.piece) in
-    let sum : r.limit ≡ length front + (r.limit - length front) = omega (arith, front_length h) in
-    ap (take r.limit) (front_whole h)
-    ∙ take_front front (h.cut ++ h.untaken) r.limit (r.limit - length front) sum
+    let prefix : List ℕ = h.head ++ (h.earlier ++ h.piece) in
+    let sum : r.limit ≡ length prefix + (r.limit - length prefix) =
+    omega (arith, prefix_length h) in
+    ap (take r.limit) (prefix_whole h)
+    ∙ take_prefix prefix (h.cut ++ h.untaken) r.limit (r.limit - length prefix) sum
 
 -- after the first bytes, those that were fed
-behind_head : {M : ℕ → FrameParts → Entry → Type 0} {input : List ℕ} {left : Option (List ℕ)}
+after_head : {M : ℕ → FrameParts → Entry → Type 0} {input : List ℕ} {left : Option (List ℕ)}
     {entries : List Entry} {r : Reader} → (h : HasRead M input left entries r) (more : List ℕ)
     → drop r.first ((h.head ++ (h.earlier ++ h.piece)) ++ more) ≡ (h.earlier ++ h.piece) ++ more
-behind_head {r = r} h more =
+after_head {r = r} h more =
     ap (drop r.first) (append_assoc h.head (h.earlier ++ h.piece) more)
-    ∙ drop_front h.head ((h.earlier ++ h.piece) ++ more) r.first h.place
+    ∙ drop_prefix h.head ((h.earlier ++ h.piece) ++ more) r.first h.place
 
 -- where no whole frame is held, they hold no cause to end
 no_cause : {M : ℕ → FrameParts → Entry → Type 0} {input : List ℕ} {left : Option (List ℕ)}
@@ -80,9 +81,9 @@ no_cause {M = M} {entries = entries} {r = r} h none within = record {
   rest = r.stream.held;
   tells =
       subst (λ (xs : List ℕ). Tells M xs entries r.stream.held)
-      (sym (drop_front h.head (h.earlier ++ h.piece) r.first h.place))
+      (sym (drop_prefix h.head (h.earlier ++ h.piece) r.first h.place))
       (follows_tells none h.follows);
-  counts = omega (arith, front_length h);
+  counts = omega (arith, prefix_length h);
 }
 
 -- what was taken, but for the last piece, holds no cause to end
@@ -91,7 +92,7 @@ took_piece : {M : ℕ → FrameParts → Entry → Type 0} {input : List ℕ} {l
     → TookNoCause M r.first r.limit 4096 input left
 took_piece h = record {
   taken = h.head ++ h.earlier;
-  behind = h.piece ++ h.cut;
+  after = h.piece ++ h.cut;
   untaken = h.untaken;
   whole =
       h.whole ∙ ap (λ (xs : List ℕ). h.head ++ xs)
@@ -128,7 +129,7 @@ begins M input head untaken r held at count over place within whole = record {
       frames = [];
       stand = tt;
       splits = record {
-        whole = drop_front head [] r.first place;
+        whole = drop_prefix head [] r.first place;
         each = tt;
         partial = none_held [] refl;
       };
@@ -193,10 +194,10 @@ pub ends_bad : {C : Type 0} (M : ℕ → FrameParts → Entry → Type 0)
     (BadMessage cause (old.first + at))
 ends_bad M IsCause none input left entries old new at cause within taken place h =
     let fed : List ℕ = h.earlier ++ h.piece in
-    let front : List ℕ = h.head ++ fed in
-    let more : List ℕ = take (old.limit - length front) (h.cut ++ h.untaken) in
+    let prefix : List ℕ = h.head ++ fed in
+    let more : List ℕ = take (old.limit - length prefix) (h.cut ++ h.untaken) in
     let bytes : drop old.first (take old.limit input) ≡ fed ++ more =
-    ap (drop old.first) (counted h within) ∙ behind_head h more in
+    ap (drop old.first) (counted h within) ∙ after_head h more in
     let tells : TellsUpTo M (drop old.first (take old.limit input)) entries old.stream.at =
     subst (λ (xs : List ℕ). TellsUpTo M xs entries old.stream.at) (sym bytes)
     (follows_bad M IsCause none fed more entries old.count old.stream new cause taken h.follows) in
@@ -213,7 +214,7 @@ ends_bad M IsCause none input left entries old new at cause within taken place h
       took_piece h,
       record {
         frame = taken.frame;
-        front = h.head ++ frames;
+        prefix = h.head ++ frames;
         more = new.held ++ rest;
         whole =
             h.whole ∙ ap (λ (xs : List ℕ). h.head ++ (xs ++ rest)) f.whole
@@ -237,22 +238,22 @@ pub ends_long : {C : Type 0} (M : ℕ → FrameParts → Entry → Type 0)
     → EndsReading M IsCause r.first r.limit input left entries Long
 ends_long M IsCause input left entries r within none over h =
     let fed : List ℕ = h.earlier ++ h.piece in
-    let front : List ℕ = h.head ++ fed in
+    let prefix : List ℕ = h.head ++ fed in
     let rest : List ℕ = h.cut ++ h.untaken in
-    let bytes : take r.limit input ≡ front =
-    ap (take r.limit) (front_whole h)
-    ∙ take_front front rest r.limit 0 (omega (arith, h.full over))
-    ∙ append-nil front in
+    let bytes : take r.limit input ≡ prefix =
+    ap (take r.limit) (prefix_whole h)
+    ∙ take_prefix prefix rest r.limit 0 (omega (arith, h.full over))
+    ∙ append-nil prefix in
     let same : drop r.first (take r.limit input) ≡ fed =
-    ap (drop r.first) bytes ∙ drop_front h.head fed r.first h.place in (
+    ap (drop r.first) bytes ∙ drop_prefix h.head fed r.first h.place in (
       (
         r.stream.held,
         subst (λ (xs : List ℕ). Tells M xs entries r.stream.held) (sym same)
             (follows_tells none h.follows),
         omega (
           arith,
-          ap length (front_whole h),
-          length-append front rest,
+          ap length (prefix_whole h),
+          length-append prefix rest,
           length-append h.cut h.untaken,
           h.over over,
           h.full over,
@@ -274,10 +275,10 @@ pub ends_fault : {C : Type 0} (M : ℕ → FrameParts → Entry → Type 0)
 ends_fault M IsCause input left new entries r within none not_over keeps h =
     let cut : h.cut ≡ [] = nil_from_length h.cut (h.all not_over) in record {
       taken = h.head ++ (h.earlier ++ h.piece);
-      behind = [];
+      after = [];
       untaken = h.untaken;
       whole =
-          front_whole h ∙ ap (λ (xs : List ℕ). (h.head ++ (h.earlier ++ h.piece))
+          prefix_whole h ∙ ap (λ (xs : List ℕ). (h.head ++ (h.earlier ++ h.piece))
           ++ (xs ++ h.untaken)) cut;
       left_is = kept new (subst (λ (o : Option (List ℕ)). Keeps o new) h.left_is keeps);
       meets = no_cause h none within;
@@ -304,7 +305,7 @@ reads_piece M input rest entries old later chunk within none not_over few held a
     let piece : List ℕ = take (room_of old) chunk in
     let cut : List ℕ = drop (room_of old) chunk in
     let fed : List ℕ = h.earlier ++ h.piece in
-    let front : List ℕ = h.head ++ fed in
+    let prefix : List ℕ = h.head ++ fed in
     let before : h.cut ≡ [] = nil_from_length h.cut (h.all not_over) in
     let left : h.untaken ≡ chunk ++ rest = cc (h.left_is) in
     let parts : piece ++ cut ≡ chunk = take-append-drop (room_of old) chunk in
@@ -325,8 +326,8 @@ reads_piece M input rest entries old later chunk within none not_over few held a
           subst (λ (n : ℕ). Follows M (fed ++ piece) entries n later.stream) (sym count)
           (follows_fed M fed piece entries old.count old.stream later.stream held at h.follows);
       quiet =
-          subst (λ (n : ℕ). HoldsNoCause M n later.limit front) (sym first)
-          (subst (λ (n : ℕ). HoldsNoCause M old.first n front) (sym limit)
+          subst (λ (n : ℕ). HoldsNoCause M n later.limit prefix) (sym first)
+          (subst (λ (n : ℕ). HoldsNoCause M old.first n prefix) (sym limit)
           (no_cause h none within));
       few = subst (λ (xs : List ℕ). length xs ≤ 4096) (sym parts) few;
       over = λ yes. omega (arith, over.0 yes, length-drop (room_of old) chunk);
@@ -421,18 +422,18 @@ all_fed : {M : ℕ → FrameParts → Entry → Type 0} {input : List ℕ} {left
 all_fed {left = left} h not_over end =
     let cut : h.cut ≡ [] = nil_from_length h.cut (h.all not_over) in
     let none : h.untaken ≡ [] = subst IsAtEnd h.left_is end in
-    front_whole h
+    prefix_whole h
     ∙ ap (λ (xs : List ℕ). (h.head ++ (h.earlier ++ h.piece)) ++ (xs ++ h.untaken)) cut
     ∙ ap (λ (xs : List ℕ). (h.head ++ (h.earlier ++ h.piece)) ++ xs) none
     ∙ append-nil (h.head ++ (h.earlier ++ h.piece))
 
 -- after the first bytes of the input come those that were fed
-all_behind : {M : ℕ → FrameParts → Entry → Type 0} {input : List ℕ} {left : Option (List ℕ)}
+all_after : {M : ℕ → FrameParts → Entry → Type 0} {input : List ℕ} {left : Option (List ℕ)}
     {entries : List Entry} {r : Reader} → (h : HasRead M input left entries r)
     → ¬ IsTrue r.over → IsAtEnd left → drop r.first input ≡ h.earlier ++ h.piece
-all_behind {r = r} h not_over end =
+all_after {r = r} h not_over end =
     ap (drop r.first) (all_fed h not_over end)
-    ∙ drop_front h.head (h.earlier ++ h.piece) r.first h.place
+    ∙ drop_prefix h.head (h.earlier ++ h.piece) r.first h.place
 
 -- after a whole frame
 pub ends_done : (M : ℕ → FrameParts → Entry → Type 0) (input : List ℕ) (left : Option (List ℕ))
@@ -442,10 +443,10 @@ pub ends_done : (M : ℕ → FrameParts → Entry → Type 0) (input : List ℕ)
     → HasRead M input left entries r → ComesTo M r.first r.limit input entries run.Done
 ends_done M input left entries r within none not_over end empty h =
     let held : r.stream.held ≡ [] = nil_from_length r.stream.held empty in (
-      subst (λ (xs : List ℕ). Tells M xs entries []) (sym (all_behind h not_over end))
+      subst (λ (xs : List ℕ). Tells M xs entries []) (sym (all_after h not_over end))
           (subst (λ (xs : List ℕ). Tells M (h.earlier ++ h.piece) entries xs) held
           (follows_tells none h.follows)),
-      omega (arith, ap length (all_fed h not_over end), front_length h),
+      omega (arith, ap length (all_fed h not_over end), prefix_length h),
     )
 
 -- inside a frame
@@ -459,11 +460,11 @@ pub ends_inside : {C : Type 0} (M : ℕ → FrameParts → Entry → Type 0)
 ends_inside M IsCause input left entries r within none not_over end some h = (
   (
     r.stream.held,
-    subst (λ (xs : List ℕ). Tells M xs entries r.stream.held) (sym (all_behind h not_over end))
+    subst (λ (xs : List ℕ). Tells M xs entries r.stream.held) (sym (all_after h not_over end))
         (follows_tells none h.follows),
     λ empty. omega (arith, some, ap length empty),
-    omega (arith, ap length (all_fed h not_over end), front_length h),
-    omega (arith, ap length (all_fed h not_over end), front_length h),
+    omega (arith, ap length (all_fed h not_over end), prefix_length h),
+    omega (arith, ap length (all_fed h not_over end), prefix_length h),
   ),
   end,
 )
@@ -471,26 +472,26 @@ ends_inside M IsCause input left entries r within none not_over end some h = (
 -- ---- the first frame that is held
 
 -- it is dropped, and stands for the entry
-pub takes_front : (M : ℕ → FrameParts → Entry → Type 0) (before : ℕ) (old new : Stream)
+pub takes_first : (M : ℕ → FrameParts → Entry → Type 0) (before : ℕ) (old new : Stream)
     (frame : FrameParts) (entry : Entry) → IsFrame frame
     → old.held ≡ spelling frame ++ drop (length (spelling frame)) old.held
     → ((f : FrameParts) (rest : List ℕ) → IsFrame f → old.held ≡ spelling f ++ rest
     → new ≡ record { held = rest; at = old.at + length (spelling f) })
     → M before frame entry → TakesEntry M before old new entry
-takes_front M before old new frame entry fits front drops stands =
+takes_first M before old new frame entry fits prefix drops stands =
     let rest : List ℕ = drop (length (spelling frame)) old.held in
     let after : Stream = record { held = rest; at = old.at + length (spelling frame) } in
-    let is : new ≡ after = drops frame rest fits front in
+    let is : new ≡ after = drops frame rest fits prefix in
     record {
       frame = frame;
       fits = fits;
-      held = front ∙ ap (λ (s : Stream). spelling frame ++ s.held) (sym is);
+      held = prefix ∙ ap (λ (s : Stream). spelling frame ++ s.held) (sym is);
       at = ap (λ (s : Stream). s.at) is;
       stands = stands;
     }
 
 -- it may not stand, or memory runs out at it
-pub refuses_front : {C : Type 0} (IsCause : ℕ → FrameParts → C → Type 0) (before : ℕ)
+pub refuses_first : {C : Type 0} (IsCause : ℕ → FrameParts → C → Type 0) (before : ℕ)
     (old : Stream) (frame : FrameParts) (why : Refusal C) → IsFrame frame
     → old.held ≡ spelling frame ++ drop (length (spelling frame)) old.held
     → IfCause (IsCause before frame) why
@@ -498,9 +499,9 @@ pub refuses_front : {C : Type 0} (IsCause : ℕ → FrameParts → C → Type 0)
       held = drop (length (spelling frame)) old.held;
       at = old.at + length (spelling frame);
     })) why
-refuses_front IsCause before old frame (refusal.Cause cause) fits front is =
-    record { frame = frame; fits = fits; held = front; at = refl; why = is }
-refuses_front IsCause before old frame refusal.Memory fits front is = tt
+refuses_first IsCause before old frame (refusal.Cause cause) fits prefix is =
+    record { frame = frame; fits = fits; held = prefix; at = refl; why = is }
+refuses_first IsCause before old frame refusal.Memory fits prefix is = tt
 
 -- ---- a frame that stops it
 

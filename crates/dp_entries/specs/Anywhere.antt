@@ -4,7 +4,7 @@ use Rattle.dp_frame.specs.Frames.{FrameParts}
 use Rattle.dp_messages.specs.declared.message.Entry.{Entry}
 use Rattle.dp_messages.specs.declared.decoder.DecodeError.{DecodeError}
 use Rattle.dp_messages.specs.declared.decoder.DecodeError.TheVariants as decode
-use Rattle.dp_messages.specs.Decoded.{Carries, IsRefused}
+use Rattle.dp_messages.specs.Decoded.{Carries, IsPayloadRefused}
 use Rattle.dp_entries.specs.declared.ends.Refusal.{Refusal}
 use Rattle.dp_entries.specs.declared.ends.Refusal.TheVariants.{Cause, Memory}
 
@@ -14,7 +14,7 @@ StandsAnywhere before frame entry = Carries frame entry
 
 -- and no other, for the cause that it carries none
 abbrev pub IsCauseAnywhere : ℕ → FrameParts → DecodeError → Type 0
-IsCauseAnywhere before frame why = IsRefused frame.kind frame.body why
+IsCauseAnywhere before frame why = IsPayloadRefused frame.kind frame.body why
 
 -- why a frame that isn't decoded gives no entry
 abbrev pub refusal_of : DecodeError → Refusal DecodeError

@@ -52,8 +52,8 @@ ComesTo MayStand first limit input entries (Truncated n) =
     (rest : List ℕ) × Tells MayStand (drop first input) entries rest × (rest ≢ [])
     × (n + length rest ≡ length input) × (length input ≤ limit)
 ComesTo MayStand first limit input entries (BadMessage n) =
-    (behind : ℕ) × TellsUpTo MayStand (drop first (take limit input)) entries behind
-    × (n ≡ first + behind)
+    (after : ℕ) × TellsUpTo MayStand (drop first (take limit input)) entries after
+    × (n ≡ first + after)
 ComesTo MayStand first limit input entries Long =
     (rest : List ℕ) × Tells MayStand (drop first (take limit input)) entries rest
     × (limit < length input)

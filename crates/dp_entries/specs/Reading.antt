@@ -35,10 +35,10 @@ pub record TakesBad {C : Type 0} (IsCause : ℕ → FrameParts → C → Type 0)
 pub record IsBadAt {C : Type 0} (IsCause : ℕ → FrameParts → C → Type 0) (input : List ℕ)
     (before n : ℕ) (cause : C) : Type 0 where
   pub frame : FrameParts
-  pub front : List ℕ
+  pub prefix : List ℕ
   pub more : List ℕ
-  pub whole : input ≡ front ++ (spelling frame ++ more)
-  pub place : n ≡ length front
+  pub whole : input ≡ prefix ++ (spelling frame ++ more)
+  pub place : n ≡ length prefix
   pub why : IsCause before frame cause
 
 -- What was taken holds no cause to end, but for the last bytes of it, at most so many.
@@ -67,12 +67,12 @@ EndsReading MayStand IsCause first limit input left entries Long =
 EndsReading MayStand IsCause first limit input left entries Memory = ⊤
 
 -- the count of the input's faults where reading ended so: a fault raised it, and else it stays
-abbrev pub Blames : {C : Type 0} → ℕ → ℕ → ReadEnd C → Type 0
-Blames before now ReadFault = Rose before now
-Blames before now (Truncated n) = now ≡ before
-Blames before now (BadMessage cause n) = now ≡ before
-Blames before now Long = now ≡ before
-Blames before now Memory = now ≡ before
+abbrev pub FaultMatchesReadEnd : {C : Type 0} → ℕ → ℕ → ReadEnd C → Type 0
+FaultMatchesReadEnd before now ReadFault = Rose before now
+FaultMatchesReadEnd before now (Truncated n) = now ≡ before
+FaultMatchesReadEnd before now (BadMessage cause n) = now ≡ before
+FaultMatchesReadEnd before now Long = now ≡ before
+FaultMatchesReadEnd before now Memory = now ≡ before
 
 -- the input is at its end where reading it ended inside a frame
 abbrev pub EndsWithInput : {C : Type 0} → Option (List ℕ) → ReadEnd C → Type 0

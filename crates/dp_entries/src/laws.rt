@@ -6,7 +6,7 @@ ghost use Rattle.dp_lines.specs.declared.run_end.RunEnd.{RunEnd};
 ghost use Rattle.dp_entries.specs.Input.{ComesTo};
 
 use crate::Standing;
-use dp_frame::{one_front, one_splitting};
+use dp_frame::{one_first_frame, one_splitting};
 
 /// An input comes to at most one end, with one list of entries.
 pub fn one_reading<S: Standing>()
@@ -19,7 +19,7 @@ pub fn one_reading<S: Standing>()
         → ComesTo S.may_stand first limit input entries end
         → ComesTo S.may_stand first limit input others other → end ≡ other }
 {
-    one_front();
+    one_first_frame();
     one_splitting();
     S::one_standing();
 }

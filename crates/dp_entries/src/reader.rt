@@ -12,7 +12,7 @@ ghost use Rattle.dp_lines.specs.declared.run_end.RunEnd.TheVariants as run;
 ghost use Rattle.dp_entries.specs.Input.{ComesTo};
 ghost use Rattle.dp_entries.specs.Ends.{IsRefusal, refused_at};
 ghost use Rattle.dp_entries.specs.Reader.{HasRead, measure_of, room_of};
-ghost use Rattle.dp_entries.specs.Reading.{Blames, EndsReading, EndsWithInput};
+ghost use Rattle.dp_entries.specs.Reading.{FaultMatchesReadEnd, EndsReading, EndsWithInput};
 
 use crate::{ReadEnd, Refusal, Standing};
 use dp_io::{Failed, Source};
@@ -126,7 +126,8 @@ impl<S: Standing> EntryReader<S> {
 
         // A fault is answered where the count of the input's faults rose, and else it stays.
         ensures kept { OnOk result (I.faults input.new ≡ I.faults input.old) }
-        ensures blames { IfErr result (Blames (I.faults input.old) (I.faults input.new)) }
+        ensures fault { IfErr result
+            (FaultMatchesReadEnd (I.faults input.old) (I.faults input.new)) }
         ensures later { I.faults input.old ≤ I.faults input.new }
     {
         if self.ended {
@@ -216,11 +217,12 @@ impl<S: Standing> EntryReader<S> {
 
         // A fault is answered where the count of the input's faults rose, and else it stays.
         ensures kept { OnOk result (I.faults input.new ≡ I.faults input.old) }
-        ensures blames { IfErr result (Blames (I.faults input.old) (I.faults input.new)) }
+        ensures fault { IfErr result
+            (FaultMatchesReadEnd (I.faults input.old) (I.faults input.new)) }
         ensures later { I.faults input.old ≤ I.faults input.new }
     {
         'pieces: loop {
-            if self.splitter.front().is_some() {
+            if self.splitter.peek_frame().is_some() {
                 return Ok(true);
             }
             if !self.read_piece(input)? {
@@ -258,13 +260,13 @@ impl<S: Standing> EntryReader<S> {
         ensures refused { IfErr result IsRefusal }
     {
         S::one_standing();
-        let judged = match self.splitter.front() {
+        let judged = match self.splitter.peek_frame() {
             Some(frame) => S::judge(alloc, self.count, &frame),
             None => unreachable!(),
         };
         match judged {
             Ok(entry) => {
-                self.splitter.drop_front();
+                self.splitter.drop_frame();
                 self.count += 1;
                 Ok(entry)
             }
@@ -297,7 +299,8 @@ impl<S: Standing> EntryReader<S> {
             (I.left input.new) entries end) }
         ensures at_input { IfErr result (EndsWithInput (I.left input.new)) }
         ensures kept { OnOk result (I.faults input.new ≡ I.faults input.old) }
-        ensures blames { IfErr result (Blames (I.faults input.old) (I.faults input.new)) }
+        ensures fault { IfErr result
+            (FaultMatchesReadEnd (I.faults input.old) (I.faults input.new)) }
         ensures later { I.faults input.old ≤ I.faults input.new }
     {
         if self.over {
@@ -363,7 +366,7 @@ impl<S: Standing> EntryReader<S> {
             → EndsReading S.may_stand S.is_cause self.now.first self.now.limit bytes left entries
             end) }
         ensures inside { IfErr result (λ end. (left : Option (List ℕ)) → IsAtEnd left
-            → EndsWithInput left end × ((count : ℕ) → Blames count count end)) }
+            → EndsWithInput left end × ((count : ℕ) → FaultMatchesReadEnd count count end)) }
     {
         if self.splitter.rest_len() == 0 {
             Ok(())

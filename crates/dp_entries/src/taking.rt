@@ -42,11 +42,11 @@ pub fn take_entry<S: Standing>(
         ≡ splitter.old.at + length splitter.old.held }
 {
     let at = splitter.at();
-    let judged = match splitter.front() {
+    let judged = match splitter.peek_frame() {
         Some(frame) => S::judge(alloc, before, &frame),
         None => return Ok(None),
     };
-    splitter.drop_front();
+    splitter.drop_frame();
     match judged {
         Ok(entry) => Ok(Some(entry)),
         Err(why) => Err(Stop { at, why }),

@@ -35,7 +35,7 @@ use Rattle.dp_epochs.specs.Past.{after_item, state_after, state_of}
 use Rattle.dp_epochs.specs.Past.{Serves, Step, refused, kept, shut_with, sure_step}
 use Rattle.dp_events.specs.Rows.{has_room}
 use Rattle.std.proofs.lemmas.List.Elements.{All-nil, All-weaker, All-push}
-use Rattle.dp_epochs.specs.Laws.{Continues, Outcome, IsRun, IsFault, AreFaults, ShutBefore}
+use Rattle.dp_epochs.specs.Laws.{Continues, LoggedStep, IsRun, IsFault, AreFaults, ShutBefore}
 use Rattle.dp_epochs.specs.Laws.{shut_by, HasNoMark, IsHistory, AreHistories}
 use Rattle.dp_epochs.proofs.Interleaving.{state-came, state-shut}
 use Rattle.dp_epochs.proofs.OpeningLemmas.{opening-short, present-few, opening-marked}
@@ -430,7 +430,8 @@ stays-broken past (event.Close conn) (Err want) new first first_fault step =
     (tt, ap (λ p. p.first_fault) step ∙ first_fault)
 
 -- each outcome is that fault
-pub broken-for_good : (past : Past) (first : ℕ) (log : List Outcome) → past.first_fault ≡ Some first
+pub broken-for_good : (past : Past) (first : ℕ) (log : List LoggedStep)
+    → past.first_fault ≡ Some first
     → IsRun past log
     → AreFaults first log
 broken-for_good past first [] first_fault run = tt

@@ -30,13 +30,13 @@ AreHistories s =
     (epoch : ℕ) → epoch ≤ epoch_of s → IsHistory epoch (history_of s epoch)
 
 -- an event, what came of it, and what it left
-pub record Outcome : Type 0 where
+pub record LoggedStep : Type 0 where
   pub event : Event
   pub answer : Result Reply AllocError
   pub left : Past
 
 -- each step is one that a session may make, from what the one before left
-abbrev pub IsRun : Past → List Outcome → Type 0
+abbrev pub IsRun : Past → List LoggedStep → Type 0
 IsRun past [] = Unit {0}
 IsRun past (outcome ∷ log) =
     Step past outcome.event outcome.answer outcome.left × IsRun outcome.left log
@@ -47,7 +47,7 @@ IsFault first (Ok answer) = answer ≡ StoreFault first
 IsFault first (Err want) = Unit {0}
 
 -- that is so of each outcome
-abbrev pub AreFaults : ℕ → List Outcome → Type 0
+abbrev pub AreFaults : ℕ → List LoggedStep → Type 0
 AreFaults first [] = Unit {0}
 AreFaults first (outcome ∷ log) = IsFault first outcome.answer × AreFaults first log
 

@@ -69,14 +69,14 @@ answer_to past e = (acted (state_of past) e).reply
 -- ---- one step
 
 -- the row that is kept of an event
-abbrev pub row_behind : Past → Event → Row
-row_behind past e = record { n = length past.journal; bytes = row_of e }
+abbrev pub row_after : Past → Event → Row
+row_after past e = record { n = length past.journal; bytes = row_of e }
 
 -- the past after an event that was kept
 abbrev pub kept : Past → Event → Past
 kept past e = record past {
   journal = past.journal ++ e ∷ [];
-  known = with_row (row_behind past e) past.known;
+  known = with_row (row_after past e) past.known;
 }
 
 -- the closings with one more, if the event that was refused is a Close
@@ -109,7 +109,7 @@ pub record FailsFirst (old : Past) (e : Event) (answer : Reply) (new : Past) : T
   pub count : ℕ
   pub known : Option (List Row)
   pub rose : Rose old.count count
-  pub rows : (known ≡ old.known) ⊎ (known ≡ with_row (row_behind old e) old.known)
+  pub rows : (known ≡ old.known) ⊎ (known ≡ with_row (row_after old e) old.known)
   pub reply : answer ≡ StoreFault count
   pub after : new ≡ record (refused old e) {
     first_fault = Some count;

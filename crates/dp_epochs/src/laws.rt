@@ -16,7 +16,8 @@ ghost use Rattle.dp_epochs.specs.Past.{Past, state_after, state_of, kept, refuse
 ghost use Rattle.dp_epochs.specs.State.{State, after_event, epoch_of, history_of, present_users};
 ghost use Rattle.dp_epochs.specs.State.{entry_of, free_id, is_name};
 ghost use Rattle.dp_epochs.specs.Effects.{EventsHaveEffects, ConnectionsStay, PartsFit};
-ghost use Rattle.dp_epochs.specs.Laws.{Continues, Outcome, IsRun, AreFaults, ShutBefore, shut_by};
+ghost use Rattle.dp_epochs.specs.Laws.{Continues, LoggedStep, IsRun, AreFaults, ShutBefore};
+ghost use Rattle.dp_epochs.specs.Laws.{shut_by};
 ghost use Rattle.dp_epochs.specs.Laws.{IsHistory, AreHistories};
 
 /// A session has one answer for each event of its journal, whatever was closed between.
@@ -51,7 +52,7 @@ pub fn connections_stay()
 
 /// Once a put has failed, every outcome is that fault, or out of memory.
 pub fn faults_for_good()
-    ensures { (past : Past) (first : ℕ) (log : List Outcome)
+    ensures { (past : Past) (first : ℕ) (log : List LoggedStep)
         → past.first_fault ≡ Some first → IsRun past log → AreFaults first log }
 {}
 

@@ -61,10 +61,10 @@ shown_paint board depth row x y paints =
     (row_pixel board x y row)) (sym paints)
 
 -- the pixels of the first buffer of a memory
-pub tone_front : (tone : Tone) (front rest : List Channels) (k : ℕ) → k < length front
-    → tone_at tone (front ++ rest) k ≡ tone_at tone front k
-tone_front (Solid color) front rest k inside = refl
-tone_front Mixed front rest k inside = get_or_append_left front rest clear k inside
+pub tone_prefix : (tone : Tone) (prefix rest : List Channels) (k : ℕ) → k < length prefix
+    → tone_at tone (prefix ++ rest) k ≡ tone_at tone prefix k
+tone_prefix (Solid color) prefix rest k inside = refl
+tone_prefix Mixed prefix rest k inside = get_or_append_left prefix rest clear k inside
 
 -- ---- rows that hide what is below them
 

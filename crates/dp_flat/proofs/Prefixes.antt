@@ -11,18 +11,6 @@ use Rattle.dp_io.specs.Streams.{GrowsByPrefix}
 use Rattle.dp_io.proofs.Prefixes.{grows_after}
 use Rattle.dp_flat.specs.Texts.{GrowsBefore}
 
--- more of the text was put into the piece
-pub before_more : (a b : Option (List ℕ)) (piece text more now : List ℕ)
-    → GrowsBefore a b piece text
-    → now ≡ piece ++ more
-    → GrowsBefore a b now (text ++ more)
-before_more a b piece text more now before put = record {
-  bytes = before.bytes;
-  appended = before.appended;
-  whole = ap (λ l. before.bytes ++ l) put ∙ sym (append_assoc before.bytes piece more)
-      ∙ ap (λ l. l ++ more) before.whole;
-}
-
 -- the piece and more of the text were written in turn, but for another piece
 pub before_on : (a b c : Option (List ℕ)) (piece text more now : List ℕ)
     → GrowsBefore a b piece text

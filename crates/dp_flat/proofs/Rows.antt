@@ -46,51 +46,51 @@ rows_more board y =
     ∙ ap (λ l. canvas_of board.width y (seen board) ++ l) (append-nil (row (0 + y)) ∙ ap row here)
 
 -- the text so far and that of one more row
-pub text_more : (text : Channels → List ℕ) (board : Board) (y : ℕ) (front : List ℕ)
-    → front ++ flat_map text (canvas_of board.width y (seen board))
+pub text_more : (text : Channels → List ℕ) (board : Board) (y : ℕ) (prefix : List ℕ)
+    → prefix ++ flat_map text (canvas_of board.width y (seen board))
     ++ flat_map text (seen_row board y)
-    ≡ front ++ flat_map text (canvas_of board.width (y + 1) (seen board))
-text_more text board y front =
-    append_assoc front (flat_map text (canvas_of board.width y (seen board)))
+    ≡ prefix ++ flat_map text (canvas_of board.width (y + 1) (seen board))
+text_more text board y prefix =
+    append_assoc prefix (flat_map text (canvas_of board.width y (seen board)))
     (flat_map text (seen_row board y))
-    ∙ ap (λ l. front ++ l)
+    ∙ ap (λ l. prefix ++ l)
     (sym (flat_map-append text (canvas_of board.width y (seen board)) (seen_row board y))
     ∙ ap (flat_map text) (sym (rows_more board y)))
 
 -- a prefix of the text so far and of one more row is one of the whole text
 pub text_failed : (a b : Option (List ℕ)) (text : Channels → List ℕ) (board : Board) (y : ℕ)
-    (front : List ℕ)
+    (prefix : List ℕ)
     → y < board.height
-    → GrowsByPrefix a b (front ++ flat_map text (canvas_of board.width y (seen board))
+    → GrowsByPrefix a b (prefix ++ flat_map text (canvas_of board.width y (seen board))
     ++ flat_map text (seen_row board y))
-    → GrowsByPrefix a b (front ++ flat_map text (canvas_of board.width board.height (seen board)))
-text_failed a b text board y front inside some =
+    → GrowsByPrefix a b (prefix ++ flat_map text (canvas_of board.width board.height (seen board)))
+text_failed a b text board y prefix inside some =
     let rest = board.height - (y + 1) in
     let all : y + 1 + rest ≡ board.height = omega arith in
     let pixels_of = λ (y : ℕ). map (λ x. seen board x y) (below board.width) in
     let others = flat_map pixels_of (range_with_len (0 + (y + 1)) rest) in
-    let whole : front ++ flat_map text (canvas_of board.width (y + 1) (seen board))
+    let whole : prefix ++ flat_map text (canvas_of board.width (y + 1) (seen board))
     ++ flat_map text others
-    ≡ front ++ flat_map text (canvas_of board.width board.height (seen board)) =
-    append_assoc front (flat_map text (canvas_of board.width (y + 1) (seen board)))
+    ≡ prefix ++ flat_map text (canvas_of board.width board.height (seen board)) =
+    append_assoc prefix (flat_map text (canvas_of board.width (y + 1) (seen board)))
     (flat_map text others)
-    ∙ ap (λ l. front ++ l) (sym (flat_map-append text (canvas_of board.width (y + 1) (seen board))
+    ∙ ap (λ l. prefix ++ l) (sym (flat_map-append text (canvas_of board.width (y + 1) (seen board))
     others)
     ∙ ap (flat_map text) (sym (canvas_split board.width (y + 1) rest (seen board))
     ∙ ap (λ n. canvas_of board.width n (seen board)) all)) in
     subst (GrowsByPrefix a b) whole
-    (grows_within a b (front ++ flat_map text (canvas_of board.width (y + 1) (seen board)))
+    (grows_within a b (prefix ++ flat_map text (canvas_of board.width (y + 1) (seen board)))
     (flat_map text others)
-    (subst (GrowsByPrefix a b) (text_more text board y front) some))
+    (subst (GrowsByPrefix a b) (text_more text board y prefix) some))
 
 -- once all rows are there, the text is whole
 pub text_all : (a b : Option (List ℕ)) (text : Channels → List ℕ) (board : Board) (y : ℕ)
-    (front piece : List ℕ) → y ≡ board.height
-    → GrowsBefore a b piece (front ++ flat_map text (canvas_of board.width y (seen board)))
-    → GrowsBefore a b piece (front ++ flat_map text (picture board))
-text_all a b text board y front piece all before =
+    (prefix piece : List ℕ) → y ≡ board.height
+    → GrowsBefore a b piece (prefix ++ flat_map text (canvas_of board.width y (seen board)))
+    → GrowsBefore a b piece (prefix ++ flat_map text (picture board))
+text_all a b text board y prefix piece all before =
     subst (GrowsBefore a b piece)
-    (ap (λ n. front ++ flat_map text (canvas_of board.width n (seen board))) all) before
+    (ap (λ n. prefix ++ flat_map text (canvas_of board.width n (seen board))) all) before
 
 -- ---- the chunks of a row
 
@@ -110,31 +110,31 @@ seen_split board y x count =
     ∙ ap (λ l. seen_first board y x ++ l) later
 
 -- the text so far and that of one more chunk
-pub chunk_more : (text : Channels → List ℕ) (board : Board) (y x count m n : ℕ) (front : List ℕ)
+pub chunk_more : (text : Channels → List ℕ) (board : Board) (y x count m n : ℕ) (prefix : List ℕ)
     → m ≡ x → n ≡ x + count
-    → front ++ flat_map text (seen_first board y m)
+    → prefix ++ flat_map text (seen_first board y m)
     ++ flat_map text (map (λ i. seen board (x + i) y) (below count))
-    ≡ front ++ flat_map text (seen_first board y n)
-chunk_more text board y x count m n front here after =
+    ≡ prefix ++ flat_map text (seen_first board y n)
+chunk_more text board y x count m n prefix here after =
     let chunk = map (λ i. seen board (x + i) y) (below count) in
-    append_assoc front (flat_map text (seen_first board y m)) (flat_map text chunk)
-    ∙ ap (λ l. front ++ l)
+    append_assoc prefix (flat_map text (seen_first board y m)) (flat_map text chunk)
+    ∙ ap (λ l. prefix ++ l)
     (ap (λ k. flat_map text (seen_first board y k) ++ flat_map text chunk) here
     ∙ sym (flat_map-append text (seen_first board y x) chunk)
     ∙ ap (flat_map text) (sym (seen_split board y x count) ∙ ap (seen_first board y) (sym after)))
 
 -- a prefix of the text so far is one of the text with the whole row
 pub row_failed : (a b : Option (List ℕ)) (text : Channels → List ℕ) (board : Board) (y n : ℕ)
-    (front : List ℕ)
+    (prefix : List ℕ)
     → n ≤ board.width
-    → GrowsByPrefix a b (front ++ flat_map text (seen_first board y n))
-    → GrowsByPrefix a b (front ++ flat_map text (seen_row board y))
-row_failed a b text board y n front within some =
+    → GrowsByPrefix a b (prefix ++ flat_map text (seen_first board y n))
+    → GrowsByPrefix a b (prefix ++ flat_map text (seen_row board y))
+row_failed a b text board y n prefix within some =
     let rest = board.width - n in
     let all : board.width ≡ n + rest = omega arith in
     subst (GrowsByPrefix a b)
-    (chunk_more text board y n rest n board.width front refl all)
-    (grows_within a b (front ++ flat_map text (seen_first board y n))
+    (chunk_more text board y n rest n board.width prefix refl all)
+    (grows_within a b (prefix ++ flat_map text (seen_first board y n))
     (flat_map text (map (λ i. seen board (n + i) y) (below rest))) some)
 
 -- copies of a pixel's text are the texts of copies of the pixel

@@ -25,9 +25,9 @@ same_frame f g kinds users bodies =
     r) bodies
 
 -- bytes begin with at most one frame
-pub one_front : (f g : FrameParts) (xs ys : List ℕ) → IsFrame f → IsFrame g
+pub one_first_frame : (f g : FrameParts) (xs ys : List ℕ) → IsFrame f → IsFrame g
     → spelling f ++ xs ≡ spelling g ++ ys → (f ≡ g) × (xs ≡ ys)
-one_front f g xs ys fits_f fits_g whole =
+one_first_frame f g xs ys fits_f fits_g whole =
     let high : length f.body / 256 % 256 ≡ length g.body / 256 % 256 = cc in
     let low : length f.body % 256 ≡ length g.body % 256 = cc in
     let kinds : f.kind ≡ g.kind = cc in
@@ -55,9 +55,10 @@ no_frame_partial bytes partial f more fits whole =
     omega (arith, ap length whole, length-append (spelling f) more)
 
 -- a header with the payload that it announces after it is a frame, and the rest follows
-pub frame_in_front : (a b c d : ℕ) (tail : List ℕ) → a < 256 → b < 256 → a * 256 + b ≤ length tail
+pub begins_with_frame : (a b c d : ℕ) (tail : List ℕ) → a < 256 → b < 256
+    → a * 256 + b ≤ length tail
     → (f : FrameParts) × (more : List ℕ) × IsFrame f × (a ∷ b ∷ c ∷ d ∷ tail ≡ spelling f ++ more)
-frame_in_front a b c d tail small_a small_b enough =
+begins_with_frame a b c d tail small_a small_b enough =
     let n = a * 256 + b in
     let body = take n tail in
     let len : length body ≡ n = length-take-le n tail enough in
@@ -80,12 +81,12 @@ holds_frame (a ∷ []) small long enough none = absurd (omega arith)
 holds_frame (a ∷ b ∷ []) small long enough none = absurd (omega arith)
 holds_frame (a ∷ b ∷ c ∷ []) small long enough none = absurd (omega arith)
 holds_frame (a ∷ b ∷ c ∷ d ∷ tail) small long enough none =
-    let found = frame_in_front a b c d tail (small 0) (small 1) (omega arith) in
+    let found = begins_with_frame a b c d tail (small 0) (small 1) (omega arith) in
     none found.0 found.1 found.2 found.3
 
 -- what is taken first is a frame, and the rest is after it
 pub frame_and_rest : (held rest : List ℕ) (len : ℕ) (f : FrameParts) → take len held ≡ spelling f
     → rest ≡ drop len held → held ≡ spelling f ++ rest
-frame_and_rest held rest len f front back =
-    sym (take-append-drop len held) ∙ ap (λ (b : List ℕ). b ++ drop len held) front
+frame_and_rest held rest len f prefix back =
+    sym (take-append-drop len held) ∙ ap (λ (b : List ℕ). b ++ drop len held) prefix
     ∙ ap (λ (b : List ℕ). spelling f ++ b) (sym back)

@@ -7,7 +7,8 @@ use Rattle.std.proofs.lemmas.List.Elements.{recursion_from_All}
 use Rattle.std.proofs.lemmas.Bool.{cases_lt}
 use Rattle.std.specs.List.{All, AllByRecursion, flat_map}
 use Rattle.dp_frame.specs.Frames.{FrameParts, IsFrame, spelling, HoldsNoFrame, Splits}
-use Rattle.dp_frame.proofs.Spellings.{one_front, no_frame_short, no_frame_partial, frame_in_front}
+use Rattle.dp_frame.proofs.Spellings.{one_first_frame, no_frame_short, no_frame_partial}
+use Rattle.dp_frame.proofs.Spellings.{begins_with_frame}
 
 -- the bytes of frames and a rest say which they are
 same_splitting : (fs gs : List FrameParts) (r s : List ℕ) → AllByRecursion IsFrame fs
@@ -21,12 +22,16 @@ same_splitting (f ∷ fs) [] r s fits_f fits_g none_r none_s whole =
     absurd (none_s f (flat_map spelling fs ++ r) fits_f.0
     (sym whole ∙ append_assoc (spelling f) (flat_map spelling fs) r))
 same_splitting (f ∷ fs) (g ∷ gs) r s fits_f fits_g none_r none_s whole =
-    let front = one_front f g (flat_map spelling fs ++ r) (flat_map spelling gs ++ s) fits_f.0
+    let prefix =
+    one_first_frame f g (flat_map spelling fs ++ r) (flat_map spelling gs ++ s) fits_f.0
     fits_g.0
     (sym (append_assoc (spelling f) (flat_map spelling fs) r) ∙ whole
     ∙ append_assoc (spelling g) (flat_map spelling gs) s) in
-    let rest = same_splitting fs gs r s fits_f.1 fits_g.1 none_r none_s front.1 in
-    (ap (λ (h : FrameParts). h ∷ fs) front.0 ∙ ap (λ (hs : List FrameParts). g ∷ hs) rest.0, rest.1)
+    let rest = same_splitting fs gs r s fits_f.1 fits_g.1 none_r none_s prefix.1 in (
+      ap (λ (h : FrameParts). h ∷ fs) prefix.0
+          ∙ ap (λ (hs : List FrameParts). g ∷ hs) rest.0,
+      rest.1,
+    )
 
 -- two splittings of one list of bytes are one
 pub same_frames_and_rest : (bytes : List ℕ) (fs gs : List FrameParts) (r s : List ℕ)
@@ -45,7 +50,7 @@ first_of (a ∷ b ∷ c ∷ []) small = inl (no_frame_short _ (omega arith))
 first_of (a ∷ b ∷ c ∷ d ∷ tail) small =
     elim (cases_lt (length tail) (a * 256 + b)) [
       | inl partial ↦ inl (no_frame_partial (a ∷ b ∷ c ∷ d ∷ tail) (omega arith))
-      | inr enough ↦ inr (frame_in_front a b c d tail small.0 small.1.0 enough)
+      | inr enough ↦ inr (begins_with_frame a b c d tail small.0 small.1.0 enough)
     ]
 
 -- a frame before a splitting is one frame more
@@ -63,10 +68,10 @@ pub rest_alone : (bytes : List ℕ) → HoldsNoFrame bytes → Splits bytes [] b
 rest_alone bytes none = record { whole = refl; each = tt; partial = none }
 
 -- where the bytes of two joined lists are below 256, those of the second list are
-back_small : (front back : List ℕ) → AllByRecursion (λ b. b < 256) (front ++ back)
+back_small : (prefix back : List ℕ) → AllByRecursion (λ b. b < 256) (prefix ++ back)
     → AllByRecursion (λ b. b < 256) back
 back_small [] back small = small
-back_small (x ∷ front) back small = back_small front back small.1
+back_small (x ∷ prefix) back small = back_small prefix back small.1
 
 -- what the bytes after the first frame have, the bytes have
 splitting_with : (n : ℕ) → ((more : List ℕ) → length more ≤ n → AllByRecursion (λ b. b < 256) more
@@ -107,16 +112,16 @@ some_splitting bytes small =
     small)
 
 -- a frame that begins the bytes is the first of their frames
-pub frame_behind : (f : FrameParts) (bytes : List ℕ) (gs : List FrameParts) (rest : List ℕ)
+pub frame_after : (f : FrameParts) (bytes : List ℕ) (gs : List FrameParts) (rest : List ℕ)
     → IsFrame f → Splits (spelling f ++ bytes) gs rest → (fs : List FrameParts) × (gs ≡ f ∷ fs)
     × Splits bytes fs rest
-frame_behind f bytes [] rest fits p = absurd (p.partial f bytes fits (sym p.whole))
-frame_behind f bytes (g ∷ gs) rest fits p =
-    let front = one_front f g bytes (flat_map spelling gs ++ rest) fits p.each.0
+frame_after f bytes [] rest fits p = absurd (p.partial f bytes fits (sym p.whole))
+frame_after f bytes (g ∷ gs) rest fits p =
+    let prefix = one_first_frame f g bytes (flat_map spelling gs ++ rest) fits p.each.0
     (p.whole ∙ append_assoc (spelling g) (flat_map spelling gs) rest) in (
       gs,
-      ap (λ (h : FrameParts). h ∷ gs) (sym front.0),
-      record { whole = front.1; each = p.each.1; partial = p.partial },
+      ap (λ (h : FrameParts). h ∷ gs) (sym prefix.0),
+      record { whole = prefix.1; each = p.each.1; partial = p.partial },
     )
 
 -- all of the frames of two lists, one list after the other
@@ -126,9 +131,9 @@ all_frames [] gs fits_f fits_g = fits_g
 all_frames (f ∷ fs) gs fits_f fits_g = (fits_f.0, all_frames fs gs fits_f.1 fits_g)
 
 -- the frames of a rest with more bytes after it come after the frames before the rest
-pub further_behind : (bytes more : List ℕ) (fs gs : List FrameParts) (rest last : List ℕ)
+pub further_after : (bytes more : List ℕ) (fs gs : List FrameParts) (rest last : List ℕ)
     → Splits bytes fs rest → Splits (rest ++ more) gs last → Splits (bytes ++ more) (fs ++ gs) last
-further_behind bytes more fs gs rest last p q = record {
+further_after bytes more fs gs rest last p q = record {
   whole =
       ap (λ (b : List ℕ). b ++ more) p.whole
       ∙ append_assoc (flat_map spelling fs) rest more

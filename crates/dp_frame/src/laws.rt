@@ -15,7 +15,7 @@ pub fn one_splitting()
 {}
 
 /// Bytes begin with at most one frame.
-pub fn one_front()
+pub fn one_first_frame()
     ensures { (f g : FrameParts) (bytes others : List ℕ)
         → IsFrame f → IsFrame g → spelling f ++ bytes ≡ spelling g ++ others
         → (f ≡ g) × (bytes ≡ others) }

@@ -7,5 +7,7 @@ mod laws;
 mod octets;
 
 pub use frame::{Frame, FrameView, write_frame};
-pub use laws::{every_splitting, first_frame, further_frames, no_frames, one_front, one_splitting};
+pub use laws::{
+    every_splitting, first_frame, further_frames, no_frames, one_first_frame, one_splitting,
+};
 pub use octets::Octets;

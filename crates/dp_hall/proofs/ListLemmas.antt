@@ -168,9 +168,9 @@ module _ {A : Type 0} where
   distinct_apart (z ∷ xs) ys d x (inl e) g = d.0 (in_right z xs ys (subst (λ y. IsIn y ys) e g))
   distinct_apart (z ∷ xs) ys d x (inr h) g = distinct_apart xs ys d.1 x h g
 
-  pub same_front : (xs ys zs : List A) → xs ++ ys ≡ xs ++ zs → ys ≡ zs
-  same_front [] ys zs e = e
-  same_front (x ∷ xs) ys zs e = same_front xs ys zs (cc (e))
+  pub same_prefix : (xs ys zs : List A) → xs ++ ys ≡ xs ++ zs → ys ≡ zs
+  same_prefix [] ys zs e = e
+  same_prefix (x ∷ xs) ys zs e = same_prefix xs ys zs (cc (e))
 
   pub snoc_cut : (xs ys more : List A) (k z : A) → xs ++ k ∷ more ≡ ys ++ z ∷ []
       → (xs ≡ ys) ⊎ ((init : List A) × (ys ≡ xs ++ k ∷ init))

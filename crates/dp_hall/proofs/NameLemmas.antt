@@ -13,7 +13,7 @@ use Rattle.dp_hall.specs.Logs.{entries_by}
 use Rattle.dp_hall.specs.Names.{IsIn, AreDistinct, Tag, names_of, IsChild, is_child_of, children}
 use Rattle.dp_hall.specs.Names.{Lives, Named, Logged}
 use Rattle.dp_hall.proofs.ListLemmas.{at_inside, in_left, in_right, in_both, in_more, at_end}
-use Rattle.dp_hall.proofs.ListLemmas.{distinct_both, same_front, snoc_cut, snoc_same, not_true}
+use Rattle.dp_hall.proofs.ListLemmas.{distinct_both, same_prefix, snoc_cut, snoc_same, not_true}
 use Rattle.dp_hall.proofs.ListLemmas.{child-is, children-one, children-none}
 
 module _ {E O M : Type 0} where
@@ -239,7 +239,7 @@ module _ {E O M : Type 0} where
               → s.name ++ k ∷ more ≡ n → k < s.splits
           new_next i s k more here e = ⊎_elim
               (λ (a : (i ≡ id) × (s ≡ l)).
-              let same : k ∷ more ≡ v.splits ∷ [] = same_front v.name (k ∷ more) (v.splits ∷ [])
+              let same : k ∷ more ≡ v.splits ∷ [] = same_prefix v.name (k ∷ more) (v.splits ∷ [])
               (subst (λ (z : Tag E O M). z.name ++ k ∷ more ≡ n) a.1 e) in
               let h : k ≡ v.splits = heads k v.splits more [] same in
               subst (λ (z : Tag E O M). k < z.splits) (sym a.1) (omega (arith, h)))

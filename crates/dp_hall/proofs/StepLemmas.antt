@@ -24,7 +24,7 @@ use Rattle.dp_hall.specs.Logs.{IsLegal, left_by}
 use Rattle.dp_hall.specs.Names.{IsIn, AreDistinct, children, Tag, tag, names_of, Lives, Named}
 use Rattle.dp_hall.specs.Names.{Logged}
 use Rattle.dp_hall.specs.Rule.{first_view, FitsLog, IsKept, SeatState, took, with_entry}
-use Rattle.dp_hall.specs.Rule.{stored_entry, counted, gave, looked}
+use Rattle.dp_hall.specs.Rule.{stored_entry, counted, given_back, looked}
 use Rattle.dp_hall.proofs.ListLemmas.{at_inside, prefix_all, prefix_more, in_more, in_map, not_true}
 use Rattle.dp_hall.proofs.ListLemmas.{is_not, legal_more, entries_same, entries_other}
 
@@ -364,7 +364,7 @@ module _ {E O M : Type 0} (may : M → E → O → M → Type 0) (start : M) whe
   pub gives_turn : (slots id : ℕ) (me : SeatState E O M) (stored : Stored E O M) (m : M) → 0 < slots
       → me.1 ≡ (0, Some stored) ∷ [] → me.0.live ≡ true → me.0.holds ≡ true → me.0.start ≡ Some m
       → stored.machine.value ≡ left_by m me.0.seen → Allows Rule slots id me 1 (λ _. 0)
-      (λ _. gave (step slots 1 0 0 none) me 0)
+      (λ _. given_back (step slots 1 0 0 none) me 0)
   gives_turn slots id me stored m some_slot hand live holds begins machine s r deep at small =
       let v : V = me.0 in let w : V = record v { holds = false } in let f = r.each id v at in let
       wide = r.turn.wide in

@@ -15,7 +15,8 @@ use Rattle.std.specs.declared.snapshot.Snapshot.{Snapshot}
 use Rattle.dp_hall.specs.Rule.{first_view, HasTaken, IsConfirmed, with_entry, stored_entry}
 use Rattle.dp_hall.specs.Rule.{child_name, split_left, split_right, joined, longer, shorter}
 use Rattle.dp_hall.specs.Calls.{IsSound, Acts, Asks, SplitsInto, JoinsInto}
-use Rattle.dp_hall.proofs.ListLemmas.{prefix_all, in_more, distinct_apart, same_front, children-one}
+use Rattle.dp_hall.proofs.ListLemmas.{prefix_all, in_more, distinct_apart, same_prefix}
+use Rattle.dp_hall.proofs.ListLemmas.{children-one}
 use Rattle.dp_hall.proofs.ListLemmas.{left_more, legal_more, entries_same}
 
 module _ {E O M : Type 0} (may : M → E → O → M → Type 0) where
@@ -229,7 +230,7 @@ module _ {E O M : Type 0} (may : M → E → O → M → Type 0) where
         (λ (h : IsIn (v.name ++ k ∷ more) (names v ++ v.made)). let less = sound.fresh k more h in
         omega (arith, less))
         (λ (e : v.name ++ k ∷ more ≡ child_name v). let same = heads k v.splits more []
-        (same_front v.name (k ∷ more) (v.splits ∷ []) e) in omega (arith, same))
+        (same_prefix v.name (k ∷ more) (v.splits ∷ []) e) in omega (arith, same))
         (in_more (v.name ++ k ∷ more) (child_name v) (names v ++ v.made)
         (subst (IsIn (v.name ++ k ∷ more)) (sym (append_assoc (names v) v.made
         (child_name v ∷ []))) inside));

@@ -140,8 +140,9 @@ module _ {E O M : Type 0} where
       → (n.0 ≡ with_entry m.0 (stored_entry m.0 stored.machine.value event outcome)) × (n.1 ≡ m.1)
 
   -- the turn is given back
-  abbrev pub gave : Step (Option (Stored E O M)) → SeatState E O M → ℕ → SeatState E O M → Type 0
-  gave st m r n = (n.0 ≡ record m.0 { holds = false }) × (n.1 ≡ [])
+  abbrev pub given_back : Step (Option (Stored E O M)) → SeatState E O M → ℕ → SeatState E O M
+      → Type 0
+  given_back st m r n = (n.0 ≡ record m.0 { holds = false }) × (n.1 ≡ [])
 
   -- the count was read
   abbrev pub looked : Step (Option (Stored E O M)) → SeatState E O M → ℕ → SeatState E O M → Type 0

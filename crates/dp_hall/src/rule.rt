@@ -48,9 +48,9 @@ pub struct Give<M> {
 }
 
 impl<M: Machine> Play<SlotOf<M>, ViewOf<M>> for Give<M> {
-    ghost use Rattle.dp_hall.specs.Rule.{gave};
+    ghost use Rattle.dp_hall.specs.Rule.{given_back};
 
-    ghost then = { gave };
+    ghost then = { given_back };
 }
 
 /// The count is read.

@@ -3,8 +3,8 @@ use Rattle.std.proofs.Common.{ℕ, ◌+◌, List, ◌++◌, length, take, subst,
 use Rattle.std.specs.Prelude.{Option}
 use Rattle.std.proofs.lemmas.List.{take-append-le}
 use Rattle.std.proofs.Math.Seq.{take-append-add, take-length}
-use Rattle.std.proofs.KnownBytes.{Appends-trans, Appends-kept}
-use Rattle.std.specs.Io.KnownBytes.{Appends, Keeps}
+use Rattle.std.proofs.KnownBytes.{Appends-trans}
+use Rattle.std.specs.Io.KnownBytes.{Appends}
 use Rattle.dp_io.specs.Streams.{GrowsByPrefix}
 
 -- all of the bytes were appended
@@ -35,8 +35,3 @@ grows_after a b c xs ys first (n, within, some) = (
   subst (Appends a c) (sym (take-append-add xs ys n)) (Appends-trans a b c xs (take n ys) first
       some),
 )
-
--- the bytes were appended, and then nothing
-pub grows_kept : (a b c : Option (List ℕ)) (xs : List ℕ) → Appends a b xs → Keeps b c
-    → GrowsByPrefix a c xs
-grows_kept a b c xs whole kept = grows_whole a c xs (Appends-kept a b c xs whole kept)

@@ -26,19 +26,19 @@ pub record HasCause {T E : Type 0} (is_fault : E → Bool) (before now : ℕ) (r
 
 -- Which calls are to fail, by their numbers from 1; how many calls were made; how many faults there
 -- were. Both counts stop at the greatest `u64`.
-pub record Plan : Type 0 where
+pub record Failures : Type 0 where
   pub fails : List ℕ
   pub calls : ℕ
   pub faults : ℕ
 
 -- the next call is one of those that are to fail
-abbrev pub IsDue : Plan → Type 0
+abbrev pub IsDue : Failures → Type 0
 IsDue plan = (plan.calls < 2 ^ 64 - 1) × Contains plan.fails (plan.calls + 1)
 
 -- one more call was made
-abbrev pub counted : Plan → Plan
+abbrev pub counted : Failures → Failures
 counted plan = record plan { calls = one_more plan.calls }
 
 -- one more call was made, and it failed
-abbrev pub refused : Plan → Plan
+abbrev pub refused : Failures → Failures
 refused plan = record plan { calls = one_more plan.calls; faults = one_more plan.faults }

@@ -6,7 +6,7 @@ ghost use Rattle.std.specs.Io.{WritesAtMost};
 ghost use Rattle.std.specs.Io.KnownBytes.{WriteAppends};
 ghost use Rattle.dp_io.specs.Faults.{HasCause, any_fault, counted, refused};
 ghost use Rattle.dp_io.specs.Streams.{TakesSome};
-ghost use Rattle.dp_io.specs.Memory.{SinkState, IsRefused, taken_count};
+ghost use Rattle.dp_io.specs.Memory.{SinkState, IsWriteRefused, taken_count};
 
 use crate::plan::FaultPlan;
 use crate::{Failed, Sink};
@@ -82,7 +82,7 @@ impl Sink for MemSink {
 
         // It fails at the listed calls and where it is full, and takes as much as the piece and its
         // room let it.
-        ensures failed { IsErr result ↔ IsRefused self.old (length bytes.now) }
+        ensures failed { IsErr result ↔ IsWriteRefused self.old (length bytes.now) }
         ensures count { IfOk result (λ n. n ≡ taken_count self.old (length bytes.now)) }
         ensures within { length self.new.held ≤ self.new.room }
         ensures room { self.new.room ≡ self.old.room }

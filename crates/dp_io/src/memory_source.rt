@@ -9,7 +9,7 @@ ghost use Rattle.dp_io.specs.Streams.{EndsExactly};
 ghost use Rattle.dp_io.specs.Memory.{SourceState, given_count};
 
 use crate::plan::FaultPlan;
-use crate::sure_source::copy_front;
+use crate::sure_source::copy_prefix;
 use crate::{Failed, Source};
 use std::marker::Model;
 
@@ -71,7 +71,7 @@ impl Source for MemSource {
         }
         let rest = &self.bytes[self.at..];
         let count = rest.len().min(self.piece).min(buf.len());
-        copy_front(rest, buf, count);
+        copy_prefix(rest, buf, count);
         self.at += count;
         Ok(count)
     }

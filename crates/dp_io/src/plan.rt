@@ -1,7 +1,7 @@
 //! The calls that an object in memory makes fail: a source, a sink or a wire.
 
 ghost use Rattle.std.specs.Prelude.{◌≡◌, ◌≤◌, ◌^◌, ◌<◌, ◌↔◌, IsTrue};
-ghost use Rattle.dp_io.specs.Faults.{Plan, IsDue, one_more, counted};
+ghost use Rattle.dp_io.specs.Faults.{Failures, IsDue, one_more, counted};
 
 use crate::Failed;
 use std::marker::Model;
@@ -17,7 +17,7 @@ pub struct FaultPlan {
 }
 
 impl Model for FaultPlan {
-    ghost Value = { Plan };
+    ghost Value = { Failures };
 
     ghost view = { λ p. record { fails = p.fails.items; calls = p.calls; faults = p.faults } };
 }

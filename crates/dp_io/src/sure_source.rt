@@ -49,14 +49,14 @@ impl Source for SureSource {
     {
         let rest = &self.bytes[self.at..];
         let count = rest.len().min(buf.len());
-        copy_front(rest, buf, count);
+        copy_prefix(rest, buf, count);
         self.at += count;
         Ok(count)
     }
 }
 
 /// Copies the first `count` bytes to the prefix of the buffer.
-pub(crate) fn copy_front(from: &[u8], to: &mut [u8], count: usize)
+pub(crate) fn copy_prefix(from: &[u8], to: &mut [u8], count: usize)
     requires from { count ≤ length from.now }
     requires to { count ≤ length to.old }
     ensures { take count to.new ≡ take count from.now }

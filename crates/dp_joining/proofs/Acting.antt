@@ -14,7 +14,7 @@ use Rattle.dp_joining.specs.Joining.{Joining, acted, asked_by, after_line, takea
 use Rattle.dp_joining.specs.Steps.{Fails, Halts, IsReadable, IsReady, Moves, Passes, Seen, Source}
 use Rattle.dp_joining.specs.Outcomes.{BeginsWith}
 use Rattle.dp_joining.specs.Steps.{ReadsOn, source_at}
-use Rattle.dp_joining.proofs.Reading.{gave_begins, reads_none}
+use Rattle.dp_joining.proofs.Reading.{given_begins, reads_none}
 use Rattle.dp_joining.proofs.Taking.{shows_other}
 
 pub passes_alone : (old now : Seen) (action : JoinAction) → asked_by action ≡ 0
@@ -33,10 +33,10 @@ pub halts_alone : (old now : Seen) (action : JoinAction) (stop : JoinStop)
     → IsReady old.client old.source → Fails old now (acted action) stop → Halts old now action stop
 halts_alone old now action stop ready fails = record {
   given = [];
-  reads = λ bytes before gave still.
+  reads = λ bytes before has_given still.
       shows_other stop bytes (before ++ []) fails.not_for_entry
       (subst (BeginsWith bytes) (sym (append-nil before))
-      (gave_begins old.source bytes before ready.readable gave));
+      (given_begins old.source bytes before ready.readable has_given));
   few = omega arith;
   waits = λ is. absurd (fails.not_for_entry is);
   stops = fails.stops;

@@ -11,10 +11,10 @@ use Rattle.std.proofs.lemmas.List.Folds.{list_any-append}
 use Rattle.dp_messages.specs.declared.message.Entry.{Entry}
 use Rattle.dp_messages.specs.Properties.{is_disconnect}
 use Rattle.dp_schedule.specs.declared.join_action.JoinAction.{JoinAction}
-use Rattle.dp_joining.specs.Joining.{Joining, Went, Goes, Waits, after_line, along, asked_by}
+use Rattle.dp_joining.specs.Joining.{Joining, Progress, Goes, Waits, after_line, along, asked_by}
 use Rattle.dp_joining.specs.Joining.{is_closed, takeable}
-use Rattle.dp_joining.specs.Linked.{is_ping}
-use Rattle.dp_joining.specs.Scripts.{went_text, went_written}
+use Rattle.dp_joining.specs.JoinStanding.{is_ping}
+use Rattle.dp_joining.specs.Scripts.{text_of, written_of}
 
 -- ---- what is taken of a link
 
@@ -60,23 +60,24 @@ takeable-append (e ∷ xs) ys still =
 -- ---- lines
 
 -- one line, with the test of its entries
-turn : Bool → JoinAction → List JoinAction → List Entry → Joining → Went
-turn true action actions coming j =
+next_line : Bool → JoinAction → List JoinAction → List Entry → Joining → Progress
+next_line true action actions coming j =
     along actions (drop (asked_by action) coming)
     (after_line action (take (asked_by action) coming) j)
-turn false action actions coming j =
+next_line false action actions coming j =
     Waits (after_line action coming j).text (after_line action coming j).written
 
-along_turn : (action : JoinAction) (actions : List JoinAction) (coming : List Entry) (j : Joining)
+along_next_line : (action : JoinAction) (actions : List JoinAction) (coming : List Entry)
+    (j : Joining)
     → along (action ∷ actions) coming j
-    ≡ turn (nat_le (asked_by action) (length coming)) action actions coming j
-unfolding turn
-along_turn action actions coming j =
+    ≡ next_line (nat_le (asked_by action) (length coming)) action actions coming j
+unfolding next_line
+along_next_line action actions coming j =
     elim (nat_le (asked_by action) (length coming)) as
     (λ b. (if b then along actions (drop (asked_by action) coming)
     (after_line action (take (asked_by action) coming) j)
     else Waits (after_line action coming j).text (after_line action coming j).written)
-    ≡ turn b action actions coming j) [ true ↦ refl | false ↦ refl ]
+    ≡ next_line b action actions coming j) [ true ↦ refl | false ↦ refl ]
 
 -- a line that has enough entries
 pub along_enough : (action : JoinAction) (actions : List JoinAction) (coming : List Entry)
@@ -84,10 +85,10 @@ pub along_enough : (action : JoinAction) (actions : List JoinAction) (coming : L
     → asked_by action ≤ length coming
     → along (action ∷ actions) coming j ≡ along actions (drop (asked_by action) coming)
     (after_line action (take (asked_by action) coming) j)
-unfolding turn
+unfolding next_line
 along_enough action actions coming j enough =
     let test : nat_le (asked_by action) (length coming) ≡ true = grind (arith, nat_tests) in
-    along_turn action actions coming j ∙ ap (λ b. turn b action actions coming j) test
+    along_next_line action actions coming j ∙ ap (λ b. next_line b action actions coming j) test
 
 -- a line that has too few
 pub along_few : (action : JoinAction) (actions : List JoinAction) (coming : List Entry)
@@ -95,10 +96,10 @@ pub along_few : (action : JoinAction) (actions : List JoinAction) (coming : List
     → length coming < asked_by action
     → along (action ∷ actions) coming j
     ≡ Waits (after_line action coming j).text (after_line action coming j).written
-unfolding turn
+unfolding next_line
 along_few action actions coming j few =
     let test : nat_le (asked_by action) (length coming) ≡ false = grind (arith, nat_tests) in
-    along_turn action actions coming j ∙ ap (λ b. turn b action actions coming j) test
+    along_next_line action actions coming j ∙ ap (λ b. next_line b action actions coming j) test
 
 -- where lines go on, the first has enough
 enough_of : (action : JoinAction) (actions : List JoinAction) (coming left : List Entry)
@@ -174,18 +175,18 @@ along_short action coming j few = along_few action [] coming j few
 -- what one line prints and writes, with at most as many entries as it asks for
 pub line_text : (action : JoinAction) (coming : List Entry) (j : Joining)
     → length coming ≤ asked_by action
-    → went_text (along (action ∷ []) coming j) ≡ (after_line action coming j).text
+    → text_of (along (action ∷ []) coming j) ≡ (after_line action coming j).text
 line_text action coming j within =
     elim (cases_lt (length coming) (asked_by action)) [
-      | inl few ↦ ap went_text (along_short action coming j few)
-      | inr past ↦ ap went_text (along_exact action coming j (omega arith))
+      | inl few ↦ ap text_of (along_short action coming j few)
+      | inr past ↦ ap text_of (along_exact action coming j (omega arith))
     ]
 
 pub line_written : (action : JoinAction) (coming : List Entry) (j : Joining)
     → length coming ≤ asked_by action
-    → went_written (along (action ∷ []) coming j) ≡ (after_line action coming j).written
+    → written_of (along (action ∷ []) coming j) ≡ (after_line action coming j).written
 line_written action coming j within =
     elim (cases_lt (length coming) (asked_by action)) [
-      | inl few ↦ ap went_written (along_short action coming j few)
-      | inr past ↦ ap went_written (along_exact action coming j (omega arith))
+      | inl few ↦ ap written_of (along_short action coming j few)
+      | inr past ↦ ap written_of (along_exact action coming j (omega arith))
     ]

@@ -17,10 +17,11 @@ use Rattle.dp_script.specs.Moments.{Moment}
 use Rattle.dp_joining.specs.declared.stops.JoinStop.{JoinStop}
 use Rattle.dp_joining.specs.declared.stops.JoinStop.TheVariants.{WriteFault, LinkFault, Memory}
 use Rattle.dp_joining.specs.declared.stops.JoinStop.TheVariants.{NoEntry}
-use Rattle.dp_joining.specs.Joining.{Joining, Went, Goes, Waits, after_line, along, takeable}
+use Rattle.dp_joining.specs.Joining.{Joining, Progress, Goes, Waits, after_line, along, takeable}
 use Rattle.dp_joining.specs.Outcomes.{AllAsk, IsJoinStep}
-use Rattle.dp_joining.specs.Scripts.{GoesTo, HasDone, HasEnded, IsRefused, StopsAlong, went_text}
-use Rattle.dp_joining.specs.Scripts.{went_written}
+use Rattle.dp_joining.specs.Scripts.{GoesTo, HasDone, HasEnded, IsJoinLineRefused, StopsAlong}
+use Rattle.dp_joining.specs.Scripts.{text_of}
+use Rattle.dp_joining.specs.Scripts.{written_of}
 use Rattle.dp_joining.specs.Steps.{Began, Halts, IsNoEntry, IsReadable, Passes, Seen, Stands, Stops}
 use Rattle.dp_joining.specs.Steps.{Wrote}
 use Rattle.dp_joining.proofs.Along.{along_exact, along_next, along_short, line_text, line_written}
@@ -42,12 +43,12 @@ asked_more (first ∷ done) (one ∷ actions) line action (here, asked) asks =
 -- ---- doing
 
 -- what was written on the way to the next line
-wrote_along : (first now : Seen) (went : Went) (j : Joining) (stop : JoinStop)
-    → went_text went ≡ j.text → went_written went ≡ j.written
+wrote_along : (first now : Seen) (progress : Progress) (j : Joining) (stop : JoinStop)
+    → text_of progress ≡ j.text → written_of progress ≡ j.written
     → Wrote first now j.text j.written stop
-    → Wrote first now (went_text went) (went_written went) stop
-wrote_along first now went j stop text written wrote =
-    subst (λ t. Wrote first now t (went_written went) stop) (sym text)
+    → Wrote first now (text_of progress) (written_of progress) stop
+wrote_along first now progress j stop text written wrote =
+    subst (λ t. Wrote first now t (written_of progress) stop) (sym text)
     (subst (λ w. Wrote first now j.text w stop) (sym written) wrote)
 
 -- what stands is written whole, and is a prefix
@@ -101,25 +102,25 @@ module _ {M O D T : Type 0} (see : M → O → Seen) where
         halts.reads;
     stops = λ first j stands.
         let before = has.goes first j stands in
-        let went = along (has.actions ++ action ∷ []) (takeable (has.given ++ halts.given)) j in
-        let is : went ≡ along (action ∷ []) (takeable halts.given) before.joining =
+        let progress = along (has.actions ++ action ∷ []) (takeable (has.given ++ halts.given)) j in
+        let is : progress ≡ along (action ∷ []) (takeable halts.given) before.joining =
         ap (λ es. along (has.actions ++ action ∷ []) es j)
         (takeable-append has.given halts.given has.reads.still)
         ∙ along_next has.actions action (takeable has.given) (takeable halts.given) j
         before.joining before.goes in
         let next = after_line action (takeable halts.given) before.joining in
-        let text : went_text went ≡ next.text =
-        ap went_text is ∙ line_text action (takeable halts.given) before.joining halts.few in
-        let written : went_written went ≡ next.written =
-        ap went_written is ∙ line_written action (takeable halts.given) before.joining halts.few in
+        let text : text_of progress ≡ next.text =
+        ap text_of is ∙ line_text action (takeable halts.given) before.joining halts.few in
+        let written : written_of progress ≡ next.written =
+        ap written_of is ∙ line_written action (takeable halts.given) before.joining halts.few in
         let stopped = halts.stops first before.joining before.stands in
         record {
-          wrote = wrote_along first (at now) went next stop text written stopped.wrote;
-          blames = stopped.blames;
+          wrote = wrote_along first (at now) progress next stop text written stopped.wrote;
+          fault = stopped.fault;
           waits = λ none.
               is ∙ along_short action (takeable halts.given) before.joining (halts.waits none)
               ∙ ap (λ t. Waits t next.written) (sym text)
-              ∙ ap (λ w. Waits (went_text went) w) (sym written);
+              ∙ ap (λ w. Waits (text_of progress) w) (sym written);
         };
   }
 
@@ -132,16 +133,16 @@ module _ {M O D T : Type 0} (see : M → O → Seen) where
     actions = has.actions;
     asked = has.asked;
     given = has.given;
-    reads = λ bytes before gave still.
-        stops_here (at start).source (at now).source has.given has.reads bytes before gave;
+    reads = λ bytes before has_given still.
+        stops_here (at start).source (at now).source has.given has.reads bytes before has_given;
     stops = λ first j stands.
         let before = has.goes first j stands in
-        let went = along has.actions (takeable has.given) j in
+        let progress = along has.actions (takeable has.given) j in
         record {
-          wrote = wrote_along first (at now) went before.joining Memory (ap went_text before.goes)
-              (ap went_written before.goes) (began_whole first (at now) before.joining
+          wrote = wrote_along first (at now) progress before.joining Memory (ap text_of before.goes)
+              (ap written_of before.goes) (began_whole first (at now) before.joining
               before.stands);
-          blames = before.stands.faultless;
+          fault = before.stands.faultless;
           waits = λ none. absurd none;
         };
   }
@@ -160,7 +161,8 @@ module _ {M O D T : Type 0} (see : M → O → Seen) where
 -- ---- lines that ask for nothing, and memory
 
 module _ {M O D T : Type 0} (see : M → O → Seen) where
-  pub refused_by : (now : Moment M O D T) (line : Line) (u : Undone JoinStop) → IsRefused line u
+  pub refused_by : (now : Moment M O D T) (line : Line) (u : Undone JoinStop)
+      → IsJoinLineRefused line u
       → IfNoStep ((start : Moment M O D T) (done : List Line) → HasDone see start done now
       → ¬ IsJoinStep done line) u
   refused_by now line undone.NoStep refused =
@@ -173,7 +175,8 @@ module _ {M O D T : Type 0} (see : M → O → Seen) where
   kept_by now undone.NoStep = λ start done has. has
   kept_by now (undone.Ended why) = tt
 
-  pub ran_out_by : (now : Moment M O D T) (line : Line) (u : Undone JoinStop) → IsRefused line u
+  pub ran_out_by : (now : Moment M O D T) (line : Line) (u : Undone JoinStop)
+      → IsJoinLineRefused line u
       → IfEnded (λ why. (start : Moment M O D T) (done : List Line) → HasDone see start done now
       → HasEnded see start done line now why) u
   ran_out_by now line undone.NoStep refused = tt

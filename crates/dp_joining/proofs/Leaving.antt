@@ -20,8 +20,8 @@ use Rattle.dp_schedule.specs.declared.join_action.JoinAction.{JoinAction}
 use Rattle.dp_script.specs.declared.machine.ScriptEnd.{ScriptEnd}
 use Rattle.dp_script.specs.declared.machine.ScriptEnd.TheVariants.{Done, BadLine, ReadFault, Long}
 use Rattle.dp_script.specs.declared.machine.ScriptEnd.TheVariants.{Memory, Ended}
-use Rattle.dp_script.specs.Ends.{BlamesInput}
-use Rattle.dp_script.specs.Leaves.{HoldsLines, IsFrontOf, IsNextOf, ScriptLeaves}
+use Rattle.dp_script.specs.Ends.{FaultMatchesInput}
+use Rattle.dp_script.specs.Leaves.{HoldsLines, AreFirstOf, IsNextOf, ScriptLeaves}
 use Rattle.dp_script.specs.Moments.{Moment}
 use Rattle.dp_lines.specs.TakenParts.{TookWithin}
 use Rattle.dp_joining.specs.declared.stops.JoinStop.{JoinStop}
@@ -29,20 +29,22 @@ use Rattle.dp_joining.specs.declared.stops.JoinStop.TheVariants as stop
 use Rattle.dp_joining.specs.declared.stops.LinkCause.{LinkCause}
 use Rattle.dp_joining.specs.declared.stops.LinkCause.TheVariants as cause
 use Rattle.dp_joining.specs.Greetings.{newcomer}
-use Rattle.dp_joining.specs.Joining.{Joining, Went, Goes, Waits, along, farewell_bytes, greeted}
+use Rattle.dp_joining.specs.Joining.{Joining, Progress, Goes, Waits, along, farewell_bytes, greeted}
 use Rattle.dp_joining.specs.Joining.{is_closed, joined, takeable}
-use Rattle.dp_joining.specs.Leaves.{BlamesJoin, Counts, IsParting, IsWelcome, JoinLeaves}
+use Rattle.dp_joining.specs.Leaves.{FaultMatchesJoin, Counts, IsParting, IsWelcome, JoinLeaves}
 use Rattle.dp_joining.specs.Leaves.{OthersStay, Traffic, WritesAll}
 use Rattle.dp_joining.specs.Leaves.{WritesPart, WritesTaken, WhereKnown}
 use Rattle.dp_joining.specs.Outcomes.{AllAsk, BeginsWith, EndsByLink, EndsByScript, IsJoinStep}
-use Rattle.dp_joining.specs.Outcomes.{JoinComesTo, Outcome, link_end, script_limit, script_outcome}
+use Rattle.dp_joining.specs.Outcomes.{JoinComesTo, JoinOutcome, link_end, script_limit}
+use Rattle.dp_joining.specs.Outcomes.{script_outcome}
 use Rattle.dp_joining.specs.Partings.{IsSilent, Parts, SaysFarewell}
-use Rattle.dp_joining.specs.Scripts.{GoesTo, HasDone, HasEnded, IsBegun, StopsAlong, went_text}
-use Rattle.dp_joining.specs.Scripts.{went_written}
-use Rattle.dp_joining.specs.Steps.{Began, BlamesStop, Gave, IsFaultless, Seen, Shows, Stands}
+use Rattle.dp_joining.specs.Scripts.{GoesTo, HasDone, HasEnded, IsBegun, StopsAlong, text_of}
+use Rattle.dp_joining.specs.Scripts.{written_of}
+use Rattle.dp_joining.specs.Steps.{Began, FaultMatchesStop, HasGiven, IsFaultless, Seen, Shows}
+use Rattle.dp_joining.specs.Steps.{Stands}
 use Rattle.dp_joining.specs.Stops.{end_of}
 use Rattle.dp_joining.proofs.Moving.{grows_not}
-use Rattle.dp_joining.proofs.Reading.{gave_begins}
+use Rattle.dp_joining.proofs.Reading.{given_begins}
 
 -- steps with a doable line after them are steps
 abbrev pub FurtherStep : Type 0
@@ -83,34 +85,34 @@ known_welcome name link first start welcome bytes known is =
 -- ---- parts of what is due
 
 -- lines that are all done are the first
-front_of_all : (input : List ℕ) (done : List Line)
+first_of_all : (input : List ℕ) (done : List Line)
     → LinesComeTo IsJoinStep script_limit input done ends.AllDone
-    → IsFrontOf IsJoinStep (seen script_limit input) done
-front_of_all input done comes = record {
-  behind = [];
+    → AreFirstOf IsJoinStep (seen script_limit input) done
+first_of_all input done comes = record {
+  after = [];
   parts = sym comes.1 ∙ sym (append-nil done);
   steps = comes.2;
 }
 
 -- lines before the next one are the first
-front_of_next : (input : List ℕ) (done : List Line) (line : Line)
+first_of_next : (input : List ℕ) (done : List Line) (line : Line)
     → IsNextOf IsJoinStep (seen script_limit input) done line
-    → IsFrontOf IsJoinStep (seen script_limit input) done
-front_of_next input done line next =
-    record { behind = line ∷ next.behind; parts = next.parts; steps = next.steps }
+    → AreFirstOf IsJoinStep (seen script_limit input) done
+first_of_next input done line next =
+    record { after = line ∷ next.after; parts = next.parts; steps = next.steps }
 
 -- the lines that were begun are the first
-front_of_begun : FurtherStep → (input : List ℕ) (done : List Line) (line : Line)
+first_of_begun : FurtherStep → (input : List ℕ) (done : List Line) (line : Line)
     (begun : List Line) → IsBegun done line begun
     → IsNextOf IsJoinStep (seen script_limit input) done line
-    → IsFrontOf IsJoinStep (seen script_limit input) begun
-front_of_begun further input done line begun (inl is) next =
-    subst (IsFrontOf IsJoinStep (seen script_limit input)) (sym is)
-    (front_of_next input done line next)
-front_of_begun further input done line begun (inr (is, step)) next =
-    subst (IsFrontOf IsJoinStep (seen script_limit input)) (sym is) (record {
-      behind = next.behind;
-      parts = next.parts ∙ sym (append_assoc done (line ∷ []) next.behind);
+    → AreFirstOf IsJoinStep (seen script_limit input) begun
+first_of_begun further input done line begun (inl is) next =
+    subst (AreFirstOf IsJoinStep (seen script_limit input)) (sym is)
+    (first_of_next input done line next)
+first_of_begun further input done line begun (inr (is, step)) next =
+    subst (AreFirstOf IsJoinStep (seen script_limit input)) (sym is) (record {
+      after = next.after;
+      parts = next.parts ∙ sym (append_assoc done (line ∷ []) next.after);
       steps = further done line next.steps (record { fits = next.fits; step = step });
     })
 
@@ -137,8 +139,8 @@ module _ {M O D T : Type 0} (see : M → O → Seen) where
         → IsWelcome name (Some bytes) first (at start) welcome
         → (has : HasDone see start done now) → BeginsWith bytes (welcome ∷ has.given)
     begins_of bytes done is has =
-        gave_begins (at now).source bytes (welcome ∷ has.given) has.reads.readable
-        (has.reads.more bytes (welcome ∷ []) is.gave)
+        given_begins (at now).source bytes (welcome ∷ has.given) has.reads.readable
+        (has.reads.more bytes (welcome ∷ []) is.has_given)
 
     -- the lines are done, and more may be written to the link
     module _ (input bytes : List ℕ) where
@@ -151,7 +153,7 @@ module _ {M O D T : Type 0} (see : M → O → Seen) where
           → ((j : Joining) → (at now).client ≡ j.client
           → script_outcome last j
           ≡ record { text = j.text; written = j.written ++ more; end = end })
-          → (outcome : Outcome) × JoinComesTo name input bytes outcome × (outcome.end ≡ end)
+          → (outcome : JoinOutcome) × JoinComesTo name input bytes outcome × (outcome.end ≡ end)
           × Appends first.printed (at now).printed outcome.text
           × Appends first.written sent outcome.written
       whole_of done last sent more end is has comes writes due =
@@ -185,36 +187,36 @@ module _ {M O D T : Type 0} (see : M → O → Seen) where
           → t.sent_old ≡ first.written
           → IsWelcome name (Some bytes) first (at start) welcome
           → (has : HasDone see start done now)
-          → IsFrontOf IsJoinStep (seen script_limit input) done
+          → AreFirstOf IsJoinStep (seen script_limit input) done
           → ((j : Joining) → (at now).client ≡ j.client
           → IsParting input done (Goes j []) parting)
           → GrowsByPrefix (at now).written t.sent_now parting
           → WritesPart name t input bytes
-      part_of t done parting print_old print_now sent_old is has front parts writes =
+      part_of t done parting print_old print_now sent_old is has prefix parts writes =
           let go = has.goes first (newcomer (at start).client name) is.stands in
           let j = go.joining in
-          let went : joined name has.actions (welcome ∷ has.given) ≡ Goes j [] =
+          let progress : joined name has.actions (welcome ∷ has.given) ≡ Goes j [] =
           joined_from name (Some bytes) first (at start) welcome has.actions has.given is
           ∙ go.goes in
           record {
             begun = done;
-            front = front;
+            prefix = prefix;
             actions = has.actions;
             asked = has.asked;
             entries = welcome ∷ has.given;
             begins = begins_of bytes done is has;
             text =
-                subst (λ w. GrowsByPrefix t.print_old t.print_now (went_text w)) (sym went)
+                subst (λ w. GrowsByPrefix t.print_old t.print_now (text_of w)) (sym progress)
                 (subst (λ a. GrowsByPrefix a t.print_now j.text) (sym print_old)
                 (subst (λ b. GrowsByPrefix first.printed b j.text) (sym print_now)
                 (grows_whole first.printed (at now).printed j.text go.stands.text)));
             parting = parting;
             is_parting =
-                subst (λ w. IsParting input done w parting) (sym went)
+                subst (λ w. IsParting input done w parting) (sym progress)
                 (parts j go.stands.client);
             written =
-                subst (λ w. GrowsByPrefix t.sent_old t.sent_now (went_written w ++ parting))
-                (sym went)
+                subst (λ w. GrowsByPrefix t.sent_old t.sent_now (written_of w ++ parting))
+                (sym progress)
                 (subst (λ a. GrowsByPrefix a t.sent_now (j.written ++ parting)) (sym sent_old)
                 (grows_after first.written (at now).written t.sent_now j.written parting
                 go.stands.written writes));
@@ -266,7 +268,7 @@ module _ {M O D T : Type 0} (see : M → O → Seen) where
           ≡ record { text = j.text; written = j.written ++ more; end = end })
           → WritesAll name over end
       all_of done last more end is has comes writes due =
-          when_known input link (λ i l. (outcome : Outcome) × JoinComesTo name i l outcome
+          when_known input link (λ i l. (outcome : JoinOutcome) × JoinComesTo name i l outcome
           × (outcome.end ≡ end) × Appends first.printed (at now).printed outcome.text
           × Appends first.written sent outcome.written) (λ i l input_is link_is.
           whole_of i l done last sent more end
@@ -290,7 +292,7 @@ module _ {M O D T : Type 0} (see : M → O → Seen) where
           (sym (append-nil j.written)))
 
       some_of : (done : List Line) (P : List ℕ → Type 0)
-          → ((i : List ℕ) → P i → IsFrontOf IsJoinStep (seen script_limit i) done)
+          → ((i : List ℕ) → P i → AreFirstOf IsJoinStep (seen script_limit i) done)
           → (parting : List ℕ)
           → IsWelcome name link first (at start) welcome
           → HasDone see start done now → IfSome input P
@@ -298,12 +300,12 @@ module _ {M O D T : Type 0} (see : M → O → Seen) where
           → IsParting i done (Goes j []) parting)
           → GrowsByPrefix (at now).written sent parting
           → WhereKnown over (WritesPart name over)
-      some_of done P front parting is has holds parts writes =
+      some_of done P prefix parting is has holds parts writes =
           when_known input link (WritesPart name over) (λ i l input_is link_is.
           let here : P i = said_of P input i input_is holds in
           part_of i l over done parting refl refl refl
           (known_welcome name link first (at start) welcome l link_is is) has
-          (front i here) (λ j client. parts i j here client) writes)
+          (prefix i here) (λ j client. parts i j here client) writes)
 
       -- the client says that it leaves
       says_farewell : (done : List Line) (before after : ℕ) (end : RunEnd) → IsAtEnd left
@@ -328,12 +330,12 @@ module _ {M O D T : Type 0} (see : M → O → Seen) where
           =
           subst (JoinLeaves name over) (sym end_is)
           (some_of done (λ b. LinesComeTo IsJoinStep script_limit b done ends.AllDone)
-          (λ i. front_of_all i done) (farewell_bytes (at now).client.user) is has comes
+          (λ i. first_of_all i done) (farewell_bytes (at now).client.user) is has comes
           (λ i j all client. inr (all, j, [], refl, ap (λ c. farewell_bytes c.user) client)) writes)
       says_farewell done before after end at_end is has comes (inr (inr (end_is, writes, kept))) =
           subst (JoinLeaves name over) (sym end_is)
           (some_of done (λ b. LinesComeTo IsJoinStep script_limit b done ends.AllDone)
-          (λ i. front_of_all i done) (farewell_bytes (at now).client.user) is has comes
+          (λ i. first_of_all i done) (farewell_bytes (at now).client.user) is has comes
           (λ i j all client. inr (all, j, [], refl, ap (λ c. farewell_bytes c.user) client)) writes)
 
       -- the next line was stopped
@@ -344,34 +346,34 @@ module _ {M O D T : Type 0} (see : M → O → Seen) where
           → sent ≡ (at now).written
           → ((bytes : List ℕ) → Shows bytes (welcome ∷ has.given) stop
           → BeginsWith bytes (welcome ∷ has.given))
-          → Began first (at now) (went_text (along has.actions (takeable has.given)
-          (newcomer (at start).client name))) (went_written (along has.actions
+          → Began first (at now) (text_of (along has.actions (takeable has.given)
+          (newcomer (at start).client name))) (written_of (along has.actions
           (takeable has.given) (newcomer (at start).client name)))
           → WhereKnown over (WritesPart name over)
       stopped_part done line stop is has next same begins began =
           when_known input link (WritesPart name over) (λ i l input_is link_is.
           let known = known_welcome name link first (at start) welcome l link_is is in
-          let went = along has.actions (takeable has.given) (newcomer (at start).client name) in
-          let joins : joined name has.actions (welcome ∷ has.given) ≡ went =
+          let progress = along has.actions (takeable has.given) (newcomer (at start).client name) in
+          let joins : joined name has.actions (welcome ∷ has.given) ≡ progress =
           joined_from name (Some l) first (at start) welcome has.actions has.given known in
           record {
             begun = has.begun;
-            front = front_of_begun further i done line has.begun has.is_begun
+            prefix = first_of_begun further i done line has.begun has.is_begun
                 (said_of (λ b. IsNextOf IsJoinStep (seen script_limit b) done line) input i input_is
                 next);
             actions = has.actions;
             asked = has.asked;
             entries = welcome ∷ has.given;
-            begins = begins l (has.reads l (welcome ∷ []) known.gave is.still);
+            begins = begins l (has.reads l (welcome ∷ []) known.has_given is.still);
             text =
-                subst (λ w. GrowsByPrefix first.printed (at now).printed (went_text w)) (sym joins)
+                subst (λ w. GrowsByPrefix first.printed (at now).printed (text_of w)) (sym joins)
                 began.printed;
             parting = [];
             is_parting = inl refl;
             written =
                 subst (GrowsByPrefix first.written sent) (sym (append-nil _))
-                (subst (λ w. GrowsByPrefix first.written sent (went_written w)) (sym joins)
-                (subst (λ s. GrowsByPrefix first.written s (went_written went)) (sym same)
+                (subst (λ w. GrowsByPrefix first.written sent (written_of w)) (sym joins)
+                (subst (λ s. GrowsByPrefix first.written s (written_of progress)) (sym same)
                 began.sent));
           })
 
@@ -383,20 +385,20 @@ module _ {M O D T : Type 0} (see : M → O → Seen) where
           → sent ≡ (at now).written
           → WritesAll name over (link_end why)
       stopped_all done line why is has next same =
-          when_known input link (λ i l. (outcome : Outcome) × JoinComesTo name i l outcome
+          when_known input link (λ i l. (outcome : JoinOutcome) × JoinComesTo name i l outcome
           × (outcome.end ≡ link_end why) × Appends first.printed (at now).printed outcome.text
           × Appends first.written sent outcome.written) (λ i l input_is link_is.
           let known = known_welcome name link first (at start) welcome l link_is is in
-          let went = along has.actions (takeable has.given) (newcomer (at start).client name) in
+          let progress = along has.actions (takeable has.given) (newcomer (at start).client name) in
           let stops = has.stops first (newcomer (at start).client name) is.stands in (
             record {
-              text = went_text went;
-              written = went_written went;
+              text = text_of progress;
+              written = written_of progress;
               end = link_end why;
             },
             inr (record {
               begun = has.begun;
-              front = front_of_begun further i done line has.begun has.is_begun
+              prefix = first_of_begun further i done line has.begun has.is_begun
                   (said_of (λ b. IsNextOf IsJoinStep (seen script_limit b) done line) input i
                   input_is next);
               actions = has.actions;
@@ -406,12 +408,12 @@ module _ {M O D T : Type 0} (see : M → O → Seen) where
                   joined_from name (Some l) first (at start) welcome has.actions has.given known
                   ∙ stops.waits tt;
               why = why;
-              ends = has.reads l (welcome ∷ []) known.gave is.still;
+              ends = has.reads l (welcome ∷ []) known.has_given is.still;
               end_is = refl;
             }),
             refl,
             stops.wrote.0,
-            subst (λ s. Appends first.written s (went_written went)) (sym same) stops.wrote.1,
+            subst (λ s. Appends first.written s (written_of progress)) (sym same) stops.wrote.1,
           ))
 
       link_leaves : (why : LinkCause) → WritesAll name over (link_end why)
@@ -441,10 +443,10 @@ module _ {M O D T : Type 0} (see : M → O → Seen) where
       leaves_of Long before after end is (done, has, comes) parts =
           subst (JoinLeaves name over) (sym parts.end_is)
           (silent_all done ends.TooLong run.Long is has comes parts.bytes (λ j. refl))
-      leaves_of Memory before after end is (done, has, front) parts =
+      leaves_of Memory before after end is (done, has, prefix) parts =
           subst (JoinLeaves name over) (sym parts.end_is)
-          (some_of done (λ b. IsFrontOf IsJoinStep (seen script_limit b) done) (λ i f. f) [] is has
-          front (λ i j f client. inl refl)
+          (some_of done (λ b. AreFirstOf IsJoinStep (seen script_limit b) done) (λ i f. f) [] is has
+          prefix (λ i j f client. inl refl)
           (subst (λ s. GrowsByPrefix (at now).written s []) (sym parts.bytes)
           (grows_not (at now).written [])))
       leaves_of (Ended stop.WriteFault) before after end is (done, line, has, next) parts =
@@ -465,10 +467,10 @@ module _ {M O D T : Type 0} (see : M → O → Seen) where
 
     -- ---- counts of faults
 
-    stop_later : (why : JoinStop) → BlamesStop first (at now) why
+    stop_later : (why : JoinStop) → FaultMatchesStop first (at now) why
         → first.print_faults ≤ (at now).print_faults
-    stop_later stop.WriteFault blames = blames.1
-    stop_later stop.LinkFault blames = omega (arith, blames.0)
+    stop_later stop.WriteFault fault = fault.1
+    stop_later stop.LinkFault fault = omega (arith, fault.0)
     stop_later stop.Memory faultless = omega (arith, faultless.print)
     stop_later (stop.NoEntry why) faultless = omega (arith, faultless.print)
 
@@ -491,9 +493,9 @@ module _ {M O D T : Type 0} (see : M → O → Seen) where
     later_of input left link (BadLine n) is (done, has, comes) = done_later link done is has
     later_of input left link ReadFault is (done, has, took) = done_later link done is has
     later_of input left link Long is (done, has, comes) = done_later link done is has
-    later_of input left link Memory is (done, has, front) = done_later link done is has
+    later_of input left link Memory is (done, has, prefix) = done_later link done is has
     later_of input left link (Ended why) is (done, line, has, next) =
-        stop_later why (has.stops first (newcomer (at start).client name) is.stands).blames
+        stop_later why (has.stops first (newcomer (at start).client name) is.stands).fault
 
     module _ (before after sink : ℕ) where
       abbrev counted : Counts
@@ -520,75 +522,77 @@ module _ {M O D T : Type 0} (see : M → O → Seen) where
         sink = same ∙ faultless.write;
       }
 
-      farewell_blames : (sent : Option (List ℕ)) (user : ℕ) (end : RunEnd)
+      farewell_fault : (sent : Option (List ℕ)) (user : ℕ) (end : RunEnd)
           → after ≡ before → IsFaultless first (at now)
           → SaysFarewell (at now).written sent (at now).write_faults sink user end
-          → BlamesJoin counted counts end
-      farewell_blames sent user end input faultless (inl (is, writes, kept)) =
-          subst (BlamesJoin counted counts) (sym is) (input, others_stay faultless kept)
-      farewell_blames sent user end input faultless (inr (inl (is, writes, rose, later))) =
-          subst (BlamesJoin counted counts) (sym is)
+          → FaultMatchesJoin counted counts end
+      farewell_fault sent user end input faultless (inl (is, writes, kept)) =
+          subst (FaultMatchesJoin counted counts) (sym is) (input, others_stay faultless kept)
+      farewell_fault sent user end input faultless (inr (inl (is, writes, rose, later))) =
+          subst (FaultMatchesJoin counted counts) (sym is)
           (input, faultless.print, inl (subst (λ n. Rose n sink) faultless.write rose))
-      farewell_blames sent user end input faultless (inr (inr (is, writes, kept))) =
-          subst (BlamesJoin counted counts) (sym is) (input, others_stay faultless kept)
+      farewell_fault sent user end input faultless (inr (inr (is, writes, kept))) =
+          subst (FaultMatchesJoin counted counts) (sym is) (input, others_stay faultless kept)
 
-      link_blames : (why : LinkCause) → after ≡ before → OthersStay counted counts
-          → BlamesJoin counted counts (link_end why)
-      link_blames cause.Closed input others = (input, others)
-      link_blames (cause.BadMessage n) input others = (input, others)
-      link_blames cause.Long input others = (input, others)
+      link_fault : (why : LinkCause) → after ≡ before → OthersStay counted counts
+          → FaultMatchesJoin counted counts (link_end why)
+      link_fault cause.Closed input others = (input, others)
+      link_fault (cause.BadMessage n) input others = (input, others)
+      link_fault cause.Long input others = (input, others)
 
-      stop_blames : (why : JoinStop) → after ≡ before → sink ≡ (at now).write_faults
-          → BlamesStop first (at now) why → BlamesJoin counted counts (end_of why)
-      stop_blames stop.WriteFault input same (rose, later, write, read) =
+      stop_fault : (why : JoinStop) → after ≡ before → sink ≡ (at now).write_faults
+          → FaultMatchesStop first (at now) why → FaultMatchesJoin counted counts (end_of why)
+      stop_fault stop.WriteFault input same (rose, later, write, read) =
           (input, rose, read, same ∙ write)
-      stop_blames stop.LinkFault input same (print, write, read, inl rose) =
+      stop_fault stop.LinkFault input same (print, write, read, inl rose) =
           (input, print, inl (subst (Rose first.write_faults) (sym same) rose))
-      stop_blames stop.LinkFault input same (print, write, read, inr rose) =
+      stop_fault stop.LinkFault input same (print, write, read, inr rose) =
           (input, print, inr rose)
-      stop_blames stop.Memory input same faultless = (input, others_stay faultless same)
-      stop_blames (stop.NoEntry why) input same faultless =
-          link_blames why input (others_stay faultless same)
+      stop_fault stop.Memory input same faultless = (input, others_stay faultless same)
+      stop_fault (stop.NoEntry why) input same faultless =
+          link_fault why input (others_stay faultless same)
 
-      pub blames_of : (input left link sent : Option (List ℕ)) (ended : ScriptEnd JoinStop)
+      pub fault_matches_of : (input left link sent : Option (List ℕ)) (ended : ScriptEnd JoinStop)
           (user : ℕ) (end : RunEnd) → IsWelcome name link first (at start) welcome
           → ScriptLeaves IsJoinStep (HasDone see) (HasEnded see) script_limit input left start now
           ended
-          → BlamesInput before after ended
+          → FaultMatchesInput before after ended
           → Parts (at now).written sent (at now).write_faults sink user ended end
-          → BlamesJoin counted counts end
-      blames_of input left link sent Done user end is (at_end, done, has, comes) blames parts =
-          farewell_blames sent user end blames
+          → FaultMatchesJoin counted counts end
+      fault_matches_of input left link sent Done user end is (at_end, done, has, comes) fault
+          parts =
+          farewell_fault sent user end fault
           (has.goes first (newcomer (at start).client name) is.stands).stands.faultless parts
-      blames_of input left link sent (BadLine n) user end is (done, has, comes) blames parts =
-          subst (BlamesJoin counted counts) (sym parts.end_is) (
-            blames,
+      fault_matches_of input left link sent (BadLine n) user end is (done, has, comes) fault parts =
+          subst (FaultMatchesJoin counted counts) (sym parts.end_is) (
+            fault,
             others_stay
                 (has.goes first (newcomer (at start).client name) is.stands).stands.faultless
                 parts.kept,
           )
-      blames_of input left link sent ReadFault user end is (done, has, took) blames parts =
-          subst (BlamesJoin counted counts) (sym parts.end_is) (
-            blames,
+      fault_matches_of input left link sent ReadFault user end is (done, has, took) fault parts =
+          subst (FaultMatchesJoin counted counts) (sym parts.end_is) (
+            fault,
             others_stay
                 (has.goes first (newcomer (at start).client name) is.stands).stands.faultless
                 parts.kept,
           )
-      blames_of input left link sent Long user end is (done, has, comes) blames parts =
-          subst (BlamesJoin counted counts) (sym parts.end_is) (
-            blames,
+      fault_matches_of input left link sent Long user end is (done, has, comes) fault parts =
+          subst (FaultMatchesJoin counted counts) (sym parts.end_is) (
+            fault,
             others_stay
                 (has.goes first (newcomer (at start).client name) is.stands).stands.faultless
                 parts.kept,
           )
-      blames_of input left link sent Memory user end is (done, has, front) blames parts =
-          subst (BlamesJoin counted counts) (sym parts.end_is) (
-            blames,
+      fault_matches_of input left link sent Memory user end is (done, has, prefix) fault parts =
+          subst (FaultMatchesJoin counted counts) (sym parts.end_is) (
+            fault,
             others_stay
                 (has.goes first (newcomer (at start).client name) is.stands).stands.faultless
                 parts.kept,
           )
-      blames_of input left link sent (Ended why) user end is (done, line, has, next) blames parts =
-          subst (BlamesJoin counted counts) (sym parts.end_is)
-          (stop_blames why blames parts.kept
-          (has.stops first (newcomer (at start).client name) is.stands).blames)
+      fault_matches_of input left link sent (Ended why) user end is (done, line, has, next) fault
+          parts =
+          subst (FaultMatchesJoin counted counts) (sym parts.end_is)
+          (stop_fault why fault parts.kept
+          (has.stops first (newcomer (at start).client name) is.stands).fault)

@@ -31,7 +31,8 @@ use Rattle.dp_joining.specs.declared.chats.ChatLine.{ChatLine}
 use Rattle.dp_joining.specs.Joining.{Joining, ack_bytes, chat_by, chat_limit, reset_by}
 use Rattle.dp_joining.specs.Joining.{said_by, sent_by, sent_text, took_entry}
 use Rattle.dp_snap.specs.Resets.{reset_messages}
-use Rattle.dp_joining.specs.Steps.{Began, BlamesPrinting, BlamesReading, BlamesStop, BlamesWriting}
+use Rattle.dp_joining.specs.Steps.{Began, FaultMatchesPrinting, FaultMatchesReading}
+use Rattle.dp_joining.specs.Steps.{FaultMatchesStop, FaultMatchesWriting}
 use Rattle.dp_joining.specs.Steps.{Fails, IsFaultless, IsNoEntry, Moves, Seen, Stands, Stops, Wrote}
 
 -- ---- counts of faults
@@ -44,75 +45,78 @@ faultless_twice a b c first second = record {
 }
 
 -- no fault, and then those of a stop
-pub blames_from : (a b c : Seen) (stop : JoinStop) → IsFaultless a b → BlamesStop b c stop
-    → BlamesStop a c stop
-blames_from a b c WriteFault first (rose, later, write, read) = (
+pub fault_matches_from : (a b c : Seen) (stop : JoinStop) → IsFaultless a b
+    → FaultMatchesStop b c stop
+    → FaultMatchesStop a c stop
+fault_matches_from a b c WriteFault first (rose, later, write, read) = (
   subst (λ n. Rose n c.print_faults) first.print rose,
   subst (λ n. n ≤ c.print_faults) first.print later,
   write ∙ first.write,
   read ∙ first.read,
 )
-blames_from a b c LinkFault first (print, write, read, inl rose) = (
+fault_matches_from a b c LinkFault first (print, write, read, inl rose) = (
   print ∙ first.print,
   subst (λ n. n ≤ c.write_faults) first.write write,
   subst (λ n. n ≤ c.source.faults) first.read read,
   inl (subst (λ n. Rose n c.write_faults) first.write rose),
 )
-blames_from a b c LinkFault first (print, write, read, inr rose) = (
+fault_matches_from a b c LinkFault first (print, write, read, inr rose) = (
   print ∙ first.print,
   subst (λ n. n ≤ c.write_faults) first.write write,
   subst (λ n. n ≤ c.source.faults) first.read read,
   inr (subst (λ n. Rose n c.source.faults) first.read rose),
 )
-blames_from a b c Memory first second = faultless_twice a b c first second
-blames_from a b c (NoEntry why) first second = faultless_twice a b c first second
+fault_matches_from a b c Memory first second = faultless_twice a b c first second
+fault_matches_from a b c (NoEntry why) first second = faultless_twice a b c first second
 
 -- printing stops
-pub printing_blames : (a b : Seen) (stop : JoinStop)
-    → BlamesPrinting a.print_faults b.print_faults stop
-    → b.write_faults ≡ a.write_faults → b.source.faults ≡ a.source.faults → BlamesStop a b stop
-printing_blames a b WriteFault blames write read = (blames.0, blames.1, write, read)
-printing_blames a b LinkFault blames write read = absurd blames
-printing_blames a b Memory blames write read =
-    record { print = blames; write = write; read = read }
-printing_blames a b (NoEntry why) blames write read = absurd blames
+pub printing_fault : (a b : Seen) (stop : JoinStop)
+    → FaultMatchesPrinting a.print_faults b.print_faults stop
+    → b.write_faults ≡ a.write_faults → b.source.faults ≡ a.source.faults
+    → FaultMatchesStop a b stop
+printing_fault a b WriteFault fault write read = (fault.0, fault.1, write, read)
+printing_fault a b LinkFault fault write read = absurd fault
+printing_fault a b Memory fault write read =
+    record { print = fault; write = write; read = read }
+printing_fault a b (NoEntry why) fault write read = absurd fault
 
 -- writing to the link stops
-pub writing_blames : (a b : Seen) (stop : JoinStop)
-    → BlamesWriting a.write_faults b.write_faults stop
-    → b.print_faults ≡ a.print_faults → b.source.faults ≡ a.source.faults → BlamesStop a b stop
-writing_blames a b WriteFault blames print read = absurd blames
-writing_blames a b LinkFault blames print read =
-    (print, blames.1, omega (arith, read), inl blames.0)
-writing_blames a b Memory blames print read =
-    record { print = print; write = blames; read = read }
-writing_blames a b (NoEntry why) blames print read = absurd blames
+pub writing_fault : (a b : Seen) (stop : JoinStop)
+    → FaultMatchesWriting a.write_faults b.write_faults stop
+    → b.print_faults ≡ a.print_faults → b.source.faults ≡ a.source.faults
+    → FaultMatchesStop a b stop
+writing_fault a b WriteFault fault print read = absurd fault
+writing_fault a b LinkFault fault print read =
+    (print, fault.1, omega (arith, read), inl fault.0)
+writing_fault a b Memory fault print read =
+    record { print = print; write = fault; read = read }
+writing_fault a b (NoEntry why) fault print read = absurd fault
 
 -- reading the link stops
-pub reading_blames : (a b : Seen) (stop : JoinStop)
-    → BlamesReading a.source.faults b.source.faults stop
-    → b.print_faults ≡ a.print_faults → b.write_faults ≡ a.write_faults → BlamesStop a b stop
-reading_blames a b WriteFault blames print write = absurd blames
-reading_blames a b LinkFault blames print write =
-    (print, omega (arith, write), blames.1, inr blames.0)
-reading_blames a b Memory blames print write =
-    record { print = print; write = write; read = blames }
-reading_blames a b (NoEntry why) blames print write =
-    record { print = print; write = write; read = blames }
+pub reading_fault : (a b : Seen) (stop : JoinStop)
+    → FaultMatchesReading a.source.faults b.source.faults stop
+    → b.print_faults ≡ a.print_faults → b.write_faults ≡ a.write_faults → FaultMatchesStop a b stop
+reading_fault a b WriteFault fault print write = absurd fault
+reading_fault a b LinkFault fault print write =
+    (print, omega (arith, write), fault.1, inr fault.0)
+reading_fault a b Memory fault print write =
+    record { print = print; write = write; read = fault }
+reading_fault a b (NoEntry why) fault print write =
+    record { print = print; write = write; read = fault }
 
-printing_no_entry : (before now : ℕ) (stop : JoinStop) → BlamesPrinting before now stop
+printing_no_entry : (before now : ℕ) (stop : JoinStop) → FaultMatchesPrinting before now stop
     → IsNoEntry stop → ⊥
-printing_no_entry before now WriteFault blames none = none
-printing_no_entry before now LinkFault blames none = none
-printing_no_entry before now Memory blames none = none
-printing_no_entry before now (NoEntry why) blames none = blames
+printing_no_entry before now WriteFault fault none = none
+printing_no_entry before now LinkFault fault none = none
+printing_no_entry before now Memory fault none = none
+printing_no_entry before now (NoEntry why) fault none = fault
 
-writing_no_entry : (before now : ℕ) (stop : JoinStop) → BlamesWriting before now stop
+writing_no_entry : (before now : ℕ) (stop : JoinStop) → FaultMatchesWriting before now stop
     → IsNoEntry stop → ⊥
-writing_no_entry before now WriteFault blames none = none
-writing_no_entry before now LinkFault blames none = none
-writing_no_entry before now Memory blames none = none
-writing_no_entry before now (NoEntry why) blames none = blames
+writing_no_entry before now WriteFault fault none = none
+writing_no_entry before now LinkFault fault none = none
+writing_no_entry before now Memory fault none = none
+writing_no_entry before now (NoEntry why) fault none = fault
 
 -- ---- a change
 
@@ -155,8 +159,8 @@ wrote_of start now text written (NoEntry why) none began = absurd (none tt)
 pub stops_by : (start old now : Seen) (j next : Joining) (text written : List ℕ) (stop : JoinStop)
     → Stands start old j → Adds j next text written
     → GrowsByPrefix old.printed now.printed text → GrowsByPrefix old.written now.written written
-    → BlamesStop old now stop → (IsNoEntry stop → ⊥) → Stops start now next stop
-stops_by start old now j next text written stop stands adds prints writes blames none = record {
+    → FaultMatchesStop old now stop → (IsNoEntry stop → ⊥) → Stops start now next stop
+stops_by start old now j next text written stop stands adds prints writes fault none = record {
   wrote = wrote_of start now next.text next.written stop none (record {
     printed =
         subst (GrowsByPrefix start.printed now.printed) (sym adds.text)
@@ -166,7 +170,7 @@ stops_by start old now j next text written stop stands adds prints writes blames
         (grows_after start.written old.written now.written j.written written stands.written
         writes);
   });
-  blames = blames_from start old now stop stands.faultless blames;
+  fault = fault_matches_from start old now stop stands.faultless fault;
 }
 
 -- nothing is written
@@ -207,17 +211,17 @@ pub fails_last : (r : Result Unit JoinStop) (old now : Seen) (change : Joining �
     → Appends old.written now.written written → now.write_faults ≡ old.write_faults
     → now.source.faults ≡ old.source.faults
     → GrowsByPrefix old.printed now.printed text
-    → IfErr r (BlamesPrinting old.print_faults now.print_faults)
+    → IfErr r (FaultMatchesPrinting old.print_faults now.print_faults)
     → IfErr r (Fails old now change)
-fails_last (Ok done) old now change text written adds writes write read prints blames = tt
-fails_last (Err stop) old now change text written adds writes write read prints blames = record {
-  not_for_entry = printing_no_entry old.print_faults now.print_faults stop blames;
+fails_last (Ok done) old now change text written adds writes write read prints fault = tt
+fails_last (Err stop) old now change text written adds writes write read prints fault = record {
+  not_for_entry = printing_no_entry old.print_faults now.print_faults stop fault;
   stops = λ start j stands.
       stops_by start old now j (change j) text written stop stands
       (adds j stands.client stands.chats) prints
       (grows_whole old.written now.written written writes)
-      (printing_blames old now stop blames write read)
-      (printing_no_entry old.print_faults now.print_faults stop blames);
+      (printing_fault old now stop fault write read)
+      (printing_no_entry old.print_faults now.print_faults stop fault);
 }
 
 -- where writing to the link stops before anything is printed
@@ -225,16 +229,16 @@ pub fails_first : (stop : JoinStop) (old now : Seen) (change : Joining → Joini
     (text written : List ℕ) → AddsTo old change text written
     → GrowsByPrefix old.written now.written written → now.printed ≡ old.printed
     → now.print_faults ≡ old.print_faults → now.source.faults ≡ old.source.faults
-    → BlamesWriting old.write_faults now.write_faults stop
+    → FaultMatchesWriting old.write_faults now.write_faults stop
     → Fails old now change stop
-fails_first stop old now change text written adds writes same print read blames = record {
-  not_for_entry = writing_no_entry old.write_faults now.write_faults stop blames;
+fails_first stop old now change text written adds writes same print read fault = record {
+  not_for_entry = writing_no_entry old.write_faults now.write_faults stop fault;
   stops = λ start j stands.
       stops_by start old now j (change j) text written stop stands
       (adds j stands.client stands.chats)
       (subst (λ p. GrowsByPrefix old.printed p text) (sym same) (grows_not old.printed text))
-      writes (writing_blames old now stop blames print read)
-      (writing_no_entry old.write_faults now.write_faults stop blames);
+      writes (writing_fault old now stop fault print read)
+      (writing_no_entry old.write_faults now.write_faults stop fault);
 }
 
 -- where memory runs out before anything is printed

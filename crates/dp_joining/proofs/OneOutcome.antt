@@ -12,12 +12,12 @@ use Rattle.dp_lines.specs.Ends as ends
 use Rattle.dp_messages.specs.declared.message.Entry.{Entry}
 use Rattle.dp_schedule.specs.declared.join_action.JoinAction.{JoinAction}
 use Rattle.dp_schedule.specs.JoinGrammar.{Asks}
-use Rattle.dp_script.specs.Leaves.{IsFrontOf}
+use Rattle.dp_script.specs.Leaves.{AreFirstOf}
 use Rattle.dp_joining.specs.declared.stops.LinkCause.{LinkCause}
 use Rattle.dp_joining.specs.declared.stops.LinkCause.TheVariants as cause
-use Rattle.dp_joining.specs.Joining.{Joining, Went, Goes, Waits, is_closed, joined}
+use Rattle.dp_joining.specs.Joining.{Joining, Progress, Goes, Waits, is_closed, joined}
 use Rattle.dp_joining.specs.Outcomes.{AllAsk, BeginsWith, EndsByLink, EndsByScript, EndsLink}
-use Rattle.dp_joining.specs.Outcomes.{IsJoinStep, JoinComesTo, LinkComesTo, Outcome, link_end}
+use Rattle.dp_joining.specs.Outcomes.{IsJoinStep, JoinComesTo, LinkComesTo, JoinOutcome, link_end}
 use Rattle.dp_joining.specs.Outcomes.{script_limit, script_outcome}
 use Rattle.dp_joining.proofs.Along.{closed-longer}
 use Rattle.dp_joining.proofs.Prefixes.{IsFirstOf, Laws, begin_alike, first_more, first_nil}
@@ -56,12 +56,12 @@ lists_alike {X} (x ∷ xs) (y ∷ ys) us vs whole =
           (first_more y ys xs first))
     ]
 
-same_front : {X : Type 0} (xs : List X) (y z : X) (us vs : List X)
+same_prefix : {X : Type 0} (xs : List X) (y z : X) (us vs : List X)
     → xs ++ y ∷ us ≡ xs ++ z ∷ vs → y ≡ z
-same_front [] y z us vs same = cc (same)
-same_front (x ∷ xs) y z us vs same =
+same_prefix [] y z us vs same = cc (same)
+same_prefix (x ∷ xs) y z us vs same =
     let there : xs ++ y ∷ us ≡ xs ++ z ∷ vs = cc (same) in
-    same_front xs y z us vs there
+    same_prefix xs y z us vs there
 
 -- the first lines ask for the first actions
 asked_first : AllLaws → (lines more : List Line) (actions others : List JoinAction)
@@ -95,33 +95,33 @@ same_asked laws (line ∷ lines) (a ∷ actions) (b ∷ others) (here, asked) (t
     ∙ ap (λ (r : List JoinAction). b ∷ r) (same_asked laws lines actions others asked asks)
 
 -- steps don't go past a line that is none
-past_bad : (begun done : List Line) (line : Line) (behind rest more : List Line)
+past_bad : (begun done : List Line) (line : Line) (after rest more : List Line)
     → begun ≡ done ++ more → AreSteps IsJoinStep begun
-    → begun ++ rest ≡ done ++ line ∷ behind → (IsDoable IsJoinStep done line → ⊥)
+    → begun ++ rest ≡ done ++ line ∷ after → (IsDoable IsJoinStep done line → ⊥)
     → IsFirstOf begun done
-past_bad begun done line behind rest [] is steps whole bad =
+past_bad begun done line after rest [] is steps whole bad =
     record { rest = []; whole = sym (append-nil done) ∙ sym is ∙ sym (append-nil begun) }
-past_bad begun done line behind rest (next ∷ more) is steps whole bad =
-    let split : done ++ next ∷ (more ++ rest) ≡ done ++ line ∷ behind =
+past_bad begun done line after rest (next ∷ more) is steps whole bad =
+    let split : done ++ next ∷ (more ++ rest) ≡ done ++ line ∷ after =
     sym (append_assoc done (next ∷ more) rest)
     ∙ ap (λ (ls : List Line). ls ++ rest) (sym is) ∙ whole in
-    let same : next ≡ line = same_front done next line (more ++ rest) behind split in
+    let same : next ≡ line = same_prefix done next line (more ++ rest) after split in
     absurd (bad (subst (IsDoable IsJoinStep done) same (steps done next more is)))
 
 -- steps that are the first lines are the first of those that are done
-front_within : (input : List ℕ) (begun done : List Line) (last : LinesEnd)
-    → IsFrontOf IsJoinStep (seen script_limit input) begun
+first_within : (input : List ℕ) (begun done : List Line) (last : LinesEnd)
+    → AreFirstOf IsJoinStep (seen script_limit input) begun
     → LinesComeTo IsJoinStep script_limit input done last → IsFirstOf begun done
-front_within input begun done ends.AllDone front comes =
-    record { rest = front.behind; whole = comes.1 ∙ front.parts }
-front_within input begun done ends.TooLong front comes =
-    record { rest = front.behind; whole = comes.1 ∙ front.parts }
-front_within input begun done (ends.BadLine n) front comes =
-    elim (lists_alike begun done front.behind (comes.line ∷ comes.behind)
-    (sym front.parts ∙ comes.next)) [
+first_within input begun done ends.AllDone prefix comes =
+    record { rest = prefix.after; whole = comes.1 ∙ prefix.parts }
+first_within input begun done ends.TooLong prefix comes =
+    record { rest = prefix.after; whole = comes.1 ∙ prefix.parts }
+first_within input begun done (ends.BadLine n) prefix comes =
+    elim (lists_alike begun done prefix.after (comes.line ∷ comes.after)
+    (sym prefix.parts ∙ comes.next)) [
       | inl first ↦ first
-      | inr first ↦ past_bad begun done comes.line comes.behind front.behind first.rest first.whole
-          front.steps (sym front.parts ∙ comes.next) comes.bad
+      | inr first ↦ past_bad begun done comes.line comes.after prefix.after first.rest first.whole
+          prefix.steps (sym prefix.parts ∙ comes.next) comes.bad
     ]
 
 -- ---- the link
@@ -129,7 +129,7 @@ front_within input begun done (ends.BadLine n) front comes =
 -- what two ends of one link tell of the lines that wait at them
 pub record EndsAlike (name : List ℕ) (actions : List JoinAction) (es ds : List Entry)
     (why other : LinkCause) : Type 0 where
-  pub went : joined name actions es ≡ joined name actions ds
+  pub progress : joined name actions es ≡ joined name actions ds
   pub cause : why ≡ other
 
 -- two ends that come of disconnects
@@ -191,7 +191,7 @@ ends_same : AllLaws → (name : List ℕ) (actions : List JoinAction) (link : Li
     → IsClosed link es why ⊎ IsEnded link es why → IsClosed link ds other ⊎ IsEnded link ds other
     → EndsAlike name actions es ds why other
 ends_same laws name actions link es ds why other (inl a) (inl b) = record {
-  went = both_closed laws name actions link es ds a.begins a.closed b.begins b.closed;
+  progress = both_closed laws name actions link es ds a.begins a.closed b.begins b.closed;
   cause = a.is ∙ sym b.is;
 }
 ends_same laws name actions link es ds why other (inl a) (inr b) =
@@ -199,7 +199,7 @@ ends_same laws name actions link es ds why other (inl a) (inr b) =
 ends_same laws name actions link es ds why other (inr a) (inl b) =
     absurd (not_closed laws link ds es a.end b.begins b.closed a.comes a.still)
 ends_same laws name actions link es ds why other (inr a) (inr b) = record {
-  went =
+  progress =
       ap (joined name actions) (laws.entries link es ds a.end b.end a.comes b.comes);
   cause = a.is ∙ ap by_end (laws.end link es ds a.end b.end a.comes b.comes) ∙ sym b.is;
 }
@@ -221,7 +221,7 @@ waits_not_goes laws name actions link es ds text written j left why waits (inr a
 
 -- ---- outcomes
 
-by_scripts : AllLaws → (name input link : List ℕ) (a b : Outcome)
+by_scripts : AllLaws → (name input link : List ℕ) (a b : JoinOutcome)
     → EndsByScript name input link a → EndsByScript name input link b → a ≡ b
 by_scripts laws name input link a b x y =
     let lines : x.done ≡ y.done = laws.lines input x.done y.done x.last y.last x.comes y.comes in
@@ -243,10 +243,10 @@ by_scripts laws name input link a b x y =
     x.outcome_is ∙ ap (λ (e : LinesEnd). script_outcome e x.joining) last
     ∙ ap (script_outcome y.last) same ∙ sym y.outcome_is
 
-script_or_link : AllLaws → (name input link : List ℕ) (a b : Outcome)
+script_or_link : AllLaws → (name input link : List ℕ) (a b : JoinOutcome)
     → EndsByScript name input link a → EndsByLink name input link b → ⊥
 script_or_link laws name input link a b x y =
-    let lines = front_within input y.begun x.done x.last y.front x.comes in
+    let lines = first_within input y.begun x.done x.last y.prefix x.comes in
     let actions = asked_alike laws y.begun x.done y.actions x.actions lines y.asked x.asked in
     let waits : joined name x.actions y.entries ≡ Waits b.text b.written =
     ap (λ (acts : List JoinAction). joined name acts y.entries) actions.whole
@@ -255,7 +255,7 @@ script_or_link laws name input link a b x y =
     y.why waits (ends_by link y.entries y.why y.ends) x.begins x.goes
 
 -- two waits, of which the first is of the first of the lines of the second
-by_longer : AllLaws → (name input link : List ℕ) (a b : Outcome)
+by_longer : AllLaws → (name input link : List ℕ) (a b : JoinOutcome)
     (x : EndsByLink name input link a) (y : EndsByLink name input link b)
     → IsFirstOf x.begun y.begun → a ≡ b
 by_longer laws name input link a b x y lines =
@@ -265,25 +265,25 @@ by_longer laws name input link a b x y lines =
     ∙ joined_waits name x.actions actions.rest x.entries a.text a.written x.waits in
     let alike = ends_same laws name y.actions link x.entries y.entries x.why y.why
     (ends_by link x.entries x.why x.ends) (ends_by link y.entries y.why y.ends) in
-    let went : Waits a.text a.written ≡ Waits b.text b.written =
-    sym waits ∙ alike.went ∙ y.waits in
-    let text : a.text ≡ b.text = cc (went) in
-    let written : a.written ≡ b.written = cc (went) in
+    let progress : Waits a.text a.written ≡ Waits b.text b.written =
+    sym waits ∙ alike.progress ∙ y.waits in
+    let text : a.text ≡ b.text = cc (progress) in
+    let written : a.written ≡ b.written = cc (progress) in
     let end : a.end ≡ b.end = x.end_is ∙ ap link_end alike.cause ∙ sym y.end_is in
     ap (λ (t : List ℕ). record { text = t; written = a.written; end = a.end }) text
     ∙ ap (λ (w : List ℕ). record { text = b.text; written = w; end = a.end }) written
     ∙ ap (λ (e : RunEnd). record { text = b.text; written = b.written; end = e }) end
 
-by_links : AllLaws → (name input link : List ℕ) (a b : Outcome)
+by_links : AllLaws → (name input link : List ℕ) (a b : JoinOutcome)
     → EndsByLink name input link a → EndsByLink name input link b → a ≡ b
 by_links laws name input link a b x y =
-    elim (lists_alike x.begun y.begun x.front.behind y.front.behind
-    (sym x.front.parts ∙ y.front.parts)) [
+    elim (lists_alike x.begun y.begun x.prefix.after y.prefix.after
+    (sym x.prefix.parts ∙ y.prefix.parts)) [
       | inl first ↦ by_longer laws name input link a b x y first
       | inr first ↦ sym (by_longer laws name input link b a y x first)
     ]
 
-pub one_outcome : AllLaws → (name input link : List ℕ) (a b : Outcome)
+pub one_outcome : AllLaws → (name input link : List ℕ) (a b : JoinOutcome)
     → JoinComesTo name input link a → JoinComesTo name input link b → a ≡ b
 one_outcome laws name input link a b (inl x) (inl y) = by_scripts laws name input link a b x y
 one_outcome laws name input link a b (inl x) (inr y) =

@@ -10,7 +10,7 @@ use Rattle.dp_messages.specs.declared.message.Entry.{Entry}
 use Rattle.dp_lines.specs.declared.run_end.RunEnd.{RunEnd}
 use Rattle.dp_lines.specs.declared.run_end.RunEnd.TheVariants as run
 use Rattle.dp_entries.specs.Input.{StandFor, Tells, TellsUpTo}
-use Rattle.dp_joining.specs.Linked.{StandsOnLink}
+use Rattle.dp_joining.specs.JoinStanding.{StandsOnLink}
 use Rattle.dp_joining.specs.Outcomes.{BeginsWith, LinkComesTo, link_limit}
 
 -- what the layers below say of frames
@@ -138,12 +138,12 @@ counted : (link : List ℕ) (es : List Entry) (first : BeginsWith link es)
     → take link_limit link ≡ flat_map spelling first.frames
     ++ take (link_limit - length (flat_map spelling first.frames)) first.more
 counted link es first =
-    let front = flat_map spelling first.frames in
-    let room : link_limit ≡ length front + (link_limit - length front) =
+    let prefix = flat_map spelling first.frames in
+    let room : link_limit ≡ length prefix + (link_limit - length prefix) =
     omega (arith, first.counts) in
     ap (take link_limit) first.whole
-    ∙ ap (λ (n : ℕ). take n (front ++ first.more)) room
-    ∙ take-append-add front first.more (link_limit - length front)
+    ∙ ap (λ (n : ℕ). take n (prefix ++ first.more)) room
+    ∙ take-append-add prefix first.more (link_limit - length prefix)
 
 -- entries with which a link begins are the first of those that it comes to
 pub within_all : Laws → (link : List ℕ) (es ds : List Entry) (end : RunEnd)
@@ -160,7 +160,7 @@ within_all laws link es ds run.Long first (rest, tells, long) =
     (take (link_limit - length (flat_map spelling first.frames)) first.more) rest first.each
     tells.splits.each first.stand tells.stand tells.splits.partial
     (sym (counted link es first) ∙ tells.splits.whole)
-within_all laws link es ds (run.BadMessage n) first (behind, tells, place) =
+within_all laws link es ds (run.BadMessage n) first (after, tells, place) =
     within_bad laws 0 (length tells.frames) first.frames tells.frames es ds tells.bad
     (take (link_limit - length (flat_map spelling first.frames)) first.more) tells.more
     (omega arith) first.each tells.each tells.fits first.stand tells.stand tells.nothing

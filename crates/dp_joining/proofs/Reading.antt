@@ -16,49 +16,51 @@ use Rattle.dp_entries.specs.declared.ends.ReadEnd.TheVariants.{ReadFault, Trunca
 use Rattle.dp_entries.specs.declared.ends.ReadEnd.TheVariants as read
 use Rattle.dp_entries.specs.Input.{ComesTo}
 use Rattle.dp_entries.specs.Reader.{Reader, HasRead}
-use Rattle.dp_entries.specs.Reading.{Blames, EndsReading}
-use Rattle.dp_joining.specs.declared.linked.LinkFlaw.{LinkFlaw}
+use Rattle.dp_entries.specs.Reading.{FaultMatchesReadEnd, EndsReading}
+use Rattle.dp_joining.specs.declared.join_standing.LinkFlaw.{LinkFlaw}
 use Rattle.dp_joining.specs.declared.stops.LinkCause.TheVariants as cause
 use Rattle.dp_joining.specs.declared.stops.JoinStop.{JoinStop}
 use Rattle.dp_joining.specs.declared.stops.JoinStop.TheVariants.{WriteFault, LinkFault, Memory}
 use Rattle.dp_joining.specs.declared.stops.JoinStop.TheVariants.{NoEntry}
 use Rattle.dp_joining.specs.Joining.{is_closed, takeable}
-use Rattle.dp_joining.specs.Linked.{IsFlaw, StandsOnLink, is_ping}
+use Rattle.dp_joining.specs.JoinStanding.{IsFlaw, StandsOnLink, is_ping}
 use Rattle.dp_joining.specs.Outcomes.{BeginsWith, EndsLink, link_limit}
-use Rattle.dp_joining.specs.Steps.{BlamesReading, Gave, GivesEntry, GivesNone, IsReadable, ReadsOn}
+use Rattle.dp_joining.specs.Steps.{FaultMatchesReading, HasGiven, GivesEntry, GivesNone, IsReadable}
+use Rattle.dp_joining.specs.Steps.{ReadsOn}
 use Rattle.dp_joining.specs.Steps.{ReadsUpTo, Shows, Source}
 use Rattle.dp_joining.specs.Stops.{stop_of}
 use Rattle.dp_joining.proofs.Along.{closed-append, either_false, still-append, takeable-append}
 
 -- the bytes begin with the entries that they gave
-pub gave_begins : (s : Source) (bytes : List ℕ) (entries : List Entry) → IsReadable s
-    → Gave s bytes entries → BeginsWith bytes entries
-gave_begins s bytes entries readable gave =
-    let none : gave.head ≡ [] = nil_from_length gave.head (gave.place ∙ readable.first) in
-    let front = flat_map spelling gave.follows.frames in
+pub given_begins : (s : Source) (bytes : List ℕ) (entries : List Entry) → IsReadable s
+    → HasGiven s bytes entries → BeginsWith bytes entries
+given_begins s bytes entries readable has_given =
+    let none : has_given.head ≡ [] =
+    nil_from_length has_given.head (has_given.place ∙ readable.first) in
+    let prefix = flat_map spelling has_given.follows.frames in
     let held = s.reader.stream.held in
-    let rest = gave.cut ++ gave.untaken in
+    let rest = has_given.cut ++ has_given.untaken in
     record {
-      frames = gave.follows.frames;
+      frames = has_given.follows.frames;
       more = held ++ rest;
-      each = gave.follows.each;
-      stand = gave.follows.stand;
+      each = has_given.follows.each;
+      stand = has_given.follows.stand;
       whole =
-          gave.whole
-          ∙ ap (λ xs. xs ++ ((gave.earlier ++ gave.piece) ++ rest)) none
-          ∙ ap (λ xs. xs ++ rest) gave.follows.whole
-          ∙ append_assoc front held rest;
+          has_given.whole
+          ∙ ap (λ xs. xs ++ ((has_given.earlier ++ has_given.piece) ++ rest)) none
+          ∙ ap (λ xs. xs ++ rest) has_given.follows.whole
+          ∙ append_assoc prefix held rest;
       counts =
-          subst (λ n. n ≤ link_limit) gave.follows.at readable.within;
+          subst (λ n. n ≤ link_limit) has_given.follows.at readable.within;
     }
 
 -- reading goes on twice
 pub reads_twice : (a b c : Source) (xs ys : List Entry) → ReadsOn a b xs → ReadsOn b c ys
     → ReadsOn a c (xs ++ ys)
 reads_twice a b c xs ys first second = record {
-  more = λ bytes before gave.
-      subst (Gave c bytes) (append_assoc before xs ys)
-      (second.more bytes (before ++ xs) (first.more bytes before gave));
+  more = λ bytes before has_given.
+      subst (HasGiven c bytes) (append_assoc before xs ys)
+      (second.more bytes (before ++ xs) (first.more bytes before has_given));
   still = still-append xs ys first.still second.still;
   further = omega (arith, length-append xs ys, first.further, second.further);
   kept = second.kept ∙ first.kept;
@@ -68,7 +70,7 @@ reads_twice a b c xs ys first second = record {
 -- nothing was read yet
 pub reads_none : (s : Source) → IsReadable s → ReadsOn s s []
 reads_none s readable = record {
-  more = λ bytes before gave. subst (Gave s bytes) (sym (append-nil before)) gave;
+  more = λ bytes before has_given. subst (HasGiven s bytes) (sym (append-nil before)) has_given;
   still = refl;
   further = omega arith;
   kept = refl;
@@ -78,17 +80,17 @@ reads_none s readable = record {
 -- reading goes on, and then stops
 pub reads_then : (a b : Source) (xs ys : List Entry) (stop : JoinStop) → ReadsOn a b xs
     → ReadsUpTo b ys stop → ReadsUpTo a (xs ++ ys) stop
-reads_then a b xs ys stop first second = λ bytes before gave still.
+reads_then a b xs ys stop first second = λ bytes before has_given still.
     subst (λ es. Shows bytes es stop) (append_assoc before xs ys)
-    (second bytes (before ++ xs) (first.more bytes before gave)
+    (second bytes (before ++ xs) (first.more bytes before has_given)
     (still-append before xs still first.still))
 
 -- the client stops for another reason than the link
 pub stops_here : (a b : Source) (xs : List Entry) → ReadsOn a b xs
-    → (bytes : List ℕ) (before : List Entry) → Gave a bytes before
+    → (bytes : List ℕ) (before : List Entry) → HasGiven a bytes before
     → BeginsWith bytes (before ++ xs)
-stops_here a b xs reads bytes before gave =
-    gave_begins b bytes (before ++ xs) reads.readable (reads.more bytes before gave)
+stops_here a b xs reads bytes before has_given =
+    given_begins b bytes (before ++ xs) reads.readable (reads.more bytes before has_given)
 
 -- ---- one entry
 
@@ -109,8 +111,8 @@ taken_one e still =
 
 -- an entry that is no Disconnect
 pub pulled : (old now : Source) (e : Entry) → IsReadable old
-    → ((bytes : List ℕ) (before : List Entry) → Gave old bytes before
-    → Gave now bytes (before ++ e ∷ []))
+    → ((bytes : List ℕ) (before : List Entry) → HasGiven old bytes before
+    → HasGiven now bytes (before ++ e ∷ []))
     → old.reader.stream.at < now.reader.stream.at
     → now.reader.first + now.reader.stream.at + length now.reader.stream.held ≤ now.reader.limit
     → now.reader.first ≡ old.reader.first → now.reader.limit ≡ old.reader.limit
@@ -131,8 +133,8 @@ pulled old now e readable more further within first limit going kept open_ = rec
 
 -- a Disconnect
 pub pulled_last : (old now : Source) (e : Entry) → IsReadable old
-    → ((bytes : List ℕ) (before : List Entry) → Gave old bytes before
-    → Gave now bytes (before ++ e ∷ []))
+    → ((bytes : List ℕ) (before : List Entry) → HasGiven old bytes before
+    → HasGiven now bytes (before ++ e ∷ []))
     → now.reader.first + now.reader.stream.at + length now.reader.stream.held ≤ now.reader.limit
     → now.reader.first ≡ old.reader.first → now.reader.limit ≡ old.reader.limit
     → ¬ IsTrue now.reader.ended → now.faults ≡ old.faults → is_disconnect e.msg ≡ true
@@ -140,71 +142,73 @@ pub pulled_last : (old now : Source) (e : Entry) → IsReadable old
 pulled_last old now e readable more within first limit going kept last = record {
   given = e ∷ [];
   none = ap (λ d. if d then [] else (if is_ping e.msg then [] else e ∷ [])) last;
-  reads = λ bytes before gave still.
+  reads = λ bytes before has_given still.
       inl (
-        gave_begins now bytes (before ++ e ∷ []) (record {
+        given_begins now bytes (before ++ e ∷ []) (record {
           within = omega (arith, readable.limit);
           first = first ∙ readable.first;
           limit = limit ∙ readable.limit;
           going = going;
-        }) (more bytes before gave),
+        }) (more bytes before has_given),
         closed-append before (e ∷ []) still (ap (λ b. b || false) last),
       );
-  blames = kept;
+  fault = kept;
 }
 
 -- the link has ended
 pub pulled_none : (old now : Source) → IsReadable old
-    → ((bytes : List ℕ) (before : List Entry) → Gave old bytes before
+    → ((bytes : List ℕ) (before : List Entry) → HasGiven old bytes before
     → ComesTo StandsOnLink old.reader.first old.reader.limit bytes before run.Done)
     → now.faults ≡ old.faults
     → GivesNone old now (NoEntry cause.Closed)
 pulled_none old now readable done kept = record {
   given = [];
   none = refl;
-  reads = λ bytes before gave still.
+  reads = λ bytes before has_given still.
       subst (λ es. EndsLink bytes es cause.Closed) (sym (append-nil before))
-      (inr (inl (still, comes_to old bytes before readable run.Done (done bytes before gave))));
-  blames = kept;
+      (inr (inl
+      (still, comes_to old bytes before readable run.Done (done bytes before has_given))));
+  fault = kept;
 }
 
 -- reading it ended so
 shows_end : (s : Source) (bytes : List ℕ) (left : Option (List ℕ)) (before : List Entry)
-    (end : ReadEnd LinkFlaw) → IsReadable s → Gave s bytes before → is_closed before ≡ false
+    (end : ReadEnd LinkFlaw) → IsReadable s → HasGiven s bytes before → is_closed before ≡ false
     → EndsReading StandsOnLink IsFlaw s.reader.first s.reader.limit bytes left before end
     → Shows bytes before (stop_of end)
-shows_end s bytes left before ReadFault readable gave still ends =
-    gave_begins s bytes before readable gave
-shows_end s bytes left before (Truncated n) readable gave still ends =
+shows_end s bytes left before ReadFault readable has_given still ends =
+    given_begins s bytes before readable has_given
+shows_end s bytes left before (Truncated n) readable has_given still ends =
     inr (inr (still, n, comes_to s bytes before readable (run.Truncated n) ends.0))
-shows_end s bytes left before (BadMessage flaw n) readable gave still ends =
+shows_end s bytes left before (BadMessage flaw n) readable has_given still ends =
     (still, comes_to s bytes before readable (run.BadMessage n) ends.0)
-shows_end s bytes left before read.Long readable gave still ends =
+shows_end s bytes left before read.Long readable has_given still ends =
     (still, comes_to s bytes before readable run.Long ends.0)
-shows_end s bytes left before read.Memory readable gave still ends =
-    gave_begins s bytes before readable gave
+shows_end s bytes left before read.Memory readable has_given still ends =
+    given_begins s bytes before readable has_given
 
-blames_end : (before now : ℕ) (end : ReadEnd LinkFlaw) → before ≤ now → Blames before now end
-    → BlamesReading before now (stop_of end)
-blames_end before now ReadFault later blames = (blames, later)
-blames_end before now (Truncated n) later blames = blames
-blames_end before now (BadMessage flaw n) later blames = blames
-blames_end before now read.Long later blames = blames
-blames_end before now read.Memory later blames = blames
+fault_matches_end : (before now : ℕ) (end : ReadEnd LinkFlaw) → before ≤ now
+    → FaultMatchesReadEnd before now end
+    → FaultMatchesReading before now (stop_of end)
+fault_matches_end before now ReadFault later fault = (fault, later)
+fault_matches_end before now (Truncated n) later fault = fault
+fault_matches_end before now (BadMessage flaw n) later fault = fault
+fault_matches_end before now read.Long later fault = fault
+fault_matches_end before now read.Memory later fault = fault
 
 pub pulled_end : (old now : Source) (left : Option (List ℕ)) (end : ReadEnd LinkFlaw)
     → IsReadable old
-    → ((bytes : List ℕ) (before : List Entry) → Gave old bytes before
+    → ((bytes : List ℕ) (before : List Entry) → HasGiven old bytes before
     → EndsReading StandsOnLink IsFlaw old.reader.first old.reader.limit bytes left before end)
-    → old.faults ≤ now.faults → Blames old.faults now.faults end
+    → old.faults ≤ now.faults → FaultMatchesReadEnd old.faults now.faults end
     → GivesNone old now (stop_of end)
-pulled_end old now left end readable ends later blames = record {
+pulled_end old now left end readable ends later fault = record {
   given = [];
   none = refl;
-  reads = λ bytes before gave still.
+  reads = λ bytes before has_given still.
       subst (λ es. Shows bytes es (stop_of end)) (sym (append-nil before))
-      (shows_end old bytes left before end readable gave still (ends bytes before gave));
-  blames = blames_end old.faults now.faults end later blames;
+      (shows_end old bytes left before end readable has_given still (ends bytes before has_given));
+  fault = fault_matches_end old.faults now.faults end later fault;
 }
 
 -- ---- Pings
@@ -243,7 +247,7 @@ gives_none a b c xs stop first none next = record {
       ∙ ap (λ es. es ++ takeable next.given) none
       ∙ next.none;
   reads = reads_then a b xs next.given stop first next.reads;
-  blames = subst (λ n. BlamesReading n c.faults stop) first.kept next.blames;
+  fault = subst (λ n. FaultMatchesReading n c.faults stop) first.kept next.fault;
 }
 
 -- only Pings were read

@@ -10,7 +10,7 @@ use Rattle.dp_client.specs.Client.{State}
 use Rattle.dp_io.specs.Streams.{GrowsByPrefix}
 use Rattle.dp_lines.specs.declared.line.Line.{Line}
 use Rattle.dp_lines.specs.Ends.{AreSteps, IsDoable, seen}
-use Rattle.dp_script.specs.Leaves.{IsFrontOf}
+use Rattle.dp_script.specs.Leaves.{AreFirstOf}
 use Rattle.dp_wire.specs.Links.{HandsOut, Links, WhereKnown as WhereLinks}
 use Rattle.dp_joining.specs.Runs.{Returns}
 use Rattle.dp_joining.specs.declared.stops.JoinStop.{JoinStop}
@@ -19,12 +19,13 @@ use Rattle.dp_joining.specs.declared.stops.JoinStop.TheVariants.{NoEntry}
 use Rattle.dp_joining.specs.declared.stops.LinkCause.{LinkCause}
 use Rattle.dp_joining.specs.declared.stops.LinkCause.TheVariants as cause
 use Rattle.dp_joining.specs.Greetings.{GreetingFails, Welcomes, newcomer}
-use Rattle.dp_joining.specs.Joining.{Went, Waits, chat_limit, hello_bytes, joined}
-use Rattle.dp_joining.specs.Leaves.{BlamesJoin, Counts, IsWelcome, JoinLeaves, OthersStay, Traffic}
+use Rattle.dp_joining.specs.Joining.{Progress, Waits, chat_limit, hello_bytes, joined}
+use Rattle.dp_joining.specs.Leaves.{FaultMatchesJoin, Counts, IsWelcome, JoinLeaves, OthersStay}
+use Rattle.dp_joining.specs.Leaves.{Traffic}
 use Rattle.dp_joining.specs.Leaves.{WritesAll, WritesPart, WhereKnown}
-use Rattle.dp_joining.specs.Outcomes.{IsJoinStep, BeginsWith, JoinComesTo, Outcome, link_end}
+use Rattle.dp_joining.specs.Outcomes.{IsJoinStep, BeginsWith, JoinComesTo, JoinOutcome, link_end}
 use Rattle.dp_joining.specs.Outcomes.{script_limit}
-use Rattle.dp_joining.specs.Scripts.{went_text, went_written}
+use Rattle.dp_joining.specs.Scripts.{text_of, written_of}
 use Rattle.dp_joining.specs.Steps.{Seen, Shows, Source, Stands}
 use Rattle.dp_joining.specs.Stops.{end_of}
 use Rattle.dp_joining.proofs.Moving.{grows_not}
@@ -52,7 +53,7 @@ welcome_stands name left faults first start welcomes chats same print wrote writ
       read = welcomes.kept ∙ sym read;
     };
   };
-  gave = welcomes.gave;
+  has_given = welcomes.has_given;
   still = welcomes.still;
 }
 
@@ -65,16 +66,16 @@ welcomes_as left faults s t c d sources clients welcomes =
 
 -- ---- not welcomed
 
-no_parts : (before : List Line) (line : Line) (behind : List Line) → [] ≡ before ++ line ∷ behind
+no_parts : (before : List Line) (line : Line) (after : List Line) → [] ≡ before ++ line ∷ after
     → ⊥
-no_parts [] line behind is = cc (is)
-no_parts (other ∷ before) line behind is = cc (is)
+no_parts [] line after is = cc (is)
+no_parts (other ∷ before) line after is = cc (is)
 
-no_lines : (input : List ℕ) → IsFrontOf IsJoinStep (seen script_limit input) []
+no_lines : (input : List ℕ) → AreFirstOf IsJoinStep (seen script_limit input) []
 no_lines input = record {
-  behind = seen script_limit input;
+  after = seen script_limit input;
   parts = refl;
-  steps = λ before line behind is. absurd (no_parts before line behind is);
+  steps = λ before line after is. absurd (no_parts before line after is);
 }
 
 both_known : (input link : Option (List ℕ)) (P : List ℕ → List ℕ → Type 0)
@@ -96,20 +97,20 @@ module _ (name : List ℕ) (t : Traffic) (source source_now sink sink_now : ℕ)
       both_known t.input t.link (WritesPart name t) (λ bytes. Shows bytes fails.given stop)
       fails.reads (λ i l shows. record {
         begun = [];
-        front = no_lines i;
+        prefix = no_lines i;
         actions = [];
         asked = tt;
         entries = fails.given;
         begins = begins l shows;
         text =
-            subst (λ (w : Went). GrowsByPrefix t.print_old t.print_now (went_text w))
+            subst (λ (w : Progress). GrowsByPrefix t.print_old t.print_now (text_of w))
             (sym (fails.waits []))
             (subst (λ (p : Option (List ℕ)). GrowsByPrefix t.print_old p []) (sym same)
             (grows_not t.print_old []));
         parting = [];
         is_parting = inl refl;
         written =
-            subst (λ (w : Went). GrowsByPrefix t.sent_old t.sent_now (went_written w ++ []))
+            subst (λ (w : Progress). GrowsByPrefix t.sent_old t.sent_now (written_of w ++ []))
             (sym (fails.waits []))
             (subst (GrowsByPrefix t.sent_old t.sent_now) (sym (append-nil (hello_bytes name)))
             wrote);
@@ -120,14 +121,14 @@ module _ (name : List ℕ) (t : Traffic) (source source_now sink sink_now : ℕ)
       (NoEntry why))
       → t.print_now ≡ t.print_old → WritesAll name t (link_end why)
   hello_all why fails same =
-      both_known t.input t.link (λ i l. (outcome : Outcome) × JoinComesTo name i l outcome
+      both_known t.input t.link (λ i l. (outcome : JoinOutcome) × JoinComesTo name i l outcome
       × (outcome.end ≡ link_end why) × Appends t.print_old t.print_now outcome.text
       × Appends t.sent_old t.sent_now outcome.written)
       (λ bytes. Shows bytes fails.given (NoEntry why)) fails.reads (λ i l shows. (
         record { text = []; written = hello_bytes name; end = link_end why },
         inr (record {
           begun = [];
-          front = no_lines i;
+          prefix = no_lines i;
           actions = [];
           asked = tt;
           entries = fails.given;
@@ -164,20 +165,20 @@ module _ (name : List ℕ) (t : Traffic) (source source_now sink sink_now : ℕ)
     counts source sink =
         record { input = input; output = output; source = source; sink = sink }
 
-    link_blames : (why : LinkCause) → source_now ≡ source → sink_now ≡ sink
-        → BlamesJoin (counts source sink) (counts source_now sink_now) (link_end why)
-    link_blames cause.Closed r w = (refl, record { output = refl; source = r; sink = w })
-    link_blames (cause.BadMessage n) r w = (refl, record { output = refl; source = r; sink = w })
-    link_blames cause.Long r w = (refl, record { output = refl; source = r; sink = w })
+    link_fault : (why : LinkCause) → source_now ≡ source → sink_now ≡ sink
+        → FaultMatchesJoin (counts source sink) (counts source_now sink_now) (link_end why)
+    link_fault cause.Closed r w = (refl, record { output = refl; source = r; sink = w })
+    link_fault (cause.BadMessage n) r w = (refl, record { output = refl; source = r; sink = w })
+    link_fault cause.Long r w = (refl, record { output = refl; source = r; sink = w })
 
-    pub failed_blames : (stop : JoinStop)
+    pub failed_fault : (stop : JoinStop)
         → GreetingFails name t.link t.sent_old t.sent_now source source_now sink sink_now stop
-        → BlamesJoin (counts source sink) (counts source_now sink_now) (end_of stop)
-    failed_blames WriteFault fails = absurd fails.blames
-    failed_blames LinkFault fails = (refl, refl, fails.blames.2)
-    failed_blames Memory fails =
-        (refl, record { output = refl; source = fails.blames.0; sink = fails.blames.1 })
-    failed_blames (NoEntry why) fails = link_blames why fails.blames.0 fails.blames.1
+        → FaultMatchesJoin (counts source sink) (counts source_now sink_now) (end_of stop)
+    failed_fault WriteFault fails = absurd fails.fault
+    failed_fault LinkFault fails = (refl, refl, fails.fault.2)
+    failed_fault Memory fails =
+        (refl, record { output = refl; source = fails.fault.0; sink = fails.fault.1 })
+    failed_fault (NoEntry why) fails = link_fault why fails.fault.0 fails.fault.1
 
 -- ---- the wire
 

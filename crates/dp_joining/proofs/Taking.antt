@@ -7,7 +7,6 @@ use Rattle.std.specs.List.{fold}
 use Rattle.std.specs.Io.KnownBytes.{Appends}
 use Rattle.std.proofs.lemmas.List.{append-nil}
 use Rattle.std.proofs.lemmas.List.Sums.{fold-append}
-use Rattle.circular_buffer.specs.Buffer.{buffer, keep_last}
 use Rattle.dp_client.specs.Client.{State}
 use Rattle.dp_io.proofs.Prefixes.{grows_whole}
 use Rattle.dp_messages.specs.declared.message.Entry.{Entry}
@@ -16,14 +15,14 @@ use Rattle.dp_schedule.specs.declared.join_action.JoinAction.TheVariants.{Take}
 use Rattle.dp_joining.specs.declared.stops.JoinStop.{JoinStop}
 use Rattle.dp_joining.specs.declared.stops.JoinStop.TheVariants.{WriteFault, LinkFault, Memory}
 use Rattle.dp_joining.specs.declared.stops.JoinStop.TheVariants.{NoEntry}
-use Rattle.dp_joining.specs.Joining.{Joining, chat_limit, takeable, took_entry}
-use Rattle.dp_joining.specs.Linked.{is_ping}
-use Rattle.dp_joining.specs.Steps.{Began, BlamesReading, Fails, GivesEntry, GivesNone, Halts}
-use Rattle.dp_joining.specs.Steps.{IsFaultless, IsNoEntry, IsReady, Moves, Passes, ReadsOn, Seen}
+use Rattle.dp_joining.specs.Joining.{Joining, takeable, took_entry}
+use Rattle.dp_joining.specs.JoinStanding.{is_ping}
+use Rattle.dp_joining.specs.Steps.{Fails, GivesEntry, GivesNone, Halts}
+use Rattle.dp_joining.specs.Steps.{IsNoEntry, IsReady, Moves, ReadsOn, Seen}
 use Rattle.dp_joining.specs.Outcomes.{BeginsWith}
 use Rattle.dp_joining.specs.Steps.{Shows, Source, Stands, Stops, Wrote}
 use Rattle.dp_joining.proofs.Along.{takeable-append}
-use Rattle.dp_joining.proofs.Moving.{blames_from, faultless_twice, reading_blames}
+use Rattle.dp_joining.proofs.Moving.{fault_matches_from, faultless_twice, reading_fault}
 use Rattle.dp_joining.proofs.Reading.{reads_none, reads_then, reads_twice, stops_here}
 
 -- so many entries are taken
@@ -41,16 +40,6 @@ taking_none s ready = record {
   many = refl;
   moves = λ start j stands. stands;
   ready = ready;
-}
-
--- all that is asked for is taken
-pub taking_all : (old now : Seen) (count n : ℕ) → n ≡ count → Taking old now n
-    → Passes old now (Take count)
-taking_all old now count n all taking = record {
-  given = taking.given;
-  reads = taking.reads;
-  many = taking.many ∙ all;
-  moves = taking.moves;
 }
 
 -- ---- reading alone
@@ -196,8 +185,8 @@ taking_ends a b c count n stop within taking none read =
           subst (λ (es : List Entry). Stops start c (fold took_entry j es) stop) (sym taken)
           (record {
             wrote = wrote_read start b c before stop read there;
-            blames = blames_from start b c stop there.faultless
-                (reading_blames b c stop none.blames read.print_faults read.write_faults);
+            fault = fault_matches_from start b c stop there.faultless
+                (reading_fault b c stop none.fault read.print_faults read.write_faults);
           });
     }
 
@@ -214,9 +203,9 @@ taking_fails a b m c count n e stop within taking gives read fails =
     ∙ ap (λ (k : ℕ). k + 1) taking.many in
     record {
       given = taking.given ++ gives.given;
-      reads = λ bytes before gave still.
+      reads = λ bytes before has_given still.
           shows_other stop bytes (before ++ (taking.given ++ gives.given)) fails.not_for_entry
-          (stops_here a.source m.source (taking.given ++ gives.given) reads bytes before gave);
+          (stops_here a.source m.source (taking.given ++ gives.given) reads bytes before has_given);
       few = omega (arith, many);
       waits = λ is. absurd (fails.not_for_entry is);
       stops = λ start j stands.

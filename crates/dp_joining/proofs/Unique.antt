@@ -14,10 +14,10 @@ use Rattle.dp_messages.specs.declared.message.Msg.{Msg}
 use Rattle.dp_messages.specs.declared.message.Msg.TheVariants as msg
 use Rattle.dp_messages.specs.Properties.{is_disconnect}
 use Rattle.dp_schedule.specs.declared.join_action.JoinAction.{JoinAction}
-use Rattle.dp_joining.specs.Joining.{Joining, Went, Goes, Waits, after_line, along, asked_by}
+use Rattle.dp_joining.specs.Joining.{Joining, Progress, Goes, Waits, after_line, along, asked_by}
 use Rattle.dp_joining.specs.Joining.{greeted}
 use Rattle.dp_joining.specs.Joining.{hello_bytes, is_closed, joined, takeable}
-use Rattle.dp_joining.specs.Linked.{is_ping}
+use Rattle.dp_joining.specs.JoinStanding.{is_ping}
 use Rattle.dp_joining.proofs.Along.{along_enough, along_few, along_more}
 use Rattle.dp_joining.proofs.Prefixes.{IsFirstOf}
 

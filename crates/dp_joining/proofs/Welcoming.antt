@@ -1,11 +1,11 @@
 -- How a client greets its server.
-use Rattle.std.proofs.Common.{◌≡◌, ◌⊎◌, inl, inr, ℕ, ◌≤◌, true, false, Bool, ◌||◌, List, [], ◌∷◌}
+use Rattle.std.proofs.Common.{◌≡◌, ◌⊎◌, inl, inr, ℕ, true, false, Bool, ◌||◌, List, [], ◌∷◌}
 use Rattle.std.proofs.Common.{◌++◌, length}
-use Rattle.std.proofs.Common.{refl, sym, ap, ◌∙◌, arith, if◌then◌else◌}
+use Rattle.std.proofs.Common.{refl, ap, arith, if◌then◌else◌}
 use Rattle.std.specs.Prelude.{Option, Some, None, IfSome, IsTrue}
 use Rattle.std.specs.Option.{option_map_or}
 use Rattle.std.specs.Io.KnownBytes.{Appends}
-use Rattle.dp_client.specs.Client.{State, welcomed}
+use Rattle.dp_client.specs.Client.{welcomed}
 use Rattle.dp_entries.specs.Input.{StandFor}
 use Rattle.dp_entries.specs.Reader.{HasRead, Reader}
 use Rattle.dp_frame.specs.Frames.{FrameParts}
@@ -21,37 +21,37 @@ use Rattle.dp_joining.specs.declared.stops.LinkCause.TheVariants as cause
 use Rattle.dp_joining.specs.declared.stops.JoinStop.{JoinStop}
 use Rattle.dp_joining.specs.declared.stops.JoinStop.TheVariants.{WriteFault, LinkFault, Memory}
 use Rattle.dp_joining.specs.declared.stops.JoinStop.TheVariants.{NoEntry}
-use Rattle.dp_joining.specs.Greetings.{BlamesGreeting, GreetingFails, NoWelcome, Welcomes}
+use Rattle.dp_joining.specs.Greetings.{FaultMatchesGreeting, GreetingFails, NoWelcome, Welcomes}
 use Rattle.dp_joining.specs.Greetings.{WroteHello}
 use Rattle.dp_joining.specs.Greetings.{newcomer}
-use Rattle.dp_joining.specs.Joining.{Joining, Waits, along, greeted, hello_bytes, is_closed, joined}
+use Rattle.dp_joining.specs.Joining.{Joining, Waits, along, greeted, hello_bytes, joined}
 use Rattle.dp_joining.specs.Joining.{takeable}
-use Rattle.dp_joining.specs.Linked.{StandsOnLink, is_ping, is_welcome}
-use Rattle.dp_joining.specs.Outcomes.{BeginsWith, EndsLink}
-use Rattle.dp_joining.specs.Steps.{BlamesReading, BlamesWriting, Gave, GivesNone, IsReadable}
+use Rattle.dp_joining.specs.JoinStanding.{StandsOnLink, is_ping, is_welcome}
+use Rattle.dp_joining.specs.Outcomes.{BeginsWith}
+use Rattle.dp_joining.specs.Steps.{FaultMatchesReading, FaultMatchesWriting, HasGiven}
 use Rattle.dp_joining.specs.Steps.{ReadsOn}
 use Rattle.dp_joining.specs.Steps.{ReadsUpTo, Shows, Source}
 use Rattle.dp_joining.proofs.Along.{either_false}
 use Rattle.dp_joining.proofs.Moving.{grows_not}
-use Rattle.dp_joining.proofs.Reading.{gave_begins}
+use Rattle.dp_joining.proofs.Reading.{given_begins}
 
 -- what was read of a link that is known
-known_gave : (left : Option (List ℕ)) (old now : Source) (es : List Entry)
-    → IfSome left (λ bytes. Gave old bytes []) → ReadsOn old now es
-    → IfSome left (λ bytes. Gave now bytes es)
-known_gave None old now es begun reads = tt
-known_gave (Some bytes) old now es begun reads = reads.more bytes [] begun
+known_given : (left : Option (List ℕ)) (old now : Source) (es : List Entry)
+    → IfSome left (λ bytes. HasGiven old bytes []) → ReadsOn old now es
+    → IfSome left (λ bytes. HasGiven now bytes es)
+known_given None old now es begun reads = tt
+known_given (Some bytes) old now es begun reads = reads.more bytes [] begun
 
 -- the link welcomes the client
 pub welcomes : (left : Option (List ℕ)) (old now : Source) (first : Entry) (user epoch at : ℕ)
-    → IfSome left (λ bytes. Gave old bytes []) → ReadsOn old now (first ∷ [])
+    → IfSome left (λ bytes. HasGiven old bytes []) → ReadsOn old now (first ∷ [])
     → ((name : List ℕ) → greeted name first.msg ≡ Some (newcomer (welcomed user epoch at) name))
     → Welcomes left old.faults now (welcomed user epoch at)
 welcomes left old now first user epoch at begun reads welcome = record {
   first = first;
   welcome = welcome;
   fresh = refl;
-  gave = known_gave left old now (first ∷ []) begun reads;
+  has_given = known_given left old now (first ∷ []) begun reads;
   still = reads.still;
   readable = reads.readable;
   kept = reads.kept;
@@ -70,19 +70,19 @@ neither false true either first second = cc (second)
 neither false false either first second = cc (either)
 
 no_other : (left : Option (List ℕ)) (old now : Source) (first : Entry) (stop : JoinStop)
-    → IfSome left (λ bytes. Gave old bytes []) → ReadsOn old now (first ∷ [])
+    → IfSome left (λ bytes. HasGiven old bytes []) → ReadsOn old now (first ∷ [])
     → is_welcome first.msg ≡ false
     → IfSome left (λ bytes. Shows bytes (first ∷ []) stop)
 no_other None old now first stop begun reads other = tt
 no_other (Some bytes) old now first stop begun reads other =
-    let begins = gave_begins now bytes (first ∷ []) reads.readable (reads.more bytes [] begun) in
+    let begins = given_begins now bytes (first ∷ []) reads.readable (reads.more bytes [] begun) in
     absurd (neither (is_welcome first.msg) (is_disconnect first.msg)
     (first_stands begins.frames first begins.stand) other
     (either_false (is_disconnect first.msg) false reads.still).0)
 
 -- another first entry, which never comes
 pub no_welcome : (left : Option (List ℕ)) (old now : Source) (first : Entry)
-    → IfSome left (λ bytes. Gave old bytes []) → ReadsOn old now (first ∷ [])
+    → IfSome left (λ bytes. HasGiven old bytes []) → ReadsOn old now (first ∷ [])
     → ((name : List ℕ) → greeted name first.msg ≡ None) → is_welcome first.msg ≡ false
     → NoWelcome left old.faults now.faults (NoEntry cause.Closed)
 no_welcome left old now first begun reads none other = record {
@@ -91,7 +91,7 @@ no_welcome left old now first begun reads none other = record {
       ap (λ (o : Option Joining). option_map_or (λ j. along actions (takeable []) j) o
       (Waits [] (hello_bytes name))) (none name);
   reads = no_other left old now first (NoEntry cause.Closed) begun reads other;
-  blames = reads.kept;
+  fault = reads.kept;
 }
 
 -- a message that is passed over, or closes the link, greets nobody
@@ -131,21 +131,10 @@ waits_for name actions (e ∷ more) none =
     none))
 
 known_shows : (left : Option (List ℕ)) (old : Source) (given : List Entry) (stop : JoinStop)
-    → IfSome left (λ bytes. Gave old bytes []) → ReadsUpTo old given stop
+    → IfSome left (λ bytes. HasGiven old bytes []) → ReadsUpTo old given stop
     → IfSome left (λ bytes. Shows bytes given stop)
 known_shows None old given stop begun reads = tt
 known_shows (Some bytes) old given stop begun reads = reads bytes [] begun refl
-
--- no first entry
-pub not_welcomed : (left : Option (List ℕ)) (old now : Source) (stop : JoinStop)
-    → IfSome left (λ bytes. Gave old bytes []) → GivesNone old now stop
-    → NoWelcome left old.faults now.faults stop
-not_welcomed left old now stop begun none = record {
-  given = none.given;
-  waits = λ name actions. waits_for name actions none.given none.none;
-  reads = known_shows left old none.given stop begun none.reads;
-  blames = none.blames;
-}
 
 -- ---- the Hello
 
@@ -168,30 +157,30 @@ hello_refused name left held source sink = record {
   waits = λ actions. refl;
   reads = begins_with_nothing left;
   wrote = grows_not held (hello_bytes name);
-  blames = (refl, refl);
+  fault = (refl, refl);
 }
 
 -- a part of the Hello was written
 pub hello_cut : (name : List ℕ) (left old now : Option (List ℕ)) (source sink sink_now : ℕ)
     (stop : JoinStop) → GrowsByPrefix old now (hello_bytes name)
-    → BlamesWriting sink sink_now stop
+    → FaultMatchesWriting sink sink_now stop
     → GreetingFails name left old now source source sink sink_now stop
-hello_cut name left old now source sink sink_now WriteFault wrote blames = absurd blames
-hello_cut name left old now source sink sink_now LinkFault wrote blames = record {
+hello_cut name left old now source sink sink_now WriteFault wrote fault = absurd fault
+hello_cut name left old now source sink sink_now LinkFault wrote fault = record {
   given = [];
   waits = λ actions. refl;
   reads = begins_with_nothing left;
   wrote = wrote;
-  blames = (omega arith, blames.1, inl blames.0);
+  fault = (omega arith, fault.1, inl fault.0);
 }
-hello_cut name left old now source sink sink_now Memory wrote blames = record {
+hello_cut name left old now source sink sink_now Memory wrote fault = record {
   given = [];
   waits = λ actions. refl;
   reads = begins_with_nothing left;
   wrote = wrote;
-  blames = (refl, blames);
+  fault = (refl, fault);
 }
-hello_cut name left old now source sink sink_now (NoEntry why) wrote blames = absurd blames
+hello_cut name left old now source sink sink_now (NoEntry why) wrote fault = absurd fault
 
 wrote_hello : (old now : Option (List ℕ)) (hello : List ℕ) (stop : JoinStop)
     → Appends old now hello → WroteHello old now hello stop
@@ -200,28 +189,14 @@ wrote_hello old now hello LinkFault wrote = grows_whole old now hello wrote
 wrote_hello old now hello Memory wrote = grows_whole old now hello wrote
 wrote_hello old now hello (NoEntry why) wrote = wrote
 
-greeting_blames : (source source_now sink sink_now : ℕ) (stop : JoinStop)
-    → BlamesReading source source_now stop → sink_now ≡ sink
-    → BlamesGreeting source source_now sink sink_now stop
-greeting_blames source source_now sink sink_now WriteFault blames kept = blames
-greeting_blames source source_now sink sink_now LinkFault blames kept =
-    (blames.1, omega arith, inr blames.0)
-greeting_blames source source_now sink sink_now Memory blames kept = (blames, kept)
-greeting_blames source source_now sink sink_now (NoEntry why) blames kept = (blames, kept)
-
--- the Hello was written, and no Welcome came
-pub not_greeted : (name : List ℕ) (left old now : Option (List ℕ))
-    (source source_now sink sink_now : ℕ) (stop : JoinStop)
-    → Appends old now (hello_bytes name) → sink_now ≡ sink
-    → NoWelcome left source source_now stop
-    → GreetingFails name left old now source source_now sink sink_now stop
-not_greeted name left old now source source_now sink sink_now stop wrote kept none = record {
-  given = none.given;
-  waits = λ actions. none.waits name actions;
-  reads = none.reads;
-  wrote = wrote_hello old now (hello_bytes name) stop wrote;
-  blames = greeting_blames source source_now sink sink_now stop none.blames kept;
-}
+greeting_fault : (source source_now sink sink_now : ℕ) (stop : JoinStop)
+    → FaultMatchesReading source source_now stop → sink_now ≡ sink
+    → FaultMatchesGreeting source source_now sink sink_now stop
+greeting_fault source source_now sink sink_now WriteFault fault kept = fault
+greeting_fault source source_now sink sink_now LinkFault fault kept =
+    (fault.1, omega arith, inr fault.0)
+greeting_fault source source_now sink sink_now Memory fault kept = (fault, kept)
+greeting_fault source source_now sink sink_now (NoEntry why) fault kept = (fault, kept)
 
 -- nothing was read of the link yet
 pub begun_first : (left : Option (List ℕ)) (faults : ℕ) (reader : Reader)

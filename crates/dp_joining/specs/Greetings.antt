@@ -13,7 +13,7 @@ use Rattle.dp_joining.specs.declared.stops.JoinStop.TheVariants.{WriteFault, Lin
 use Rattle.dp_joining.specs.declared.stops.JoinStop.TheVariants.{NoEntry}
 use Rattle.dp_joining.specs.Joining.{Joining, Waits, chat_limit, greeted, hello_bytes, is_closed}
 use Rattle.dp_joining.specs.Joining.{joined}
-use Rattle.dp_joining.specs.Steps.{BlamesReading, Gave, IsReadable, Shows, Source}
+use Rattle.dp_joining.specs.Steps.{FaultMatchesReading, HasGiven, IsReadable, Shows, Source}
 
 -- the client that was greeted by a Welcome
 abbrev pub newcomer : State → List ℕ → Joining
@@ -26,7 +26,7 @@ pub record Welcomes (left : Option (List ℕ)) (faults : ℕ) (now : Source) (cl
     pub first : Entry
     pub welcome : (name : List ℕ) → greeted name first.msg ≡ Some (newcomer client name)
     pub fresh : client.taken ≡ []
-    pub gave : IfSome left (λ bytes. Gave now bytes (first ∷ []))
+    pub has_given : IfSome left (λ bytes. HasGiven now bytes (first ∷ []))
     pub still : is_closed (first ∷ []) ≡ false
     pub readable : IsReadable now
     pub kept : now.faults ≡ faults
@@ -37,7 +37,7 @@ pub record NoWelcome (left : Option (List ℕ)) (before now : ℕ) (stop : JoinS
   pub waits : (name : List ℕ) (actions : List JoinAction)
       → joined name actions given ≡ Waits [] (hello_bytes name)
   pub reads : IfSome left (λ bytes. Shows bytes given stop)
-  pub blames : BlamesReading before now stop
+  pub fault : FaultMatchesReading before now stop
 
 -- what was written of the Hello where the client stops so: a prefix, or all
 abbrev pub WroteHello : Option (List ℕ) → Option (List ℕ) → List ℕ → JoinStop → Type 0
@@ -47,13 +47,13 @@ WroteHello old now hello Memory = GrowsByPrefix old now hello
 WroteHello old now hello (NoEntry why) = Appends old now hello
 
 -- the counts of faults of the link's source and its sink where the client stops so
-abbrev pub BlamesGreeting : ℕ → ℕ → ℕ → ℕ → JoinStop → Type 0
-BlamesGreeting source source_now sink sink_now WriteFault = ⊥
-BlamesGreeting source source_now sink sink_now LinkFault =
+abbrev pub FaultMatchesGreeting : ℕ → ℕ → ℕ → ℕ → JoinStop → Type 0
+FaultMatchesGreeting source source_now sink sink_now WriteFault = ⊥
+FaultMatchesGreeting source source_now sink sink_now LinkFault =
     (source ≤ source_now) × (sink ≤ sink_now) × (Rose sink sink_now ⊎ Rose source source_now)
-BlamesGreeting source source_now sink sink_now Memory =
+FaultMatchesGreeting source source_now sink sink_now Memory =
     (source_now ≡ source) × (sink_now ≡ sink)
-BlamesGreeting source source_now sink sink_now (NoEntry why) =
+FaultMatchesGreeting source source_now sink sink_now (NoEntry why) =
     (source_now ≡ source) × (sink_now ≡ sink)
 
 -- the client stops so before it is welcomed
@@ -64,4 +64,4 @@ pub record GreetingFails (name : List ℕ) (left old now : Option (List ℕ))
       → joined name actions given ≡ Waits [] (hello_bytes name)
   pub reads : IfSome left (λ bytes. Shows bytes given stop)
   pub wrote : WroteHello old now (hello_bytes name) stop
-  pub blames : BlamesGreeting source source_now sink sink_now stop
+  pub fault : FaultMatchesGreeting source source_now sink sink_now stop

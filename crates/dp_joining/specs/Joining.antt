@@ -27,7 +27,7 @@ use Rattle.dp_client.specs.Client.{State, confirmed, said, taken_of, took, welco
 use Rattle.dp_showing.specs.declared.showing.Shown.TheVariants as shown
 use Rattle.dp_showing.specs.Showing.{shown_text}
 use Rattle.dp_joining.specs.declared.chats.ChatLine.{ChatLine}
-use Rattle.dp_joining.specs.Linked.{is_ping}
+use Rattle.dp_joining.specs.JoinStanding.{is_ping}
 
 -- ---- what the link gives
 
@@ -149,12 +149,12 @@ after_line action entries j = fold took_entry (acted action j) entries
 
 -- How far lines go: all are done, and these entries are left; or one asks for an entry more, after
 -- this text and these bytes.
-pub data Went : Type 0 where
-  Goes : Joining → List Entry → Went
-  Waits : List ℕ → List ℕ → Went
+pub data Progress : Type 0 where
+  Goes : Joining → List Entry → Progress
+  Waits : List ℕ → List ℕ → Progress
 
 -- the lines with the entries that come, one line after the other
-abbrev pub along : List JoinAction → List Entry → Joining → Went
+abbrev pub along : List JoinAction → List Entry → Joining → Progress
 along [] coming j = Goes j coming
 along (action ∷ actions) coming j =
     if nat_le (asked_by action) (length coming)
@@ -174,7 +174,7 @@ greeted name m = None
 
 -- What a client of this name does by these lines, over a link that gives these entries: it waits
 -- for its Welcome first.
-abbrev pub joined : List ℕ → List JoinAction → List Entry → Went
+abbrev pub joined : List ℕ → List JoinAction → List Entry → Progress
 joined name actions [] = Waits [] (hello_bytes name)
 joined name actions (first ∷ more) =
     option_map_or (λ j. along actions (takeable more) j) (greeted name first.msg)

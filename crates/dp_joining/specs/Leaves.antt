@@ -12,15 +12,15 @@ use Rattle.dp_lines.specs.declared.run_end.RunEnd.TheVariants.{BadMessage, Close
 use Rattle.dp_lines.specs.Ends.{LinesComeTo, seen}
 use Rattle.dp_lines.specs.Ends as ends
 use Rattle.dp_schedule.specs.declared.join_action.JoinAction.{JoinAction}
-use Rattle.dp_script.specs.Leaves.{HoldsLines, IsFrontOf}
+use Rattle.dp_script.specs.Leaves.{HoldsLines, AreFirstOf}
 use Rattle.dp_lines.specs.TakenParts.{TookWithin}
 use Rattle.dp_joining.specs.Greetings.{newcomer}
-use Rattle.dp_joining.specs.Joining.{Joining, Went, Goes, farewell_bytes, greeted, is_closed}
+use Rattle.dp_joining.specs.Joining.{Joining, Progress, Goes, farewell_bytes, greeted, is_closed}
 use Rattle.dp_joining.specs.Joining.{joined}
-use Rattle.dp_joining.specs.Outcomes.{AllAsk, BeginsWith, IsJoinStep, JoinComesTo, Outcome}
+use Rattle.dp_joining.specs.Outcomes.{AllAsk, BeginsWith, IsJoinStep, JoinComesTo, JoinOutcome}
 use Rattle.dp_joining.specs.Outcomes.{script_limit}
-use Rattle.dp_joining.specs.Scripts.{went_text, went_written}
-use Rattle.dp_joining.specs.Steps.{Gave, Seen, Stands}
+use Rattle.dp_joining.specs.Scripts.{text_of, written_of}
+use Rattle.dp_joining.specs.Steps.{HasGiven, Seen, Stands}
 
 -- What a run sees of its devices before and after it: the bytes that are left of the script, and
 -- those of the link at the start; the bytes on the output and those written to the link.
@@ -40,33 +40,33 @@ WhereKnown t P = IfSome t.input (λ input. IfSome t.link (λ link. P input link)
 -- the text and the bytes of what the script and the link come to were written, which ends so
 abbrev pub WritesAll : List ℕ → Traffic → RunEnd → Type 0
 WritesAll name t end =
-    WhereKnown t (λ input link. (outcome : Outcome) × JoinComesTo name input link outcome
+    WhereKnown t (λ input link. (outcome : JoinOutcome) × JoinComesTo name input link outcome
     × (outcome.end ≡ end) × Appends t.print_old t.print_now outcome.text
     × Appends t.sent_old t.sent_now outcome.written)
 
 -- what is written after what lines write: nothing, or the Disconnect where they are all lines of
 -- the script
-abbrev pub IsParting : List ℕ → List Line → Went → List ℕ → Type 0
-IsParting input begun went parting =
+abbrev pub IsParting : List ℕ → List Line → Progress → List ℕ → Type 0
+IsParting input begun progress parting =
     (parting ≡ [])
     ⊎ (LinesComeTo IsJoinStep script_limit input begun ends.AllDone
-    × (j : Joining) × (left : List Entry) × (went ≡ Goes j left)
+    × (j : Joining) × (left : List Entry) × (progress ≡ Goes j left)
     × (parting ≡ farewell_bytes j.client.user))
 
 -- prefixes of them were written: of what some of the first lines come to, with some of the first
 -- entries of the link
 pub record WritesPart (name : List ℕ) (t : Traffic) (input link : List ℕ) : Type 0 where
   pub begun : List Line
-  pub front : IsFrontOf IsJoinStep (seen script_limit input) begun
+  pub prefix : AreFirstOf IsJoinStep (seen script_limit input) begun
   pub actions : List JoinAction
   pub asked : AllAsk begun actions
   pub entries : List Entry
   pub begins : BeginsWith link entries
-  pub text : GrowsByPrefix t.print_old t.print_now (went_text (joined name actions entries))
+  pub text : GrowsByPrefix t.print_old t.print_now (text_of (joined name actions entries))
   pub parting : List ℕ
   pub is_parting : IsParting input begun (joined name actions entries) parting
   pub written : GrowsByPrefix t.sent_old t.sent_now
-      (went_written (joined name actions entries) ++ parting)
+      (written_of (joined name actions entries) ++ parting)
 
 -- the lines that are whole in what was taken of the script were done, and nothing more was written
 pub record WritesTaken (name : List ℕ) (t : Traffic) (input link : List ℕ) : Type 0 where
@@ -86,7 +86,7 @@ pub record IsWelcome (name : List ℕ) (link : Option (List ℕ)) (first start :
     (welcome : Entry) : Type 0 where
   pub greets : greeted name welcome.msg ≡ Some (newcomer start.client name)
   pub stands : Stands first start (newcomer start.client name)
-  pub gave : IfSome link (λ bytes. Gave start.source bytes (welcome ∷ []))
+  pub has_given : IfSome link (λ bytes. HasGiven start.source bytes (welcome ∷ []))
   pub still : is_closed (welcome ∷ []) ≡ false
 
 -- What a run that ends so leaves.
@@ -118,19 +118,19 @@ pub record OthersStay (old now : Counts) : Type 0 where
 
 -- Which counts of faults change in a run that ends so: that of the fault rises, and each other
 -- stays.
-abbrev pub BlamesJoin : Counts → Counts → RunEnd → Type 0
-BlamesJoin old now ReadFault = Rose old.input now.input × OthersStay old now
-BlamesJoin old now WriteFault =
+abbrev pub FaultMatchesJoin : Counts → Counts → RunEnd → Type 0
+FaultMatchesJoin old now ReadFault = Rose old.input now.input × OthersStay old now
+FaultMatchesJoin old now WriteFault =
     (now.input ≡ old.input) × Rose old.output now.output × (now.source ≡ old.source)
     × (now.sink ≡ old.sink)
-BlamesJoin old now LinkFault =
+FaultMatchesJoin old now LinkFault =
     (now.input ≡ old.input) × (now.output ≡ old.output)
     × (Rose old.sink now.sink ⊎ Rose old.source now.source)
-BlamesJoin old now Done = (now.input ≡ old.input) × OthersStay old now
-BlamesJoin old now (BadLine n) = (now.input ≡ old.input) × OthersStay old now
-BlamesJoin old now Memory = (now.input ≡ old.input) × OthersStay old now
-BlamesJoin old now Long = (now.input ≡ old.input) × OthersStay old now
-BlamesJoin old now (Truncated n) = (now.input ≡ old.input) × OthersStay old now
-BlamesJoin old now (BadMessage n) = (now.input ≡ old.input) × OthersStay old now
-BlamesJoin old now Closed = (now.input ≡ old.input) × OthersStay old now
-BlamesJoin old now BadHeader = (now.input ≡ old.input) × OthersStay old now
+FaultMatchesJoin old now Done = (now.input ≡ old.input) × OthersStay old now
+FaultMatchesJoin old now (BadLine n) = (now.input ≡ old.input) × OthersStay old now
+FaultMatchesJoin old now Memory = (now.input ≡ old.input) × OthersStay old now
+FaultMatchesJoin old now Long = (now.input ≡ old.input) × OthersStay old now
+FaultMatchesJoin old now (Truncated n) = (now.input ≡ old.input) × OthersStay old now
+FaultMatchesJoin old now (BadMessage n) = (now.input ≡ old.input) × OthersStay old now
+FaultMatchesJoin old now Closed = (now.input ≡ old.input) × OthersStay old now
+FaultMatchesJoin old now BadHeader = (now.input ≡ old.input) × OthersStay old now

@@ -1,4 +1,4 @@
-pub mod Linked
+pub mod JoinStanding
 pub mod Joining
 pub mod Outcomes
 pub mod Stops

@@ -11,11 +11,12 @@ use Rattle.dp_lines.specs.Ends as ends
 use Rattle.dp_entries.specs.Input.{ComesTo, StandFor}
 use Rattle.dp_schedule.specs.declared.join_action.JoinAction.{JoinAction}
 use Rattle.dp_schedule.specs.JoinGrammar.{Asks}
-use Rattle.dp_script.specs.Leaves.{IsFrontOf}
+use Rattle.dp_script.specs.Leaves.{AreFirstOf}
 use Rattle.dp_joining.specs.declared.stops.LinkCause.{LinkCause}
 use Rattle.dp_joining.specs.declared.stops.LinkCause.TheVariants as cause
-use Rattle.dp_joining.specs.Joining.{Joining, Went, Goes, Waits, farewell_bytes, is_closed, joined}
-use Rattle.dp_joining.specs.Linked.{StandsOnLink}
+use Rattle.dp_joining.specs.Joining.{Joining, Progress, Goes, Waits, farewell_bytes, is_closed}
+use Rattle.dp_joining.specs.Joining.{joined}
+use Rattle.dp_joining.specs.JoinStanding.{StandsOnLink}
 
 -- ---- the script
 
@@ -74,13 +75,13 @@ link_end cause.Long = run.Long
 -- ---- the run
 
 -- what is printed, what is written to the link, and how the run ends
-pub record Outcome : Type 0 where
+pub record JoinOutcome : Type 0 where
   pub text : List ℕ
   pub written : List ℕ
   pub end : RunEnd
 
 -- where the script comes to its end with all lines done, a Disconnect is written
-abbrev pub script_outcome : LinesEnd → Joining → Outcome
+abbrev pub script_outcome : LinesEnd → Joining → JoinOutcome
 script_outcome ends.AllDone j = record {
   text = j.text;
   written = j.written ++ farewell_bytes j.client.user;
@@ -92,7 +93,7 @@ script_outcome ends.TooLong j = record { text = j.text; written = j.written; end
 
 -- The script ends the run: these are its lines that are done, and the entries of the link are as
 -- many as they ask for, or more.
-pub record EndsByScript (name input link : List ℕ) (outcome : Outcome) : Type 0 where
+pub record EndsByScript (name input link : List ℕ) (outcome : JoinOutcome) : Type 0 where
   pub done : List Line
   pub last : LinesEnd
   pub comes : LinesComeTo IsJoinStep script_limit input done last
@@ -106,9 +107,9 @@ pub record EndsByScript (name input link : List ℕ) (outcome : Outcome) : Type 
   pub outcome_is : outcome ≡ script_outcome last joining
 
 -- The link ends the run: one of the first lines asks for an entry more than it gives.
-pub record EndsByLink (name input link : List ℕ) (outcome : Outcome) : Type 0 where
+pub record EndsByLink (name input link : List ℕ) (outcome : JoinOutcome) : Type 0 where
   pub begun : List Line
-  pub front : IsFrontOf IsJoinStep (seen script_limit input) begun
+  pub prefix : AreFirstOf IsJoinStep (seen script_limit input) begun
   pub actions : List JoinAction
   pub asked : AllAsk begun actions
   pub entries : List Entry
@@ -118,6 +119,6 @@ pub record EndsByLink (name input link : List ℕ) (outcome : Outcome) : Type 0 
   pub end_is : outcome.end ≡ link_end why
 
 -- what a script and a link come to for a client of this name
-abbrev pub JoinComesTo : List ℕ → List ℕ → List ℕ → Outcome → Type 0
+abbrev pub JoinComesTo : List ℕ → List ℕ → List ℕ → JoinOutcome → Type 0
 JoinComesTo name input link outcome =
     EndsByScript name input link outcome ⊎ EndsByLink name input link outcome

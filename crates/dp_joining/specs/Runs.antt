@@ -4,7 +4,7 @@ use Rattle.dp_io.specs.Faults.{Rose}
 use Rattle.dp_lines.specs.declared.run_end.RunEnd.{RunEnd}
 use Rattle.dp_lines.specs.declared.run_end.RunEnd.TheVariants.{LinkFault, Memory}
 use Rattle.dp_wire.specs.Links.{Links, WhereKnown}
-use Rattle.dp_joining.specs.Leaves.{BlamesJoin, Counts, JoinLeaves}
+use Rattle.dp_joining.specs.Leaves.{FaultMatchesJoin, Counts, JoinLeaves}
 
 -- the script and the output before and after a run: their bytes, where they are known, and their
 -- counts of faults
@@ -49,7 +49,7 @@ pub record JoinsOver {R T : Type 0} (left : R → Option (List ℕ)) (read_fault
     sent_old = held tx;
     sent_now = held tx_now;
   }) end
-  pub blames : BlamesJoin (record {
+  pub fault : FaultMatchesJoin (record {
     input = ends.input_faults;
     output = ends.output_faults;
     source = read_faults rx;

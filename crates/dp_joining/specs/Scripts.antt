@@ -14,9 +14,10 @@ use Rattle.dp_script.specs.Moments.{Moment}
 use Rattle.dp_joining.specs.declared.stops.JoinStop.{JoinStop}
 use Rattle.dp_joining.specs.declared.stops.JoinStop.TheVariants.{WriteFault, LinkFault, Memory}
 use Rattle.dp_joining.specs.declared.stops.JoinStop.TheVariants.{NoEntry}
-use Rattle.dp_joining.specs.Joining.{Joining, Went, Goes, Waits, along, takeable}
+use Rattle.dp_joining.specs.Joining.{Joining, Progress, Goes, Waits, along, takeable}
 use Rattle.dp_joining.specs.Outcomes.{AllAsk, IsJoinStep}
-use Rattle.dp_joining.specs.Steps.{BlamesStop, IsNoEntry, ReadsOn, ReadsUpTo, Seen, Stands, Wrote}
+use Rattle.dp_joining.specs.Steps.{FaultMatchesStop, IsNoEntry, ReadsOn, ReadsUpTo, Seen, Stands}
+use Rattle.dp_joining.specs.Steps.{Wrote}
 
 -- a message that the action says may be sent by a client: it is no control message
 abbrev pub IsSendable : JoinAction → Type 0
@@ -29,33 +30,33 @@ IsSendable Reset = Unit {0}
 IsSendable Chat = Unit {0}
 
 -- why no action is had of a line: it asks for nothing, or memory ran out
-abbrev pub IsRefused : Line → Undone JoinStop → Type 0
-IsRefused line undone.NoStep = (action : JoinAction) → ¬ Asks line.bytes action
-IsRefused line (undone.Ended WriteFault) = ⊥
-IsRefused line (undone.Ended LinkFault) = ⊥
-IsRefused line (undone.Ended Memory) = Unit {0}
-IsRefused line (undone.Ended (NoEntry why)) = ⊥
+abbrev pub IsJoinLineRefused : Line → Undone JoinStop → Type 0
+IsJoinLineRefused line undone.NoStep = (action : JoinAction) → ¬ Asks line.bytes action
+IsJoinLineRefused line (undone.Ended WriteFault) = ⊥
+IsJoinLineRefused line (undone.Ended LinkFault) = ⊥
+IsJoinLineRefused line (undone.Ended Memory) = Unit {0}
+IsJoinLineRefused line (undone.Ended (NoEntry why)) = ⊥
 
 -- what is printed, and what is written to the link
-abbrev pub went_text : Went → List ℕ
-went_text (Goes j left) = j.text
-went_text (Waits text written) = text
+abbrev pub text_of : Progress → List ℕ
+text_of (Goes j left) = j.text
+text_of (Waits text written) = text
 
-abbrev pub went_written : Went → List ℕ
-went_written (Goes j left) = j.written
-went_written (Waits text written) = written
+abbrev pub written_of : Progress → List ℕ
+written_of (Goes j left) = j.written
+written_of (Waits text written) = written
 
 -- all the lines are done, with all the entries
-pub record GoesTo (start now : Seen) (went : Went) : Type 0 where
+pub record GoesTo (start now : Seen) (progress : Progress) : Type 0 where
   pub joining : Joining
-  pub goes : went ≡ Goes joining []
+  pub goes : progress ≡ Goes joining []
   pub stands : Stands start now joining
 
 -- on the way the client stops so: where the link gives no entry more, a line asks for one
-pub record StopsAlong (start now : Seen) (went : Went) (stop : JoinStop) : Type 0 where
-  pub wrote : Wrote start now (went_text went) (went_written went) stop
-  pub blames : BlamesStop start now stop
-  pub waits : IsNoEntry stop → went ≡ Waits (went_text went) (went_written went)
+pub record StopsAlong (start now : Seen) (progress : Progress) (stop : JoinStop) : Type 0 where
+  pub wrote : Wrote start now (text_of progress) (written_of progress) stop
+  pub fault : FaultMatchesStop start now stop
+  pub waits : IsNoEntry stop → progress ≡ Waits (text_of progress) (written_of progress)
 
 -- From the first moment to the second one these lines were done, with these entries of the link.
 pub record HasDone {M O D T : Type 0} (see : M → O → Seen) (start : Moment M O D T)

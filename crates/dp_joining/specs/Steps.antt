@@ -15,7 +15,7 @@ use Rattle.dp_joining.specs.declared.stops.JoinStop.{JoinStop}
 use Rattle.dp_joining.specs.declared.stops.JoinStop.TheVariants.{WriteFault, LinkFault, Memory}
 use Rattle.dp_joining.specs.declared.stops.JoinStop.TheVariants.{NoEntry}
 use Rattle.dp_joining.specs.Joining.{Joining, after_line, asked_by, chat_limit, is_closed, takeable}
-use Rattle.dp_joining.specs.Linked.{StandsOnLink}
+use Rattle.dp_joining.specs.JoinStanding.{StandsOnLink}
 use Rattle.dp_joining.specs.Outcomes.{BeginsWith, EndsLink, link_limit}
 
 -- ---- the link
@@ -28,8 +28,8 @@ pub record Source : Type 0 where
   pub reader : Reader
 
 -- the link's bytes gave these entries
-abbrev pub Gave : Source → List ℕ → List Entry → Type 0
-Gave s bytes entries = HasRead StandsOnLink bytes s.left entries s.reader
+abbrev pub HasGiven : Source → List ℕ → List Entry → Type 0
+HasGiven s bytes entries = HasRead StandsOnLink bytes s.left entries s.reader
 
 -- a further entry can be read: of the link's bytes from the first on the limit counts
 pub record IsReadable (s : Source) : Type 0 where
@@ -41,7 +41,7 @@ pub record IsReadable (s : Source) : Type 0 where
 -- what the link gave goes on by these entries, none of which closes it
 pub record ReadsOn (old now : Source) (given : List Entry) : Type 0 where
   pub more : (bytes : List ℕ) (before : List Entry)
-      → Gave old bytes before → Gave now bytes (before ++ given)
+      → HasGiven old bytes before → HasGiven now bytes (before ++ given)
   pub still : is_closed given ≡ false
   pub further : old.reader.stream.at + length given ≤ now.reader.stream.at
   pub kept : now.faults ≡ old.faults
@@ -58,29 +58,29 @@ Shows bytes entries (NoEntry why) = EndsLink bytes entries why
 -- what the link gave goes on by these entries, and then the client stops so
 abbrev pub ReadsUpTo : Source → List Entry → JoinStop → Type 0
 ReadsUpTo old given stop =
-    (bytes : List ℕ) (before : List Entry) → Gave old bytes before → is_closed before ≡ false
+    (bytes : List ℕ) (before : List Entry) → HasGiven old bytes before → is_closed before ≡ false
     → Shows bytes (before ++ given) stop
 
 -- the count of the source's faults where reading stops so
-abbrev pub BlamesReading : ℕ → ℕ → JoinStop → Type 0
-BlamesReading before now WriteFault = ⊥
-BlamesReading before now LinkFault = Rose before now × (before ≤ now)
-BlamesReading before now Memory = now ≡ before
-BlamesReading before now (NoEntry why) = now ≡ before
+abbrev pub FaultMatchesReading : ℕ → ℕ → JoinStop → Type 0
+FaultMatchesReading before now WriteFault = ⊥
+FaultMatchesReading before now LinkFault = Rose before now × (before ≤ now)
+FaultMatchesReading before now Memory = now ≡ before
+FaultMatchesReading before now (NoEntry why) = now ≡ before
 
 -- the count of the sink's faults where writing to the link stops so
-abbrev pub BlamesWriting : ℕ → ℕ → JoinStop → Type 0
-BlamesWriting before now WriteFault = ⊥
-BlamesWriting before now LinkFault = Rose before now × (before ≤ now)
-BlamesWriting before now Memory = now ≡ before
-BlamesWriting before now (NoEntry why) = ⊥
+abbrev pub FaultMatchesWriting : ℕ → ℕ → JoinStop → Type 0
+FaultMatchesWriting before now WriteFault = ⊥
+FaultMatchesWriting before now LinkFault = Rose before now × (before ≤ now)
+FaultMatchesWriting before now Memory = now ≡ before
+FaultMatchesWriting before now (NoEntry why) = ⊥
 
 -- the count of the output's faults where printing stops so
-abbrev pub BlamesPrinting : ℕ → ℕ → JoinStop → Type 0
-BlamesPrinting before now WriteFault = Rose before now × (before ≤ now)
-BlamesPrinting before now LinkFault = ⊥
-BlamesPrinting before now Memory = now ≡ before
-BlamesPrinting before now (NoEntry why) = ⊥
+abbrev pub FaultMatchesPrinting : ℕ → ℕ → JoinStop → Type 0
+FaultMatchesPrinting before now WriteFault = Rose before now × (before ≤ now)
+FaultMatchesPrinting before now LinkFault = ⊥
+FaultMatchesPrinting before now Memory = now ≡ before
+FaultMatchesPrinting before now (NoEntry why) = ⊥
 
 -- the link gives an entry that is taken, after Pings
 pub record GivesEntry (old now : Source) (entry : Entry) : Type 0 where
@@ -93,7 +93,7 @@ pub record GivesNone (old now : Source) (stop : JoinStop) : Type 0 where
   pub given : List Entry
   pub none : takeable given ≡ []
   pub reads : ReadsUpTo old given stop
-  pub blames : BlamesReading old.faults now.faults stop
+  pub fault : FaultMatchesReading old.faults now.faults stop
 
 -- ---- the client
 
@@ -142,16 +142,16 @@ pub record Stands (start now : Seen) (j : Joining) : Type 0 where
   pub faultless : IsFaultless start now
 
 -- which counts of faults have changed where the client stops so
-abbrev pub BlamesStop : Seen → Seen → JoinStop → Type 0
-BlamesStop start now WriteFault =
+abbrev pub FaultMatchesStop : Seen → Seen → JoinStop → Type 0
+FaultMatchesStop start now WriteFault =
     Rose start.print_faults now.print_faults × (start.print_faults ≤ now.print_faults)
     × (now.write_faults ≡ start.write_faults) × (now.source.faults ≡ start.source.faults)
-BlamesStop start now LinkFault =
+FaultMatchesStop start now LinkFault =
     (now.print_faults ≡ start.print_faults)
     × (start.write_faults ≤ now.write_faults) × (start.source.faults ≤ now.source.faults)
     × (Rose start.write_faults now.write_faults ⊎ Rose start.source.faults now.source.faults)
-BlamesStop start now Memory = IsFaultless start now
-BlamesStop start now (NoEntry why) = IsFaultless start now
+FaultMatchesStop start now Memory = IsFaultless start now
+FaultMatchesStop start now (NoEntry why) = IsFaultless start now
 
 -- prefixes of a text and of bytes for the link were written
 pub record Began (start now : Seen) (text written : List ℕ) : Type 0 where
@@ -170,7 +170,7 @@ Wrote start now text written (NoEntry why) =
 -- on the way to this the client has stopped so
 pub record Stops (start now : Seen) (j : Joining) (stop : JoinStop) : Type 0 where
   pub wrote : Wrote start now j.text j.written stop
-  pub blames : BlamesStop start now stop
+  pub fault : FaultMatchesStop start now stop
 
 -- the link gives no entry more
 abbrev pub IsNoEntry : JoinStop → Type 0

@@ -3,7 +3,7 @@ use Rattle.dp_entries.specs.declared.ends.ReadEnd.{ReadEnd}
 use Rattle.dp_entries.specs.declared.ends.ReadEnd.TheVariants as read
 use Rattle.dp_lines.specs.declared.run_end.RunEnd.{RunEnd}
 use Rattle.dp_lines.specs.declared.run_end.RunEnd.TheVariants as run
-use Rattle.dp_joining.specs.declared.linked.LinkFlaw.{LinkFlaw}
+use Rattle.dp_joining.specs.declared.join_standing.LinkFlaw.{LinkFlaw}
 use Rattle.dp_joining.specs.declared.stops.LinkCause.TheVariants as cause
 use Rattle.dp_joining.specs.declared.stops.JoinStop.{JoinStop}
 use Rattle.dp_joining.specs.declared.stops.JoinStop.TheVariants as stop

@@ -7,11 +7,11 @@ ghost use Rattle.circular_buffer.specs.Buffer.{buffer};
 ghost use Rattle.dp_client.specs.Client.{welcomed};
 ghost use Rattle.dp_joining.specs.Greetings.{GreetingFails, NoWelcome, Welcomes, newcomer};
 ghost use Rattle.dp_joining.specs.Joining.{chat_limit, greeted, hello_bytes};
-ghost use Rattle.dp_joining.specs.Linked.{is_welcome};
-ghost use Rattle.dp_joining.specs.Steps.{Gave, IsReadable, source_at};
+ghost use Rattle.dp_joining.specs.JoinStanding.{is_welcome};
+ghost use Rattle.dp_joining.specs.Steps.{HasGiven, IsReadable, source_at};
 
 use crate::chats::{CHAT_LIMIT, ChatLine};
-use crate::linked::Linked;
+use crate::join_standing::JoinStanding;
 use crate::pulling::pull;
 use crate::sending::send;
 use crate::stops::{JoinStop, LinkCause};
@@ -31,7 +31,7 @@ const LINK_LIMIT: u64 = 1 << 30;
 pub(crate) struct Greeting {
     pub client: Client,
     pub chats: HeapCircularBuffer<ChatLine>,
-    pub reader: EntryReader<Linked>,
+    pub reader: EntryReader<JoinStanding>,
 }
 
 /// The user's id of a Welcome, and the place of the user's Join.
@@ -75,12 +75,12 @@ pub(crate) fn greet<R: Source, S: Sink>(
 /// The client that the link's first entry welcomes.
 fn welcomed<R: Source>(
     alloc: Global,
-    reader: &mut EntryReader<Linked>,
+    reader: &mut EntryReader<JoinStanding>,
     rx: &mut R,
 ) -> Result<Client, JoinStop>
     requires readable { IsReadable (source_at R.left R.faults reader.old rx.old) }
     requires begun { IfSome (R.left rx.old) (λ bytes.
-        Gave (source_at R.left R.faults reader.old rx.old) bytes []) }
+        HasGiven (source_at R.left R.faults reader.old rx.old) bytes []) }
     ensures ok { IfOk result (Welcomes (R.left rx.old) (R.faults rx.old)
         (source_at R.left R.faults reader.new rx.new)) }
     ensures err { IfErr result

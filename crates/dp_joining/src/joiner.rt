@@ -15,12 +15,12 @@ ghost use Rattle.dp_joining.specs.Joining.{ack_bytes, chat_by, chat_limit, chats
 ghost use Rattle.dp_joining.specs.Joining.{reset_by, said_by, took_entry};
 ghost use Rattle.dp_snap.specs.Resets.{reset_messages};
 ghost use Rattle.dp_joining.specs.Scripts.{IsSendable};
-ghost use Rattle.dp_joining.specs.Steps.{BlamesWriting, Fails, GivesEntry, GivesNone, Halts};
+ghost use Rattle.dp_joining.specs.Steps.{FaultMatchesWriting, Fails, GivesEntry, GivesNone, Halts};
 ghost use Rattle.dp_joining.specs.Steps.{IsReadable, IsReady, Moves, Passes, ReadsOn, seen};
 ghost use Rattle.dp_joining.specs.Steps.{source_of};
 
 use crate::chats::{ChatLine, chat_of};
-use crate::linked::{Linked, is_ping};
+use crate::join_standing::{JoinStanding, is_ping};
 use crate::printing::{print_chats, print_line, print_sent, print_shown};
 use crate::pulling::pull;
 use crate::sending::{send, send_entry, send_reset};
@@ -44,7 +44,7 @@ pub(crate) struct Joiner<R, S> {
     pub alloc: Global,
     pub client: Client,
     pub chats: HeapCircularBuffer<ChatLine>,
-    pub reader: EntryReader<Linked>,
+    pub reader: EntryReader<JoinStanding>,
     pub rx: R,
     pub tx: S,
 }
@@ -160,8 +160,8 @@ impl<R: Source, S: Sink> Joiner<R, S> {
         ensures prefix { GrowsByPrefix (S.held self.old.tx) (S.held self.new.tx)
             (ack_bytes user ack) }
         ensures kept { OnOk result (S.faults self.new.tx ≡ S.faults self.old.tx) }
-        ensures blames { IfErr result
-            (BlamesWriting (S.faults self.old.tx) (S.faults self.new.tx)) }
+        ensures fault { IfErr result
+            (FaultMatchesWriting (S.faults self.old.tx) (S.faults self.new.tx)) }
         ensures same { self.new ≡ record self.old { tx = self.new.tx } }
     {
         match ack {

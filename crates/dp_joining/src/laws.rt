@@ -1,18 +1,18 @@
 //! Laws of scripts over links. Each function does nothing but call others: its contract is the law.
 
 ghost use Rattle.std.specs.Prelude.{◌≡◌, ℕ, List};
-ghost use Rattle.dp_joining.specs.Outcomes.{JoinComesTo, Outcome};
+ghost use Rattle.dp_joining.specs.Outcomes.{JoinComesTo, JoinOutcome};
 
-use crate::linked::Linked;
+use crate::join_standing::JoinStanding;
 use dp_entries::{Standing, one_reading};
-use dp_frame::one_front;
-use dp_lines::{Steps, one_end};
+use dp_frame::one_first_frame;
+use dp_lines::{StepRule, one_end};
 use dp_schedule::one_join_action;
 
 /// The lines of a script, for laws of lines.
 struct ScriptLines;
 
-impl Steps for ScriptLines {
+impl StepRule for ScriptLines {
     ghost use Rattle.dp_joining.specs.Outcomes.{IsJoinStep};
 
     ghost is_step = { IsJoinStep };
@@ -21,13 +21,13 @@ impl Steps for ScriptLines {
 /// For a client of this name a script and a link come to at most one outcome: so what is printed,
 /// what is written and how the run ends are one function of the three.
 pub fn one_outcome()
-    ensures { (name input link : List ℕ) (outcome other : Outcome)
+    ensures { (name input link : List ℕ) (outcome other : JoinOutcome)
         → JoinComesTo name input link outcome → JoinComesTo name input link other
         → outcome ≡ other }
 {
-    one_front();
+    one_first_frame();
     one_join_action();
     one_end::<ScriptLines>();
-    one_reading::<Linked>();
-    Linked::one_standing();
+    one_reading::<JoinStanding>();
+    JoinStanding::one_standing();
 }

@@ -5,10 +5,10 @@
 
 mod chats;
 mod greeting;
+mod join_standing;
 mod joiner;
 mod laws;
 mod link;
-mod linked;
 mod machine;
 mod printing;
 mod pulling;
@@ -16,8 +16,8 @@ mod run;
 mod sending;
 mod stops;
 
+pub use join_standing::LinkFlaw;
 pub use laws::one_outcome;
 pub use link::{Joined, join_link};
-pub use linked::LinkFlaw;
 pub use run::run_join;
 pub use stops::LinkCause;

@@ -3,7 +3,7 @@
 ghost use Rattle.std.specs.Prelude.{◌≡◌, ℕ, ◌≤◌, List, length};
 ghost use Rattle.std.specs.declared.option.Option.{Option};
 ghost use Rattle.dp_messages.specs.declared.message.Entry.{Entry as Item};
-ghost use Rattle.dp_joining.specs.Leaves.{BlamesJoin, IsWelcome, JoinLeaves};
+ghost use Rattle.dp_joining.specs.Leaves.{FaultMatchesJoin, IsWelcome, JoinLeaves};
 ghost use Rattle.dp_joining.specs.Partings.{Parts, SaysFarewell};
 ghost use Rattle.dp_joining.specs.Steps.{IsReady, Seen, seen, source_of};
 
@@ -65,7 +65,7 @@ pub fn join_link<I: Source, O: Sink, R: Source + Drop, S: Sink + Drop, D: Ledger
       sent_old = S.held link.1;
       sent_now = S.held result.tx;
     }) result.end }
-    ensures blames { BlamesJoin (record {
+    ensures fault { FaultMatchesJoin (record {
       input = I.faults input.old;
       output = O.faults output.old;
       source = R.faults link.0;
@@ -136,10 +136,10 @@ fn do_script<I: Source, O: Sink, R: Source + Drop, S: Sink + Drop, D: Ledger, T:
           sent_old = first.written;
           sent_now = S.held result.tx;
         }) result.end }
-    ensures blames { (name : List ℕ) (link : Option (List ℕ)) (first : Seen) (welcome : Item)
+    ensures fault { (name : List ℕ) (link : Option (List ℕ)) (first : Seen) (welcome : Item)
         → IsWelcome name link first
         (seen R.left R.faults S.held S.faults O.held O.faults joiner output.old) welcome
-        → BlamesJoin (record {
+        → FaultMatchesJoin (record {
           input = I.faults input.old;
           output = first.print_faults;
           source = first.source.faults;

@@ -2,7 +2,7 @@
 
 ghost use Rattle.std.specs.Prelude.{IfOk, IfErr};
 ghost use Rattle.dp_schedule.specs.JoinGrammar.{Asks};
-ghost use Rattle.dp_joining.specs.Scripts.{IsRefused, IsSendable};
+ghost use Rattle.dp_joining.specs.Scripts.{IsJoinLineRefused, IsSendable};
 
 use crate::joiner::Joiner;
 use crate::stops::JoinStop;
@@ -14,7 +14,7 @@ use dp_steps::Steps;
 use std::alloc::Global;
 use std::sync::ledger::Ledger;
 
-impl<R, S> dp_lines::Steps for Joiner<R, S> {
+impl<R, S> dp_lines::StepRule for Joiner<R, S> {
     ghost use Rattle.dp_joining.specs.Outcomes.{IsJoinStep};
 
     ghost is_step = { IsJoinStep };
@@ -53,7 +53,7 @@ impl<R: Source, S: Sink, O: Sink, D: Ledger, T: Ledger> LineMachine<O, Steps<D>,
 fn action_of(alloc: Global, line: &Line) -> Result<JoinAction, Undone<JoinStop>>
     ensures asks { IfOk result (Asks line.now.bytes) }
     ensures sendable { IfOk result IsSendable }
-    ensures refused { IfErr result (IsRefused line.now) }
+    ensures refused { IfErr result (IsJoinLineRefused line.now) }
 {
     one_action();
     let Ok(asked) = read_join_action(alloc, line.bytes.as_slice()) else {

@@ -5,7 +5,7 @@ ghost use Rattle.std.specs.Io.KnownBytes.{Appends};
 ghost use Rattle.dp_io.specs.Streams.{GrowsByPrefix};
 ghost use Rattle.dp_schedule.specs.ReportText.{text_of};
 ghost use Rattle.dp_joining.specs.Joining.{chats_text, sent_text};
-ghost use Rattle.dp_joining.specs.Steps.{BlamesPrinting};
+ghost use Rattle.dp_joining.specs.Steps.{FaultMatchesPrinting};
 ghost use Rattle.dp_showing.specs.Showing.{shown_text};
 
 use crate::chats::{ChatLine, chats_text};
@@ -26,7 +26,8 @@ fn put_output<O: Sink>(bytes: &[u8], output: &mut O) -> Result<(), JoinStop>
     ensures written { OnOk result (Appends (O.held output.old) (O.held output.new) bytes.now) }
     ensures prefix { GrowsByPrefix (O.held output.old) (O.held output.new) bytes.now }
     ensures kept { OnOk result (O.faults output.new ≡ O.faults output.old) }
-    ensures blames { IfErr result (BlamesPrinting (O.faults output.old) (O.faults output.new)) }
+    ensures fault { IfErr result
+        (FaultMatchesPrinting (O.faults output.old) (O.faults output.new)) }
 {
     match put_all(output, bytes) {
         Ok(()) => Ok(()),
@@ -48,7 +49,8 @@ pub(crate) fn print_shown<O: Sink, D: Ledger, T: Ledger>(
     ensures prefix { GrowsByPrefix (O.held output.old) (O.held output.new)
         (shown_text shown client.now) }
     ensures kept { OnOk result (O.faults output.new ≡ O.faults output.old) }
-    ensures blames { IfErr result (BlamesPrinting (O.faults output.old) (O.faults output.new)) }
+    ensures fault { IfErr result
+        (FaultMatchesPrinting (O.faults output.old) (O.faults output.new)) }
 {
     match show(alloc, client, shown, output, draws, tiles) {
         Ok(()) => Ok(()),
@@ -67,7 +69,8 @@ pub(crate) fn print_line<O: Sink>(
         (Appends (O.held output.old) (O.held output.new) (text_of line)) }
     ensures prefix { GrowsByPrefix (O.held output.old) (O.held output.new) (text_of line) }
     ensures kept { OnOk result (O.faults output.new ≡ O.faults output.old) }
-    ensures blames { IfErr result (BlamesPrinting (O.faults output.old) (O.faults output.new)) }
+    ensures fault { IfErr result
+        (FaultMatchesPrinting (O.faults output.old) (O.faults output.new)) }
 {
     let text = line.text(alloc)?;
     put_output(&text, output)
@@ -83,7 +86,8 @@ pub(crate) fn print_sent<O: Sink>(
         (Appends (O.held output.old) (O.held output.new) (sent_text count)) }
     ensures prefix { GrowsByPrefix (O.held output.old) (O.held output.new) (sent_text count) }
     ensures kept { OnOk result (O.faults output.new ≡ O.faults output.old) }
-    ensures blames { IfErr result (BlamesPrinting (O.faults output.old) (O.faults output.new)) }
+    ensures fault { IfErr result
+        (FaultMatchesPrinting (O.faults output.old) (O.faults output.new)) }
 {
     let text = sent_text(alloc, count)?;
     put_output(&text, output)
@@ -111,7 +115,8 @@ pub(crate) fn print_chats<O: Sink>(
     ensures prefix { GrowsByPrefix (O.held output.old) (O.held output.new)
         (chats_text chats.now.items) }
     ensures kept { OnOk result (O.faults output.new ≡ O.faults output.old) }
-    ensures blames { IfErr result (BlamesPrinting (O.faults output.old) (O.faults output.new)) }
+    ensures fault { IfErr result
+        (FaultMatchesPrinting (O.faults output.old) (O.faults output.new)) }
 {
     let text = chats_text(alloc, chats)?;
     put_output(&text, output)

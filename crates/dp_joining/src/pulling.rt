@@ -3,7 +3,7 @@
 ghost use Rattle.std.specs.Prelude.{[], ◌∷◌, IfOk, IfErr};
 ghost use Rattle.dp_joining.specs.Steps.{GivesNone, IsReadable, ReadsOn, source_at};
 
-use crate::linked::Linked;
+use crate::join_standing::JoinStanding;
 use crate::stops::{JoinStop, LinkCause, stop_of};
 use dp_entries::EntryReader;
 use dp_io::Source;
@@ -13,7 +13,7 @@ use std::alloc::Global;
 /// The next entry of the link, which is no Disconnect.
 pub(crate) fn pull<R: Source>(
     alloc: Global,
-    reader: &mut EntryReader<Linked>,
+    reader: &mut EntryReader<JoinStanding>,
     rx: &mut R,
 ) -> Result<Entry, JoinStop>
     requires { IsReadable (source_at R.left R.faults reader.old rx.old) }

@@ -7,7 +7,7 @@ ghost use Rattle.dp_io.specs.Streams.{GrowsByPrefix};
 ghost use Rattle.dp_messages.specs.declared.message.Msg.TheVariants as msg;
 ghost use Rattle.dp_joining.specs.Joining.{sent_by};
 ghost use Rattle.dp_snap.specs.Resets.{reset_messages};
-ghost use Rattle.dp_joining.specs.Steps.{BlamesWriting};
+ghost use Rattle.dp_joining.specs.Steps.{FaultMatchesWriting};
 
 use crate::stops::JoinStop;
 use dp_io::{Failed, Sink, put_all};
@@ -21,7 +21,7 @@ fn put_link<S: Sink>(bytes: &[u8], tx: &mut S) -> Result<(), JoinStop>
     ensures written { OnOk result (Appends (S.held tx.old) (S.held tx.new) bytes.now) }
     ensures prefix { GrowsByPrefix (S.held tx.old) (S.held tx.new) bytes.now }
     ensures kept { OnOk result (S.faults tx.new ≡ S.faults tx.old) }
-    ensures blames { IfErr result (BlamesWriting (S.faults tx.old) (S.faults tx.new)) }
+    ensures fault { IfErr result (FaultMatchesWriting (S.faults tx.old) (S.faults tx.new)) }
 {
     match put_all(tx, bytes) {
         Ok(()) => Ok(()),
@@ -36,7 +36,7 @@ pub(crate) fn send_entry<S: Sink>(alloc: Global, entry: &Entry, tx: &mut S) -> R
     ensures prefix { GrowsByPrefix (S.held tx.old) (S.held tx.new)
         (sent_by entry.now.user entry.now.msg) }
     ensures kept { OnOk result (S.faults tx.new ≡ S.faults tx.old) }
-    ensures blames { IfErr result (BlamesWriting (S.faults tx.old) (S.faults tx.new)) }
+    ensures fault { IfErr result (FaultMatchesWriting (S.faults tx.old) (S.faults tx.new)) }
 {
     let mut frame = Vec::new(alloc);
     put_entry(entry, &mut frame)?;
@@ -48,7 +48,7 @@ pub(crate) fn send<S: Sink>(alloc: Global, user: u8, msg: Msg, tx: &mut S) -> Re
     ensures written { OnOk result (Appends (S.held tx.old) (S.held tx.new) (sent_by user msg)) }
     ensures prefix { GrowsByPrefix (S.held tx.old) (S.held tx.new) (sent_by user msg) }
     ensures kept { OnOk result (S.faults tx.new ≡ S.faults tx.old) }
-    ensures blames { IfErr result (BlamesWriting (S.faults tx.old) (S.faults tx.new)) }
+    ensures fault { IfErr result (FaultMatchesWriting (S.faults tx.old) (S.faults tx.new)) }
 {
     let entry = Entry { user, msg };
     send_entry(alloc, &entry, tx)
@@ -66,7 +66,7 @@ pub(crate) fn send_reset<S: Sink>(
     ensures prefix { GrowsByPrefix (S.held tx.old) (S.held tx.new)
         (flat_map (sent_by user) (reset_messages commands.now)) }
     ensures kept { OnOk result (S.faults tx.new ≡ S.faults tx.old) }
-    ensures blames { IfErr result (BlamesWriting (S.faults tx.old) (S.faults tx.new)) }
+    ensures fault { IfErr result (FaultMatchesWriting (S.faults tx.old) (S.faults tx.new)) }
 {
     send(alloc, user, Msg::Control(Control::ResetBegin), tx)?;
     send_parts(alloc, user, commands, tx)?;
@@ -85,7 +85,7 @@ fn send_parts<S: Sink>(
     ensures prefix { GrowsByPrefix (S.held tx.old) (S.held tx.new)
         (flat_map (λ command. sent_by user (msg.Part command)) commands.now) }
     ensures kept { OnOk result (S.faults tx.new ≡ S.faults tx.old) }
-    ensures blames { IfErr result (BlamesWriting (S.faults tx.old) (S.faults tx.new)) }
+    ensures fault { IfErr result (FaultMatchesWriting (S.faults tx.old) (S.faults tx.new)) }
 {
     for command in commands {
         send_part(alloc, user, command, tx)?;
@@ -100,7 +100,7 @@ fn send_part<S: Sink>(alloc: Global, user: u8, command: &Draw, tx: &mut S) -> Re
     ensures prefix { GrowsByPrefix (S.held tx.old) (S.held tx.new)
         (sent_by user (msg.Part command.now)) }
     ensures kept { OnOk result (S.faults tx.new ≡ S.faults tx.old) }
-    ensures blames { IfErr result (BlamesWriting (S.faults tx.old) (S.faults tx.new)) }
+    ensures fault { IfErr result (FaultMatchesWriting (S.faults tx.old) (S.faults tx.new)) }
 {
     send(alloc, user, Msg::Part(command.copy()?), tx)
 }

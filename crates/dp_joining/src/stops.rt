@@ -4,7 +4,7 @@ ghost use Rattle.std.specs.Prelude.{◌≡◌};
 ghost use Rattle.dp_joining.specs.Stops.{end_of, stop_of};
 ghost use Rattle.dp_joining.specs.Outcomes.{link_end};
 
-use crate::linked::LinkFlaw;
+use crate::join_standing::LinkFlaw;
 use dp_entries::ReadEnd;
 use dp_lines::RunEnd;
 use std::alloc::AllocError;

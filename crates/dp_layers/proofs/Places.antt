@@ -11,8 +11,8 @@ use Rattle.std.proofs.lemmas.List.Quantifiers.{position-Some}
 use Rattle.dp_layers.proofs.Finding.{by_test}
 use Rattle.dp_layers.specs.declared.row.LayerRow.{LayerRow}
 use Rattle.dp_layers.specs.Layers.{has_id, row_of, has_row}
-use Rattle.dp_layers.specs.Changes.{change_row, behind, placed}
-use Rattle.dp_layers.specs.Inside.{place_behind}
+use Rattle.dp_layers.specs.Changes.{change_row, inserted_after, placed}
+use Rattle.dp_layers.specs.Inside.{place_after}
 use Rattle.dp_layers.proofs.Finding.{AreDistinct, AreDistinct-tail, AreDistinct-absent}
 use Rattle.dp_layers.proofs.Finding.{row_of-filter}
 use Rattle.dp_layers.proofs.Placing.{IsPlace}
@@ -131,35 +131,35 @@ others_are (r ∷ rows) id (suc from) distinct at =
     (first_tail (has_id id) r rows from at)))
 
 -- a row put directly after the one at a place
-behind_at : (rows : List LayerRow) (x : LayerRow) (above at : ℕ)
+after_at : (rows : List LayerRow) (x : LayerRow) (above at : ℕ)
     → IsFirst (has_id above) rows at
-    → behind (has_id above) (x ∷ []) rows ≡ insert rows (suc at) x
-behind_at [] x above at is = absurd (let h : at < 0 = is.within in omega arith)
-behind_at (r ∷ rows) x above zero is =
+    → inserted_after (has_id above) (x ∷ []) rows ≡ insert rows (suc at) x
+after_at [] x above at is = absurd (let h : at < 0 = is.within in omega arith)
+after_at (r ∷ rows) x above zero is =
     let here : (r.id == above) ≡ true = is.here r in rw here refl
-behind_at (r ∷ rows) x above (suc at) is =
+after_at (r ∷ rows) x above (suc at) is =
     rw (missed_before (has_id above) r rows at is)
-    (ap (λ ys. r ∷ ys) (behind_at rows x above at (first_tail (has_id above) r rows at is)))
+    (ap (λ ys. r ∷ ys) (after_at rows x above at (first_tail (has_id above) r rows at is)))
 
-behind_found : (rows : List LayerRow) (x : LayerRow) (above : ℕ) → has_row rows above ≡ true
+after_found : (rows : List LayerRow) (x : LayerRow) (above : ℕ) → has_row rows above ≡ true
     → insert rows (option_map_or (λ at. at + 1) (position (has_id above) rows) 0) x
-    ≡ behind (has_id above) (x ∷ []) rows
-behind_found rows x above present = found (position (has_id above) rows) refl
+    ≡ inserted_after (has_id above) (x ∷ []) rows
+after_found rows x above present = found (position (has_id above) rows) refl
   where
     found : (o : Option ℕ) → position (has_id above) rows ≡ o
         → insert rows (option_map_or (λ at. at + 1) (position (has_id above) rows) 0) x
-        ≡ behind (has_id above) (x ∷ []) rows
+        ≡ inserted_after (has_id above) (x ∷ []) rows
     found None none =
         absurd (false≢true (sym (ap is_some (find_none (has_id above) rows none)) ∙ present))
     found (Some at) some =
         let more : at + 1 ≡ suc at = omega arith in
-        rw (some, more) (sym (behind_at rows x above at (first_position (has_id above) rows at
+        rw (some, more) (sym (after_at rows x above at (first_position (has_id above) rows at
         some)))
 
 -- the row taken out and put in at its new place
 pub put_placed : (rows : List LayerRow) (id above from : ℕ) (x : LayerRow) → AreDistinct rows
     → position (has_id id) rows ≡ Some from → x ≡ get_or rows from x → IsPlace rows id above
-    → insert (remove rows from) (place_behind (remove rows from) above) x ≡ placed has_id rows id
+    → insert (remove rows from) (place_after (remove rows from) above) x ≡ placed has_id rows id
     above
 put_placed rows id above from x distinct found is place =
     let at = first_position (has_id id) rows from found in
@@ -176,4 +176,4 @@ put_placed rows id above from x distinct found is place =
     (λ (zero : above ≡ 0). absurd (eqb-false above 0 later zero))
     (λ (ok : (has_row rows above ≡ true) × (above ≢ id)). rw (ne_eqb above id ok.1) ok.0)
     place in
-    rw (later, taken, others) (behind_found (remove rows from) x above there))
+    rw (later, taken, others) (after_found (remove rows from) x above there))

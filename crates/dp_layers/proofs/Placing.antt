@@ -13,7 +13,7 @@ use Rattle.std.proofs.lemmas.List.Filters.{length-filter_both}
 use Rattle.dp_layers.proofs.Finding.{by_test}
 use Rattle.dp_layers.specs.declared.row.LayerRow.{LayerRow}
 use Rattle.dp_layers.specs.Layers.{has_id, row_of, has_row}
-use Rattle.dp_layers.specs.Changes.{behind, placed}
+use Rattle.dp_layers.specs.Changes.{inserted_after, placed}
 use Rattle.dp_layers.proofs.Finding.{cond-ap, row_of-filter, AreDistinct, AreDistinct-cons}
 use Rattle.dp_layers.proofs.Finding.{AreDistinct-tail, AreDistinct-absent, AreDistinct-append}
 use Rattle.dp_layers.proofs.Finding.{AreDistinct-filter, AreApart, absent-append, apart-absent}
@@ -26,10 +26,11 @@ pub filter-map : {R S : Type 0} (f : R → S) (p : S → Bool) (rows : List R)
 filter-map f p [] = refl
 filter-map f p (r ∷ rows) = grind (arith, filter-map f p rows)
 
-pub behind-map : {R S : Type 0} (f : R → S) (p : S → Bool) (taken rows : List R)
-    → behind p (map f taken) (map f rows) ≡ map f (behind (λ r. p (f r)) taken rows)
-behind-map f p taken [] = refl
-behind-map f p taken (r ∷ rows) = grind (arith, behind-map f p taken rows, map-append)
+pub inserted_after-map : {R S : Type 0} (f : R → S) (p : S → Bool) (taken rows : List R)
+    → inserted_after p (map f taken) (map f rows) ≡ map f (inserted_after (λ r. p (f r)) taken rows)
+inserted_after-map f p taken [] = refl
+inserted_after-map f p taken (r ∷ rows) =
+    grind (arith, inserted_after-map f p taken rows, map-append)
 
 pub placed-map : {R S : Type 0} (f : R → S) (has : ℕ → S → Bool) (rows : List R) (id above : ℕ)
     → placed has (map f rows) id above ≡ map f (placed (λ i r. has i (f r)) rows id above)
@@ -37,15 +38,16 @@ placed-map f has rows id above =
     let taken = filter (λ r. has id (f r)) rows in
     let others = filter (λ r. not (has id (f r))) rows in
     ap (λ t. cond (above == 0) (t ++ filter (λ s. not (has id s)) (map f rows))
-    (behind (has above) t (filter (λ s. not (has id s)) (map f rows)))) (filter-map f (has id) rows)
-    ∙ ap (λ o. cond (above == 0) (map f taken ++ o) (behind (has above) (map f taken) o))
+    (inserted_after (has above) t (filter (λ s. not (has id s)) (map f rows))))
+    (filter-map f (has id) rows)
+    ∙ ap (λ o. cond (above == 0) (map f taken ++ o) (inserted_after (has above) (map f taken) o))
     (filter-map f (λ s. not (has id s)) rows)
     ∙ ap (λ b. cond (above == 0) (map f taken ++ map f others) b)
-    (behind-map f (has above) taken others)
-    ∙ ap (λ b. cond (above == 0) b (map f (behind (λ r. has above (f r)) taken others)))
+    (inserted_after-map f (has above) taken others)
+    ∙ ap (λ b. cond (above == 0) b (map f (inserted_after (λ r. has above (f r)) taken others)))
     (sym (map-append f taken others))
     ∙ sym (cond-ap (map f) (above == 0) (taken ++ others)
-    (behind (λ r. has above (f r)) taken others))
+    (inserted_after (λ r. has above (f r)) taken others))
 
 -- ---- lookups and distinct ids
 
@@ -54,30 +56,38 @@ pub list_any-find : {R : Type 0} (p : R → Bool) (rows : List R)
 list_any-find p [] = refl
 list_any-find p (r ∷ rows) = grind (arith, list_any-find p rows)
 
-row_of-behind : (p : LayerRow → Bool) (x : ℕ) (taken rows : List LayerRow) → list_any p rows ≡ true
-    → AreApart taken rows → row_of (behind p taken rows) x ≡ option_or (row_of taken x)
+row_of-inserted_after : (p : LayerRow → Bool) (x : ℕ) (taken rows : List LayerRow)
+    → list_any p rows ≡ true
+    → AreApart taken rows → row_of (inserted_after p taken rows) x ≡ option_or (row_of taken x)
     (row_of rows x)
-row_of-behind p x taken [] some apart = absurd (false≢true some)
-row_of-behind p x taken (r ∷ rows) some apart =
+row_of-inserted_after p x taken [] some apart = absurd (false≢true some)
+row_of-inserted_after p x taken (r ∷ rows) some apart =
     let tail = apart-tail taken r rows apart in
-    grind (arith, row_of-behind p x taken rows, tail, apart-absent taken r rows apart, find-append)
+    grind (
+      arith,
+      row_of-inserted_after p x taken rows,
+      tail,
+      apart-absent taken r rows apart,
+      find-append,
+    )
 
-absent-behind : (p : LayerRow → Bool) (x : ℕ) (taken rows : List LayerRow) → row_of taken x ≡ None
-    → row_of rows x ≡ None → row_of (behind p taken rows) x ≡ None
-absent-behind p x taken [] left right = refl
-absent-behind p x taken (r ∷ rows) left right =
-    grind (arith, absent-behind p x taken rows, absent-append)
+absent-inserted_after : (p : LayerRow → Bool) (x : ℕ) (taken rows : List LayerRow)
+    → row_of taken x ≡ None
+    → row_of rows x ≡ None → row_of (inserted_after p taken rows) x ≡ None
+absent-inserted_after p x taken [] left right = refl
+absent-inserted_after p x taken (r ∷ rows) left right =
+    grind (arith, absent-inserted_after p x taken rows, absent-append)
 
-AreDistinct-behind : (p : LayerRow → Bool) (taken rows : List LayerRow) → AreDistinct taken
-    → AreDistinct rows → AreApart taken rows → AreDistinct (behind p taken rows)
-AreDistinct-behind p taken [] left right apart = right
-AreDistinct-behind p taken (r ∷ rows) left right apart =
+AreDistinct-inserted_after : (p : LayerRow → Bool) (taken rows : List LayerRow) → AreDistinct taken
+    → AreDistinct rows → AreApart taken rows → AreDistinct (inserted_after p taken rows)
+AreDistinct-inserted_after p taken [] left right apart = right
+AreDistinct-inserted_after p taken (r ∷ rows) left right apart =
     let absent = AreDistinct-absent r rows right in
     let above = apart-absent taken r rows apart in
     let tail = AreDistinct-tail r rows right in
     let away = apart-tail taken r rows apart in
-    let rest = AreDistinct-behind p taken rows left tail away in
-    grind (arith, AreDistinct-cons, absent-append, absent-behind, AreDistinct-append)
+    let rest = AreDistinct-inserted_after p taken rows left tail away in
+    grind (arith, AreDistinct-cons, absent-append, absent-inserted_after, AreDistinct-append)
 
 -- the row of the id, and the others
 abbrev pub taken_of : List LayerRow → ℕ → List LayerRow
@@ -121,7 +131,7 @@ pub row_of-placed : (rows : List LayerRow) (id above : ℕ) → IsPlace rows id 
 row_of-placed rows id above place x =
     let both = both_parts rows id x in
     let other = above_is_other rows id above in
-    grind (arith, find-append, both, other, row_of-behind, taken-apart rows id)
+    grind (arith, find-append, both, other, row_of-inserted_after, taken-apart rows id)
 
 pub AreDistinct-placed : (rows : List LayerRow) (id above : ℕ) → AreDistinct rows
     → AreDistinct (placed has_id rows id above)
@@ -129,21 +139,22 @@ AreDistinct-placed rows id above distinct =
     let left = AreDistinct-filter (has_id id) rows distinct in
     let right = AreDistinct-filter (λ row. not (has_id id row)) rows distinct in
     let others = others-apart rows id in
-    grind (arith, AreDistinct-append, AreDistinct-behind, others, taken-apart rows id)
+    grind (arith, AreDistinct-append, AreDistinct-inserted_after, others, taken-apart rows id)
 
 -- ---- each row, and how many there are
 
-All-behind : {R : Type 0} (P : R → Type 0) (p : R → Bool) (taken rows : List R) → All P taken
-    → All P rows → All P (behind p taken rows)
-All-behind P p taken [] left right = right
-All-behind P p taken (r ∷ rows) left right =
+All-inserted_after : {R : Type 0} (P : R → Type 0) (p : R → Bool) (taken rows : List R)
+    → All P taken
+    → All P rows → All P (inserted_after p taken rows)
+All-inserted_after P p taken [] left right = right
+All-inserted_after P p taken (r ∷ rows) left right =
     let head : P r = All-head P r rows right in
     let tail : All P rows = All-tail P r rows right in
     by_test (p r)
     (λ yes. rw yes
     (All-cons P r (taken ++ rows) head (All-append P taken rows left tail)))
     (λ no. rw no
-    (All-cons P r (behind p taken rows) head (All-behind P p taken rows left tail)))
+    (All-cons P r (inserted_after p taken rows) head (All-inserted_after P p taken rows left tail)))
 
 pub All-placed : {R : Type 0} (P : R → Type 0) (has : ℕ → R → Bool) (rows : List R) (id above : ℕ)
     → All P rows → All P (placed has rows id above)
@@ -151,18 +162,20 @@ All-placed P has rows id above each =
     let left = All-filter (has id) P rows each in
     let right = All-filter (λ r. not (has id r)) P rows each in
     cond_both (above == 0) (filter (has id) rows ++ filter (λ r. not (has id r)) rows)
-    (behind (has above) (filter (has id) rows) (filter (λ r. not (has id r)) rows)) (All P)
+    (inserted_after (has above) (filter (has id) rows) (filter (λ r. not (has id r)) rows)) (All P)
     (λ _. All-append P (filter (has id) rows) (filter (λ r. not (has id r)) rows) left right)
-    (λ _. All-behind P (has above) (filter (has id) rows) (filter (λ r. not (has id r)) rows) left
+    (λ _. All-inserted_after P (has above) (filter (has id) rows)
+    (filter (λ r. not (has id r)) rows) left
     right)
 
-length-behind : {R : Type 0} (p : R → Bool) (taken rows : List R)
-    → length (behind p taken rows) ≤ length taken + length rows
-length-behind p taken [] = omega arith
-length-behind p taken (r ∷ rows) = grind (arith, length-behind p taken rows, length-append)
+length-inserted_after : {R : Type 0} (p : R → Bool) (taken rows : List R)
+    → length (inserted_after p taken rows) ≤ length taken + length rows
+length-inserted_after p taken [] = omega arith
+length-inserted_after p taken (r ∷ rows) =
+    grind (arith, length-inserted_after p taken rows, length-append)
 
 pub length-placed : {R : Type 0} (has : ℕ → R → Bool) (rows : List R) (id above : ℕ)
     → length (placed has rows id above) ≤ length rows
 length-placed has rows id above =
     let both = length-filter_both (has id) (λ r. not (has id r)) (λ _. refl) rows in
-    grind (arith, both, length-append, length-behind)
+    grind (arith, both, length-append, length-inserted_after)

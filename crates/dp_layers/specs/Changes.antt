@@ -79,10 +79,10 @@ can_move rows id parent above =
     && are_within (map (change_row id (set_parent parent)) rows)
 
 -- the rows, with the taken ones directly after the first that passes the test
-abbrev pub behind : {R : Type 0} → (R → Bool) → List R → List R → List R
-behind test taken [] = []
-behind test taken (row ∷ rows) =
-    if test row then row ∷ (taken ++ rows) else row ∷ behind test taken rows
+abbrev pub inserted_after : {R : Type 0} → (R → Bool) → List R → List R → List R
+inserted_after test taken [] = []
+inserted_after test taken (row ∷ rows) =
+    if test row then row ∷ (taken ++ rows) else row ∷ inserted_after test taken rows
 
 -- The row of the id is taken out and stands directly after the row `above`, or first where that is
 -- 0. Rows below it stay in their places. (`has` says whether a row has an id.)
@@ -90,7 +90,7 @@ abbrev pub placed : {R : Type 0} → (ℕ → R → Bool) → List R → ℕ →
 placed has rows id above =
     let taken = filter (has id) rows in
     let others = filter (λ row. not (has id row)) rows in
-    if above == 0 then taken ++ others else behind (has above) taken others
+    if above == 0 then taken ++ others else inserted_after (has above) taken others
 
 -- the row of the id with its new parent, in its new place
 abbrev pub moved : {X : Type 0} → List (Row X) → ℕ → ℕ → ℕ → List (Row X)

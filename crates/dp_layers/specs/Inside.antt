@@ -50,8 +50,8 @@ as_moved rows None = rows
 as_moved rows (Some moved) = map (change_row moved.id (set_parent moved.parent)) rows
 
 -- where a row stands directly after the row `above`, or first where that is 0
-abbrev pub place_behind : List LayerRow → ℕ → ℕ
-place_behind rows above =
+abbrev pub place_after : List LayerRow → ℕ → ℕ
+place_after rows above =
     if above == 0 then 0 else option_map_or (λ at. at + 1) (position (has_id above) rows) 0
 
 -- the ids of the row of the id and of all rows below it

@@ -9,7 +9,7 @@ ghost use Rattle.dp_layers.specs.Changes.{new_row, placed, has_effect};
 ghost use Rattle.dp_layers.specs.Inside.{holding, is_gone, rearranged, IsRearranging};
 
 use crate::held::{Held, hold};
-use crate::lookup::{place_behind, place_of};
+use crate::lookup::{place_after, place_of};
 use crate::row::LayerRow;
 use dp_msg_draw::{Draw, Title};
 use std::alloc::AllocError;
@@ -81,7 +81,7 @@ pub(crate) fn rearrange(rows: &mut Vec<LayerRow>, command: &Draw) -> Result<(), 
         Draw::LayerTitle { id, title } => set_title(rows, *id, title.copy()?),
         Draw::LayerMove { id, parent, above } => {
             set_parent(rows, *id, *parent);
-            put_behind(rows, *id, *above);
+            insert_after(rows, *id, *above);
         }
         _ => unreachable!(),
     }
@@ -122,7 +122,7 @@ fn set_parent(rows: &mut [LayerRow], id: u16, parent: u16)
 }
 
 /// Takes the row of the id out, and puts it directly after the row `above`, or first.
-fn put_behind(rows: &mut Vec<LayerRow>, id: u16, above: u16)
+fn insert_after(rows: &mut Vec<LayerRow>, id: u16, above: u16)
     requires distinct { IsDistinct ◌==◌ (map (λ row. row.id) rows.old.items) }
     requires present { IsTrue (has_row rows.old.items id) }
     requires place { (above ≡ 0) ⊎ (IsTrue (has_row rows.old.items above) × (above ≢ id)) }
@@ -132,7 +132,7 @@ fn put_behind(rows: &mut Vec<LayerRow>, id: u16, above: u16)
         unreachable!()
     };
     let row = rows.remove(from);
-    let to = place_behind(rows, above);
+    let to = place_after(rows, above);
     if let Err(_full) = rows.insert(to, row) {
         unreachable!();
     }

@@ -14,7 +14,7 @@ ghost use Rattle.dp_layers.specs.Layers.{
   is_listed_mode,
 };
 ghost use Rattle.dp_layers.specs.Changes.{can_create, can_stand, can_move, has_effect};
-ghost use Rattle.dp_layers.specs.Inside.{as_moved, place_behind, gone_ids, IsOnLayers};
+ghost use Rattle.dp_layers.specs.Inside.{as_moved, place_after, gone_ids, IsOnLayers};
 
 use crate::row::LayerRow;
 use dp_msg_draw::Draw;
@@ -162,8 +162,8 @@ pub(crate) fn has_effect(rows: &[LayerRow], command: &Draw) -> bool
 }
 
 /// The place directly after the row `above`, or the first.
-pub(crate) fn place_behind(rows: &[LayerRow], above: u16) -> usize
-    ensures place { result ≡ place_behind rows.now above }
+pub(crate) fn place_after(rows: &[LayerRow], above: u16) -> usize
+    ensures place { result ≡ place_after rows.now above }
     ensures within { result ≤ length rows.now }
 {
     if above == 0 {

@@ -12,9 +12,9 @@ use Rattle.dp_lines.specs.declared.lines.LineError.TheVariants.{Long}
 use Rattle.dp_lines.specs.Lines.{newline, Lacks, ended, open_rest, if_any, lines, is_comment}
 use Rattle.dp_lines.specs.Lines.{is_skipped, is_overlong, numbered}
 use Rattle.dp_lines.specs.Held.{Held, ended_from, lines_from, given, NextIsLong}
-use Rattle.dp_lines.specs.Taken.{first_line, behind_first, Keeps, IsEnd}
+use Rattle.dp_lines.specs.Taken.{first_line, after_first, Keeps, IsEnd}
 use Rattle.dp_lines.proofs.Numbering.{numbered-append, numbered_skipped, numbered_kept}
-use Rattle.dp_lines.proofs.Numbering.{lines_behind_kept}
+use Rattle.dp_lines.proofs.Numbering.{lines_after_kept}
 use Rattle.dp_lines.proofs.Pieces.{ended_none, rest_none}
 
 -- the lines to come are those with their newline, and then the rest
@@ -25,20 +25,21 @@ lines_from_parts held = numbered-append held.count (ended held.bytes)
     (if_any (open_rest held.bytes))
 
 -- two joined lists are empty only where the first is
-front_none : (front behind : List Line) → front ++ behind ≡ [] → front ≡ []
-front_none [] behind none = refl
-front_none (line ∷ front) behind none = absurd (cc (none))
+prefix_none : (prefix after : List Line) → prefix ++ after ≡ [] → prefix ≡ []
+prefix_none [] after none = refl
+prefix_none (line ∷ prefix) after none = absurd (cc (none))
 
 -- taking lines off in front takes them off all lines to come
-pub further_lines : (front : List Line) (old new : Held) → ended_from old ≡ front ++ ended_from new
+pub further_lines : (prefix : List Line) (old new : Held)
+    → ended_from old ≡ prefix ++ ended_from new
     → new.count + length (ended new.bytes) ≡ old.count + length (ended old.bytes)
-    → open_rest new.bytes ≡ open_rest old.bytes → lines_from old ≡ front ++ lines_from new
-further_lines front old new taken count rest =
+    → open_rest new.bytes ≡ open_rest old.bytes → lines_from old ≡ prefix ++ lines_from new
+further_lines prefix old new taken count rest =
     lines_from_parts old
     ∙ ap (λ (ls : List Line). ls ++ numbered (old.count + length (ended old.bytes))
     (if_any (open_rest old.bytes))) taken
-    ∙ append_assoc front (ended_from new) _
-    ∙ ap (λ (ls : List Line). front ++ ls)
+    ∙ append_assoc prefix (ended_from new) _
+    ∙ ap (λ (ls : List Line). prefix ++ ls)
     (ap (λ (n : ℕ). ended_from new ++ numbered n (if_any (open_rest old.bytes))) (sym count)
     ∙ ap (λ (b : List ℕ). ended_from new ++ numbered (new.count + length (ended new.bytes))
     (if_any b)) (sym rest)
@@ -46,29 +47,29 @@ further_lines front old new taken count rest =
 
 -- where no line is to come, none with its newline is
 pub none_lines : (held : Held) → lines_from held ≡ [] → ended_from held ≡ []
-none_lines held none = front_none (ended_from held) _ (sym (lines_from_parts held) ∙ none)
+none_lines held none = prefix_none (ended_from held) _ (sym (lines_from_parts held) ∙ none)
 
 pub lines_kept : (old new : Held) → Keeps old new → lines_from old ≡ lines_from new
 lines_kept old new keeps = further_lines [] old new (sym keeps.lines) keeps.count keeps.rest
 
 -- a line is given exactly where it is taken off in front
-pub given_line : (from : Held → List Line) (held new behind : Held) (line : Line)
+pub given_line : (from : Held → List Line) (held new after : Held) (line : Line)
     (r : Result (Option Line) LineError)
-    → from held ≡ line ∷ from behind → IfOk r (λ next. next ≡ Some line) → OnOk r (new ≡ behind)
+    → from held ≡ line ∷ from after → IfOk r (λ next. next ≡ Some line) → OnOk r (new ≡ after)
     → OnErr r (new ≡ held) → from held ≡ given r ++ from new
-given_line from held new behind line (Ok (Some other)) first is taken left =
+given_line from held new after line (Ok (Some other)) first is taken left =
     let same : other ≡ line = cc in
-    first ∙ ap (λ (l : Line). l ∷ from behind) (sym same)
+    first ∙ ap (λ (l : Line). l ∷ from after) (sym same)
     ∙ ap (λ (h : Held). other ∷ from h) (sym taken)
-given_line from held new behind line (Ok None) first is taken left = absurd (cc)
-given_line from held new behind line (Err error) first is taken left = ap from (sym left)
+given_line from held new after line (Ok None) first is taken left = absurd (cc)
+given_line from held new after line (Err error) first is taken left = ap from (sym left)
 
 -- what is the same after the line is the same after the call
-pub same_after : {A : Type 0} (of : Held → A) (held new behind : Held)
+pub same_after : {A : Type 0} (of : Held → A) (held new after : Held)
     (r : Result (Option Line) LineError)
-    → of behind ≡ of held → OnOk r (new ≡ behind) → OnErr r (new ≡ held) → of new ≡ of held
-same_after of held new behind (Ok next) same taken left = ap of taken ∙ same
-same_after of held new behind (Err error) same taken left = ap of left
+    → of after ≡ of held → OnOk r (new ≡ after) → OnErr r (new ≡ held) → of new ≡ of held
+same_after of held new after (Ok next) same taken left = ap of taken ∙ same
+same_after of held new after (Err error) same taken left = ap of left
 
 -- what holds in any case holds where no line is given
 pub if_none : {P : Type 0} (r : Result (Option Line) LineError) → P → IfOk r (λ next. IfNone next P)
@@ -88,22 +89,22 @@ next_is : (a b : Line) (more others : List Line) → a ∷ more ≡ b ∷ others
 next_is a b more others same = cc
 
 -- the call says that the next line is too long exactly where it is
-pub long_next : (held : Held) (line : Line) (behind : List Line)
+pub long_next : (held : Held) (line : Line) (after : List Line)
     (r : Result (Option Line) LineError)
-    → lines_from held ≡ line ∷ behind
+    → lines_from held ≡ line ∷ after
     → ((n : ℕ) → (r ≡ Err (Long n)) ↔ (IsTrue (is_overlong line.bytes) × (n ≡ line.number)))
     → (n : ℕ) → (r ≡ Err (Long n)) ↔ NextIsLong held n
-long_next held line behind r first says n = (
+long_next held line after r first says n = (
   λ err.
       let told = (says n).0 err in record {
         line = line;
-        behind = behind;
+        after = after;
         next = first;
         long = told.0;
         number = sym told.1;
       },
   λ next.
-      let same = next_is line next.line behind next.behind (sym first ∙ next.next) in
+      let same = next_is line next.line after next.after (sym first ∙ next.next) in
       (says n).1 (subst (λ (l : Line). IsTrue (is_overlong l.bytes) × (n ≡ l.number)) (sym same)
       (next.long, sym next.number)),
 )
@@ -116,7 +117,7 @@ none_next held none n next = absurd (cc (next.next))
 pub long_kept : (old new : Held) (n : ℕ) → Keeps old new → NextIsLong new n → NextIsLong old n
 long_kept old new n keeps next = record {
   line = next.line;
-  behind = next.behind;
+  after = next.after;
   next = lines_kept old new keeps ∙ next.next;
   long = next.long;
   number = next.number;
@@ -125,7 +126,7 @@ long_kept old new n keeps next = record {
 pub long_still : (old new : Held) (n : ℕ) → Keeps old new → NextIsLong old n → NextIsLong new n
 long_still old new n keeps next = record {
   line = next.line;
-  behind = next.behind;
+  after = next.after;
   next = sym (lines_kept old new keeps) ∙ next.next;
   long = next.long;
   number = next.number;
@@ -134,13 +135,13 @@ long_still old new n keeps next = record {
 -- the first line that isn't passed over is the first of all lines to come
 pub first_of_lines : (held : Held) (len : ℕ) → IsEnd held.bytes len
     → is_skipped (take len held.bytes) ≡ false
-    → (behind : List Line) × (lines_from held ≡ first_line held len ∷ behind)
+    → (after : List Line) × (lines_from held ≡ first_line held len ∷ after)
 first_of_lines held len end kept = (
   _,
   lines_from_parts held
       ∙ ap (λ (ls : List Line). ls ++ numbered (held.count + length (ended held.bytes))
       (if_any (open_rest held.bytes)))
-      (lines_behind_kept held len end kept),
+      (lines_after_kept held len end kept),
 )
 
 -- bytes are one line, where there are any
@@ -162,8 +163,8 @@ pub line_of_rest : (bytes : List ℕ) → Lacks newline bytes → 0 < length byt
 line_of_rest bytes lacks some = lines_of_rest bytes lacks ∙ if_any_some bytes some
 
 -- no bytes are left after all of them
-pub none_behind : (held : Held) → lines_from (behind_first held (length held.bytes)) ≡ []
-none_behind held =
+pub none_after : (held : Held) → lines_from (after_first held (length held.bytes)) ≡ []
+none_after held =
     ap (λ (b : List ℕ). numbered (held.count + 1) (lines b))
     (drop_all (length held.bytes) held.bytes (omega arith))
     ∙ ap (numbered (held.count + 1)) no_lines
@@ -213,7 +214,7 @@ pub long_rest : (held : Held) → Lacks newline held.bytes → is_overlong held.
 long_rest held lacks long =
     let kept = long_is_kept held.bytes long in record {
       line = record { number = held.count + 1; bytes = held.bytes };
-      behind = [];
+      after = [];
       next =
           ap (numbered held.count) (line_of_rest held.bytes lacks kept.0)
           ∙ numbered_kept held.count held.bytes [] kept.1;
@@ -222,14 +223,14 @@ long_rest held lacks long =
     }
 
 -- a held rest is the next line, if one is to come
-next_in_rest : (held : Held) → Lacks newline held.bytes → (line : Line) (behind : List Line)
-    → lines_from held ≡ line ∷ behind
+next_in_rest : (held : Held) → Lacks newline held.bytes → (line : Line) (after : List Line)
+    → lines_from held ≡ line ∷ after
     → line ≡ record { number = held.count + 1; bytes = held.bytes }
-next_in_rest held lacks line behind next = elim (cases_lt 0 (length held.bytes)) [
+next_in_rest held lacks line after next = elim (cases_lt 0 (length held.bytes)) [
   | inl some ↦ elim (cases_Bool (is_skipped held.bytes)) [
     | inl skipped ↦ absurd (cc (next, skipped_rest held lacks some skipped))
     | inr kept ↦
-        next_is line _ behind []
+        next_is line _ after []
         (sym next ∙ ap (numbered held.count) (line_of_rest held.bytes lacks some)
         ∙ numbered_kept held.count held.bytes [] kept)
   ]
@@ -247,7 +248,7 @@ next_in_rest held lacks line behind next = elim (cases_lt 0 (length held.bytes))
 pub long_in_rest : (held : Held) → Lacks newline held.bytes → (n : ℕ) → NextIsLong held n
     → (IsTrue (is_overlong held.bytes)) × (n ≡ held.count + 1)
 long_in_rest held lacks n next =
-    let is = next_in_rest held lacks next.line next.behind next.next in (
+    let is = next_in_rest held lacks next.line next.after next.next in (
       subst (λ (l : Line). IsTrue (is_overlong l.bytes)) is next.long,
       sym next.number
           ∙ ap (λ (l : Line). l.number) is,

@@ -9,31 +9,31 @@ use Rattle.dp_lines.proofs.Numbering.{numbered-append}
 use Rattle.dp_lines.proofs.Pieces.{ended-append, rest-append}
 
 -- the lines of what was fed, with more lines after them
-pub lines_behind : (all : List ℕ) (done : List Line) (held : Held) (behind : List (List ℕ))
+pub lines_after : (all : List ℕ) (done : List Line) (held : Held) (after : List (List ℕ))
     → IsLeft all done held
-    → numbered 0 (ended all ++ behind) ≡ done ++ (ended_from held
-    ++ numbered (held.count + length (ended held.bytes)) behind)
-lines_behind all done held behind left =
+    → numbered 0 (ended all ++ after) ≡ done ++ (ended_from held
+    ++ numbered (held.count + length (ended held.bytes)) after)
+lines_after all done held after left =
     let count : 0 + length (ended all) ≡ held.count + length (ended held.bytes) = omega
     (arith, left.count) in
-    numbered-append 0 (ended all) behind
-    ∙ ap (λ (n : ℕ). numbered 0 (ended all) ++ numbered n behind) count
-    ∙ ap (λ (ls : List Line). ls ++ numbered (held.count + length (ended held.bytes)) behind)
+    numbered-append 0 (ended all) after
+    ∙ ap (λ (n : ℕ). numbered 0 (ended all) ++ numbered n after) count
+    ∙ ap (λ (ls : List Line). ls ++ numbered (held.count + length (ended held.bytes)) after)
     left.whole
     ∙ append_assoc done (ended_from held) _
 
 -- more is fed
-pub left_behind_feed : (all more : List ℕ) (done : List Line) (old new : Held) → IsLeft all done old
+pub left_after_feed : (all more : List ℕ) (done : List Line) (old new : Held) → IsLeft all done old
     → new.bytes ≡ old.bytes ++ more → new.count ≡ old.count → new.fed ≡ old.fed + length more
     → IsLeft (all ++ more) done new
-left_behind_feed all more done old new left bytes count fed =
+left_after_feed all more done old new left bytes count fed =
     let further = ended-append old.bytes more in
     let rest = ap (λ (b : List ℕ). b ++ more) left.rest in
     let grown = ap ended bytes ∙ further in
     let alls = ended-append all more ∙ ap (λ (b : List ℕ). ended all ++ ended b) rest in record {
       whole =
           ap (numbered 0) alls
-          ∙ lines_behind all done old (ended (open_rest old.bytes ++ more)) left
+          ∙ lines_after all done old (ended (open_rest old.bytes ++ more)) left
           ∙ ap (λ (ls : List Line). done ++ ls)
           (sym (numbered-append old.count (ended old.bytes) (ended (open_rest old.bytes ++ more)))
           ∙ ap (λ (ls : List (List ℕ)). numbered old.count ls) (sym grown)
@@ -60,7 +60,7 @@ left_behind_feed all more done old new left bytes count fed =
 pub left_at_end : (all : List ℕ) (done : List Line) (held : Held) → IsLeft all done held
     → numbered 0 (lines all) ≡ done ++ lines_from held
 left_at_end all done held left =
-    lines_behind all done held (if_any (open_rest all)) left
+    lines_after all done held (if_any (open_rest all)) left
     ∙ ap (λ (b : List ℕ). done ++ (ended_from held ++ numbered
     (held.count + length (ended held.bytes)) (if_any b))) left.rest
     ∙ ap (λ (ls : List Line). done ++ ls) (sym (lines_from_parts held))

@@ -22,11 +22,11 @@ lacking_parts separator _ (last bytes lacks) =
     All-same (Lacks separator) (pieces separator bytes) (bytes ∷ [])
     (pieces_lacking separator bytes lacks)
     (All-cons (Lacks separator) bytes [] lacks (All-nil (Lacks separator)))
-lacking_parts separator _ (next bytes part behind whole lacks parts) =
-    All-same (Lacks separator) (pieces separator bytes) (part ∷ pieces separator behind)
-    (ap (pieces separator) whole ∙ pieces_at separator part behind lacks)
-    (All-cons (Lacks separator) part (pieces separator behind) lacks
-    (lacking_parts separator behind parts))
+lacking_parts separator _ (next bytes part after whole lacks parts) =
+    All-same (Lacks separator) (pieces separator bytes) (part ∷ pieces separator after)
+    (ap (pieces separator) whole ∙ pieces_at separator part after lacks)
+    (All-cons (Lacks separator) part (pieces separator after) lacks
+    (lacking_parts separator after parts))
 
 pub pieces_lack : (separator : ℕ) (bytes : List ℕ) → All (Lacks separator) (pieces separator bytes)
 pieces_lack separator bytes = lacking_parts separator bytes (parts_of separator bytes)
@@ -59,15 +59,15 @@ whole_parts _ (last bytes lacks) =
     sym (rest_none bytes lacks)
     ∙ ap (λ (ls : List (List ℕ)). flat_map (λ line. line ++ newline ∷ []) ls ++ open_rest bytes)
     (sym (ended_none bytes lacks))
-whole_parts _ (next bytes line behind whole lacks parts) =
+whole_parts _ (next bytes line after whole lacks parts) =
     let flat = flat_map (λ line. line ++ newline ∷ []) in
-    let ends = ap ended whole ∙ ended_at line behind lacks in
-    let rests = ap open_rest whole ∙ rest_at line behind lacks in
+    let ends = ap ended whole ∙ ended_at line after lacks in
+    let rests = ap open_rest whole ∙ rest_at line after lacks in
     whole
-    ∙ ap (λ (b : List ℕ). line ++ newline ∷ b) (whole_parts behind parts)
-    ∙ sym (one_line line (flat (ended behind) ++ open_rest behind))
-    ∙ sym (append_assoc (line ++ newline ∷ []) (flat (ended behind)) (open_rest behind))
-    ∙ ap (λ (ls : List (List ℕ)). flat ls ++ open_rest behind) (sym ends)
+    ∙ ap (λ (b : List ℕ). line ++ newline ∷ b) (whole_parts after parts)
+    ∙ sym (one_line line (flat (ended after) ++ open_rest after))
+    ∙ sym (append_assoc (line ++ newline ∷ []) (flat (ended after)) (open_rest after))
+    ∙ ap (λ (ls : List (List ℕ)). flat ls ++ open_rest after) (sym ends)
     ∙ ap (λ (b : List ℕ). flat (ended bytes) ++ b) (sym rests)
 
 pub ended_and_rest : (bytes : List ℕ)
@@ -78,10 +78,10 @@ ended_and_rest bytes = whole_parts bytes (parts_of newline bytes)
 lacking_lines : (bytes : List ℕ) → Parts newline bytes → All (Lacks newline) (ended bytes)
 lacking_lines _ (last bytes lacks) =
     All-same (Lacks newline) (ended bytes) [] (ended_none bytes lacks) (All-nil (Lacks newline))
-lacking_lines _ (next bytes line behind whole lacks parts) =
-    All-same (Lacks newline) (ended bytes) (line ∷ ended behind)
-    (ap ended whole ∙ ended_at line behind lacks)
-    (All-cons (Lacks newline) line (ended behind) lacks (lacking_lines behind parts))
+lacking_lines _ (next bytes line after whole lacks parts) =
+    All-same (Lacks newline) (ended bytes) (line ∷ ended after)
+    (ap ended whole ∙ ended_at line after lacks)
+    (All-cons (Lacks newline) line (ended after) lacks (lacking_lines after parts))
 
 pub ended_lack : (bytes : List ℕ) → All (Lacks newline) (ended bytes)
 ended_lack bytes = lacking_lines bytes (parts_of newline bytes)
@@ -89,9 +89,9 @@ ended_lack bytes = lacking_lines bytes (parts_of newline bytes)
 -- nor does the rest
 lacking_rest : (bytes : List ℕ) → Parts newline bytes → Lacks newline (open_rest bytes)
 lacking_rest _ (last bytes lacks) = subst (Lacks newline) (sym (rest_none bytes lacks)) lacks
-lacking_rest _ (next bytes line behind whole lacks parts) =
-    subst (Lacks newline) (sym (ap open_rest whole ∙ rest_at line behind lacks))
-    (lacking_rest behind parts)
+lacking_rest _ (next bytes line after whole lacks parts) =
+    subst (Lacks newline) (sym (ap open_rest whole ∙ rest_at line after lacks))
+    (lacking_rest after parts)
 
 pub rest_lacks : (bytes : List ℕ) → Lacks newline (open_rest bytes)
 rest_lacks bytes = lacking_rest bytes (parts_of newline bytes)
@@ -105,10 +105,10 @@ lines_only [] rest lack lacks = (ended_none rest lacks, rest_none rest lacks)
 lines_only (line ∷ lines) rest lack lacks =
     let flat = flat_map (λ line. line ++ newline ∷ []) in
     let head = All-head (Lacks newline) line lines lack in
-    let behind = lines_only lines rest (All-tail (Lacks newline) line lines lack) lacks in
+    let after = lines_only lines rest (All-tail (Lacks newline) line lines lack) lacks in
     let bytes = append_assoc (line ++ newline ∷ []) (flat lines) rest
     ∙ one_line line (flat lines ++ rest) in (
       ap ended bytes ∙ ended_at line (flat lines ++ rest) head
-          ∙ ap (λ (ls : List (List ℕ)). line ∷ ls) behind.0,
-      ap open_rest bytes ∙ rest_at line (flat lines ++ rest) head ∙ behind.1,
+          ∙ ap (λ (ls : List (List ℕ)). line ∷ ls) after.0,
+      ap open_rest bytes ∙ rest_at line (flat lines ++ rest) head ∙ after.1,
     )

@@ -32,16 +32,16 @@ some_piece separator bytes = omega (arith, length-slice_split (λ byte. byte == 
 -- the bytes are parts, each but the last with the separator after it
 pub data Parts (separator : ℕ) : List ℕ → Type 0 where
   last : (bytes : List ℕ) → Lacks separator bytes → Parts separator bytes
-  next : (bytes part behind : List ℕ) → bytes ≡ part ++ separator ∷ behind → Lacks separator part
-      → Parts separator behind → Parts separator bytes
+  next : (bytes part after : List ℕ) → bytes ≡ part ++ separator ∷ after → Lacks separator part
+      → Parts separator after → Parts separator bytes
 
 -- one byte more in front that is no separator
 longer : (separator byte : ℕ) (bytes : List ℕ) → byte ≢ separator → Parts separator bytes
     → Parts separator (byte ∷ bytes)
 longer separator byte _ other (last bytes lacks) =
     last (byte ∷ bytes) (All-cons (λ b. b ≢ separator) byte bytes other lacks)
-longer separator byte _ other (next bytes part behind whole lacks rest) =
-    next (byte ∷ bytes) (byte ∷ part) behind (ap (λ (b : List ℕ). byte ∷ b) whole)
+longer separator byte _ other (next bytes part after whole lacks rest) =
+    next (byte ∷ bytes) (byte ∷ part) after (ap (λ (b : List ℕ). byte ∷ b) whole)
     (All-cons (λ b. b ≢ separator) byte part other lacks) rest
 
 -- all bytes are such parts
@@ -54,10 +54,10 @@ parts_of separator (byte ∷ bytes) = elim (cases_eq byte separator) [
 ]
 
 -- one more in front
-front_more : {X : Type 0} (x : X) (xs : List X) → 0 < length xs
+prefix_more : {X : Type 0} (x : X) (xs : List X) → 0 < length xs
     → all_but_last (x ∷ xs) ≡ x ∷ all_but_last xs
-front_more x [] some = absurd (omega arith)
-front_more x (y ∷ xs) some =
+prefix_more x [] some = absurd (omega arith)
+prefix_more x (y ∷ xs) some =
     let two : suc (suc (length xs)) - 1 ≡ suc (length xs) = omega arith in
     let one : suc (length xs) - 1 ≡ length xs = omega arith in
     ap (λ (k : ℕ). take k (x ∷ y ∷ xs)) two ∙ ap (λ (k : ℕ). x ∷ take k (y ∷ xs)) (sym one)
@@ -87,7 +87,7 @@ pub ended_at : (line more : List ℕ) → Lacks newline line
     → ended (line ++ newline ∷ more) ≡ line ∷ ended more
 unfolding ended
 ended_at line more lacks =
-    ap all_but_last (pieces_at newline line more lacks) ∙ front_more line (pieces newline more)
+    ap all_but_last (pieces_at newline line more lacks) ∙ prefix_more line (pieces newline more)
     (some_piece newline more)
 
 -- and what stands after it has the rest
@@ -105,13 +105,13 @@ ended_further _ more (last bytes lacks) =
     ap (λ (b : List ℕ). ended (b ++ more)) (sym (rest_none bytes lacks))
     ∙ ap (λ (ls : List (List ℕ)). ls ++ ended (open_rest bytes ++ more))
     (sym (ended_none bytes lacks))
-ended_further _ more (next bytes line behind whole lacks parts) =
-    let longer = ap (λ (b : List ℕ). b ++ more) whole ∙ append_assoc line (newline ∷ behind) more in
-    let ends = ap ended whole ∙ ended_at line behind lacks in
-    let rests = ap open_rest whole ∙ rest_at line behind lacks in
-    ap ended longer ∙ ended_at line (behind ++ more) lacks
-    ∙ ap (λ (ls : List (List ℕ)). line ∷ ls) (ended_further behind more parts)
-    ∙ ap (λ (ls : List (List ℕ)). ls ++ ended (open_rest behind ++ more)) (sym ends)
+ended_further _ more (next bytes line after whole lacks parts) =
+    let longer = ap (λ (b : List ℕ). b ++ more) whole ∙ append_assoc line (newline ∷ after) more in
+    let ends = ap ended whole ∙ ended_at line after lacks in
+    let rests = ap open_rest whole ∙ rest_at line after lacks in
+    ap ended longer ∙ ended_at line (after ++ more) lacks
+    ∙ ap (λ (ls : List (List ℕ)). line ∷ ls) (ended_further after more parts)
+    ∙ ap (λ (ls : List (List ℕ)). ls ++ ended (open_rest after ++ more)) (sym ends)
     ∙ ap (λ (b : List ℕ). ended bytes ++ ended (b ++ more)) (sym rests)
 
 pub ended-append : (bytes more : List ℕ)
@@ -123,11 +123,11 @@ rest_further : (bytes more : List ℕ) → Parts newline bytes
     → open_rest (bytes ++ more) ≡ open_rest (open_rest bytes ++ more)
 rest_further _ more (last bytes lacks) =
     ap (λ (b : List ℕ). open_rest (b ++ more)) (sym (rest_none bytes lacks))
-rest_further _ more (next bytes line behind whole lacks parts) =
-    let longer = ap (λ (b : List ℕ). b ++ more) whole ∙ append_assoc line (newline ∷ behind) more in
-    let rests = ap open_rest whole ∙ rest_at line behind lacks in
-    ap open_rest longer ∙ rest_at line (behind ++ more) lacks
-    ∙ rest_further behind more parts
+rest_further _ more (next bytes line after whole lacks parts) =
+    let longer = ap (λ (b : List ℕ). b ++ more) whole ∙ append_assoc line (newline ∷ after) more in
+    let rests = ap open_rest whole ∙ rest_at line after lacks in
+    ap open_rest longer ∙ rest_at line (after ++ more) lacks
+    ∙ rest_further after more parts
     ∙ ap (λ (b : List ℕ). open_rest (b ++ more)) (sym rests)
 
 pub rest-append : (bytes more : List ℕ)

@@ -23,9 +23,9 @@ scanned_at bytes from scanned k d below =
     subst (λ (b : ℕ). b ≢ newline) (get_or-take from bytes k d below) (scanned.none k d within)
 
 -- a byte at k, seen as one after the scanned front
-behind_at : (bytes : List ℕ) (from k d : ℕ) → from ≤ k
+after_at : (bytes : List ℕ) (from k d : ℕ) → from ≤ k
     → get_or (drop from bytes) (k - from) d ≡ get_or bytes k d
-behind_at bytes from k d above =
+after_at bytes from k d above =
     let same : from + (k - from) ≡ k = omega arith in
     get_or-drop from bytes (k - from) d ∙ ap (λ (j : ℕ). get_or bytes j d) same
 
@@ -33,10 +33,10 @@ behind_at bytes from k d above =
 none_up_to : (bytes : List ℕ) (from len : ℕ) → IsScanned bytes from → len ≤ length bytes
     → ((k d : ℕ) → k + from < len → get_or (drop from bytes) k d ≢ newline) → (k d : ℕ) → k < len
     → get_or bytes k d ≢ newline
-none_up_to bytes from len scanned within behind k d below = elim (cases_lt k from) [
-  | inl front ↦ scanned_at bytes from scanned k d front
-  | inr above ↦ subst (λ (b : ℕ). b ≢ newline) (behind_at bytes from k d above)
-      (behind (k - from) d (omega arith))
+none_up_to bytes from len scanned within after k d below = elim (cases_lt k from) [
+  | inl prefix ↦ scanned_at bytes from scanned k d prefix
+  | inr above ↦ subst (λ (b : ℕ). b ≢ newline) (after_at bytes from k d above)
+      (after (k - from) d (omega arith))
 ]
 
 -- the first newline after the scanned front is the first of all

@@ -9,12 +9,12 @@ use Rattle.std.proofs.lemmas.Bool.{and_parts, and_from, ltb-true, lt-ltb}
 use Rattle.std.proofs.lemmas.List.{append-nil, take_at}
 use Rattle.std.proofs.lemmas.List.Elements.{All-append}
 use Rattle.dp_lines.specs.declared.line.Line.{Line}
-use Rattle.dp_lines.specs.Ends.{seen, front_lines}
+use Rattle.dp_lines.specs.Ends.{seen, lines_of_prefix}
 use Rattle.dp_lines.specs.Held.{Held, ended_from, lines_from, IsLeft, NextIsLong}
 use Rattle.dp_lines.specs.Lines.{newline, Lacks, line_limit, ended, open_rest, if_any, lines}
 use Rattle.dp_lines.specs.Lines.{is_comment, is_skipped, is_overlong, numbered}
 use Rattle.dp_lines.proofs.Giving.{lines_from_parts, long_is_kept}
-use Rattle.dp_lines.proofs.Left.{lines_behind, left_at_end}
+use Rattle.dp_lines.proofs.Left.{lines_after, left_at_end}
 use Rattle.dp_lines.proofs.Numbering.{numbered_skipped, numbered_kept}
 use Rattle.dp_lines.proofs.OneWay.{rest_lacks}
 use Rattle.dp_lines.proofs.Pieces.{Parts, parts_of, last, next, ended_none, rest_none, ended_at}
@@ -42,7 +42,7 @@ pub record Sees (limit : ℕ) (all more : List ℕ) : Type 0 where
 
 -- an input that is longer than counts is cut
 cut_at : (limit : ℕ) (bytes : List ℕ) → limit < length bytes
-    → seen limit bytes ≡ numbered 0 (front_lines (take limit bytes))
+    → seen limit bytes ≡ numbered 0 (lines_of_prefix (take limit bytes))
 cut_at limit bytes over = ap (numbered 0) (cond-false (nat_le (length bytes) limit) _ _
     (lt-leb _ _ over))
 
@@ -56,12 +56,13 @@ sees : (limit : ℕ) (all more : List ℕ) → length all ≤ limit → Sees lim
 sees limit all more counts = elim (cases_lt limit (length (all ++ more))) [
   | inl over ↦
       let to : length all + (limit - length all) ≡ limit = omega arith in
-      let front = ap (λ (n : ℕ). take n (all ++ more)) (sym to)
+      let prefix = ap (λ (n : ℕ). take n (all ++ more)) (sym to)
       ∙ take-append-add all more (limit - length all) in record {
         further = take (limit - length all) more;
         tail = if_long;
-        whole = cut_at limit (all ++ more) over ∙ ap (λ (b : List ℕ). numbered 0 (front_lines b))
-            front;
+        whole = cut_at limit (all ++ more) over
+            ∙ ap (λ (b : List ℕ). numbered 0 (lines_of_prefix b))
+            prefix;
         long = if_long_is;
       }
   | inr within ↦ record {
@@ -73,27 +74,27 @@ sees limit all more counts = elim (cases_lt limit (length (all ++ more))) [
 ]
 
 -- the lines that were given are the first that are seen, and then those that are left
-seen_behind : (limit : ℕ) (all more : List ℕ) (done : List Line) (held : Held)
+seen_after : (limit : ℕ) (all more : List ℕ) (done : List Line) (held : Held)
     (s : Sees limit all more)
     → IsLeft all done held
     → seen limit (all ++ more) ≡ done ++ (ended_from held
     ++ numbered (held.count + length (ended held.bytes))
     (ended (open_rest all ++ s.further) ++ s.tail (open_rest (open_rest all ++ s.further))))
-seen_behind limit all more done held s left =
+seen_after limit all more done held s left =
     s.whole
     ∙ ap (λ (b : List ℕ). numbered 0 (ended (all ++ s.further) ++ s.tail b))
     (rest-append all s.further)
     ∙ ap (λ (ls : List (List ℕ)). numbered 0 (ls ++ s.tail
     (open_rest (open_rest all ++ s.further)))) (ended-append all s.further)
     ∙ ap (numbered 0) (append_assoc (ended all) (ended (open_rest all ++ s.further)) _)
-    ∙ lines_behind all done held _ left
+    ∙ lines_after all done held _ left
 
 pub given_seen : (limit : ℕ) (all more : List ℕ) (done : List Line) (held : Held)
     → IsLeft all done held → length all ≤ limit
-    → (behind : List Line) × (seen limit (all ++ more) ≡ done ++ behind)
+    → (after : List Line) × (seen limit (all ++ more) ≡ done ++ after)
 given_seen limit all more done held left counts =
     let s = sees limit all more counts in
-    (_, seen_behind limit all more done held s left)
+    (_, seen_after limit all more done held s left)
 
 -- bytes that are too long stay so with more after them
 long_on : (bytes more : List ℕ) → is_overlong bytes ≡ true → is_overlong (bytes ++ more) ≡ true
@@ -127,32 +128,32 @@ begins_long rest _ tail lacks long adds (last more none) =
           ∙ ap tail (rest_none (rest ++ more) all) ∙ adds (rest ++ more) longer;
       long = longer;
     }
-begins_long rest _ tail lacks long adds (next more part behind whole none parts) =
+begins_long rest _ tail lacks long adds (next more part after whole none parts) =
     let all = All-append (λ byte. byte ≢ newline) rest part lacks none in
     let bytes = ap (λ (b : List ℕ). rest ++ b) whole ∙ sym
-    (append_assoc rest part (newline ∷ behind)) in record {
+    (append_assoc rest part (newline ∷ after)) in record {
       first = rest ++ part;
-      others = ended behind ++ tail (open_rest (rest ++ more));
+      others = ended after ++ tail (open_rest (rest ++ more));
       split =
           ap (λ (ls : List (List ℕ)). ls ++ tail (open_rest (rest ++ more)))
-          (ap ended bytes ∙ ended_at (rest ++ part) behind all);
+          (ap ended bytes ∙ ended_at (rest ++ part) after all);
       long = long_on rest part long;
     }
 
 -- the first of two joined lists has the first, or is empty
-first_where : (front more : List Line) (line : Line) (behind : List Line)
-    → front ++ more ≡ line ∷ behind
-    → ((others : List Line) × (front ≡ line ∷ others)) ⊎ ((front ≡ []) × (more ≡ line ∷ behind))
-first_where [] more line behind same = inr (refl, same)
-first_where (first ∷ front) more line behind same =
+first_where : (prefix more : List Line) (line : Line) (after : List Line)
+    → prefix ++ more ≡ line ∷ after
+    → ((others : List Line) × (prefix ≡ line ∷ others)) ⊎ ((prefix ≡ []) × (more ≡ line ∷ after))
+first_where [] more line after same = inr (refl, same)
+first_where (first ∷ prefix) more line after same =
     let head : first ≡ line = cc (same) in
-    inl (front, ap (λ (l : Line). l ∷ front) head)
+    inl (prefix, ap (λ (l : Line). l ∷ prefix) head)
 
 -- the line of a rest
-line_is_rest : (n : ℕ) (rest : List ℕ) (line : Line) (behind : List Line)
-    → numbered n (if_any rest) ≡ line ∷ behind → line ≡ record { number = n + 1; bytes = rest }
-line_is_rest n [] line behind same = absurd (cc (same))
-line_is_rest n (byte ∷ more) line behind same = elim (cases_Bool (is_skipped (byte ∷ more))) [
+line_is_rest : (n : ℕ) (rest : List ℕ) (line : Line) (after : List Line)
+    → numbered n (if_any rest) ≡ line ∷ after → line ≡ record { number = n + 1; bytes = rest }
+line_is_rest n [] line after same = absurd (cc (same))
+line_is_rest n (byte ∷ more) line after same = elim (cases_Bool (is_skipped (byte ∷ more))) [
   | inl skipped ↦ absurd (cc (same, numbered_skipped n (byte ∷ more) [] skipped))
   | inr kept ↦ cc (same, numbered_kept n (byte ∷ more) [] kept)
 ]
@@ -160,8 +161,8 @@ line_is_rest n (byte ∷ more) line behind same = elim (cases_Bool (is_skipped (
 -- a next line that is too long, as it is seen
 pub record SeesLong (limit : ℕ) (all more : List ℕ) (done : List Line) (n : ℕ) : Type 0 where
   pub line : Line
-  pub behind : List Line
-  pub split : seen limit (all ++ more) ≡ done ++ line ∷ behind
+  pub after : List Line
+  pub split : seen limit (all ++ more) ≡ done ++ line ∷ after
   pub long : IsTrue (is_overlong line.bytes)
   pub number : line.number ≡ n
 
@@ -171,12 +172,12 @@ long_seen limit all more done held n left counts found =
     let s = sees limit all more counts in
     let count = held.count + length (ended held.bytes) in
     let to_come = sym (lines_from_parts held) ∙ found.next in
-    let whole = seen_behind limit all more done held s left in
+    let whole = seen_after limit all more done held s left in
     elim (first_where (ended_from held) (numbered count (if_any (open_rest held.bytes))) found.line
-    found.behind to_come) [
+    found.after to_come) [
       | inl (others, first) ↦ record {
         line = found.line;
-        behind = _;
+        after = _;
         split = whole ∙ ap (λ (ls : List Line). done ++ (ls
             ++ numbered count (ended (open_rest all ++ s.further)
             ++ s.tail (open_rest (open_rest all ++ s.further))))) first;
@@ -184,13 +185,13 @@ long_seen limit all more done held n left counts found =
         number = found.number;
       }
       | inr (none, first) ↦
-          let is = line_is_rest count (open_rest held.bytes) found.line found.behind first in
+          let is = line_is_rest count (open_rest held.bytes) found.line found.after first in
           let bytes = ap (λ (l : Line). l.bytes) is ∙ sym left.rest in
           let long = subst (λ (b : List ℕ). is_overlong b ≡ true) bytes found.long in
           let begins = begins_long (open_rest all) s.further s.tail (rest_lacks all) long s.long
           (parts_of newline s.further) in record {
             line = record { number = count + 1; bytes = begins.first };
-            behind = numbered (count + 1) begins.others;
+            after = numbered (count + 1) begins.others;
             split =
                 whole
                 ∙ ap (λ (ls : List Line). done ++ (ls ++ numbered count
@@ -216,15 +217,15 @@ cut_seen limit all (byte ∷ more) done held left counts some none short =
     let count = held.count + length (ended held.bytes) in
     let whole =
     cut_at limit bytes over
-    ∙ ap (λ (b : List ℕ). numbered 0 (front_lines b)) (take_at all (byte ∷ more) limit counts)
-    ∙ lines_behind all done held (if_long (open_rest all)) left
+    ∙ ap (λ (b : List ℕ). numbered 0 (lines_of_prefix b)) (take_at all (byte ∷ more) limit counts)
+    ∙ lines_after all done held (if_long (open_rest all)) left
     ∙ ap (λ (ls : List Line). done ++ (ls ++ numbered count (if_long (open_rest all)))) none in
     elim (cases_Bool (is_overlong (open_rest all))) [
       | inl long ↦
           let held_long = subst (λ (b : List ℕ). is_overlong b ≡ true) left.rest long in
           absurd (short (count + 1) record {
             line = record { number = count + 1; bytes = open_rest held.bytes };
-            behind = [];
+            after = [];
             next =
                 lines_from_parts held
                 ∙ ap (λ (ls : List Line). ls ++ numbered count (if_any (open_rest held.bytes))) none

@@ -14,15 +14,16 @@ pub data LinesEnd : Type 0 where
 
 -- the lines of a prefix of a longer input: the ended ones, and the open rest where it is too long
 -- already
-abbrev pub front_lines : List ℕ → List (List ℕ)
-front_lines bytes =
+abbrev pub lines_of_prefix : List ℕ → List (List ℕ)
+lines_of_prefix bytes =
     ended bytes ++ (if is_overlong (open_rest bytes) then open_rest bytes ∷ [] else [])
 
 -- the lines that count: all lines of an input of at most `limit` bytes, and of a longer one those
 -- of its first `limit` bytes
 abbrev pub seen : ℕ → List ℕ → List Line
 seen limit bytes =
-    numbered 0 (if nat_le (length bytes) limit then lines bytes else front_lines (take limit bytes))
+    numbered 0
+    (if nat_le (length bytes) limit then lines bytes else lines_of_prefix (take limit bytes))
 
 -- the line isn't too long, and is a step after the lines before it
 pub record IsDoable (IsStep : List Line → Line → Type 0) (done : List Line) (line : Line) : Type 0
@@ -33,15 +34,15 @@ pub record IsDoable (IsStep : List Line → Line → Type 0) (done : List Line) 
 -- each line is doable after those before it
 abbrev pub AreSteps : (List Line → Line → Type 0) → List Line → Type 0
 AreSteps IsStep all =
-    (before : List Line) (line : Line) (behind : List Line)
-    → all ≡ before ++ line ∷ behind → IsDoable IsStep before line
+    (before : List Line) (line : Line) (after : List Line)
+    → all ≡ before ++ line ∷ after → IsDoable IsStep before line
 
 -- after the lines `done`, which are steps, the line of this number is none
 pub record StopsAt (IsStep : List Line → Line → Type 0) (all done : List Line) (n : ℕ) : Type 0
   where
     pub line : Line
-    pub behind : List Line
-    pub next : all ≡ done ++ line ∷ behind
+    pub after : List Line
+    pub next : all ≡ done ++ line ∷ after
     pub number : line.number ≡ n
     pub steps : AreSteps IsStep done
     pub bad : ¬ IsDoable IsStep done line

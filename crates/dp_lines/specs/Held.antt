@@ -33,8 +33,8 @@ IsInLimit line = ¬ IsTrue (is_overlong line.bytes)
 -- the line to be given next, ended or not, has this number and is too long
 pub record NextIsLong (held : Held) (n : ℕ) : Type 0 where
   pub line : Line
-  pub behind : List Line
-  pub next : lines_from held ≡ line ∷ behind
+  pub after : List Line
+  pub next : lines_from held ≡ line ∷ after
   pub long : IsTrue (is_overlong line.bytes)
   pub number : line.number ≡ n
 

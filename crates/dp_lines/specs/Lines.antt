@@ -68,6 +68,6 @@ is_overlong line = not (is_comment line) && nat_lt line_limit (length line)
 -- n + 1
 abbrev pub numbered : ℕ → List (List ℕ) → List Line
 numbered n [] = []
-numbered n (line ∷ behind) =
-    if is_skipped line then numbered (n + 1) behind
-    else record { number = n + 1; bytes = line } ∷ numbered (n + 1) behind
+numbered n (line ∷ after) =
+    if is_skipped line then numbered (n + 1) after
+    else record { number = n + 1; bytes = line } ∷ numbered (n + 1) after

@@ -20,8 +20,8 @@ abbrev pub first_line : Held → ℕ → Line
 first_line held len = record { number = held.count + 1; bytes = take len held.bytes }
 
 -- what is left where `len` bytes are taken as a line
-abbrev pub behind_first : Held → ℕ → Held
-behind_first held taken =
+abbrev pub after_first : Held → ℕ → Held
+after_first held taken =
     record { count = held.count + 1; bytes = drop taken held.bytes; fed = held.fed }
 
 -- from the old to the new only lines were taken that are passed over

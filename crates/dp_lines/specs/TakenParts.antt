@@ -6,9 +6,9 @@ use Rattle.std.specs.Prelude.{◌≡◌, ℕ, ◌≤◌, List, ◌++◌, length,
 pub record TookWithin (P : List ℕ → Type 0) (most : ℕ) (input : List ℕ) (left : Option (List ℕ)) :
     Type 0 where
   pub taken : List ℕ
-  pub behind : List ℕ
+  pub after : List ℕ
   pub untaken : List ℕ
-  pub whole : input ≡ taken ++ (behind ++ untaken)
+  pub whole : input ≡ taken ++ (after ++ untaken)
   pub left_is : left ≡ Some untaken
   pub meets : P taken
-  pub few : length behind ≤ most
+  pub few : length after ≤ most

@@ -16,7 +16,7 @@ ghost use Rattle.dp_lines.specs.Numbers.{IsNumber};
 
 /// What a step is: a line after the lines before it. For laws alone, which are called at a type
 /// that says it.
-pub trait Steps {
+pub trait StepRule {
     ghost use Rattle.std.specs.Prelude.{List};
     ghost use Rattle.dp_lines.specs.declared.line.Line.{Line};
 
@@ -59,12 +59,12 @@ pub fn still_left()
         → IsLeft (all ++ more) done new }
 
     // Ended lines are given, or none.
-    ensures given { (all : List ℕ) (done front : List Line) (old new : Held)
+    ensures given { (all : List ℕ) (done prefix : List Line) (old new : Held)
         → IsLeft all done old
-        → ended_from old ≡ front ++ ended_from new
+        → ended_from old ≡ prefix ++ ended_from new
         → new.count + length (ended new.bytes) ≡ old.count + length (ended old.bytes)
         → open_rest new.bytes ≡ open_rest old.bytes → new.fed ≡ old.fed
-        → IsLeft all (done ++ front) new }
+        → IsLeft all (done ++ prefix) new }
 
     // Nothing more is fed.
     ensures at_end { (all : List ℕ) (done : List Line) (held : Held)
@@ -76,12 +76,12 @@ pub fn still_left()
 pub fn lines_seen()
     ensures given { (limit : ℕ) (all more : List ℕ) (done : List Line) (held : Held)
         → IsLeft all done held → length all ≤ limit
-        → (behind : List Line) × (seen limit (all ++ more) ≡ done ++ behind) }
+        → (after : List Line) × (seen limit (all ++ more) ≡ done ++ after) }
 
     // A next line that is too long is the next that is seen.
     ensures long { (limit : ℕ) (all more : List ℕ) (done : List Line) (held : Held) (n : ℕ)
         → IsLeft all done held → length all ≤ limit → NextIsLong held n
-        → (line : Line) × (behind : List Line) × (seen limit (all ++ more) ≡ done ++ line ∷ behind)
+        → (line : Line) × (after : List Line) × (seen limit (all ++ more) ≡ done ++ line ∷ after)
         × IsTrue (is_overlong line.bytes) × (line.number ≡ n) }
 
     // Where the limit is reached, no ended line is left and the rest isn't too long, all is given.
@@ -97,7 +97,7 @@ pub fn lines_seen()
 {}
 
 /// No lines are steps, and steps with a line after them that is doable there are steps.
-pub fn further_step<S: Steps>()
+pub fn further_step<S: StepRule>()
     ensures none { AreSteps S.is_step [] }
     ensures more { (done : List Line) (line : Line)
         → AreSteps S.is_step done → IsDoable S.is_step done line
@@ -105,7 +105,7 @@ pub fn further_step<S: Steps>()
 {}
 
 /// An input comes to at most one end, with one list of lines that are done.
-pub fn one_end<S: Steps>()
+pub fn one_end<S: StepRule>()
     ensures lines { (limit : ℕ) (bytes : List ℕ) (done others : List Line) (end last : LinesEnd)
         → LinesComeTo S.is_step limit bytes done end
         → LinesComeTo S.is_step limit bytes others last → done ≡ others }

@@ -11,7 +11,7 @@ mod words;
 
 pub use hexadecimal::{hex_of, put_hex};
 pub use laws::{
-    Steps, further_step, hex_read_back, lines_seen, one_end, one_number, one_way, still_left,
+    StepRule, further_step, hex_read_back, lines_seen, one_end, one_number, one_way, still_left,
     whole_lines,
 };
 pub use line::{Line, LineBytes};

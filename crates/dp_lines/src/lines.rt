@@ -138,7 +138,7 @@ impl Lines {
 
 impl Lines {
     ghost use Rattle.dp_lines.specs.Held.{ended_from, lines_from, given, NextIsLong, IsInLimit};
-    ghost use Rattle.dp_lines.specs.Taken.{first_line, behind_first, Keeps};
+    ghost use Rattle.dp_lines.specs.Taken.{first_line, after_first, Keeps};
 
     /// Takes the lines off that are passed over, up to the first other one, and answers where that
     /// one's newline stands; `None` where no further newline is held.
@@ -228,7 +228,7 @@ impl Lines {
         requires within { len + ending ≤ length self.old.bytes }
         requires some { 0 < len + ending }
         ensures line { IfOk result (λ next. next ≡ Some (first_line self.old len)) }
-        ensures taken { OnOk result (self.new ≡ behind_first self.old (len + ending)) }
+        ensures taken { OnOk result (self.new ≡ after_first self.old (len + ending)) }
         ensures fits { OnOk result (IsInLimit (first_line self.old len)) }
         ensures long { (n : ℕ) → (result ≡ Err (LineError.Long n))
             ↔ (IsTrue (is_overlong (take len self.old.bytes)) × (n ≡ self.old.count + 1)) }
@@ -251,7 +251,7 @@ impl Lines {
     fn drop_line(&mut self, taken: usize)
         requires taken { taken ≤ length self.old.bytes }
         requires some { 0 < taken }
-        ensures { self.new ≡ behind_first self.old taken }
+        ensures { self.new ≡ after_first self.old taken }
     {
         self.buffer.advance(taken);
         self.scanned = 0;

@@ -1,20 +1,18 @@
 -- What the first frame of a link says.
-use Rattle.std.proofs.Common.{◌≡◌, ℕ, ◌+◌, List, length, Some}
+use Rattle.std.proofs.Common.{◌≡◌, ℕ, List, Some}
 use Rattle.std.proofs.Common.{Ok, Err, refl, sym, ap, subst, ◌∙◌}
 use Rattle.dp_frame.specs.Frames.{FrameParts}
 use Rattle.dp_split.specs.Stream.{Stream}
-use Rattle.dp_messages.specs.declared.message.Msg.{Msg}
 use Rattle.dp_messages.specs.declared.message.Msg.TheVariants as msg
 use Rattle.dp_messages.specs.declared.message.Entry.{Entry}
 use Rattle.dp_messages.specs.declared.decoder.DecodeError.{DecodeError}
-use Rattle.dp_messages.specs.Messages.{Spells}
-use Rattle.dp_messages.specs.Decoded.{Carries, IsRefused}
+use Rattle.dp_messages.specs.Decoded.{Carries, IsPayloadRefused}
 use Rattle.dp_msg_meta.specs.declared.message.Control.TheVariants.{Hello}
 use Rattle.dp_entries.specs.declared.ends.Refusal.{Refusal}
 use Rattle.dp_entries.specs.declared.ends.Refusal.TheVariants as refusal
-use Rattle.dp_entries.specs.Anywhere.{StandsAnywhere, IsCauseAnywhere}
+use Rattle.dp_entries.specs.Anywhere.{IsCauseAnywhere}
 use Rattle.dp_entries.specs.Ends.{IfCause}
-use Rattle.dp_entries.specs.Reading.{TakesEntry, TakesBad}
+use Rattle.dp_entries.specs.Reading.{TakesBad}
 use Rattle.dp_link.specs.declared.messages.BadFrame.{BadFrame}
 use Rattle.dp_link.specs.declared.ends.GreetEnd.{GreetEnd}
 use Rattle.dp_link.specs.declared.ends.GreetEnd.TheVariants as greet
@@ -24,16 +22,9 @@ use Rattle.dp_link.specs.Hello.{NameOf, TakesName}
 
 -- ---- a frame is taken
 
-pub takes-entry : (old new : Stream) (entry : Entry)
-    → TakesEntry StandsAnywhere 0 old new entry
-    → new.at + length new.held ≡ old.at + length old.held
-    → TakesMessage (Ok (Some entry)) old new
-takes-entry old new entry taken count =
-    (taken.frame, record { fits = taken.fits; whole = taken.held }, taken.stands, count)
-
 pub takes-bad : (old new : Stream) (at : ℕ) (why : Refusal DecodeError) (bad : BadFrame)
     → ((frame : FrameParts) (e : Entry) (f : DecodeError) → Carries frame e
-    → IsRefused frame.kind frame.body f → ⊥)
+    → IsPayloadRefused frame.kind frame.body f → ⊥)
     → IfCause (TakesBad IsCauseAnywhere 0 old new) why → at ≡ old.at → StopIs why at bad
     → TakesMessage (Err bad) old new
 takes-bad old new at (refusal.Cause cause) bad either h place is =
@@ -56,18 +47,6 @@ takes-bad old new at refusal.Memory bad either h place is =
 pub no-message-no-hello : (bytes : List ℕ) → BeginsWithNoMessage bytes → BeginsWithoutHello bytes
 no-message-no-hello bytes h =
     (h.0, h.1, h.2, λ name spells. h.3 (msg.Control (Hello name)) spells)
-
-pub taken-name : (old new : Stream) (entry : Entry) (start : ℕ) (name : List ℕ)
-    → TakesMessage (Ok (Some entry)) old new → NameOf (Ok name) entry.msg start
-    → TakesName (Ok (Some name)) old new
-taken-name old new entry start name taken is = (
-  (
-    taken.0,
-    taken.1,
-    subst (λ (m : Msg). Spells taken.0.kind taken.0.body m) is taken.2.spelled,
-  ),
-  taken.3,
-)
 
 -- a frame that carries another entry carries no Hello
 other-hello : (old new : Stream) (entry : Entry)

@@ -23,10 +23,11 @@ use Rattle.dp_link.specs.declared.ends.UpEnd.{UpEnd}
 use Rattle.dp_link.specs.declared.ends.UpEnd.TheVariants as up
 use Rattle.dp_link.specs.declared.pieces.PieceEnd.TheVariants as piece
 use Rattle.dp_link.specs.declared.messages.BadFrame.TheVariants as bad
-use Rattle.dp_link.specs.Acts.{Outcome, Act, SeatView, IsAct, ActsOnce}
+use Rattle.dp_link.specs.Acts.{SeatView, IsAct, ActsOnce}
+use Rattle.dp_session_laws.specs.Logs.{ReplyOrMemory, LogEntry}
 use Rattle.dp_link.specs.Bytes.{link_limit, BeginsWith, TakesMessage}
 use Rattle.dp_link.specs.Pieces.{room_after, ReadsPiece}
-use Rattle.dp_link.specs.Saying.{WentOn, stops, AreSaid, AreSaidTo, SaidBy, AreSpelled}
+use Rattle.dp_link.specs.Saying.{MayGoOn, stops, AreSaid, AreSaidTo, SaidBy, AreSpelled}
 use Rattle.dp_link.specs.Saying.{SpellFirst, counted, link_bytes, given_count, RestBy, RestHeld}
 use Rattle.dp_link.specs.Saying.{EndsBy, SaysOne, HeldBy, SaysHeld, SaidSoFar, SaidToEnd, SaysAll}
 use Rattle.dp_link.proofs.PieceLemmas.{consumes-none, consumes-then}
@@ -80,14 +81,15 @@ spell-more xs ys more ms p = record {
 
 -- ---- Says
 
-said-then : (conn : ℕ) (ms ns : List Msg) (xs ys : List Act) → AreSaid conn ms xs
+said-then : (conn : ℕ) (ms ns : List Msg) (xs ys : List LogEntry) → AreSaid conn ms xs
     → AreSaid conn ns ys → AreSaid conn (ms ++ ns) (xs ++ ys)
 said-then conn [] ns [] ys p q = q
 said-then conn [] ns (x ∷ xs) ys p q = absurd p
 said-then conn (m ∷ ms) ns [] ys p q = absurd p
 said-then conn (m ∷ ms) ns (x ∷ xs) ys p q = (p.0, said-then conn ms ns xs ys p.1 q)
 
-said-to-then : (P : Msg → Outcome → Type 0) (conn : ℕ) (ms ns : List Msg) (xs ys : List Act)
+said-to-then : (P : Msg → ReplyOrMemory → Type 0) (conn : ℕ) (ms ns : List Msg)
+    (xs ys : List LogEntry)
     → AreSaid conn ms xs → AreSaidTo P conn ns ys → AreSaidTo P conn (ms ++ ns) (xs ++ ys)
 said-to-then P conn ms ns xs ys p q = record {
   earlier = ms ++ q.earlier;
@@ -102,10 +104,10 @@ said-to-then P conn ms ns xs ys p q = record {
   meets = q.meets;
 }
 
-said-by-then : (end : UpEnd) (conn : ℕ) (ms ns : List Msg) (xs ys : List Act)
+said-by-then : (end : UpEnd) (conn : ℕ) (ms ns : List Msg) (xs ys : List LogEntry)
     → AreSaid conn ms xs → SaidBy end conn ns ys → SaidBy end conn (ms ++ ns) (xs ++ ys)
 said-by-then up.Left conn ms ns xs ys p q =
-    said-to-then (λ m outcome. (is_disconnect m ≡ true) × WentOn outcome) conn ms ns xs ys p q
+    said-to-then (λ m outcome. (is_disconnect m ≡ true) × MayGoOn outcome) conn ms ns xs ys p q
 said-by-then (up.Refused answer) conn ms ns xs ys p q =
     said-to-then (λ m outcome. (outcome ≡ Ok answer) × (stops answer ≡ true)) conn ms ns xs ys p
     q
@@ -121,7 +123,7 @@ said-by-then (up.NotGreeted end) conn ms ns xs ys p q = absurd q
 -- ---- one message
 
 -- the one Say is the last one
-said-last : (P : Msg → Outcome → Type 0) (conn : ℕ) (m : Msg) (act : Act)
+said-last : (P : Msg → ReplyOrMemory → Type 0) (conn : ℕ) (m : Msg) (act : LogEntry)
     → act.event ≡ Say conn m → P m act.outcome → AreSaidTo P conn (m ∷ []) (act ∷ [])
 said-last P conn m act is meets = record {
   earlier = [];
@@ -135,7 +137,7 @@ said-last P conn m act is meets = record {
   meets = meets;
 }
 
-one-by : (conn : ℕ) (m : Msg) (act : Act) (outcome : Outcome) (old new : Stream)
+one-by : (conn : ℕ) (m : Msg) (act : LogEntry) (outcome : ReplyOrMemory) (old new : Stream)
     (result : Result Bool UpEnd)
     → IsAct act (Say conn m) outcome → EndsBy result outcome (is_disconnect m)
     → new.at + length new.held ≡ old.at + length old.held
@@ -144,7 +146,7 @@ one-by conn m act outcome old new (Ok more) is ends count = (
   (
     record {
       event_is = is.event_is;
-      went_on = subst WentOn (sym is.outcome_is) ends.1;
+      may_go_on = subst MayGoOn (sym is.outcome_is) ends.1;
       stays = ends.2;
     },
     tt,
@@ -153,8 +155,8 @@ one-by conn m act outcome old new (Ok more) is ends count = (
   count,
 )
 one-by conn m act outcome old new (Err up.Left) is ends count = (
-  said-last (λ m outcome. (is_disconnect m ≡ true) × WentOn outcome) conn m act is.event_is
-      (ends.1, subst WentOn (sym is.outcome_is) ends.0),
+  said-last (λ m outcome. (is_disconnect m ≡ true) × MayGoOn outcome) conn m act is.event_is
+      (ends.1, subst MayGoOn (sym is.outcome_is) ends.0),
   tt,
 )
 one-by conn m act outcome old new (Err (up.Refused answer)) is ends count = (
@@ -164,7 +166,7 @@ one-by conn m act outcome old new (Err (up.Refused answer)) is ends count = (
 )
 one-by conn m act outcome old new (Err up.Memory) is ends count = (
   inr (said-last (λ m outcome. IsErr outcome) conn m act is.event_is
-      (subst (λ (o : Outcome). IsErr o) (sym is.outcome_is) ends)),
+      (subst (λ (o : ReplyOrMemory). IsErr o) (sym is.outcome_is) ends)),
   tt,
 )
 one-by conn m act outcome old new (Err up.End) is ends count = absurd ends
@@ -185,11 +187,6 @@ says-one-held v w old new conn entry result taken says = record {
   by = one-by conn entry.msg says.acts.act says.outcome old new result says.acts.is says.ends
       taken.3;
 }
-
-pub shorter-held : (old new : Stream) (entry : Entry) → TakesMessage (Ok (Some entry)) old new
-    → length new.held < length old.held
-shorter-held old new entry taken =
-    omega (arith, ap length taken.1.whole, length-append (spelling taken.0) new.held)
 
 pub says-no-more : (v : SeatView) (old new : Stream) (conn : ℕ) → Continues v [] v
     → TakesMessage (Ok None) old new → SaysHeld v v old new conn (Ok false)
@@ -234,7 +231,7 @@ says-memory v old new conn none = record {
 -- calls of one seat add up, from these three views on
 abbrev AddUp : SeatView → SeatView → SeatView → Type 0
 AddUp u v w =
-    (xs ys : List Act) → Continues u xs v → Continues v ys w → Continues u (xs ++ ys) w
+    (xs ys : List LogEntry) → Continues u xs v → Continues v ys w → Continues u (xs ++ ys) w
 
 pub held-starts : (v : SeatView) (stream : Stream) (conn : ℕ) → Continues v [] v
     → SaysHeld {T = Unit {0}} v v stream stream conn (Ok tt)
@@ -312,7 +309,7 @@ so-far-starts v left stream conn none within =
       read = [];
       messages = [];
       says = [];
-      gave = consumes-none left;
+      read_is = consumes-none left;
       heard =
           subst (λ (l : List ℕ). SpellFirst l [] stream.held) (sym whole)
           (spell-none stream.held);
@@ -332,7 +329,7 @@ so-far-held u v w left unread a b c conn over both p q = record {
   read = p.read;
   messages = p.messages ++ q.messages;
   says = p.says ++ q.says;
-  gave = p.gave;
+  read_is = p.read_is;
   heard =
       spell-then (counted a p.read) b.held c.held p.messages q.messages p.heard
       (held-up-to v w b c conn q);
@@ -362,7 +359,7 @@ so-far-ends u v w left unread a b c conn over end both p q = record {
   messages = p.messages ++ q.messages;
   rest = q.rest;
   says = p.says ++ q.says;
-  gave = p.gave;
+  read_is = p.read_is;
   heard =
       spell-then (counted a p.read) b.held q.rest p.messages q.messages p.heard q.heard;
   goes = both p.says q.says p.goes q.goes;
@@ -378,7 +375,7 @@ so-far-long u v left unread a b conn over more none p = record {
   messages = p.messages;
   rest = b.held;
   says = p.says;
-  gave = p.gave;
+  read_is = p.read_is;
   heard = p.heard;
   goes = p.goes;
   said = p.said;
@@ -437,7 +434,7 @@ so-far-piece u v left unread more a b c conn over later all p r =
       read = p.read ++ r.piece;
       messages = p.messages;
       says = p.says;
-      gave = consumes-then left unread more p.read r.piece p.gave r.gave;
+      read_is = consumes-then left unread more p.read r.piece p.read_is r.read_is;
       heard =
           subst (λ (l : List ℕ). SpellFirst l p.messages c.held) (sym now)
           (subst (λ (l : List ℕ). SpellFirst (counted a p.read ++ fed) p.messages l) (sym f.held)
@@ -466,12 +463,12 @@ ends-here : (u v : SeatView) (left unread more : Option (List ℕ)) (a b : Strea
     → (p : SaidSoFar u v left unread a b conn over) → Consumes unread more piece
     → length piece ≡ 0
     → Consumes left more p.read × (HoldsNoFrame b.held × (given_count a p.read ≤ link_limit))
-ends-here u v left unread more a b conn over piece all none p gave empty =
+ends-here u v left unread more a b conn over piece all none p read_is empty =
     let nil : piece ≡ [] = nil_from_length piece empty in
     let given : Consumes unread more [] =
-    subst (λ (l : List ℕ). Consumes unread more l) nil gave in (
+    subst (λ (l : List ℕ). Consumes unread more l) nil read_is in (
       subst (λ (l : List ℕ). Consumes left more l) (append-nil p.read)
-          (consumes-then left unread more p.read [] p.gave given),
+          (consumes-then left unread more p.read [] p.read_is given),
       (none, all-count p all),
     )
 
@@ -480,13 +477,13 @@ pub so-far-end : (u v : SeatView) (left unread more : Option (List ℕ)) (a b c 
     → SaidSoFar u v left unread a b conn over → ReadsPiece unread more b c (Err piece.End)
     → SaidToEnd u v left more a conn up.End
 so-far-end u v left unread more a b c conn over all none p r =
-    let h = ends-here u v left unread more a b conn over r.piece all none p r.gave r.feeds.0 in
+    let h = ends-here u v left unread more a b conn over r.piece all none p r.read_is r.feeds.0 in
     record {
       read = p.read;
       messages = p.messages;
       rest = b.held;
       says = p.says;
-      gave = h.0;
+      read_is = h.0;
       heard = p.heard;
       goes = p.goes;
       said = p.said;
@@ -498,13 +495,13 @@ pub so-far-fault : (u v : SeatView) (left unread more : Option (List ℕ)) (a b 
     → SaidSoFar u v left unread a b conn over → ReadsPiece unread more b c (Err piece.ReadFault)
     → SaidToEnd u v left more a conn up.ReadFault
 so-far-fault u v left unread more a b c conn over all none p r =
-    let h = ends-here u v left unread more a b conn over r.piece all none p r.gave r.feeds.0 in
+    let h = ends-here u v left unread more a b conn over r.piece all none p r.read_is r.feeds.0 in
     record {
       read = p.read;
       messages = p.messages;
       rest = b.held;
       says = p.says;
-      gave = h.0;
+      read_is = h.0;
       heard = p.heard;
       goes = p.goes;
       said = p.said;
@@ -524,7 +521,7 @@ so-far-lost u v left unread more a b c conn over all p r =
       messages = p.messages;
       rest = b.held ++ fed;
       says = p.says;
-      gave = consumes-then left unread more p.read r.piece p.gave r.gave;
+      read_is = consumes-then left unread more p.read r.piece p.read_is r.read_is;
       heard =
           subst (λ (l : List ℕ). SpellFirst l p.messages (b.held ++ fed)) (sym now)
           (spell-more (counted a p.read) b.held fed p.messages p.heard);
@@ -535,7 +532,8 @@ so-far-lost u v left unread more a b c conn over all p r =
 
 -- and then the Close
 pub says-all : (u v w : SeatView) (left unread : Option (List ℕ)) (stream : Stream) (conn : ℕ)
-    (end : UpEnd) (outcome : Outcome) → AddUp u v w → SaidToEnd u v left unread stream conn end
+    (end : UpEnd) (outcome : ReplyOrMemory) → AddUp u v w
+    → SaidToEnd u v left unread stream conn end
     → ActsOnce v (Close conn) outcome w → SaysAll u w left unread stream conn end outcome
 says-all u v w left unread stream conn end outcome both p q = record {
   acts = p.says ++ q.act ∷ [];
@@ -546,7 +544,7 @@ says-all u v w left unread stream conn end outcome both p q = record {
     rest = p.rest;
     says = p.says;
     close = q.act;
-    gave = p.gave;
+    read_is = p.read_is;
     heard = p.heard;
     acts_are = refl;
     closes = q.is;

@@ -1,6 +1,6 @@
 -- Pieces of a link, and how many bytes hold no frame.
-use Rattle.std.proofs.Common.{◌≡◌, ◌↔◌, ◌⊎◌, ℕ, zero, suc, ◌+◌, ◌*◌, ◌/◌, ◌%◌, ◌<◌, ◌≤◌, Bool}
-use Rattle.std.proofs.Common.{IsTrue, List, [], ◌∷◌, ◌++◌, length, take, drop, get_or}
+use Rattle.std.proofs.Common.{◌≡◌, ◌⊎◌, ℕ, zero, suc, ◌+◌, ◌*◌, ◌/◌, ◌%◌, ◌<◌, ◌≤◌, Bool}
+use Rattle.std.proofs.Common.{List, [], ◌∷◌, ◌++◌, length, take, drop, get_or}
 use Rattle.std.proofs.Common.{Option, None, Some, Ok, Err, refl, sym, ap, subst, ◌∙◌, arith}
 use Rattle.std.proofs.Common.{append_assoc, length-append, inl, inr}
 use Rattle.std.proofs.lemmas.Bool.{cases_lt}
@@ -32,25 +32,6 @@ consumes-then (Some l) (Some m) None xs ys p q = q
 consumes-then (Some l) (Some m) (Some n) xs ys p q =
     p ∙ ap (λ t. xs ++ t) q ∙ sym (append_assoc xs ys n)
 
--- a piece that was read and fed
-pub feeds-piece : (left unread : Option (List ℕ)) (old new : Stream) (piece : List ℕ) (over : Bool)
-    → Consumes left unread piece → 0 < length piece → length piece ≤ 4096
-    → ((k : ℕ) → get_or piece k 0 < 256)
-    → new.held ≡ old.held ++ take (room_after old) piece → new.at ≡ old.at
-    → IsTrue over ↔ (room_after old < length piece)
-    → ReadsPiece left unread old new (Ok over)
-feeds-piece left unread old new piece over gave some few small held at others = record {
-  piece = piece;
-  gave = gave;
-  feeds =
-      record { some = some; few = few; small = small; held = held; at = at; others = others };
-}
-
-pub lost-piece : (left unread : Option (List ℕ)) (old new : Stream) (piece : List ℕ)
-    → Consumes left unread piece → new ≡ old → ReadsPiece left unread old new (Err Memory)
-lost-piece left unread old new piece gave same =
-    record { piece = piece; gave = gave; feeds = same }
-
 -- ---- bytes
 
 pub small-then : (xs ys : List ℕ) → ((k : ℕ) → get_or xs k 0 < 256)
@@ -67,9 +48,9 @@ small-take (suc n) (x ∷ xs) p zero = p 0
 small-take (suc n) (x ∷ xs) p (suc k) = small-take n xs (λ j. p (suc j)) k
 
 -- a header with the payload that it announces after it is a frame
-frame-in-front : (a b c d : ℕ) (tail : List ℕ) → a < 256 → b < 256 → a * 256 + b ≤ length tail
+begins-with-frame : (a b c d : ℕ) (tail : List ℕ) → a < 256 → b < 256 → a * 256 + b ≤ length tail
     → (f : FrameParts) × (more : List ℕ) × IsFrame f × (a ∷ b ∷ c ∷ d ∷ tail ≡ spelling f ++ more)
-frame-in-front a b c d tail small_a small_b enough =
+begins-with-frame a b c d tail small_a small_b enough =
     let n = a * 256 + b in
     let body = take n tail in
     let len : length body ≡ n = length-take-le n tail enough in
@@ -94,7 +75,7 @@ long-holds (a ∷ b ∷ c ∷ []) small long none = absurd (omega arith)
 long-holds (a ∷ b ∷ c ∷ d ∷ tail) small long none =
     let first : a < 256 = small 0 in
     let second : b < 256 = small 1 in
-    let found = frame-in-front a b c d tail first second (omega arith) in
+    let found = begins-with-frame a b c d tail first second (omega arith) in
     none found.0 found.1 found.2 found.3
 
 pub short-rest : (bytes : List ℕ) → ((k : ℕ) → get_or bytes k 0 < 256) → HoldsNoFrame bytes
@@ -110,7 +91,7 @@ short-rest bytes small none = by_length (cases_lt (length bytes) 65539)
 -- what is held is what was read, and holds at most a frame's bytes and a piece's
 pub record HoldsRead (left unread : Option (List ℕ)) (stream : Stream) : Type 0 where
   pub at : stream.at ≡ 0
-  pub gave : Consumes left unread stream.held
+  pub read_is : Consumes left unread stream.held
   pub small : (k : ℕ) → get_or stream.held k 0 < 256
   pub short : length stream.held < 70000
 
@@ -128,9 +109,9 @@ reads-more left unread more old new over h none reads =
     ap length held ∙ length-append old.held piece in (
       record {
         at = f.at ∙ h.at;
-        gave =
+        read_is =
             subst (Consumes left more) (sym held)
-            (consumes-then left unread more old.held piece h.gave reads.gave);
+            (consumes-then left unread more old.held piece h.read_is reads.read_is);
         small =
             λ k.
             subst (λ (l : List ℕ). get_or l k 0 < 256) (sym held)
@@ -146,6 +127,6 @@ pub reads-lost : (left unread more : Option (List ℕ)) (old new : Stream)
     → ReadsName left more new (Err greet.Memory)
 reads-lost left unread more old new h reads = record {
   read = old.held ++ reads.piece;
-  gave = consumes-then left unread more old.held reads.piece h.gave reads.gave;
+  read_is = consumes-then left unread more old.held reads.piece h.read_is reads.read_is;
   by = tt;
 }

@@ -25,7 +25,8 @@ use Rattle.dp_session_laws.specs.Feeds.{Segment, IsFeed, feed_entries, IsGone, P
 use Rattle.dp_link.specs.declared.ends.DownEnd.{DownEnd}
 use Rattle.dp_link.specs.declared.ends.DownEnd.TheVariants as down
 use Rattle.dp_link.specs.declared.pages.Cursor.{Cursor}
-use Rattle.dp_link.specs.Acts.{Act, SeatView}
+use Rattle.dp_link.specs.Acts.{SeatView}
+use Rattle.dp_session_laws.specs.Logs.{LogEntry}
 use Rattle.dp_link.specs.Sending.{session_of, Sends, SentTo, SendsPage, WritesPage}
 use Rattle.dp_link.proofs.PageLemmas.{appends-none, appends-then, grows-all, grows-then}
 use Rattle.dp_link.proofs.PageLemmas.{frames-then}
@@ -40,17 +41,17 @@ seen-legal start w is sound =
     let one : sound.legal.0 ≡ start = cc in
     subst (λ (m : Past). IsLegal Step m w.seen) one sound.legal.2
 
-in-longer : (act : Act) (xs ys : List Act) → IsIn act xs → IsIn act (xs ++ ys)
+in-longer : (act : LogEntry) (xs ys : List LogEntry) → IsIn act xs → IsIn act (xs ++ ys)
 in-longer act [] ys h = absurd h
 in-longer act (x ∷ xs) ys (inl e) = inl e
 in-longer act (x ∷ xs) ys (inr h) = inr (in-longer act xs ys h)
 
 -- an Open that was seen is seen later
-pub opened-later : (xs ys : List Act) (conn user epoch at : ℕ) → IsPrefix xs ys
+pub opened-later : (xs ys : List LogEntry) (conn user epoch at : ℕ) → IsPrefix xs ys
     → HasOpened xs conn user epoch at → HasOpened ys conn user epoch at
 opened-later xs ys conn user epoch at p h = record {
   act = h.act;
-  within = subst (λ (l : List Act). IsIn h.act l) p.1 (in-longer h.act xs p.0 h.within);
+  within = subst (λ (l : List LogEntry). IsIn h.act l) p.1 (in-longer h.act xs p.0 h.within);
   answer = h.answer;
 }
 
@@ -252,7 +253,7 @@ seen-same start v w n is = ap (λ (x : SeatView). left_by start x.seen) is
 pub opened-same : (v w : SeatView) (n conn user epoch at : ℕ) → w ≡ record v { known = n }
     → HasOpened v.seen conn user epoch at → HasOpened w.seen conn user epoch at
 opened-same v w n conn user epoch at is h =
-    subst (λ (l : List Act). HasOpened l conn user epoch at)
+    subst (λ (l : List LogEntry). HasOpened l conn user epoch at)
     (sym (ap (λ (x : SeatView). x.seen) is)) h
 
 pub known-goes : (v w : SeatView) (n : ℕ) → w ≡ record v { known = n }

@@ -19,28 +19,29 @@ use Rattle.dp_hall.specs.Laws.{Continues}
 use Rattle.dp_link.specs.declared.ends.Greeting.{Greeting}
 use Rattle.dp_link.specs.declared.ends.GreetEnd.{GreetEnd}
 use Rattle.dp_link.specs.declared.ends.GreetEnd.TheVariants as greet
-use Rattle.dp_link.specs.Acts.{Outcome, Act, SeatView, ActsOnce, last_outcome}
+use Rattle.dp_link.specs.Acts.{SeatView, ActsOnce, last_outcome}
+use Rattle.dp_session_laws.specs.Logs.{ReplyOrMemory, LogEntry}
 use Rattle.dp_link.specs.Answers.{OpensWith, opened_as as reply_of}
 use Rattle.dp_link.specs.Hello.{Answers, AnswersBy, Welcomes, ReadsName, NamesBy, RefusesBy}
-use Rattle.dp_link.specs.Hello.{BlamesHello, BlamesRefusal}
+use Rattle.dp_link.specs.Hello.{FaultMatchesHello, FaultMatchesRefusal}
 use Rattle.std.specs.declared.alloc.AllocError.{AllocError}
 use Rattle.dp_link.specs.Hello.{Greets, GreetsBy}
 
 -- the last act of a legal log is a step
-last-step : (m : Past) (log : List Act) (act : Act) → IsLegal Step m (log ++ act ∷ [])
+last-step : (m : Past) (log : List LogEntry) (act : LogEntry) → IsLegal Step m (log ++ act ∷ [])
     → Step (left_by m log) act.event act.outcome act.left
 last-step m [] act legal = legal.0
 last-step m (first ∷ log) act legal = last-step first.left log act legal.1
 
 -- an act is a step of the session
-pub acted-step : (v w : SeatView) (e : Event) (outcome : Outcome) → Acts v e outcome w
+pub acted-step : (v w : SeatView) (e : Event) (outcome : ReplyOrMemory) → Acts v e outcome w
     → IsSound Step w → (old new : Past) × Step old e outcome new
 acted-step v w e outcome acts sound =
     let legal = subst (IsLegal Step sound.legal.0) acts.seen sound.legal.2 in
     let step = last-step sound.legal.0 (v.seen ++ acts.between) acts.entry legal in (
       left_by sound.legal.0 (v.seen ++ acts.between),
       acts.entry.left,
-      subst (λ (o : Outcome). Step (left_by sound.legal.0 (v.seen ++ acts.between)) e o
+      subst (λ (o : ReplyOrMemory). Step (left_by sound.legal.0 (v.seen ++ acts.between)) e o
           acts.entry.left) acts.outcome_is
           (subst (λ (d : Event). Step (left_by sound.legal.0 (v.seen ++ acts.between)) d
           acts.entry.outcome acts.entry.left) acts.event_is step),
@@ -86,8 +87,8 @@ opens-with name registered answer (old, new, step) =
 
 -- the Welcome could not be written
 pub welcome-fails : (u v w : SeatView) (held taken : Option (List ℕ)) (name : List ℕ)
-    (greeting : Greeting) (outcome : Outcome)
-    → ((xs ys : List Act) → Continues u xs v → Continues v ys w → Continues u (xs ++ ys) w)
+    (greeting : Greeting) (outcome : ReplyOrMemory)
+    → ((xs ys : List LogEntry) → Continues u xs v → Continues v ys w → Continues u (xs ++ ys) w)
     → ActsOnce u (event.Open name false) (Ok (reply_of greeting)) v
     → Welcomes v w held taken greeting (Err outcome)
     → (a : Answers u w held taken name (Err greet.WriteFault))
@@ -112,7 +113,7 @@ keeps-same (Some xs) = refl
 -- the Welcome was written
 pub welcome-done : (u v w : SeatView) (held taken : Option (List ℕ)) (name : List ℕ)
     (greeting : Greeting)
-    → ((xs ys : List Act) → Continues u xs v → Continues v ys w → Continues u (xs ++ ys) w)
+    → ((xs ys : List LogEntry) → Continues u xs v → Continues v ys w → Continues u (xs ++ ys) w)
     → ActsOnce u (event.Open name false) (Ok (reply_of greeting)) v
     → Welcomes v w held taken greeting (Ok tt)
     → (a : Answers u w held taken name (Ok greeting))
@@ -154,15 +155,15 @@ refused-answers u v held taken name greet.End answer once h = absurd h
 refused-answers u v held taken name (greet.BadMessage at) answer once h = absurd h
 refused-answers u v held taken name greet.Memory answer once h = absurd h
 
-pub refused-blames : (end : GreetEnd) (answer : Reply) (held taken : Option (List ℕ))
-    (before now : ℕ) → RefusesBy end answer held taken → BlamesRefusal end before now
-    → BlamesHello {T = Greeting} (Err end) 0 0 before now
-refused-blames (greet.Refused other) answer held taken before now h blames = (refl, blames)
-refused-blames greet.WriteFault answer held taken before now h blames = (refl, blames)
-refused-blames greet.ReadFault answer held taken before now h blames = absurd h
-refused-blames greet.End answer held taken before now h blames = absurd h
-refused-blames (greet.BadMessage at) answer held taken before now h blames = absurd h
-refused-blames greet.Memory answer held taken before now h blames = absurd h
+pub refused-fault : (end : GreetEnd) (answer : Reply) (held taken : Option (List ℕ))
+    (before now : ℕ) → RefusesBy end answer held taken → FaultMatchesRefusal end before now
+    → FaultMatchesHello {T = Greeting} (Err end) 0 0 before now
+refused-fault (greet.Refused other) answer held taken before now h fault = (refl, fault)
+refused-fault greet.WriteFault answer held taken before now h fault = (refl, fault)
+refused-fault greet.ReadFault answer held taken before now h fault = absurd h
+refused-fault greet.End answer held taken before now h fault = absurd h
+refused-fault (greet.BadMessage at) answer held taken before now h fault = absurd h
+refused-fault greet.Memory answer held taken before now h fault = absurd h
 
 -- memory ran out in the Open
 pub memory-answers : (u v : SeatView) (held : Option (List ℕ)) (name : List ℕ)
@@ -184,8 +185,10 @@ memory-answers u v held name error once = (
 pub unnamed-greets : (v : SeatView) (left unread held : Option (List ℕ)) (stream : Stream)
     (end : GreetEnd) → Continues v [] v → ReadsName left unread stream (Err end)
     → (h : Greets v v left unread held held stream (Err end)) × (last_outcome h.acts ≡ None)
-unnamed-greets v left unread held stream end none h =
-    (record { read = h.read; acts = []; gave = h.gave; goes = none; by = by_end end h.by }, refl)
+unnamed-greets v left unread held stream end none h = (
+  record { read = h.read; acts = []; read_is = h.read_is; goes = none; by = by_end end h.by },
+  refl,
+)
   where
     by_end : (end : GreetEnd) → NamesBy (Err end) h.read stream
         → GreetsBy (Err end) h.read stream [] held held
@@ -198,7 +201,7 @@ unnamed-greets v left unread held stream end none h =
 
 -- a Hello came, and was answered
 pub named-greets : (v w : SeatView) (left unread held taken : Option (List ℕ)) (stream : Stream)
-    (name : List ℕ) (result : Result Greeting GreetEnd) (last : Option Outcome)
+    (name : List ℕ) (result : Result Greeting GreetEnd) (last : Option ReplyOrMemory)
     → ReadsName left unread stream (Ok name)
     → ((a : Answers v w held taken name result) × (last_outcome a.acts ≡ last))
     → (h : Greets v w left unread held taken stream result) × (last_outcome h.acts ≡ last)
@@ -206,7 +209,7 @@ named-greets v w left unread held taken stream name result last h (a, is) = (
   record {
     read = h.read;
     acts = a.acts;
-    gave = h.gave;
+    read_is = h.read_is;
     goes = a.goes;
     by = by_result result a.by;
   },

@@ -18,31 +18,32 @@ use Rattle.dp_events.specs.declared.event.Reply.{Reply}
 use Rattle.dp_link.specs.declared.ends.Greeting.{Greeting}
 use Rattle.dp_link.specs.declared.ends.GreetEnd.{GreetEnd}
 use Rattle.dp_link.specs.declared.ends.GreetEnd.TheVariants as greet
-use Rattle.dp_link.specs.Acts.{Outcome, Act, SeatView, IsAct}
+use Rattle.dp_link.specs.Acts.{SeatView, IsAct}
+use Rattle.dp_session_laws.specs.Logs.{ReplyOrMemory, LogEntry}
 use Rattle.dp_link.specs.Answers.{welcome, goodbye, opened_as, reason_of}
 use Rattle.dp_link.specs.Bytes.{BeginsWithHello, BeginsWithoutHello}
 
 -- ---- the answer to a Hello
 
 -- these acts are an Open by the name, not registered, of which that came
-abbrev pub AreOpen : List ℕ → Outcome → List Act → Type 0
+abbrev pub AreOpen : List ℕ → ReplyOrMemory → List LogEntry → Type 0
 AreOpen name outcome acts =
-    (act : Act) × (acts ≡ act ∷ []) × IsAct act (Open name false) outcome
+    (act : LogEntry) × (acts ≡ act ∷ []) × IsAct act (Open name false) outcome
 
 -- these acts are an Open by the name that was answered by this greeting, and a Close of its
 -- connection, whatever that was answered
-abbrev pub AreOpenAndClose : List ℕ → Greeting → List Act → Type 0
+abbrev pub AreOpenAndClose : List ℕ → Greeting → List LogEntry → Type 0
 AreOpenAndClose name greeting acts =
-    (act close : Act) × (acts ≡ act ∷ close ∷ [])
+    (act close : LogEntry) × (acts ≡ act ∷ close ∷ [])
     × IsAct act (Open name false) (Ok (opened_as greeting))
     × (close.event ≡ Close greeting.conn)
 
 -- these acts are an Open by the name that was refused with this reply, for this reason
-abbrev pub AreRefused : List ℕ → Reply → ℕ → List Act → Type 0
+abbrev pub AreRefused : List ℕ → Reply → ℕ → List LogEntry → Type 0
 AreRefused name reply reason acts = AreOpen name (Ok reply) acts × (reason_of reply ≡ Some reason)
 
 -- By how the answer ended: a Hello of the name led to these acts, and the peer took that.
-abbrev pub AnswersBy : Result Greeting GreetEnd → List ℕ → List Act → Option (List ℕ)
+abbrev pub AnswersBy : Result Greeting GreetEnd → List ℕ → List LogEntry → Option (List ℕ)
     → Option (List ℕ) → Type 0
 AnswersBy (Ok greeting) name acts held taken =
     AreOpen name (Ok (opened_as greeting)) acts
@@ -64,20 +65,20 @@ AnswersBy (Err (greet.BadMessage at)) name acts held taken = ⊥
 -- what the answer did: it acted these acts
 pub record Answers (v w : SeatView) (held taken : Option (List ℕ)) (name : List ℕ)
     (result : Result Greeting GreetEnd) : Type 0 where
-  pub acts : List Act
+  pub acts : List LogEntry
   pub goes : Continues v acts w
   pub by : AnswersBy result name acts held taken
 
 -- ---- the whole
 
 -- nothing was acted, and the peer took nothing
-abbrev pub DoesNothing : List Act → Option (List ℕ) → Option (List ℕ) → Type 0
+abbrev pub DoesNothing : List LogEntry → Option (List ℕ) → Option (List ℕ) → Type 0
 DoesNothing acts held taken = (acts ≡ []) × Keeps held taken
 
 -- By how greeting ended: the bytes that were read hold no whole frame; their first frame carries no
 -- Hello; or it carries one, whose answer ended so. After a Welcome the bytes behind the Hello are
 -- held.
-abbrev pub GreetsBy : Result Greeting GreetEnd → List ℕ → Stream → List Act → Option (List ℕ)
+abbrev pub GreetsBy : Result Greeting GreetEnd → List ℕ → Stream → List LogEntry → Option (List ℕ)
     → Option (List ℕ) → Type 0
 GreetsBy (Ok greeting) read stream acts held taken =
     (name : List ℕ) × BeginsWithHello read name stream.held
@@ -104,26 +105,26 @@ GreetsBy (Err greet.WriteFault) read stream acts held taken =
 pub record Greets (v w : SeatView) (left unread : Option (List ℕ)) (held taken : Option (List ℕ))
     (stream : Stream) (result : Result Greeting GreetEnd) : Type 0 where
   pub read : List ℕ
-  pub acts : List Act
-  pub gave : Consumes left unread read
+  pub acts : List LogEntry
+  pub read_is : Consumes left unread read
   pub goes : Continues v acts w
   pub by : GreetsBy result read stream acts held taken
 
 -- The counts of faults of the link's source and of its sink: ReadFault comes only where the first
 -- one rose, and WriteFault only where the second did. Else both stay.
-abbrev pub BlamesHello : {T : Type 0} → Result T GreetEnd → ℕ → ℕ → ℕ → ℕ → Type 0
-BlamesHello (Ok value) read_old read write_old write = (read ≡ read_old) × (write ≡ write_old)
-BlamesHello (Err greet.ReadFault) read_old read write_old write =
+abbrev pub FaultMatchesHello : {T : Type 0} → Result T GreetEnd → ℕ → ℕ → ℕ → ℕ → Type 0
+FaultMatchesHello (Ok value) read_old read write_old write = (read ≡ read_old) × (write ≡ write_old)
+FaultMatchesHello (Err greet.ReadFault) read_old read write_old write =
     Rose read_old read × (write ≡ write_old)
-BlamesHello (Err greet.WriteFault) read_old read write_old write =
+FaultMatchesHello (Err greet.WriteFault) read_old read write_old write =
     (read ≡ read_old) × Rose write_old write
-BlamesHello (Err greet.End) read_old read write_old write =
+FaultMatchesHello (Err greet.End) read_old read write_old write =
     (read ≡ read_old) × (write ≡ write_old)
-BlamesHello (Err (greet.BadMessage at)) read_old read write_old write =
+FaultMatchesHello (Err (greet.BadMessage at)) read_old read write_old write =
     (read ≡ read_old) × (write ≡ write_old)
-BlamesHello (Err (greet.Refused reply)) read_old read write_old write =
+FaultMatchesHello (Err (greet.Refused reply)) read_old read write_old write =
     (read ≡ read_old) × (write ≡ write_old)
-BlamesHello (Err greet.Memory) read_old read write_old write =
+FaultMatchesHello (Err greet.Memory) read_old read write_old write =
     (read ≡ read_old) × (write ≡ write_old)
 
 -- ---- parts of it
@@ -167,33 +168,33 @@ NamesBy (Err greet.WriteFault) read stream = ⊥
 pub record ReadsName (left unread : Option (List ℕ)) (stream : Stream)
     (result : Result (List ℕ) GreetEnd) : Type 0 where
   pub read : List ℕ
-  pub gave : Consumes left unread read
+  pub read_is : Consumes left unread read
   pub by : NamesBy result read stream
 
 -- writing the Welcome: where it failed the connection was closed, and that came of the Close
-abbrev pub WelcomesBy : Result Unit Outcome → Greeting → List Act → Option (List ℕ)
+abbrev pub WelcomesBy : Result Unit ReplyOrMemory → Greeting → List LogEntry → Option (List ℕ)
     → Option (List ℕ) → Type 0
 WelcomesBy (Ok done) greeting acts held taken =
     (acts ≡ []) × Appends held taken (entry_bytes (welcome greeting))
 WelcomesBy (Err outcome) greeting acts held taken =
-    (close : Act) × (acts ≡ close ∷ []) × IsAct close (Close greeting.conn) outcome
+    (close : LogEntry) × (acts ≡ close ∷ []) × IsAct close (Close greeting.conn) outcome
     × GrowsByPrefix held taken (entry_bytes (welcome greeting))
 
 pub record Welcomes (v w : SeatView) (held taken : Option (List ℕ)) (greeting : Greeting)
-    (result : Result Unit Outcome) : Type 0 where
-  pub acts : List Act
+    (result : Result Unit ReplyOrMemory) : Type 0 where
+  pub acts : List LogEntry
   pub goes : Continues v acts w
   pub by : WelcomesBy result greeting acts held taken
 
 -- the count of the sink's faults after the Welcome
-abbrev pub BlamesWelcome : Result Unit Outcome → ℕ → ℕ → Type 0
-BlamesWelcome (Ok done) before now = now ≡ before
-BlamesWelcome (Err outcome) before now = Rose before now
+abbrev pub FaultMatchesWelcome : Result Unit ReplyOrMemory → ℕ → ℕ → Type 0
+FaultMatchesWelcome (Ok done) before now = now ≡ before
+FaultMatchesWelcome (Err outcome) before now = Rose before now
 
 -- the count of the sink's faults after the Disconnect
-abbrev pub BlamesRefusal : GreetEnd → ℕ → ℕ → Type 0
-BlamesRefusal greet.WriteFault before now = Rose before now
-BlamesRefusal other before now = now ≡ before
+abbrev pub FaultMatchesRefusal : GreetEnd → ℕ → ℕ → Type 0
+FaultMatchesRefusal greet.WriteFault before now = Rose before now
+FaultMatchesRefusal other before now = now ≡ before
 
 -- writing the Disconnect after an Open that was refused with this reply
 abbrev pub RefusesBy : GreetEnd → Reply → Option (List ℕ) → Option (List ℕ) → Type 0

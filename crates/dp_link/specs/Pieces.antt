@@ -32,12 +32,12 @@ FeedsBy (Err Memory) piece old new = new ≡ old
 pub record ReadsPiece (left unread : Option (List ℕ)) (old new : Stream)
     (result : Result Bool PieceEnd) : Type 0 where
   pub piece : List ℕ
-  pub gave : Consumes left unread piece
+  pub read_is : Consumes left unread piece
   pub feeds : FeedsBy result piece old new
 
 -- the count of the source's faults: a fault raised it, and else it stays
-abbrev pub BlamesPiece : Result Bool PieceEnd → ℕ → ℕ → Type 0
-BlamesPiece (Ok over) before now = now ≡ before
-BlamesPiece (Err ReadFault) before now = Rose before now
-BlamesPiece (Err End) before now = now ≡ before
-BlamesPiece (Err Memory) before now = now ≡ before
+abbrev pub FaultMatchesPiece : Result Bool PieceEnd → ℕ → ℕ → Type 0
+FaultMatchesPiece (Ok over) before now = now ≡ before
+FaultMatchesPiece (Err ReadFault) before now = Rose before now
+FaultMatchesPiece (Err End) before now = now ≡ before
+FaultMatchesPiece (Err Memory) before now = now ≡ before

@@ -15,7 +15,8 @@ use Rattle.dp_events.specs.declared.event.Reply.{Reply}
 use Rattle.dp_events.specs.declared.event.Reply.TheVariants as reply
 use Rattle.dp_link.specs.declared.ends.UpEnd.{UpEnd}
 use Rattle.dp_link.specs.declared.ends.UpEnd.TheVariants as up
-use Rattle.dp_link.specs.Acts.{Outcome, Act, SeatView, IsAct, ActsOnce}
+use Rattle.dp_link.specs.Acts.{SeatView, IsAct, ActsOnce}
+use Rattle.dp_session_laws.specs.Logs.{ReplyOrMemory, LogEntry}
 use Rattle.dp_link.specs.Bytes.{link_limit, BeginsWithNoMessage}
 
 -- ---- the messages that are said
@@ -27,30 +28,30 @@ stops (reply.StoreFault count) = true
 stops other = false
 
 -- it was answered, and more may be said
-abbrev pub WentOn : Outcome → Type 0
-WentOn (Ok answer) = stops answer ≡ false
-WentOn (Err error) = ⊥
+abbrev pub MayGoOn : ReplyOrMemory → Type 0
+MayGoOn (Ok answer) = stops answer ≡ false
+MayGoOn (Err error) = ⊥
 
 -- the act is a Say of the message by the connection, after which more may be said; no Disconnect
-pub record IsSaid (conn : ℕ) (m : Msg) (act : Act) : Type 0 where
+pub record IsSaid (conn : ℕ) (m : Msg) (act : LogEntry) : Type 0 where
   pub event_is : act.event ≡ Say conn m
-  pub went_on : WentOn act.outcome
+  pub may_go_on : MayGoOn act.outcome
   pub stays : is_disconnect m ≡ false
 
 -- the acts are such Says of the messages, in order
-abbrev pub AreSaid : ℕ → List Msg → List Act → Type 0
+abbrev pub AreSaid : ℕ → List Msg → List LogEntry → Type 0
 AreSaid conn [] [] = ⊤
 AreSaid conn [] (act ∷ acts) = ⊥
 AreSaid conn (m ∷ messages) [] = ⊥
 AreSaid conn (m ∷ messages) (act ∷ acts) = IsSaid conn m act × AreSaid conn messages acts
 
 -- the same up to a last Say, of whose message and outcome P holds
-pub record AreSaidTo (P : Msg → Outcome → Type 0) (conn : ℕ) (messages : List Msg)
-    (acts : List Act) : Type 0 where
+pub record AreSaidTo (P : Msg → ReplyOrMemory → Type 0) (conn : ℕ) (messages : List Msg)
+    (acts : List LogEntry) : Type 0 where
   pub earlier : List Msg
-  pub before : List Act
+  pub before : List LogEntry
   pub last : Msg
-  pub act : Act
+  pub act : LogEntry
   pub messages_are : messages ≡ earlier ++ last ∷ []
   pub acts_are : acts ≡ before ++ act ∷ []
   pub said : AreSaid conn earlier before
@@ -59,9 +60,9 @@ pub record AreSaidTo (P : Msg → Outcome → Type 0) (conn : ℕ) (messages : L
 
 -- How the last Say ended a link, by the end: a Disconnect was said, the reply stops it, or it was
 -- refused because memory ran out. The other ends come after Says that all went on.
-abbrev pub SaidBy : UpEnd → ℕ → List Msg → List Act → Type 0
+abbrev pub SaidBy : UpEnd → ℕ → List Msg → List LogEntry → Type 0
 SaidBy up.Left conn messages acts =
-    AreSaidTo (λ m outcome. (is_disconnect m ≡ true) × WentOn outcome) conn messages acts
+    AreSaidTo (λ m outcome. (is_disconnect m ≡ true) × MayGoOn outcome) conn messages acts
 SaidBy (up.Refused answer) conn messages acts =
     AreSaidTo (λ m outcome. (outcome ≡ Ok answer) × (stops answer ≡ true)) conn messages acts
 SaidBy up.Memory conn messages acts =
@@ -119,13 +120,13 @@ RestBy (up.NotGreeted end) stream read rest = ⊥
 -- What saying the messages of a link did: it read these bytes where the link's are known, and these
 -- acts are Says of the first messages, and then a Close, of which that came.
 pub record AreSays (left unread : Option (List ℕ)) (stream : Stream) (conn : ℕ) (end : UpEnd)
-    (outcome : Outcome) (acts : List Act) : Type 0 where
+    (outcome : ReplyOrMemory) (acts : List LogEntry) : Type 0 where
   pub read : List ℕ
   pub messages : List Msg
   pub rest : List ℕ
-  pub says : List Act
-  pub close : Act
-  pub gave : Consumes left unread read
+  pub says : List LogEntry
+  pub close : LogEntry
+  pub read_is : Consumes left unread read
   pub heard : SpellFirst (counted stream read) messages rest
   pub acts_are : acts ≡ says ++ close ∷ []
   pub closes : IsAct close (Close conn) outcome
@@ -134,21 +135,21 @@ pub record AreSays (left unread : Option (List ℕ)) (stream : Stream) (conn : �
 
 -- a seat did that
 pub record SaysAll (v w : SeatView) (left unread : Option (List ℕ)) (stream : Stream) (conn : ℕ)
-    (end : UpEnd) (outcome : Outcome) : Type 0 where
-  pub acts : List Act
+    (end : UpEnd) (outcome : ReplyOrMemory) : Type 0 where
+  pub acts : List LogEntry
   pub goes : Continues v acts w
   pub are : AreSays left unread stream conn end outcome acts
 
 -- the count of faults of the link's source: ReadFault comes only where it rose, and else it stays
-abbrev pub BlamesUp : UpEnd → ℕ → ℕ → Type 0
-BlamesUp up.ReadFault before now = Rose before now
-BlamesUp up.Left before now = now ≡ before
-BlamesUp up.End before now = now ≡ before
-BlamesUp (up.BadMessage at) before now = now ≡ before
-BlamesUp up.Long before now = now ≡ before
-BlamesUp (up.Refused answer) before now = now ≡ before
-BlamesUp (up.NotGreeted end) before now = now ≡ before
-BlamesUp up.Memory before now = now ≡ before
+abbrev pub FaultMatchesUp : UpEnd → ℕ → ℕ → Type 0
+FaultMatchesUp up.ReadFault before now = Rose before now
+FaultMatchesUp up.Left before now = now ≡ before
+FaultMatchesUp up.End before now = now ≡ before
+FaultMatchesUp (up.BadMessage at) before now = now ≡ before
+FaultMatchesUp up.Long before now = now ≡ before
+FaultMatchesUp (up.Refused answer) before now = now ≡ before
+FaultMatchesUp (up.NotGreeted end) before now = now ≡ before
+FaultMatchesUp up.Memory before now = now ≡ before
 
 -- ---- parts of it
 
@@ -162,9 +163,9 @@ RestHeld up.Memory stream rest = ⊤
 RestHeld other stream rest = ⊥
 
 -- how a Say of which that came ends a link, by whether it was a Disconnect
-abbrev pub EndsBy : Result Bool UpEnd → Outcome → Bool → Type 0
-EndsBy (Ok more) outcome leaves = (more ≡ true) × WentOn outcome × (leaves ≡ false)
-EndsBy (Err up.Left) outcome leaves = WentOn outcome × (leaves ≡ true)
+abbrev pub EndsBy : Result Bool UpEnd → ReplyOrMemory → Bool → Type 0
+EndsBy (Ok more) outcome leaves = (more ≡ true) × MayGoOn outcome × (leaves ≡ false)
+EndsBy (Err up.Left) outcome leaves = MayGoOn outcome × (leaves ≡ true)
 EndsBy (Err (up.Refused answer)) outcome leaves = (outcome ≡ Ok answer) × (stops answer ≡ true)
 EndsBy (Err up.Memory) outcome leaves = IsErr outcome
 EndsBy (Err other) outcome leaves = ⊥
@@ -172,12 +173,12 @@ EndsBy (Err other) outcome leaves = ⊥
 -- a message was said, and that is how it ends the link, if it does
 pub record SaysOne (v w : SeatView) (conn : ℕ) (m : Msg) (result : Result Bool UpEnd)
     : Type 0 where
-  pub outcome : Outcome
+  pub outcome : ReplyOrMemory
   pub acts : ActsOnce v (Say conn m) outcome w
   pub ends : EndsBy result outcome (is_disconnect m)
 
 -- By what came of it: all went on so far, and the rest is held; or it ended so.
-abbrev pub HeldBy : {T : Type 0} → Result T UpEnd → Stream → Stream → ℕ → List Msg → List Act
+abbrev pub HeldBy : {T : Type 0} → Result T UpEnd → Stream → Stream → ℕ → List Msg → List LogEntry
     → List ℕ → Type 0
 HeldBy (Ok value) old new conn messages says rest =
     AreSaid conn messages says × (rest ≡ new.held)
@@ -190,7 +191,7 @@ pub record SaysHeld {T : Type 0} (v w : SeatView) (old new : Stream) (conn : ℕ
     (result : Result T UpEnd) : Type 0 where
   pub messages : List Msg
   pub rest : List ℕ
-  pub says : List Act
+  pub says : List LogEntry
   pub heard : SpellFirst old.held messages rest
   pub goes : Continues v says w
   pub by : HeldBy result old new conn messages says rest
@@ -200,8 +201,8 @@ pub record SaidSoFar (v w : SeatView) (left unread : Option (List ℕ)) (old new
     (over : Bool) : Type 0 where
   pub read : List ℕ
   pub messages : List Msg
-  pub says : List Act
-  pub gave : Consumes left unread read
+  pub says : List LogEntry
+  pub read_is : Consumes left unread read
   pub heard : SpellFirst (counted old read) messages new.held
   pub goes : Continues v says w
   pub said : AreSaid conn messages says
@@ -214,8 +215,8 @@ pub record SaidToEnd (v w : SeatView) (left unread : Option (List ℕ)) (stream 
   pub read : List ℕ
   pub messages : List Msg
   pub rest : List ℕ
-  pub says : List Act
-  pub gave : Consumes left unread read
+  pub says : List LogEntry
+  pub read_is : Consumes left unread read
   pub heard : SpellFirst (counted stream read) messages rest
   pub goes : Continues v says w
   pub said : SaidBy end conn messages says

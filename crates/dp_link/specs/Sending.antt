@@ -41,11 +41,11 @@ pub record Sends (past : Past) (conn : ℕ) (held taken : Option (List ℕ)) (en
   pub gone : end ≡ down.Gone → IsGone past conn last
 
 -- the count of faults of the link's sink: WriteFault comes only where it rose, and else it stays
-abbrev pub BlamesDown : DownEnd → ℕ → ℕ → Type 0
-BlamesDown down.WriteFault before now = Rose before now
-BlamesDown down.Gone before now = now ≡ before
-BlamesDown down.NotGreeted before now = now ≡ before
-BlamesDown down.Memory before now = now ≡ before
+abbrev pub FaultMatchesDown : DownEnd → ℕ → ℕ → Type 0
+FaultMatchesDown down.WriteFault before now = Rose before now
+FaultMatchesDown down.Gone before now = now ≡ before
+FaultMatchesDown down.NotGreeted before now = now ≡ before
+FaultMatchesDown down.Memory before now = now ≡ before
 
 -- ---- parts of it
 
@@ -80,9 +80,9 @@ WritesPage (Err down.Gone) held taken epoch at list cursor = ⊥
 WritesPage (Err down.NotGreeted) held taken epoch at list cursor = ⊥
 
 -- the same count where a page was written, or was not
-abbrev pub BlamesPage : {T : Type 0} → Result T DownEnd → ℕ → ℕ → Type 0
-BlamesPage (Ok more) before now = now ≡ before
-BlamesPage (Err end) before now = BlamesDown end before now
+abbrev pub FaultMatchesPage : {T : Type 0} → Result T DownEnd → ℕ → ℕ → Type 0
+FaultMatchesPage (Ok more) before now = now ≡ before
+FaultMatchesPage (Err end) before now = FaultMatchesDown end before now
 
 -- What was asked for a peer has come: a page that begins at its cursor, of some number of entries,
 -- as frames. Or memory ran out.

@@ -12,8 +12,8 @@ ghost use Rattle.dp_tables.specs.Pages.{IsPage};
 ghost use Rattle.dp_hall.specs.Laws.{Continues};
 ghost use Rattle.dp_epochs.specs.Laws.{ShutBefore};
 ghost use Rattle.dp_session_laws.specs.Logs.{HasOpened};
-ghost use Rattle.dp_link.specs.Sending.{Sends, SentTo, SendsPage, WritesPage, BlamesDown};
-ghost use Rattle.dp_link.specs.Sending.{BlamesPage};
+ghost use Rattle.dp_link.specs.Sending.{Sends, SentTo, SendsPage, WritesPage, FaultMatchesDown};
+ghost use Rattle.dp_link.specs.Sending.{FaultMatchesPage};
 ghost use Rattle.dp_link.specs.Sending.{session_of};
 
 use crate::pages::{Asked, Cursor};
@@ -51,7 +51,7 @@ pub fn pump_down<W: Wait, K: Keeper, S: Sink>(
     ensures calls { Continues seat.old.view [] seat.new.view }
     ensures sends { Sends (session_of hall.now.start seat.new.view) greeting.now.conn
         (S.held tx.old) (S.held tx.new) result }
-    ensures blames { BlamesDown result (S.faults tx.old) (S.faults tx.new) }
+    ensures fault { FaultMatchesDown result (S.faults tx.old) (S.faults tx.new) }
 {
     calls_add_up::<Event, Result<Reply, AllocError>, Session<K>>();
     seats_are_sound(seat);
@@ -98,7 +98,7 @@ fn send_more<W: Wait, K: Keeper, S: Sink>(
         held (S.held tx.old) asked.old.cursor
         → SendsPage (session_of hall.now.start seat.new.view) greeting.now.conn
         held (S.held tx.new) asked.new.cursor result }
-    ensures blames { BlamesPage result (S.faults tx.old) (S.faults tx.new) }
+    ensures fault { FaultMatchesPage result (S.faults tx.old) (S.faults tx.new) }
 {
     calls_add_up::<Event, Result<Reply, AllocError>, Session<K>>();
     let seen = hall.count(seat);
@@ -137,7 +137,7 @@ fn send_page<W: Wait, K: Keeper, S: Sink>(
         held (S.held tx.old) asked.old.cursor
         → SendsPage (session_of hall.now.start seat.new.view) greeting.now.conn
         held (S.held tx.new) asked.new.cursor result }
-    ensures blames { BlamesPage result (S.faults tx.old) (S.faults tx.new) }
+    ensures fault { FaultMatchesPage result (S.faults tx.old) (S.faults tx.new) }
 {
     calls_add_up::<Event, Result<Reply, AllocError>, Session<K>>();
     sessions_go_on();
@@ -182,7 +182,7 @@ fn write_page<S: Sink>(
 ) -> Result<bool, DownEnd>
     ensures writes { (list : List Piece) → page.count ≡ length list → frames.now ≡ frames_of list
         → WritesPage result (S.held tx.old) (S.held tx.new) page.epoch page.at list cursor.new }
-    ensures blames { BlamesPage result (S.faults tx.old) (S.faults tx.new) }
+    ensures fault { FaultMatchesPage result (S.faults tx.old) (S.faults tx.new) }
 {
     let Page { epoch, at, count } = page;
     match put_all(tx, frames) {

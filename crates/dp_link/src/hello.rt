@@ -7,8 +7,9 @@ ghost use Rattle.dp_hall.specs.Calls.{IsOf};
 ghost use Rattle.dp_link.specs.Bytes.{link_limit};
 ghost use Rattle.dp_link.specs.Acts.{ActsOnce, SeatView, last_outcome};
 ghost use Rattle.dp_link.specs.Answers.{reason_of, OpensWith};
-ghost use Rattle.dp_link.specs.Hello.{Greets, BlamesHello, Answers, ReadsName, TakesName};
-ghost use Rattle.dp_link.specs.Hello.{NameOf, Welcomes, RefusesBy, BlamesRefusal, BlamesWelcome};
+ghost use Rattle.dp_link.specs.Hello.{Greets, FaultMatchesHello, Answers, ReadsName, TakesName};
+ghost use Rattle.dp_link.specs.Hello.{NameOf, Welcomes, RefusesBy, FaultMatchesRefusal};
+ghost use Rattle.dp_link.specs.Hello.{FaultMatchesWelcome};
 
 use crate::acting::act_once;
 use crate::answers::{put_goodbye, put_welcome, reason_of};
@@ -17,13 +18,13 @@ use crate::pieces::{PieceEnd, read_piece};
 use crate::{GreetEnd, Greeting};
 use dp_events::{Event, Reply};
 use dp_frame::Octets;
-use dp_split::Splitter;
 use dp_hall::{Hall, Seat, calls_add_up};
 use dp_io::{Failed, Sink, Source};
 use dp_keeper::Keeper;
 use dp_messages::{Entry, Msg, one_answer};
 use dp_msg_meta::Control;
 use dp_session::Session;
+use dp_split::Splitter;
 use dp_wire::Gate;
 use std::alloc::{AllocError, Global};
 use std::sync::Wait;
@@ -56,7 +57,7 @@ pub fn greet<W: Wait, K: Keeper, R: Source, S: Sink, G: Gate>(
         (S.held tx.old) (S.held tx.new) split.new result }
     ensures within { OnOk result (split.new.at + length split.new.held ≤ link_limit) }
     ensures at_end { result ≡ Err GreetEnd.End → IsAtEnd (R.left rx.new) }
-    ensures blames { BlamesHello result (R.faults rx.old) (R.faults rx.new)
+    ensures fault { FaultMatchesHello result (R.faults rx.old) (R.faults rx.new)
         (S.faults tx.old) (S.faults tx.new) }
 {
     run_greet(rt, alloc, hall, seat, rx, tx, split, who, gate).end
@@ -89,7 +90,7 @@ pub fn run_greet<W: Wait, K: Keeper, R: Source, S: Sink, G: Gate>(
         × (last_outcome h.acts ≡ result.last) }
     ensures within { OnOk result.end (split.new.at + length split.new.held ≤ link_limit) }
     ensures at_end { result.end ≡ Err GreetEnd.End → IsAtEnd (R.left rx.new) }
-    ensures blames { BlamesHello result.end (R.faults rx.old) (R.faults rx.new)
+    ensures fault { FaultMatchesHello result.end (R.faults rx.old) (R.faults rx.new)
         (S.faults tx.old) (S.faults tx.new) }
 {
     calls_add_up::<Event, Result<Reply, AllocError>, Session<K>>();
@@ -108,7 +109,7 @@ fn read_name<R: Source>(alloc: Global, rx: &mut R, split: &mut Splitter) -> Resu
     ensures reads { ReadsName (R.left rx.old) (R.left rx.new) split.new result }
     ensures within { OnOk result (split.new.at + length split.new.held ≤ link_limit) }
     ensures at_end { result ≡ Err GreetEnd.End → IsAtEnd (R.left rx.new) }
-    ensures blames { BlamesHello result (R.faults rx.old) (R.faults rx.new) 0 0 }
+    ensures fault { FaultMatchesHello result (R.faults rx.old) (R.faults rx.new) 0 0 }
 {
     'pieces: loop {
         match take_name(alloc, split)? {
@@ -176,7 +177,7 @@ fn answer<W: Wait, K: Keeper, S: Sink, G: Gate>(
     ensures of { IsOf hall.now seat.new }
     ensures answers { (h : Answers seat.old.view seat.new.view (S.held tx.old) (S.held tx.new)
         name result.end) × (last_outcome h.acts ≡ result.last) }
-    ensures blames { BlamesHello result.end 0 0 (S.faults tx.old) (S.faults tx.new) }
+    ensures fault { FaultMatchesHello result.end 0 0 (S.faults tx.old) (S.faults tx.new) }
 {
     match open(rt, hall, seat, name, who, gate) {
         Ok(reply) => answer_reply(rt, hall, seat, tx, reply, who, gate),
@@ -204,7 +205,7 @@ fn answer_reply<W: Wait, K: Keeper, S: Sink, G: Gate>(
         → ActsOnce before (Event.Open name false) (Ok reply) seat.old.view
         → (h : Answers before seat.new.view (S.held tx.old) (S.held tx.new) name result.end)
         × (last_outcome h.acts ≡ result.last) }
-    ensures blames { BlamesHello result.end 0 0 (S.faults tx.old) (S.faults tx.new) }
+    ensures fault { FaultMatchesHello result.end 0 0 (S.faults tx.old) (S.faults tx.new) }
 {
     calls_add_up::<Event, Result<Reply, AllocError>, Session<K>>();
     let last = Some(Ok(reply));
@@ -275,7 +276,7 @@ fn welcome<W: Wait, K: Keeper, S: Sink, G: Gate>(
     ensures of { IsOf hall.now seat.new }
     ensures welcomes { Welcomes seat.old.view seat.new.view (S.held tx.old) (S.held tx.new)
         greeting.now result }
-    ensures blames { BlamesWelcome result (S.faults tx.old) (S.faults tx.new) }
+    ensures fault { FaultMatchesWelcome result (S.faults tx.old) (S.faults tx.new) }
 {
     calls_add_up::<Event, Result<Reply, AllocError>, Session<K>>();
     match put_welcome(tx, greeting) {
@@ -293,7 +294,7 @@ fn welcome<W: Wait, K: Keeper, S: Sink, G: Gate>(
 fn refuse<S: Sink>(tx: &mut S, reply: Reply) -> GreetEnd
     requires { reason_of reply ≢ None }
     ensures refuses { RefusesBy result reply (S.held tx.old) (S.held tx.new) }
-    ensures blames { BlamesRefusal result (S.faults tx.old) (S.faults tx.new) }
+    ensures fault { FaultMatchesRefusal result (S.faults tx.old) (S.faults tx.new) }
 {
     let Some(reason) = reason_of(&reply) else {
         unreachable!()

@@ -6,7 +6,8 @@ ghost use mathlib.Core.List.{IsPrefix};
 ghost use Rattle.dp_split.specs.Stream.{Stream};
 ghost use Rattle.dp_session_laws.specs.Logs.{HasOpened};
 ghost use Rattle.dp_link.specs.declared.ends.Greeting.{Greeting as Greeted};
-ghost use Rattle.dp_link.specs.Acts.{Act, SeatView};
+ghost use Rattle.dp_link.specs.Acts.{SeatView};
+ghost use Rattle.dp_session_laws.specs.Logs.{LogEntry};
 ghost use Rattle.dp_link.specs.Hello.{Greets};
 
 use dp_hall::{Seat, seats_are_sound};
@@ -20,7 +21,7 @@ pub fn greetings_are_seen<K: Keeper>(seat: &Seat<Session<K>>)
         (stream : Stream) (greeting : Greeted)
         → Greets before seat.now.view left unread held taken stream (Ok greeting)
         → HasOpened seat.now.view.seen greeting.conn greeting.user greeting.epoch greeting.at }
-    ensures stays { (log longer : List Act) (conn user epoch at : ℕ) → IsPrefix log longer
+    ensures stays { (log longer : List LogEntry) (conn user epoch at : ℕ) → IsPrefix log longer
         → HasOpened log conn user epoch at → HasOpened longer conn user epoch at }
 {
     seats_are_sound(seat);

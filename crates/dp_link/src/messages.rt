@@ -4,8 +4,8 @@ ghost use Rattle.std.specs.Prelude.{◌≡◌};
 ghost use Rattle.dp_link.specs.Bytes.{TakesMessage, StopIs};
 
 use dp_entries::{Anywhere, Refusal, Stop, take_entry};
-use dp_split::Splitter;
 use dp_messages::{DecodeError, Entry, one_answer};
+use dp_split::Splitter;
 use std::alloc::Global;
 
 /// Why no entry is taken.

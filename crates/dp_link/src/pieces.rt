@@ -4,10 +4,10 @@ ghost use Rattle.std.specs.Prelude.{◌≡◌, ◌↔◌, ℕ, ◌+◌, ◌<◌,
 ghost use Rattle.std.specs.Prelude.{Err, IfOk, OnOk, OnErr, IsTrue};
 ghost use Rattle.std.specs.Io.KnownBytes.{IsAtEnd};
 ghost use Rattle.dp_link.specs.Bytes.{link_limit};
-ghost use Rattle.dp_link.specs.Pieces.{ReadsPiece, BlamesPiece, room_after};
+ghost use Rattle.dp_link.specs.Pieces.{ReadsPiece, FaultMatchesPiece, room_after};
 
-use dp_split::Splitter;
 use dp_io::{Failed, Source};
+use dp_split::Splitter;
 use std::alloc::AllocError;
 
 /// How many bytes of a link count.
@@ -31,7 +31,7 @@ pub(crate) fn read_piece<R: Source>(rx: &mut R, split: &mut Splitter) -> Result<
     ensures read { ReadsPiece (R.left rx.old) (R.left rx.new) split.old split.new result }
     ensures within { split.new.at + length split.new.held ≤ link_limit }
     ensures at_end { result ≡ Err PieceEnd.End → IsAtEnd (R.left rx.new) }
-    ensures blames { BlamesPiece result (R.faults rx.old) (R.faults rx.new) }
+    ensures fault { FaultMatchesPiece result (R.faults rx.old) (R.faults rx.new) }
 {
     let mut buffer = [0; 4096];
     let count = match rx.read(&mut buffer) {

@@ -4,21 +4,23 @@ ghost use Rattle.std.specs.Prelude.{◌≡◌, ◌+◌, ◌<◌, ◌≤◌, Err,
 ghost use Rattle.std.specs.Io.KnownBytes.{IsAtEnd};
 ghost use Rattle.dp_frame.specs.Frames.{HoldsNoFrame};
 ghost use Rattle.dp_hall.specs.Calls.{IsOf};
-ghost use Rattle.dp_link.specs.Acts.{ActsOnce, Outcome as Came};
+ghost use Rattle.dp_link.specs.Acts.{ActsOnce};
+ghost use Rattle.dp_session_laws.specs.Logs.{ReplyOrMemory as Came};
 ghost use Rattle.dp_link.specs.Bytes.{link_limit};
-ghost use Rattle.dp_link.specs.Saying.{SaysAll, SaysHeld, SaidToEnd, BlamesUp, EndsBy, SaysOne};
+ghost use Rattle.dp_link.specs.Saying.{SaysAll, SaysHeld, SaidToEnd, FaultMatchesUp, EndsBy};
+ghost use Rattle.dp_link.specs.Saying.{SaysOne};
 
 use crate::UpEnd;
 use crate::acting::{act_once, act_silently};
 use crate::messages::{BadFrame, take_message};
 use crate::pieces::{PieceEnd, read_piece};
 use dp_events::{Event, Reply};
-use dp_split::Splitter;
 use dp_hall::{Hall, Seat, calls_add_up};
 use dp_io::Source;
 use dp_keeper::Keeper;
 use dp_messages::{Entry, Msg};
 use dp_session::Session;
+use dp_split::Splitter;
 use dp_wire::Gate;
 use std::alloc::{AllocError, Global};
 use std::sync::Wait;
@@ -50,7 +52,7 @@ pub fn pump_up<W: Wait, K: Keeper, R: Source, G: Gate>(
     ensures says { (outcome : Came) × SaysAll seat.old.view seat.new.view
         (R.left rx.old) (R.left rx.new) split.old conn result outcome }
     ensures at_end { result ≡ UpEnd.End → IsAtEnd (R.left rx.new) }
-    ensures blames { BlamesUp result (R.faults rx.old) (R.faults rx.new) }
+    ensures fault { FaultMatchesUp result (R.faults rx.old) (R.faults rx.new) }
 {
     run_up(rt, alloc, hall, seat, rx, split, conn, who, gate).end
 }
@@ -73,7 +75,7 @@ pub fn run_up<W: Wait, K: Keeper, R: Source, G: Gate>(
     ensures says { SaysAll seat.old.view seat.new.view
         (R.left rx.old) (R.left rx.new) split.old conn result.end result.close }
     ensures at_end { result.end ≡ UpEnd.End → IsAtEnd (R.left rx.new) }
-    ensures blames { BlamesUp result.end (R.faults rx.old) (R.faults rx.new) }
+    ensures fault { FaultMatchesUp result.end (R.faults rx.old) (R.faults rx.new) }
 {
     calls_add_up::<Event, Result<Reply, AllocError>, Session<K>>();
     let mut acts = 1;
@@ -108,12 +110,12 @@ fn say_all<W: Wait, K: Keeper, R: Source, G: Gate>(
     ensures says { SaidToEnd seat.old.view seat.new.view
         (R.left rx.old) (R.left rx.new) split.old conn result }
     ensures at_end { result ≡ UpEnd.End → IsAtEnd (R.left rx.new) }
-    ensures blames { BlamesUp result (R.faults rx.old) (R.faults rx.new) }
+    ensures fault { FaultMatchesUp result (R.faults rx.old) (R.faults rx.new) }
 {
     calls_add_up::<Event, Result<Reply, AllocError>, Session<K>>();
     let mut over = false;
     'pieces: loop {
-        match say_aloud(rt, alloc, hall, seat, split, conn, who, acts, gate) {
+        match act_held_and_wake(rt, alloc, hall, seat, split, conn, who, acts, gate) {
             Ok(()) if over => return UpEnd::Long,
             Ok(()) => match read_piece(rx, split) {
                 Ok(more) => over = more,
@@ -128,7 +130,7 @@ fn say_all<W: Wait, K: Keeper, R: Source, G: Gate>(
 
 /// Says the messages that are held, until no whole frame is, and then wakes those who wait for acts
 /// if there was one.
-fn say_aloud<W: Wait, K: Keeper, G: Gate>(
+fn act_held_and_wake<W: Wait, K: Keeper, G: Gate>(
     rt: &W,
     alloc: Global,
     hall: &Hall<Session<K>>,

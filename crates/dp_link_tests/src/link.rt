@@ -4,7 +4,7 @@ ghost use Rattle.std.specs.Prelude.{List};
 ghost use Rattle.dp_hall.specs.Calls.{IsOf};
 ghost use Rattle.dp_hall.specs.Laws.{Continues};
 ghost use Rattle.dp_epochs.specs.Laws.{ShutBefore};
-ghost use Rattle.dp_link.specs.Acts.{Act};
+ghost use Rattle.dp_session_laws.specs.Logs.{LogEntry};
 
 use dp_events::{Event, Journal, Reply, Shut};
 use dp_hall::{Hall, HallError, Seat, calls_add_up, seats_come_back};
@@ -32,7 +32,7 @@ pub fn serve_link<W: Wait, K: Keeper, R: Source, S: Sink>(
     requires of { IsOf hall.now seat.old }
     requires start { ShutBefore hall.now.start }
     ensures of { IsOf hall.now seat.new }
-    ensures calls { (acts : List Act) × Continues seat.old.view acts seat.new.view }
+    ensures calls { (acts : List LogEntry) × Continues seat.old.view acts seat.new.view }
 {
     calls_add_up::<Event, Result<Reply, AllocError>, Session<K>>();
     let mut split = Splitter::new(alloc);

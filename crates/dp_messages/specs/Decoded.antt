@@ -22,14 +22,14 @@ SpellsNothing kind payload = (m : Msg) → Spells kind payload m → ⊥
 
 -- Why a frame of this kind and payload carries nothing: no message is of the kind, or none of the
 -- kind has the payload.
-abbrev pub IsRefused : ℕ → List ℕ → DecodeError → Type 0
-IsRefused kind payload (Unknown k) = (k ≡ kind) × IsUnknownKind kind
-IsRefused kind payload (Malformed k) =
+abbrev pub IsPayloadRefused : ℕ → List ℕ → DecodeError → Type 0
+IsPayloadRefused kind payload (Unknown k) = (k ≡ kind) × IsUnknownKind kind
+IsPayloadRefused kind payload (Malformed k) =
     (k ≡ kind) × ¬ IsUnknownKind kind × SpellsNothing kind payload
-IsRefused kind payload Memory = ⊥
+IsPayloadRefused kind payload Memory = ⊥
 
 -- what reading the payload of a kind answers
 abbrev pub Answers : ℕ → List ℕ → Result Msg DecodeError → Type 0
 Answers kind payload (Ok m) = Spells kind payload m
 Answers kind payload (Err Memory) = ⊤
-Answers kind payload (Err why) = IsRefused kind payload why
+Answers kind payload (Err why) = IsPayloadRefused kind payload why

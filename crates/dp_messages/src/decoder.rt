@@ -9,7 +9,7 @@ ghost use Rattle.dp_messages.specs.declared.message.Entry.{Entry as Item};
 ghost use Rattle.dp_messages.specs.declared.message.Msg.{Msg as Message};
 ghost use Rattle.dp_messages.specs.declared.decoder.DecodeError.{DecodeError as Refusal};
 ghost use Rattle.dp_messages.specs.Messages.{IsListedKind, Spells};
-ghost use Rattle.dp_messages.specs.Decoded.{Carries, IsRefused, Answers};
+ghost use Rattle.dp_messages.specs.Decoded.{Carries, IsPayloadRefused, Answers};
 
 use crate::laws::{one_answer, one_message};
 use crate::{Entry, Msg};
@@ -57,12 +57,12 @@ pub(crate) const PAYLOAD_LIMIT: usize = 65_535;
 pub fn decode(alloc: Global, frame: &FrameView<'_>) -> Result<Entry, DecodeError>
     ensures found { IfOk result (Carries frame.now) }
     ensures refused { IfErr result (λ why.
-        (why ≡ DecodeError.Memory) ⊎ IsRefused frame.now.kind frame.now.body why) }
+        (why ≡ DecodeError.Memory) ⊎ IsPayloadRefused frame.now.kind frame.now.body why) }
 
     // The entry that it carries, or why it carries none, is answered, unless memory runs out.
     ensures only { (e : Item) → Carries frame.now e
         → (result ≡ Ok e) ⊎ (result ≡ Err DecodeError.Memory) }
-    ensures due { (why : Refusal) → IsRefused frame.now.kind frame.now.body why
+    ensures due { (why : Refusal) → IsPayloadRefused frame.now.kind frame.now.body why
         → (result ≡ Err why) ⊎ (result ≡ Err DecodeError.Memory) }
 {
     one_answer();
@@ -82,12 +82,12 @@ pub fn decode(alloc: Global, frame: &FrameView<'_>) -> Result<Entry, DecodeError
 pub fn read_message(alloc: Global, kind: u8, payload: &[u8]) -> Result<Msg, DecodeError>
     ensures found { IfOk result (Spells kind payload.now) }
     ensures refused { IfErr result (λ why.
-        (why ≡ DecodeError.Memory) ⊎ IsRefused kind payload.now why) }
+        (why ≡ DecodeError.Memory) ⊎ IsPayloadRefused kind payload.now why) }
 
     // The message, or why there is none, is answered, unless memory runs out.
     ensures only { (m : Message) → Spells kind payload.now m
         → (result ≡ Ok m) ⊎ (result ≡ Err DecodeError.Memory) }
-    ensures due { (why : Refusal) → IsRefused kind payload.now why
+    ensures due { (why : Refusal) → IsPayloadRefused kind payload.now why
         → (result ≡ Err why) ⊎ (result ≡ Err DecodeError.Memory) }
 {
     one_message();

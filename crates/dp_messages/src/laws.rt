@@ -7,7 +7,7 @@ ghost use Rattle.dp_messages.specs.declared.message.Msg.TheVariants.{Opaque};
 ghost use Rattle.dp_messages.specs.declared.message.Entry.{Entry};
 ghost use Rattle.dp_messages.specs.declared.decoder.DecodeError.{DecodeError};
 ghost use Rattle.dp_messages.specs.Messages.{Spells, Lifts, HasSpelling, frame_of};
-ghost use Rattle.dp_messages.specs.Decoded.{Carries, IsRefused};
+ghost use Rattle.dp_messages.specs.Decoded.{Carries, IsPayloadRefused};
 ghost use Rattle.dp_messages.specs.Equality.{same_message};
 ghost use Rattle.dp_messages.specs.Heard.{Hears};
 
@@ -35,9 +35,9 @@ pub fn one_message()
 pub fn one_answer()
     ensures entry { (frame : FrameParts) (e f : Entry) → Carries frame e → Carries frame f → e ≡ f }
     ensures refusal { (kind : ℕ) (payload : List ℕ) (e f : DecodeError)
-        → IsRefused kind payload e → IsRefused kind payload f → e ≡ f }
+        → IsPayloadRefused kind payload e → IsPayloadRefused kind payload f → e ≡ f }
     ensures either { (frame : FrameParts) (e : Entry) (f : DecodeError)
-        → Carries frame e → IsRefused frame.kind frame.body f → ⊥ }
+        → Carries frame e → IsPayloadRefused frame.kind frame.body f → ⊥ }
 {
     one_message();
 }

@@ -16,7 +16,7 @@ use Rattle.dp_msg_draw.specs.declared.draw.Draw.TheVariants.{LayerTitle, LayerMo
 use Rattle.dp_msg_draw.specs.declared.draw.Draw.TheVariants.{PutImage, FillRect, PutTile}
 use Rattle.dp_msg_draw.specs.declared.draw.Draw.TheVariants.{Background, DabsRound, DabsSquare}
 use Rattle.dp_msg_draw.specs.declared.draw.Draw.TheVariants.{MoveRect}
-use Rattle.dp_msg_draw.specs.declared.mode.Mode.{Mode}
+use Rattle.dp_msg_draw.specs.declared.mode.ModeNumber.{ModeNumber}
 use Rattle.dp_msg_draw.specs.declared.tails.Image.{Image}
 use Rattle.dp_fields.specs.Fields.{four_bytes}
 use Rattle.dp_msg_draw.specs.Limits.{IsTitle}
@@ -176,7 +176,7 @@ content_fails e = same_error _ _ (content_back e) (λ pixels s. (
 
 -- ---- each kind
 
-abbrev mode_of : ℕ → Mode
+abbrev mode_of : ℕ → ModeNumber
 mode_of n = record { 0 = n }
 
 pub canvas_resize : Form 129 (whole (pair_field (pair_field signed_field signed_field)

@@ -7,18 +7,18 @@ use Rattle.dp_fields.specs.Fields.{one_byte}
 use Rattle.dp_fields.specs.FieldLaws.{IsField, two_field, pair_field}
 use Rattle.dp_msg_draw.specs.declared.lists.Dab.{Dab}
 use Rattle.dp_msg_draw.specs.declared.lists.TilePixel.{TilePixel}
-use Rattle.dp_msg_draw.specs.declared.mode.Mode.{Mode}
+use Rattle.dp_msg_draw.specs.declared.mode.ModeNumber.{ModeNumber}
 use Rattle.dp_msg_draw.specs.Limits.{IsListedMode}
 use Rattle.dp_msg_draw.specs.Payloads.{dab_bytes, IsDab, pixel_bytes, IsPixel}
 
-abbrev made_mode : ℕ → Mode
+abbrev made_mode : ℕ → ModeNumber
 made_mode n = record { 0 = n }
 
-one_mode : (x y : Mode) (s t : List ℕ) → IsListedMode x.0 → IsListedMode y.0
+one_mode : (x y : ModeNumber) (s t : List ℕ) → IsListedMode x.0 → IsListedMode y.0
     → one_byte x.0 ++ s ≡ one_byte y.0 ++ t → (x ≡ y) × (s ≡ t)
 one_mode x y s t fx fy e = let n : x.0 ≡ y.0 = cc in (ap made_mode n, cc)
 
-pub mode_field : IsField (λ (m : Mode). one_byte m.0) (λ (m : Mode). IsListedMode m.0)
+pub mode_field : IsField (λ (m : ModeNumber). one_byte m.0) (λ (m : ModeNumber). IsListedMode m.0)
 mode_field = record { one = one_mode }
 
 one_small : (x y : ℤ) → FitsSigned w8 x → FitsSigned w8 y → cast_unsigned w8 x ≡ cast_unsigned w8 y

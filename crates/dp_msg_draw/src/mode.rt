@@ -17,18 +17,18 @@ pub(crate) fn is_listed_mode(mode: u8) -> bool
 
 /// The number of a blend mode. Only those that are listed are taken.
 #[derive(Drop)]
-pub(crate) struct Mode(pub u8);
+pub(crate) struct ModeNumber(pub u8);
 
-impl Field for Mode {
+impl Field for ModeNumber {
     ghost spelling = { λ m. one_byte m.0 };
 
     ghost valid = { λ m. IsListedMode m.0 };
 
     ghost is_field = { mode_field };
 
-    fn take(bytes: &[u8]) -> Option<(Mode, &[u8])> {
+    fn take(bytes: &[u8]) -> Option<(ModeNumber, &[u8])> {
         match bytes {
-            [mode, rest @ ..] if is_listed_mode(*mode) => Some((Mode(*mode), rest)),
+            [mode, rest @ ..] if is_listed_mode(*mode) => Some((ModeNumber(*mode), rest)),
             _ => None,
         }
     }

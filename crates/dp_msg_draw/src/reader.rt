@@ -10,7 +10,7 @@ ghost use Rattle.dp_fields.specs.Reading.{Answers, Finds};
 
 use crate::draw::Draw;
 use crate::kinds::*;
-use crate::mode::Mode;
+use crate::mode::ModeNumber;
 use crate::tails::Image;
 use dp_fields::{PayloadError, all, read_both};
 use std::alloc::Global;
@@ -22,7 +22,8 @@ use std::alloc::Global;
 pub fn read_fill(payload: &[u8]) -> Option<Draw>
     ensures { Finds (SpellsDraw 137 payload.now) result }
 {
-    let Some(((layer, Mode(mode)), (((x, y), (w, h)), color))) = all(payload) else { return None };
+    let Some(((layer, ModeNumber(mode)), (((x, y), (w, h)), color))) =
+        all(payload) else { return None };
     Some(Draw::FillRect { layer, mode, x, y, w, h, color })
 }
 
@@ -39,7 +40,8 @@ fn read_plain(kind: u8, payload: &[u8]) -> Option<Draw>
             Some(Draw::CanvasResize { top, right, bottom, left })
         }
         LAYER_ATTR => {
-            let Some(((id, opacity), (Mode(mode), hidden))) = all(payload) else { return None };
+            let Some(((id, opacity), (ModeNumber(mode), hidden))) =
+                all(payload) else { return None };
             Some(Draw::LayerAttr { id, opacity, mode, hidden })
         }
         LAYER_MOVE => {
@@ -78,7 +80,7 @@ fn read_listed(alloc: Global, kind: u8, payload: &[u8]) -> Result<Draw, PayloadE
             Ok(Draw::LayerTitle { id, title })
         }
         PUT_IMAGE => {
-            let (((layer, Mode(mode)), (x, y)), Image { w, h, colors }) =
+            let (((layer, ModeNumber(mode)), (x, y)), Image { w, h, colors }) =
                 read_both(alloc, payload)?;
             Ok(Draw::PutImage { layer, mode, x, y, w, h, colors })
         }
@@ -87,11 +89,13 @@ fn read_listed(alloc: Global, kind: u8, payload: &[u8]) -> Result<Draw, PayloadE
             Ok(Draw::PutTile { layer, col, row, repeat, content })
         }
         DABS_ROUND => {
-            let (((layer, (x, y)), ((r, (g, b)), Mode(mode))), dabs) = read_both(alloc, payload)?;
+            let (((layer, (x, y)), ((r, (g, b)), ModeNumber(mode))), dabs) =
+                read_both(alloc, payload)?;
             Ok(Draw::DabsRound { layer, x, y, r, g, b, mode, dabs })
         }
         _ => {
-            let (((layer, (x, y)), ((r, (g, b)), Mode(mode))), dabs) = read_both(alloc, payload)?;
+            let (((layer, (x, y)), ((r, (g, b)), ModeNumber(mode))), dabs) =
+                read_both(alloc, payload)?;
             Ok(Draw::DabsSquare { layer, x, y, r, g, b, mode, dabs })
         }
     }

@@ -216,17 +216,17 @@ unfolding tile_of
 filled p new count all is = is ∙ ap (λ (n : ℕ). replicate n p) all
 
 -- one more block of a tile has a colour
-pub block_more : (p : Channels) (n m : ℕ) (now front next rest : List Channels)
-    → front ≡ replicate n p → next ≡ replicate 512 p → m ≡ n + 512
-    → now ≡ front ++ (next ++ rest) → take m now ≡ replicate m p
-block_more p n m now front next rest done copied more is =
-    let long : length front ≡ n = ap length done ∙ length-replicate n p in
+pub block_more : (p : Channels) (n m : ℕ) (now prefix next rest : List Channels)
+    → prefix ≡ replicate n p → next ≡ replicate 512 p → m ≡ n + 512
+    → now ≡ prefix ++ (next ++ rest) → take m now ≡ replicate m p
+block_more p n m now prefix next rest done copied more is =
+    let long : length prefix ≡ n = ap length done ∙ length-replicate n p in
     let block : length next ≡ 512 = ap length copied ∙ length-replicate 512 p in
-    let whole : n + 512 ≡ length front + 512 = omega (arith, long) in
+    let whole : n + 512 ≡ length prefix + 512 = omega (arith, long) in
     ap (λ (l : List Channels). take m l) is
-    ∙ ap (λ (i : ℕ). take i (front ++ (next ++ rest))) (more ∙ whole)
-    ∙ take-append-add front (next ++ rest) 512
-    ∙ ap (λ (l : List Channels). front ++ l)
+    ∙ ap (λ (i : ℕ). take i (prefix ++ (next ++ rest))) (more ∙ whole)
+    ∙ take-append-add prefix (next ++ rest) 512
+    ∙ ap (λ (l : List Channels). prefix ++ l)
     (ap (λ (i : ℕ). take i (next ++ rest)) (sym block) ∙ take-append_seam next rest)
     ∙ ap (λ (l : List Channels). l ++ next) done
     ∙ ap (λ (l : List Channels). replicate n p ++ l) copied

@@ -82,10 +82,6 @@ put_none fill row left lists = record {
 
 -- ---- rows of lists
 
--- rows have the same fills as themselves
-pub same_rows : (rows : List (List FillList)) → HaveSameRows rows rows
-same_rows rows = record { len = refl; each = λ row. same_fills (get_or rows row []) }
-
 module _ (old now : List (List FillList)) (at : ℕ) (lists : List FillList)
     (inside : at < length now) where
   here_row : get_or (set now at lists) at [] ≡ lists
@@ -136,16 +132,6 @@ module _ (old now : List (List FillList)) (at : ℕ) (lists : List FillList)
         other_row row (omega (arith, past)) ∙ before.after row (omega (arith, past));
   }
 
--- no row draws it
-pub put_no_row : (fill : RectFill) (area : CellArea) (rows : List (List FillList))
-    → IsPutOn fill (record area { bottom = area.top }) rows rows
-put_no_row fill area rows = record {
-  len = refl;
-  inside = λ row from_top to_top. absurd (omega (arith, from_top, to_top));
-  before = λ row above. refl;
-  after = λ row past. refl;
-}
-
 -- what is read back from a list that others of its length took the place of
 pub refilled : (n : ℕ) (xs ys : List (List FillList)) → n ≡ length xs → length ys ≡ length xs
     → take n (ys ++ drop (length ys) xs) ≡ ys
@@ -166,35 +152,6 @@ lengths_kept cols rows old new is len each = record {
       ap length (get_or_default new row d [] inside)
       ∙ each row
       ∙ is.wide row [] (omega (arith, inside, len));
-}
-
--- rows with the same fills
-pub lists_kept : (cols rows : ℕ) (old new : List (List FillList)) → AreLists cols rows old
-    → HaveSameRows old new → AreLists cols rows new
-lists_kept cols rows old new is same =
-    lengths_kept cols rows old new is same.len (λ row. (same.each row).len)
-
--- rows of which an area draws a fill more
-pub lists_put : (cols rows : ℕ) (fill : RectFill) (area : CellArea) (old new : List (List FillList))
-    → AreLists cols rows old → IsPutOn fill area old new → AreLists cols rows new
-lists_put cols rows fill area old new is put =
-    lengths_kept cols rows old new is put.len
-    (λ row. ⊎_elim (λ above. ap length (put.before row above))
-    (λ from_top. ⊎_elim (λ inside. (put.inside row from_top inside).len)
-    (λ past. ap length (put.after row past))
-    (cases_lt row area.bottom))
-    (cases_lt row area.top))
-
--- new lists
-pub lists_made : (cols rows : ℕ) (new : List (List FillList))
-    → new ≡ replicate rows (replicate cols no_fill) → AreLists cols rows new
-lists_made cols rows new is = record {
-  count = λ some. ap length is ∙ length-replicate rows (replicate cols no_fill);
-  wide = λ row d inside.
-      ap length (ap (λ (l : List (List FillList)). get_or l row d) is
-      ∙ get_or-replicate rows row (replicate cols no_fill) d
-      (omega (arith, inside, ap length is, length-replicate rows (replicate cols no_fill))))
-      ∙ length-replicate cols no_fill;
 }
 
 -- no fill waits on the tile at a column and a row

@@ -29,8 +29,7 @@ use Rattle.dp_pixels.proofs.FootLemmas.{apart, dab_stays}
 use Rattle.dp_pixels.proofs.Messages.{message_by_dabs}
 use Rattle.dp_pixels.proofs.Strokes.{drawn_dabs}
 use Rattle.dp_tile.specs.declared.area.CellArea.{CellArea}
-use Rattle.dp_tile.specs.Tiles.{TileGrid, cell_at}
-use Rattle.dp_tile.specs.Areas.{IsPaintedOn, Painted, is_in_cells}
+use Rattle.dp_tile.specs.Areas.{is_in_cells}
 use Rattle.dp_paint.specs.declared.stroke.StrokePainter.{StrokePainter}
 use Rattle.dp_paint.specs.Painting.{tile_drawn}
 use Rattle.dp_paint.specs.Strokes.{AreFiled, IsFiled, dabs_at, dabs_on, meets_stretch}
@@ -80,11 +79,6 @@ pushed : {X : Type 0} (t : Bool) (xs : List X) (x : X)
     → cond t (xs ++ x ∷ []) xs ≡ xs ++ cond t (x ∷ []) []
 pushed true xs x = refl
 pushed false xs x = sym (append-nil xs)
-
--- without a dab
-pub filed_none : (left count row : ℕ) (cells : List (List PlacedDab)) → length cells ≡ count
-    → ((k : ℕ) → k < count → get_or cells k [] ≡ []) → IsFiled left count row [] cells
-filed_none left count row cells len none = record { len = len; each = none }
 
 -- one dab more
 pub filed_more : (left count row : ℕ) (dabs : List PlacedDab) (dab : PlacedDab)
@@ -272,22 +266,3 @@ stroked_window p col row region dabs old new at_x at_y wide high in_width in_hei
     (is.inside i j clear (omega (arith, wide, in_x)) (omega (arith, high, in_y))))
 
 -- ---- grids
-
--- a grid that was painted by a painter that does the same on the area
-pub painted_as : (area : CellArea) (painted other : Painted) (old new : TileGrid)
-    → ((col row : ℕ) (pixels : List Channels) → is_in_cells area col row ≡ true
-    → painted col row pixels ≡ other col row pixels)
-    → IsPaintedOn area painted old new → IsPaintedOn area other old new
-painted_as area painted other old new same is = record {
-  cols = is.cols;
-  rows = is.rows;
-  cells = λ col row in_cols in_rows.
-      is.cells col row in_cols in_rows
-      ∙ by (is_in_cells area col row) (painted col row (cell_at old col row))
-      (other col row (cell_at old col row)) (cell_at old col row)
-      (same col row (cell_at old col row));
-}
-  where
-    by : (t : Bool) (p q rest : List Channels) → (t ≡ true → p ≡ q) → cond t p rest ≡ cond t q rest
-    by true p q rest each = each refl
-    by false p q rest each = refl

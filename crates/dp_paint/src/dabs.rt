@@ -106,9 +106,9 @@ fn tiles_met(from: i64, to: i64, left: u32, right: u32) -> (usize, usize)
         return (0, 0);
     }
     let first = from.clamp(0, MAX_SIDE) as u32 / 64;
-    let behind = (to.clamp(0, MAX_SIDE) as u32 + 63) / 64;
+    let after = (to.clamp(0, MAX_SIDE) as u32 + 63) / 64;
     let start = first.clamp(left, right) - left;
-    let end = behind.clamp(left, right) - left;
+    let end = after.clamp(left, right) - left;
     (start as usize, end as usize)
 }
 

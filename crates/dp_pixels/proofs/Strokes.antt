@@ -42,8 +42,8 @@ abbrev pub put : ℤ → ℤ → Dab → PlacedDab
 put x y dab = record { at = record { x = x; y = y }; size = dab.size; opacity = dab.opacity }
 
 -- the dab after a place
-abbrev pub behind : Place → Dab → PlacedDab
-behind last dab = put (last.x +ℤ dab.dx) (last.y +ℤ dab.dy) dab
+abbrev pub placed_after : Place → Dab → PlacedDab
+placed_after last dab = put (last.x +ℤ dab.dx) (last.y +ℤ dab.dy) dab
 
 -- the dab at an index stands at the sums of the differences up to it
 get_or-placed_dabs : (left top : ℤ) (dabs : List Dab) (k : ℕ) (d : PlacedDab) → k < length dabs
@@ -76,7 +76,8 @@ pub record IsLast (left top : ℤ) (dabs : List Dab) (k : ℕ) (last : Place) : 
 -- the dab after the last one is the last of one dab more
 pub last_more : (left top : ℤ) (dabs : List Dab) (k : ℕ) (last : Place) (placed : PlacedDab)
     → k < length dabs
-    → placed ≡ behind last (get_or dabs k no_dab) → unsigned_abs placed.at.x ≤ unsigned_abs last.x
+    → placed ≡ placed_after last (get_or dabs k no_dab)
+    → unsigned_abs placed.at.x ≤ unsigned_abs last.x
     + 128 → unsigned_abs placed.at.y ≤ unsigned_abs last.y + 128
     → IsLast left top dabs k last → IsLast left top dabs (k + 1) placed.at
 last_more left top dabs k last placed within is near_x near_y before =
@@ -97,7 +98,7 @@ last_more left top dabs k last placed within is near_x near_y before =
 -- and the next in the list
 pub placed_is : (left top : ℤ) (dabs : List Dab) (k : ℕ) (last : Place) (placed d : PlacedDab)
     → k < length dabs
-    → placed ≡ behind last (get_or dabs k no_dab) → IsLast left top dabs k last
+    → placed ≡ placed_after last (get_or dabs k no_dab) → IsLast left top dabs k last
     → get_or (placed_dabs left top dabs) k d ≡ placed
 placed_is left top dabs k last placed d within is before =
     let is_x = before.x in
@@ -145,7 +146,8 @@ pub record IsNext (left top : ℤ) (dabs : List Dab) (k : ℕ) (placed : PlacedD
 
 pub next_is : (left top : ℤ) (dabs : List Dab) (k : ℕ) (last : Place) (placed : PlacedDab)
     → k < length dabs
-    → placed ≡ behind last (get_or dabs k no_dab) → unsigned_abs placed.at.x ≤ unsigned_abs last.x
+    → placed ≡ placed_after last (get_or dabs k no_dab)
+    → unsigned_abs placed.at.x ≤ unsigned_abs last.x
     + 128 → unsigned_abs placed.at.y ≤ unsigned_abs last.y + 128
     → IsLast left top dabs k last → IsNext left top dabs k placed
 next_is left top dabs k last placed within is near_x near_y before = record {

@@ -54,7 +54,7 @@ impl NearDab {
 
 impl PlacedDab {
     /// The dab, moved by its difference from the place of the one before it.
-    pub(crate) fn behind(last: Place, dab: Dab) -> PlacedDab
+    pub(crate) fn placed_after(last: Place, dab: Dab) -> PlacedDab
         requires { IsNear (2 ^ 40) last }
         ensures value { result
             ≡ record {
@@ -148,7 +148,7 @@ impl DabRun<'_> {
         let mut placed = Vec::with_capacity(alloc, self.dabs.len())?;
         let mut last = self.at;
         for dab in self.dabs {
-            let next = PlacedDab::behind(last, *dab);
+            let next = PlacedDab::placed_after(last, *dab);
             placed.push(NearDab { dab: next })?;
             last = next.at;
         }
@@ -163,7 +163,7 @@ impl DabRun<'_> {
         let mut last = self.at;
         let mut all = None;
         for dab in self.dabs {
-            let next = PlacedDab::behind(last, *dab);
+            let next = PlacedDab::placed_after(last, *dab);
             all = Some(extended(all, next.rect()));
             last = next.at;
         }
@@ -180,7 +180,7 @@ impl DabRun<'_> {
     {
         let mut last = self.at;
         for dab in self.dabs {
-            let placed = PlacedDab::behind(last, *dab);
+            let placed = PlacedDab::placed_after(last, *dab);
             if placed.covers(self.shape, place) {
                 return true;
             }
@@ -197,7 +197,7 @@ impl DabRun<'_> {
         let mut last = self.at;
         let mut pixel = old;
         for dab in self.dabs {
-            let placed = PlacedDab::behind(last, *dab);
+            let placed = PlacedDab::placed_after(last, *dab);
             if placed.covers(self.shape, place) {
                 pixel = blend(mode, fade(source, from8(placed.opacity)), pixel);
             }

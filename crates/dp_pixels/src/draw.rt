@@ -81,7 +81,7 @@ fn dab_run_region(
     };
     let mut last = run.at;
     for dab in run.dabs {
-        let placed = PlacedDab::behind(last, *dab);
+        let placed = PlacedDab::placed_after(last, *dab);
         draw_dab(&brush, NearDab { dab: placed }, region, stride, pixels);
         last = placed.at;
     }

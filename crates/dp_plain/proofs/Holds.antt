@@ -19,7 +19,7 @@ use Rattle.dp_layers.specs.Rows.{Row, layers_of, contents_of, content_of, fill_r
 use Rattle.dp_layers.specs.Rows.{map_content, map_contents}
 use Rattle.dp_layers.specs.Changes.{change_row, with_layer, rows_changed, set_attr, set_title}
 use Rattle.dp_layers.specs.Changes.{set_parent, new_row}
-use Rattle.dp_layers.specs.Changes.{behind, placed, has_effect, effect_on}
+use Rattle.dp_layers.specs.Changes.{inserted_after, placed, has_effect, effect_on}
 use Rattle.dp_layers.specs.Changes.{rows_after, makes_paint_row}
 use Rattle.dp_layers.specs.Tree.{IsTree}
 use Rattle.dp_pixels.specs.Commands.{pixels_after}
@@ -80,16 +80,17 @@ module _ {C : Type 0} (P : C → Type 0) where
   fit_changed rows id change each = All-map RowFits
       (λ row. with_layer row (change_row id change row.layer)) rows each
 
-  fit_behind : (p : Row C → Bool) (taken rows : List (Row C)) → ContentsFit P taken
+  fit_inserted : (p : Row C → Bool) (taken rows : List (Row C)) → ContentsFit P taken
       → ContentsFit P rows
-      → ContentsFit P (behind p taken rows)
-  fit_behind p taken [] left right = right
-  fit_behind p taken (row ∷ rows) left right =
+      → ContentsFit P (inserted_after p taken rows)
+  fit_inserted p taken [] left right = right
+  fit_inserted p taken (row ∷ rows) left right =
       let head = All-head RowFits row rows right in
       let tail = All-tail RowFits row rows right in
-      cond_both (p row) (row ∷ (taken ++ rows)) (row ∷ behind p taken rows) (All RowFits)
+      cond_both (p row) (row ∷ (taken ++ rows)) (row ∷ inserted_after p taken rows) (All RowFits)
       (λ _. All-cons RowFits row (taken ++ rows) head (All-append RowFits taken rows left tail))
-      (λ _. All-cons RowFits row (behind p taken rows) head (fit_behind p taken rows left tail))
+      (λ _. All-cons RowFits row (inserted_after p taken rows) head
+      (fit_inserted p taken rows left tail))
 
   fit_placed : (has : ℕ → Row C → Bool) (rows : List (Row C)) (id above : ℕ) → ContentsFit P rows
       → ContentsFit P (placed has rows id above)
@@ -97,11 +98,11 @@ module _ {C : Type 0} (P : C → Type 0) where
       let left = All-filter (has id) RowFits rows each in
       let right = All-filter (λ row. not (has id row)) RowFits rows each in
       cond_both (above == 0) (filter (has id) rows ++ filter (λ row. not (has id row)) rows)
-      (behind (has above) (filter (has id) rows) (filter (λ row. not (has id row)) rows))
+      (inserted_after (has above) (filter (has id) rows) (filter (λ row. not (has id row)) rows))
       (All RowFits)
       (λ _. All-append RowFits (filter (has id) rows) (filter (λ row. not (has id row)) rows) left
       right)
-      (λ _. fit_behind (has above) (filter (has id) rows) (filter (λ row. not (has id row)) rows)
+      (λ _. fit_inserted (has above) (filter (has id) rows) (filter (λ row. not (has id row)) rows)
       left
       right)
 

@@ -369,11 +369,11 @@ fn push_entries(rt: &impl Abort, entries: &mut Vec<Entry>, words: &str) -> Resul
 fn history_of(
     rt: &impl Abort,
     alloc: Global,
-    front: &str,
+    prefix: &str,
     words: &str,
 ) -> Result<Vec<Entry>, AllocError> {
     let mut entries = Vec::new(alloc);
-    push_entries(rt, &mut entries, front)?;
+    push_entries(rt, &mut entries, prefix)?;
     entries.push(Entry {
         user: 1,
         msg: Msg::Draw(resize(0, 3, 1, 0)),
@@ -393,7 +393,7 @@ fn check_replays<D: Ledger, T: Ledger>(
     draws: &mut Steps<D>,
     tiles: &mut Steps<T>,
 ) -> Result<(), Fail> {
-    for (front, words, want) in [
+    for (prefix, words, want) in [
         // in the history's order
         ("", "1r0 1b0 1r2", "3x1 0/1:B.R"),
         ("", "1P0 1r0 1r2 1U0", "3x1 0/1:..."),
@@ -406,9 +406,9 @@ fn check_replays<D: Ledger, T: Ledger>(
         // what stands before the last mark isn't shown
         ("1r0 1M0 1r0 1M0", "1r2", "3x1 0/1:..R"),
     ] {
-        let entries = history_of(rt, alloc, front, words)?;
+        let entries = history_of(rt, alloc, prefix, words)?;
         let board = plain_replay(alloc, &entries, draws, tiles)?;
-        assert_eq!(rt; shown(alloc, &board)?.as_str(), want, "{front} {words}");
+        assert_eq!(rt; shown(alloc, &board)?.as_str(), want, "{prefix} {words}");
     }
     Ok(())
 }

@@ -64,7 +64,7 @@ pub took-a-piece : {input : List ℕ} {left : Option (List ℕ)} {held : List �
     → TookWithin IsShort 4096 input left
 took-a-piece h = record {
   taken = h.short;
-  behind = h.piece;
+  after = h.piece;
   untaken = h.untaken;
   whole = h.whole ∙ ap (λ t. t ++ h.untaken) h.split ∙ append_assoc h.short h.piece h.untaken;
   left_is = h.left_is;

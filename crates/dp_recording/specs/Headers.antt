@@ -40,10 +40,10 @@ pub record IsShort (bytes : List ℕ) : Type 0 where
   pub few : (length bytes < 8) ⊎ (length bytes < announced bytes)
 
 -- why the bytes begin with no header
-abbrev pub IsRefused : List ℕ → HeaderError → Type 0
-IsRefused bytes Bad = HasNoHeader bytes × (IsShort bytes → ⊥)
-IsRefused bytes Short = IsShort bytes
-IsRefused bytes Memory = Unit {0}
+abbrev pub IsHeaderRefused : List ℕ → HeaderError → Type 0
+IsHeaderRefused bytes Bad = HasNoHeader bytes × (IsShort bytes → ⊥)
+IsHeaderRefused bytes Short = IsShort bytes
+IsHeaderRefused bytes Memory = Unit {0}
 
 -- the header that is written
 abbrev pub header_bytes : List ℕ

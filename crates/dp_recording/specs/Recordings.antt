@@ -142,10 +142,10 @@ pub record HoldsHeader (input : List ℕ) (left : Option (List ℕ)) (held : Lis
   pub small : length piece ≤ 4096
 
 -- the count of the input's faults where reading ended so: a fault raised it, and else it stays
-abbrev pub Blames : ℕ → ℕ → RecError → Type 0
-Blames before now ReadFault = Rose before now
-Blames before now BadHeader = now ≡ before
-Blames before now (Truncated at) = now ≡ before
-Blames before now (Message at why) = now ≡ before
-Blames before now Long = now ≡ before
-Blames before now Memory = now ≡ before
+abbrev pub FaultMatchesError : ℕ → ℕ → RecError → Type 0
+FaultMatchesError before now ReadFault = Rose before now
+FaultMatchesError before now BadHeader = now ≡ before
+FaultMatchesError before now (Truncated at) = now ≡ before
+FaultMatchesError before now (Message at why) = now ≡ before
+FaultMatchesError before now Long = now ≡ before
+FaultMatchesError before now Memory = now ≡ before

@@ -2,7 +2,7 @@
 
 ghost use Rattle.std.specs.Prelude.{◌≡◌, ◌↔◌, ◌<◌, ◌≤◌, length, IsTrue, IfOk, IfErr};
 ghost use Rattle.dp_recording.specs.declared.header.HeaderError.TheVariants.{Short, Memory};
-ghost use Rattle.dp_recording.specs.Headers.{IsHeader, IsRefused, TellsProfile};
+ghost use Rattle.dp_recording.specs.Headers.{IsHeader, IsHeaderRefused, TellsProfile};
 
 use byteorder::{BigEndian, ByteOrder};
 use dp_lists::{prefix_of, rest_of};
@@ -44,7 +44,7 @@ impl From<AllocError> for HeaderError {
 pub fn read_header(alloc: Global, bytes: &[u8]) -> Result<usize, HeaderError>
     ensures ok { IfOk result (IsHeader bytes.now) }
     ensures few { IfOk result (λ len. len ≤ 65543) }
-    ensures refused { IfErr result (IsRefused bytes.now) }
+    ensures refused { IfErr result (IsHeaderRefused bytes.now) }
     ensures short { IfErr result (λ error. error ≡ Short → length bytes.now < 65543) }
 {
     if prefix_of(bytes, MAGIC.len()) != prefix_of(&MAGIC, bytes.len()) {

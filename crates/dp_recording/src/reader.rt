@@ -9,7 +9,8 @@ ghost use Rattle.dp_recording.specs.declared.reader.RecError.TheVariants.{Memory
 ghost use Rattle.dp_recording.specs.declared.reader.Phase.TheVariants.{New, Reading, Finished};
 ghost use Rattle.dp_recording.specs.declared.reader.Phase.TheVariants.{Failed};
 ghost use Rattle.dp_recording.specs.Headers.{IsHeader, IsShort};
-ghost use Rattle.dp_recording.specs.Recordings.{Blames, EndsEarly, EndsRecording, HasReadOf};
+ghost use Rattle.dp_recording.specs.Recordings.{FaultMatchesError, EndsEarly, EndsRecording};
+ghost use Rattle.dp_recording.specs.Recordings.{HasReadOf};
 ghost use Rattle.dp_recording.specs.Recordings.{EndsWithInput, GoesOn, HoldsHeader, IsReading};
 ghost use Rattle.dp_recording.specs.Recordings.{end_of, error_of, limit_of};
 ghost use Rattle.dp_recording.specs.Recordings.{measure_of, recording_limit};
@@ -141,8 +142,8 @@ impl RecordingReader {
 
         // A fault is answered where the count of the input's faults rose, and else it stays.
         ensures kept { OnOk result (I.faults input.new ≡ I.faults input.old) }
-        ensures blames { IfErr result (λ error. (self.old ≡ Failed error)
-            ⊎ Blames (I.faults input.old) (I.faults input.new) error) }
+        ensures fault { IfErr result (λ error. (self.old ≡ Failed error)
+            ⊎ FaultMatchesError (I.faults input.old) (I.faults input.new) error) }
         ensures later { I.faults input.old ≤ I.faults input.new }
     {
         go_on(alloc, input, &mut self.phase)
@@ -176,8 +177,8 @@ fn go_on<I: Source>(
     ensures again { (error : Error) → phase.old ≡ Failed error → (result ≡ Err error)
         × (I.left input.new ≡ I.left input.old) × (I.faults input.new ≡ I.faults input.old) }
     ensures kept { OnOk result (I.faults input.new ≡ I.faults input.old) }
-    ensures blames { IfErr result (λ error. (phase.old ≡ Failed error)
-        ⊎ Blames (I.faults input.old) (I.faults input.new) error) }
+    ensures fault { IfErr result (λ error. (phase.old ≡ Failed error)
+        ⊎ FaultMatchesError (I.faults input.old) (I.faults input.new) error) }
     ensures later { I.faults input.old ≤ I.faults input.new }
 {
     match phase {
@@ -224,7 +225,7 @@ fn pull<I: Source>(
     ensures finished { IfOk result (λ next. IfNone next (phase.new ≡ Finished)) }
     ensures failed { IfErr result (λ error. phase.new ≡ Failed error) }
     ensures kept { OnOk result (I.faults input.new ≡ I.faults input.old) }
-    ensures blames { IfErr result (Blames (I.faults input.old) (I.faults input.new)) }
+    ensures fault { IfErr result (FaultMatchesError (I.faults input.old) (I.faults input.new)) }
     ensures later { I.faults input.old ≤ I.faults input.new }
 {
     match read_next(alloc, input, phase) {
@@ -266,8 +267,8 @@ fn read_next<I: Source>(
         IfNone next (IsAtEnd (I.left input.new))) }
     ensures inside { IfErr result (λ end. EndsWithInput (I.left input.new) (error_of end)) }
     ensures kept { OnOk result (I.faults input.new ≡ I.faults input.old) }
-    ensures blames { IfErr result (λ end.
-        Blames (I.faults input.old) (I.faults input.new) (error_of end)) }
+    ensures fault { IfErr result (λ end.
+        FaultMatchesError (I.faults input.old) (I.faults input.new) (error_of end)) }
     ensures later { I.faults input.old ≤ I.faults input.new }
 {
     match phase {
@@ -299,7 +300,7 @@ fn open<I: Source>(alloc: Global, input: &mut I) -> Result<EntryReader<Anywhere>
     ensures goes_on { IfOk result (λ reader. ¬ IsTrue reader.ended) }
     ensures inside { IfErr result (EndsWithInput (I.left input.new)) }
     ensures kept { OnOk result (I.faults input.new ≡ I.faults input.old) }
-    ensures blames { IfErr result (Blames (I.faults input.old) (I.faults input.new)) }
+    ensures fault { IfErr result (FaultMatchesError (I.faults input.old) (I.faults input.new)) }
     ensures later { I.faults input.old ≤ I.faults input.new }
 {
     let mut held = Vec::new(alloc);
@@ -325,7 +326,7 @@ fn read_piece<I: Source>(input: &mut I, held: &mut Vec<u8>) -> Result<(), RecErr
         → HoldsHeader bytes (I.left input.old) held.old.items
         → EndsEarly bytes (I.left input.new) error) }
     ensures kept { OnOk result (I.faults input.new ≡ I.faults input.old) }
-    ensures blames { IfErr result (Blames (I.faults input.old) (I.faults input.new)) }
+    ensures fault { IfErr result (FaultMatchesError (I.faults input.old) (I.faults input.new)) }
     ensures later { I.faults input.old ≤ I.faults input.new }
 {
     let mut buffer = [0; 4096];

@@ -122,7 +122,7 @@ pub fn show_on<B: Board<Op = Draw>, D: Ledger, T: Ledger>(
 /// The place of the first entry after the last mark of a reset, 0 where there is none.
 fn epoch_start(entries: &[Entry]) -> usize
     ensures within { result ≤ length entries.now }
-    ensures behind { drop result entries.now ≡ after_last is_mark entries.now }
+    ensures after { drop result entries.now ≡ after_last is_mark entries.now }
 {
     let mut start = entries.len();
     while start > 0 && !entries[start - 1].msg.is_reset_mark() {

@@ -18,7 +18,7 @@ use Rattle.dp_rollback.specs.Kept.{kept_of, drawn_command, drawn_among, marked}
 use Rattle.dp_rollback.specs.Kept.{commands_among}
 use Rattle.dp_rollback.specs.Laws.{Laws}
 use Rattle.dp_rollback.specs.Moves.{mark_by, mark_in, kept_in}
-use Rattle.dp_rollback.specs.Trailing.{Trailing, Trails, IsBehindEnd, IsHeldNext, marked_later}
+use Rattle.dp_rollback.specs.Trailing.{Trailing, Trails, TrailsReach, IsHeldNext, marked_later}
 use Rattle.dp_rollback.specs.Trailing.{with_act, drawn_up_to}
 use Rattle.dp_rollback.proofs.HistoryLemmas.{length-kept_of, replay-kept_of, take-marked}
 use Rattle.dp_rollback.proofs.HistoryLemmas.{kept_of-unmoved, kept_of-moved, take-kept_of-moved}
@@ -33,25 +33,25 @@ later-marked : {Op : Type 0} → (mark : Mark) (base m : ℕ) (all : List (KeptA
     ≡ drop base (map (marked mark) all)
 later-marked mark base m all same =
     let flagged = map (marked mark) all in
-    let front : take m (drop base all) ≡ take m (drop base flagged) =
+    let prefix : take m (drop base all) ≡ take m (drop base flagged) =
     sym (drop-take base m all) ∙ ap (drop base) (sym same) ∙ drop-take base m flagged in
     let back : map (marked mark) (drop m (drop base all)) ≡ drop m (drop base flagged) =
     sym (drop-map (marked mark) m (drop base all))
     ∙ ap (drop m) (sym (drop-map (marked mark) base all)) in
-    ap (λ xs. xs ++ map (marked mark) (drop m (drop base all))) front
+    ap (λ xs. xs ++ map (marked mark) (drop m (drop base all))) prefix
     ∙ ap (λ ys. take m (drop base flagged) ++ ys) back
     ∙ take-append-drop m (drop base flagged)
 
 -- as many acts are held, from the base on, as the history has
 held-within : {B Op : Type 0} → (draw : B → Op → B) (blank : B) (depth : ℕ)
     (acts : List (UserAct Op)) (t : Trailing B Op) → Trails draw blank depth acts t
-    → IsBehindEnd t → t.base + length t.kept ≡ length acts
+    → TrailsReach t → t.base + length t.kept ≡ length acts
 held-within draw blank depth acts t tr order = sym order.up_to_end ∙ tr.table.position
 
 -- an act that comes next, where it moves a group or not
 trails-next : {B Op : Type 0} → Laws Op → (draw : B → Op → B) (blank : B) (depth : ℕ)
     (acts : List (UserAct Op)) (a : UserAct Op) (t : Trailing B Op) (o : Option ℕ)
-    → a.user < 256 → concerned a < 256 → Trails draw blank depth acts t → IsBehindEnd t
+    → a.user < 256 → concerned a < 256 → Trails draw blank depth acts t → TrailsReach t
     → moved_by depth acts a ≡ o
     → ForSome (option_map (mark_by a) o) (λ mark. t.base ≤ mark.group)
     → ForSome (option_map (mark_by a) o) (λ mark. mark.group < t.table.position)

@@ -28,13 +28,13 @@ pub record Trails {B Op : Type 0} (draw : B → Op → B) (blank : B) (depth : �
   pub board : t.board ≡ fold draw blank (drawn_first depth acts t.base)
 
 -- the positions: acts are held up to the end, and from the oldest Point in reach on at least
-pub record IsBehind (position oldest base kept : ℕ) : Type 0 where
+pub record HoldsReach (position oldest base kept : ℕ) : Type 0 where
   pub up_to_end : position ≡ base + kept
   pub enough : base ≤ oldest
 
 -- the same of its value
-abbrev pub IsBehindEnd : {B Op : Type 0} → Trailing B Op → Type 0
-IsBehindEnd t = IsBehind t.table.position (oldest_in t.table) t.base (length t.kept)
+abbrev pub TrailsReach : {B Op : Type 0} → Trailing B Op → Type 0
+TrailsReach t = HoldsReach t.table.position (oldest_in t.table) t.base (length t.kept)
 
 -- the acts that are held from the position `base` on, after a move of a group, where one moved: the
 -- flags change from the Point of the group on
@@ -55,7 +55,7 @@ with_act a t = record t {
 pub record IsHeldNext {B Op : Type 0} (t : Trailing B Op) (a : UserAct Op) : Type 0 where
   pub sender : a.user < 256
   pub known : concerned a < 256
-  pub order : IsBehindEnd t
+  pub order : TrailsReach t
   pub reach : ForSome (mark_in t.table a) (λ mark. t.base ≤ mark.group)
   pub before : ForSome (mark_in t.table a) (λ mark. mark.group < t.table.position)
 

@@ -37,7 +37,7 @@ pub struct TrailingBoard<B: Board> {
 impl<B: Board> Model for TrailingBoard<B> {
     ghost use Rattle.std.specs.Vec.{vec_len};
     ghost use Rattle.dp_board.specs.Table.{oldest_in};
-    ghost use Rattle.dp_rollback.specs.Trailing.{Trailing, IsBehind};
+    ghost use Rattle.dp_rollback.specs.Trailing.{Trailing, HoldsReach};
 
     ghost Value = { Trailing B B.Op };
 
@@ -49,7 +49,7 @@ impl<B: Board> Model for TrailingBoard<B> {
     } };
 
     ghost invariant = { λ t.
-        IsBehind t.table.position (oldest_in t.table) t.base (vec_len t.kept) };
+        HoldsReach t.table.position (oldest_in t.table) t.base (vec_len t.kept) };
 }
 
 /// Adds an act to those that are held from the position `base` on. The acts of a group that moves

@@ -135,17 +135,17 @@ one_spelled law word m n first second =
     (subst (λ (p : List ℕ). Spells second.may.kind p n) payloads second.may.spelled))
 
 -- an instruction with a word after the client's number says the message that the word spells
-said_by : (instruction : Instruction) (word : List ℕ) (behind : List (List ℕ))
-    → EndsIn instruction (word ∷ behind)
+said_by : (instruction : Instruction) (word : List ℕ) (after : List (List ℕ))
+    → EndsIn instruction (word ∷ after)
     → (m : Msg) × (instruction ≡ Say m) × HexSpells word m
-said_by (Say m) word behind (other, ends, tells) =
+said_by (Say m) word after (other, ends, tells) =
     let same : other ≡ word = cc in
     (m, refl, subst (λ (w : List ℕ). HexSpells w m) same tells)
-said_by Up word behind ends = absurd (cc (ends))
-said_by Take word behind ends = absurd (cc (ends))
-said_by Reset word behind ends = absurd (cc (ends))
-said_by Leave word behind ends = absurd (cc (ends))
-said_by Cut word behind ends = absurd (cc (ends))
+said_by Up word after ends = absurd (cc (ends))
+said_by Take word after ends = absurd (cc (ends))
+said_by Reset word after ends = absurd (cc (ends))
+said_by Leave word after ends = absurd (cc (ends))
+said_by Cut word after ends = absurd (cc (ends))
 
 -- one word and one tail are of one instruction
 one_instruction : OneMessage → (d e : Instruction) (tail : List (List ℕ))
@@ -154,9 +154,9 @@ one_instruction : OneMessage → (d e : Instruction) (tail : List (List ℕ))
 one_instruction law d e [] same first second =
     sym (instruction_back d first)
     ∙ ap (λ (w : List ℕ). instruction_by (get_or w 0 0)) same ∙ instruction_back e second
-one_instruction law d e (word ∷ behind) same first second =
-    let (m, is, tells) = said_by d word behind first in
-    let (n, other, line) = said_by e word behind second in
+one_instruction law d e (word ∷ after) same first second =
+    let (m, is, tells) = said_by d word after first in
+    let (n, other, line) = said_by e word after second in
     is ∙ ap Say (one_spelled law word m n tells line) ∙ sym other
 
 -- one word is one client's number

@@ -19,22 +19,23 @@ LeftFed = (all more : List ℕ) (done : List Line) (old new : Held) → IsLeft a
 
 -- ended lines are given
 abbrev pub LeftGiven : Type 0
-LeftGiven = (all : List ℕ) (done front : List Line) (old new : Held) → IsLeft all done old
-    → ended_from old ≡ front ++ ended_from new
+LeftGiven = (all : List ℕ) (done prefix : List Line) (old new : Held) → IsLeft all done old
+    → ended_from old ≡ prefix ++ ended_from new
     → new.count + length (ended new.bytes) ≡ old.count + length (ended old.bytes)
-    → open_rest new.bytes ≡ open_rest old.bytes → new.fed ≡ old.fed → IsLeft all (done ++ front) new
+    → open_rest new.bytes ≡ open_rest old.bytes → new.fed ≡ old.fed
+    → IsLeft all (done ++ prefix) new
 
 -- what was given is a prefix of what is seen
 abbrev pub SeenGiven : Type 0
 SeenGiven = (limit : ℕ) (all more : List ℕ) (done : List Line) (held : Held) → IsLeft all done held
     → length all ≤ limit
-    → (behind : List Line) × (seen limit (all ++ more) ≡ done ++ behind)
+    → (after : List Line) × (seen limit (all ++ more) ≡ done ++ after)
 
 -- a next line that is too long is the next that is seen
 abbrev pub SeenLong : Type 0
 SeenLong = (limit : ℕ) (all more : List ℕ) (done : List Line) (held : Held) (n : ℕ)
     → IsLeft all done held → length all ≤ limit → NextIsLong held n
-    → (line : Line) × (behind : List Line) × (seen limit (all ++ more) ≡ done ++ line ∷ behind)
+    → (line : Line) × (after : List Line) × (seen limit (all ++ more) ≡ done ++ line ∷ after)
     × IsTrue (is_overlong line.bytes) × (line.number ≡ n)
 
 -- at the limit all is given

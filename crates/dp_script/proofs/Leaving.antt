@@ -16,7 +16,7 @@ use Rattle.dp_lines.specs.TakenParts.{TookWithin}
 use Rattle.dp_script.specs.declared.machine.ScriptEnd.{ScriptEnd}
 use Rattle.dp_script.specs.declared.machine.ScriptEnd.TheVariants.{Done, BadLine, ReadFault, Long}
 use Rattle.dp_script.specs.declared.machine.ScriptEnd.TheVariants.{Memory, Ended}
-use Rattle.dp_script.specs.Ends.{BlamesInput, IsOfLines}
+use Rattle.dp_script.specs.Ends.{FaultMatchesInput, IsOfLines}
 use Rattle.dp_script.specs.Leaves.{HoldsNoCause, HoldsLines, ScriptLeaves}
 use Rattle.dp_script.specs.Progress.{HasDone, HasRead, IsReading, IsEnding, StopsIn}
 use Rattle.dp_script.proofs.Called.{SeenCut, SeenWhole}
@@ -37,7 +37,7 @@ none_left held fresh = ap lines_from fresh
 pub none_long : (held : Held) → held ≡ record { count = 0; bytes = []; fed = 0 } → (n : ℕ)
     → ¬ NextIsLong held n
 none_long held fresh n long =
-    let e : [] ≡ long.line ∷ long.behind = sym (none_left held fresh) ∙ long.next in cc (e)
+    let e : [] ≡ long.line ∷ long.after = sym (none_left held fresh) ∙ long.next in cc (e)
 
 -- nothing is fed yet
 pub read_first : {X : Type 0} {S : List Line → Line → Type 0} {D : X → List Line → X → Type 0}
@@ -111,7 +111,7 @@ rest_is_long held none long = record {
     number = held.count + length (ended held.bytes) + 1;
     bytes = open_rest held.bytes;
   };
-  behind = [];
+  after = [];
   next =
       lines_from_parts held
       ∙ ap (λ (ls : List Line). ls ++ numbered (held.count + length (ended held.bytes))
@@ -168,7 +168,7 @@ took_chunk limit (Some bytes) left rest chunk fed none short consumes few read =
     (Consumes-trans (Some bytes) left rest read.taken chunk read.consumed consumes) in
     let within : length read.taken ≤ limit = omega (arith, taken_length read) in record {
       taken = read.taken;
-      behind = chunk;
+      after = chunk;
       untaken = w.untaken;
       whole = w.parts ∙ append_assoc read.taken chunk w.untaken;
       left_is = w.left_is;
@@ -186,7 +186,7 @@ took_nothing P most bytes left rest keeps read meets =
     let w = whole_of bytes rest read.taken (Consumes-kept (Some bytes) left rest read.taken
     read.consumed keeps) in record {
       taken = read.taken;
-      behind = [];
+      after = [];
       untaken = w.untaken;
       whole = w.parts;
       left_is = w.left_is;
@@ -238,13 +238,13 @@ told_of_stop S D F limit bytes left start now Long stops = absurd stops
 told_of_stop S D F limit bytes left start now Memory some = (
   some.done,
   some.has.does,
-  record { behind = some.behind; parts = some.parts; steps = some.has.steps },
+  record { after = some.after; parts = some.parts; steps = some.has.steps },
 )
 told_of_stop S D F limit bytes left start now (Ended end) at = (
   at.done,
   at.line,
   at.ends,
-  record { behind = at.behind; parts = at.parts; steps = at.steps; fits = at.fits },
+  record { after = at.after; parts = at.parts; steps = at.steps; fits = at.fits },
 )
 
 -- of one whose bytes aren't
@@ -262,39 +262,39 @@ untold_of_stop S D F limit lines left start now (Ended end) at = (at.done, at.li
 -- the run stops at a line that is seen of these bytes, with whatever after them
 stop_leaves : {X E : Type 0} (S : List Line → Line → Type 0)
     (D : X → List Line → X → Type 0) (F : X → List Line → Line → X → E → Type 0)
-    (limit : ℕ) (input left rest : Option (List ℕ)) (front behind : List ℕ) (start now : X)
+    (limit : ℕ) (input left rest : Option (List ℕ)) (prefix after : List ℕ) (start now : X)
     (end : ScriptEnd E)
-    → Consumes input rest (front ++ behind)
-    → ((more : List ℕ) → StopsIn S D F (seen limit (front ++ more)) start now end)
+    → Consumes input rest (prefix ++ after)
+    → ((more : List ℕ) → StopsIn S D F (seen limit (prefix ++ more)) start now end)
     → ScriptLeaves S D F limit input left start now end
-stop_leaves S D F limit None left rest front behind start now end consumes stops =
-    untold_of_stop S D F limit (seen limit (front ++ [])) left start now end (stops [])
-stop_leaves S D F limit (Some bytes) left rest front behind start now end consumes stops =
-    let w = whole_of bytes rest (front ++ behind) consumes in
-    let whole : bytes ≡ front ++ (behind ++ w.untaken) = w.parts
-    ∙ append_assoc front behind w.untaken in
+stop_leaves S D F limit None left rest prefix after start now end consumes stops =
+    untold_of_stop S D F limit (seen limit (prefix ++ [])) left start now end (stops [])
+stop_leaves S D F limit (Some bytes) left rest prefix after start now end consumes stops =
+    let w = whole_of bytes rest (prefix ++ after) consumes in
+    let whole : bytes ≡ prefix ++ (after ++ w.untaken) = w.parts
+    ∙ append_assoc prefix after w.untaken in
     told_of_stop S D F limit bytes left start now end
     (subst (λ (b : List ℕ). StopsIn S D F (seen limit b) start now end) (sym whole)
-    (stops (behind ++ w.untaken)))
+    (stops (after ++ w.untaken)))
 
 -- at a piece of a chunk
 pub piece_stops : {X E : Type 0} (S : List Line → Line → Type 0)
     (D : X → List Line → X → Type 0) (F : X → List Line → Line → X → E → Type 0)
-    (limit : ℕ) (input left rest leaves : Option (List ℕ)) (chunk piece behind : List ℕ)
+    (limit : ℕ) (input left rest leaves : Option (List ℕ)) (chunk piece after : List ℕ)
     (held : Held) (start old now : X) (end : ScriptEnd E)
-    → Consumes left rest chunk → chunk ≡ piece ++ behind → held.fed + length piece ≤ limit
+    → Consumes left rest chunk → chunk ≡ piece ++ after → held.fed + length piece ≤ limit
     → ((start : X) (limit : ℕ) (all more : List ℕ) → length (all ++ piece) ≤ limit
     → IsReading S D all held start old
     → StopsIn S D F (seen limit (all ++ piece ++ more)) start now end)
     → HasRead S D input left held start old → ScriptLeaves S D F limit input leaves start now end
-piece_stops S D F limit input left rest leaves chunk piece behind held start old now end consumes
+piece_stops S D F limit input left rest leaves chunk piece after held start old now end consumes
     parts few stops read =
     let taken = Consumes-trans input left rest read.taken chunk read.consumed consumes in
-    let whole : read.taken ++ chunk ≡ (read.taken ++ piece) ++ behind =
-    ap (λ (b : List ℕ). read.taken ++ b) parts ∙ sym (append_assoc read.taken piece behind) in
+    let whole : read.taken ++ chunk ≡ (read.taken ++ piece) ++ after =
+    ap (λ (b : List ℕ). read.taken ++ b) parts ∙ sym (append_assoc read.taken piece after) in
     let short : length (read.taken ++ piece) ≤ limit =
     omega (arith, length-append read.taken piece, taken_length read) in
-    stop_leaves S D F limit input leaves rest (read.taken ++ piece) behind start now end
+    stop_leaves S D F limit input leaves rest (read.taken ++ piece) after start now end
     (subst (λ (b : List ℕ). Consumes input rest b) whole taken)
     (λ more. stops start limit read.taken more short read.reading)
 
@@ -302,42 +302,42 @@ some_length : (xs : List ℕ) → xs ≢ [] → 0 < length xs
 some_length [] some = absurd (some refl)
 some_length (x ∷ xs) some = omega arith
 
-front_none : (xs ys : List ℕ) → xs ++ ys ≡ [] → xs ≡ []
-front_none [] ys e = refl
-front_none (x ∷ xs) ys e = cc (e)
+prefix_none : (xs ys : List ℕ) → xs ++ ys ≡ [] → xs ≡ []
+prefix_none [] ys e = refl
+prefix_none (x ∷ xs) ys e = cc (e)
 
 -- the input has more bytes than count
 pub long_leaves : {X E : Type 0} (S : List Line → Line → Type 0)
     (D : X → List Line → X → Type 0) (F : X → List Line → Line → X → E → Type 0)
     → SeenCut → (limit : ℕ) (input left rest leaves : Option (List ℕ))
-    (chunk piece behind : List ℕ) (held later : Held) (start old now : X)
-    → Consumes left rest chunk → chunk ≡ piece ++ behind → behind ≢ []
+    (chunk piece after : List ℕ) (held later : Held) (start old now : X)
+    → Consumes left rest chunk → chunk ≡ piece ++ after → after ≢ []
     → held.fed + length piece ≡ limit
     → ended_from later ≡ [] → ((n : ℕ) → ¬ NextIsLong later n)
     → ((start : X) (all : List ℕ) → IsReading S D all held start old
     → IsReading S D (all ++ piece) later start now)
     → HasRead S D input left held start old → ScriptLeaves S D F limit input leaves start now Long
-long_leaves S D F cut limit None left rest leaves chunk piece behind held later start old now
+long_leaves S D F cut limit None left rest leaves chunk piece after held later start old now
     consumes parts some full none short does read =
     let reading = does start read.taken read.reading in (reading.done, reading.has.does, tt)
-long_leaves S D F cut limit (Some bytes) left rest leaves chunk piece behind held later start old
+long_leaves S D F cut limit (Some bytes) left rest leaves chunk piece after held later start old
     now consumes parts some full none short does read =
     let w = whole_of bytes rest (read.taken ++ chunk)
     (Consumes-trans (Some bytes) left rest read.taken chunk read.consumed consumes) in
-    let front : List ℕ = read.taken ++ piece in
-    let more : List ℕ = behind ++ w.untaken in
-    let whole : bytes ≡ front ++ more =
+    let prefix : List ℕ = read.taken ++ piece in
+    let more : List ℕ = after ++ w.untaken in
+    let whole : bytes ≡ prefix ++ more =
     w.parts ∙ ap (λ (b : List ℕ). (read.taken ++ b) ++ w.untaken) parts
-    ∙ ap (λ (b : List ℕ). b ++ w.untaken) (sym (append_assoc read.taken piece behind))
-    ∙ append_assoc front behind w.untaken in
+    ∙ ap (λ (b : List ℕ). b ++ w.untaken) (sym (append_assoc read.taken piece after))
+    ∙ append_assoc prefix after w.untaken in
     let reading = does start read.taken read.reading in
-    let count : length front ≡ limit =
+    let count : length prefix ≡ limit =
     omega (arith, length-append read.taken piece, taken_length read) in
-    let some_more : more ≢ [] = λ e. some (front_none behind w.untaken e) in
-    let all = ap (seen limit) whole ∙ cut limit front more reading.done later reading.left count
+    let some_more : more ≢ [] = λ e. some (prefix_none after w.untaken e) in
+    let all = ap (seen limit) whole ∙ cut limit prefix more reading.done later reading.left count
     some_more none short in
     let over : limit < length bytes =
-    omega (arith, ap length whole, length-append front more, some_length more some_more) in
+    omega (arith, ap length whole, length-append prefix more, some_length more some_more) in
     (reading.done, reading.has.does, (over, sym all, reading.has.steps))
 
 -- ---- the input's end
@@ -422,11 +422,11 @@ rest_stops S D F law limit (Some bytes) left rest none held start old now end is
 -- ---- counts of faults
 
 -- a stop at a line blames no input
-pub stop_blames : {E : Type 0} (before now : ℕ) (end : ScriptEnd E) → IsOfLines end → now ≡ before
-    → BlamesInput before now end
-stop_blames before now Done stop kept = kept
-stop_blames before now (BadLine n) stop kept = kept
-stop_blames before now ReadFault stop kept = absurd stop
-stop_blames before now Long stop kept = kept
-stop_blames before now Memory stop kept = kept
-stop_blames before now (Ended end) stop kept = kept
+pub stop_fault : {E : Type 0} (before now : ℕ) (end : ScriptEnd E) → IsOfLines end → now ≡ before
+    → FaultMatchesInput before now end
+stop_fault before now Done stop kept = kept
+stop_fault before now (BadLine n) stop kept = kept
+stop_fault before now ReadFault stop kept = absurd stop
+stop_fault before now Long stop kept = kept
+stop_fault before now Memory stop kept = kept
+stop_fault before now (Ended end) stop kept = kept

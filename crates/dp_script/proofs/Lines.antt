@@ -7,23 +7,23 @@ use Rattle.dp_lines.specs.Lines.{ended, open_rest, if_any, is_skipped, numbered}
 
 -- ---- the lines to come
 
-numbered-append : (n : ℕ) (front behind : List (List ℕ))
-    → numbered n (front ++ behind) ≡ numbered n front ++ numbered (n + length front) behind
-numbered-append n [] behind = ap (λ (k : ℕ). numbered k behind) (omega arith)
-numbered-append n (line ∷ front) behind =
-    let further : numbered (n + 1) (front ++ behind) ≡ numbered (n + 1) front
-    ++ numbered (n + 1 + length front) behind =
-    numbered-append (n + 1) front behind in
-    let count : n + 1 + length front ≡ n + length (line ∷ front) = omega arith in
-    let same = further ∙ ap (λ (k : ℕ). numbered (n + 1) front ++ numbered k behind) count in
+numbered-append : (n : ℕ) (prefix after : List (List ℕ))
+    → numbered n (prefix ++ after) ≡ numbered n prefix ++ numbered (n + length prefix) after
+numbered-append n [] after = ap (λ (k : ℕ). numbered k after) (omega arith)
+numbered-append n (line ∷ prefix) after =
+    let further : numbered (n + 1) (prefix ++ after) ≡ numbered (n + 1) prefix
+    ++ numbered (n + 1 + length prefix) after =
+    numbered-append (n + 1) prefix after in
+    let count : n + 1 + length prefix ≡ n + length (line ∷ prefix) = omega arith in
+    let same = further ∙ ap (λ (k : ℕ). numbered (n + 1) prefix ++ numbered k after) count in
     by_test (is_skipped line) same
   where
-    by_test : (skipped : _) → numbered (n + 1) (front ++ behind)
-        ≡ numbered (n + 1) front ++ numbered (n + length (line ∷ front)) behind
-        → cond skipped (numbered (n + 1) (front ++ behind))
-        (record { number = n + 1; bytes = line } ∷ numbered (n + 1) (front ++ behind))
-        ≡ cond skipped (numbered (n + 1) front) (record { number = n + 1; bytes = line }
-        ∷ numbered (n + 1) front) ++ numbered (n + length (line ∷ front)) behind
+    by_test : (skipped : _) → numbered (n + 1) (prefix ++ after)
+        ≡ numbered (n + 1) prefix ++ numbered (n + length (line ∷ prefix)) after
+        → cond skipped (numbered (n + 1) (prefix ++ after))
+        (record { number = n + 1; bytes = line } ∷ numbered (n + 1) (prefix ++ after))
+        ≡ cond skipped (numbered (n + 1) prefix) (record { number = n + 1; bytes = line }
+        ∷ numbered (n + 1) prefix) ++ numbered (n + length (line ∷ prefix)) after
     by_test true same = same
     by_test false same = ap (λ (ls : List Line). record { number = n + 1; bytes = line } ∷ ls) same
 
@@ -51,7 +51,7 @@ pub long_as_before : (old new : Held) (n : ℕ) → ended_from old ≡ ended_fro
     → open_rest new.bytes ≡ open_rest old.bytes → NextIsLong new n → NextIsLong old n
 long_as_before old new n ends count rest long = record {
   line = long.line;
-  behind = long.behind;
+  after = long.after;
   next = sym (same_to_come old new ends count rest) ∙ long.next;
   long = long.long;
   number = long.number;

@@ -4,35 +4,35 @@ use Rattle.std.proofs.Common.{append_assoc}
 use Rattle.std.proofs.lemmas.List.{append-nil}
 use Rattle.dp_lines.specs.declared.line.Line.{Line}
 use Rattle.dp_lines.specs.Ends.{AreSteps, seen}
-use Rattle.dp_lines.specs.Held.{Held, IsLeft, NextIsLong, ended_from, lines_from}
+use Rattle.dp_lines.specs.Held.{Held, NextIsLong, ended_from, lines_from}
 use Rattle.dp_lines.specs.Lines.{ended, open_rest}
 use Rattle.dp_script.specs.declared.machine.ScriptEnd.{ScriptEnd}
 use Rattle.dp_script.specs.declared.machine.ScriptEnd.TheVariants.{Done, BadLine, ReadFault, Long}
 use Rattle.dp_script.specs.declared.machine.ScriptEnd.TheVariants.{Memory, Ended}
-use Rattle.dp_script.specs.Progress.{HasDone, IsReading, IsEnding, StopsBehind, StopsIn}
+use Rattle.dp_script.specs.Progress.{HasDone, IsReading, IsEnding, StopsAfter, StopsIn}
 use Rattle.dp_script.proofs.Called.{LeftFed, LeftGiven, SeenGiven, SeenLong}
 
 -- ---- stops
 
 -- a line of these stops the run
 stops_in : {X E : Type 0} (S : List Line → Line → Type 0) (D : X → List Line → X → Type 0)
-    (F : X → List Line → Line → X → E → Type 0) (lines done behind : List Line) (line : Line)
+    (F : X → List Line → Line → X → E → Type 0) (lines done after : List Line) (line : Line)
     (start now : X) (end : ScriptEnd E)
-    → lines ≡ done ++ line ∷ behind → AreSteps S done
-    → StopsBehind S D F done line start now end → StopsIn S D F lines start now end
-stops_in S D F lines done behind line start now Done whole steps stops = absurd stops
-stops_in S D F lines done behind line start now (BadLine n) whole steps (number, bad, does) = (
+    → lines ≡ done ++ line ∷ after → AreSteps S done
+    → StopsAfter S D F done line start now end → StopsIn S D F lines start now end
+stops_in S D F lines done after line start now Done whole steps stops = absurd stops
+stops_in S D F lines done after line start now (BadLine n) whole steps (number, bad, does) = (
   done,
-  record { line = line; behind = behind; next = whole; number = number; steps = steps; bad = bad },
+  record { line = line; after = after; next = whole; number = number; steps = steps; bad = bad },
   does,
 )
-stops_in S D F lines done behind line start now ReadFault whole steps stops = absurd stops
-stops_in S D F lines done behind line start now Long whole steps stops = absurd stops
-stops_in S D F lines done behind line start now Memory whole steps stops = absurd stops
-stops_in S D F lines done behind line start now (Ended end) whole steps (fits, ends) = record {
+stops_in S D F lines done after line start now ReadFault whole steps stops = absurd stops
+stops_in S D F lines done after line start now Long whole steps stops = absurd stops
+stops_in S D F lines done after line start now Memory whole steps stops = absurd stops
+stops_in S D F lines done after line start now (Ended end) whole steps (fits, ends) = record {
   done = done;
   line = line;
-  behind = behind;
+  after = after;
   parts = whole;
   steps = steps;
   fits = fits;
@@ -69,21 +69,6 @@ reading_further law all held later line {start = start} lines count rest fed doe
   has = does start reading.done reading.has;
 }
 
--- no line is given
-pub reading_on : {X : Type 0} {S : List Line → Line → Type 0} {D : X → List Line → X → Type 0}
-    → LeftGiven → (all : List ℕ) (held later : Held) {start now : X}
-    → ended_from held ≡ ended_from later
-    → later.count + length (ended later.bytes) ≡ held.count + length (ended held.bytes)
-    → open_rest later.bytes ≡ open_rest held.bytes → later.fed ≡ held.fed
-    → IsReading S D all held start now → IsReading S D all later start now
-reading_on law all held later lines count rest fed reading = record {
-  done = reading.done;
-  left =
-      subst (λ (ls : List Line). IsLeft all ls later) (append-nil reading.done)
-      (law all reading.done [] held later reading.left lines count rest fed);
-  has = reading.has;
-}
-
 -- a line is given, and stops the run
 pub reading_stops : {X E : Type 0} (S : List Line → Line → Type 0)
     (D : X → List Line → X → Type 0) (F : X → List Line → Line → X → E → Type 0)
@@ -93,7 +78,7 @@ pub reading_stops : {X E : Type 0} (S : List Line → Line → Type 0)
     → later.count + length (ended later.bytes) ≡ held.count + length (ended held.bytes)
     → open_rest later.bytes ≡ open_rest held.bytes → later.fed ≡ held.fed
     → ((start : X) (done : List Line) → HasDone S D start done old
-    → StopsBehind S D F done line start now end)
+    → StopsAfter S D F done line start now end)
     → IsReading S D all held start old → StopsIn S D F (seen limit (all ++ more)) start now end
 reading_stops S D F law law_seen limit all more held later line start old now end few lines count
     rest fed stops reading =
@@ -111,12 +96,12 @@ pub reading_long : {X E : Type 0} (S : List Line → Line → Type 0)
     → IsReading S D all held start now
     → StopsIn S D F (seen limit (all ++ more)) start now (BadLine n)
 reading_long S D F law limit all more held n start now few long reading =
-    let (line, behind, whole, overlong, number) = law limit all more reading.done held n
+    let (line, after, whole, overlong, number) = law limit all more reading.done held n
     reading.left few long in (
       reading.done,
       record {
         line = line;
-        behind = behind;
+        after = after;
         next = whole;
         number = number;
         steps = reading.has.steps;
@@ -134,7 +119,7 @@ pub reading_full : {X E : Type 0} (S : List Line → Line → Type 0)
 reading_full S D F law limit all more held start now few reading =
     let sees = law limit all more reading.done held reading.left few in record {
       done = reading.done;
-      behind = sees.0;
+      after = sees.0;
       parts = sees.1;
       has = reading.has;
     }
@@ -163,7 +148,7 @@ pub ending_stops : {X E : Type 0} (S : List Line → Line → Type 0)
     (lines : List Line) (held later : Held) (line : Line) (start old now : X) (end : ScriptEnd E)
     → lines_from held ≡ line ∷ lines_from later
     → ((start : X) (done : List Line) → HasDone S D start done old
-    → StopsBehind S D F done line start now end)
+    → StopsAfter S D F done line start now end)
     → IsEnding S D lines held start old → StopsIn S D F lines start now end
 ending_stops S D F lines held later line start old now end given stops ending =
     stops_in S D F lines ending.done (lines_from later) line start now end
@@ -180,7 +165,7 @@ ending_long S D F lines held n start now long ending = (
   ending.done,
   record {
     line = long.line;
-    behind = long.behind;
+    after = long.after;
     next = ending.whole ∙ ap (λ (ls : List Line). ending.done ++ ls) long.next;
     number = long.number;
     steps = ending.has.steps;
@@ -196,7 +181,7 @@ pub ending_full : {X E : Type 0} (S : List Line → Line → Type 0)
     → IsEnding S D lines held start now → StopsIn S D F lines start now Memory
 ending_full S D F lines held start now ending = record {
   done = ending.done;
-  behind = lines_from held;
+  after = lines_from held;
   parts = ending.whole;
   has = ending.has;
 }

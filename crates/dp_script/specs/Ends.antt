@@ -18,13 +18,13 @@ IfEnded P undone.NoStep = ⊤
 IfEnded P (undone.Ended end) = P end
 
 -- the count of the input's faults after a run that ended so: a fault raised it, and else it stays
-abbrev pub BlamesInput : {E : Type 0} → ℕ → ℕ → ScriptEnd E → Type 0
-BlamesInput before now Done = now ≡ before
-BlamesInput before now (BadLine n) = now ≡ before
-BlamesInput before now ReadFault = Rose before now
-BlamesInput before now Long = now ≡ before
-BlamesInput before now Memory = now ≡ before
-BlamesInput before now (Ended end) = now ≡ before
+abbrev pub FaultMatchesInput : {E : Type 0} → ℕ → ℕ → ScriptEnd E → Type 0
+FaultMatchesInput before now Done = now ≡ before
+FaultMatchesInput before now (BadLine n) = now ≡ before
+FaultMatchesInput before now ReadFault = Rose before now
+FaultMatchesInput before now Long = now ≡ before
+FaultMatchesInput before now Memory = now ≡ before
+FaultMatchesInput before now (Ended end) = now ≡ before
 
 -- a line stopped the run, or memory ran out before one
 abbrev pub IsOfLines : {E : Type 0} → ScriptEnd E → Type 0

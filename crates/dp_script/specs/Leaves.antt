@@ -26,16 +26,16 @@ pub record HoldsLines (IsStep : List Line → Line → Type 0) (limit : ℕ) (do
   pub quiet : HoldsNoCause IsStep limit bytes
 
 -- these lines are the first of those, and are steps
-pub record IsFrontOf (IsStep : List Line → Line → Type 0) (lines done : List Line) : Type 0 where
-  pub behind : List Line
-  pub parts : lines ≡ done ++ behind
+pub record AreFirstOf (IsStep : List Line → Line → Type 0) (lines done : List Line) : Type 0 where
+  pub after : List Line
+  pub parts : lines ≡ done ++ after
   pub steps : AreSteps IsStep done
 
 -- these lines are the first of those, and are steps; this one is the next, and isn't too long
 pub record IsNextOf (IsStep : List Line → Line → Type 0) (lines done : List Line) (line : Line) :
     Type 0 where
-  pub behind : List Line
-  pub parts : lines ≡ done ++ line ∷ behind
+  pub after : List Line
+  pub parts : lines ≡ done ++ line ∷ after
   pub steps : AreSteps IsStep done
   pub fits : IsInLimit line
 
@@ -59,7 +59,7 @@ ScriptLeaves IsStep Does Ends limit input left start now Long =
     × IfSome input (λ bytes. LinesComeTo IsStep limit bytes done ends.TooLong)
 ScriptLeaves IsStep Does Ends limit input left start now Memory =
     (done : List Line) × Does start done now
-    × IfSome input (λ bytes. IsFrontOf IsStep (seen limit bytes) done)
+    × IfSome input (λ bytes. AreFirstOf IsStep (seen limit bytes) done)
 ScriptLeaves IsStep Does Ends limit input left start now (Ended end) =
     (done : List Line) × (line : Line) × Ends start done line now end
     × IfSome input (λ bytes. IsNextOf IsStep (seen limit bytes) done line)

@@ -39,24 +39,24 @@ pub record HasRead {X : Type 0} (IsStep : List Line → Line → Type 0)
   pub reading : IsReading IsStep Does taken held start now
 
 -- how a line after those that were done stops the run
-abbrev pub StopsBehind : {X E : Type 0} → (List Line → Line → Type 0)
+abbrev pub StopsAfter : {X E : Type 0} → (List Line → Line → Type 0)
     → (X → List Line → X → Type 0) → (X → List Line → Line → X → E → Type 0)
     → List Line → Line → X → X → ScriptEnd E → Type 0
-StopsBehind IsStep Does Ends done line start now Done = ⊥
-StopsBehind IsStep Does Ends done line start now (BadLine n) =
+StopsAfter IsStep Does Ends done line start now Done = ⊥
+StopsAfter IsStep Does Ends done line start now (BadLine n) =
     (line.number ≡ n) × ¬ IsDoable IsStep done line × Does start done now
-StopsBehind IsStep Does Ends done line start now ReadFault = ⊥
-StopsBehind IsStep Does Ends done line start now Long = ⊥
-StopsBehind IsStep Does Ends done line start now Memory = ⊥
-StopsBehind IsStep Does Ends done line start now (Ended end) =
+StopsAfter IsStep Does Ends done line start now ReadFault = ⊥
+StopsAfter IsStep Does Ends done line start now Long = ⊥
+StopsAfter IsStep Does Ends done line start now Memory = ⊥
+StopsAfter IsStep Does Ends done line start now (Ended end) =
     IsInLimit line × Ends start done line now end
 
 -- these lines were done of those, which are steps
 pub record DidSome {X : Type 0} (IsStep : List Line → Line → Type 0)
     (Does : X → List Line → X → Type 0) (lines : List Line) (start now : X) : Type 0 where
   pub done : List Line
-  pub behind : List Line
-  pub parts : lines ≡ done ++ behind
+  pub after : List Line
+  pub parts : lines ≡ done ++ after
   pub has : HasDone IsStep Does start done now
 
 -- one of these lines ended the run so, after those before it, which are steps
@@ -65,8 +65,8 @@ pub record EndsAt {X E : Type 0} (IsStep : List Line → Line → Type 0)
     Type 0 where
   pub done : List Line
   pub line : Line
-  pub behind : List Line
-  pub parts : lines ≡ done ++ line ∷ behind
+  pub after : List Line
+  pub parts : lines ≡ done ++ line ∷ after
   pub steps : AreSteps IsStep done
   pub fits : IsInLimit line
   pub ends : Ends start done line now end

@@ -7,7 +7,7 @@ ghost use Rattle.dp_lines.specs.Ends.{seen};
 ghost use Rattle.dp_lines.specs.Held.{IsInLimit, NextIsLong, ended_from};
 ghost use Rattle.dp_script.specs.Ends.{IsOfLines};
 ghost use Rattle.dp_script.specs.Moments.{Moment, moment};
-ghost use Rattle.dp_script.specs.Progress.{HasDone, IsReading, StopsBehind, StopsIn};
+ghost use Rattle.dp_script.specs.Progress.{HasDone, IsReading, StopsAfter, StopsIn};
 
 use crate::{LineMachine, ScriptEnd, Undone};
 use dp_lines::{Line, LineError, Lines, further_step, lines_seen, still_left};
@@ -31,7 +31,7 @@ pub(crate) fn do_given<O, D, T, M: LineMachine<O, D, T>>(
     ensures err { IfErr result (λ end. (start : Moment M O D T) (done : List Given)
         → HasDone M.is_step M.has_done start done
         (moment machine.old output.old draws.old tiles.old)
-        → StopsBehind M.is_step M.has_done M.has_ended done line.now start
+        → StopsAfter M.is_step M.has_done M.has_ended done line.now start
         (moment machine.new output.new draws.new tiles.new) end) }
     ensures of_lines { IfErr result IsOfLines }
 {

@@ -1,6 +1,6 @@
 //! What does lines.
 
-use dp_lines::{Line, Steps};
+use dp_lines::{Line, StepRule};
 
 /// Why a line isn't done.
 #[derive(Drop, Debug)]
@@ -30,7 +30,7 @@ pub enum ScriptEnd<E> {
 
 /// What does the lines of a source, with an output and counters that are handed to it. Links are
 /// its own.
-pub trait LineMachine<O, D, T>: Steps {
+pub trait LineMachine<O, D, T>: StepRule {
     ghost use Rattle.std.specs.Prelude.{◌∷◌, ◌++◌, [], List, OnOk, IfErr};
     ghost use Rattle.dp_lines.specs.declared.line.Line.{Line as Given};
     ghost use Rattle.dp_lines.specs.Held.{IsInLimit};

@@ -2,7 +2,7 @@
 
 ghost use Rattle.std.specs.Prelude.{◌-◌, ◌^◌, ◌<◌, ◌≤◌, [], IfSome};
 ghost use Rattle.dp_lines.specs.TakenParts.{TookWithin};
-ghost use Rattle.dp_script.specs.Ends.{BlamesInput};
+ghost use Rattle.dp_script.specs.Ends.{FaultMatchesInput};
 ghost use Rattle.dp_script.specs.Leaves.{HoldsNoCause, ScriptLeaves};
 ghost use Rattle.dp_script.specs.Moments.{moment};
 
@@ -43,7 +43,7 @@ pub fn run_lines<I: Source, O, D, T, M: LineMachine<O, D, T>>(
         (moment machine.new output.new draws.new tiles.new) result }
     ensures took { IfSome (I.left input.old) (λ bytes.
         TookWithin (HoldsNoCause M.is_step limit) 4096 bytes (I.left input.new)) }
-    ensures blames { BlamesInput (I.faults input.old) (I.faults input.new) result }
+    ensures fault { FaultMatchesInput (I.faults input.old) (I.faults input.new) result }
     ensures later { I.faults input.old ≤ I.faults input.new }
 {
     further_step::<M>();

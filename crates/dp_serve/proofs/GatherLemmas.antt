@@ -15,7 +15,8 @@ use Rattle.dp_hall.proofs.ListLemmas.{in_both, in_left, in_map, in_right, distin
 use Rattle.dp_epochs.specs.Past.{Past}
 use Rattle.dp_epochs.specs.Laws.{ShutBefore}
 use Rattle.dp_session_laws.specs.Logs.{IsSessionLog}
-use Rattle.dp_link.specs.Acts.{Act, SeatView}
+use Rattle.dp_link.specs.Acts.{SeatView}
+use Rattle.dp_session_laws.specs.Logs.{LogEntry}
 use Rattle.dp_worker.specs.declared.report.LinkReport.{LinkReport}
 use Rattle.dp_worker.specs.Links.{has_store_fault}
 use Rattle.dp_worker.specs.Works.{acts_of}
@@ -75,7 +76,7 @@ module _ {W R T : Type 0} where
       own None joined a = absurd a
       own (Some name) joined (inl e) =
           subst (λ x. IsIn x (old_names v.olds)) (sym e)
-          (in_map (λ (o : List ℕ × List Act). o.0) (name, acts_of part.runs) v.olds joined)
+          (in_map (λ (o : List ℕ × List LogEntry). o.0) (name, acts_of part.runs) v.olds joined)
       own (Some name) joined (inr a) = absurd a
 
 one_name : (name : Option (List ℕ)) → AreDistinct (option_to_list name)
@@ -173,7 +174,7 @@ module _ {W R T : Type 0} (see : Seen W R T) (start : Past) (most : ℕ) (laws :
             length-map a.part.runs (λ run. run.report),
           )
 
-      others : (o : List ℕ × List Act) → IsIn o w.olds
+      others : (o : List ℕ × List LogEntry) → IsIn o w.olds
           → IsIn o.0 (names_of g.parts ++ option_to_list a.part.name) ⊎ (o.1 ≡ [])
       others o h = new_one (a.others o h)
         where
@@ -300,7 +301,8 @@ module _ {W R T : Type 0} (see : Seen W R T) (hall : HallValue Past) (most : ℕ
           reports_are = no_reports;
           few = omega (arith, ap length no_reports);
           others = λ o h.
-              absurd (subst (λ (x : List (List ℕ × List Act)). IsIn o x) (l.olds ∙ first.olds) h);
+              absurd (subst (λ (x : List (List ℕ × List LogEntry)). IsIn o x) (l.olds ∙ first.olds)
+              h);
           names = tt;
           name = l.name ∙ first.name;
           mine = l.mine ∙ first.mine;
@@ -342,16 +344,16 @@ module _ {W R T : Type 0} (see : Seen W R T) (hall : HallValue Past) (most : ℕ
       wire : new.wire ≡ old.wire || job.worked.wire
       wire = ap (λ (f : Flags). f.wire) flags_are
 
-      front : reverse before ≡ job ∷ reverse jobs
-      front = ap reverse is ∙ reverse-append jobs (job ∷ [])
+      prefix : reverse before ≡ job ∷ reverse jobs
+      prefix = ap reverse is ∙ reverse-append jobs (job ∷ [])
 
       ran : RanJobs see hall most h.made (job ∷ reverse jobs)
-      ran = subst (RanJobs see hall most h.made) front h.ran
+      ran = subst (RanJobs see hall most h.made) prefix h.ran
 
       gathers : Gathers see hall.start most u (option_to_list (seat_name job.seat)
           ++ seat_names (reverse jobs)) h.done wires reports old
       gathers =
-          subst (λ l. Gathers see hall.start most u (seat_names l) h.done wires reports old) front
+          subst (λ l. Gathers see hall.start most u (seat_names l) h.done wires reports old) prefix
           h.gathers
 
       up : Stays job.worked.memory new.memory

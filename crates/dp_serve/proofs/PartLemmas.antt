@@ -14,12 +14,14 @@ use Rattle.dp_hall.proofs.ListLemmas.{in_both, in_left, in_right, prefix_all}
 use Rattle.dp_epochs.specs.Past.{Past}
 use Rattle.dp_epochs.specs.Laws.{ShutBefore}
 use Rattle.dp_session_laws.specs.Logs.{IsSessionLog}
-use Rattle.dp_link.specs.Acts.{Act, SeatView}
+use Rattle.dp_link.specs.Acts.{SeatView}
+use Rattle.dp_session_laws.specs.Logs.{LogEntry}
 use Rattle.dp_link.specs.Sending.{session_of}
 use Rattle.dp_worker.specs.declared.worker.Worked.{Worked}
 use Rattle.dp_worker.specs.Links.{has_store_fault}
 use Rattle.dp_worker.specs.Seats.{WorksOn}
-use Rattle.dp_worker.specs.Works.{LinkRun, IsRun, HandsOver, NoneToCome, Works, BlamesWire, acts_of}
+use Rattle.dp_worker.specs.Works.{LinkRun, IsRun, HandsOver, NoneToCome, Works, FaultMatchesWire}
+use Rattle.dp_worker.specs.Works.{acts_of}
 use Rattle.dp_worker.proofs.LinkLemmas.{FeedLaws, link-later}
 use Rattle.dp_serve.specs.declared.gather.Flags.{Flags}
 use Rattle.dp_serve.specs.Serving.{Seen, Part, Fits, HasFailed}
@@ -43,7 +45,7 @@ all-later P Q [] later h = tt
 all-later P Q (x ∷ xs) later h = (later x h.0, all-later P Q xs later h.1)
 
 module _ {W R T : Type 0} (see : Seen W R T) (laws : FeedLaws) (start : Past)
-    (log longer : List Act) (shut : ShutBefore start) (legal : IsSessionLog start longer)
+    (log longer : List LogEntry) (shut : ShutBefore start) (legal : IsSessionLog start longer)
     (begins : IsPrefix log longer) where
   pub runs-later : (who : ℕ) (runs : List (LinkRun R T))
       → AllByRecursion (IsRun see.link (left_by start log) who) runs
@@ -86,8 +88,8 @@ module _ {W R T : Type 0} (see : Seen W R T) (laws : FeedLaws) (start : Past)
       faults (inr f) = inr (has f)
 
 -- the acts of a seat that was joined stay where they are
-pub joined-later : (v w : SeatView) (name : Option (List ℕ)) (acts : List Act)
-    → ((o : List ℕ × List Act) → IsIn o v.olds → IsIn o w.olds)
+pub joined-later : (v w : SeatView) (name : Option (List ℕ)) (acts : List LogEntry)
+    → ((o : List ℕ × List LogEntry) → IsIn o v.olds → IsIn o w.olds)
     → HasJoined v name acts → HasJoined w name acts
 joined-later v w None acts kept h = h
 joined-later v w (Some name) acts kept h = kept (name, acts) h
@@ -109,8 +111,8 @@ pub record Adds {W R T : Type 0} (see : Seen W R T) (start : Past) (most : ℕ) 
   pub name : w.name ≡ v.name
   pub mine : w.mine ≡ v.mine
   pub begins : IsPrefix v.seen w.seen
-  pub kept : (o : List ℕ × List Act) → IsIn o v.olds → IsIn o w.olds
-  pub others : (o : List ℕ × List Act) → IsIn o w.olds
+  pub kept : (o : List ℕ × List LogEntry) → IsIn o v.olds → IsIn o w.olds
+  pub others : (o : List ℕ × List LogEntry) → IsIn o w.olds
       → IsIn o v.olds ⊎ IsIn o.0 (option_to_list part.name) ⊎ (o.1 ≡ [])
   pub apart : (n : List ℕ) → IsIn n (option_to_list part.name) → ¬ IsIn n (old_names v.olds)
   pub back : (out : List (List ℕ)) → AllBackBut (option_to_list part.name ++ out) v
@@ -126,7 +128,7 @@ module _ {R T : Type 0} where
   }
 
 -- the names that a seat made and that acted nothing
-idle : (o : List ℕ × List Act) (names : List (List ℕ)) → IsIn o (map (λ n. (n, [])) names)
+idle : (o : List ℕ × List LogEntry) (names : List (List ℕ)) → IsIn o (map (λ n. (n, [])) names)
     → o.1 ≡ []
 idle o [] h = absurd h
 idle o (n ∷ names) (inl e) = ap (λ p. p.1) e
@@ -196,7 +198,8 @@ module _ {W R T : Type 0} (see : Seen W R T) (hall : HallValue Past) (most : ℕ
 
     work_failed : new.worked.wire ≡ true → HasFailed see flags.wire work_part
     work_failed e = (
-      subst (λ b. BlamesWire b (see.faults old.wire) (see.faults new.wire)) e works.served.wire,
+      subst (λ b. FaultMatchesWire b (see.faults old.wire) (see.faults new.wire)) e
+          works.served.wire,
       wire e,
     )
 
@@ -211,7 +214,7 @@ module _ {W R T : Type 0} (see : Seen W R T) (hall : HallValue Past) (most : ℕ
         → (see.faults new.wire ≡ see.faults old.wire) ⊎ HasFailed see flags.wire work_part
     work_faults true e = inr (work_failed e)
     work_faults false e =
-        inl (subst (λ b. BlamesWire b (see.faults old.wire) (see.faults new.wire)) e
+        inl (subst (λ b. FaultMatchesWire b (see.faults old.wire) (see.faults new.wire)) e
         works.served.wire)
 
     work_fits : Fits see (session_of hall.start w) most flags.memory flags.wire old.who work_part
@@ -239,12 +242,12 @@ module _ {W R T : Type 0} (see : Seen W R T) (hall : HallValue Past) (most : ℕ
         ∙ ap (λ l. v.olds ++ (after.name, acts_of works.runs) ∷ l)
         (goes.olds ∙ ap (λ l. l ++ map (λ n. (n, [])) goes.idle) cut.olds)
 
-    work_kept : (o : List ℕ × List Act) → IsIn o v.olds → IsIn o w.olds
+    work_kept : (o : List ℕ × List LogEntry) → IsIn o v.olds → IsIn o w.olds
     work_kept o h =
         subst (IsIn o) (sym all_olds) (in_left o v.olds ((after.name, acts_of works.runs)
         ∷ map (λ n. (n, [])) goes.idle) h)
 
-    work_others : (o : List ℕ × List Act) → IsIn o w.olds
+    work_others : (o : List ℕ × List LogEntry) → IsIn o w.olds
         → IsIn o v.olds ⊎ IsIn o.0 (after.name ∷ []) ⊎ (o.1 ≡ [])
     work_others o h =
         ⊎_elim (λ (a : IsIn o v.olds). inl a)

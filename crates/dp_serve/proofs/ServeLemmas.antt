@@ -12,7 +12,8 @@ use Rattle.dp_epochs.specs.Past.{Past, Step}
 use Rattle.dp_epochs.specs.Laws.{ShutBefore}
 use Rattle.dp_session_laws.specs.Logs.{IsSessionLog}
 use Rattle.dp_session_laws.specs.Journals.{kept_events}
-use Rattle.dp_link.specs.Acts.{Act, SeatView}
+use Rattle.dp_link.specs.Acts.{SeatView}
+use Rattle.dp_session_laws.specs.Logs.{LogEntry}
 use Rattle.dp_worker.specs.declared.report.LinkReport.{LinkReport}
 use Rattle.dp_worker.specs.Links.{has_store_fault}
 use Rattle.dp_worker.specs.Works.{acts_of, most_links}
@@ -26,26 +27,26 @@ use Rattle.dp_serve.proofs.GatherLemmas.{each-later}
 
 -- ---- logs
 
-left_out : (b : Bool) (act : Act) (log : List Act) → (if b then act ∷ log else log) ≡ []
+left_out : (b : Bool) (act : LogEntry) (log : List LogEntry) → (if b then act ∷ log else log) ≡ []
     → (b ≡ false) × (log ≡ [])
 left_out true act log e = absurd (cc (e))
 left_out false act log e = (refl, e)
 
 -- where a log has no entries by a name, none of it is by that name
-by_nobody : (name : List ℕ) (log : List Act) (act : Act) → entries_by name log ≡ []
+by_nobody : (name : List ℕ) (log : List LogEntry) (act : LogEntry) → entries_by name log ≡ []
     → IsIn act log → act.by ≡ name → ⊥
 by_nobody name [] act none h by = h
 by_nobody name (first ∷ log) act none (inl e) by =
     let out = left_out (is_same_name first.by name) first (entries_by name log) none in
-    let same : first.by ≡ name = ap (λ (x : Act). x.by) (sym e) ∙ by in
+    let same : first.by ≡ name = ap (λ (x : LogEntry). x.by) (sym e) ∙ by in
     true≢false (sym (ap (λ n. is_same_name n name) same ∙ same_self name) ∙ out.0)
 by_nobody name (first ∷ log) act none (inr h) by =
     let out = left_out (is_same_name first.by name) first (entries_by name log) none in
     by_nobody name log act out.1 h by
 
 -- a name of a list of pairs has its pair there
-pair_of : (n : List ℕ) (olds : List (List ℕ × List Act)) → IsIn n (old_names olds)
-    → (o : List ℕ × List Act) × IsIn o olds × (n ≡ o.0)
+pair_of : (n : List ℕ) (olds : List (List ℕ × List LogEntry)) → IsIn n (old_names olds)
+    → (o : List ℕ × List LogEntry) × IsIn o olds × (n ≡ o.0)
 pair_of n [] h = absurd h
 pair_of n (o ∷ olds) (inl e) = (o, inl refl, e)
 pair_of n (o ∷ olds) (inr h) = let found = pair_of n olds h in (found.0, inr found.1, found.2)
@@ -53,7 +54,7 @@ pair_of n (o ∷ olds) (inr h) = let found = pair_of n olds h in (found.0, inr f
 -- ---- the session that was served
 
 module _ {W R T : Type 0} (see : Seen W R T) (start : Past) (most : ℕ) (laws : FeedLaws)
-    (journals : (past : Past) (log : List Act) → IsSessionLog past log
+    (journals : (past : Past) (log : List LogEntry) → IsSessionLog past log
     → (left_by past log).journal ≡ past.journal ++ kept_events log) (shut : ShutBefore start)
   where
     pub serves-of : (session : Past) (v : SeatView) (old new wires : List W)
@@ -67,15 +68,15 @@ module _ {W R T : Type 0} (see : Seen W R T) (start : Past) (most : ℕ) (laws :
         c : Closes Step start v closed.last
         c = closed.closes
 
-        log : List Act
+        log : List LogEntry
         log = c.log
 
-        logged : (name : Option (List ℕ)) (acts : List Act) → HasJoined v name acts
+        logged : (name : Option (List ℕ)) (acts : List LogEntry) → HasJoined v name acts
             → acts_by name log ≡ acts
         logged None acts h = sym h
         logged (Some name) acts h = c.olds (name, acts) h
 
-        others : (act : Act) → IsIn act log → IsIn act.by (names_of g.parts)
+        others : (act : LogEntry) → IsIn act log → IsIn act.by (names_of g.parts)
         others act h = by_old (c.all act h)
           where
             by_old : IsIn act.by ([] ∷ old_names v.olds) → IsIn act.by (names_of g.parts)

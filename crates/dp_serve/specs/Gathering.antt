@@ -6,7 +6,8 @@ use Rattle.dp_hall.specs.Calls.{JoinsInto, Closes}
 use Rattle.dp_hall.specs.Laws.{AllBackBut}
 use Rattle.dp_hall.specs.Names.{IsIn, AreDistinct}
 use Rattle.dp_epochs.specs.Past.{Past, Step}
-use Rattle.dp_link.specs.Acts.{Act, SeatView}
+use Rattle.dp_link.specs.Acts.{SeatView}
+use Rattle.dp_session_laws.specs.Logs.{LogEntry}
 use Rattle.dp_link.specs.Sending.{session_of}
 use Rattle.dp_worker.specs.declared.report.LinkReport.{LinkReport}
 use Rattle.dp_worker.specs.Links.{has_store_fault}
@@ -17,7 +18,7 @@ use Rattle.dp_serve.specs.Serving.{Seen, Part, Left, Fits, HasFailed, EachFrom, 
 use Rattle.dp_serve.specs.Serving.{reports_of}
 
 -- the seat of this name, if there is one, was joined with these acts
-abbrev pub HasJoined : SeatView → Option (List ℕ) → List Act → Type 0
+abbrev pub HasJoined : SeatView → Option (List ℕ) → List LogEntry → Type 0
 HasJoined v None acts = acts ≡ []
 HasJoined v (Some name) acts = IsIn (name, acts) v.olds
 
@@ -39,7 +40,7 @@ pub record Gathers {W R T : Type 0} (see : Seen W R T) (start : Past) (most : �
   pub each : EachFrom (IsJoined see start v most flags) 0 parts
   pub reports_are : reports ≡ reports_of parts
   pub few : length reports ≤ length parts * (2 ^ 32 - 1)
-  pub others : (o : List ℕ × List Act) → IsIn o v.olds → IsIn o.0 (names_of parts) ⊎ (o.1 ≡ [])
+  pub others : (o : List ℕ × List LogEntry) → IsIn o v.olds → IsIn o.0 (names_of parts) ⊎ (o.1 ≡ [])
   pub names : AreDistinct (names_of parts)
   pub name : v.name ≡ []
   pub mine : v.mine ≡ []

@@ -3,14 +3,15 @@ use Rattle.std.specs.Prelude.{◌≡◌, ℕ, ◌+◌, false, true, List, [], �
 use Rattle.dp_hall.specs.Calls.{HallValue, SeatValue, IsOf, SplitsInto}
 use Rattle.dp_events.specs.declared.event.Event.{Event}
 use Rattle.dp_epochs.specs.Past.{Past}
-use Rattle.dp_link.specs.Acts.{Outcome, SeatView}
+use Rattle.dp_link.specs.Acts.{SeatView}
+use Rattle.dp_session_laws.specs.Logs.{ReplyOrMemory}
 use Rattle.dp_worker.specs.declared.worker.Worked.{Worked}
 use Rattle.dp_worker.specs.Works.{Works}
 use Rattle.dp_serve.specs.Serving.{Seen}
 
 -- a seat of the session's hall, as contracts see it
 abbrev pub SessionSeat : Type 0
-SessionSeat = SeatValue Event Outcome Past
+SessionSeat = SeatValue Event ReplyOrMemory Past
 
 -- what contracts see of a job
 pub record JobValue (W : Type 0) : Type 0 where

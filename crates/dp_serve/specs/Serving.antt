@@ -10,7 +10,7 @@ use Rattle.dp_hall.specs.Names.{IsIn, AreDistinct}
 use Rattle.dp_events.specs.declared.event.Event.{Event}
 use Rattle.dp_events.specs.declared.event.ShutAt.{ShutAt}
 use Rattle.dp_epochs.specs.Past.{Past}
-use Rattle.dp_session_laws.specs.Logs.{Act, IsSessionLog}
+use Rattle.dp_session_laws.specs.Logs.{LogEntry, IsSessionLog}
 use Rattle.dp_session_laws.specs.Journals.{kept_events}
 use Rattle.dp_worker.specs.declared.report.LinkReport.{LinkReport}
 use Rattle.dp_worker.specs.Links.{LinkState, has_store_fault}
@@ -32,7 +32,7 @@ pub record Part (W R T : Type 0) : Type 0 where
   pub runs : List (LinkRun R T)
 
 -- the acts of a log by the seat of this name, if there is one
-abbrev pub acts_by : Option (List ℕ) → List Act → List Act
+abbrev pub acts_by : Option (List ℕ) → List LogEntry → List LogEntry
 acts_by None log = []
 acts_by (Some name) log = entries_by name log
 
@@ -59,7 +59,7 @@ module _ {W R T : Type 0} where
     pub ran_out : list_any run_ran_out part.runs ≡ true → memory ≡ true
 
   -- the same, and the acts of its seat in the log are those of its links, in order and no others
-  abbrev pub IsPart : Seen W R T → Past → List Act → ℕ → Bool → Bool → ℕ → Part W R T → Type 0
+  abbrev pub IsPart : Seen W R T → Past → List LogEntry → ℕ → Bool → Bool → ℕ → Part W R T → Type 0
   IsPart see last log most memory wire who part =
       Fits see last most memory wire who part
       × (acts_by part.name log ≡ acts_of part.runs)
@@ -93,13 +93,13 @@ pub record Left : Type 0 where
 -- leaves. The flags are raised only with their causes.
 pub record Serves {W R T : Type 0} (see : Seen W R T) (start : Past) (most : ℕ) (old new : List W)
     (left : Left) : Type 0 where
-  pub log : List Act
+  pub log : List LogEntry
   pub legal : IsSessionLog start log
   pub parts : List (Part W R T)
   pub before : map (λ part. part.wire) parts ≡ old
   pub after : map (λ part. part.now) parts ≡ new
   pub each : EachFrom (IsPart see (left_by start log) log most left.memory left.wire) 0 parts
-  pub others : (act : Act) → IsIn act log → IsIn act.by (names_of parts)
+  pub others : (act : LogEntry) → IsIn act log → IsIn act.by (names_of parts)
   pub names : AreDistinct (names_of parts)
   pub journal : left.journal ≡ start.journal ++ kept_events log
   pub shut : left.shut ≡ (left_by start log).shut

@@ -9,10 +9,10 @@ use Rattle.dp_hall.proofs.ListLemmas.{same_self, same_is, is_not, distinct_both}
 use Rattle.dp_events.specs.declared.event.Event.{Event}
 use Rattle.dp_events.specs.declared.event.Reply.{Reply}
 use Rattle.dp_events.specs.declared.event.Reply.TheVariants as reply
-use Rattle.dp_session_laws.specs.Logs.{Outcome, Act}
+use Rattle.dp_session_laws.specs.Logs.{ReplyOrMemory, LogEntry}
 use Rattle.dp_session_laws.specs.Journals.{is_kept, kept_events, kept_reply, kept_replies}
 use Rattle.dp_serve_laws.specs.Acts.{is_of, is_about, acts_about, events_about}
-use Rattle.dp_serve_laws.proofs.ListLemmas.{in-flat, apart, distinct-front, distinct-back}
+use Rattle.dp_serve_laws.proofs.ListLemmas.{in-flat, apart, distinct-prefix, distinct-back}
 
 -- ---- entries by a name
 
@@ -92,7 +92,7 @@ module _ {E O M : Type 0} where
           → AreDistinct (flat_map f (if b then x ∷ entries_by name log else entries_by name log))
       by_name true rest =
           distinct_both (f x) (flat_map f (entries_by name log))
-          (distinct-front (f x) (flat_map f log) d) rest
+          (distinct-prefix (f x) (flat_map f log) d) rest
           (λ a own later.
           let found = in-flat f a (entries_by name log) later in
           apart f a x found.0 log d own (in-entries name log found.0 found.1).0 found.2)
@@ -101,19 +101,19 @@ module _ {E O M : Type 0} where
 -- ---- kept events
 
 -- whether an act of which that came is kept, and what is kept of the reply
-data Keeping (o : Outcome) : Type 0 where
+data Keeping (o : ReplyOrMemory) : Type 0 where
   Dropped : is_kept o ≡ false → kept_reply o ≡ [] → Keeping o
   Kept : (answer : Reply) → o ≡ Ok answer → is_kept o ≡ true → kept_reply o ≡ answer ∷ []
       → Keeping o
 
-keeping : (o : Outcome) → Keeping o
+keeping : (o : ReplyOrMemory) → Keeping o
 keeping (Ok reply.Ended) = Dropped refl refl
 keeping (Ok (reply.StoreFault count)) = Dropped refl refl
 keeping (Ok answer) = Kept answer refl refl refl
 keeping (Err error) = Dropped refl refl
 
 -- one act and then the others
-module _ (conn : ℕ) (act : Act) (log : List Act) where
+module _ (conn : ℕ) (act : LogEntry) (log : List LogEntry) where
   -- the events of the others that are of the connection, and those of their acts that are
   abbrev of_log : List Event
   of_log = events_about conn (kept_events log) (kept_replies log)
@@ -125,7 +125,7 @@ module _ (conn : ℕ) (act : Act) (log : List Act) where
   abbrev with_event : Bool → List Event → List Event
   with_event b events = if b then act.event ∷ events else events
 
-  abbrev with_act : Bool → List Act
+  abbrev with_act : Bool → List LogEntry
   with_act b = if b then act ∷ acts_about conn log else acts_about conn log
 
   dropped : is_kept act.outcome ≡ false → (b : Bool) → of_acts ≡ kept_events (with_act b)
@@ -152,7 +152,7 @@ module _ (conn : ℕ) (act : Act) (log : List Act) where
       ∙ kept is rest (is_about conn act)
 
 -- the kept events that are of the connection are those of its acts
-pub kept-about : (conn : ℕ) (log : List Act)
+pub kept-about : (conn : ℕ) (log : List LogEntry)
     → events_about conn (kept_events log) (kept_replies log) ≡ kept_events (acts_about conn log)
 kept-about conn [] = refl
 kept-about conn (act ∷ log) = one-more conn act log (keeping act.outcome) (kept-about conn log)

@@ -31,9 +31,9 @@ option-distinct None = tt
 option-distinct (Some a) = ((λ h. absurd h), tt)
 
 module _ {A : Type 0} where
-  pub distinct-front : (xs ys : List A) → AreDistinct (xs ++ ys) → AreDistinct xs
-  distinct-front [] ys d = tt
-  distinct-front (x ∷ xs) ys d = ((λ h. d.0 (in_left x xs ys h)), distinct-front xs ys d.1)
+  pub distinct-prefix : (xs ys : List A) → AreDistinct (xs ++ ys) → AreDistinct xs
+  distinct-prefix [] ys d = tt
+  distinct-prefix (x ∷ xs) ys d = ((λ h. d.0 (in_left x xs ys h)), distinct-prefix xs ys d.1)
 
   pub distinct-back : (xs ys : List A) → AreDistinct (xs ++ ys) → AreDistinct ys
   distinct-back [] ys d = d
@@ -82,7 +82,7 @@ module _ {X A : Type 0} (f : X → List A) where
       → AreDistinct (f x)
   distinct-one x [] d h = absurd h
   distinct-one x (y ∷ xs) d (inl e) =
-      subst (λ u. AreDistinct (f u)) (sym e) (distinct-front (f y) (flat_map f xs) d)
+      subst (λ u. AreDistinct (f u)) (sym e) (distinct-prefix (f y) (flat_map f xs) d)
   distinct-one x (y ∷ xs) d (inr h) =
       distinct-one x xs (distinct-back (f y) (flat_map f xs) d) h
 

@@ -6,7 +6,7 @@ use Rattle.dp_hall.specs.Logs.{left_by}
 use Rattle.dp_hall.specs.Names.{IsIn, AreDistinct}
 use Rattle.dp_hall.proofs.ListLemmas.{distinct_both}
 use Rattle.dp_epochs.specs.Past.{Past}
-use Rattle.dp_session_laws.specs.Logs.{Act}
+use Rattle.dp_session_laws.specs.Logs.{LogEntry}
 use Rattle.dp_session_laws.specs.Closings.{given_by, given_out}
 use Rattle.dp_worker.specs.declared.report.LinkReport.{LinkReport}
 use Rattle.dp_worker.specs.Links.{LinkBy, IsLink}
@@ -37,16 +37,17 @@ module _ {R T : Type 0} where
 -- ---- the acts of a seat
 
 -- what an act gave out
-abbrev act_gives : Act → List ℕ
+abbrev act_gives : LogEntry → List ℕ
 act_gives act = given_by act.outcome
 
-seat-in : (name : Option (List ℕ)) (log : List Act) (act : Act) → IsIn act (acts_by name log)
+seat-in : (name : Option (List ℕ)) (log : List LogEntry) (act : LogEntry)
+    → IsIn act (acts_by name log)
     → IsIn act log × (name ≡ Some act.by)
 seat-in None log act h = absurd h
 seat-in (Some name) log act h =
     let found = in-entries name log act h in (found.0, ap Some found.1)
 
-seat-distinct : (name : Option (List ℕ)) (log : List Act) → AreDistinct (given_out log)
+seat-distinct : (name : Option (List ℕ)) (log : List LogEntry) → AreDistinct (given_out log)
     → AreDistinct (given_out (acts_by name log))
 seat-distinct None log d = tt
 seat-distinct (Some name) log d = distinct-entries act_gives name log d
@@ -59,7 +60,7 @@ module _ {W R T : Type 0} where
   part-from P who (first ∷ parts) part all (inr h) = part-from P (who + 1) parts part all.1 h
 
   -- the connections that the seats of parts gave out in a log
-  seats-distinct : (log : List Act) (parts : List (Part W R T)) → AreDistinct (given_out log)
+  seats-distinct : (log : List LogEntry) (parts : List (Part W R T)) → AreDistinct (given_out log)
       → AreDistinct (names_of parts)
       → AreDistinct (flat_map (λ part. given_out (acts_by part.name log)) parts)
   seats-distinct log [] d names = tt
@@ -78,7 +79,7 @@ module _ {W R T : Type 0} where
       apart (λ part. option_to_list part.name) one.0.by part other.0 parts names
       (option-in one.0.by part.name by_one.1) other.1
       (option-in one.0.by other.0.name
-      (by_two.1 ∙ ap (λ (act : Act). Some act.by) (sym same))))
+      (by_two.1 ∙ ap (λ (act : LogEntry). Some act.by) (sym same))))
 
   reported-are : (parts : List (Part W R T))
       → reported (reports_of parts) ≡ flat_map run_names (runs_of parts)
@@ -115,7 +116,7 @@ module _ {W R T : Type 0} (see : Seen W R T) (start : Past) (most : ℕ) (old ne
       (all-in (IsRun see.link (left_by start served.log) is.0) part.runs run is.1.0.each k).link
 
   -- the acts of a link are acts of the seat of its part
-  run-acts : (part : Part W R T) (run : LinkRun R T) (act : Act) → IsIn part served.parts
+  run-acts : (part : Part W R T) (run : LinkRun R T) (act : LogEntry) → IsIn part served.parts
       → IsIn run part.runs → IsIn act run.acts
       → IsIn act served.log × (part.name ≡ Some act.by)
   run-acts part run act h k own =
@@ -171,7 +172,7 @@ module _ {W R T : Type 0} (see : Seen W R T) (start : Past) (most : ℕ) (old ne
     one = run-one part run conn of own is
 
     -- each act of the connection is by the seat of the part
-    by-seat : (act : Act) → IsIn act served.log → is_about conn act ≡ true
+    by-seat : (act : LogEntry) → IsIn act served.log → is_about conn act ≡ true
         → part.name ≡ Some act.by
     by-seat act h about =
         let other = in-flat (λ (p : Part W R T). option_to_list p.name) act.by served.parts

@@ -17,21 +17,22 @@ use Rattle.dp_events.specs.Rows.{has_room}
 use Rattle.dp_epochs.specs.Past.{Past, quiet_with, quieted, Accepts, FailsFirst, Refuses}
 use Rattle.dp_epochs.specs.Past.{Serves}
 use Rattle.dp_tables.specs.declared.plan.Ready.{Ready}
-use Rattle.dp_tables.specs.Ledger.{Ledger, state_in}
+use Rattle.dp_tables.specs.SessionLog.{SessionLog, state_in}
 use Rattle.dp_tables.specs.Plans.{IsReady}
 use Rattle.dp_session.specs.Puts.{past_of, IsPut}
 
 -- ---- memory that was made ready
 
 -- what is ready stays so
-pub ready-later : (l m : Ledger) (b : Bool) (e : Event) (ready : Ready) → m ≡ record l { room = b }
+pub ready-later : (l m : SessionLog) (b : Bool) (e : Event) (ready : Ready)
+    → m ≡ record l { room = b }
     → IsReady l e ready → IsReady m e ready
 ready-later l m b e ready same is =
     subst (λ x. IsReady x e ready) (sym same)
     (record { plan = is.plan; row = is.row; room = is.room })
 
 -- so is what became of a row
-pub put-later : (l m n : Ledger) (b : Bool) (e : Event) (r : Result Reply KeepError)
+pub put-later : (l m n : SessionLog) (b : Bool) (e : Event) (r : Result Reply KeepError)
     → m ≡ record l { room = b } → IsPut m e r n → IsPut l e r n
 put-later l m n b e (Ok reply) same put =
     let old = subst (λ x. IsPut x e (Ok reply) n) same put in (old.0, old.1)
@@ -79,7 +80,8 @@ pub past-broken : (P new : Past) (e : Event) (r : Result Reply AllocError) (firs
 past-broken P new e (Err want) first is h = h
 past-broken P new e (Ok given) first is h = subst (λ b. Serves b P e given new) (sym is) h
 
-module _ (P : Past) (l : Ledger) (e : Event) (first_fault : Option ℕ) (known : Option (List Row))
+module _ (P : Past) (l : SessionLog) (e : Event) (first_fault : Option ℕ)
+    (known : Option (List Row))
     (count : ℕ) (past : past_of l first_fault known count ≡ P)
     (not : (x : ℕ) → first_fault ≡ Some x → ⊥) where
   no_fault : P.first_fault ≡ None
@@ -105,7 +107,7 @@ module _ (P : Past) (l : Ledger) (e : Event) (first_fault : Option ℕ) (known :
       (Refuses P e Ended given new))
       (sym (ap (λ p. has_room p.journal e) (sym past) ∙ room)) h)
 
-  module _ (n : Ledger) (later : Option (List Row)) (now : ℕ) (ready : Ready)
+  module _ (n : SessionLog) (later : Option (List Row)) (now : ℕ) (ready : Ready)
       (is : IsReady l e ready) where
     -- an event that was kept
     pub past-kept : (reply : Reply) → IsPut l e (Ok reply) n → later ≡ with_row ready.row known
@@ -134,7 +136,7 @@ module _ (P : Past) (l : Ledger) (e : Event) (first_fault : Option ℕ) (known :
         })))
 
 -- memory ran out in the store
-pub past-undone : (P : Past) (l n : Ledger) (e : Event) (first_fault : Option ℕ)
+pub past-undone : (P : Past) (l n : SessionLog) (e : Event) (first_fault : Option ℕ)
     (known later : Option (List Row)) (count now : ℕ)
     → past_of l first_fault known count ≡ P → IsPut l e (Err Memory) n → later ≡ known
     → now ≡ count → past_of n first_fault later now ≡ P
@@ -144,7 +146,7 @@ past-undone P l n e first_fault known later count now past undone rows counts =
 -- ---- memory ran out
 
 -- the connection of a Close is quiet then
-pub quieted-is : (P : Past) (l n : Ledger) (b : Bool) (e : Event) (conn : ℕ)
+pub quieted-is : (P : Past) (l n : SessionLog) (b : Bool) (e : Event) (conn : ℕ)
     (first_fault : Option ℕ) (known : Option (List Row)) (count : ℕ)
     → past_of l first_fault known count ≡ P → e ≡ event.Close conn
     → n ≡ record l { quiet = quiet_with (state_in l) conn l.quiet; room = b }

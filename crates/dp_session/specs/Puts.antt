@@ -7,10 +7,10 @@ use Rattle.dp_events.specs.declared.event.Event.{Event}
 use Rattle.dp_events.specs.declared.event.Reply.{Reply}
 use Rattle.dp_epochs.specs.State.{acted}
 use Rattle.dp_epochs.specs.Past.{Past, shut_with}
-use Rattle.dp_tables.specs.Ledger.{Ledger, state_in}
+use Rattle.dp_tables.specs.SessionLog.{SessionLog, state_in}
 
 -- the past of these tables, beside what else a session keeps
-abbrev pub past_of : Ledger → Option ℕ → Option (List Row) → ℕ → Past
+abbrev pub past_of : SessionLog → Option ℕ → Option (List Row) → ℕ → Past
 past_of tables first_fault known count = record {
   journal = tables.journal;
   shut = tables.shut;
@@ -21,7 +21,7 @@ past_of tables first_fault known count = record {
 }
 
 -- by what became of the row: the event has been kept, it was left out, or nothing was done
-abbrev pub IsPut : Ledger → Event → Result Reply KeepError → Ledger → Type 0
+abbrev pub IsPut : SessionLog → Event → Result Reply KeepError → SessionLog → Type 0
 IsPut old e (Ok reply) new =
     (new ≡ record old { journal = old.journal ++ e ∷ []; room = new.room })
     × (reply ≡ (acted (state_in old) e).reply)

@@ -14,7 +14,7 @@ use Rattle.dp_events.specs.declared.event.ShutAt.{ShutAt}
 use Rattle.dp_events.specs.Rows.{has_room}
 use Rattle.dp_epochs.specs.Effects.{EventsHaveEffects}
 use Rattle.dp_epochs.specs.Past.{Past, quieted, shut_with, state_of, answer_to}
-use Rattle.dp_session_laws.specs.Logs.{Outcome, Act, IsSessionLog}
+use Rattle.dp_session_laws.specs.Logs.{ReplyOrMemory, LogEntry, IsSessionLog}
 use Rattle.dp_session_laws.specs.Journals.{is_kept, kept_events}
 use Rattle.dp_session_laws.specs.Closings.{shut_by_outcome, refused_closes, IsShutFor}
 use Rattle.dp_session_laws.proofs.JournalLemmas.{own-kept, log-adds}
@@ -48,14 +48,14 @@ quieted-shut old (event.Say conn m) = refl
 quieted-shut old (event.Close conn) = refl
 
 -- where an act that was not refused leaves the closings as they were
-shuts-stay : (old : Past) (e : Event) (outcome : Outcome) (new : Past) → new.shut ≡ old.shut
+shuts-stay : (old : Past) (e : Event) (outcome : ReplyOrMemory) (new : Past) → new.shut ≡ old.shut
     → shut_by_outcome (length old.journal) e outcome ≡ []
     → new.shut ≡ old.shut ++ shut_by_outcome (length old.journal) e outcome
 shuts-stay old e outcome new same none =
     same ∙ sym (append-nil old.shut) ∙ ap (λ l. old.shut ++ l) (sym none)
 
 -- where an act was refused
-shuts-grow : (old : Past) (e : Event) (outcome refusal : Outcome) (new : Past)
+shuts-grow : (old : Past) (e : Event) (outcome refusal : ReplyOrMemory) (new : Past)
     → outcome ≡ refusal → HasRefused old e new
     → shut_by_outcome (length old.journal) e refusal ≡ shut_with (length old.journal) [] e
     → new.shut ≡ old.shut ++ shut_by_outcome (length old.journal) e outcome
@@ -65,7 +65,7 @@ shuts-grow old e outcome refusal new is h one =
     ∙ ap (λ l. old.shut ++ l)
     (sym (ap (shut_by_outcome (length old.journal) e) is ∙ one))
 
-came-shuts : EventsHaveEffects → (old : Past) (e : Event) (outcome : Outcome) (new : Past)
+came-shuts : EventsHaveEffects → (old : Past) (e : Event) (outcome : ReplyOrMemory) (new : Past)
     → Came old e outcome new
     → new.shut ≡ old.shut ++ shut_by_outcome (length old.journal) e outcome
 came-shuts effects old e outcome new (WasKept is after) =
@@ -80,7 +80,7 @@ came-shuts effects old e outcome new (RanOut error is after) =
     shuts-stay old e outcome new (ap (λ (p : Past). p.shut) after ∙ quieted-shut old e)
     (ap (shut_by_outcome (length old.journal) e) is)
 
-pub log-shuts : EventsHaveEffects → (old : Past) (log : List Act) → IsSessionLog old log
+pub log-shuts : EventsHaveEffects → (old : Past) (log : List LogEntry) → IsSessionLog old log
     → (left_by old log).shut ≡ old.shut ++ refused_closes old log
 log-shuts effects old [] legal = sym (append-nil old.shut)
 log-shuts effects old (act ∷ log) legal =
@@ -111,14 +111,14 @@ event-shut n (event.Close conn) s (inl same) =
     (ap (λ (t : ShutAt). event.Close t.conn) (sym same), ap (λ (t : ShutAt). t.n) same)
 event-shut n (event.Close conn) s (inr none) = absurd none
 
-outcome-shut : (n : ℕ) (e : Event) (outcome : Outcome) (s : ShutAt)
+outcome-shut : (n : ℕ) (e : Event) (outcome : ReplyOrMemory) (s : ShutAt)
     → IsIn s (shut_by_outcome n e outcome) → (e ≡ event.Close s.conn) × (s.n ≡ n)
 outcome-shut n e (Ok reply.Ended) s within = event-shut n e s within
 outcome-shut n e (Ok (reply.StoreFault count)) s within = event-shut n e s within
 outcome-shut n e outcome s within = absurd within
 
 -- after a fault nothing is kept
-broken-shuts : (old : Past) (log : List Act) (k : ℕ) (s : ShutAt) → old.first_fault ≡ Some k
+broken-shuts : (old : Past) (log : List LogEntry) (k : ℕ) (s : ShutAt) → old.first_fault ≡ Some k
     → IsSessionLog old log → IsIn s (refused_closes old log) → s.n ≡ length old.journal
 broken-shuts old [] k s broken legal within = absurd within
 broken-shuts old (act ∷ log) k s broken legal within =
@@ -136,7 +136,7 @@ broken-shuts old (act ∷ log) k s broken legal within =
     by_place same more (inr later) = more later ∙ ap length same
 
 -- the cause of a closing that was refused where the session broke by this act
-broken-cause : (old left : Past) (log : List Act) (k : ℕ) (s : ShutAt)
+broken-cause : (old left : Past) (log : List LogEntry) (k : ℕ) (s : ShutAt)
     → left.first_fault ≡ Some k → Rose old.count left.count → IsSessionLog left log
     → s.n ≡ length left.journal → IsShutFor old (left_by left log) s
 broken-cause old left log k s fault rose legal at =
@@ -151,7 +151,7 @@ broken-cause old left log k s fault rose legal at =
     )
 
 -- the cause of the closing of the first act
-first-cause : EventsHaveEffects → (old : Past) (act : Act) (log : List Act) (s : ShutAt)
+first-cause : EventsHaveEffects → (old : Past) (act : LogEntry) (log : List LogEntry) (s : ShutAt)
     → IsSessionLog old (act ∷ log) → Sound old act.outcome act.left
     → Came old act.event act.outcome act.left
     → IsIn s (shut_by_outcome (length old.journal) act.event act.outcome)
@@ -180,7 +180,7 @@ first-cause effects old act log s legal sound (RanOut error is after) within =
     absurd (subst (IsIn s) none within)
 
 -- the cause of the closing of a later act
-rest-cause : (old : Past) (act : Act) (log : List Act) (s : ShutAt)
+rest-cause : (old : Past) (act : LogEntry) (log : List LogEntry) (s : ShutAt)
     → IsSessionLog old (act ∷ log) → Sound old act.outcome act.left
     → (act.left.first_fault ≡ None → IsShutFor act.left (left_by act.left log) s)
     → IsIn s (refused_closes act.left log) → IsShutFor old (left_by act.left log) s
@@ -202,7 +202,7 @@ rest-cause old act log s legal (First j fault rose) more within =
     broken-cause old act.left log j s fault rose legal.1
     (broken-shuts act.left log j s fault legal.1 within)
 
-pub log-cause : EventsHaveEffects → (old : Past) (log : List Act) (s : ShutAt)
+pub log-cause : EventsHaveEffects → (old : Past) (log : List LogEntry) (s : ShutAt)
     → old.first_fault ≡ None → IsSessionLog old log → IsIn s (refused_closes old log)
     → IsShutFor old (left_by old log) s
 log-cause effects old [] s none legal within = absurd within

@@ -16,7 +16,7 @@ use Rattle.dp_epochs.specs.Effects.{Effect, Nothing, TakesUp, Placed, Filtered, 
 use Rattle.dp_epochs.specs.Effects.{answer_of, connections_after, IsEffect, IsStill}
 use Rattle.dp_epochs.specs.Past.{Past, state_of, answer_to}
 use Rattle.dp_epochs.specs.Laws.{ShutBefore, shut_by}
-use Rattle.dp_session_laws.specs.Logs.{Outcome, Act, IsSessionLog}
+use Rattle.dp_session_laws.specs.Logs.{ReplyOrMemory, LogEntry, IsSessionLog}
 use Rattle.dp_session_laws.specs.Closings.{given_by, given_out, Rise}
 use Rattle.dp_session_laws.proofs.Growth.{EpochLaws, step-goes}
 use Rattle.dp_session_laws.proofs.Steps.{Came, WasKept, WasEnded, WasFault, RanOut, step-came}
@@ -86,12 +86,12 @@ shut-gives s (event.Close conn) =
     (open_connection s conn) s (λ (t : State). length t.connections ≡ length s.connections)
     (λ c is. length-set s.connections (conn - 1) (record c { ending = ending.Shut })) refl
 
-came-gives : EpochLaws → (old : Past) (e : Event) (outcome : Outcome) (new : Past)
+came-gives : EpochLaws → (old : Past) (e : Event) (outcome : ReplyOrMemory) (new : Past)
     → ShutBefore old → Came old e outcome new
     → Gives (length (state_of old).connections) (given_by outcome)
     (length (state_of new).connections)
 came-gives laws old e outcome new before (WasKept is after) =
-    subst (λ (o : Outcome). Gives (length (state_of old).connections) (given_by o)
+    subst (λ (o : ReplyOrMemory). Gives (length (state_of old).connections) (given_by o)
     (length (state_of new).connections)) (sym is)
     (subst (λ (t : State). Gives (length (state_of old).connections)
     (given_by (Ok (answer_to old e))) (length t.connections))
@@ -116,7 +116,8 @@ came-gives laws old e outcome new before (RanOut error is after) =
 
 -- ---- a log
 
-pub log-rises : EpochLaws → (old : Past) (log : List Act) → ShutBefore old → IsSessionLog old log
+pub log-rises : EpochLaws → (old : Past) (log : List LogEntry) → ShutBefore old
+    → IsSessionLog old log
     → Rise (length (state_of old).connections) (given_out log)
 log-rises laws old [] before legal = tt
 log-rises laws old (act ∷ log) before legal =

@@ -34,7 +34,7 @@ use Rattle.dp_epochs.specs.Past.{Past, Step, Serves, Accepts, FailsFirst, Refuse
 use Rattle.dp_epochs.specs.Past.{quieted, state_of, state_after}
 use Rattle.dp_epochs.specs.Laws.{Continues, ShutBefore, shut_by}
 use Rattle.dp_session_laws.specs.Growing.{IsAfter, EndsLater, ConnectionLater, GrowsInto}
-use Rattle.dp_session_laws.specs.Logs.{Outcome, Act, IsSessionLog}
+use Rattle.dp_session_laws.specs.Logs.{ReplyOrMemory, LogEntry, IsSessionLog}
 
 -- what the crate below says of epochs
 pub record EpochLaws : Type 0 where
@@ -93,7 +93,7 @@ grows-same s = record {
 -- a place after a later live history is after the earlier one
 after-earlier : (s t : State) (place : Place) → GrowsInto s t → IsAfter t place → IsAfter s place
 after-earlier s t place grows (inl later) = inl (omega (arith, grows.epochs))
-after-earlier s t place grows (inr (same, behind)) =
+after-earlier s t place grows (inr (same, after)) =
     ⊎_elim
     (λ (e : epoch_of s ≡ epoch_of t).
     let longer : length s.live ≤ length t.live =
@@ -102,7 +102,7 @@ after-earlier s t place grows (inr (same, behind)) =
     (subst (λ l. length l ≤ length (history_of t (epoch_of s))) (live-history s)
     (prefix-length (history_of s (epoch_of s)) (history_of t (epoch_of s))
     (grows.histories (epoch_of s))))) in
-    inr (same ∙ sym e, omega (arith, behind, longer)))
+    inr (same ∙ sym e, omega (arith, after, longer)))
     (λ (ne : epoch_of s ≡ epoch_of t → ⊥). inl (omega (arith, grows.epochs, same)))
     (cases_eq (epoch_of s) (epoch_of t))
 
@@ -355,7 +355,7 @@ goes-served laws old e answer new None before h = by_room (has_room old.journal 
     by_room false refuses =
         subst (Goes old) (sym refuses.after) (goes-refused laws old e before)
 
-pub step-goes : EpochLaws → (old : Past) (e : Event) (outcome : Outcome) (new : Past)
+pub step-goes : EpochLaws → (old : Past) (e : Event) (outcome : ReplyOrMemory) (new : Past)
     → ShutBefore old → Step old e outcome new → Goes old new
 step-goes laws old e (Ok answer) new before h =
     goes-served laws old e answer new old.first_fault before h
@@ -364,7 +364,8 @@ step-goes laws old e (Err want) new before h =
 
 -- ---- a log
 
-pub log-goes : EpochLaws → (old : Past) (log : List Act) → ShutBefore old → IsSessionLog old log
+pub log-goes : EpochLaws → (old : Past) (log : List LogEntry) → ShutBefore old
+    → IsSessionLog old log
     → Goes old (left_by old log)
 log-goes laws old [] before legal = goes-same old before
 log-goes laws old (act ∷ log) before legal =
@@ -378,7 +379,7 @@ log-goes laws old (act ∷ log) before legal =
     }
 
 -- a session with more acts has grown from the one with fewer
-more-goes : EpochLaws → (old : Past) (log more : List Act) → ShutBefore old
+more-goes : EpochLaws → (old : Past) (log more : List LogEntry) → ShutBefore old
     → IsSessionLog old (log ++ more)
     → GrowsInto (state_of (left_by old log)) (state_of (left_by old (log ++ more)))
 more-goes laws old [] more before legal = (log-goes laws old more before legal).grows
@@ -386,7 +387,7 @@ more-goes laws old (act ∷ log) more before legal =
     let first = step-goes laws old act.event act.outcome act.left before legal.0 in
     more-goes laws act.left log more first.before legal.1
 
-pub prefix-goes : EpochLaws → (old : Past) (log longer : List Act) → ShutBefore old
+pub prefix-goes : EpochLaws → (old : Past) (log longer : List LogEntry) → ShutBefore old
     → IsSessionLog old longer → IsPrefix log longer
     → GrowsInto (state_of (left_by old log)) (state_of (left_by old longer))
 prefix-goes laws old log longer before legal p =

@@ -18,7 +18,7 @@ use Rattle.dp_epochs.specs.Effects.{Began, Added, Dropped, Reopened}
 use Rattle.dp_epochs.specs.Effects.{EventsHaveEffects, IsEffect, IsStill, answer_of}
 use Rattle.dp_epochs.specs.Past.{Past, Step, Serves, Accepts, FailsFirst, Refuses, quieted}
 use Rattle.dp_epochs.specs.Past.{state_of}
-use Rattle.dp_session_laws.specs.Logs.{Outcome, Act, IsSessionLog}
+use Rattle.dp_session_laws.specs.Logs.{ReplyOrMemory, LogEntry, IsSessionLog}
 use Rattle.dp_session_laws.specs.Journals.{is_kept, kept_events, HasBroken}
 
 still-kept : (answer : Reply) → IsStill answer → is_kept (Ok answer) ≡ true
@@ -52,7 +52,7 @@ own-kept effects s e =
     ap (λ a. is_kept (Ok a.reply)) h.made ∙ effect-kept s e h.effect h.cause
 
 -- what an act adds to the journal
-abbrev added : Outcome → Event → List Event
+abbrev added : ReplyOrMemory → Event → List Event
 added outcome e = if is_kept outcome then e ∷ [] else []
 
 refused-adds : (old : Past) (e : Event) (refusal answer : Reply) (new : Past)
@@ -91,7 +91,7 @@ quiet-adds old (event.Open name registered) = refl
 quiet-adds old (event.Say conn m) = refl
 quiet-adds old (event.Close conn) = refl
 
-step-adds : EventsHaveEffects → (old : Past) (e : Event) (outcome : Outcome) (new : Past)
+step-adds : EventsHaveEffects → (old : Past) (e : Event) (outcome : ReplyOrMemory) (new : Past)
     → Step old e outcome new → new.journal ≡ old.journal ++ added outcome e
 step-adds effects old e (Ok answer) new h =
     served-adds effects old e answer new old.first_fault h
@@ -104,7 +104,7 @@ first-kept : (b : Bool) (e : Event) (more : List Event)
 first-kept true e more = refl
 first-kept false e more = refl
 
-pub log-adds : EventsHaveEffects → (old : Past) (log : List Act) → IsSessionLog old log
+pub log-adds : EventsHaveEffects → (old : Past) (log : List LogEntry) → IsSessionLog old log
     → (left_by old log).journal ≡ old.journal ++ kept_events log
 log-adds effects old [] legal = sym (append-nil old.journal)
 log-adds effects old (act ∷ log) legal =
@@ -137,24 +137,25 @@ step-ended effects old e answer new None is h = by_room (has_room old.journal e)
     by_room false room refuses = room
 
 -- the step of an act of a log
-step-at : (old : Past) (front : List Act) (act : Act) (back : List Act)
-    → IsSessionLog old (front ++ act ∷ back)
-    → Step (left_by old front) act.event act.outcome act.left
+step-at : (old : Past) (prefix : List LogEntry) (act : LogEntry) (back : List LogEntry)
+    → IsSessionLog old (prefix ++ act ∷ back)
+    → Step (left_by old prefix) act.event act.outcome act.left
 step-at old [] act back legal = legal.0
-step-at old (first ∷ front) act back legal = step-at first.left front act back legal.1
+step-at old (first ∷ prefix) act back legal = step-at first.left prefix act back legal.1
 
-outcome-ended : EventsHaveEffects → (old : Past) (e : Event) (outcome : Outcome) (new : Past)
+outcome-ended : EventsHaveEffects → (old : Past) (e : Event) (outcome : ReplyOrMemory) (new : Past)
     → outcome ≡ Ok reply.Ended → Step old e outcome new → has_room old.journal e ≡ false
 outcome-ended effects old e (Ok answer) new is h =
     step-ended effects old e answer new old.first_fault (cc (is)) h
 outcome-ended effects old e (Err error) new is h = cc (is)
 
-pub ended-full : EventsHaveEffects → (old : Past) (front : List Act) (act : Act) (back : List Act)
-    → IsSessionLog old (front ++ act ∷ back) → act.outcome ≡ Ok reply.Ended
-    → has_room (left_by old front).journal act.event ≡ false
-ended-full effects old front act back legal is =
-    outcome-ended effects (left_by old front) act.event act.outcome act.left is
-    (step-at old front act back legal)
+pub ended-full : EventsHaveEffects
+    → (old : Past) (prefix : List LogEntry) (act : LogEntry) (back : List LogEntry)
+    → IsSessionLog old (prefix ++ act ∷ back) → act.outcome ≡ Ok reply.Ended
+    → has_room (left_by old prefix).journal act.event ≡ false
+ended-full effects old prefix act back legal is =
+    outcome-ended effects (left_by old prefix) act.event act.outcome act.left is
+    (step-at old prefix act back legal)
 
 -- ---- StoreFault
 
@@ -165,7 +166,7 @@ quiet-same old (event.Open name registered) = (refl, refl)
 quiet-same old (event.Say conn m) = (refl, refl)
 quiet-same old (event.Close conn) = (refl, refl)
 
-pub broken-step : (old : Past) (e : Event) (outcome : Outcome) (new : Past) (k : ℕ)
+pub broken-step : (old : Past) (e : Event) (outcome : ReplyOrMemory) (new : Past) (k : ℕ)
     → old.first_fault ≡ Some k → Step old e outcome new
     → (new.first_fault ≡ Some k) × (new.count ≡ old.count) × (new.journal ≡ old.journal)
 broken-step old e (Ok answer) new k broken h =
@@ -181,7 +182,7 @@ broken-step old e (Err error) new k broken h = (
   ap (λ (p : Past). p.journal) h ∙ quiet-adds old e,
 )
 
-pub broken-log : (old : Past) (log : List Act) (k : ℕ) → old.first_fault ≡ Some k
+pub broken-log : (old : Past) (log : List LogEntry) (k : ℕ) → old.first_fault ≡ Some k
     → IsSessionLog old log
     → ((left_by old log).first_fault ≡ Some k) × ((left_by old log).count ≡ old.count)
     × ((left_by old log).journal ≡ old.journal)
@@ -192,7 +193,7 @@ broken-log old (act ∷ log) k broken legal =
     (rest.0, rest.1 ∙ step.1, rest.2 ∙ step.2)
 
 -- what a step of a session leaves in which no put has failed: the same, or a first fault
-pub data Sound (old : Past) (outcome : Outcome) (new : Past) : Type 0 where
+pub data Sound (old : Past) (outcome : ReplyOrMemory) (new : Past) : Type 0 where
   Same : new.first_fault ≡ None → new.count ≡ old.count
       → ((k : ℕ) → outcome ≡ Ok (reply.StoreFault k) → ⊥) → Sound old outcome new
   First : (k : ℕ) → new.first_fault ≡ Some k → Rose old.count new.count → Sound old outcome new
@@ -224,7 +225,7 @@ sound-served effects old e answer new none h = by_room (has_room old.journal e) 
         let wrong : reply.Ended ≡ reply.StoreFault k = sym refuses.reply ∙ said in
         cc)
 
-pub sound-step : EventsHaveEffects → (old : Past) (e : Event) (outcome : Outcome) (new : Past)
+pub sound-step : EventsHaveEffects → (old : Past) (e : Event) (outcome : ReplyOrMemory) (new : Past)
     → old.first_fault ≡ None → Step old e outcome new → Sound old outcome new
 sound-step effects old e (Ok answer) new none h =
     sound-served effects old e answer new none
@@ -234,13 +235,14 @@ sound-step effects old e (Err error) new none h =
     (ap (λ (p : Past). p.count) h ∙ (quiet-same old e).1)
     (λ k is. cc (is))
 
-after-first : EventsHaveEffects → (old : Past) (first : Act) (log : List Act) (act : Act) (k : ℕ)
+after-first : EventsHaveEffects
+    → (old : Past) (first : LogEntry) (log : List LogEntry) (act : LogEntry) (k : ℕ)
     → Sound old first.outcome first.left → IsSessionLog first.left log
     → IsIn act (first ∷ log) → act.outcome ≡ Ok (reply.StoreFault k)
     → (first.left.first_fault ≡ None → IsIn act log → HasBroken first.left (left_by first.left log))
     → HasBroken old (left_by first.left log)
 after-first effects old first log act k (Same none count other) legal (inl same) is more =
-    absurd (other k (ap (λ (a : Act). a.outcome) (sym same) ∙ is))
+    absurd (other k (ap (λ (a : LogEntry). a.outcome) (sym same) ∙ is))
 after-first effects old first log act k (Same none count other) legal (inr later) is more =
     let h = more none later in
     record {
@@ -256,7 +258,7 @@ after-first effects old first log act k (First j fault rose) legal within is mor
       rose = subst (λ n. Rose old.count n) (sym rest.1) rose;
     }
 
-pub log-broke : EventsHaveEffects → (old : Past) (log : List Act) (act : Act) (k : ℕ)
+pub log-broke : EventsHaveEffects → (old : Past) (log : List LogEntry) (act : LogEntry) (k : ℕ)
     → old.first_fault ≡ None → IsSessionLog old log → IsIn act log
     → act.outcome ≡ Ok (reply.StoreFault k) → HasBroken old (left_by old log)
 log-broke effects old [] act k none legal within is = absurd within

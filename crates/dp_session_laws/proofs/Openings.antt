@@ -26,7 +26,7 @@ use Rattle.dp_epochs.specs.Past.{Past, Step, Serves, Accepts, FailsFirst, Refuse
 use Rattle.dp_epochs.specs.Laws.{ShutBefore}
 use Rattle.dp_session_laws.specs.Growing.{IsAfter, EndsLater, GrowsInto}
 use Rattle.dp_session_laws.specs.Feeds.{Segment, IsSegment, IsWithin, RisesFrom, IsFeed}
-use Rattle.dp_session_laws.specs.Logs.{Outcome, Act, IsSessionLog, HasOpened}
+use Rattle.dp_session_laws.specs.Logs.{ReplyOrMemory, LogEntry, IsSessionLog, HasOpened}
 use Rattle.dp_session_laws.proofs.Growth.{EpochLaws, step-goes, log-goes, prefix-then}
 use Rattle.dp_session_laws.proofs.Growth.{prefix-length, live-history}
 
@@ -36,14 +36,14 @@ use Rattle.dp_session_laws.proofs.Growth.{prefix-length, live-history}
 within-after : (s : State) (place : Place) (segment : Segment) → IsSegment s segment
     → IsAfter s place → IsWithin (ending.Left place) segment
 within-after s place segment is (inl later) = inl (omega (arith, is.0))
-within-after s place segment is (inr (same, behind)) =
+within-after s place segment is (inr (same, after)) =
     ⊎_elim
     (λ (e : segment.epoch ≡ epoch_of s).
     let short : length segment.entries ≤ length s.live =
     subst (λ l. length segment.entries ≤ length l) (live-history s)
     (subst (λ k. length segment.entries ≤ length (history_of s k)) e
     (prefix-length segment.entries (history_of s segment.epoch) is.1)) in
-    inr (e ∙ sym same, omega (arith, short, behind)))
+    inr (e ∙ sym same, omega (arith, short, after)))
     (λ (ne : segment.epoch ≡ epoch_of s → ⊥). inl (omega (arith, is.0, same)))
     (cases_eq segment.epoch (epoch_of s))
 
@@ -211,7 +211,7 @@ step-opens laws old e answer new conn user epoch at None before is h =
     by_room false refuses =
         let no : reply.Ended ≡ reply.Opened conn user epoch at = sym refuses.reply ∙ is in cc
 
-act-opens : EpochLaws → (old : Past) (e : Event) (outcome : Outcome) (new : Past)
+act-opens : EpochLaws → (old : Past) (e : Event) (outcome : ReplyOrMemory) (new : Past)
     (conn user epoch at : ℕ) → ShutBefore old → outcome ≡ Ok (reply.Opened conn user epoch at)
     → Step old e outcome new → Begins (state_of new) conn epoch
 act-opens laws old e (Ok answer) new conn user epoch at before is h =
@@ -219,7 +219,7 @@ act-opens laws old e (Ok answer) new conn user epoch at before is h =
 act-opens laws old e (Err want) new conn user epoch at before is h = cc (is)
 
 -- after a log in which the connection was opened
-opens-in : EpochLaws → (old : Past) (log : List Act) (act : Act) (conn user epoch at : ℕ)
+opens-in : EpochLaws → (old : Past) (log : List LogEntry) (act : LogEntry) (conn user epoch at : ℕ)
     → ShutBefore old → IsSessionLog old log → IsIn act log
     → act.outcome ≡ Ok (reply.Opened conn user epoch at)
     → Begins (state_of (left_by old log)) conn epoch
@@ -227,7 +227,7 @@ opens-in laws old [] act conn user epoch at before legal within is = absurd with
 opens-in laws old (first ∷ log) act conn user epoch at before legal (inl same) is =
     let step = step-goes laws old first.event first.outcome first.left before legal.0 in
     let answer : first.outcome ≡ Ok (reply.Opened conn user epoch at) =
-    ap (λ (a : Act). a.outcome) (sym same) ∙ is in
+    ap (λ (a : LogEntry). a.outcome) (sym same) ∙ is in
     begins-later (state_of first.left) (state_of (left_by first.left log)) conn epoch
     (log-goes laws first.left log step.before legal.1).grows
     (act-opens laws old first.event first.outcome first.left conn user epoch at before answer
@@ -236,7 +236,7 @@ opens-in laws old (first ∷ log) act conn user epoch at before legal (inr later
     let step = step-goes laws old first.event first.outcome first.left before legal.0 in
     opens-in laws first.left log act conn user epoch at step.before legal.1 later is
 
-pub begins-in : EpochLaws → (old : Past) (log : List Act) (conn user epoch at : ℕ)
+pub begins-in : EpochLaws → (old : Past) (log : List LogEntry) (conn user epoch at : ℕ)
     → ShutBefore old → IsSessionLog old log → HasOpened log conn user epoch at
     → Begins (state_of (left_by old log)) conn epoch
 begins-in laws old log conn user epoch at before legal h =

@@ -23,7 +23,7 @@ use Rattle.dp_epochs.specs.Past.{Past, quiet_with, quieted, state_of}
 use Rattle.dp_epochs.specs.Laws.{ShutBefore}
 use Rattle.dp_session_laws.specs.Growing.{EndsLater, GrowsInto}
 use Rattle.dp_session_laws.specs.Feeds.{Segment, EndsWith, EndsWhere, IsGone}
-use Rattle.dp_session_laws.specs.Logs.{Outcome, Act, IsSessionLog}
+use Rattle.dp_session_laws.specs.Logs.{ReplyOrMemory, LogEntry, IsSessionLog}
 use Rattle.dp_session_laws.specs.Closings.{HasFailedClose}
 use Rattle.dp_session_laws.proofs.Growth.{EpochLaws, step-goes, log-goes}
 use Rattle.dp_session_laws.proofs.Pulls.{any-contains}
@@ -130,7 +130,7 @@ quieted-had old (event.Close n) conn h = by_number (quiet-had (state_of old) n o
 
 -- ---- a connection that is quiet stays so
 
-came-holds : (old : Past) (e : Event) (outcome : Outcome) (new : Past) (conn : ℕ)
+came-holds : (old : Past) (e : Event) (outcome : ReplyOrMemory) (new : Past) (conn : ℕ)
     (c : Connection) → connection_of (state_of old) conn ≡ Some c → Came old e outcome new
     → Contains old.quiet conn → Contains new.quiet conn
 came-holds old e outcome new conn c there (WasKept is after) h =
@@ -142,7 +142,7 @@ came-holds old e outcome new conn c there (WasFault count is refused) h =
 came-holds old e outcome new conn c there (RanOut error is after) h =
     subst (λ (p : Past). Contains p.quiet conn) (sym after) (quieted-holds old e conn c there h)
 
-log-holds : EpochLaws → (old : Past) (log : List Act) (conn : ℕ) (c : Connection)
+log-holds : EpochLaws → (old : Past) (log : List LogEntry) (conn : ℕ) (c : Connection)
     → ShutBefore old → IsSessionLog old log → connection_of (state_of old) conn ≡ Some c
     → Contains old.quiet conn → Contains (left_by old log).quiet conn
 log-holds laws old [] conn c before legal there h = h
@@ -174,7 +174,7 @@ ends-later s t conn c last grows there ends =
     (ends-with_later s t c.ending next.0.ending last grows.epochs next.2.ending
     (subst (λ o. EndsWhere s o last) there ends))
 
-gone-log : EpochLaws → (old : Past) (log : List Act) (conn : ℕ) (c : Connection)
+gone-log : EpochLaws → (old : Past) (log : List LogEntry) (conn : ℕ) (c : Connection)
     (last : Segment) → ShutBefore old → IsSessionLog old log
     → connection_of (state_of old) conn ≡ Some c → IsGone old conn last
     → IsGone (left_by old log) conn last
@@ -184,7 +184,7 @@ gone-log laws old log conn c last before legal there (inr ends) =
     inr (ends-later (state_of old) (state_of (left_by old log)) conn c last
     (log-goes laws old log before legal).grows there ends)
 
-gone-more : EpochLaws → (old : Past) (log more : List Act) (conn : ℕ) (c : Connection)
+gone-more : EpochLaws → (old : Past) (log more : List LogEntry) (conn : ℕ) (c : Connection)
     (last : Segment) → ShutBefore old → IsSessionLog old (log ++ more)
     → connection_of (state_of (left_by old log)) conn ≡ Some c
     → IsGone (left_by old log) conn last → IsGone (left_by old (log ++ more)) conn last
@@ -194,7 +194,7 @@ gone-more laws old (act ∷ log) more conn c last before legal there gone =
     let step = step-goes laws old act.event act.outcome act.left before legal.0 in
     gone-more laws act.left log more conn c last step.before legal.1 there gone
 
-pub gone-later : EpochLaws → (old : Past) (log longer : List Act) (conn : ℕ) (c : Connection)
+pub gone-later : EpochLaws → (old : Past) (log longer : List LogEntry) (conn : ℕ) (c : Connection)
     (last : Segment) → ShutBefore old → IsSessionLog old longer → IsPrefix log longer
     → connection_of (state_of (left_by old log)) conn ≡ Some c
     → IsGone (left_by old log) conn last → IsGone (left_by old longer) conn last
@@ -205,7 +205,7 @@ gone-later laws old log longer conn c last before legal p there gone =
 
 -- ---- why a connection is quiet
 
-came-had : (old : Past) (e : Event) (outcome : Outcome) (new : Past) (conn : ℕ)
+came-had : (old : Past) (e : Event) (outcome : ReplyOrMemory) (new : Past) (conn : ℕ)
     → Came old e outcome new → Contains new.quiet conn
     → Contains old.quiet conn ⊎ ((e ≡ event.Close conn) × (outcome ≡ Err alloc_error))
 came-had old e outcome new conn (WasKept is after) h =
@@ -222,7 +222,7 @@ came-had old e outcome new conn (RanOut error is after) h =
     by_event (inl quiet) = inl quiet
     by_event (inr close) = inr (close, is)
 
-pub log-had : (old : Past) (log : List Act) (conn : ℕ) → IsSessionLog old log
+pub log-had : (old : Past) (log : List LogEntry) (conn : ℕ) → IsSessionLog old log
     → Contains (left_by old log).quiet conn → Contains old.quiet conn ⊎ HasFailedClose log conn
 log-had old [] conn legal h = inl h
 log-had old (act ∷ log) conn legal h = by_rest (log-had act.left log conn legal.1 h)

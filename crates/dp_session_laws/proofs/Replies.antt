@@ -12,7 +12,7 @@ use Rattle.dp_events.specs.declared.event.Reply.TheVariants as reply
 use Rattle.dp_epochs.specs.State.{State, open_connection, with_connection}
 use Rattle.dp_epochs.specs.Past.{Past, state_of, answer_to}
 use Rattle.dp_epochs.specs.Laws.{ShutBefore, shut_by}
-use Rattle.dp_session_laws.specs.Logs.{Outcome, Act, IsSessionLog}
+use Rattle.dp_session_laws.specs.Logs.{ReplyOrMemory, LogEntry, IsSessionLog}
 use Rattle.dp_session_laws.specs.Journals.{is_kept, kept_reply, kept_replies}
 use Rattle.dp_session_laws.proofs.Growth.{EpochLaws, step-goes}
 use Rattle.dp_session_laws.proofs.JournalLemmas.{own-kept}
@@ -38,14 +38,14 @@ shut-answers s (event.Close conn) =
     (open_connection s conn) s (λ (t : State). t.answers ≡ s.answers) (λ c is. refl) refl
 
 -- where the state's answers stay, and the outcome has no reply of an event that is kept
-answers-stay : (old : Past) (outcome : Outcome) (new : Past)
+answers-stay : (old : Past) (outcome : ReplyOrMemory) (new : Past)
     → (state_of new).answers ≡ (state_of old).answers → kept_reply outcome ≡ []
     → (state_of new).answers ≡ (state_of old).answers ++ kept_reply outcome
 answers-stay old outcome new same none =
     same ∙ sym (append-nil (state_of old).answers)
     ∙ ap (λ l. (state_of old).answers ++ l) (sym none)
 
-came-answers : EpochLaws → (old : Past) (e : Event) (outcome : Outcome) (new : Past)
+came-answers : EpochLaws → (old : Past) (e : Event) (outcome : ReplyOrMemory) (new : Past)
     → ShutBefore old → Came old e outcome new
     → (state_of new).answers ≡ (state_of old).answers ++ kept_reply outcome
 came-answers laws old e outcome new before (WasKept is after) =
@@ -63,7 +63,7 @@ came-answers laws old e outcome new before (RanOut error is after) =
     answers-stay old outcome new
     (ap (λ (t : State). t.answers) (ap state_of after ∙ quieted-leads old e)) (ap kept_reply is)
 
-pub log-answers : EpochLaws → (old : Past) (log : List Act) → ShutBefore old
+pub log-answers : EpochLaws → (old : Past) (log : List LogEntry) → ShutBefore old
     → IsSessionLog old log
     → (state_of (left_by old log)).answers ≡ (state_of old).answers ++ kept_replies log
 log-answers laws old [] before legal = sym (append-nil (state_of old).answers)

@@ -11,7 +11,7 @@ use Rattle.dp_events.specs.Rows.{has_room}
 use Rattle.dp_epochs.specs.Past.{Past, Step, Serves, Accepts, FailsFirst, Refuses, kept, refused}
 use Rattle.dp_epochs.specs.Past.{quieted, shut_with, state_of, state_after, answer_to}
 use Rattle.dp_epochs.specs.Laws.{shut_by}
-use Rattle.dp_session_laws.specs.Logs.{Outcome}
+use Rattle.dp_session_laws.specs.Logs.{ReplyOrMemory}
 use Rattle.dp_session_laws.proofs.Growth.{EpochLaws}
 
 -- the event was not kept, and counts among the closings that were refused if it is a Close
@@ -21,7 +21,7 @@ pub record HasRefused (old : Past) (e : Event) (new : Past) : Type 0 where
   pub quiet : new.quiet ≡ old.quiet
 
 -- the event was kept, or the limits or the store refused it, or memory ran out
-pub data Came (old : Past) (e : Event) (outcome : Outcome) (new : Past) : Type 0 where
+pub data Came (old : Past) (e : Event) (outcome : ReplyOrMemory) (new : Past) : Type 0 where
   WasKept : outcome ≡ Ok (answer_to old e) → new ≡ kept old e → Came old e outcome new
   WasEnded : outcome ≡ Ok reply.Ended → has_room old.journal e ≡ false → HasRefused old e new
       → Came old e outcome new
@@ -58,7 +58,7 @@ served-came old e answer new None h = by_room (has_room old.journal e) refl h
         WasEnded (ap (λ (r : Reply). Ok r) refuses.reply) room
         (is-refused old e new refuses.after)
 
-pub step-came : (old : Past) (e : Event) (outcome : Outcome) (new : Past)
+pub step-came : (old : Past) (e : Event) (outcome : ReplyOrMemory) (new : Past)
     → Step old e outcome new → Came old e outcome new
 step-came old e (Ok answer) new h = served-came old e answer new old.first_fault h
 step-came old e (Err error) new h = RanOut error refl h

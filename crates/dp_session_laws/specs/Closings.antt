@@ -9,18 +9,18 @@ use Rattle.dp_events.specs.declared.event.Reply.TheVariants.{Opened, Ended, Stor
 use Rattle.dp_events.specs.declared.event.ShutAt.{ShutAt}
 use Rattle.dp_events.specs.Rows.{has_room}
 use Rattle.dp_epochs.specs.Past.{Past, shut_with}
-use Rattle.dp_session_laws.specs.Logs.{Outcome, Act}
+use Rattle.dp_session_laws.specs.Logs.{ReplyOrMemory, LogEntry}
 use Rattle.dp_session_laws.specs.Journals.{HasBroken}
 
 -- ---- connections
 
 -- the connection that was given out, where that came
-abbrev pub given_by : Outcome → List ℕ
+abbrev pub given_by : ReplyOrMemory → List ℕ
 given_by (Ok (Opened conn user epoch at)) = conn ∷ []
 given_by other = []
 
 -- the connections that a log gave out, in order
-abbrev pub given_out : List Act → List ℕ
+abbrev pub given_out : List LogEntry → List ℕ
 given_out log = flat_map (λ act. given_by act.outcome) log
 
 -- the numbers rise strictly from above this one on
@@ -32,17 +32,17 @@ Rise low (n ∷ more) = (low < n) × Rise n more
 
 -- what an event of which that came adds to the closings that were refused, while so many events
 -- were kept
-abbrev pub shut_by_outcome : ℕ → Event → Outcome → List ShutAt
+abbrev pub shut_by_outcome : ℕ → Event → ReplyOrMemory → List ShutAt
 shut_by_outcome n e (Ok Ended) = shut_with n [] e
 shut_by_outcome n e (Ok (StoreFault count)) = shut_with n [] e
 shut_by_outcome n e other = []
 
 -- the same of an act
-abbrev pub shut_by_act : ℕ → Act → List ShutAt
+abbrev pub shut_by_act : ℕ → LogEntry → List ShutAt
 shut_by_act n act = shut_by_outcome n act.event act.outcome
 
 -- the Closes of a log that the limits or the store refused, in order
-abbrev pub refused_closes : Past → List Act → List ShutAt
+abbrev pub refused_closes : Past → List LogEntry → List ShutAt
 refused_closes past [] = []
 refused_closes past (act ∷ log) =
     shut_by_act (length past.journal) act ++ refused_closes act.left log
@@ -55,8 +55,8 @@ IsShutFor old new s =
     ⊎ (has_room (take s.n new.journal) (Close s.conn) ≡ false)
 
 -- memory ran out in a Close of the connection
-pub record HasFailedClose (log : List Act) (conn : ℕ) : Type 0 where
-  pub act : Act
+pub record HasFailedClose (log : List LogEntry) (conn : ℕ) : Type 0 where
+  pub act : LogEntry
   pub within : IsIn act log
   pub event : act.event ≡ Close conn
   pub outcome : act.outcome ≡ Err alloc_error

@@ -7,30 +7,30 @@ use Rattle.dp_events.specs.declared.event.Event.{Event}
 use Rattle.dp_events.specs.declared.event.Reply.{Reply}
 use Rattle.dp_events.specs.declared.event.Reply.TheVariants.{Ended, StoreFault}
 use Rattle.dp_epochs.specs.Past.{Past}
-use Rattle.dp_session_laws.specs.Logs.{Outcome, Act}
+use Rattle.dp_session_laws.specs.Logs.{ReplyOrMemory, LogEntry}
 
 -- the event of an act of which that came is kept
-abbrev pub is_kept : Outcome → Bool
+abbrev pub is_kept : ReplyOrMemory → Bool
 is_kept (Ok Ended) = false
 is_kept (Ok (StoreFault count)) = false
 is_kept (Ok answer) = true
 is_kept (Err error) = false
 
 -- the events of a log that are kept, in order
-abbrev pub kept_events : List Act → List Event
+abbrev pub kept_events : List LogEntry → List Event
 kept_events [] = []
 kept_events (act ∷ log) =
     if is_kept act.outcome then act.event ∷ kept_events log else kept_events log
 
 -- the reply to an act of which that came, where the act is kept
-abbrev pub kept_reply : Outcome → List Reply
+abbrev pub kept_reply : ReplyOrMemory → List Reply
 kept_reply (Ok Ended) = []
 kept_reply (Ok (StoreFault count)) = []
 kept_reply (Ok answer) = answer ∷ []
 kept_reply (Err error) = []
 
 -- the replies to the acts of a log that are kept, in order
-abbrev pub kept_replies : List Act → List Reply
+abbrev pub kept_replies : List LogEntry → List Reply
 kept_replies log = flat_map (λ act. kept_reply act.outcome) log
 
 -- a put has failed from the one session on to the other, and the store has counted it

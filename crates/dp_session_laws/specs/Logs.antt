@@ -10,19 +10,19 @@ use Rattle.dp_events.specs.declared.event.Reply.TheVariants.{Opened}
 use Rattle.dp_epochs.specs.Past.{Past, Step}
 
 -- what came of an event: a reply, or memory ran out
-abbrev pub Outcome : Type 0
-Outcome = Result Reply AllocError
+abbrev pub ReplyOrMemory : Type 0
+ReplyOrMemory = Result Reply AllocError
 
 -- an act on a session
-abbrev pub Act : Type 0
-Act = Entry Event Outcome Past
+abbrev pub LogEntry : Type 0
+LogEntry = Entry Event ReplyOrMemory Past
 
 -- each act is a step of the session, from what the one before left
-abbrev pub IsSessionLog : Past → List Act → Type 0
+abbrev pub IsSessionLog : Past → List LogEntry → Type 0
 IsSessionLog past log = IsLegal Step past log
 
 -- an act of the log was answered by this connection, user and place of the Join
-pub record HasOpened (log : List Act) (conn user epoch at : ℕ) : Type 0 where
-  pub act : Act
+pub record HasOpened (log : List LogEntry) (conn user epoch at : ℕ) : Type 0 where
+  pub act : LogEntry
   pub within : IsIn act log
   pub answer : act.outcome ≡ Ok (Opened conn user epoch at)

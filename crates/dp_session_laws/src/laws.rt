@@ -12,7 +12,7 @@ ghost use Rattle.dp_epochs.specs.Past.{Past, state_of};
 ghost use Rattle.dp_epochs.specs.Pull.{answered};
 ghost use Rattle.dp_epochs.specs.Laws.{ShutBefore};
 ghost use Rattle.dp_session_laws.specs.Growing.{GrowsInto};
-ghost use Rattle.dp_session_laws.specs.Logs.{Act, IsSessionLog, HasOpened};
+ghost use Rattle.dp_session_laws.specs.Logs.{LogEntry, IsSessionLog, HasOpened};
 ghost use Rattle.dp_session_laws.specs.Journals.{kept_events, kept_replies, HasBroken};
 ghost use Rattle.dp_session_laws.specs.Closings.{given_out, Rise, refused_closes, IsShutFor};
 ghost use Rattle.dp_session_laws.specs.Closings.{HasFailedClose};
@@ -27,10 +27,10 @@ use dp_epochs::{events_have_effects, histories_grow, steps_lead_on};
 /// A session only grows while a log does: no history loses an entry, and no connection its user,
 /// the place of its Join or its ending.
 pub fn sessions_go_on()
-    ensures grows { (past : Past) (log longer : List Act) → ShutBefore past
+    ensures grows { (past : Past) (log longer : List LogEntry) → ShutBefore past
         → IsSessionLog past longer → IsPrefix log longer
         → GrowsInto (state_of (left_by past log)) (state_of (left_by past longer)) }
-    ensures before { (past : Past) (log : List Act) → ShutBefore past → IsSessionLog past log
+    ensures before { (past : Past) (log : List LogEntry) → ShutBefore past → IsSessionLog past log
         → ShutBefore (left_by past log) }
 {
     events_have_effects();
@@ -41,7 +41,7 @@ pub fn sessions_go_on()
 /// The journal goes on by the events of the log that were answered otherwise than by Ended,
 /// StoreFault or out of memory.
 pub fn journals_are_logs()
-    ensures { (past : Past) (log : List Act) → IsSessionLog past log
+    ensures { (past : Past) (log : List LogEntry) → IsSessionLog past log
         → (left_by past log).journal ≡ past.journal ++ kept_events log }
 {
     events_have_effects();
@@ -49,7 +49,7 @@ pub fn journals_are_logs()
 
 /// The session's answers go on by the replies to the events that are kept.
 pub fn answers_are_logs()
-    ensures { (past : Past) (log : List Act) → ShutBefore past → IsSessionLog past log
+    ensures { (past : Past) (log : List LogEntry) → ShutBefore past → IsSessionLog past log
         → (state_of (left_by past log)).answers ≡ (state_of past).answers ++ kept_replies log }
 {
     events_have_effects();
@@ -60,9 +60,9 @@ pub fn answers_are_logs()
 /// The closings that were refused go on by the Closes of the log that were answered Ended or
 /// StoreFault, each with how many events were kept before it.
 pub fn shuts_are_logs()
-    ensures all { (past : Past) (log : List Act) → IsSessionLog past log
+    ensures all { (past : Past) (log : List LogEntry) → IsSessionLog past log
         → (left_by past log).shut ≡ past.shut ++ refused_closes past log }
-    ensures cause { (past : Past) (log : List Act) (s : ShutAt) → past.first_fault ≡ None
+    ensures cause { (past : Past) (log : List LogEntry) (s : ShutAt) → past.first_fault ≡ None
         → IsSessionLog past log → IsIn s (refused_closes past log)
         → IsShutFor past (left_by past log) s }
 {
@@ -71,7 +71,7 @@ pub fn shuts_are_logs()
 
 /// A connection is quiet only where it was so, or memory ran out in one of its Closes.
 pub fn quiets_are_logs()
-    ensures { (past : Past) (log : List Act) (conn : ℕ) → IsSessionLog past log
+    ensures { (past : Past) (log : List LogEntry) (conn : ℕ) → IsSessionLog past log
         → Contains (left_by past log).quiet conn
         → Contains past.quiet conn ⊎ HasFailedClose log conn }
 {}
@@ -79,9 +79,9 @@ pub fn quiets_are_logs()
 /// The connections that a log gives out rise from above those that were given out before, so no two
 /// are one.
 pub fn one_connection_each()
-    ensures rise { (past : Past) (log : List Act) → ShutBefore past → IsSessionLog past log
+    ensures rise { (past : Past) (log : List LogEntry) → ShutBefore past → IsSessionLog past log
         → Rise (length (state_of past).connections) (given_out log) }
-    ensures distinct { (past : Past) (log : List Act) → ShutBefore past → IsSessionLog past log
+    ensures distinct { (past : Past) (log : List LogEntry) → ShutBefore past → IsSessionLog past log
         → AreDistinct (given_out log) }
 {
     events_have_effects();
@@ -91,16 +91,17 @@ pub fn one_connection_each()
 
 /// Ended is answered only where the limits leave no room for the event after the journal there.
 pub fn ended_has_cause()
-    ensures { (past : Past) (front : List Act) (act : Act) (back : List Act)
-        → IsSessionLog past (front ++ act ∷ back) → act.outcome ≡ Ok Ended
-        → has_room (left_by past front).journal act.event ≡ false }
+    ensures { (past : Past) (prefix : List LogEntry) (act : LogEntry) (back : List LogEntry)
+        → IsSessionLog past (prefix ++ act ∷ back) → act.outcome ≡ Ok Ended
+        → has_room (left_by past prefix).journal act.event ≡ false }
 {
     events_have_effects();
 }
 
 /// StoreFault is answered only where a put has failed since, which the store has counted.
 pub fn faults_are_counted()
-    ensures { (past : Past) (log : List Act) (act : Act) (count : ℕ) → past.first_fault ≡ None
+    ensures { (past : Past) (log : List LogEntry) (act : LogEntry) (count : ℕ)
+        → past.first_fault ≡ None
         → IsSessionLog past log → IsIn act log → act.outcome ≡ Ok (StoreFault count)
         → HasBroken past (left_by past log) }
 {
@@ -109,7 +110,7 @@ pub fn faults_are_counted()
 
 /// The feed of a connection begins with an empty segment of the epoch in which it joined.
 pub fn feeds_begin()
-    ensures { (past : Past) (log : List Act) (conn user epoch at : ℕ)
+    ensures { (past : Past) (log : List LogEntry) (conn user epoch at : ℕ)
         → ShutBefore past → IsSessionLog past log → HasOpened log conn user epoch at
         → IsFeed (state_of (left_by past log)) conn (record { epoch = epoch; entries = [] } ∷ []) }
 {
@@ -126,7 +127,7 @@ pub fn feeds_go_on()
 
 /// A feed that has ended stays so while the session grows.
 pub fn gone_goes_on()
-    ensures { (past : Past) (log longer : List Act) (conn : ℕ) (earlier : List Segment)
+    ensures { (past : Past) (log longer : List LogEntry) (conn : ℕ) (earlier : List Segment)
         (last : Segment) → ShutBefore past → IsSessionLog past longer → IsPrefix log longer
         → IsFeed (state_of (left_by past log)) conn (earlier ++ last ∷ [])
         → IsGone (left_by past log) conn last → IsGone (left_by past longer) conn last }
@@ -147,7 +148,7 @@ pub fn pulls_go_on()
 
 /// Where a Pull at the end of a feed is answered that nothing is to come, the feed has ended.
 pub fn feeds_end()
-    ensures { (past : Past) (log : List Act) (conn user epoch at most : ℕ)
+    ensures { (past : Past) (log : List LogEntry) (conn user epoch at most : ℕ)
         (earlier : List Segment) (last : Segment)
         → ShutBefore past → IsSessionLog past log → HasOpened log conn user epoch at
         → IsFeed (state_of (left_by past log)) conn (earlier ++ last ∷ [])

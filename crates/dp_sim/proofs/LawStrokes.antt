@@ -215,9 +215,9 @@ AllRenamed f depth before after = (user : ℕ) → Renamed f (strokes depth user
     (strokes depth user after)
 
 -- before the renaming begins nothing changes
-renamed-front : {Op : Type 0} → (n depth : ℕ) (before : List (UserAct Op)) → length before ≤ n
+renamed-prefix : {Op : Type 0} → (n depth : ℕ) (before : List (UserAct Op)) → length before ≤ n
     → AllRenamed (later n) depth before before
-renamed-front n depth before within user =
+renamed-prefix n depth before within user =
     renamed-acts (later n) (later-injective n) user before (no_strokes depth) (no_strokes depth)
     (λ p above below. let same : later n p ≡ p = later-below n p (omega arith) in omega arith)
     (record {
@@ -234,14 +234,14 @@ renamed-here {Op} depth who before user =
     (sym (fold-append (after_act user) (no_strokes depth) before (other_act who ∷ [])))
     (renamed-other Op (later (length before)) user who (strokes depth user before)
     (fold-short user before (no_strokes depth) (omega arith))
-    (renamed-front (length before) depth before (omega arith) user))
+    (renamed-prefix (length before) depth before (omega arith) user))
 
 -- and stays so
-renamed-behind : {Op : Type 0} → (n depth : ℕ) (before after more : List (UserAct Op))
+renamed-after : {Op : Type 0} → (n depth : ℕ) (before after more : List (UserAct Op))
     → n ≤ length before
     → length after ≡ length before + 1 → AllRenamed (later n) depth before after
     → AllRenamed (later n) depth (before ++ more) (after ++ more)
-renamed-behind n depth before after more above one h user =
+renamed-after n depth before after more above one h user =
     let at = strokes-position depth user before in
     let to = strokes-position depth user after in
     subst (λ t. Renamed (later n) (strokes depth user (before ++ more)) t)
@@ -278,39 +278,39 @@ abbrev drawn_from : {Op : Type 0} → ℕ → List (UserAct Op) → List (UserAc
     → List Op
 drawn_from depth all before acts = commands acts (flags_from depth all before acts)
 
-drawn-behind : {Op : Type 0} → (n depth : ℕ) (all all' before after acts : List (UserAct Op))
+drawn-after : {Op : Type 0} → (n depth : ℕ) (all all' before after acts : List (UserAct Op))
     → AllRenamed (later n) depth all all' → AllRenamed (later n) depth before after
     → n ≤ length before → length after ≡ length before + 1
     → drawn_from depth all' after acts ≡ drawn_from depth all before acts
-drawn-behind n depth all all' before after [] whole part above one = refl
-drawn-behind n depth all all' before after (a ∷ acts) whole part above one =
+drawn-after n depth all all' before after [] whole part above one = refl
+drawn-after n depth all all' before after (a ∷ acts) whole part above one =
     let longer = length-append before (a ∷ []) in
     let longer' = length-append after (a ∷ []) in
     ap (λ flag. command_of a.act flag ++ drawn_from depth all' (after ++ a ∷ []) acts)
     (renamed-flag (later n) (later-injective n) depth all all' before after whole part a.user a.act)
     ∙ ap (λ ops. command_of a.act (flag_of depth all before a.user a.act) ++ ops)
-    (drawn-behind n depth all all' (before ++ a ∷ []) (after ++ a ∷ []) acts whole
-    (renamed-behind n depth before after (a ∷ []) above one part) (omega arith) (omega arith))
+    (drawn-after n depth all all' (before ++ a ∷ []) (after ++ a ∷ []) acts whole
+    (renamed-after n depth before after (a ∷ []) above one part) (omega arith) (omega arith))
 
-drawn-here : {Op : Type 0} → (n depth who : ℕ) (all all' before front after : List (UserAct Op))
-    → AllRenamed (later n) depth all all' → length before + length front ≡ n
-    → drawn_from depth all' before (front ++ other_act who ∷ after)
-    ≡ drawn_from depth all before (front ++ after)
+drawn-here : {Op : Type 0} → (n depth who : ℕ) (all all' before prefix after : List (UserAct Op))
+    → AllRenamed (later n) depth all all' → length before + length prefix ≡ n
+    → drawn_from depth all' before (prefix ++ other_act who ∷ after)
+    ≡ drawn_from depth all before (prefix ++ after)
 drawn-here n depth who all all' before [] after whole here =
     let end : length before ≡ n = omega arith in
     let longer = length-append before (other_act who ∷ []) in
-    drawn-behind n depth all all' before (before ++ other_act who ∷ []) after whole
+    drawn-after n depth all all' before (before ++ other_act who ∷ []) after whole
     (subst (λ k. AllRenamed (later k) depth before (before ++ other_act who ∷ [])) end
     (renamed-here depth who before))
     (omega arith) (omega arith)
-drawn-here n depth who all all' before (a ∷ front) after whole here =
+drawn-here n depth who all all' before (a ∷ prefix) after whole here =
     let longer = length-append before (a ∷ []) in
     ap (λ flag. command_of a.act flag ++ drawn_from depth all' (before ++ a ∷ [])
-    (front ++ other_act who ∷ after))
+    (prefix ++ other_act who ∷ after))
     (renamed-flag (later n) (later-injective n) depth all all' before before whole
-    (renamed-front n depth before (omega arith)) a.user a.act)
+    (renamed-prefix n depth before (omega arith)) a.user a.act)
     ∙ ap (λ ops. command_of a.act (flag_of depth all before a.user a.act) ++ ops)
-    (drawn-here n depth who all all' (before ++ a ∷ []) front after whole (omega arith))
+    (drawn-here n depth who all all' (before ++ a ∷ []) prefix after whole (omega arith))
 
 pub drawn-other : {Op : Type 0} → (depth who : ℕ) (before after : List (UserAct Op))
     → drawn_commands depth (before ++ other_act who ∷ after)
@@ -321,7 +321,7 @@ drawn-other depth who before after =
     before after
     (subst (AllRenamed (later (length before)) depth (before ++ after))
     (append_assoc before (other_act who ∷ []) after)
-    (renamed-behind (length before) depth before (before ++ other_act who ∷ []) after (omega arith)
+    (renamed-after (length before) depth before (before ++ other_act who ∷ []) after (omega arith)
     (omega arith)
     (renamed-here depth who before)))
     (omega arith)

@@ -112,7 +112,7 @@ participant-stays s t number participant grows running h =
       began = h.began;
       known = omega (arith, h.known, grows.epochs);
       few = omega (arith, h.few, ap length more.1, length-append before more.0);
-      front = h.front ∙ sym (ap (take (length c.taken)) more.1
+      prefix = h.prefix ∙ sym (ap (take (length c.taken)) more.1
           ∙ take-append-le (length c.taken) before more.0 h.few);
       entered = h.entered;
     }
@@ -134,7 +134,7 @@ participant-made s number participant fork uplink now running h = record {
   began = h.began;
   known = h.known;
   few = h.few;
-  front = h.front;
+  prefix = h.prefix;
   entered = h.entered;
 }
 
@@ -149,7 +149,7 @@ record HasTaken (s : State) (c : client.State) : Type 0 where
   pub began : c.joined_epoch ≤ c.epoch
   pub known : c.epoch ≤ epoch_of s
   pub few : length c.taken ≤ length (history_of s c.epoch)
-  pub front : c.taken ≡ take (length c.taken) (history_of s c.epoch)
+  pub prefix : c.taken ≡ take (length c.taken) (history_of s c.epoch)
   pub entered : c.joined_epoch < c.epoch → 0 < length c.taken
 
 module _ (s : State) (c : client.State) (entry : Entry) (h : HasTaken s c)
@@ -177,7 +177,7 @@ module _ (s : State) (c : client.State) (entry : Entry) (h : HasTaken s c)
         began = h.began;
         known = h.known;
         few = slice_get_within (history_of s c.epoch) 0 entry at;
-        front = sym (take_one (history_of s c.epoch) 0 entry at);
+        prefix = sym (take_one (history_of s c.epoch) 0 entry at);
         entered = λ later. omega arith;
       })
 
@@ -203,7 +203,7 @@ module _ (s : State) (c : client.State) (entry : Entry) (h : HasTaken s c)
         began = h.began;
         known = h.known;
         few = omega (arith, longer, within);
-        front = ap (λ xs. xs ++ entry ∷ []) (h.front
+        prefix = ap (λ xs. xs ++ entry ∷ []) (h.prefix
             ∙ ap (λ n. take n (history_of s c.epoch)) some)
             ∙ sym (take_one (history_of s c.epoch) (suc k) entry at)
             ∙ ap (λ n. take n (history_of s c.epoch)) (sym longer);
@@ -229,7 +229,7 @@ module _ (s : State) (c : client.State) (entry : Entry) (h : HasTaken s c)
         began = omega (arith, h.began, before);
         known = omega arith;
         few = slice_get_within (history_of s (epoch_of s)) 0 entry at;
-        front = sym (take_one (history_of s (epoch_of s)) 0 entry at);
+        prefix = sym (take_one (history_of s (epoch_of s)) 0 entry at);
         entered = λ later. omega arith;
       })
 
@@ -256,7 +256,7 @@ module _ (s : State) (c : client.State) (entry : Entry) (h : HasTaken s c)
 -- ---- exchanges
 
 -- what an exchange of the client of a number keeps
-record Turned (number : ℕ) (old : Past) (t : Exchange) : Type 0 where
+record KeepsExchange (number : ℕ) (old : Past) (t : Exchange) : Type 0 where
   pub past : IsPast t.past
   pub keeps : Keeps (state_of old) (OthersStay number) (state_of t.past)
   pub participant : IsParticipant (state_of t.past) number t.participant
@@ -264,12 +264,12 @@ record Turned (number : ℕ) (old : Past) (t : Exchange) : Type 0 where
 -- the client alone has changed
 exchanged-participant : (number : ℕ) (t : Exchange) (participant : Participant) → IsPast t.past
     → IsParticipant (state_of t.past) number participant
-    → Turned number t.past (record t { participant = participant })
+    → KeepsExchange number t.past (record t { participant = participant })
 exchanged-participant number t participant h hp =
     record { past = h; keeps = keeps-all (state_of t.past) (OthersStay number); participant = hp }
 
-exchanged-both : (number : ℕ) (old : Past) (t u : Exchange) → Turned number old t
-    → Turned number t.past u → Turned number old u
+exchanged-both : (number : ℕ) (old : Past) (t u : Exchange) → KeepsExchange number old t
+    → KeepsExchange number t.past u → KeepsExchange number old u
 exchanged-both number old t u h k = record {
   past = k.past;
   keeps = keeps-both (state_of old) (state_of t.past) (state_of u.past) (OthersStay number) h.keeps
@@ -277,10 +277,10 @@ exchanged-both number old t u h k = record {
   participant = k.participant;
 }
 
-hung-exchanged : Leading → (number : ℕ) (t : Exchange) → IsPast t.past
+disconnected-exchanged : Leading → (number : ℕ) (t : Exchange) → IsPast t.past
     → IsParticipant (state_of t.past) number t.participant
-    → Turned number t.past (disconnected t)
-hung-exchanged laws number t h hp =
+    → KeepsExchange number t.past (disconnected t)
+disconnected-exchanged laws number t h hp =
     let keeps = keeps-close laws t.past t.participant.conn h.before in
     let gone = participant-made (state_of t.past) number t.participant t.participant.state.fork []
     Closed tt hp in
@@ -293,7 +293,8 @@ hung-exchanged laws number t h hp =
     }
 
 heard-exchanged : Leading → (number : ℕ) (t : Exchange) (m : Msg) (rest : List Msg) → IsPast t.past
-    → IsParticipant (state_of t.past) number t.participant → Turned number t.past (heard t m rest)
+    → IsParticipant (state_of t.past) number t.participant
+    → KeepsExchange number t.past (heard t m rest)
 heard-exchanged laws number t m rest h hp =
     let keeps = keeps-say laws t.past t.participant.conn m h.before in
     let s = state_of t.past in
@@ -311,19 +312,19 @@ heard-exchanged laws number t m rest h hp =
 
 up-exchanged : Leading → (number : ℕ) (t : Exchange) (uplink : List Msg) → IsPast t.past
     → IsParticipant (state_of t.past) number t.participant
-    → Turned number t.past (uplink_sent t uplink)
+    → KeepsExchange number t.past (uplink_sent t uplink)
 up-exchanged laws number t [] h hp = exchanged-participant number t t.participant h hp
 up-exchanged laws number t (m ∷ rest) h hp =
     let taken = heard-exchanged laws number t m rest h hp in
     cond_both (is_disconnect m) (disconnected (heard t m rest)) (heard t m rest)
-    (Turned number t.past)
+    (KeepsExchange number t.past)
     (λ yes. exchanged-both number t.past (heard t m rest) (disconnected (heard t m rest)) taken
-    (hung-exchanged laws number (heard t m rest) taken.past taken.participant))
+    (disconnected-exchanged laws number (heard t m rest) taken.past taken.participant))
     (λ no. taken)
 
 next-exchanged : Leading → (number : ℕ) (t : Exchange) (o : Option Entry) → IsPast t.past
     → IsParticipant (state_of t.past) number t.participant → next_entry t ≡ o
-    → Turned number t.past (took_next t o)
+    → KeepsExchange number t.past (took_next t o)
 next-exchanged laws number t None h hp there =
     exchanged-participant number t t.participant h hp
 next-exchanged laws number t (Some entry) h hp there =
@@ -334,7 +335,7 @@ next-exchanged laws number t (Some entry) h hp there =
       began = hp.began;
       known = hp.known;
       few = hp.few;
-      front = hp.front;
+      prefix = hp.prefix;
       entered = hp.entered;
     } in
     let history : IsHistory (epoch_of s) s.live =
@@ -346,13 +347,13 @@ next-exchanged laws number t (Some entry) h hp there =
       began = new.began;
       known = new.known;
       few = new.few;
-      front = new.front;
+      prefix = new.prefix;
       entered = new.entered;
     })
 
 done-exchanged : Leading → (number : ℕ) (t : Exchange) (instruction : Instruction) → IsPast t.past
     → IsParticipant (state_of t.past) number t.participant
-    → is_closed t.participant.link ≡ false → Turned number t.past (done t instruction)
+    → is_closed t.participant.link ≡ false → KeepsExchange number t.past (done t instruction)
 done-exchanged laws number t (Say m) h hp here =
     exchanged-participant number t (done t (Say m)).participant h
     (participant-made (state_of t.past) number t.participant (t.participant.state.fork ++ m ∷ [])
@@ -370,7 +371,7 @@ done-exchanged laws number t Leave h hp here =
     (participant-made (state_of t.past) number t.participant t.participant.state.fork
     (done t Leave).participant.uplink Leaving
     (MatchBool-at_false (Unit {0}) (IsOpen (state_of t.past) number) here hp.running) hp)
-done-exchanged laws number t Cut h hp here = hung-exchanged laws number t h hp
+done-exchanged laws number t Cut h hp here = disconnected-exchanged laws number t h hp
 
 not-gone : (p : LinkState) (d : Instruction) → is_gone p d ≡ false → is_closed p ≡ false
 not-gone Connected d h = refl
@@ -379,9 +380,10 @@ not-gone Closed d h = cc
 
 exchange-exchanged : Leading → (number : ℕ) (t : Exchange) (instruction : Instruction)
     → IsPast t.past → IsParticipant (state_of t.past) number t.participant
-    → Turned number t.past (exchanged t instruction)
+    → KeepsExchange number t.past (exchanged t instruction)
 exchange-exchanged laws number t instruction h hp =
-    cond_both (is_gone t.participant.link instruction) t (done t instruction) (Turned number t.past)
+    cond_both (is_gone t.participant.link instruction) t (done t instruction)
+    (KeepsExchange number t.past)
     (λ gone. exchanged-participant number t t.participant h hp)
     (λ there. done-exchanged laws number t instruction h hp
     (not-gone t.participant.link instruction there))
@@ -411,7 +413,7 @@ world-made w h connections participants = record {
 
 exchange-world : (w : World) (number : ℕ) (participant : Participant) (t : Exchange) → IsWorld w
     → participant_of w number ≡ Some participant
-    → Turned number w.past t → IsWorld (with_exchange w number t)
+    → KeepsExchange number w.past t → IsWorld (with_exchange w number t)
 exchange-world w number participant t h found exchange =
     world-made (with_exchange w number t) exchange.past
     (exchange.keeps.count ∙ h.connections ∙ sym (length-set w.participants (number - 1)
@@ -496,7 +498,7 @@ participant-new s conn user epoch at up known = record {
   began = omega arith;
   known = known;
   few = omega arith;
-  front = refl;
+  prefix = refl;
   entered = λ later. absurd (omega (arith, later));
 }
 
@@ -573,15 +575,15 @@ actions-world stays w [] h = h
 actions-world stays w (action ∷ actions) h = actions-world stays (after w action) actions
     (stays w action h)
 
-shows-front : (s : State) (number : ℕ) (participant : Participant)
+shows-prefix : (s : State) (number : ℕ) (participant : Participant)
     → IsParticipant s number participant → ShowsPrefix s participant.state
-shows-front s number participant h =
+shows-prefix s number participant h =
     let c = participant.state in
     record {
       count = length c.taken;
-      taken = h.front;
-      confirmed = ap replay h.front;
-      view = ap (λ board. draw_all board (filter_map command_of c.fork)) (ap replay h.front);
+      taken = h.prefix;
+      confirmed = ap replay h.prefix;
+      view = ap (λ board. draw_all board (filter_map command_of c.fork)) (ap replay h.prefix);
     }
 
 pub all-show : ((w : World) (action : Action) → IsWorld w → IsWorld (after w action))
@@ -594,6 +596,6 @@ all-show stays first actions =
     let w = world_after actions in
     λ number. if_some (participant_of w number) (λ participant. ShowsPrefix (state_of w.past)
     participant.state)
-    (λ participant is. shows-front (state_of w.past) number participant
+    (λ participant is. shows-prefix (state_of w.past) number participant
     (at_some (participant_of w number) (IsParticipant (state_of w.past) number) participant
     (h.participants number) is))

@@ -47,7 +47,7 @@ pub record IsParticipant (s : State) (number : ℕ) (participant : Participant) 
   pub began : participant.state.joined_epoch ≤ participant.state.epoch
   pub known : participant.state.epoch ≤ epoch_of s
   pub few : length participant.state.taken ≤ length (history_of s participant.state.epoch)
-  pub front : participant.state.taken
+  pub prefix : participant.state.taken
       ≡ take (length participant.state.taken) (history_of s participant.state.epoch)
   pub entered : participant.state.joined_epoch < participant.state.epoch
       → 0 < length participant.state.taken

@@ -106,14 +106,6 @@ answers-at user at xs x ys own =
     ∙ ap (λ c. answers_from user at 0 xs ++ ((if c then x.msg ∷ [] else [])
     ++ answers_from user at (length xs + 1) ys)) own
 
--- the user's own entry, which may answer, is one more
-pub answers-own : (user at : ℕ) (xs : List Entry) (m : Msg) → may_answer m ≡ true → at < length xs
-    → answers_from user at 0 (xs ++ entry_of user m ∷ []) ≡ answers_from user at 0 xs ++ m ∷ []
-answers-own user at xs m may above =
-    answers-push user at xs (entry_of user m) true
-    (ap (λ b. b && may_answer m && nat_lt at (length xs)) (eq-eqb user user refl)
-    ∙ ap (λ b. true && b && nat_lt at (length xs)) may ∙ lt-ltb at (length xs) above)
-
 -- the user's own entry alone, which may answer, after the index
 pub answers-one : (user at n : ℕ) (m : Msg) → may_answer m ≡ true → at < n
     → answers_from user at n (entry_of user m ∷ []) ≡ m ∷ []
@@ -181,25 +173,25 @@ answer-none [] h = refl
 answer-none (m ∷ ms) h = absurd h
 
 -- the send that the next answer answers, and what was said after it
-pub record Front (forked : List Msg) (m : Msg) : Type 0 where
+pub record FirstSend (forked : List Msg) (m : Msg) : Type 0 where
   pub send : Msg
   pub rest : List Msg
   pub is : forked ≡ send ∷ rest
   pub answers : AnswersTo m send
 
-pub front-of : (before : List Msg) (m : Msg) (behind sends waits : List Msg)
-    → Answer (before ++ m ∷ behind) sends
-    → Front (drop (length before) (sends ++ waits)) m
-front-of [] m behind [] waits h = absurd h
-front-of [] m behind (s ∷ sends) waits h = record {
+pub first-of : (before : List Msg) (m : Msg) (after sends waits : List Msg)
+    → Answer (before ++ m ∷ after) sends
+    → FirstSend (drop (length before) (sends ++ waits)) m
+first-of [] m after [] waits h = absurd h
+first-of [] m after (s ∷ sends) waits h = record {
   send = s;
   rest = sends
       ++ waits;
   is = refl;
   answers = h.0;
 }
-front-of (n ∷ before) m behind [] waits h = absurd h
-front-of (n ∷ before) m behind (s ∷ sends) waits h = front-of before m behind sends waits h.1
+first-of (n ∷ before) m after [] waits h = absurd h
+first-of (n ∷ before) m after (s ∷ sends) waits h = first-of before m after sends waits h.1
 
 -- ---- lists
 
@@ -211,10 +203,10 @@ split-at (y ∷ xs) zero x is = let same : y ≡ x = cc in ap (λ z. z ∷ xs) s
 split-at (y ∷ xs) (suc k) x is = ap (λ zs. y ∷ zs) (split-at xs k x is)
 
 -- where a list goes on after a front, that is longer than the front, and goes on after one more
-pub drop-front : {X : Type 0} (n : ℕ) (xs : List X) (x : X) (rest : List X) → drop n xs ≡ x ∷ rest
+pub drop-first : {X : Type 0} (n : ℕ) (xs : List X) (x : X) (rest : List X) → drop n xs ≡ x ∷ rest
     → (suc n ≤ length xs) × (drop (suc n) xs ≡ rest)
-drop-front zero [] x rest is = cc
-drop-front zero (y ∷ xs) x rest is = (omega arith, cc)
-drop-front (suc n) [] x rest is = cc
-drop-front (suc n) (y ∷ xs) x rest is = let h = drop-front n xs x rest is in
+drop-first zero [] x rest is = cc
+drop-first zero (y ∷ xs) x rest is = (omega arith, cc)
+drop-first (suc n) [] x rest is = cc
+drop-first (suc n) (y ∷ xs) x rest is = let h = drop-first n xs x rest is in
     (omega (arith, h.0), h.1)

@@ -40,13 +40,13 @@ use Rattle.dp_sim.specs.declared.participant.LinkState.TheVariants.{Connected, L
 use Rattle.dp_sim.specs.Exchanges.{Participant, Exchange, is_gone, disconnected, heard, uplink_sent}
 use Rattle.dp_sim.specs.Exchanges.{next_entry, acks, took_next, done, exchanged}
 use Rattle.dp_sim.specs.Invariant.{IsParticipant, IsSayable, is_closed}
-use Rattle.dp_sim_laws.specs.OwnSteps.{steps_of_deed, steps_of_turn}
+use Rattle.dp_sim_laws.specs.OwnSteps.{steps_of_instruction, steps_of_exchange}
 use Rattle.dp_sim_laws.specs.Tally.{Tally, no_sends, tally_step, tally_from, up_replies}
-use Rattle.dp_sim_laws.specs.Tally.{deed_replies, turn_replies}
+use Rattle.dp_sim_laws.specs.Tally.{instruction_replies, exchange_replies}
 use Rattle.dp_sim_laws.proofs.Answering.{last_false, answers_from, answers-append, answers-same}
 use Rattle.dp_sim_laws.proofs.Answering.{answers-before, answers-none, answers-push, answers-at}
 use Rattle.dp_sim_laws.proofs.Answering.{NoAnswers, AnswersTo, Answer, answer-both, answer-none}
-use Rattle.dp_sim_laws.proofs.Answering.{Front, front-of, split-at, drop-front}
+use Rattle.dp_sim_laws.proofs.Answering.{FirstSend, first-of, split-at, drop-first}
 use Rattle.dp_sim_laws.proofs.Events.{HasPeople, IsServerFirst, Passes, Grown, NotThis, Unheard}
 use Rattle.dp_sim_laws.proofs.Events.{unheard-more, passes-not, passes-both, Hears, HeardHere}
 use Rattle.dp_sim_laws.proofs.Events.{is_ack, is_send, sends_of}
@@ -73,7 +73,7 @@ pub record IsHere (epoch : ℕ) (live : List Entry) (ready : Bool) (p : Particip
   pub more : p.link ≡ Connected → hears_more epoch ready p.uplink ≡ true
 
 -- a client of an earlier epoch: nothing that it says is heard, nor was since the live one opened
-pub record IsBehind (live : List Entry) (ready : Bool) (p : Participant) : Type 0 where
+pub record IsLagging (live : List Entry) (ready : Bool) (p : Participant) : Type 0 where
   pub late : ready ≡ false
   pub unheard : Unheard p.state.user live
 
@@ -87,7 +87,7 @@ pub record Live (s : State) (number : ℕ) (p : Participant) (t : Tally) : Type 
   pub endless : p.link ≡ Connected → HasNoEnd p.uplink
   pub here : p.state.epoch ≡ epoch_of s
       → IsHere (epoch_of s) s.live (has_acknowledged s connection) p t
-  pub behind : p.state.epoch < epoch_of s → IsBehind s.live (has_acknowledged s connection) p
+  pub lags : p.state.epoch < epoch_of s → IsLagging s.live (has_acknowledged s connection) p
 
 -- the fork is the sends after as many as answers
 pub record Holds (s : State) (number : ℕ) (p : Participant) (t : Tally) : Type 0 where
@@ -117,10 +117,10 @@ here-grown epoch live more now ready p t is strange h =
       more = h.more;
     }
 
-behind-grown : (live more now : List Entry) (ready : Bool) (p : Participant)
-    → now ≡ live ++ more → NoAnswers p.state.user more → IsBehind live ready p
-    → IsBehind now ready p
-behind-grown live more now ready p is strange h = record {
+lagging-grown : (live more now : List Entry) (ready : Bool) (p : Participant)
+    → now ≡ live ++ more → NoAnswers p.state.user more → IsLagging live ready p
+    → IsLagging now ready p
+lagging-grown live more now ready p is strange h = record {
   late = h.late;
   unheard = subst (Unheard p.state.user) (sym is)
       (unheard-more p.state.user live more h.unheard
@@ -144,14 +144,14 @@ module _ (s u : State) (Others : ℕ → Type 0) (number : ℕ) (p : Participant
       (here-grown (epoch_of s) s.live grown.more u.live (has_acknowledged s h.connection) p t
       grown.live (strange-here grown) (h.here (at ∙ same)))
 
-  behind-passes : p.state.epoch < epoch_of u
-      → IsBehind u.live (has_acknowledged u h.connection) p
-  behind-passes below =
+  lagging-passes : p.state.epoch < epoch_of u
+      → IsLagging u.live (has_acknowledged u h.connection) p
+  lagging-passes below =
       ⊎_elim (λ (same : epoch_of u ≡ epoch_of s).
       let grown = passes.same same in
-      subst (λ epoch. IsBehind u.live (h.connection.acknowledged == epoch) p) (sym same)
-      (behind-grown s.live grown.more u.live (has_acknowledged s h.connection) p grown.live
-      (strange-here grown) (h.behind (omega (arith, below, same)))))
+      subst (λ epoch. IsLagging u.live (h.connection.acknowledged == epoch) p) (sym same)
+      (lagging-grown s.live grown.more u.live (has_acknowledged s h.connection) p grown.live
+      (strange-here grown) (h.lags (omega (arith, below, same)))))
       (λ (ne : epoch_of u ≡ epoch_of s → ⊥).
       let less : epoch_of s < epoch_of u = omega (arith, ne, passes.epochs) in
       record {
@@ -171,7 +171,7 @@ module _ (s u : State) (Others : ℕ → Type 0) (number : ℕ) (p : Participant
     stands = h.stands;
     endless = h.endless;
     here = here-passes;
-    behind = behind-passes;
+    lags = lagging-passes;
   }
 
 pub holds-passes : (s u : State) (Others : ℕ → Type 0) (number : ℕ) (p : Participant) (t : Tally)
@@ -215,7 +215,7 @@ next-past t (Some entry) = refl
 
 done-passes : Leading → (t : Exchange) (instruction : Instruction) → ShutBefore t.past
     → HasPeople (state_of t.past)
-    → NeverEnds (deed_replies t instruction)
+    → NeverEnds (instruction_replies t instruction)
     → Passes (state_of t.past) (NotThis t.participant.conn) (state_of (done t instruction).past)
 done-passes laws t (Say m) before people goes = passes-not (state_of t.past)
     (NotThis t.participant.conn) people
@@ -233,13 +233,13 @@ done-passes laws t Cut before people goes = passes-close laws t.past t.participa
 
 pub exchange-passes : Leading → (t : Exchange) (instruction : Instruction) → ShutBefore t.past
     → HasPeople (state_of t.past)
-    → NeverEnds (turn_replies t instruction)
+    → NeverEnds (exchange_replies t instruction)
     → Passes (state_of t.past) (NotThis t.participant.conn)
     (state_of (exchanged t instruction).past)
 exchange-passes laws t instruction before people goes = by_gone
     (is_gone t.participant.link instruction) goes
   where
-    by_gone : (b : Bool) → NeverEnds (if b then [] else deed_replies t instruction)
+    by_gone : (b : Bool) → NeverEnds (if b then [] else instruction_replies t instruction)
         → Passes (state_of t.past) (NotThis t.participant.conn)
         (state_of (if b then t else done t instruction).past)
     by_gone true goes = passes-not (state_of t.past) (NotThis t.participant.conn) people
@@ -286,10 +286,10 @@ next-here s c o here is =
     sym (ap (λ b. slice_get s.live (if b then length c.taken else 0))
     (eq-eqb c.epoch (epoch_of s) here)) ∙ is
 
-next-behind : (s : State) (c : client.State) (o : Option Entry) → c.epoch < epoch_of s
+next-lagging : (s : State) (c : client.State) (o : Option Entry) → c.epoch < epoch_of s
     → slice_get s.live (if c.epoch == epoch_of s then length c.taken else 0) ≡ o
     → slice_get s.live 0 ≡ o
-next-behind s c o less is =
+next-lagging s c o less is =
     sym (ap (λ b. slice_get s.live (if b then length c.taken else 0))
     (ne_eqb c.epoch (epoch_of s) (λ same. omega (arith, same, less)))) ∙ is
 
@@ -401,10 +401,10 @@ took-later c epoch entry h less mark =
     second_false false b is = refl
 
 -- the answer to the first send of a fork
-own-front : Leading → (fork : List Msg) (m send : Msg) (rest : List Msg) → fork ≡ send ∷ rest
+own-first : Leading → (fork : List Msg) (m send : Msg) (rest : List Msg) → fork ≡ send ∷ rest
     → AnswersTo m send
     → (answered fork m ≡ Dropped) ⊎ (answered fork m ≡ Echo)
-own-front laws fork m send rest is answers =
+own-first laws fork m send rest is answers =
     ⊎_elim (λ (yes : is_filtered m ≡ true). inl (ap (λ f. answered f m) is
     ∙ ap (λ b. if b then Dropped else if same_message m send then Echo else Lost) yes))
     (λ (no : is_filtered m ≡ false).
@@ -419,35 +419,35 @@ own-front laws fork m send rest is answers =
     (cases_Bool (is_filtered m))
 
 -- the send that an own answer answers is the first of the fork
-next-front : (epoch : ℕ) (live : List Entry) (ready : Bool) (p : Participant) (t : Tally)
+next-first : (epoch : ℕ) (live : List Entry) (ready : Bool) (p : Participant) (t : Tally)
     (entry : Entry) → p.state.taken ≡ take (length p.state.taken) live
     → IsHere epoch live ready p t
     → slice_get live (length p.state.taken) ≡ Some entry → is_own_answer p.state entry ≡ true
-    → Front (drop t.answers t.sends) entry.msg
-next-front epoch live ready p t entry front h there own =
+    → FirstSend (drop t.answers t.sends) entry.msg
+next-first epoch live ready p t entry prefix h there own =
     let c = p.state in
     let at = last_before c in
-    let behind = drop (suc (length c.taken)) live in
-    let whole : live ≡ c.taken ++ entry ∷ behind =
-    split-at live (length c.taken) entry there ∙ ap (λ xs. xs ++ entry ∷ behind) (sym front) in
+    let after = drop (suc (length c.taken)) live in
+    let whole : live ≡ c.taken ++ entry ∷ after =
+    split-at live (length c.taken) entry there ∙ ap (λ xs. xs ++ entry ∷ after) (sym prefix) in
     let before = answers_from c.user at 0 c.taken in
-    let more = answers_from c.user at (length c.taken + 1) behind in
+    let more = answers_from c.user at (length c.taken + 1) after in
     let all : answers_from c.user at 0 live ≡ before ++ entry.msg ∷ more =
-    ap (answers_from c.user at 0) whole ∙ answers-at c.user at c.taken entry behind own in
+    ap (answers_from c.user at 0) whole ∙ answers-at c.user at c.taken entry after own in
     let waits = due epoch ready p.uplink in
-    let first : Front (drop (length before) (h.sent ++ waits)) entry.msg =
-    front-of before entry.msg more h.sent waits (subst (λ ms. Answer ms h.sent) all h.answered)
+    let first : FirstSend (drop (length before) (h.sent ++ waits)) entry.msg =
+    first-of before entry.msg more h.sent waits (subst (λ ms. Answer ms h.sent) all h.answered)
     in
-    subst (λ n. Front (drop n t.sends) entry.msg) (sym h.taken)
-    (subst (λ sends. Front (drop (length before) sends) entry.msg) (sym h.sends) first)
+    subst (λ n. FirstSend (drop n t.sends) entry.msg) (sym h.taken)
+    (subst (λ sends. FirstSend (drop (length before) sends) entry.msg) (sym h.sends) first)
 
 -- the tally after an own answer, or another entry
 abbrev tally_if : Bool → Tally → Tally
 tally_if b t = if b then record t { answers = t.answers + 1 } else t
 
 -- the client that has taken an own answer, or another entry
-abbrev peer_if : Bool → Participant → Entry → Participant
-peer_if b p entry = record p {
+abbrev participant_if : Bool → Participant → Entry → Participant
+participant_if b p entry = record p {
   state = record p.state {
     taken = p.state.taken ++ entry ∷ [];
     fork = fork_after (if b then answered p.state.fork entry.msg else Stranger) p.state.fork;
@@ -457,11 +457,12 @@ peer_if b p entry = record p {
 
 here-took : (epoch : ℕ) (live : List Entry) (ready : Bool) (p : Participant) (t : Tally)
     (entry : Entry) (b : Bool) → IsOf p.state → is_own_answer p.state entry ≡ b
-    → IsHere epoch live ready p t → IsHere epoch live ready (peer_if b p entry) (tally_if b t)
+    → IsHere epoch live ready p t
+    → IsHere epoch live ready (participant_if b p entry) (tally_if b t)
 here-took epoch live ready p t entry b of own h =
     let c = p.state in
     let at = last_before c in
-    let stays : last_before (peer_if b p entry).state ≡ at = base-stays c entry of in
+    let stays : last_before (participant_if b p entry).state ≡ at = base-stays c entry of in
     let push = answers-push c.user at c.taken entry b own in
     record {
       base = omega (arith, stays, h.base);
@@ -485,7 +486,7 @@ here-took epoch live ready p t entry b of own h =
 
 live-took : (s : State) (number : ℕ) (p : Participant) (t : Tally) (entry : Entry) (b : Bool)
     → IsOf p.state → p.state.epoch ≡ epoch_of s → is_own_answer p.state entry ≡ b
-    → Live s number p t → Live s number (peer_if b p entry) (tally_if b t)
+    → Live s number p t → Live s number (participant_if b p entry) (tally_if b t)
 live-took s number p t entry b of at own h = record {
   connection = h.connection;
   found = h.found;
@@ -495,13 +496,13 @@ live-took s number p t entry b of at own h = record {
   endless = λ on. subst HasNoEnd (sym (append-nil p.uplink)) (h.endless on);
   here = λ same. here-took (epoch_of s) s.live (has_acknowledged s h.connection) p t entry b of own
       (h.here at);
-  behind = λ less. absurd (omega (arith, less, at));
+  lags = λ less. absurd (omega (arith, less, at));
 }
 
-fork-front : (fork : List Msg) (m send : Msg) (rest : List Msg) → fork ≡ send ∷ rest
+fork-first : (fork : List Msg) (m send : Msg) (rest : List Msg) → fork ≡ send ∷ rest
     → (answered fork m ≡ Dropped) ⊎ (answered fork m ≡ Echo)
     → fork_after (answered fork m) fork ≡ rest
-fork-front fork m send rest is own =
+fork-first fork m send rest is own =
     ⊎_elim (λ (dropped : answered fork m ≡ Dropped). ap (λ o. fork_after o fork) dropped
     ∙ ap (drop 1) is)
     (λ (echo : answered fork m ≡ Echo). ap (λ o. fork_after o fork) echo ∙ ap (drop 1) is) own
@@ -511,17 +512,17 @@ holds-own : Leading → (s : State) (number : ℕ) (p : Participant) (t : Tally)
     → is_closed p.link ≡ false → p.state.epoch ≡ epoch_of s
     → slice_get s.live (length p.state.taken) ≡ Some entry
     → is_own_answer p.state entry ≡ b → Holds s number p t
-    → Holds s number (peer_if b p entry) (tally_if b t)
+    → Holds s number (participant_if b p entry) (tally_if b t)
 holds-own laws s number p t entry true of prefix up at there own h =
     let live = h.live up in
-    let front = next-front (epoch_of s) s.live (has_acknowledged s live.connection) p t entry prefix
+    let first = next-first (epoch_of s) s.live (has_acknowledged s live.connection) p t entry prefix
     (live.here at) there own in
-    let fork : p.state.fork ≡ front.send ∷ front.rest = h.fork ∙ front.is in
-    let rest = drop-front t.answers t.sends front.send front.rest front.is in
+    let fork : p.state.fork ≡ first.send ∷ first.rest = h.fork ∙ first.is in
+    let rest = drop-first t.answers t.sends first.send first.rest first.is in
     record {
       few = omega (arith, rest.0);
-      fork = fork-front p.state.fork entry.msg front.send front.rest fork
-          (own-front laws p.state.fork entry.msg front.send front.rest fork front.answers)
+      fork = fork-first p.state.fork entry.msg first.send first.rest fork
+          (own-first laws p.state.fork entry.msg first.send first.rest fork first.answers)
           ∙ sym rest.1 ∙ ap (λ n. drop n t.sends) (sym (add-one t.answers));
       live = λ still. live-took s number p t entry true of at own live;
     }
@@ -543,7 +544,7 @@ is-of s number p hp = record { began = hp.began; entered = hp.entered }
 prefix-here : (s : State) (number : ℕ) (p : Participant) → IsParticipant s number p
     → p.state.epoch ≡ epoch_of s → p.state.taken ≡ take (length p.state.taken) s.live
 prefix-here s number p hp at =
-    hp.front ∙ ap (take (length p.state.taken)) (ap (history_of s) at ∙ live-is s)
+    hp.prefix ∙ ap (take (length p.state.taken)) (ap (history_of s) at ∙ live-is s)
 
 -- an entry of the client's epoch
 holds-took-here : Leading → (s : State) (number : ℕ) (p : Participant) (t : Tally) (entry : Entry)
@@ -569,7 +570,7 @@ here-opened : (s : State) (connection : Connection) (p : Participant) (entry : E
     → IsOf p.state → p.state.epoch < epoch_of s → slice_get s.live 0 ≡ Some entry
     → AllByRecursion (MayStand p.state.epoch) p.uplink
     → (p.link ≡ Connected → HasNoEnd p.uplink)
-    → IsBehind s.live (has_acknowledged s connection) p
+    → IsLagging s.live (has_acknowledged s connection) p
     → IsHere (epoch_of s) s.live (has_acknowledged s connection)
     (took_with p (opened_of p.state (epoch_of s) entry) (Some (epoch_of s))) no_sends
 here-opened s connection p entry of less there stands endless h =
@@ -627,8 +628,8 @@ holds-took-later s number p t entry marked hp up less there h =
         endless = λ on. all-push (λ m. is_disconnect m ≡ false) p.uplink (msg.Control (Ack e))
             (live.endless on) refl;
         here = λ same. here-opened s live.connection p entry of less there live.stands
-            live.endless (live.behind less);
-        behind = λ below. absurd (omega (arith, below));
+            live.endless (live.lags less);
+        lags = λ below. absurd (omega (arith, below));
       };
     } in
     subst (λ ack. Goal ack (client.took c entry)) (sym is.1)
@@ -650,7 +651,7 @@ holds-next laws number t tally (Some entry) hp up there h =
     (λ (ne : p.state.epoch ≡ epoch_of s → ⊥).
     let less : p.state.epoch < epoch_of s = omega (arith, ne, hp.known) in
     holds-took-later s number p tally entry marked hp up less
-    (next-behind s p.state (Some entry) less there) h)
+    (next-lagging s p.state (Some entry) less there) h)
     (cases_eq p.state.epoch (epoch_of s))
 
 -- ---- saying
@@ -712,7 +713,7 @@ holds-said s number p t m on high h = record {
         endless = λ still. all-push (λ n. is_disconnect n ≡ false) p.uplink m (l.endless on) send.2;
         here = λ at. here-said (epoch_of s) s.live (has_acknowledged s l.connection) p t m on send.1
             send.2 (l.here at);
-        behind = λ less. let b = l.behind less in record { late = b.late; unheard = b.unheard };
+        lags = λ less. let b = l.lags less in record { late = b.late; unheard = b.unheard };
       };
 }
 
@@ -755,7 +756,7 @@ holds-reset s number p t commands on h = record {
             (all-reset (λ m. is_disconnect m ≡ false) more (λ m of. of.endless) all);
         here = λ at. here-reset (epoch_of s) s.live (has_acknowledged s l.connection) p t commands
             on (l.here at);
-        behind = λ less. let b = l.behind less in record { late = b.late; unheard = b.unheard };
+        lags = λ less. let b = l.lags less in record { late = b.late; unheard = b.unheard };
       };
 }
 
@@ -795,7 +796,7 @@ holds-leaving s number p t on h = record {
         endless = λ still. let not_so : Leaving ≡ Connected = still in cc;
         here = λ at. here-leaving (epoch_of s) s.live (has_acknowledged s l.connection) p t
             (l.here at);
-        behind = λ less. let b = l.behind less in record { late = b.late; unheard = b.unheard };
+        lags = λ less. let b = l.lags less in record { late = b.late; unheard = b.unheard };
       };
 }
 
@@ -847,11 +848,11 @@ here-heard s u c d p t m rest same user up goes x h =
     subst (λ n. IsHere n u.live (has_acknowledged u d) (heard_of p rest) t) (sym same)
     (subst (λ b. IsHere e u.live b (heard_of p rest) t) (sym x.ready) it)
 
-behind-heard : (s u : State) (c d : Connection) (p : Participant) (m : Msg) (rest : List Msg)
+lagging-heard : (s u : State) (c d : Connection) (p : Participant) (m : Msg) (rest : List Msg)
     → p.state.epoch < epoch_of s → c.user ≡ p.state.user → MayStand p.state.epoch m
-    → HeardHere s c m u d → IsBehind s.live (has_acknowledged s c) p
-    → IsBehind u.live (has_acknowledged u d) (heard_of p rest)
-behind-heard s u c d p m rest less user stands x h = record {
+    → HeardHere s c m u d → IsLagging s.live (has_acknowledged s c) p
+    → IsLagging u.live (has_acknowledged u d) (heard_of p rest)
+lagging-heard s u c d p m rest less user stands x h = record {
   late = x.ready ∙ ap (λ b. b || is_ack (epoch_of s) m) h.late
       ∙ no-ack p.state.epoch (epoch_of s) m less stands;
   unheard = subst (Unheard p.state.user) (sym x.live)
@@ -869,13 +870,13 @@ module _ (s u : State) (number : ℕ) (p : Participant) (t : Tally) (m : Msg) (r
   stands-first : AllByRecursion (MayStand p.state.epoch) (m ∷ rest)
   stands-first = subst (AllByRecursion (MayStand p.state.epoch)) up h.stands
 
-  behind-after : p.state.epoch < epoch_of u
-      → IsBehind u.live (has_acknowledged u x.connection) (heard_of p rest)
-  behind-after below =
+  lagging-after : p.state.epoch < epoch_of u
+      → IsLagging u.live (has_acknowledged u x.connection) (heard_of p rest)
+  lagging-after below =
       ⊎_elim (λ (same : epoch_of u ≡ epoch_of s).
       let less : p.state.epoch < epoch_of s = omega (arith, below, same) in
-      behind-heard s u h.connection x.connection p m rest less h.user stands-first.0
-      (x.same same) (h.behind less))
+      lagging-heard s u h.connection x.connection p m rest less h.user stands-first.0
+      (x.same same) (h.lags less))
       (λ (ne : epoch_of u ≡ epoch_of s → ⊥).
       let less : epoch_of s < epoch_of u = omega (arith, ne, x.epochs) in
       let new = x.later less in
@@ -903,7 +904,7 @@ module _ (s u : State) (number : ℕ) (p : Participant) (t : Tally) (m : Msg) (r
         let same : epoch_of u ≡ epoch_of s = omega (arith, at, h.known, x.epochs) in
         here-heard s u h.connection x.connection p t m rest same h.user up goes (x.same same)
         (h.here (at ∙ same));
-    behind = behind-after;
+    lags = lagging-after;
   }
 
 holds-up : Leading → (number : ℕ) (t : Exchange) (uplink : List Msg) (tally : Tally)
@@ -947,9 +948,10 @@ holds-done : Leading → (number : ℕ) (t : Exchange) (instruction : Instructio
     → ShutBefore t.past
     → HasPeople (state_of t.past) → IsParticipant (state_of t.past) number t.participant
     → is_gone t.participant.link instruction ≡ false → IsSayable instruction
-    → NeverEnds (deed_replies t instruction) → Holds (state_of t.past) number t.participant tally
+    → NeverEnds (instruction_replies t instruction)
+    → Holds (state_of t.past) number t.participant tally
     → Holds (state_of (done t instruction).past) number (done t instruction).participant
-    (tally_from t.participant.state tally (steps_of_deed t instruction))
+    (tally_from t.participant.state tally (steps_of_instruction t instruction))
 holds-done laws number t (Say m) tally before people hp there may goes h =
     holds-said (state_of t.past) number t.participant tally m (gone-say t.participant.link m there)
     may h
@@ -971,18 +973,19 @@ pub holds-exchanged : Leading → (number : ℕ) (t : Exchange) (instruction : I
     (tally : Tally) → ShutBefore t.past
     → HasPeople (state_of t.past) → IsParticipant (state_of t.past) number t.participant
     → IsSayable instruction
-    → NeverEnds (turn_replies t instruction)
+    → NeverEnds (exchange_replies t instruction)
     → Holds (state_of t.past) number t.participant tally
     → Holds (state_of (exchanged t instruction).past) number (exchanged t instruction).participant
-    (tally_from t.participant.state tally (steps_of_turn t instruction))
+    (tally_from t.participant.state tally (steps_of_exchange t instruction))
 holds-exchanged laws number t instruction tally before people hp may goes h =
     by_gone (is_gone t.participant.link instruction) refl goes
   where
     by_gone : (b : Bool) → is_gone t.participant.link instruction ≡ b
-        → NeverEnds (if b then [] else deed_replies t instruction)
+        → NeverEnds (if b then [] else instruction_replies t instruction)
         → Holds (state_of (if b then t else done t instruction).past) number
         (if b then t else done t instruction).participant
-        (tally_from t.participant.state tally (if b then [] else steps_of_deed t instruction))
+        (tally_from t.participant.state tally
+        (if b then [] else steps_of_instruction t instruction))
     by_gone true is goes = h
     by_gone false is goes =
         holds-done laws number t instruction tally before people hp is may goes h
@@ -1010,13 +1013,13 @@ kept-here laws epoch live ready p t entry prefix h fork there =
     by_own : (b : Bool) → is_own_answer p.state entry ≡ b
         → (if b then answered p.state.fork entry.msg else Stranger) ≡ Lost → ⊥
     by_own true own lost =
-        let front = next-front epoch live ready p t entry prefix h there own in
+        let first = next-first epoch live ready p t entry prefix h there own in
         ⊎_elim (λ (dropped : answered p.state.fork entry.msg ≡ Dropped). let e : Dropped
         ≡ Lost = sym dropped ∙ lost in cc)
         (λ (echo : answered p.state.fork entry.msg ≡ Echo). let e : Echo ≡ Lost = sym echo
         ∙ lost in cc)
-        (own-front laws p.state.fork entry.msg front.send front.rest (fork ∙ front.is)
-        front.answers)
+        (own-first laws p.state.fork entry.msg first.send first.rest (fork ∙ first.is)
+        first.answers)
     by_own false own lost = cc
 
 -- it doesn't lose the fork
@@ -1038,6 +1041,6 @@ next-kept laws number t tally entry people hp h up there lost =
     let user : 1 ≤ p.state.user =
     omega (arith, l.user, people.connections.users number l.connection l.found) in
     let strange = server-at p.state s.live entry user people.server
-    (next-behind s p.state (Some entry) less there) in
+    (next-lagging s p.state (Some entry) less there) in
     let e : Stranger ≡ Lost = sym strange ∙ lost in cc)
     (cases_eq p.state.epoch (epoch_of s))

@@ -30,9 +30,10 @@ use Rattle.dp_sim.specs.World.{World, participant_of, new_participant, with_join
 use Rattle.dp_sim.specs.World.{with_exchange, acted, after, first_world, world_after}
 use Rattle.dp_sim.specs.Report.{along}
 use Rattle.dp_sim.specs.Invariant.{IsWorld, IsParticipant, IsSayable, SaysNoControl}
-use Rattle.dp_sim_laws.specs.OwnSteps.{turn_of, next_of, steps_of_turn, own_step, own_steps}
+use Rattle.dp_sim_laws.specs.OwnSteps.{exchange_of, next_of, steps_of_exchange, own_step, own_steps}
 use Rattle.dp_sim_laws.specs.OwnSteps.{welcome_of, GoesBy}
-use Rattle.dp_sim_laws.specs.Tally.{Tally, no_sends, tally_step, tally_from, tally_of, turn_replies}
+use Rattle.dp_sim_laws.specs.Tally.{Tally, no_sends, tally_step, tally_from, tally_of}
+use Rattle.dp_sim_laws.specs.Tally.{exchange_replies}
 use Rattle.dp_sim_laws.specs.Tally.{replies, IsUnended}
 use Rattle.dp_lists.specs.Numbered.{numbered}
 use Rattle.dp_lists.proofs.Options.{at_some, if_some}
@@ -109,7 +110,7 @@ holds-new past number conn user epoch at w is =
           taken = refl;
           more = λ on. w.ready;
         };
-        behind = λ less. absurd (omega (arith, less, w.opened));
+        lags = λ less. absurd (omega (arith, less, w.opened));
       };
     }
 
@@ -172,24 +173,24 @@ holds-other w number actor participant t steps h found passes ne p is =
 holds-own : Leading → (w : World) (number : ℕ) (participant : Participant)
     (instruction : Instruction) (steps : List Step) → Good w number steps
     → participant_of w number ≡ Some participant → IsSayable instruction
-    → NeverEnds (turn_replies (turn_of w participant) instruction)
+    → NeverEnds (exchange_replies (exchange_of w participant) instruction)
     → (p : Participant) → participant_of (with_exchange w number
-    (exchanged (turn_of w participant) instruction)) number ≡ Some p
-    → Holds (state_of (exchanged (turn_of w participant) instruction).past) number p
-    (tally_of p.state (steps ++ steps_of_turn (turn_of w participant) instruction))
+    (exchanged (exchange_of w participant) instruction)) number ≡ Some p
+    → Holds (state_of (exchanged (exchange_of w participant) instruction).past) number p
+    (tally_of p.state (steps ++ steps_of_exchange (exchange_of w participant) instruction))
 holds-own laws w number participant instruction steps h found may goes p is =
-    let t = exchanged (turn_of w participant) instruction in
-    let more = steps_of_turn (turn_of w participant) instruction in
+    let t = exchanged (exchange_of w participant) instruction in
+    let more = steps_of_exchange (exchange_of w participant) instruction in
     let hp = at_some (participant_of w number) (IsParticipant (state_of w.past) number) participant
     (h.world.participants number) found in
     let e : Some t.participant ≡ Some p = sym (numbered-same w.participants number participant
     t.participant found) ∙ is in
     let same : t.participant ≡ p = cc in
     let tally = tally-more participant.state t.participant.state steps more
-    (h.goes.some participant found) (exchange-steps (turn_of w participant) instruction) in
+    (h.goes.some participant found) (exchange-steps (exchange_of w participant) instruction) in
     subst (λ q. Holds (state_of t.past) number q (tally_of q.state (steps ++ more))) same
     (subst (Holds (state_of t.past) number t.participant) (sym tally)
-    (holds-exchanged laws number (turn_of w participant) instruction
+    (holds-exchanged laws number (exchange_of w participant) instruction
     (tally_of participant.state steps) h.world.before h.people hp may goes
     (h.holds participant found)))
 
@@ -197,32 +198,34 @@ leaves-acted : Leading → (w : World) (number actor : ℕ) (instruction : Instr
     (steps : List Step) → Good w number steps
     → IsSayable instruction → NeverEnds (replies w (Act actor instruction))
     → Leaves (acted w actor instruction) number (steps ++ own_step number w (Act actor instruction))
-leaves-acted laws w number actor instruction steps h may goes = by_peer (participant_of w actor)
+leaves-acted laws w number actor instruction steps h may goes =
+    by_participant (participant_of w actor)
     refl goes
   where
-    by_peer : (o : Option Participant) → participant_of w actor ≡ o
-        → NeverEnds (option_map_or (λ participant. turn_replies (turn_of w participant) instruction)
+    by_participant : (o : Option Participant) → participant_of w actor ≡ o
+        → NeverEnds
+        (option_map_or (λ participant. exchange_replies (exchange_of w participant) instruction)
         o [])
         → Leaves (option_map_or (λ participant. with_exchange w actor
-        (exchanged (turn_of w participant) instruction)) o w) number
+        (exchanged (exchange_of w participant) instruction)) o w) number
         (steps ++ (if actor == number then option_map_or
-        (λ participant. steps_of_turn (turn_of w participant) instruction) o [] else []))
-    by_peer None found goes =
+        (λ participant. steps_of_exchange (exchange_of w participant) instruction) o [] else []))
+    by_participant None found goes =
         subst (Leaves w number) (sym (ap (λ more. steps ++ more) (none-if (actor == number) [] refl)
         ∙ append-nil steps))
         (record { people = h.people; holds = h.holds })
-    by_peer (Some participant) found goes =
-        let t = exchanged (turn_of w participant) instruction in
-        let passes = exchange-passes laws (turn_of w participant) instruction h.world.before
+    by_participant (Some participant) found goes =
+        let t = exchanged (exchange_of w participant) instruction in
+        let passes = exchange-passes laws (exchange_of w participant) instruction h.world.before
         h.people goes in
         ⊎_elim (λ (same : number ≡ actor).
         let there : participant_of w number ≡ Some participant = ap (participant_of w) same
         ∙ found in
         subst (λ b. Leaves (with_exchange w actor t) number
-        (steps ++ (if b then steps_of_turn (turn_of w participant) instruction else [])))
+        (steps ++ (if b then steps_of_exchange (exchange_of w participant) instruction else [])))
         (sym (eq-eqb actor number (sym same)))
         (subst (λ n. Leaves (with_exchange w n t) number
-        (steps ++ steps_of_turn (turn_of w participant) instruction)) same
+        (steps ++ steps_of_exchange (exchange_of w participant) instruction)) same
         (record {
           people = passes.people;
           holds = holds-own laws w number participant instruction
@@ -230,7 +233,7 @@ leaves-acted laws w number actor instruction steps h may goes = by_peer (partici
         })))
         (λ (ne : number ≡ actor → ⊥).
         subst (λ b. Leaves (with_exchange w actor t) number
-        (steps ++ (if b then steps_of_turn (turn_of w participant) instruction else [])))
+        (steps ++ (if b then steps_of_exchange (exchange_of w participant) instruction else [])))
         (sym (ne_eqb actor number (λ e. ne (sym e))))
         (subst (Leaves (with_exchange w actor t) number) (sym (append-nil steps))
         (record {
@@ -354,11 +357,11 @@ fork-plain laws actions number h =
     (λ p is. (g.holds p is).fork)
 
 next-some : (w : World) (p : Participant) (entry : Entry) → next_of w p ≡ Some entry
-    → (is_gone p.link Take ≡ false) × (next_entry (turn_of w p) ≡ Some entry)
+    → (is_gone p.link Take ≡ false) × (next_entry (exchange_of w p) ≡ Some entry)
 next-some w p entry = by_gone (is_gone p.link Take)
   where
-    by_gone : (b : Bool) → (if b then None else next_entry (turn_of w p)) ≡ Some entry
-        → (b ≡ false) × (next_entry (turn_of w p) ≡ Some entry)
+    by_gone : (b : Bool) → (if b then None else next_entry (exchange_of w p)) ≡ Some entry
+        → (b ≡ false) × (next_entry (exchange_of w p) ≡ Some entry)
     by_gone true is = cc
     by_gone false is = (refl, is)
 
@@ -376,5 +379,6 @@ fork-kept laws actions number h =
     let hp = at_some (participant_of w number) (IsParticipant (state_of w.past) number) p
     (g.world.participants number) is in
     let some = next-some w p entry next in
-    next-kept laws.leading number (turn_of w p) (tally_of p.state (own_steps number actions)) entry
+    next-kept laws.leading number (exchange_of w p) (tally_of p.state (own_steps number actions))
+    entry
     g.people hp (g.holds p is) (not-gone p.link Take some.0) some.1))

@@ -25,7 +25,8 @@ use Rattle.dp_sim.specs.Exchanges.{next_entry, took_next, done, exchanged}
 use Rattle.dp_sim.specs.World.{World, participant_of, new_participant, with_joined, joined}
 use Rattle.dp_sim.specs.World.{with_exchange, acted, after, first_world, world_after}
 use Rattle.dp_sim.specs.Report.{along}
-use Rattle.dp_sim_laws.specs.OwnSteps.{turn_of, steps_of_deed, steps_of_turn, own_step, own_steps}
+use Rattle.dp_sim_laws.specs.OwnSteps.{exchange_of, steps_of_instruction, steps_of_exchange}
+use Rattle.dp_sim_laws.specs.OwnSteps.{own_step, own_steps}
 use Rattle.dp_sim_laws.specs.OwnSteps.{welcome_of, GoesBy}
 use Rattle.dp_lists.specs.Numbered.{numbered}
 use Rattle.dp_lists.proofs.Options.{if_some}
@@ -76,7 +77,7 @@ up-state t (m ∷ rest) =
     (λ yes. refl) (λ no. refl)
 
 done-steps : (t : Exchange) (instruction : Instruction) → (done t instruction).participant.state
-    ≡ after_steps t.participant.state (steps_of_deed t instruction)
+    ≡ after_steps t.participant.state (steps_of_instruction t instruction)
 done-steps t (Say m) = refl
 done-steps t Up = up-state t t.participant.uplink
 done-steps t Take = next-steps t (next_entry t)
@@ -87,11 +88,11 @@ done-steps t Cut = refl
 -- an exchange leads where its steps do
 pub exchange-steps : (t : Exchange) (instruction : Instruction)
     → (exchanged t instruction).participant.state ≡ after_steps t.participant.state
-    (steps_of_turn t instruction)
+    (steps_of_exchange t instruction)
 exchange-steps t instruction = by_gone (is_gone t.participant.link instruction)
   where
     by_gone : (b : Bool) → (if b then t else done t instruction).participant.state
-        ≡ after_steps t.participant.state (if b then [] else steps_of_deed t instruction)
+        ≡ after_steps t.participant.state (if b then [] else steps_of_instruction t instruction)
     by_gone true = refl
     by_gone false = done-steps t instruction
 
@@ -163,29 +164,29 @@ goes-exchanged w number participant t steps more found is h =
 goes-acted : (w : World) (number actor : ℕ) (instruction : Instruction) (steps : List Step)
     → Goes w number steps
     → Goes (acted w actor instruction) number (steps ++ own_step number w (Act actor instruction))
-goes-acted w number actor instruction steps h = by_peer (participant_of w actor) refl
+goes-acted w number actor instruction steps h = by_participant (participant_of w actor) refl
   where
-    by_peer : (o : Option Participant) → participant_of w actor ≡ o
+    by_participant : (o : Option Participant) → participant_of w actor ≡ o
         → Goes (option_map_or (λ participant. with_exchange w actor
-        (exchanged (turn_of w participant) instruction)) o w) number
+        (exchanged (exchange_of w participant) instruction)) o w) number
         (steps ++ (if actor == number then option_map_or
-        (λ participant. steps_of_turn (turn_of w participant) instruction) o [] else []))
-    by_peer None found = subst (Goes w number) (sym (ap (λ more. steps ++ more)
+        (λ participant. steps_of_exchange (exchange_of w participant) instruction) o [] else []))
+    by_participant None found = subst (Goes w number) (sym (ap (λ more. steps ++ more)
         (none-if (actor == number) [] refl) ∙ append-nil steps)) h
-    by_peer (Some participant) found =
-        let t = exchanged (turn_of w participant) instruction in
+    by_participant (Some participant) found =
+        let t = exchanged (exchange_of w participant) instruction in
         ⊎_elim (λ (same : number ≡ actor).
         subst (λ b. Goes (with_exchange w actor t) number
-        (steps ++ (if b then steps_of_turn (turn_of w participant) instruction else [])))
+        (steps ++ (if b then steps_of_exchange (exchange_of w participant) instruction else [])))
         (sym (eq-eqb actor number (sym same)))
         (subst (λ n. Goes (with_exchange w n t) number (steps
-        ++ steps_of_turn (turn_of w participant) instruction)) same
-        (goes-exchanged w number participant t steps (steps_of_turn (turn_of w participant)
+        ++ steps_of_exchange (exchange_of w participant) instruction)) same
+        (goes-exchanged w number participant t steps (steps_of_exchange (exchange_of w participant)
         instruction) (ap (participant_of w) same ∙ found)
-        (exchange-steps (turn_of w participant) instruction) h)))
+        (exchange-steps (exchange_of w participant) instruction) h)))
         (λ (ne : number ≡ actor → ⊥).
         subst (λ b. Goes (with_exchange w actor t) number
-        (steps ++ (if b then steps_of_turn (turn_of w participant) instruction else [])))
+        (steps ++ (if b then steps_of_exchange (exchange_of w participant) instruction else [])))
         (sym (ne_eqb actor number (λ e. ne (sym e))))
         (subst (Goes (with_exchange w actor t) number) (sym (append-nil steps))
         (goes-other w number actor participant t steps found ne h)))

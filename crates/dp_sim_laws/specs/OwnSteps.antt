@@ -14,33 +14,33 @@ use Rattle.dp_sim.specs.World.{World, first_world, participant_of}
 use Rattle.dp_sim.specs.Report.{along}
 
 -- the client's exchange in a world
-abbrev pub turn_of : World → Participant → Exchange
-turn_of w participant = record { past = w.past; participant = participant }
+abbrev pub exchange_of : World → Participant → Exchange
+exchange_of w participant = record { past = w.past; participant = participant }
 
 -- the entry that the client takes next, if it still takes and there is one
 abbrev pub next_of : World → Participant → Option Entry
 next_of w participant = if is_gone participant.link Take then None
-    else next_entry (turn_of w participant)
+    else next_entry (exchange_of w participant)
 
 -- the steps that an instruction is, which the client still does
-abbrev pub steps_of_deed : Exchange → Instruction → List Step
-steps_of_deed t (Say m) = Said m ∷ []
-steps_of_deed t Take = map Took (option_to_list (next_entry t))
-steps_of_deed t Up = []
-steps_of_deed t Reset = []
-steps_of_deed t Leave = []
-steps_of_deed t Cut = []
+abbrev pub steps_of_instruction : Exchange → Instruction → List Step
+steps_of_instruction t (Say m) = Said m ∷ []
+steps_of_instruction t Take = map Took (option_to_list (next_entry t))
+steps_of_instruction t Up = []
+steps_of_instruction t Reset = []
+steps_of_instruction t Leave = []
+steps_of_instruction t Cut = []
 
 -- the steps that an instruction of a client is
-abbrev pub steps_of_turn : Exchange → Instruction → List Step
-steps_of_turn t instruction = if is_gone t.participant.link instruction then []
-    else steps_of_deed t instruction
+abbrev pub steps_of_exchange : Exchange → Instruction → List Step
+steps_of_exchange t instruction = if is_gone t.participant.link instruction then []
+    else steps_of_instruction t instruction
 
 -- the steps that an action is of the client of a number
 abbrev pub own_step : ℕ → World → Action → List Step
 own_step number w (Act client instruction) =
     if client == number
-    then option_map_or (λ participant. steps_of_turn (turn_of w participant) instruction)
+    then option_map_or (λ participant. steps_of_exchange (exchange_of w participant) instruction)
     (participant_of w client) []
     else []
 own_step number w (Join name registered) = []

@@ -18,7 +18,7 @@ use Rattle.dp_sim.specs.Exchanges.{Exchange, is_gone, heard}
 use Rattle.dp_sim.specs.World.{World, first_world, participant_of}
 use Rattle.dp_sim.specs.Report.{along}
 use Rattle.dp_sim.specs.Invariant.{SaysNoControl}
-use Rattle.dp_sim_laws.specs.OwnSteps.{turn_of, welcome_of}
+use Rattle.dp_sim_laws.specs.OwnSteps.{exchange_of, welcome_of}
 
 -- what was said since the Welcome, or since the last mark that was acknowledged, and how many own
 -- answers were taken since then
@@ -56,23 +56,23 @@ up_replies t (m ∷ rest) =
     ∷ [] else [])
 
 -- the replies to the events of an instruction that the client still does
-abbrev pub deed_replies : Exchange → Instruction → List Reply
-deed_replies t (Say m) = []
-deed_replies t Up = up_replies t t.participant.uplink
-deed_replies t Take = []
-deed_replies t Reset = []
-deed_replies t Leave = []
-deed_replies t Cut = sure_answer t.past (event.Close t.participant.conn) ∷ []
+abbrev pub instruction_replies : Exchange → Instruction → List Reply
+instruction_replies t (Say m) = []
+instruction_replies t Up = up_replies t t.participant.uplink
+instruction_replies t Take = []
+instruction_replies t Reset = []
+instruction_replies t Leave = []
+instruction_replies t Cut = sure_answer t.past (event.Close t.participant.conn) ∷ []
 
-abbrev pub turn_replies : Exchange → Instruction → List Reply
-turn_replies t instruction = if is_gone t.participant.link instruction then []
-    else deed_replies t instruction
+abbrev pub exchange_replies : Exchange → Instruction → List Reply
+exchange_replies t instruction = if is_gone t.participant.link instruction then []
+    else instruction_replies t instruction
 
 -- the replies to the events of an action
 abbrev pub replies : World → Action → List Reply
 replies w (Join name registered) = sure_answer w.past (event.Open name registered) ∷ []
 replies w (Act client instruction) =
-    option_map_or (λ participant. turn_replies (turn_of w participant) instruction)
+    option_map_or (λ participant. exchange_replies (exchange_of w participant) instruction)
     (participant_of w client) []
 replies w (Show client kind) = []
 

@@ -31,7 +31,7 @@ at_root row = new_row row.id 0 row.group row.title
 
 -- the first rows in their places, the others at the root
 abbrev pub half : List LayerRow → List LayerRow → List LayerRow
-half front rest = map in_place front ++ map at_root rest
+half prefix rest = map in_place prefix ++ map at_root rest
 
 -- ---- what is found by an id
 
@@ -43,13 +43,13 @@ root_parent (row ∷ rest) id =
     (cases_Bool (row.id == id))
 
 -- a row's parent there is its parent in the whole, or the root
-pub half_parent : (front rest : List LayerRow) (id : ℕ)
-    → (parent_of (half front rest) id ≡ parent_of (front ++ rest) id)
-    ⊎ (parent_of (half front rest) id ≡ 0)
+pub half_parent : (prefix rest : List LayerRow) (id : ℕ)
+    → (parent_of (half prefix rest) id ≡ parent_of (prefix ++ rest) id)
+    ⊎ (parent_of (half prefix rest) id ≡ 0)
 half_parent [] rest id = inr (root_parent rest id)
-half_parent (row ∷ front) rest id =
+half_parent (row ∷ prefix) rest id =
     ⊎_elim (λ (here : (row.id == id) ≡ true). inl (rw here refl))
-    (λ (missed : (row.id == id) ≡ false). rw missed (half_parent front rest id))
+    (λ (missed : (row.id == id) ≡ false). rw missed (half_parent prefix rest id))
     (cases_Bool (row.id == id))
 
 -- what is read of the row of an id, where a row says the same in its place and at the root
@@ -64,35 +64,36 @@ module _ {X : Type 0} (read : Option LayerRow → X)
       (λ (missed : (row.id == id) ≡ false). rw missed (root_read rest id))
       (cases_Bool (row.id == id))
 
-  half_read : (front rest : List LayerRow) (id : ℕ)
-      → read (row_of (half front rest) id) ≡ read (row_of (front ++ rest) id)
+  half_read : (prefix rest : List LayerRow) (id : ℕ)
+      → read (row_of (half prefix rest) id) ≡ read (row_of (prefix ++ rest) id)
   half_read [] rest id = root_read rest id
-  half_read (row ∷ front) rest id =
+  half_read (row ∷ prefix) rest id =
       ⊎_elim (λ (here : (row.id == id) ≡ true). rw here (placed row))
-      (λ (missed : (row.id == id) ≡ false). rw missed (half_read front rest id))
+      (λ (missed : (row.id == id) ≡ false). rw missed (half_read prefix rest id))
       (cases_Bool (row.id == id))
 
-pub half_has : (front rest : List LayerRow) (id : ℕ)
-    → has_row (half front rest) id ≡ has_row (front ++ rest) id
-half_has front rest id = half_read (λ o. is_some o) (λ row. refl) (λ row. refl) front rest id
+pub half_has : (prefix rest : List LayerRow) (id : ℕ)
+    → has_row (half prefix rest) id ≡ has_row (prefix ++ rest) id
+half_has prefix rest id = half_read (λ o. is_some o) (λ row. refl) (λ row. refl) prefix rest id
 
-half_group : (front rest : List LayerRow) (id : ℕ)
-    → is_group_row (half front rest) id ≡ is_group_row (front ++ rest) id
-half_group front rest id =
-    half_read (λ o. option_map_or (λ row. row.group) o false) (λ row. refl) (λ row. refl) front rest
+half_group : (prefix rest : List LayerRow) (id : ℕ)
+    → is_group_row (half prefix rest) id ≡ is_group_row (prefix ++ rest) id
+half_group prefix rest id =
+    half_read (λ o. option_map_or (λ row. row.group) o false) (λ row. refl) (λ row. refl) prefix
+    rest
     id
 
-pub half_root_or_group : (front rest : List LayerRow) (id : ℕ)
-    → is_root_or_group (half front rest) id ≡ is_root_or_group (front ++ rest) id
-half_root_or_group front rest id = ap (λ b. id == 0 || b) (half_group front rest id)
+pub half_root_or_group : (prefix rest : List LayerRow) (id : ℕ)
+    → is_root_or_group (half prefix rest) id ≡ is_root_or_group (prefix ++ rest) id
+half_root_or_group prefix rest id = ap (λ b. id == 0 || b) (half_group prefix rest id)
 
 -- a row of the list is present
-pub has_middle : (front : List LayerRow) (row : LayerRow) (rest : List LayerRow)
-    → has_row (front ++ row ∷ rest) row.id ≡ true
+pub has_middle : (prefix : List LayerRow) (row : LayerRow) (rest : List LayerRow)
+    → has_row (prefix ++ row ∷ rest) row.id ≡ true
 has_middle [] row rest = rw (eq-eqb row.id row.id refl) refl
-has_middle (r ∷ front) row rest =
+has_middle (r ∷ prefix) row rest =
     ⊎_elim (λ (here : (r.id == row.id) ≡ true). rw here refl)
-    (λ (missed : (r.id == row.id) ≡ false). rw missed (has_middle front row rest))
+    (λ (missed : (r.id == row.id) ≡ false). rw missed (has_middle prefix row rest))
     (cases_Bool (r.id == row.id))
 
 -- where no row has an id, the root is above it
@@ -171,12 +172,12 @@ module _ (rows now : List LayerRow)
 -- ---- a row that is moved into its parent
 
 -- the row of the list is found by its id, where none before it has the id
-pub parent_middle : (front : List LayerRow) (row : LayerRow) (rest : List LayerRow)
-    → NonePasses (has_id row.id) front → parent_of (front ++ row ∷ rest) row.id ≡ row.parent
+pub parent_middle : (prefix : List LayerRow) (row : LayerRow) (rest : List LayerRow)
+    → NonePasses (has_id row.id) prefix → parent_of (prefix ++ row ∷ rest) row.id ≡ row.parent
 parent_middle [] row rest away = rw (eq-eqb row.id row.id refl) refl
-parent_middle (r ∷ front) row rest away =
+parent_middle (r ∷ prefix) row rest away =
     let P : LayerRow → Type 0 = λ q. has_id row.id q ≡ false in
-    rw (All-head P r front away) (parent_middle front row rest (All-tail P r front away))
+    rw (All-head P r prefix away) (parent_middle prefix row rest (All-tail P r prefix away))
 
 -- an id that no row has
 pub has_none : (rows : List LayerRow) (id : ℕ) → NonePasses (has_id id) rows
@@ -187,77 +188,77 @@ has_none (r ∷ rows) id away =
     rw (All-head P r rows away) (has_none rows id (All-tail P r rows away))
 
 -- tests of the ids of these rows are tests of those of the whole
-half_all : (test : ℕ → Bool) (front rest : List LayerRow)
-    → list_all (λ row. test row.id) (half front rest)
-    ≡ list_all (λ row. test row.id) (front ++ rest)
-half_all test front rest =
-    list_all-append (λ row. test row.id) (map in_place front) (map at_root rest)
+half_all : (test : ℕ → Bool) (prefix rest : List LayerRow)
+    → list_all (λ row. test row.id) (half prefix rest)
+    ≡ list_all (λ row. test row.id) (prefix ++ rest)
+half_all test prefix rest =
+    list_all-append (λ row. test row.id) (map in_place prefix) (map at_root rest)
     ∙ ap (λ b. b && list_all (λ row. test row.id) (map at_root rest))
-    (list_all-map (λ row. test row.id) in_place front)
-    ∙ ap (λ b. list_all (λ row. test row.id) front && b)
+    (list_all-map (λ row. test row.id) in_place prefix)
+    ∙ ap (λ b. list_all (λ row. test row.id) prefix && b)
     (list_all-map (λ row. test row.id) at_root rest)
-    ∙ sym (list_all-append (λ row. test row.id) front rest)
+    ∙ sym (list_all-append (λ row. test row.id) prefix rest)
 
-module _ (front rest : List LayerRow) (tree : IsLayerTree (front ++ rest)) where
+module _ (prefix rest : List LayerRow) (tree : IsLayerTree (prefix ++ rest)) where
   -- no row's depth is above the limit
-  pub half_within : are_within (half front rest) ≡ true
+  pub half_within : are_within (half prefix rest) ≡ true
   half_within =
-      half_all (is_within nesting_limit (half front rest)) front rest
-      ∙ list_all-from_AllPass (λ row. is_within nesting_limit (half front rest) row.id)
-      (front ++ rest) (λ k d in_list.
-      within_stays (front ++ rest) (half front rest) (half_parent front rest) nesting_limit
-      (get_or (front ++ rest) k d).id (tree.within k d in_list))
+      half_all (is_within nesting_limit (half prefix rest)) prefix rest
+      ∙ list_all-from_AllPass (λ row. is_within nesting_limit (half prefix rest) row.id)
+      (prefix ++ rest) (λ k d in_list.
+      within_stays (prefix ++ rest) (half prefix rest) (half_parent prefix rest) nesting_limit
+      (get_or (prefix ++ rest) k d).id (tree.within k d in_list))
 
-  half_numbered : All (λ row. row.id ≢ 0) (half front rest)
+  half_numbered : All (λ row. row.id ≢ 0) (half prefix rest)
   half_numbered =
-      All-append (λ row. row.id ≢ 0) (map in_place front) (map at_root rest)
-      (All-map (λ row. row.id ≢ 0) in_place front
-      (All-before (λ row. row.id ≢ 0) front rest tree.numbered))
+      All-append (λ row. row.id ≢ 0) (map in_place prefix) (map at_root rest)
+      (All-map (λ row. row.id ≢ 0) in_place prefix
+      (All-before (λ row. row.id ≢ 0) prefix rest tree.numbered))
       (All-map (λ row. row.id ≢ 0) at_root rest
-      (All-after (λ row. row.id ≢ 0) front rest tree.numbered))
+      (All-after (λ row. row.id ≢ 0) prefix rest tree.numbered))
 
-  pub half_root : parent_of (half front rest) 0 ≡ 0
-  half_root = parent-none (half front rest) half_numbered
+  pub half_root : parent_of (half prefix rest) 0 ≡ 0
+  half_root = parent-none (half prefix rest) half_numbered
 
-  pub whole_root : parent_of (front ++ rest) 0 ≡ 0
-  whole_root = parent-none (front ++ rest) tree.numbered
+  pub whole_root : parent_of (prefix ++ rest) 0 ≡ 0
+  whole_root = parent-none (prefix ++ rest) tree.numbered
 
-module _ (front : List LayerRow) (row : LayerRow) (rest : List LayerRow)
-    (tree : IsLayerTree (front ++ row ∷ rest)) where
+module _ (prefix : List LayerRow) (row : LayerRow) (rest : List LayerRow)
+    (tree : IsLayerTree (prefix ++ row ∷ rest)) where
   pub row_numbered : row.id ≢ 0
-  row_numbered = All-middle (λ r. r.id ≢ 0) front row rest tree.numbered
+  row_numbered = All-middle (λ r. r.id ≢ 0) prefix row rest tree.numbered
 
-  pub front_away : NonePasses (has_id row.id) front
-  front_away = before_away (λ r. r.id) front row rest tree.distinct
+  pub prefix_lacks : NonePasses (has_id row.id) prefix
+  prefix_lacks = before_away (λ r. r.id) prefix row rest tree.distinct
 
   pub rest_away : NonePasses (has_id row.id) rest
-  rest_away = after_away (λ r. r.id) front row rest tree.distinct
+  rest_away = after_away (λ r. r.id) prefix row rest tree.distinct
 
-  own_parent : parent_of (front ++ row ∷ rest) row.id ≡ row.parent
-  own_parent = parent_middle front row rest front_away
+  own_parent : parent_of (prefix ++ row ∷ rest) row.id ≡ row.parent
+  own_parent = parent_middle prefix row rest prefix_lacks
 
-  own_within : is_within nesting_limit (front ++ row ∷ rest) row.id ≡ true
+  own_within : is_within nesting_limit (prefix ++ row ∷ rest) row.id ≡ true
   own_within = All-middle
-      (λ r. is_within nesting_limit (front ++ row ∷ rest) r.id ≡ true) front row rest tree.within
+      (λ r. is_within nesting_limit (prefix ++ row ∷ rest) r.id ≡ true) prefix row rest tree.within
 
   -- its parent is the root or a group
-  pub parent_there : is_root_or_group (half front (row ∷ rest)) row.parent ≡ true
+  pub parent_there : is_root_or_group (half prefix (row ∷ rest)) row.parent ≡ true
   parent_there =
-      half_root_or_group front (row ∷ rest) row.parent
-      ∙ All-middle (λ r. is_root_or_group (front ++ row ∷ rest) r.parent ≡ true) front row rest
+      half_root_or_group prefix (row ∷ rest) row.parent
+      ∙ All-middle (λ r. is_root_or_group (prefix ++ row ∷ rest) r.parent ≡ true) prefix row rest
       tree.parents
 
   -- and neither the row nor below it
-  pub parent_free : is_in (half front (row ∷ rest)) row.parent row.id ≡ false
+  pub parent_free : is_in (half prefix (row ∷ rest)) row.parent row.id ≡ false
   parent_free =
       or_from (row.parent == row.id)
-      (is_below nesting_limit (half front (row ∷ rest)) row.parent row.id)
+      (is_below nesting_limit (half prefix (row ∷ rest)) row.parent row.id)
       (ap (λ p. p == row.id) (sym own_parent)
-      ∙ parent_other (front ++ row ∷ rest) (half front (row ∷ rest))
-      (half_parent front (row ∷ rest)) (whole_root front (row ∷ rest) tree) nesting_limit row.id
+      ∙ parent_other (prefix ++ row ∷ rest) (half prefix (row ∷ rest))
+      (half_parent prefix (row ∷ rest)) (whole_root prefix (row ∷ rest) tree) nesting_limit row.id
       row_numbered own_within)
-      (ap (λ p. is_below nesting_limit (half front (row ∷ rest)) p row.id) (sym own_parent)
-      ∙ parent_apart (front ++ row ∷ rest) (half front (row ∷ rest))
-      (half_parent front (row ∷ rest)) (half_root front (row ∷ rest) tree)
-      (whole_root front (row ∷ rest) tree) nesting_limit nesting_limit row.id row_numbered
+      (ap (λ p. is_below nesting_limit (half prefix (row ∷ rest)) p row.id) (sym own_parent)
+      ∙ parent_apart (prefix ++ row ∷ rest) (half prefix (row ∷ rest))
+      (half_parent prefix (row ∷ rest)) (half_root prefix (row ∷ rest) tree)
+      (whole_root prefix (row ∷ rest) tree) nesting_limit nesting_limit row.id row_numbered
       own_within)

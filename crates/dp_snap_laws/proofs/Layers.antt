@@ -163,42 +163,44 @@ module _ (board : Board) where
         not_true true h = sym h
         not_true false h = refl
 
-    pub fill_all : (front rest : List (Row (List Channels))) → board.rows ≡ front ++ rest
-        → fold draw (with_rows board (front ++ map blank_row rest))
+    pub fill_all : (prefix rest : List (Row (List Channels))) → board.rows ≡ prefix ++ rest
+        → fold draw (with_rows board (prefix ++ map blank_row rest))
         (flat_map (layer_puts board) (layers_of rest))
-        ≡ with_rows board (front ++ rest)
-    fill_all front [] is = refl
-    fill_all front (row ∷ rest) is =
+        ≡ with_rows board (prefix ++ rest)
+    fill_all prefix [] is = refl
+    fill_all prefix (row ∷ rest) is =
         let number = λ (r : Row (List Channels)). r.layer.id in
-        let ids : IsDistinct ◌==◌ (map number (front ++ row ∷ rest)) =
+        let ids : IsDistinct ◌==◌ (map number (prefix ++ row ∷ rest)) =
         subst (λ rs. IsDistinct ◌==◌ (map number rs)) is distinct in
-        let before = before_away number front row rest ids in
+        let before = before_away number prefix row rest ids in
         let after : NonePasses (λ r. r.layer.id == row.layer.id) (map blank_row rest) =
         All-map (λ (r : Row (List Channels)). (r.layer.id == row.layer.id) ≡ false) blank_row rest
-        (after_away number front row rest ids) in
+        (after_away number prefix row rest ids) in
         let found : content_of board.rows row.layer.id ≡ row.content =
-        All-middle (λ (r : Row (List Channels)). content_of board.rows r.layer.id ≡ r.content) front
+        All-middle (λ (r : Row (List Channels)). content_of board.rows r.layer.id ≡ r.content)
+        prefix
         row rest
         (subst (λ rs. All (λ (r : Row (List Channels)).
         content_of board.rows r.layer.id ≡ r.content) rs) is
         (content_itself board.rows whole.tree.layers.distinct)) in
         let kind : is_some row.content ≡ not row.layer.group =
-        All-middle (λ (r : Row (List Channels)). is_some r.content ≡ not r.layer.group) front row
+        All-middle (λ (r : Row (List Channels)). is_some r.content ≡ not r.layer.group) prefix row
         rest
         (subst (All (λ (r : Row (List Channels)). is_some r.content ≡ not r.layer.group)) is
         whole.tree.contents) in
         let long : Covers board.width board.height row =
-        All-middle (Covers board.width board.height) front row rest
+        All-middle (Covers board.width board.height) prefix row rest
         (subst (All (Covers board.width board.height)) is whole.each) in
         let each : ForSome row.content (All IsPixel) =
-        All-middle (λ (r : Row (List Channels)). ForSome r.content (All IsPixel)) front row rest
+        All-middle (λ (r : Row (List Channels)). ForSome r.content (All IsPixel)) prefix row rest
         (subst (All (λ (r : Row (List Channels)). ForSome r.content (All IsPixel))) is has) in
-        let on : (front ++ row ∷ []) ++ rest ≡ front ++ row ∷ rest =
-        append_assoc front (row ∷ []) rest in
-        fold-append draw (with_rows board (front ++ blank_row row ∷ map blank_row rest))
+        let on : (prefix ++ row ∷ []) ++ rest ≡ prefix ++ row ∷ rest =
+        append_assoc prefix (row ∷ []) rest in
+        fold-append draw (with_rows board (prefix ++ blank_row row ∷ map blank_row rest))
         (layer_puts board row.layer) (flat_map (layer_puts board) (layers_of rest))
         ∙ ap (λ b. fold draw b (flat_map (layer_puts board) (layers_of rest)))
-        (fill_row front row.layer (map blank_row rest) row.content before after found kind long each
-        ∙ ap (with_rows board) (sym (append_assoc front (row ∷ []) (map blank_row rest))))
-        ∙ fill_all (front ++ row ∷ []) rest (is ∙ sym on)
+        (fill_row prefix row.layer (map blank_row rest) row.content before after found kind long
+        each
+        ∙ ap (with_rows board) (sym (append_assoc prefix (row ∷ []) (map blank_row rest))))
+        ∙ fill_all (prefix ++ row ∷ []) rest (is ∙ sym on)
         ∙ ap (with_rows board) on

@@ -9,7 +9,7 @@ use Rattle.std.proofs.lemmas.List.Elements.{All-nil, All-cons, All-head, All-tai
 use Rattle.std.proofs.lemmas.List.Elements.{All-from_recursion}
 use Rattle.std.proofs.lemmas.List.Sums.{fold-append}
 use Rattle.std.proofs.lemmas.Map.Keys.{IsDistinct-head, IsDistinct-tail}
-use Rattle.dp_layers.specs.Changes.{behind}
+use Rattle.dp_layers.specs.Changes.{inserted_after}
 
 module _ {R : Type 0} where
   -- no item passes the test
@@ -64,14 +64,14 @@ module _ {R : Type 0} where
       (ap (λ zs. z ∷ zs) (filter_rest test xs x ys (All-tail P z xs before) here after))
 
   -- what is put behind the one that passes
-  pub behind_one : (test : R → Bool) (taken xs : List R) (x : R) (ys : List R)
+  pub after_one : (test : R → Bool) (taken xs : List R) (x : R) (ys : List R)
       → NonePasses test xs → test x ≡ true
-      → behind test taken (xs ++ x ∷ ys) ≡ xs ++ x ∷ (taken ++ ys)
-  behind_one test taken [] x ys before here = rw here refl
-  behind_one test taken (z ∷ xs) x ys before here =
+      → inserted_after test taken (xs ++ x ∷ ys) ≡ xs ++ x ∷ (taken ++ ys)
+  after_one test taken [] x ys before here = rw here refl
+  after_one test taken (z ∷ xs) x ys before here =
       let P : R → Type 0 = λ y. test y ≡ false in
       rw (All-head P z xs before)
-      (ap (λ zs. z ∷ zs) (behind_one test taken xs x ys (All-tail P z xs before) here))
+      (ap (λ zs. z ∷ zs) (after_one test taken xs x ys (All-tail P z xs before) here))
 
   map_none : (test : R → Bool) (f : R → R) → ((x : R) → test x ≡ false → f x ≡ x) → (xs : List R)
       → NonePasses test xs → map f xs ≡ xs

@@ -67,7 +67,7 @@ impl Splitter {
     /// Where memory runs out. Nothing has changed then.
     pub fn take_frame(&mut self) -> Result<Option<Frame>, AllocError>
         // What was held begins with the frame, and the rest is kept.
-        ensures front { IfOk result (λ taken. IfSome taken
+        ensures prefix { IfOk result (λ taken. IfSome taken
             (λ f. self.old.held ≡ spelling f ++ self.new.held)) }
         ensures fits { IfOk result (λ taken. IfSome taken IsFrame) }
         ensures raised { IfOk result (λ taken. IfSome taken
@@ -96,8 +96,8 @@ impl Splitter {
 
     /// The first frame, if a whole one is held. It stays where it is, and is held until it is
     /// dropped.
-    pub fn front(&self) -> Option<FrameView<'_>>
-        ensures front { IfSome result (λ f.
+    pub fn peek_frame(&self) -> Option<FrameView<'_>>
+        ensures prefix { IfSome result (λ f.
             self.now.held ≡ spelling f ++ drop (length (spelling f)) self.now.held) }
         ensures fits { IfSome result IsFrame }
         ensures none { IfNone result (HoldsNoFrame self.now.held) }
@@ -108,9 +108,9 @@ impl Splitter {
     }
 
     /// Drops the first frame, which is held whole.
-    pub fn drop_front(&mut self)
+    pub fn drop_frame(&mut self)
         requires { ¬ HoldsNoFrame self.old.held }
-        ensures front { (f : FrameParts) (rest : List ℕ) → IsFrame f
+        ensures prefix { (f : FrameParts) (rest : List ℕ) → IsFrame f
             → self.old.held ≡ spelling f ++ rest
             → self.new ≡ record { held = rest; at = self.old.at + length (spelling f) } }
         ensures count { self.new.at + length self.new.held ≡ self.old.at + length self.old.held }

@@ -6,6 +6,11 @@ ghost use Rattle.std.specs.Prelude.{◌≡◌, ◌+◌, ◌<◌};
 use std::marker::Model;
 use std::sync::ledger::{Blank, Book, Ledger, Share};
 
+/// A step that was counted. It takes no bytes, and comes from `tick` alone: what is built with one
+/// was counted.
+#[derive(Drop)]
+pub struct Counted(());
+
 /// How many steps were taken, over a ledger that no one else has. Nothing but `tick` changes it. It
 /// is seen as that number.
 #[derive(Drop)]
@@ -37,9 +42,10 @@ impl<L: Ledger> Steps<L> {
     }
 
     /// Counts one step.
-    pub fn tick(&mut self)
+    pub fn tick(&mut self) -> Counted
         ensures { self.new ≡ self.old + 1 }
     {
         self.book.add(&mut self.share, 1);
+        Counted(())
     }
 }

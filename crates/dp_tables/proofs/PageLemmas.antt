@@ -42,10 +42,10 @@ page-of-one journal live history end at item is found =
 -- ---- pages of frames that are there
 
 -- entries that stand before the end of both a prefix and its list
-pub page-of-front : (written rest live : List Entry) (end at count : ℕ) → live ≡ written ++ rest
+pub page-of-prefix : (written rest live : List Entry) (end at count : ℕ) → live ≡ written ++ rest
     → at + count ≤ length written → at + count ≤ end → 0 < count
     → take count (drop at written) ≡ page at count (take end live)
-page-of-front written rest live end at count all within before some =
+page-of-prefix written rest live end at count all within before some =
     let whole = at + count in
     let same : take whole (take end live) ≡ take whole written =
     take-take whole end live before
@@ -58,13 +58,13 @@ page-of-front written rest live end at count all within before some =
       most n le = omega (arith, le)
 
 -- there are so many
-pub length-of-front : (written : List Entry) (at count : ℕ) → at + count ≤ length written
+pub length-of-prefix : (written : List Entry) (at count : ℕ) → at + count ≤ length written
     → count ≡ length (take count (drop at written))
-length-of-front written at count within =
+length-of-prefix written at count within =
     sym (length-take-le count (drop at written) (omega (arith, within, length-drop at written)))
 
 -- frames that were put are a page
-pub front-put : {E : Type 0} (r : Result ℕ E) (frames : Frames) (written rest live : List Entry)
+pub prefix-put : {E : Type 0} (r : Result ℕ E) (frames : Frames) (written rest live : List Entry)
     (end at most : ℕ) (old new : List ℕ) → live ≡ written ++ rest
     → at + most ≤ length written → at + most ≤ end → AreFramesOf frames written
     → IfOk r (λ count. 0 < count) → IfOk r (λ count. count ≤ most)
@@ -72,16 +72,17 @@ pub front-put : {E : Type 0} (r : Result ℕ E) (frames : Frames) (written rest 
     → new ≡ old ++ frames_of (take count (drop at entries)))
     → IfOk r (λ count. (m : ℕ) × (count ≡ length (page at m (take end live)))
     × (new ≡ old ++ frames_of (page at m (take end live))))
-front-put (Ok count) frames written rest live end at most old new all within before are some few put
+prefix-put (Ok count) frames written rest live end at most old new all within before are some few
+    put
     =
     let inside : at + count ≤ length written = omega (arith, few, within) in
     let same =
-    page-of-front written rest live end at count all inside (omega (arith, few, before)) some in (
+    page-of-prefix written rest live end at count all inside (omega (arith, few, before)) some in (
       count,
-      length-of-front written at count inside ∙ ap length same,
+      length-of-prefix written at count inside ∙ ap length same,
       put written are ∙ ap (λ xs. old ++ frames_of xs) same,
     )
-front-put (Err e) frames written rest live end at most old new all within before are some few put =
+prefix-put (Err e) frames written rest live end at most old new all within before are some few put =
     put
 
 -- ---- one frame more

@@ -46,7 +46,7 @@ use Rattle.dp_epochs.specs.State.{open_connection, after_shut}
 use Rattle.dp_epochs.specs.Past.{Past, state_of, refused}
 use Rattle.dp_epochs.specs.Laws.{shut_by}
 use Rattle.dp_tables.specs.declared.tables.Tables.TheInside.{Inside}
-use Rattle.dp_tables.specs.Ledger.{state_in}
+use Rattle.dp_tables.specs.SessionLog.{state_in}
 use Rattle.dp_tables.specs.Tables.{mark, is_holder, commands_in, Seen, AreOf}
 use Rattle.dp_tables.specs.Openings.{Holds}
 use Rattle.dp_tables.specs.Inside.{ledger_of, AreTables}
@@ -158,13 +158,13 @@ module _ (s : State) (t : Seen) (are : AreOf s t) where
       (join_plan name registered name user (length s.connections + 1) (here s) second)
   plan-joins name registered user second named found next =
       let free = find_user-passes (λ id. not (is_present s id)) user (free-marked ∙ sym found) in
-      let behind : next_owner (owner_on_join s user) ≡ option_to_list second =
+      let after : next_owner (owner_on_join s user) ≡ option_to_list second =
       ap (λ b. next_owner (if b then None else Some user))
       (any_user-same (is_present s) (mark t.present) marked)
       ∙ sym next in
       record {
         event = refl;
-        acted = cc (opens name registered (Some user) named found, behind);
+        acted = cc (opens name registered (Some user) named found, after);
         change = (refl, not_true (is_present s user) free.1);
         join = record {
           name = name;

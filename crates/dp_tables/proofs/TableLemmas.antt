@@ -49,7 +49,7 @@ use Rattle.dp_events.specs.Rows.{row_of, row_bytes, event_limit, byte_limit, has
 use Rattle.dp_epochs.specs.Past.{Past, state_after, state_of, kept, refused}
 use Rattle.dp_epochs.specs.Laws.{ShutBefore, shut_by}
 use Rattle.dp_frame_log.specs.Frames.{Frames, AreFramesOf, AreWritten}
-use Rattle.dp_tables.specs.Ledger.{Ledger, state_in}
+use Rattle.dp_tables.specs.SessionLog.{SessionLog, state_in}
 use Rattle.dp_tables.specs.Tables.{message_of, IsSay, part_of, join_of, entry_in, IsIn, mark}
 use Rattle.dp_tables.specs.Tables.{IsPart, commands_in, stream_in, IsResetIn, IsJoinedBy, AreJoined}
 use Rattle.dp_tables.specs.Tables.{is_holder, MarksHolders, Seen, AreOf}
@@ -672,18 +672,18 @@ tables-first t ej es ec eq el eb stands ep ee eo eu ek ez none =
 -- ---- ledgers
 
 -- the tables of a ledger
-pub of-ledger : (t : Inside) (l : Ledger) → AreTables t → ledger_of t ≡ l
+pub of-ledger : (t : Inside) (l : SessionLog) → AreTables t → ledger_of t ≡ l
     → AreOf (state_in l) (seen t)
 of-ledger t l are view = subst (λ x. AreOf (state_in x) (seen t)) view are.of
 
 ledger-parts : (j k : List Event) (s t : List ShutAt) (q r : List ℕ) (x y : Bool)
     → j ≡ k → s ≡ t → q ≡ r → x ≡ y
-    → ◌≡◌ {A = Ledger} (record { journal = j; shut = s; quiet = q; room = x })
+    → ◌≡◌ {A = SessionLog} (record { journal = j; shut = s; quiet = q; room = x })
     (record { journal = k; shut = t; quiet = r; room = y })
 ledger-parts j k s t q r x y journal shut quiet room = cc
 
 -- a ledger by its parts
-pub ledger-is : (a b : Ledger) → a.journal ≡ b.journal → a.shut ≡ b.shut → a.quiet ≡ b.quiet
+pub ledger-is : (a b : SessionLog) → a.journal ≡ b.journal → a.shut ≡ b.shut → a.quiet ≡ b.quiet
     → a.room ≡ b.room → a ≡ b
 ledger-is a b journal shut quiet room =
     ledger-parts a.journal b.journal a.shut b.shut a.quiet b.quiet a.room b.room journal shut quiet
@@ -705,7 +705,7 @@ flags-after (Adds c) flags cs same = omega (
 flags-after (Becomes conn c) flags cs same = simp length-set same
 
 -- a past with these events and closings
-past_in : Ledger → Past
+past_in : SessionLog → Past
 past_in l = record {
   journal = l.journal;
   shut = l.shut;

@@ -4,7 +4,7 @@ use Rattle.std.specs.Prelude.{vec_capacity}
 use Rattle.dp_events.specs.Rows.{row_bytes, event_limit, byte_limit}
 use Rattle.dp_tables.specs.declared.tables.Tables.TheInside.{Inside}
 use Rattle.dp_frame_log.specs.Frames.{AreWritten}
-use Rattle.dp_tables.specs.Ledger.{Ledger, state_in}
+use Rattle.dp_tables.specs.SessionLog.{SessionLog, state_in}
 use Rattle.dp_tables.specs.Tables.{Seen, AreOf, quiet_of}
 
 -- memory is ready for any one event
@@ -19,7 +19,7 @@ is_ready t =
     && nat_le 2 t.rights.room
 
 -- what contracts see
-abbrev pub ledger_of : Inside → Ledger
+abbrev pub ledger_of : Inside → SessionLog
 ledger_of t = record {
   journal = t.journal.items;
   shut = t.shut.items;

@@ -1,4 +1,4 @@
-pub mod Ledger
+pub mod SessionLog
 pub mod Tables
 pub mod Openings
 pub mod Plans

@@ -32,7 +32,7 @@ use Rattle.dp_acl.specs.Table.{StandsFor}
 use Rattle.dp_epochs.specs.State.{State, Stream, entry_of, filtered_entry, acted, user_ids}
 use Rattle.dp_epochs.specs.State.{first_stream, with_part, is_name, free_id}
 use Rattle.dp_epochs.specs.Effects.{IsFittingPart}
-use Rattle.dp_tables.specs.Ledger.{Ledger, state_in}
+use Rattle.dp_tables.specs.SessionLog.{SessionLog, state_in}
 use Rattle.dp_tables.specs.Tables.{mark, is_holder, message_of, entry_in, IsIn}
 
 -- the event
@@ -285,7 +285,7 @@ abbrev pub event_in : Ready → Event
 event_in ready = event_of ready.plan.placing
 
 -- the event is ready to be kept after these
-pub record IsReady (ledger : Ledger) (e : Event) (ready : Ready) : Type 0 where
+pub record IsReady (ledger : SessionLog) (e : Event) (ready : Ready) : Type 0 where
   pub plan : IsPlan ledger.journal (state_in ledger) e ready.plan
   pub row : ready.row ≡ record { n = length ledger.journal; bytes = row_of e }
   pub room : has_room ledger.journal e ≡ true

@@ -23,7 +23,7 @@ ghost use Rattle.dp_acl.specs.Table.{StandsFor};
 ghost use Rattle.dp_epochs.specs.State.{acted, open_in};
 ghost use Rattle.dp_epochs.specs.Past.{shut_with, quiet_with};
 ghost use Rattle.dp_frame_log.specs.Frames.{AreWritten};
-ghost use Rattle.dp_tables.specs.Ledger.{state_in};
+ghost use Rattle.dp_tables.specs.SessionLog.{state_in};
 ghost use Rattle.dp_tables.specs.Tables.{flagged};
 ghost use Rattle.dp_tables.specs.Plans.{event_of, epoch_after, items_after, history_after};
 ghost use Rattle.dp_tables.specs.Plans.{IsOpening, owner_after, parts_after, bytes_after};

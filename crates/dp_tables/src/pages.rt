@@ -28,7 +28,7 @@ ghost use Rattle.std.specs.Option.{option_map};
 ghost use Rattle.dp_acl.specs.Opening.{command_entry};
 ghost use Rattle.dp_epochs.specs.State.{connection_of, entry_of};
 ghost use Rattle.dp_epochs.specs.Pull.{page, pulled_from, pulled_by_left, pulled_where};
-ghost use Rattle.dp_tables.specs.Ledger.{state_in};
+ghost use Rattle.dp_tables.specs.SessionLog.{state_in};
 ghost use Rattle.dp_messages.specs.declared.message.Entry.{Entry as Piece};
 ghost use Rattle.dp_messages.specs.Messages.{entry_bytes};
 ghost use Rattle.dp_frame_log.specs.Frames.{AreFramesOf, AreWritten, IsShort, frames_of};

@@ -6,7 +6,7 @@ ghost use Rattle.dp_messages.specs.Messages.{payload_of};
 ghost use Rattle.dp_epochs.specs.State.{is_name, open_connection, next_owner, decided, heard};
 ghost use Rattle.dp_epochs.specs.State.{has_acknowledged};
 ghost use Rattle.dp_events.specs.Rows.{has_room, row_of};
-ghost use Rattle.dp_tables.specs.Ledger.{state_in};
+ghost use Rattle.dp_tables.specs.SessionLog.{state_in};
 ghost use Rattle.dp_tables.specs.Plans.{still_plan, join_plan, leave_plan, ack_plan, placed_plan};
 ghost use Rattle.dp_tables.specs.Plans.{filtered_plan, noted_plan, epoch_plan, IsPlan, IsReady};
 

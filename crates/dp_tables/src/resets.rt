@@ -18,7 +18,7 @@ ghost use Rattle.dp_epochs.specs.State.{
 ghost use Rattle.dp_msg_draw.specs.declared.draw.Draw.{Draw as Drawn};
 ghost use Rattle.dp_msg_meta.specs.declared.message.Meta.TheVariants.{ResetMark};
 ghost use Rattle.dp_msg_meta.specs.declared.message.Control.TheVariants.{ResetBegin, ResetEnd};
-ghost use Rattle.dp_tables.specs.Ledger.{state_in};
+ghost use Rattle.dp_tables.specs.SessionLog.{state_in};
 ghost use Rattle.dp_tables.specs.Plans.{stream_left};
 ghost use Rattle.dp_tables.specs.Openings.{Holds};
 

@@ -26,7 +26,7 @@ ghost use Rattle.dp_acl.specs.Permitted.{permitted};
 ghost use Rattle.dp_events.specs.Rows.{row_bytes, event_limit, byte_limit};
 ghost use Rattle.dp_epochs.specs.State.{connection_in, connection_of, open_in, open_connection};
 ghost use Rattle.dp_epochs.specs.State.{next_open, here};
-ghost use Rattle.dp_tables.specs.Ledger.{state_in};
+ghost use Rattle.dp_tables.specs.SessionLog.{state_in};
 
 use crate::history_item::HistoryItem;
 use dp_acl::Rights;
@@ -70,9 +70,9 @@ pub struct Tables {
 }
 
 impl Model for Tables {
-    ghost use Rattle.dp_tables.specs.Ledger.{Ledger};
+    ghost use Rattle.dp_tables.specs.SessionLog.{SessionLog};
 
-    ghost Value = { Ledger };
+    ghost Value = { SessionLog };
 
     ghost use Rattle.dp_tables.specs.Inside.{ledger_of, AreTables};
 

@@ -7,9 +7,9 @@ use Rattle.std.proofs.Math.Nat.{mul_comm, mul-suc}
 use Rattle.std.specs.List.{flat_map}
 use Rattle.std.proofs.lemmas.List.{set-append_left, set-append_right, get_or_append_left}
 use Rattle.std.proofs.lemmas.List.{get_or-append-add, length-replicate}
-use Rattle.std.proofs.lemmas.List.{length-set, replicate-append-replicate}
+use Rattle.std.proofs.lemmas.List.{replicate-append-replicate}
 use Rattle.std.proofs.lemmas.List.Elements.{All-replicate, All-append, All-nil, All-head, All-tail}
-use Rattle.std.proofs.lemmas.List.Elements.{All-set, All-weaker}
+use Rattle.std.proofs.lemmas.List.Elements.{All-weaker}
 use Rattle.dp_blend.specs.Color.{Channels, clear}
 use Rattle.dp_tile.specs.Tiles.{IsGrid, IsCellRow, IsCellRows, grid_of_rows, with_cell_in_rows}
 use Rattle.dp_tile.specs.Tiles.{tile_of, TileGrid, cell_at, with_cell, clear_grid}
@@ -116,12 +116,6 @@ cell_of_rows cols rows all col row is in_cols in_rows =
     sym (get_or-joined cols all row col (tile_of clear) [] (rows_long cols rows all is)
     (omega (arith, is.count)) in_cols)
 
--- the columns of a row of it
-pub cols_of_row : (cols rows : ℕ) (all : List (List (List Channels))) (row : ℕ)
-    → IsCellRows cols rows all → row < rows → length (slice_index_or all row []) ≡ cols
-cols_of_row cols rows all row is in_rows =
-    (is.each row [] (omega (arith, is.count))).cells
-
 -- it with other pixels in a cell
 pub with_cell_of_rows : (cols rows : ℕ) (all : List (List (List Channels))) (col row : ℕ)
     (pixels : List Channels) → IsCellRows cols rows all → col < cols → row < rows
@@ -131,26 +125,6 @@ with_cell_of_rows cols rows all col row pixels is in_cols in_rows =
     ap (λ (cells : List (List Channels)). record { cols = cols; rows = rows; cells = cells })
     (set-joined cols all row col pixels [] (rows_long cols rows all is)
     (omega (arith, is.count)) in_cols)
-
-pub is_rows_with_cell : (cols rows : ℕ) (all : List (List (List Channels))) (col row : ℕ)
-    (pixels : List Channels) → IsCellRows cols rows all → row < rows → length pixels ≡ 4096
-    → IsCellRows cols rows (with_cell_in_rows all col row pixels)
-is_rows_with_cell cols rows all col row pixels is in_rows long =
-    let old = slice_index_or all row [] in
-    let is_old = is.each row [] (omega (arith, is.count)) in
-    record {
-      few_cols = is.few_cols;
-      few_rows = is.few_rows;
-      count = length-set all row (set old col pixels) ∙ is.count;
-      each =
-          All-set (IsCellRow cols) all row (set old col pixels)
-          (record {
-            cells = length-set old col pixels ∙ is_old.cells;
-            pixels =
-                All-set (λ (cell : List Channels). length cell ≡ 4096) old col pixels long
-                is_old.pixels;
-          }) is.each;
-    }
 
 -- rows that show nothing
 pub is_rows-clear : (cols rows : ℕ) → cols ≤ 64 → rows ≤ 64

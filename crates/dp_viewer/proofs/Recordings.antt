@@ -11,12 +11,13 @@ use Rattle.dp_recording.specs.declared.reader.Phase.TheVariants.{New, Finished, 
 use Rattle.dp_recording.specs.declared.reader.RecError.{RecError}
 use Rattle.dp_recording.specs.declared.reader.RecError.TheVariants.{BadHeader, Truncated, Message}
 use Rattle.dp_recording.specs.declared.reader.RecError.TheVariants.{ReadFault, Long, Memory}
-use Rattle.dp_recording.specs.Recordings.{Blames, EndsRecording, GoesOn, HasReadOf, end_of}
+use Rattle.dp_recording.specs.Recordings.{FaultMatchesError, EndsRecording, GoesOn, HasReadOf}
+use Rattle.dp_recording.specs.Recordings.{end_of}
 use Rattle.dp_msg_draw.specs.declared.draw.Draw.{Draw}
 use Rattle.dp_plain.specs.Board.{Board}
 use Rattle.dp_rollback.specs.Trailing.{Trailing}
 use Rattle.dp_viewer.specs.Ways.{first_of, play_way}
-use Rattle.dp_viewer.specs.Reading.{AreDue, EndsReading, BlamesReading, TrailsShown}
+use Rattle.dp_viewer.specs.Reading.{AreDue, EndsReading, FaultMatchesWay, TrailsShown}
 
 -- What was read of an input whose bytes are known, of which those are left: the board trails what
 -- the first entries show, so many or all, of those that a reader gave, and `due` are left to show.
@@ -104,18 +105,21 @@ shows-end at None left now board due old error ends told = tt
 shows-end at (Some bytes) left now board due old error ends (all, read, trails, are) =
     ends-of at bytes now board all error (ends bytes all read) trails
 
-blames-of : (at : Option ℕ) (before now : ℕ) (error : RecError) → Blames before now error
-    → BlamesReading (play_way at) before now (end_of error)
-blames-of at before now BadHeader blames = (tt, blames)
-blames-of at before now (Truncated n) blames = blames
-blames-of at before now (Message n why) blames = blames
-blames-of at before now ReadFault blames = blames
-blames-of at before now Long blames = blames
-blames-of at before now Memory blames = blames
+fault_matches-of : (at : Option ℕ) (before now : ℕ) (error : RecError)
+    → FaultMatchesError before now error
+    → FaultMatchesWay (play_way at) before now (end_of error)
+fault_matches-of at before now BadHeader fault = (tt, fault)
+fault_matches-of at before now (Truncated n) fault = fault
+fault_matches-of at before now (Message n why) fault = fault
+fault_matches-of at before now ReadFault fault = fault
+fault_matches-of at before now Long fault = fault
+fault_matches-of at before now Memory fault = fault
 
 -- a reader that goes on blames what it answers
-pub blames-going : (at : Option ℕ) (before now : ℕ) (old : Phase) (error : RecError) → GoesOn old
-    → (old ≡ Failed error) ⊎ Blames before now error
-    → BlamesReading (play_way at) before now (end_of error)
-blames-going at before now old error going (inl failed) = absurd (subst GoesOn failed going)
-blames-going at before now old error going (inr blames) = blames-of at before now error blames
+pub fault_matches-going : (at : Option ℕ) (before now : ℕ) (old : Phase) (error : RecError)
+    → GoesOn old
+    → (old ≡ Failed error) ⊎ FaultMatchesError before now error
+    → FaultMatchesWay (play_way at) before now (end_of error)
+fault_matches-going at before now old error going (inl failed) = absurd (subst GoesOn failed going)
+fault_matches-going at before now old error going (inr fault) =
+    fault_matches-of at before now error fault

@@ -12,10 +12,10 @@ use Rattle.dp_lines.specs.declared.run_end.RunEnd.{RunEnd}
 use Rattle.dp_lines.specs.declared.run_end.RunEnd.TheVariants.{Done, BadLine, ReadFault, WriteFault}
 use Rattle.dp_lines.specs.declared.run_end.RunEnd.TheVariants.{LinkFault, Memory, Long, Truncated}
 use Rattle.dp_lines.specs.declared.run_end.RunEnd.TheVariants.{BadMessage, Closed, BadHeader}
-use Rattle.dp_lines.specs.RunEnds.{Blames}
+use Rattle.dp_lines.specs.RunEnds.{FaultMatchesEnd}
 use Rattle.dp_rollback.specs.Trailing.{Trailing}
 use Rattle.dp_viewer.specs.Ways.{Way}
-use Rattle.dp_viewer.specs.Reading.{EndsReading, BlamesReading, ReadsToEnd, TrailsShown}
+use Rattle.dp_viewer.specs.Reading.{EndsReading, FaultMatchesWay, ReadsToEnd, TrailsShown}
 use Rattle.dp_viewer.specs.Reading.{WritesShown}
 use Rattle.dp_viewer.specs.Pictures.{PictureLeaves, ShowsPart}
 
@@ -71,7 +71,7 @@ keeps_same (Some xs) = refl
 pub nothing_shown : (way : Way) (told left out : Option (List ℕ)) (before now : ℕ)
     (board : Trailing Board Draw) (end : RunEnd)
     → IfSome told (λ input. EndsReading way input left board end)
-    → BlamesReading way before now end → (ReadsToEnd end → ⊥)
+    → FaultMatchesWay way before now end → (ReadsToEnd end → ⊥)
     → PictureLeaves way told left out out end
 nothing_shown way told left out before now board Done h b r = absurd (r tt)
 nothing_shown way told left out before now board (Truncated n) h b r = absurd (r tt)
@@ -86,7 +86,7 @@ nothing_shown way told left out before now board LinkFault h b r = absurd b
 nothing_shown way told left out before now board Closed h b r = absurd b
 
 -- reading to the end raised no count
-kept_to_end : (way : Way) (before now : ℕ) (end : RunEnd) → BlamesReading way before now end
+kept_to_end : (way : Way) (before now : ℕ) (end : RunEnd) → FaultMatchesWay way before now end
     → ReadsToEnd end
     → now ≡ before
 kept_to_end way before now Done b r = b
@@ -94,28 +94,28 @@ kept_to_end way before now (Truncated n) b r = b
 kept_to_end way before now _ b r = absurd r
 
 -- an end that all is written at blames nothing
-end_blames : (input input_now output output_now : ℕ) (end : RunEnd) → ReadsToEnd end
+end_fault : (input input_now output output_now : ℕ) (end : RunEnd) → ReadsToEnd end
     → input_now ≡ input → output_now ≡ output →
-    Blames input input_now output output_now end
-end_blames input input_now output output_now Done r i o = (i, o)
-end_blames input input_now output output_now (Truncated n) r i o = (i, o)
-end_blames input input_now output output_now _ r i o = absurd r
+    FaultMatchesEnd input input_now output output_now end
+end_fault input input_now output output_now Done r i o = (i, o)
+end_fault input input_now output output_now (Truncated n) r i o = (i, o)
+end_fault input input_now output output_now _ r i o = absurd r
 
-pub shown_blames : (way : Way) (old new : Option (List ℕ)) (input input_now output output_now : ℕ)
+pub shown_fault : (way : Way) (old new : Option (List ℕ)) (input input_now output output_now : ℕ)
     (board : Trailing Board Draw) (end result : RunEnd) →
-    BlamesReading way input input_now end → ReadsToEnd end → WritesShown old new output output_now
+    FaultMatchesWay way input input_now end → ReadsToEnd end → WritesShown old new output output_now
     board end result →
-    Blames input input_now output output_now result
-shown_blames way old new input input_now output output_now board end result b r
+    FaultMatchesEnd input input_now output output_now result
+shown_fault way old new input input_now output output_now board end result b r
     (inl (e, appends, kept)) =
-    subst (λ (x : RunEnd). Blames input input_now output output_now x) (sym e)
-    (end_blames input input_now output output_now end r (kept_to_end way input input_now end b r)
+    subst (λ (x : RunEnd). FaultMatchesEnd input input_now output output_now x) (sym e)
+    (end_fault input input_now output output_now end r (kept_to_end way input input_now end b r)
     kept)
-shown_blames way old new input input_now output output_now board end result b r
+shown_fault way old new input input_now output output_now board end result b r
     (inr (inl (e, part, rose))) =
-    subst (λ (x : RunEnd). Blames input input_now output output_now x) (sym e)
+    subst (λ (x : RunEnd). FaultMatchesEnd input input_now output output_now x) (sym e)
     (kept_to_end way input input_now end b r, rose)
-shown_blames way old new input input_now output output_now board end result b r
+shown_fault way old new input input_now output output_now board end result b r
     (inr (inr (e, keeps, kept))) =
-    subst (λ (x : RunEnd). Blames input input_now output output_now x) (sym e)
+    subst (λ (x : RunEnd). FaultMatchesEnd input input_now output output_now x) (sym e)
     (kept_to_end way input input_now end b r, kept)

@@ -58,18 +58,18 @@ EndsReading way input left board Closed = ⊥
 
 -- the count of the input's faults after reading that ended so: a fault raised it, and else it
 -- stays; reading ends in no other way
-abbrev pub BlamesReading : Way → ℕ → ℕ → RunEnd → Type 0
-BlamesReading way before now Done = now ≡ before
-BlamesReading way before now ReadFault = Rose before now
-BlamesReading way before now Memory = now ≡ before
-BlamesReading way before now Long = now ≡ before
-BlamesReading way before now (Truncated n) = now ≡ before
-BlamesReading way before now (BadMessage n) = now ≡ before
-BlamesReading way before now BadHeader = way.may_lack × (now ≡ before)
-BlamesReading way before now (BadLine n) = ⊥
-BlamesReading way before now WriteFault = ⊥
-BlamesReading way before now LinkFault = ⊥
-BlamesReading way before now Closed = ⊥
+abbrev pub FaultMatchesWay : Way → ℕ → ℕ → RunEnd → Type 0
+FaultMatchesWay way before now Done = now ≡ before
+FaultMatchesWay way before now ReadFault = Rose before now
+FaultMatchesWay way before now Memory = now ≡ before
+FaultMatchesWay way before now Long = now ≡ before
+FaultMatchesWay way before now (Truncated n) = now ≡ before
+FaultMatchesWay way before now (BadMessage n) = now ≡ before
+FaultMatchesWay way before now BadHeader = way.may_lack × (now ≡ before)
+FaultMatchesWay way before now (BadLine n) = ⊥
+FaultMatchesWay way before now WriteFault = ⊥
+FaultMatchesWay way before now LinkFault = ⊥
+FaultMatchesWay way before now Closed = ⊥
 
 -- the input is read to its end
 abbrev pub ReadsToEnd : RunEnd → Type 0

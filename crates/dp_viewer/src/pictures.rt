@@ -1,7 +1,7 @@
 //! The commands `replay` and `play`: an input whose picture is written.
 
 ghost use Rattle.std.specs.Prelude.{◌≤◌, IsTrue};
-ghost use Rattle.dp_lines.specs.RunEnds.{Blames};
+ghost use Rattle.dp_lines.specs.RunEnds.{FaultMatchesEnd};
 ghost use Rattle.dp_viewer.specs.Pictures.{PictureLeaves};
 ghost use Rattle.dp_viewer.specs.Reading.{ReadsToEnd, WritesShown};
 ghost use Rattle.dp_viewer.specs.Ways.{play_way, replay_way};
@@ -33,7 +33,7 @@ pub fn run_replay<I: Source, O: Sink, D: Ledger, T: Ledger>(
 ) -> RunEnd
     ensures leaves { PictureLeaves replay_way (I.left input.old) (I.left input.new)
         (O.held output.old) (O.held output.new) result }
-    ensures blames { Blames (I.faults input.old) (I.faults input.new)
+    ensures fault { FaultMatchesEnd (I.faults input.old) (I.faults input.new)
         (O.faults output.old) (O.faults output.new) result }
     ensures input_later { I.faults input.old ≤ I.faults input.new }
     ensures output_later { O.faults output.old ≤ O.faults output.new }
@@ -69,7 +69,7 @@ pub fn run_play<I: Source, O: Sink, D: Ledger, T: Ledger>(
 ) -> RunEnd
     ensures leaves { PictureLeaves (play_way at) (I.left input.old) (I.left input.new)
         (O.held output.old) (O.held output.new) result }
-    ensures blames { Blames (I.faults input.old) (I.faults input.new)
+    ensures fault { FaultMatchesEnd (I.faults input.old) (I.faults input.new)
         (O.faults output.old) (O.faults output.new) result }
     ensures input_later { I.faults input.old ≤ I.faults input.new }
     ensures output_later { O.faults output.old ≤ O.faults output.new }

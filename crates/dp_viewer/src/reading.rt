@@ -5,7 +5,7 @@ ghost use Rattle.std.specs.Prelude.{OnOk};
 ghost use Rattle.std.specs.Io.KnownBytes.{IsAtEnd};
 ghost use Rattle.std.specs.Option.{option_map};
 ghost use Rattle.dp_messages.specs.declared.message.Entry.{Entry as Item};
-ghost use Rattle.dp_viewer.specs.Reading.{BlamesReading, EndsReading, ReadsToEnd};
+ghost use Rattle.dp_viewer.specs.Reading.{FaultMatchesWay, EndsReading, ReadsToEnd};
 ghost use Rattle.dp_viewer.specs.Reading.{AreDue, TrailsShown, is_due};
 ghost use Rattle.dp_viewer.specs.Ways.{first_of, play_way, replay_way};
 
@@ -53,7 +53,8 @@ pub(crate) fn read_frames<I: Source, D: Ledger, T: Ledger>(
     requires { TrailsShown board [] }
     ensures told { IfSome (I.left input.old) (λ bytes.
         EndsReading replay_way bytes (I.left input.new) result.board result.end) }
-    ensures blames { BlamesReading replay_way (I.faults input.old) (I.faults input.new) result.end }
+    ensures fault { FaultMatchesWay replay_way (I.faults input.old) (I.faults input.new)
+        result.end }
     ensures later { I.faults input.old ≤ I.faults input.new }
     ensures to_end { ReadsToEnd result.end → IsAtEnd (I.left input.new) }
 {
@@ -117,7 +118,7 @@ pub(crate) fn read_recording<I: Source, D: Ledger, T: Ledger>(
     requires { TrailsShown board [] }
     ensures told { IfSome (I.left input.old) (λ bytes.
         EndsReading (play_way at) bytes (I.left input.new) result.board result.end) }
-    ensures blames { BlamesReading (play_way at) (I.faults input.old) (I.faults input.new)
+    ensures fault { FaultMatchesWay (play_way at) (I.faults input.old) (I.faults input.new)
         result.end }
     ensures later { I.faults input.old ≤ I.faults input.new }
     ensures to_end { ReadsToEnd result.end → IsAtEnd (I.left input.new) }

@@ -22,11 +22,12 @@ use Rattle.dp_link.specs.declared.ends.UpEnd.TheVariants as up
 use Rattle.dp_link.specs.declared.ends.DownEnd.{DownEnd}
 use Rattle.dp_link.specs.declared.ends.DownEnd.TheVariants as down
 use Rattle.dp_link.specs.declared.up.UpRun.{UpRun}
-use Rattle.dp_link.specs.Acts.{Outcome, Act, SeatView, ActsOnce, last_outcome}
+use Rattle.dp_link.specs.Acts.{SeatView, ActsOnce, last_outcome}
+use Rattle.dp_session_laws.specs.Logs.{ReplyOrMemory, LogEntry}
 use Rattle.dp_link.specs.Answers.{opened_as}
-use Rattle.dp_link.specs.Hello.{Greets, BlamesHello}
-use Rattle.dp_link.specs.Saying.{AreSays, BlamesUp, counted}
-use Rattle.dp_link.specs.Sending.{Sends, BlamesDown}
+use Rattle.dp_link.specs.Hello.{Greets, FaultMatchesHello}
+use Rattle.dp_link.specs.Saying.{AreSays, FaultMatchesUp, counted}
+use Rattle.dp_link.specs.Sending.{Sends, FaultMatchesDown}
 use Rattle.dp_worker.specs.declared.link.LinkEnd.{LinkEnd}
 use Rattle.dp_worker.specs.declared.report.LinkReport.{LinkReport}
 use Rattle.dp_worker.specs.Links.{LinkState, LinkBy, IsLink, IsServed, is_up_memory}
@@ -41,18 +42,18 @@ use Rattle.dp_worker.proofs.SeatLemmas.{works-both, works-calls, works-pair}
 
 -- what the crate below says of logs and feeds
 pub record FeedLaws : Type 0 where
-  pub grows : (past : Past) (log longer : List Act) → ShutBefore past
+  pub grows : (past : Past) (log longer : List LogEntry) → ShutBefore past
       → IsSessionLog past longer → IsPrefix log longer
       → GrowsInto (state_of (left_by past log)) (state_of (left_by past longer))
   pub feeds : (s t : State) (conn : ℕ) (segments : List Segment)
       → GrowsInto s t → IsFeed s conn segments → IsFeed t conn segments
-  pub gone : (past : Past) (log longer : List Act) (conn : ℕ) (earlier : List Segment)
+  pub gone : (past : Past) (log longer : List LogEntry) (conn : ℕ) (earlier : List Segment)
       (last : Segment) → ShutBefore past → IsSessionLog past longer → IsPrefix log longer
       → IsFeed (state_of (left_by past log)) conn (earlier ++ last ∷ [])
       → IsGone (left_by past log) conn last → IsGone (left_by past longer) conn last
 
 -- what was sent of one session is sent of a later one
-pub sends-later : FeedLaws → (start : Past) (log longer : List Act) (conn : ℕ)
+pub sends-later : FeedLaws → (start : Past) (log longer : List LogEntry) (conn : ℕ)
     (held taken : Option (List ℕ)) (end : DownEnd) → ShutBefore start
     → IsSessionLog start longer → IsPrefix log longer
     → Sends (left_by start log) conn held taken end
@@ -71,16 +72,16 @@ sends-later laws start log longer conn held taken end shut legal begins s = reco
 -- ---- greeted
 
 -- the counts after a greeting are those before it
-spoken : (end : UpEnd) (before now after : ℕ) → now ≡ before → BlamesUp end now after
-    → BlamesUp end before after
-spoken end before now after same h = subst (λ n. BlamesUp end n after) same h
+spoken : (end : UpEnd) (before now after : ℕ) → now ≡ before → FaultMatchesUp end now after
+    → FaultMatchesUp end before after
+spoken end before now after same h = subst (λ n. FaultMatchesUp end n after) same h
 
-sent : (end : DownEnd) (before now after : ℕ) → now ≡ before → BlamesDown end now after
-    → BlamesDown end before after
-sent end before now after same h = subst (λ n. BlamesDown end n after) same h
+sent : (end : DownEnd) (before now after : ℕ) → now ≡ before → FaultMatchesDown end now after
+    → FaultMatchesDown end before after
+sent end before now after same h = subst (λ n. FaultMatchesDown end n after) same h
 
 -- the Open of a greeting raises no flag
-opened-flags : (acts says : List Act) (opening : Act) (greeting : Greeting)
+opened-flags : (acts says : List LogEntry) (opening : LogEntry) (greeting : Greeting)
     → acts ≡ opening ∷ [] → opening.outcome ≡ Ok (opened_as greeting)
     → (has_failed (acts ++ says) ≡ has_failed says)
     × (has_store_fault (acts ++ says) ≡ has_store_fault says)
@@ -95,11 +96,11 @@ pub served-link : (past : Past) (u v w : SeatView) (before mid after : LinkState
     (stream : Stream) (greeting : Greeting) (end : LinkEnd)
     → ((out : List (List ℕ)) → AllBackBut out u → AllBackBut out v)
     → Greets u v before.left mid.left before.held mid.held stream (Ok greeting)
-    → BlamesHello {T = Greeting} (Ok greeting) before.read_faults mid.read_faults
+    → FaultMatchesHello {T = Greeting} (Ok greeting) before.read_faults mid.read_faults
     before.write_faults mid.write_faults
     → Talks past v w greeting stream end mid after
     → Serves past u w end before after
-served-link past u v w before mid after stream greeting end back h blames t =
+served-link past u v w before mid after stream greeting end back h fault t =
     let opens = h.by.3.0 in
     let flags = opened-flags h.acts t.says opens.0 greeting opens.1 opens.2.outcome_is in
     let served : IsServed past greeting.conn end.up end.down (h.acts ++ t.says) before after =
@@ -108,7 +109,7 @@ served-link past u v w before mid after stream greeting end back h blames t =
       first = h.read;
       stream = stream;
       unread = mid.left;
-      gave = h.gave;
+      read_is = h.read_is;
       hello = h.by.1;
       place = h.by.2;
       opening = opens.0;
@@ -123,9 +124,9 @@ served-link past u v w before mid after stream greeting end back h blames t =
       welcomed = h.by.3.1;
       sends = t.sends;
       reads =
-          spoken end.up before.read_faults mid.read_faults after.read_faults blames.0 t.reads;
+          spoken end.up before.read_faults mid.read_faults after.read_faults fault.0 t.reads;
       writes =
-          sent end.down before.write_faults mid.write_faults after.write_faults blames.1 t.writes;
+          sent end.down before.write_faults mid.write_faults after.write_faults fault.1 t.writes;
       at_end = t.at_end;
     } in
     record {
@@ -147,18 +148,18 @@ or-middle true b = refl
 or-middle false b = refl
 
 pub refused-link : (past : Past) (u v : SeatView) (before after : LinkState) (stream : Stream)
-    (end : GreetEnd) (last : Option Outcome) (result : LinkEnd)
+    (end : GreetEnd) (last : Option ReplyOrMemory) (result : LinkEnd)
     → ((out : List (List ℕ)) → AllBackBut out u → AllBackBut out v)
     → ((h : Greets u v before.left after.left before.held after.held stream (Err end))
     × (last_outcome h.acts ≡ last))
-    → BlamesHello {T = Greeting} (Err end) before.read_faults after.read_faults
+    → FaultMatchesHello {T = Greeting} (Err end) before.read_faults after.read_faults
     before.write_faults after.write_faults
     → (end ≡ greet.End → IsAtEnd after.left)
     → result.conn ≡ None → result.up ≡ up.NotGreeted end → result.down ≡ down.NotGreeted
     → result.memory ≡ is_up_memory (up.NotGreeted end) || is_last_failed last
     → result.store ≡ is_last_store_fault last
     → Serves past u v result before after
-refused-link past u v before after stream end last result back (h, is) blames at_end conn up_is
+refused-link past u v before after stream end last result back (h, is) fault at_end conn up_is
     down_is memory store =
     let flags = greet-flags end h.read stream h.acts before.held after.held h.by in
     let refused : LinkBy past None (up.NotGreeted end) down.NotGreeted h.acts before after = (
@@ -166,9 +167,9 @@ refused-link past u v before after stream end last result back (h, is) blames at
       record {
         read = h.read;
         stream = stream;
-        gave = h.gave;
+        read_is = h.read_is;
         by = h.by;
-        blames = blames;
+        fault = fault;
         at_end = at_end;
       },
     ) in
@@ -196,8 +197,8 @@ refused-link past u v before after stream end last result back (h, is) blames at
 -- ---- later sessions
 
 -- the link as its report tells, of a longer log
-pub link-later : FeedLaws → (start : Past) (log longer : List Act) (report : LinkReport)
-    (acts : List Act) (before after : LinkState) → ShutBefore start
+pub link-later : FeedLaws → (start : Past) (log longer : List LogEntry) (report : LinkReport)
+    (acts : List LogEntry) (before after : LinkState) → ShutBefore start
     → IsSessionLog start longer → IsPrefix log longer
     → IsLink (left_by start log) report acts before after
     → IsLink (left_by start longer) report acts before after
@@ -213,7 +214,7 @@ link-later laws start log longer report acts before after shut legal begins h =
       first = k.first;
       stream = k.stream;
       unread = k.unread;
-      gave = k.gave;
+      read_is = k.read_is;
       hello = k.hello;
       place = k.place;
       opening = k.opening;
@@ -241,7 +242,7 @@ pub talks-pumped : FeedLaws → (start : Past) (v stays given w : SeatView) (gre
     (stream : Stream) (before after : LinkState) (down : DownEnd) (run : UpRun) (end : LinkEnd)
     → ShutBefore start
     → ((out : List (List ℕ)) → AllBackBut out v → AllBackBut out w)
-    → ((first second one two both : SeatView) (xs ys : List Act)
+    → ((first second one two both : SeatView) (xs ys : List LogEntry)
     → SplitsInto v first second → Continues first xs one → Continues second ys two
     → JoinsInto one two both → Rejoins v xs ys both)
     → SplitsInto v stays given
@@ -271,9 +272,11 @@ talks-pumped laws start v stays given w greeting stream before after down run en
       sends =
           subst (λ d. Sends (left_by start w.seen) greeting.conn before.held after.held d)
           (sym down_is) sends;
-      reads = subst (λ e. BlamesUp e before.read_faults after.read_faults) (sym up_is) p.reads;
+      reads = subst (λ e. FaultMatchesUp e before.read_faults after.read_faults) (sym up_is)
+          p.reads;
       writes =
-          subst (λ d. BlamesDown d before.write_faults after.write_faults) (sym down_is) p.writes;
+          subst (λ d. FaultMatchesDown d before.write_faults after.write_faults) (sym down_is)
+          p.writes;
       at_end = λ e. p.at_end (sym up_is ∙ e);
       memory =
           memory
@@ -287,7 +290,7 @@ talks-pumped laws start v stays given w greeting stream before after down run en
 
 -- the painter left at once
 pub talks-left : (start : Past) (v w : SeatView) (greeting : Greeting) (stream : Stream)
-    (before : LinkState) (close : Outcome) (end : LinkEnd)
+    (before : LinkState) (close : ReplyOrMemory) (end : LinkEnd)
     → ((out : List (List ℕ)) → AllBackBut out v → AllBackBut out w)
     → IsFeed (state_of (left_by start w.seen)) greeting.conn
     (record { epoch = greeting.epoch; entries = [] } ∷ [])
@@ -306,7 +309,7 @@ talks-left start v w greeting stream before close end back feed once conn up_is 
       rest = counted stream [];
       says = [];
       close = once.act;
-      gave = consumes-none before.left;
+      read_is = consumes-none before.left;
       heard = record { frames = []; each = tt; spelled = tt; whole = refl };
       acts_are = refl;
       closes = once.is;
@@ -334,9 +337,10 @@ talks-left start v w greeting stream before close end back feed once conn up_is 
       sends =
           subst (λ d. Sends (left_by start w.seen) greeting.conn before.held before.held d)
           (sym down_is) sends;
-      reads = subst (λ e. BlamesUp e before.read_faults before.read_faults) (sym up_is) refl;
+      reads = subst (λ e. FaultMatchesUp e before.read_faults before.read_faults) (sym up_is) refl;
       writes =
-          subst (λ d. BlamesDown d before.write_faults before.write_faults) (sym down_is) refl;
+          subst (λ d. FaultMatchesDown d before.write_faults before.write_faults) (sym down_is)
+          refl;
       at_end = λ e. let wrong : up.Memory ≡ up.End = sym up_is ∙ e in cc (wrong);
       memory =
           memory

@@ -5,14 +5,15 @@ use Rattle.std.proofs.lemmas.List.{map-append}
 use Rattle.dp_hall.specs.Laws.{Continues, Rejoins, AllBackBut}
 use Rattle.dp_hall.specs.Rule.{child_name}
 use Rattle.dp_session_laws.proofs.Growth.{prefix-then}
-use Rattle.dp_link.specs.Acts.{Act, SeatView}
+use Rattle.dp_link.specs.Acts.{SeatView}
+use Rattle.dp_session_laws.specs.Logs.{LogEntry}
 use Rattle.dp_worker.specs.Seats.{WorksOn}
 
 -- who is out stays so or is back
 abbrev pub KeepsBack : SeatView → SeatView → Type 0
 KeepsBack v w = (out : List (List ℕ)) → AllBackBut out v → AllBackBut out w
 
-pub works-calls : (v w : SeatView) (acts : List Act) → KeepsBack v w → Continues v acts w
+pub works-calls : (v w : SeatView) (acts : List LogEntry) → KeepsBack v w → Continues v acts w
     → WorksOn v acts w
 works-calls v w acts back h = record {
   name = ap (λ (u : SeatView). u.name) h.same;
@@ -25,7 +26,7 @@ works-calls v w acts back h = record {
   back = back;
 }
 
-pub works-pair : (v w : SeatView) (acts : List Act) → KeepsBack v w → Rejoins v acts [] w
+pub works-pair : (v w : SeatView) (acts : List LogEntry) → KeepsBack v w → Rejoins v acts [] w
     → WorksOn v acts w
 works-pair v w acts back h = record {
   name = h.name;
@@ -38,7 +39,7 @@ works-pair v w acts back h = record {
   back = back;
 }
 
-pub works-both : (u v w : SeatView) (xs ys : List Act) → WorksOn u xs v → WorksOn v ys w
+pub works-both : (u v w : SeatView) (xs ys : List LogEntry) → WorksOn u xs v → WorksOn v ys w
     → WorksOn u (xs ++ ys) w
 works-both u v w xs ys p q = record {
   name = q.name ∙ p.name;

@@ -14,7 +14,8 @@ use Rattle.dp_wire.specs.Links.{Links, HandsOut, WhereKnown}
 use Rattle.dp_epochs.specs.Past.{Past}
 use Rattle.dp_epochs.specs.Laws.{ShutBefore}
 use Rattle.dp_session_laws.specs.Logs.{IsSessionLog}
-use Rattle.dp_link.specs.Acts.{Act, SeatView}
+use Rattle.dp_link.specs.Acts.{SeatView}
+use Rattle.dp_session_laws.specs.Logs.{LogEntry}
 use Rattle.dp_link.specs.Sending.{session_of}
 use Rattle.dp_worker.specs.declared.link.LinkEnd.{LinkEnd}
 use Rattle.dp_worker.specs.declared.report.LinkReport.{LinkReport}
@@ -23,7 +24,7 @@ use Rattle.dp_worker.specs.Links.{LinkState, IsLink, has_store_fault, is_store_f
 use Rattle.dp_worker.specs.Seats.{WorksOn}
 use Rattle.dp_worker.specs.Serving.{Serves}
 use Rattle.dp_worker.specs.Works.{LinkRun, IsRun, acts_of, HandsOver, run_ran_out, HasServed}
-use Rattle.dp_worker.specs.Works.{ServedSoFar, ServesNext, BlamesWire, NoneToCome}
+use Rattle.dp_worker.specs.Works.{ServedSoFar, ServesNext, FaultMatchesWire, NoneToCome}
 use Rattle.dp_worker.proofs.LinkLemmas.{FeedLaws, link-later}
 use Rattle.dp_worker.proofs.SeatLemmas.{works-both, works-calls}
 
@@ -150,7 +151,7 @@ module _ {R T : Type 0} (see : R × T → LinkState) (start : Past) (who : ℕ) 
       links = known-none links;
       memory = λ h. cc (h);
       store = store;
-      wire = subst (λ b. BlamesWire b count count) (sym wire) refl;
+      wire = subst (λ b. FaultMatchesWire b count count) (sym wire) refl;
     };
     count = refl;
     going = wire;
@@ -229,12 +230,12 @@ module _ {R T : Type 0} (see : R × T → LinkState) (start : Past) (who : ℕ) 
               store
               ∙ ap (λ x. x || end.store) h.store
               ∙ ap (λ x. has_store_fault (acts_of far.runs) || x) s.store
-              ∙ sym (list_any-append (λ (x : Act). is_store_fault x.outcome) (acts_of far.runs)
+              ∙ sym (list_any-append (λ (x : LogEntry). is_store_fault x.outcome) (acts_of far.runs)
               s.acts)
               ∙ ap has_store_fault (sym (acts-more far.runs run));
           wire =
-              subst (λ x. BlamesWire x count now) (sym (wire ∙ far.going))
-              (same ∙ subst (λ x. BlamesWire x count before) far.going h.wire);
+              subst (λ x. FaultMatchesWire x count now) (sym (wire ∙ far.going))
+              (same ∙ subst (λ x. FaultMatchesWire x count before) far.going h.wire);
         };
         count = length-more far.runs run ∙ next far.count;
         going = wire ∙ far.going;
@@ -254,7 +255,7 @@ module _ {R T : Type 0} (see : R × T → LinkState) (start : Past) (who : ℕ) 
       → HasServed see start who v w a b count before old runs
       → WhereKnown b (λ x y. y ≡ x) c
       → new.reports.items ≡ old.reports.items → new.store ≡ old.store
-      → (old.memory ≡ true → new.memory ≡ true) → BlamesWire new.wire count now
+      → (old.memory ≡ true → new.memory ≡ true) → FaultMatchesWire new.wire count now
       → HasServed see start who v w a c count now new runs
   served-end v w a b c count before now old new runs h same reports store memory wire = record {
     reports = reports ∙ h.reports;
@@ -278,8 +279,8 @@ module _ {R T : Type 0} (see : R × T → LinkState) (start : Past) (who : ℕ) 
     far.runs,
     served-end v w a b c count before now old new far.runs far.served (known-stays b c none)
         reports store (λ raised. memory ∙ raised)
-        (subst (λ x. BlamesWire x count now) (sym (wire ∙ far.going))
-        (same ∙ subst (λ x. BlamesWire x count before) far.going far.served.wire)),
+        (subst (λ x. FaultMatchesWire x count now) (sym (wire ∙ far.going))
+        (same ∙ subst (λ x. FaultMatchesWire x count before) far.going far.served.wire)),
     far.count,
     λ _ _. none-left far.runs a b c far.served.links none,
   )

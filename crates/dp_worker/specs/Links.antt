@@ -15,12 +15,13 @@ use Rattle.dp_link.specs.declared.ends.UpEnd.{UpEnd}
 use Rattle.dp_link.specs.declared.ends.UpEnd.TheVariants as up
 use Rattle.dp_link.specs.declared.ends.DownEnd.{DownEnd}
 use Rattle.dp_link.specs.declared.ends.DownEnd.TheVariants as down
-use Rattle.dp_link.specs.Acts.{Outcome, Act, IsAct}
+use Rattle.dp_link.specs.Acts.{IsAct}
+use Rattle.dp_session_laws.specs.Logs.{ReplyOrMemory, LogEntry}
 use Rattle.dp_link.specs.Answers.{welcome, opened_as}
 use Rattle.dp_link.specs.Bytes.{BeginsWithHello}
-use Rattle.dp_link.specs.Hello.{GreetsBy, BlamesHello}
-use Rattle.dp_link.specs.Saying.{AreSays, BlamesUp}
-use Rattle.dp_link.specs.Sending.{Sends, BlamesDown}
+use Rattle.dp_link.specs.Hello.{GreetsBy, FaultMatchesHello}
+use Rattle.dp_link.specs.Saying.{AreSays, FaultMatchesUp}
+use Rattle.dp_link.specs.Sending.{Sends, FaultMatchesDown}
 use Rattle.dp_worker.specs.declared.report.LinkReport.{LinkReport}
 
 -- What contracts see of a link: the bytes left to read and those that its peer took, where they are
@@ -42,36 +43,37 @@ link_seen left read_faults held write_faults link = record {
 }
 
 -- Nobody was greeted, for this reason, and these are the acts.
-pub record IsRefused (end : GreetEnd) (acts : List Act) (before after : LinkState) : Type 0 where
+pub record IsGreetingRefused (end : GreetEnd) (acts : List LogEntry)
+    (before after : LinkState) : Type 0 where
   pub read : List ℕ
   pub stream : Stream
-  pub gave : Consumes before.left after.left read
+  pub read_is : Consumes before.left after.left read
   pub by : GreetsBy (Err end) read stream acts before.held after.held
-  pub blames :
-      BlamesHello {T = Greeting} (Err end) before.read_faults after.read_faults
+  pub fault :
+      FaultMatchesHello {T = Greeting} (Err end) before.read_faults after.read_faults
       before.write_faults after.write_faults
   pub at_end : end ≡ greet.End → IsAtEnd after.left
 
 -- A painter was greeted on this connection: these acts are its Open, its Says and its Close, and it
 -- was sent the Welcome and a feed of this session.
-pub record IsServed (past : Past) (conn : ℕ) (end : UpEnd) (down : DownEnd) (acts : List Act)
+pub record IsServed (past : Past) (conn : ℕ) (end : UpEnd) (down : DownEnd) (acts : List LogEntry)
     (before after : LinkState) : Type 0 where
   -- the Hello, and the bytes that were read for it
   pub name : List ℕ
   pub first : List ℕ
   pub stream : Stream
   pub unread : Option (List ℕ)
-  pub gave : Consumes before.left unread first
+  pub read_is : Consumes before.left unread first
   pub hello : BeginsWithHello first name stream.held
   pub place : stream.at + length stream.held ≡ length first
   -- the Open
-  pub opening : Act
+  pub opening : LogEntry
   pub greeting : Greeting
   pub conn_is : greeting.conn ≡ conn
   pub opened : IsAct opening (Open name false) (Ok (opened_as greeting))
   -- the Says and the Close
-  pub says : List Act
-  pub close : Outcome
+  pub says : List LogEntry
+  pub close : ReplyOrMemory
   pub are : AreSays unread after.left stream conn end close says
   pub acts_are : acts ≡ opening ∷ says
   -- what the peer took
@@ -79,45 +81,46 @@ pub record IsServed (past : Past) (conn : ℕ) (end : UpEnd) (down : DownEnd) (a
   pub welcomed : Appends before.held taken (entry_bytes (welcome greeting))
   pub sends : Sends past conn taken after.held down
   -- the causes
-  pub reads : BlamesUp end before.read_faults after.read_faults
-  pub writes : BlamesDown down before.write_faults after.write_faults
+  pub reads : FaultMatchesUp end before.read_faults after.read_faults
+  pub writes : FaultMatchesDown down before.write_faults after.write_faults
   pub at_end : end ≡ up.End → IsAtEnd after.left
 
 -- what both ends of a report say where nobody was greeted
-abbrev pub RefusedBy : UpEnd → DownEnd → List Act → LinkState → LinkState → Type 0
+abbrev pub RefusedBy : UpEnd → DownEnd → List LogEntry → LinkState → LinkState → Type 0
 RefusedBy (up.NotGreeted end) sent acts before after =
-    (sent ≡ down.NotGreeted) × IsRefused end acts before after
+    (sent ≡ down.NotGreeted) × IsGreetingRefused end acts before after
 RefusedBy other sent acts before after = ⊥
 
 -- by the connection of a report, if there is one
-abbrev pub LinkBy : Past → Option ℕ → UpEnd → DownEnd → List Act → LinkState → LinkState → Type 0
+abbrev pub LinkBy : Past → Option ℕ → UpEnd → DownEnd → List LogEntry → LinkState → LinkState
+    → Type 0
 LinkBy past None end down acts before after = RefusedBy end down acts before after
 LinkBy past (Some conn) end down acts before after = IsServed past conn end down acts before after
 
 -- The link went as its report tells, with these acts: before is what it was when it was handed out,
 -- and after is what it was when it was handed back. Feeds are of this session.
-abbrev pub IsLink : Past → LinkReport → List Act → LinkState → LinkState → Type 0
+abbrev pub IsLink : Past → LinkReport → List LogEntry → LinkState → LinkState → Type 0
 IsLink past report acts before after =
     LinkBy past report.conn report.up_end report.down_end acts before after
 
 -- ---- flags
 
 -- memory ran out in the act
-abbrev pub is_failed : Outcome → Bool
+abbrev pub is_failed : ReplyOrMemory → Bool
 is_failed (Ok answer) = false
 is_failed (Err error) = true
 
 -- the store failed in the act
-abbrev pub is_store_fault : Outcome → Bool
+abbrev pub is_store_fault : ReplyOrMemory → Bool
 is_store_fault (Ok (StoreFault count)) = true
 is_store_fault other = false
 
 -- memory ran out in one of the acts
-abbrev pub has_failed : List Act → Bool
+abbrev pub has_failed : List LogEntry → Bool
 has_failed acts = list_any (λ act. is_failed act.outcome) acts
 
 -- the store failed in one of the acts
-abbrev pub has_store_fault : List Act → Bool
+abbrev pub has_store_fault : List LogEntry → Bool
 has_store_fault acts = list_any (λ act. is_store_fault act.outcome) acts
 
 -- a report tells that memory ran out while the painter spoke, or before
@@ -132,5 +135,5 @@ is_down_memory down.Memory = true
 is_down_memory other = false
 
 -- a report tells that memory ran out, or it did in one of the acts
-abbrev pub ran_out : UpEnd → DownEnd → List Act → Bool
+abbrev pub ran_out : UpEnd → DownEnd → List LogEntry → Bool
 ran_out end down acts = is_up_memory end || is_down_memory down || has_failed acts

@@ -5,7 +5,8 @@ use Rattle.std.specs.List.{AllByRecursion, flat_map, list_any, range_with_len}
 use Rattle.dp_io.specs.Faults.{Rose}
 use Rattle.dp_wire.specs.Links.{Links, WhereKnown}
 use Rattle.dp_epochs.specs.Past.{Past}
-use Rattle.dp_link.specs.Acts.{Act, SeatView}
+use Rattle.dp_link.specs.Acts.{SeatView}
+use Rattle.dp_session_laws.specs.Logs.{LogEntry}
 use Rattle.dp_link.specs.Sending.{session_of}
 use Rattle.dp_worker.specs.declared.report.LinkReport.{LinkReport}
 use Rattle.dp_worker.specs.declared.worker.Worked.{Worked}
@@ -20,7 +21,7 @@ most_links conns = unwrap_or conns (2 ^ 32 - 1)
 -- handed back
 pub record LinkRun (R T : Type 0) : Type 0 where
   pub report : LinkReport
-  pub acts : List Act
+  pub acts : List LogEntry
   pub given : R × T
   pub back : R × T
 
@@ -32,7 +33,7 @@ module _ {R T : Type 0} where
     pub link : IsLink past run.report run.acts (see run.given) (see run.back)
 
   -- the acts of the links, one link after another
-  abbrev pub acts_of : List (LinkRun R T) → List Act
+  abbrev pub acts_of : List (LinkRun R T) → List LogEntry
   acts_of runs = flat_map (λ run. run.acts) runs
 
   -- the links were the next ones to come, were handed out, and were handed back
@@ -50,9 +51,9 @@ module _ {R T : Type 0} where
   run_ran_out run = ran_out run.report.up_end run.report.down_end run.acts
 
 -- the wire's count of faults rose where a worker says that its wire failed, and else it stays
-abbrev pub BlamesWire : Bool → ℕ → ℕ → Type 0
-BlamesWire true before now = Rose before now
-BlamesWire false before now = now ≡ before
+abbrev pub FaultMatchesWire : Bool → ℕ → ℕ → Type 0
+FaultMatchesWire true before now = Rose before now
+FaultMatchesWire false before now = now ≡ before
 
 -- A worker has served these links, numbered from 0, one after another. Memory ran out only where it
 -- says so, and the store failed in an act exactly where it says so.
@@ -66,7 +67,7 @@ pub record HasServed {R T : Type 0} (see : R × T → LinkState) (start : Past) 
   pub links : WhereKnown old (HandsOver runs) new
   pub memory : list_any run_ran_out runs ≡ true → worked.memory ≡ true
   pub store : worked.store ≡ has_store_fault (acts_of runs)
-  pub wire : BlamesWire worked.wire before now
+  pub wire : FaultMatchesWire worked.wire before now
 
 -- The same of all its links: so many as it may serve, or all that were to come, unless its wire
 -- failed or memory ran out.

@@ -16,13 +16,13 @@ ghost use Rattle.dp_worker.specs.Serving.{is_last_store_fault};
 
 use crate::pumps::{Pumped, run_pumps};
 use dp_events::{Event, Reply};
-use dp_split::Splitter;
 use dp_hall::{Hall, Seat, calls_add_up, seats_are_sound, seats_come_back, seats_rejoin};
 use dp_io::{Sink, Source};
 use dp_keeper::Keeper;
 use dp_link::{DownEnd, GreetEnd, GreetRun, Greeting, UpEnd, UpRun, greetings_are_seen, run_greet};
 use dp_session::Session;
 use dp_session_laws::{feeds_begin, feeds_go_on, gone_goes_on, sessions_go_on};
+use dp_split::Splitter;
 use dp_wire::Gate;
 use std::alloc::{AllocError, Global};
 use std::sync::Wait;
@@ -77,7 +77,7 @@ impl LinkEnd {
 }
 
 /// A link after it was served, and how it ended.
-pub(crate) struct Linked<R, S> {
+pub(crate) struct ServedLink<R, S> {
     pub(crate) rx: R,
     pub(crate) tx: S,
     pub(crate) end: LinkEnd,
@@ -100,7 +100,7 @@ pub(crate) fn serve_link<
     tx: S,
     who: u32,
     gate: &G,
-) -> Linked<R, S>
+) -> ServedLink<R, S>
     requires of { IsOf hall.now seat.old }
     requires start { ShutBefore hall.now.start }
     ensures of { IsOf hall.now seat.new }
@@ -123,7 +123,7 @@ pub(crate) fn serve_link<
         }
         Err(end) => {
             let end = LinkEnd::refused(end, last);
-            Linked { rx, tx, end }
+            ServedLink { rx, tx, end }
         }
     }
 }
@@ -141,7 +141,7 @@ fn talk<W: Threads + Wait + Sync, K: Keeper + Send, R: Source + Send, S: Sink + 
     greeting: &Greeting,
     who: u32,
     gate: &G,
-) -> Linked<R, S>
+) -> ServedLink<R, S>
     requires of { IsOf hall.now seat.old }
     requires start { ShutBefore hall.now.start }
     requires opened { HasOpened seat.old.view.seen greeting.now.conn greeting.now.user
@@ -165,13 +165,13 @@ fn talk<W: Threads + Wait + Sync, K: Keeper + Send, R: Source + Send, S: Sink + 
         seats_are_sound(seat);
         let end = UpEnd::Memory;
         let end = LinkEnd::served(conn, UpRun { end, close }, DownEnd::Memory);
-        return Linked { rx, tx, end };
+        return ServedLink { rx, tx, end };
     };
     let Pumped { rx, tx, down, run } = run_pumps(
         rt, alloc, hall, seat, other, rx, tx, split, greeting, who, gate,
     );
     let end = LinkEnd::served(conn, run, down);
-    Linked { rx, tx, end }
+    ServedLink { rx, tx, end }
 }
 
 /// Acts a Close of the connection, the second act of its link.

@@ -7,18 +7,18 @@ ghost use Rattle.dp_hall.specs.Laws.{Continues};
 ghost use Rattle.dp_epochs.specs.Laws.{ShutBefore};
 ghost use Rattle.dp_session_laws.specs.Logs.{HasOpened};
 ghost use Rattle.dp_link.specs.Bytes.{link_limit};
-ghost use Rattle.dp_link.specs.Saying.{SaysAll, BlamesUp};
-ghost use Rattle.dp_link.specs.Sending.{Sends, BlamesDown, session_of};
+ghost use Rattle.dp_link.specs.Saying.{SaysAll, FaultMatchesUp};
+ghost use Rattle.dp_link.specs.Sending.{Sends, FaultMatchesDown, session_of};
 ghost use Rattle.dp_link.specs.declared.ends.UpEnd.TheVariants.{End};
 ghost use Rattle.dp_worker.specs.Links.{link_seen};
 ghost use Rattle.dp_worker.specs.Serving.{Pumps};
 
-use dp_split::Splitter;
 use dp_hall::{Hall, Seat};
 use dp_io::{Sink, Source};
 use dp_keeper::Keeper;
 use dp_link::{DownEnd, Greeting, UpRun, pump_down, run_up};
 use dp_session::Session;
+use dp_split::Splitter;
 use dp_wire::Gate;
 use std::alloc::Global;
 use std::sync::Wait;
@@ -109,11 +109,11 @@ fn run_both<
     ensures calls { Continues other.old.view [] other.new.view }
     ensures sends { Sends (session_of hall.now.start other.new.view) greeting.now.conn
         (S.held tx.old) (S.held tx.new) result.0 }
-    ensures writes { BlamesDown result.0 (S.faults tx.old) (S.faults tx.new) }
+    ensures writes { FaultMatchesDown result.0 (S.faults tx.old) (S.faults tx.new) }
     ensures says { SaysAll seat.old.view seat.new.view (R.left rx.old) (R.left rx.new) split.old
         greeting.now.conn result.1.end result.1.close }
     ensures at_end { result.1.end ≡ End → IsAtEnd (R.left rx.new) }
-    ensures reads { BlamesUp result.1.end (R.faults rx.old) (R.faults rx.new) }
+    ensures reads { FaultMatchesUp result.1.end (R.faults rx.old) (R.faults rx.new) }
 {
     let memory = alloc;
     join_mut(
@@ -126,7 +126,7 @@ fn run_both<
                 × Continues other.entry.now.view [] other.exit.now.view
                 × Sends (session_of hall.entry.now.start other.exit.now.view)
                 greeting.entry.now.conn (S.held tx.entry.now) (S.held tx.exit.now) result
-                × BlamesDown result (S.faults tx.entry.now) (S.faults tx.exit.now) }
+                × FaultMatchesDown result (S.faults tx.entry.now) (S.faults tx.exit.now) }
         { pump_down(rt, alloc, hall, other, tx, greeting) },
         &mut || -> UpRun
             requires { IsOf hall.now seat.now
@@ -135,7 +135,7 @@ fn run_both<
                 × SaysAll seat.entry.now.view seat.exit.now.view (R.left rx.entry.now)
                 (R.left rx.exit.now) split.entry.now conn result.end result.close
                 × (result.end ≡ End → IsAtEnd (R.left rx.exit.now))
-                × BlamesUp result.end (R.faults rx.entry.now) (R.faults rx.exit.now) }
+                × FaultMatchesUp result.end (R.faults rx.entry.now) (R.faults rx.exit.now) }
         { run_up(rt, memory, hall, seat, rx, split, conn, who, gate) },
     )
 }

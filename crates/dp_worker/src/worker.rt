@@ -10,7 +10,7 @@ ghost use Rattle.dp_worker.specs.Links.{link_seen};
 ghost use Rattle.dp_worker.specs.Works.{Works, ServedSoFar, ServesNext, most_links};
 
 use crate::LinkReport;
-use crate::link::{LinkEnd, Linked, serve_link};
+use crate::link::{LinkEnd, ServedLink, serve_link};
 use dp_events::{Event, Reply};
 use dp_hall::{Hall, Seat, calls_add_up, seats_are_sound, seats_come_back};
 use dp_keeper::Keeper;
@@ -113,7 +113,7 @@ fn serve_next<W: Wire, K: Keeper + Send, G: Gate, R: Threads + Wait + Sync>(
     }
     match wire.accept() {
         Ok(Some((rx, tx))) => {
-            let Linked { rx, tx, end } = serve_link(rt, alloc, hall, seat, rx, tx, who, gate);
+            let ServedLink { rx, tx, end } = serve_link(rt, alloc, hall, seat, rx, tx, who, gate);
             seats_are_sound(seat);
             wire.done(rx, tx);
             note(worked, who, link, end);

@@ -14,13 +14,13 @@ use Rattle.dp_lines.specs.TakenParts.{TookWithin}
 use Rattle.dp_script.specs.declared.machine.ScriptEnd.{ScriptEnd}
 use Rattle.dp_script.specs.declared.machine.ScriptEnd.TheVariants.{Done, BadLine, ReadFault, Long}
 use Rattle.dp_script.specs.declared.machine.ScriptEnd.TheVariants.{Memory, Ended}
-use Rattle.dp_script.specs.Ends.{BlamesInput}
-use Rattle.dp_script.specs.Leaves.{HoldsLines, IsFrontOf, IsNextOf, ScriptLeaves}
+use Rattle.dp_script.specs.Ends.{FaultMatchesInput}
+use Rattle.dp_script.specs.Leaves.{HoldsLines, AreFirstOf, IsNextOf, ScriptLeaves}
 use Rattle.dp_script.specs.Moments.{Moment}
 use Rattle.dp_sim.specs.World.{World, first_world}
 use Rattle.dp_world.specs.Schedule.{AskFor, IsStep, world_limit}
 use Rattle.dp_world.specs.Progress.{HasDone, HasEnded, Wrote}
-use Rattle.dp_lines.specs.RunEnds.{Blames}
+use Rattle.dp_lines.specs.RunEnds.{FaultMatchesEnd}
 use Rattle.dp_world.specs.RunEnds.{ReportsOf, ReportsPart}
 use Rattle.dp_world.specs.RunEnds.{ReportsWhole, TookNoCause, WorldLeaves, run_end_of}
 use Rattle.dp_world.proofs.Called.{FurtherStep}
@@ -33,7 +33,7 @@ pub nothing_done : {M O D T : Type 0} (world : M → World) (held : O → Option
 nothing_done world held faults start first = record {
   actions = [];
   asked = tt;
-  behind = first;
+  after = first;
   text = Appends-nil (held start.output);
   kept = refl;
 }
@@ -44,7 +44,7 @@ pub refused_leaves : AreSteps IsStep [] → (input left old : Option (List ℕ))
 refused_leaves none None left old = tt
 refused_leaves none (Some bytes) left old = record {
   begun = [];
-  behind = seen world_limit bytes;
+  after = seen world_limit bytes;
   parts = refl;
   has = record { actions = []; asked = tt; steps = none; text = (0, omega arith, Appends-nil old) };
 }
@@ -70,7 +70,7 @@ fault_of (Some bytes) left done has took = record {
   untaken = took.untaken;
   parts =
       took.whole
-      ∙ ap (λ (xs : List ℕ). took.taken ++ (xs ++ took.untaken)) (nil_from_length took.behind
+      ∙ ap (λ (xs : List ℕ). took.taken ++ (xs ++ took.untaken)) (nil_from_length took.after
       (omega (arith, took.few)));
   left_is = took.left_is;
   quiet = took.meets.quiet;
@@ -81,28 +81,28 @@ fault_of (Some bytes) left done has took = record {
 
 -- a prefix of the report of the lines that were done
 part_of_done : (input old now : Option (List ℕ)) (done : List Line) → Wrote done old now
-    → IfSome input (λ bytes. IsFrontOf IsStep (seen world_limit bytes) done)
+    → IfSome input (λ bytes. AreFirstOf IsStep (seen world_limit bytes) done)
     → ReportsPart input old now
-part_of_done None old now done wrote front = tt
-part_of_done (Some bytes) old now done wrote front = record {
+part_of_done None old now done wrote prefix = tt
+part_of_done (Some bytes) old now done wrote prefix = record {
   begun = done;
-  behind = front.behind;
-  parts = front.parts;
+  after = prefix.after;
+  parts = prefix.parts;
   has = record {
     actions = wrote.actions;
     asked = wrote.asked;
-    steps = front.steps;
+    steps = prefix.steps;
     text = wrote.text;
   };
 }
 
 -- the lines that were done are the first
-front_of_next : (input : Option (List ℕ)) (done : List Line) (line : Line)
+first_of_next : (input : Option (List ℕ)) (done : List Line) (line : Line)
     → IfSome input (λ bytes. IsNextOf IsStep (seen world_limit bytes) done line)
-    → IfSome input (λ bytes. IsFrontOf IsStep (seen world_limit bytes) done)
-front_of_next None done line next = tt
-front_of_next (Some bytes) done line next =
-    record { behind = line ∷ next.behind; parts = next.parts; steps = next.steps }
+    → IfSome input (λ bytes. AreFirstOf IsStep (seen world_limit bytes) done)
+first_of_next None done line next = tt
+first_of_next (Some bytes) done line next =
+    record { after = line ∷ next.after; parts = next.parts; steps = next.steps }
 
 -- a prefix of the report of the lines that were done and of the next one
 part_of_next : FurtherStep → (input old now : Option (List ℕ)) (done : List Line) (line : Line)
@@ -112,8 +112,8 @@ part_of_next : FurtherStep → (input old now : Option (List ℕ)) (done : List 
 part_of_next further None old now done line step wrote next = tt
 part_of_next further (Some bytes) old now done line step wrote next = record {
   begun = done ++ line ∷ [];
-  behind = next.behind;
-  parts = next.parts ∙ sym (append_assoc done (line ∷ []) next.behind);
+  after = next.after;
+  parts = next.parts ∙ sym (append_assoc done (line ∷ []) next.after);
   has = record {
     actions = wrote.actions;
     asked = wrote.asked;
@@ -128,7 +128,7 @@ part_of_memory : FurtherStep → (input old now : Option (List ℕ)) (done : Lis
     → IfSome input (λ bytes. IsNextOf IsStep (seen world_limit bytes) done line)
     → ReportsPart input old now
 part_of_memory further input old now done line (inl wrote) next =
-    part_of_done input old now done wrote (front_of_next input done line next)
+    part_of_done input old now done wrote (first_of_next input done line next)
 part_of_memory further input old now done line (inr (step, wrote)) next =
     part_of_next further input old now done line step wrote next
 
@@ -147,9 +147,9 @@ leaves_of world held faults further input left start now ReadFault (done, has, t
     fault_of input left done has taken
 leaves_of world held faults further input left start now Long (done, has, comes) took =
     (whole_of input done ends.TooLong has comes, took)
-leaves_of world held faults further input left start now Memory (done, has, front) took =
+leaves_of world held faults further input left start now Memory (done, has, prefix) took =
     part_of_done input (held start.output) (held now.output) done
-    (wrote_done world held faults start now done has) front
+    (wrote_done world held faults start now done has) prefix
 leaves_of world held faults further input left start now (Ended picture.Failed)
     (done, line, failed, next) took = (
       part_of_next further input (held start.output) (held now.output) done line failed.step
@@ -160,26 +160,29 @@ leaves_of world held faults further input left start now (Ended picture.Memory)
     (done, line, ran_out, next) took =
     part_of_memory further input (held start.output) (held now.output) done line ran_out.wrote next
 
-pub blames_of : {M O D T : Type 0} (world : M → World) (held : O → Option (List ℕ))
+pub fault_matches_of : {M O D T : Type 0} (world : M → World) (held : O → Option (List ℕ))
     (faults : O → ℕ) (input left : Option (List ℕ)) (start now : Moment M O D T)
     (before after : ℕ) (end : ScriptEnd PictureEnd)
     → ScriptLeaves IsStep (HasDone world held faults) (HasEnded held faults) world_limit input left
     start now end
-    → BlamesInput before after end
-    → Blames before after (faults start.output) (faults now.output) (run_end_of end)
-blames_of world held faults input left start now before after Done (at_end, done, has, comes) b =
+    → FaultMatchesInput before after end
+    → FaultMatchesEnd before after (faults start.output) (faults now.output) (run_end_of end)
+fault_matches_of world held faults input left start now before after Done (at_end, done, has, comes)
+    b =
     (b, has.kept)
-blames_of world held faults input left start now before after (BadLine n) (done, has, comes) b =
+fault_matches_of world held faults input left start now before after (BadLine n) (done, has, comes)
+    b =
     (b, has.kept)
-blames_of world held faults input left start now before after ReadFault (done, has, taken) b =
+fault_matches_of world held faults input left start now before after ReadFault (done, has, taken)
+    b =
     (b, has.kept)
-blames_of world held faults input left start now before after Long (done, has, comes) b =
+fault_matches_of world held faults input left start now before after Long (done, has, comes) b =
     (b, has.kept)
-blames_of world held faults input left start now before after Memory (done, has, front) b =
+fault_matches_of world held faults input left start now before after Memory (done, has, prefix) b =
     (b, has.kept)
-blames_of world held faults input left start now before after (Ended picture.Failed)
+fault_matches_of world held faults input left start now before after (Ended picture.Failed)
     (done, line, failed, next) b = (b, failed.rose)
-blames_of world held faults input left start now before after (Ended picture.Memory)
+fault_matches_of world held faults input left start now before after (Ended picture.Memory)
     (done, line, ran_out, next) b = (b, ran_out.kept)
 
 -- the count of the output's faults never falls
@@ -196,7 +199,7 @@ later_of world held faults input left start now (BadLine n) (done, has, comes) =
 later_of world held faults input left start now ReadFault (done, has, taken) =
     omega (arith, has.kept)
 later_of world held faults input left start now Long (done, has, comes) = omega (arith, has.kept)
-later_of world held faults input left start now Memory (done, has, front) =
+later_of world held faults input left start now Memory (done, has, prefix) =
     omega (arith, has.kept)
 later_of world held faults input left start now (Ended picture.Failed) (done, line, failed, next) =
     failed.later

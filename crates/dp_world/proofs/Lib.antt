@@ -1,6 +1,6 @@
 pub mod Called
 pub mod Reports
 pub mod Shown
-pub mod Fronts
+pub mod Prefixes
 pub mod Progress
 pub mod Leaving

@@ -19,7 +19,7 @@ use Rattle.dp_script.specs.Moments.{Moment}
 use Rattle.dp_sim.specs.Report.{printed, report}
 use Rattle.dp_sim.specs.World.{World, after, world_after}
 use Rattle.dp_world.specs.Schedule.{IsPossible, IsStep}
-use Rattle.dp_world.specs.Progress.{HasDone, HasEnded, IsRefused, Wrote}
+use Rattle.dp_world.specs.Progress.{HasDone, HasEnded, IsWorldLineRefused, Wrote}
 use Rattle.dp_io.proofs.Prefixes.{grows_after, grows_whole}
 use Rattle.dp_world.proofs.Called.{OneAction}
 use Rattle.dp_world.proofs.Reports.{asked_more, asked_same, report_more, world_more}
@@ -34,7 +34,7 @@ is_step world held faults start old done line action asks possible has = record 
   before = has.asked;
   action = action;
   asks = asks;
-  possible = subst (λ (w : World). IsPossible w action) has.behind possible;
+  possible = subst (λ (w : World). IsPossible w action) has.reaches possible;
 }
 
 -- the line is done
@@ -49,7 +49,7 @@ pub done_further : {M O D T : Type 0} (world : M → World) (held : O → Option
 done_further world held faults start old now done line action asks leads written kept has = record {
   actions = has.actions ++ action ∷ [];
   asked = asked_more done has.actions line action has.asked asks;
-  behind = leads ∙ ap (λ (w : World). after w action) has.behind
+  reaches = leads ∙ ap (λ (w : World). after w action) has.reaches
       ∙ sym (world_more has.actions action);
   text =
       subst (Appends (held start.output) (held now.output)) (sym (report_more has.actions action))
@@ -57,7 +57,7 @@ done_further world held faults start old now done line action asks leads written
       (printed (world_after has.actions) action)
       has.text
       (subst (λ (w : World). Appends (held old.output) (held now.output) (printed w action))
-      has.behind written));
+      has.reaches written));
   kept = kept ∙ has.kept;
 }
 
@@ -78,7 +78,7 @@ wrote_further world held faults start old now done line action asks part has = r
       (grows_after (held start.output) (held old.output) (held now.output) (report has.actions)
       (printed (world_after has.actions) action) has.text
       (subst (λ (w : World). GrowsByPrefix (held old.output) (held now.output) (printed w action))
-      has.behind part));
+      has.reaches part));
 }
 
 -- nothing more was written
@@ -101,7 +101,7 @@ no_step one world held faults start old done line refused has = λ step.
     let same : step.actions ≡ has.actions = asked_same one done step.actions has.actions step.before
     has.asked in
     let here : world_after step.actions ≡ world old.machine = ap world_after same
-    ∙ sym has.behind in
+    ∙ sym has.reaches in
     refused step.action step.asks (subst (λ (w : World). IsPossible w step.action) here
     step.possible)
 
@@ -110,7 +110,7 @@ no_step one world held faults start old done line refused has = λ step.
 -- a line that is refused, but because memory ran out, is no step
 pub refused_by : {M O D T : Type 0} → OneAction → (world : M → World) (held : O → Option (List ℕ))
     (faults : O → ℕ) (old : Moment M O D T) (line : Line) (why : Undone PictureEnd)
-    → IsRefused line (world old.machine) why
+    → IsWorldLineRefused line (world old.machine) why
     → IfNoStep ((start : Moment M O D T) (done : List Line)
     → HasDone world held faults start done old → ¬ IsStep done line) why
 refused_by one world held faults old line NoStep refused = λ start done has.
@@ -126,7 +126,7 @@ kept_by world held faults old (Ended end) = tt
 
 pub ran_out_by : {M O D T : Type 0} (world : M → World) (held : O → Option (List ℕ))
     (faults : O → ℕ) (old : Moment M O D T) (line : Line) (why : Undone PictureEnd)
-    → IsRefused line (world old.machine) why
+    → IsWorldLineRefused line (world old.machine) why
     → IfEnded (λ end. (start : Moment M O D T) (done : List Line)
     → HasDone world held faults start done old → HasEnded held faults start done line old end) why
 ran_out_by world held faults old line NoStep refused = tt

@@ -35,15 +35,15 @@ pub record Begins (actions more : List Action) : Type 0 where
   pub rest : List Action
   pub whole : more ≡ actions ++ rest
 
-pub asked_front : OneAction → (done behind : List Line) (actions more : List Action)
-    → AskFor done actions → AskFor (done ++ behind) more → Begins actions more
-asked_front one [] behind [] more front whole = record { rest = more; whole = refl }
-asked_front one [] behind (action ∷ actions) more front whole = absurd front
-asked_front one (line ∷ done) behind [] more front whole = absurd front
-asked_front one (line ∷ done) behind (action ∷ actions) [] front whole = absurd whole
-asked_front one (line ∷ done) behind (action ∷ actions) (other ∷ more) (here, front) (there, whole)
+pub asked_prefix : OneAction → (done later : List Line) (actions more : List Action)
+    → AskFor done actions → AskFor (done ++ later) more → Begins actions more
+asked_prefix one [] later [] more prefix whole = record { rest = more; whole = refl }
+asked_prefix one [] later (action ∷ actions) more prefix whole = absurd prefix
+asked_prefix one (line ∷ done) later [] more prefix whole = absurd prefix
+asked_prefix one (line ∷ done) later (action ∷ actions) [] prefix whole = absurd whole
+asked_prefix one (line ∷ done) later (action ∷ actions) (other ∷ more) (here, prefix) (there, whole)
     =
-    let begins = asked_front one done behind actions more front whole in
+    let begins = asked_prefix one done later actions more prefix whole in
     let first : other ≡ action = one line.bytes other action there here in
     let others = begins.whole in record { rest = begins.rest; whole = cc }
 

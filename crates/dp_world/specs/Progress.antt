@@ -17,11 +17,11 @@ use Rattle.dp_world.specs.Schedule.{AskFor, IsPossible, IsStep}
 
 -- why no action is had of a line: it asks for nothing that may be done in the world, or memory ran
 -- out
-abbrev pub IsRefused : Line → World → Undone PictureEnd → Type 0
-IsRefused line world NoStep =
+abbrev pub IsWorldLineRefused : Line → World → Undone PictureEnd → Type 0
+IsWorldLineRefused line world NoStep =
     (action : Action) → Parses line.bytes action → ¬ IsPossible world action
-IsRefused line world (Ended Memory) = ⊤
-IsRefused line world (Ended Failed) = ⊥
+IsWorldLineRefused line world (Ended Memory) = ⊤
+IsWorldLineRefused line world (Ended Failed) = ⊥
 
 -- From the first moment to the second one these lines were done: the world is the one after them,
 -- the output grew by their report, and it didn't fail.
@@ -30,7 +30,7 @@ pub record HasDone {M O D T : Type 0} (world : M → World) (held : O → Option
   where
     pub actions : List Action
     pub asked : AskFor done actions
-    pub behind : world now.machine ≡ world_after actions
+    pub reaches : world now.machine ≡ world_after actions
     pub text : Appends (held start.output) (held now.output) (report actions)
     pub kept : faults now.output ≡ faults start.output
 

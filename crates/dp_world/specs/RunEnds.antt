@@ -46,8 +46,8 @@ pub record HasBegun (begun : List Line) (old now : Option (List ℕ)) : Type 0 w
 -- the output grew by a prefix of the report of the first of these lines, which are steps
 pub record HasBegunOf (lines : List Line) (old now : Option (List ℕ)) : Type 0 where
   pub begun : List Line
-  pub behind : List Line
-  pub parts : lines ≡ begun ++ behind
+  pub after : List Line
+  pub parts : lines ≡ begun ++ after
   pub has : HasBegun begun old now
 
 -- the output grew by a prefix of the report of lines that are the first of those that count of an

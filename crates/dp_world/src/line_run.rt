@@ -13,7 +13,7 @@ ghost use Rattle.dp_sim.specs.Invariant.{IsWorld, SaysNoControl};
 ghost use Rattle.dp_sim.specs.Report.{printed, shown_of};
 ghost use Rattle.dp_sim.specs.World.{after, first_world, participant_of};
 ghost use Rattle.dp_world.specs.Schedule.{IsPossible};
-ghost use Rattle.dp_world.specs.Progress.{IsRefused};
+ghost use Rattle.dp_world.specs.Progress.{IsWorldLineRefused};
 
 use dp_flat::PictureEnd;
 use dp_io::{Sink, put_all};
@@ -33,7 +33,7 @@ pub(crate) struct WorldRun {
     pub world: World,
 }
 
-impl dp_lines::Steps for WorldRun {
+impl dp_lines::StepRule for WorldRun {
     ghost use Rattle.dp_world.specs.Schedule.{IsStep};
 
     ghost is_step = { IsStep };
@@ -82,7 +82,7 @@ impl WorldRun {
         ensures asks { IfOk result (Parses line.now.bytes) }
         ensures possible { IfOk result (IsPossible self.now.world) }
         ensures allowed { IfOk result SaysNoControl }
-        ensures refused { IfErr result (IsRefused line.now self.now.world) }
+        ensures refused { IfErr result (IsWorldLineRefused line.now self.now.world) }
     {
         one_action();
         let Ok(asked) = read_action(self.alloc, line.bytes.as_slice()) else {

@@ -1,7 +1,7 @@
 //! Running a schedule.
 
 ghost use Rattle.std.specs.Prelude.{◌≡◌, ◌≤◌};
-ghost use Rattle.dp_lines.specs.RunEnds.{Blames};
+ghost use Rattle.dp_lines.specs.RunEnds.{FaultMatchesEnd};
 ghost use Rattle.dp_world.specs.RunEnds.{WorldLeaves, run_end_of};
 
 use crate::line_run::WorldRun;
@@ -35,7 +35,7 @@ pub fn run_world<I: Source, O: Sink, D: Ledger, T: Ledger>(
 ) -> RunEnd
     ensures leaves { WorldLeaves (I.left input.old) (I.left input.new)
         (O.held output.old) (O.held output.new) result }
-    ensures blames { Blames (I.faults input.old) (I.faults input.new)
+    ensures fault { FaultMatchesEnd (I.faults input.old) (I.faults input.new)
         (O.faults output.old) (O.faults output.new) result }
     ensures input_later { I.faults input.old ≤ I.faults input.new }
     ensures output_later { O.faults output.old ≤ O.faults output.new }

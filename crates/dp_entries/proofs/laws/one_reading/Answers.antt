@@ -4,7 +4,7 @@ use Rattle.dp_entries.proofs.laws.one_reading.Goals as goal
 pub returns-clause-entries : goal.returns-clause-entries
 returns-clause-entries g c = λ first limit input es ds end other h k.
     let laws : Laws g.S.Standing.may_stand = record {
-      first = c.one_front.ensures;
+      first = c.one_first_frame.ensures;
       splitting = c.one_splitting.ensures;
       entry = c.one_standing.ensures.one;
     } in
@@ -13,7 +13,7 @@ returns-clause-entries g c = λ first limit input es ds end other h k.
 pub returns-clause-end : goal.returns-clause-end
 returns-clause-end g c = λ first limit input es ds end other h k.
     let laws : Laws g.S.Standing.may_stand = record {
-      first = c.one_front.ensures;
+      first = c.one_first_frame.ensures;
       splitting = c.one_splitting.ensures;
       entry = c.one_standing.ensures.one;
     } in

@@ -7,7 +7,7 @@ use Rattle.dp_layers.specs.Layers.{nesting_limit}
 use Rattle.dp_layers.specs.Rows.{layers_of}
 use Rattle.dp_pixels.specs.Tiles.{tile_x, tile_y}
 use Rattle.dp_plain.specs.Picture.{compose, row_pixel}
-use Rattle.dp_flat.proofs.Composed.{tone_front}
+use Rattle.dp_flat.proofs.Composed.{tone_prefix}
 use Rattle.dp_flat.proofs.compose.draw_tile.Goals as goal
 
 pub returns : goal.returns
@@ -16,7 +16,7 @@ returns g c = λ k place.
     let x = tile_x c.args.tile.col k in
     let y = tile_y c.args.tile.row k in
     ap (λ (p : Channels). blend Normal p white)
-    (tone_front c.compose_tile.result c.compose_tile.new.buffer c.compose_tile.new.levels k
+    (tone_prefix c.compose_tile.result c.compose_tile.new.buffer c.compose_tile.new.levels k
     (omega arith)
     ∙ c.compose_tile.ensures k place
     ∙ c.requires.deep x y c.of_argb-start.result

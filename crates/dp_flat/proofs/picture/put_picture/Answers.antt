@@ -39,12 +39,12 @@ returns-in_err-put_next-clause-prefix g c =
     let board = g.V.BoardView.board c.args.board.now in
     let held = g.S.Sink.held in
     let text = pixel_text_of c.args.format in
-    let front = head (name_of c.args.format) board.width board.height in
-    text_failed (held c.args.out.now) (held c.put_next.new.out) text board c.loop-y.y front
+    let prefix = head (name_of c.args.format) board.width board.height in
+    text_failed (held c.args.out.now) (held c.put_next.new.out) text board c.loop-y.y prefix
     (omega (arith, c.height-height.ensures.value))
     (before_failed (held c.args.out.now) (held c.loop-y.out) (held c.put_next.new.out)
     c.loop-y.piece.items
-    (front ++ flat_map text (canvas_of board.width c.loop-y.y (seen board)))
+    (prefix ++ flat_map text (canvas_of board.width c.loop-y.y (seen board)))
     (flat_map text (seen_row board c.loop-y.y))
     c.loop-y.invariant.before c.in_err-put_next.ensures.prefix)
 
@@ -54,13 +54,13 @@ loop-y-preserved g c =
     let y = c.loop-y.y in
     let held = g.S.Sink.held in
     let text = pixel_text_of c.args.format in
-    let front = head (name_of c.args.format) board.width board.height in
+    let prefix = head (name_of c.args.format) board.width board.height in
     record {
       before = subst (GrowsBefore (held c.args.out.now) (held c.put_next.new.out)
-          c.put_next.new.piece.items) (text_more text board c.loop-y.y front)
+          c.put_next.new.piece.items) (text_more text board c.loop-y.y prefix)
           (before_on (held c.args.out.now) (held c.loop-y.out) (held c.put_next.new.out)
           c.loop-y.piece.items
-          (front ++ flat_map text (canvas_of board.width c.loop-y.y (seen board)))
+          (prefix ++ flat_map text (canvas_of board.width c.loop-y.y (seen board)))
           (flat_map text (seen_row board c.loop-y.y))
           c.put_next.new.piece.items
           c.loop-y.invariant.before c.in_ok-put_next.ensures.before);

@@ -26,7 +26,7 @@ loop-col-preserved g c =
     let board = g.V.BoardView.board c.args.board.now in
     let held = g.S.Sink.held in
     let text = pixel_text_of c.args.format in
-    let front = c.args.piece.now.items in
+    let prefix = c.args.piece.now.items in
     let col = c.loop-col.col in
     let x = col * 64 in
     let count = c.min-count.result in
@@ -37,10 +37,10 @@ loop-col-preserved g c =
       before = subst (GrowsBefore (held c.args.out.now) (held c.put_chunk.new.out)
           c.put_chunk.new.piece.items)
           (chunk_more text board c.args.y x count (min x board.width)
-          (min ((col + 1) * 64) board.width) front (omega arith) (omega arith))
+          (min ((col + 1) * 64) board.width) prefix (omega arith) (omega arith))
           (before_on (held c.args.out.now) (held c.loop-col.out) (held c.put_chunk.new.out)
           c.loop-col.piece.items
-          (front ++ flat_map text (seen_first board c.args.y (min x board.width)))
+          (prefix ++ flat_map text (seen_first board c.args.y (min x board.width)))
           (flat_map text chunk) c.put_chunk.new.piece.items
           c.loop-col.invariant.before
           (subst (λ (l : List ℕ). GrowsBefore (held c.loop-col.out) (held c.put_chunk.new.out)

@@ -25,7 +25,7 @@ returns-in_err-send-clause-err g c =
     (g.S.Sink.faults c.send.new.tx) c.in_err-send.field-0.0
     (subst (λ (n : List ℕ). GrowsByPrefix (g.S.Sink.held c.args.tx.now)
     (g.S.Sink.held c.send.new.tx) (hello_bytes n)) is c.in_err-send.ensures.prefix)
-    c.in_err-send.ensures.blames)
+    c.in_err-send.ensures.fault)
 
 pub welcomed-requires-clause-begun : goal.welcomed-requires-clause-begun
 welcomed-requires-clause-begun g c =

@@ -4,7 +4,7 @@ use Rattle.dp_joining.proofs.laws.one_outcome.Goals as goal
 
 pub returns : goal.returns
 returns c = one_outcome (record {
-  frames = record { first = c.one_front.ensures; entry = c.one_standing.ensures.one };
+  frames = record { first = c.one_first_frame.ensures; entry = c.one_standing.ensures.one };
   action = c.one_join_action.ensures;
   lines = c.one_end.ensures.lines script_limit;
   last = c.one_end.ensures.end script_limit;

@@ -1,7 +1,7 @@
 use Rattle.dp_script.specs.Moments.{moment}
 use Rattle.dp_joining.specs.Steps.{seen}
 use Rattle.dp_joining.proofs.Doing.{nothing_done}
-use Rattle.dp_joining.proofs.Leaving.{blames_of, later_of, leaves_of}
+use Rattle.dp_joining.proofs.Leaving.{fault_matches_of, later_of, leaves_of}
 use Rattle.dp_joining.proofs.link.do_script.Goals as goal
 
 pub run_lines-ended-requires-clause-first : goal.run_lines-ended-requires-clause-first
@@ -24,9 +24,10 @@ returns-clause-leaves g c = λ name link first welcome is.
     (g.S.Sink.faults c.run_lines-ended.new.machine.tx) (g.S.Sink.faults c.leave-end.new.joiner.tx)
     c.leave-end.result is c.run_lines-ended.ensures.leaves c.leave-end.ensures.parts
 
-pub returns-clause-blames : goal.returns-clause-blames
-returns-clause-blames g c = λ name link first welcome is.
-    rw c.leave-end.ensures.source (blames_of (seen g.R.Source.left g.R.Source.faults g.S.Sink.held
+pub returns-clause-fault : goal.returns-clause-fault
+returns-clause-fault g c = λ name link first welcome is.
+    rw c.leave-end.ensures.source
+    (fault_matches_of (seen g.R.Source.left g.R.Source.faults g.S.Sink.held
     g.S.Sink.faults g.O.Sink.held
     g.O.Sink.faults) name first welcome
     (moment c.args.joiner c.args.output.now c.args.draws.now c.args.tiles.now)
@@ -37,7 +38,7 @@ returns-clause-blames g c = λ name link first welcome is.
     (g.I.Source.left c.run_lines-ended.new.input) link
     (g.S.Sink.held c.leave-end.new.joiner.tx) c.run_lines-ended.result
     c.run_lines-ended.new.machine.client.user c.leave-end.result is
-    c.run_lines-ended.ensures.leaves c.run_lines-ended.ensures.blames c.leave-end.ensures.parts)
+    c.run_lines-ended.ensures.leaves c.run_lines-ended.ensures.fault c.leave-end.ensures.parts)
 
 pub returns-clause-output_later : goal.returns-clause-output_later
 returns-clause-output_later g c = λ name link first welcome is.

@@ -35,8 +35,8 @@ returns-in-Ok-clause-leaves g c =
     c.do_script.ensures.leaves c.args.name.now (g.R.Source.left c.args.link.0) first
     welcomes.first is
 
-pub returns-in-Ok-clause-blames : goal.returns-in-Ok-clause-blames
-returns-in-Ok-clause-blames g c =
+pub returns-in-Ok-clause-fault : goal.returns-in-Ok-clause-fault
+returns-in-Ok-clause-fault g c =
     let see = seen g.R.Source.left g.R.Source.faults g.S.Sink.held g.S.Sink.faults g.O.Sink.held
     g.O.Sink.faults in
     let joiner = c.joiner_of-joiner.result in
@@ -61,7 +61,7 @@ returns-in-Ok-clause-blames g c =
     (subst (λ x. Appends (g.S.Sink.held c.args.link.1) (g.S.Sink.held x)
     (hello_bytes c.args.name.now)) (sym made.tx) c.in-Ok.ensures.hello)
     (ap g.S.Sink.faults made.tx ∙ c.in-Ok.ensures.sink) refl in
-    c.do_script.ensures.blames c.args.name.now (g.R.Source.left c.args.link.0) first
+    c.do_script.ensures.fault c.args.name.now (g.R.Source.left c.args.link.0) first
     welcomes.first is
 
 pub returns-in-Ok-clause-output_later : goal.returns-in-Ok-clause-output_later

@@ -30,4 +30,4 @@ returns-in-Err-clause-err g c =
     (source_at g.R.Source.left g.R.Source.faults c.args.reader.now c.args.rx.now)
     (source_at g.R.Source.left g.R.Source.faults c.next.new.self c.next.new.input)
     (g.R.Source.left c.next.new.input) c.in-Err.end c.requires c.in-Err.ensures.ends
-    c.in-Err.ensures.later c.in-Err.ensures.blames)
+    c.in-Err.ensures.later c.in-Err.ensures.fault)

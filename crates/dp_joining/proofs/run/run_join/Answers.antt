@@ -16,6 +16,6 @@ returns-in-Ok-clause-leaves g c =
             returned (c.in-Ok.link.0, c.in-Ok.link.1) (joined.rx, joined.tx) _ _ _
             c.in-Ok.ensures.links c.done.ensures.links;
         leaves = c.join_link-end.ensures.leaves;
-        blames = c.join_link-end.ensures.blames;
+        fault = c.join_link-end.ensures.fault;
       },
     ))

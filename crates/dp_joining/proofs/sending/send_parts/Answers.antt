@@ -4,7 +4,7 @@ use Rattle.dp_msg_draw.specs.declared.draw.Draw.{Draw}
 use Rattle.dp_messages.specs.declared.message.Msg.TheVariants as msg
 use Rattle.dp_showing.proofs.Pieces.{written_more, written_part}
 use Rattle.dp_joining.specs.Joining.{sent_by}
-use Rattle.dp_joining.specs.Steps.{BlamesWriting}
+use Rattle.dp_joining.specs.Steps.{FaultMatchesWriting}
 use Rattle.dp_joining.proofs.sending.send_parts.Goals as goal
 
 pub loop-command-preserved : goal.loop-command-preserved
@@ -26,9 +26,9 @@ returns-in_err-send_part-clause-prefix g c =
     c.command-item.result (omega arith) c.command-item.is c.loop-command.invariant.written
     c.in_err-send_part.ensures.prefix
 
-pub returns-in_err-send_part-clause-blames : goal.returns-in_err-send_part-clause-blames
-returns-in_err-send_part-clause-blames g c =
+pub returns-in_err-send_part-clause-fault : goal.returns-in_err-send_part-clause-fault
+returns-in_err-send_part-clause-fault g c =
     let p = err_from_is_err_and c.from_residual.result c.from_residual.ensures.1 in
-    rw (p.1, p.2) (subst (λ (n : ℕ). BlamesWriting n (g.S.Sink.faults c.send_part.new.tx)
+    rw (p.1, p.2) (subst (λ (n : ℕ). FaultMatchesWriting n (g.S.Sink.faults c.send_part.new.tx)
     c.in_err-send_part.field-0.0) c.loop-command.invariant.kept
-    c.in_err-send_part.ensures.blames)
+    c.in_err-send_part.ensures.fault)

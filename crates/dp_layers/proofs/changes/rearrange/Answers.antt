@@ -23,14 +23,14 @@ ready c =
     c.requires.distinct
     (ap (has_effect rows.items) (sym c.in-LayerMove.is) ∙ c.requires.effect))
 
-pub put_behind-requires-clause-distinct : goal.put_behind-requires-clause-distinct
-put_behind-requires-clause-distinct c =
-    (ready (goal.at.put_behind-requires-clause-distinct c).After-set_parent).distinct
+pub insert_after-requires-clause-distinct : goal.insert_after-requires-clause-distinct
+insert_after-requires-clause-distinct c =
+    (ready (goal.at.insert_after-requires-clause-distinct c).After-set_parent).distinct
 
-pub put_behind-requires-clause-present : goal.put_behind-requires-clause-present
-put_behind-requires-clause-present c =
-    (ready (goal.at.put_behind-requires-clause-present c).After-set_parent).present
+pub insert_after-requires-clause-present : goal.insert_after-requires-clause-present
+insert_after-requires-clause-present c =
+    (ready (goal.at.insert_after-requires-clause-present c).After-set_parent).present
 
-pub put_behind-requires-clause-place : goal.put_behind-requires-clause-place
-put_behind-requires-clause-place c =
-    (ready (goal.at.put_behind-requires-clause-place c).After-set_parent).place
+pub insert_after-requires-clause-place : goal.insert_after-requires-clause-place
+insert_after-requires-clause-place c =
+    (ready (goal.at.insert_after-requires-clause-place c).After-set_parent).place

@@ -7,7 +7,7 @@ returns-clause-given c = given_seen
 pub returns-clause-long : goal.returns-clause-long
 returns-clause-long c limit all more done held n left counts next =
     let s = long_seen limit all more done held n left counts next in
-    (s.line, s.behind, s.split, s.long, s.number)
+    (s.line, s.after, s.split, s.long, s.number)
 
 pub returns-clause-cut : goal.returns-clause-cut
 returns-clause-cut c = cut_seen

@@ -38,5 +38,5 @@ pages-preserved g c =
           greeting.at c.send_more.ensures.calls.seen c.pages.invariant.opened;
       sent = c.in-Ok.ensures.sends (g.S.Sink.held c.args.tx.now) c.pages.invariant.sent;
       conn = c.send_more.ensures.conn;
-      kept = c.in-Ok.ensures.blames ∙ c.pages.invariant.kept;
+      kept = c.in-Ok.ensures.fault ∙ c.pages.invariant.kept;
     }

@@ -4,7 +4,7 @@ use Rattle.dp_events.specs.declared.event.Reply.{Reply}
 use Rattle.dp_link.specs.declared.ends.Greeting.{Greeting}
 use Rattle.dp_link.specs.Acts.{ActsOnce, last_outcome}
 use Rattle.dp_link.specs.Hello.{Answers}
-use Rattle.dp_link.proofs.Steps.{welcome-fails, welcome-done, refused-answers, refused-blames}
+use Rattle.dp_link.proofs.Steps.{welcome-fails, welcome-done, refused-answers, refused-fault}
 use Rattle.dp_link.proofs.hello.answer_reply.Goals as goal
 
 pub returns-in-Ok-clause-answers : goal.returns-in-Ok-clause-answers
@@ -46,8 +46,8 @@ returns-in_default g c =
       answers = λ before name acts.
           refused-answers before c.args.seat.now.view (g.S.Sink.held c.args.tx.now)
           (g.S.Sink.held c.refuse.new.tx) name c.refuse.result c.args.reply acts refuses;
-      blames =
-          refused-blames c.refuse.result c.args.reply (g.S.Sink.held c.args.tx.now)
+      fault =
+          refused-fault c.refuse.result c.args.reply (g.S.Sink.held c.args.tx.now)
           (g.S.Sink.held c.refuse.new.tx) (g.S.Sink.faults c.args.tx.now)
-          (g.S.Sink.faults c.refuse.new.tx) refuses c.refuse.ensures.blames;
+          (g.S.Sink.faults c.refuse.new.tx) refuses c.refuse.ensures.fault;
     }

@@ -2,12 +2,12 @@ use Rattle.std.proofs.Common.{Ok, Err, false, List, ℕ}
 use Rattle.std.specs.Prelude.{IfOk}
 use Rattle.dp_events.specs.declared.event.Event.TheVariants.{Open}
 use Rattle.dp_epochs.specs.Past.{Past, Step}
-use Rattle.dp_link.specs.Acts.{Outcome}
+use Rattle.dp_session_laws.specs.Logs.{ReplyOrMemory}
 use Rattle.dp_link.specs.Answers.{OpensWith}
 use Rattle.dp_link.proofs.Steps.{opens-with}
 use Rattle.dp_link.proofs.hello.open.Goals as goal
 
-by_outcome : (name : List ℕ) (outcome : Outcome)
+by_outcome : (name : List ℕ) (outcome : ReplyOrMemory)
     → ((old new : Past) × Step old (Open name false) outcome new) → IfOk outcome OpensWith
 by_outcome name (Ok answer) step = opens-with name false answer step
 by_outcome name (Err error) step = tt

@@ -15,7 +15,7 @@ pieces-preserved g c =
       held =
           (reads-more left unread (g.R.Source.left c.read_piece.new.rx) c.take_name.new.split
           c.read_piece.new.split c.in-Ok.field-0 held none c.in-Ok.ensures.read).0;
-      kept = c.in-Ok.ensures.blames ∙ c.pieces.invariant.kept;
+      kept = c.in-Ok.ensures.fault ∙ c.pieces.invariant.kept;
     }
 
 pub pieces-smaller : goal.pieces-smaller

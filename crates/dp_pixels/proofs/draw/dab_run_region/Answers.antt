@@ -13,14 +13,14 @@ use Rattle.dp_pixels.proofs.draw.dab_run_region.Goals as goal
 pub loop-dab-preserved : goal.loop-dab-preserved
 loop-dab-preserved c =
     let s = c.args.run in
-    let made = c.behind-placed.ensures in
+    let made = c.placed_after-placed.ensures in
     let next = next_is s.at.x s.at.y s.dabs.now c.loop-dab.dab-index c.loop-dab.last
-    c.behind-placed.result c.loop-dab-test.true made.value made.near_x made.near_y
+    c.placed_after-placed.result c.loop-dab-test.true made.value made.near_x made.near_y
     c.loop-dab.invariant.last in
     record {
       last = next.last;
       drawn = dabs_more c.args.region.now c.args.stride s.shape c.in-Some.mode c.args.color
-          (placed_dabs s.at.x s.at.y s.dabs.now) c.loop-dab.dab-index c.behind-placed.result
+          (placed_dabs s.at.x s.at.y s.dabs.now) c.loop-dab.dab-index c.placed_after-placed.result
           c.args.pixels.now c.loop-dab.pixels c.draw_dab.new.pixels next.within next.is
           c.loop-dab.invariant.drawn c.draw_dab.ensures;
     }

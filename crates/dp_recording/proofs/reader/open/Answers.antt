@@ -1,7 +1,7 @@
 use Rattle.std.proofs.Common.{◌++◌, subst, sym}
 use Rattle.std.proofs.lemmas.Result.{IfOk-weaker}
 use Rattle.dp_recording.specs.declared.header.HeaderError.TheVariants.{Bad}
-use Rattle.dp_recording.specs.Headers.{HasNoHeader, IsRefused}
+use Rattle.dp_recording.specs.Headers.{HasNoHeader, IsHeaderRefused}
 use Rattle.dp_recording.specs.Recordings.{HoldsHeader}
 use Rattle.dp_recording.proofs.Headers.{none-stays}
 use Rattle.dp_recording.proofs.Taken.{took-a-piece}
@@ -18,7 +18,7 @@ pub returns-in-Err-Bad-clause-ends : goal.returns-in-Err-Bad-clause-ends
 returns-in-Err-Bad-clause-ends g c = λ bytes e.
     let h = c.pieces.invariant.0 bytes e in
     let held = c.as_slice.result.now in
-    let bad : IsRefused held Bad = subst (IsRefused held) c.in-Err-Bad.field-0-is
+    let bad : IsHeaderRefused held Bad = subst (IsHeaderRefused held) c.in-Err-Bad.field-0-is
     c.in-Err-Bad.ensures.refused in
     let none = subst (λ t. HasNoHeader (t ++ h.untaken)) c.as_slice.ensures.value
     (none-stays held h.untaken bad.0 bad.1) in

@@ -20,8 +20,8 @@ start_is entries start d within none mark =
     (arith, count, within) in
     ap (λ (n : ℕ). drop n entries) (sym at)
 
-pub returns-else-not-is_reset_mark-clause-behind : goal.returns-else-not-is_reset_mark-clause-behind
-returns-else-not-is_reset_mark-clause-behind c =
+pub returns-else-not-is_reset_mark-clause-after : goal.returns-else-not-is_reset_mark-clause-after
+returns-else-not-is_reset_mark-clause-after c =
     let found : is_mark (get_or c.args.entries.now (c.loop-start.start - 1)
     c.index-entries-start.result) ≡ true =
     sym c.is_reset_mark.ensures ∙ c.if-not-is_reset_mark.false in
@@ -30,8 +30,8 @@ returns-else-not-is_reset_mark-clause-behind c =
     (λ k from below. c.loop-start.invariant.none k _ from below)
     (λ some. found)
 
-pub returns-after-loop-start-clause-behind : goal.returns-after-loop-start-clause-behind
-returns-after-loop-start-clause-behind c =
+pub returns-after-loop-start-clause-after : goal.returns-after-loop-start-clause-after
+returns-after-loop-start-clause-after c =
     start_is c.args.entries.now c.loop-start.start (record { user = 0; msg = Point })
     c.loop-start.invariant.within
     (λ k from below. c.loop-start.invariant.none k _ from below)

@@ -12,7 +12,7 @@ returns-in_err-do_given-in-Ok-Some-clause-err g c =
     let e = c.in-Ok-Some.ensures in
     let lines = rw c.in-Ok-Some.field-0-is at e.lines in
     rw (p.1, p.2) (λ start limit all more few reading.
-    reading_stops g.M.Steps.is_step g.M.LineMachine.has_done g.M.LineMachine.has_ended
+    reading_stops g.M.StepRule.is_step g.M.LineMachine.has_done g.M.LineMachine.has_ended
     c.still_left.ensures.given c.lines_seen.ensures.given limit all more c.held.lines
     c.next_line.new.self c.in-Ok-Some.line start
     (moment c.held.machine c.held.output c.held.draws c.held.tiles)
@@ -45,7 +45,7 @@ returns-in-Ok-None-clause-short g c = λ n long.
 
 pub returns-in-Err-Long-clause-err : goal.returns-in-Err-Long-clause-err
 returns-in-Err-Long-clause-err g c = λ start limit all more few reading.
-    reading_long g.M.Steps.is_step g.M.LineMachine.has_done g.M.LineMachine.has_ended
+    reading_long g.M.StepRule.is_step g.M.LineMachine.has_done g.M.LineMachine.has_ended
     c.lines_seen.ensures.long limit all more c.held.lines c.in-Err-Long.number start
     (moment c.held.machine c.held.output c.held.draws c.held.tiles)
     few ((c.in-Err-Long.ensures.long c.in-Err-Long.number).0 (ap Err c.in-Err-Long.field-0-is))
@@ -53,7 +53,7 @@ returns-in-Err-Long-clause-err g c = λ start limit all more few reading.
 
 pub returns-in-Err-Memory-clause-err : goal.returns-in-Err-Memory-clause-err
 returns-in-Err-Memory-clause-err g c = λ start limit all more few reading.
-    reading_full g.M.Steps.is_step g.M.LineMachine.has_done g.M.LineMachine.has_ended
+    reading_full g.M.StepRule.is_step g.M.LineMachine.has_done g.M.LineMachine.has_ended
     c.lines_seen.ensures.given limit all more c.held.lines start
     (moment c.held.machine c.held.output c.held.draws c.held.tiles)
     few (c.held.invariant.reading start all reading)

@@ -8,9 +8,9 @@ use Rattle.dp_script.proofs.held.do_held.Given as goal
 abbrev pub invariant-held : goal.invariant-held
 invariant-held g l = record {
   reading : (start : Moment g.row.M.Denot g.row.O.Denot g.row.D.Denot g.row.T.Denot) (all : List ℕ)
-      → IsReading g.M.Steps.is_step g.M.LineMachine.has_done all l.fn.lines start
+      → IsReading g.M.StepRule.is_step g.M.LineMachine.has_done all l.fn.lines start
       (moment l.fn.machine l.fn.output l.fn.draws l.fn.tiles)
-      → IsReading g.M.Steps.is_step g.M.LineMachine.has_done all l.lines start
+      → IsReading g.M.StepRule.is_step g.M.LineMachine.has_done all l.lines start
       (moment l.machine l.output l.draws l.tiles);
   ready : g.M.LineMachine.is_ready l.machine;
   fed : l.lines.fed ≡ l.fn.lines.fed;

@@ -13,10 +13,10 @@ returns-in_default-clause-err g c = λ start limit all more few reading.
     let piece = c.args.piece.now in
     let here = moment c.args.machine.now c.args.output.now c.args.draws.now c.args.tiles.now in
     let short : length all ≤ limit = omega (arith, length-append all piece) in
-    subst (λ (bytes : List ℕ). StopsIn g.M.Steps.is_step g.M.LineMachine.has_done
+    subst (λ (bytes : List ℕ). StopsIn g.M.StepRule.is_step g.M.LineMachine.has_done
     g.M.LineMachine.has_ended (seen limit bytes) start here Memory)
     (sym (append_assoc all piece more))
-    (reading_full g.M.Steps.is_step g.M.LineMachine.has_done g.M.LineMachine.has_ended
+    (reading_full g.M.StepRule.is_step g.M.LineMachine.has_done g.M.LineMachine.has_ended
     c.lines_seen.ensures.given limit all (piece ++ more) c.args.lines.now start here
     short reading)
 

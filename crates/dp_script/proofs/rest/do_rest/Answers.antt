@@ -11,7 +11,7 @@ returns-in_err-do_given-in-Ok-Some-clause-err g c =
     let p = err_from_is_err_and c.from_residual.result c.from_residual.ensures.1 in
     let given = rw c.in-Ok-Some.field-0-is at c.in-Ok-Some.ensures.lines in
     rw (p.1, p.2) (λ start whole ending.
-    ending_stops g.M.Steps.is_step g.M.LineMachine.has_done g.M.LineMachine.has_ended
+    ending_stops g.M.StepRule.is_step g.M.LineMachine.has_done g.M.LineMachine.has_ended
     whole c.rest.lines c.finish.new.self c.in-Ok-Some.line start
     (moment c.rest.machine c.rest.output c.rest.draws c.rest.tiles)
     (moment c.do_given.new.machine c.do_given.new.output c.do_given.new.draws
@@ -37,7 +37,7 @@ returns-in-Ok-None-clause-ok g c = λ start whole ending.
 
 pub returns-in-Err-Long-clause-err : goal.returns-in-Err-Long-clause-err
 returns-in-Err-Long-clause-err g c = λ start whole ending.
-    ending_long g.M.Steps.is_step g.M.LineMachine.has_done g.M.LineMachine.has_ended
+    ending_long g.M.StepRule.is_step g.M.LineMachine.has_done g.M.LineMachine.has_ended
     whole c.rest.lines c.in-Err-Long.number start
     (moment c.rest.machine c.rest.output c.rest.draws c.rest.tiles)
     ((c.in-Err-Long.ensures.long c.in-Err-Long.number).0 (ap Err c.in-Err-Long.field-0-is))
@@ -45,7 +45,7 @@ returns-in-Err-Long-clause-err g c = λ start whole ending.
 
 pub returns-in-Err-Memory-clause-err : goal.returns-in-Err-Memory-clause-err
 returns-in-Err-Memory-clause-err g c = λ start whole ending.
-    ending_full g.M.Steps.is_step g.M.LineMachine.has_done g.M.LineMachine.has_ended
+    ending_full g.M.StepRule.is_step g.M.LineMachine.has_done g.M.LineMachine.has_ended
     whole c.rest.lines start
     (moment c.rest.machine c.rest.output c.rest.draws c.rest.tiles)
     (c.rest.invariant.ending start whole ending)

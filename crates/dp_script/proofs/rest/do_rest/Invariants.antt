@@ -10,9 +10,9 @@ abbrev pub invariant-rest : goal.invariant-rest
 invariant-rest g l = record {
   ending : (start : Moment g.row.M.Denot g.row.O.Denot g.row.D.Denot g.row.T.Denot)
       (whole : List Line)
-      → IsEnding g.M.Steps.is_step g.M.LineMachine.has_done whole l.fn.lines start
+      → IsEnding g.M.StepRule.is_step g.M.LineMachine.has_done whole l.fn.lines start
       (moment l.fn.machine l.fn.output l.fn.draws l.fn.tiles)
-      → IsEnding g.M.Steps.is_step g.M.LineMachine.has_done whole l.lines start
+      → IsEnding g.M.StepRule.is_step g.M.LineMachine.has_done whole l.lines start
       (moment l.machine l.output l.draws l.tiles);
   ready : g.M.LineMachine.is_ready l.machine;
 }

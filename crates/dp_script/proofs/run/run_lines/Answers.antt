@@ -5,7 +5,7 @@ use Rattle.dp_lines.specs.Held.{Held}
 use Rattle.dp_script.specs.Moments.{moment}
 use Rattle.dp_script.proofs.Leaving.{read_first, none_ended, none_long, read_further, two_parts}
 use Rattle.dp_script.proofs.Leaving.{piece_stops, long_leaves, fault_leaves, done_leaves}
-use Rattle.dp_script.proofs.Leaving.{rest_stops, took_chunk, took_fault, stop_blames}
+use Rattle.dp_script.proofs.Leaving.{rest_stops, took_chunk, took_fault, stop_fault}
 use Rattle.dp_script.proofs.run.run_lines.Goals as goal
 
 pub reads-init : goal.reads-init
@@ -25,7 +25,7 @@ reads-init g c = record {
 pub returns-in-Err-clause-leaves : goal.returns-in-Err-clause-leaves
 returns-in-Err-clause-leaves g c =
     let few : c.reads.lines.fed ≤ c.args.limit = omega (arith, c.reads.invariant.room) in
-    fault_leaves g.M.Steps.is_step g.M.LineMachine.has_done
+    fault_leaves g.M.StepRule.is_step g.M.LineMachine.has_done
     g.M.LineMachine.has_ended
     c.args.limit (g.I.Source.left c.args.input.now) (g.I.Source.left c.reads.input)
     (g.I.Source.left c.read.new.self)
@@ -51,7 +51,7 @@ returns-in-Err-do_rest-clause-leaves g c =
     c.if-count-eq0.true in
     let few : c.reads.lines.fed ≤ c.args.limit = omega (arith, c.reads.invariant.room) in
     let bytes = c.in-Ok.ensures.bytes in
-    rest_stops g.M.Steps.is_step g.M.LineMachine.has_done
+    rest_stops g.M.StepRule.is_step g.M.LineMachine.has_done
     g.M.LineMachine.has_ended
     c.lines_seen.ensures.whole c.args.limit (g.I.Source.left c.args.input.now)
     (g.I.Source.left c.reads.input)
@@ -75,9 +75,9 @@ returns-in-Err-do_rest-clause-took g c =
     few c.reads.invariant.drained c.reads.invariant.short c.in-Ok.ensures.bytes.0 bound
     c.reads.invariant.read
 
-pub returns-in-Err-do_rest-clause-blames : goal.returns-in-Err-do_rest-clause-blames
-returns-in-Err-do_rest-clause-blames g c =
-    stop_blames _ _ c.in-Err-do_rest.end c.in-Err-do_rest.ensures.of_lines
+pub returns-in-Err-do_rest-clause-fault : goal.returns-in-Err-do_rest-clause-fault
+returns-in-Err-do_rest-clause-fault g c =
+    stop_fault _ _ c.in-Err-do_rest.end c.in-Err-do_rest.ensures.of_lines
     (c.in-Ok.ensures.cause.kept ∙ c.reads.invariant.kept)
 
 pub returns-then-count-eq0-clause-leaves : goal.returns-then-count-eq0-clause-leaves
@@ -88,7 +88,7 @@ returns-then-count-eq0-clause-leaves g c =
     c.if-count-eq0.true in
     let few : c.reads.lines.fed ≤ c.args.limit = omega (arith, c.reads.invariant.room) in
     let bytes = c.in-Ok.ensures.bytes in
-    done_leaves g.M.Steps.is_step g.M.LineMachine.has_done
+    done_leaves g.M.StepRule.is_step g.M.LineMachine.has_done
     g.M.LineMachine.has_ended
     c.lines_seen.ensures.whole c.args.limit (g.I.Source.left c.args.input.now)
     (g.I.Source.left c.reads.input)
@@ -120,7 +120,7 @@ returns-in-Err-do_piece-clause-leaves g c =
     let least : counted ≤ count = omega arith in
     let few : c.reads.lines.fed + length (take counted buffer) ≤ c.args.limit =
     omega (arith, length-take counted buffer, c.in-Ok.ensures.bound, c.reads.invariant.room) in
-    piece_stops g.M.Steps.is_step g.M.LineMachine.has_done
+    piece_stops g.M.StepRule.is_step g.M.LineMachine.has_done
     g.M.LineMachine.has_ended
     c.args.limit (g.I.Source.left c.args.input.now) (g.I.Source.left c.reads.input)
     (g.I.Source.left c.read.new.self)
@@ -145,9 +145,9 @@ returns-in-Err-do_piece-clause-took g c =
     few c.reads.invariant.drained c.reads.invariant.short c.in-Ok.ensures.bytes.0 bound
     c.reads.invariant.read
 
-pub returns-in-Err-do_piece-clause-blames : goal.returns-in-Err-do_piece-clause-blames
-returns-in-Err-do_piece-clause-blames g c =
-    stop_blames _ _ c.in-Err-do_piece.end c.in-Err-do_piece.ensures.of_lines
+pub returns-in-Err-do_piece-clause-fault : goal.returns-in-Err-do_piece-clause-fault
+returns-in-Err-do_piece-clause-fault g c =
+    stop_fault _ _ c.in-Err-do_piece.end c.in-Err-do_piece.ensures.of_lines
     (c.in-Ok.ensures.cause.kept ∙ c.reads.invariant.kept)
 
 pub returns-then-counted-count-clause-leaves : goal.returns-then-counted-count-clause-leaves
@@ -158,7 +158,7 @@ returns-then-counted-count-clause-leaves g c =
     let least : counted ≤ count = omega arith in
     let full : c.reads.lines.fed + length (take counted buffer) ≡ c.args.limit =
     omega (arith, length-take counted buffer, c.in-Ok.ensures.bound, c.reads.invariant.room) in
-    let behind : drop counted (take count buffer) ≢ [] = λ none.
+    let after : drop counted (take count buffer) ≢ [] = λ none.
     omega (
       arith,
       ap length none,
@@ -167,7 +167,7 @@ returns-then-counted-count-clause-leaves g c =
       c.in-Ok.ensures.bound,
     ) in
     let e = c.in_default-do_piece.ensures in
-    long_leaves g.M.Steps.is_step g.M.LineMachine.has_done
+    long_leaves g.M.StepRule.is_step g.M.LineMachine.has_done
     g.M.LineMachine.has_ended
     c.lines_seen.ensures.cut c.args.limit (g.I.Source.left c.args.input.now)
     (g.I.Source.left c.reads.input)
@@ -179,7 +179,7 @@ returns-then-counted-count-clause-leaves g c =
     (moment c.reads.machine c.reads.output c.reads.draws c.reads.tiles)
     (moment c.do_piece.new.machine c.do_piece.new.output c.do_piece.new.draws
     c.do_piece.new.tiles)
-    c.in-Ok.ensures.bytes.0 (two_parts counted count buffer least) behind full e.drained
+    c.in-Ok.ensures.bytes.0 (two_parts counted count buffer least) after full e.drained
     e.short e.ok c.reads.invariant.read
 
 pub returns-then-counted-count-clause-took : goal.returns-then-counted-count-clause-took

@@ -1,6 +1,6 @@
 use Rattle.std.proofs.Common.{refl, ◌∙◌}
 use Rattle.dp_viewer.proofs.Recordings.{on-no-error, shows-further}
-use Rattle.dp_viewer.proofs.Recordings.{shows-first, shows-done, shows-end, blames-going}
+use Rattle.dp_viewer.proofs.Recordings.{shows-first, shows-done, shows-end, fault_matches-going}
 use Rattle.dp_viewer.proofs.reading.read_recording.Goals as goal
 
 pub entries-init : goal.entries-init
@@ -42,8 +42,8 @@ returns-in-Err-clause-told g c =
     (g.I.Source.left c.next.new.input) c.entries.board c.entries.due c.entries.reader c.in-Err.error
     c.in-Err.ensures.ends c.entries.invariant.told)
 
-pub returns-in-Err-clause-blames : goal.returns-in-Err-clause-blames
-returns-in-Err-clause-blames g c =
+pub returns-in-Err-clause-fault : goal.returns-in-Err-clause-fault
+returns-in-Err-clause-fault g c =
     rw c.run_end-end.ensures
-    (blames-going c.args.at _ _ c.entries.reader c.in-Err.error c.entries.invariant.going
-    (rw c.entries.invariant.kept at c.in-Err.ensures.blames))
+    (fault_matches-going c.args.at _ _ c.entries.reader c.in-Err.error c.entries.invariant.going
+    (rw c.entries.invariant.kept at c.in-Err.ensures.fault))

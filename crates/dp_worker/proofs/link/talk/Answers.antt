@@ -3,7 +3,8 @@ use Rattle.dp_hall.specs.Calls.{SeatValue}
 use Rattle.dp_events.specs.declared.event.Event.{Event}
 use Rattle.dp_events.specs.declared.event.Event.TheVariants.{Close}
 use Rattle.dp_epochs.specs.Past.{Past}
-use Rattle.dp_link.specs.Acts.{ActsOnce, Outcome}
+use Rattle.dp_link.specs.Acts.{ActsOnce}
+use Rattle.dp_session_laws.specs.Logs.{ReplyOrMemory}
 use Rattle.dp_link.proofs.SendLemmas.{seen-legal, opened-later}
 use Rattle.dp_worker.specs.Links.{link_seen}
 use Rattle.dp_worker.proofs.LinkLemmas.{FeedLaws, talks-left, talks-pumped}
@@ -15,7 +16,8 @@ returns-in_default-clause-talks g c =
     let v = c.args.seat.now.view in
     let w = c.leave-close.new.seat.view in
     let greeting = c.args.greeting.now in
-    let acts = subst (λ (s : SeatValue Event Outcome Past). ActsOnce s.view (Close greeting.conn)
+    let acts =
+    subst (λ (s : SeatValue Event ReplyOrMemory Past). ActsOnce s.view (Close greeting.conn)
     c.leave-close.result w) c.in_default.ensures.err c.leave-close.ensures.acts in
     let opened =
     opened-later v.seen w.seen greeting.conn greeting.user greeting.epoch greeting.at

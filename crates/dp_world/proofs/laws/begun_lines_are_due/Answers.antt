@@ -1,4 +1,4 @@
-use Rattle.dp_world.proofs.Fronts.{begun_due}
+use Rattle.dp_world.proofs.Prefixes.{begun_due}
 use Rattle.dp_world.proofs.laws.begun_lines_are_due.Goals as goal
 
 pub returns : goal.returns

@@ -1,6 +1,7 @@
 use Rattle.dp_script.specs.Moments.{moment}
 use Rattle.dp_world.specs.declared.line_run.WorldRun.{WorldRun}
-use Rattle.dp_world.proofs.Leaving.{nothing_done, refused_leaves, leaves_of, blames_of, later_of}
+use Rattle.dp_world.proofs.Leaving.{nothing_done, refused_leaves, leaves_of, fault_matches_of}
+use Rattle.dp_world.proofs.Leaving.{later_of}
 use Rattle.dp_world.proofs.run.run_world.Goals as goal
 
 pub returns-in_default-clause-leaves : goal.returns-in_default-clause-leaves
@@ -25,16 +26,16 @@ returns-clause-leaves g c =
     (g.I.Source.left c.run_lines.new.input) start now c.run_lines.result
     c.run_lines.ensures.leaves c.run_lines.ensures.took)
 
-pub returns-clause-blames : goal.returns-clause-blames
-returns-clause-blames g c =
+pub returns-clause-fault : goal.returns-clause-fault
+returns-clause-fault g c =
     let start = moment c.in-Ok.machine c.args.output.now c.args.draws.now c.args.tiles.now in
     let now = moment c.run_lines.new.machine c.run_lines.new.output c.run_lines.new.draws
     c.run_lines.new.tiles in
     rw c.run_end.ensures
-    (blames_of (λ (run : WorldRun). run.world) g.O.Sink.held g.O.Sink.faults
+    (fault_matches_of (λ (run : WorldRun). run.world) g.O.Sink.held g.O.Sink.faults
     (g.I.Source.left c.args.input.now) (g.I.Source.left c.run_lines.new.input) start now
     (g.I.Source.faults c.args.input.now) (g.I.Source.faults c.run_lines.new.input)
-    c.run_lines.result c.run_lines.ensures.leaves c.run_lines.ensures.blames)
+    c.run_lines.result c.run_lines.ensures.leaves c.run_lines.ensures.fault)
 
 pub returns-clause-output_later : goal.returns-clause-output_later
 returns-clause-output_later g c =

@@ -23,8 +23,8 @@ returns-in_err-check_end-clause-ends g c =
     (c.in_err-check_end.ensures.ends bytes (g.I.Source.left c.read_piece.new.input) entries end
     (piece.read bytes entries (c.pieces.invariant.read bytes entries h))))
 
-pub returns-in_err-check_end-clause-blames : goal.returns-in_err-check_end-clause-blames
-returns-in_err-check_end-clause-blames g c =
+pub returns-in_err-check_end-clause-fault : goal.returns-in_err-check_end-clause-fault
+returns-in_err-check_end-clause-fault g c =
     let residual = c.from_residual-in_err-check_end in
     let p = err_from_is_err_and residual.result residual.ensures.1 in
     let piece = c.in_ok-read_piece.ensures in

@@ -4,7 +4,7 @@ use Rattle.dp_split.specs.Stream.{Stream}
 use Rattle.dp_entries.specs.Ends.{refused_at}
 use Rattle.dp_entries.specs.Reader.{Reader, HasRead}
 use Rattle.dp_entries.specs.Reading.{EndsReading}
-use Rattle.dp_entries.proofs.Reading.{reads_entry, ends_stop, takes_front, refuses_front}
+use Rattle.dp_entries.proofs.Reading.{reads_entry, ends_stop, takes_first, refuses_first}
 use Rattle.dp_entries.proofs.reader.EntryReader.take.Goals as goal
 
 pub returns-in-Ok-clause-given : goal.returns-in-Ok-clause-given
@@ -19,9 +19,9 @@ returns-in-Ok-clause-given g c = λ bytes left entries h.
       over = inside.over;
       ended = inside.ended;
     } in
-    let new : Reader = record old { stream = c.drop_front.new.self; count = inside.count + 1 } in
-    let taken = takes_front M inside.count inside.splitter c.drop_front.new.self c.in-Some.frame
-    c.in-Ok.entry c.in-Some.ensures.fits c.in-Some.ensures.front c.drop_front.ensures.front
+    let new : Reader = record old { stream = c.drop_frame.new.self; count = inside.count + 1 } in
+    let taken = takes_first M inside.count inside.splitter c.drop_frame.new.self c.in-Some.frame
+    c.in-Ok.entry c.in-Some.ensures.fits c.in-Some.ensures.prefix c.drop_frame.ensures.prefix
     c.in-Ok.ensures.stands in
     reads_entry M bytes left entries old new c.in-Ok.entry taken refl refl refl refl
     (subst (λ (r : Reader). HasRead M bytes left entries r) (sym c.self.view_is) h)
@@ -44,8 +44,8 @@ returns-in-Err-clause-ends g c = λ bytes left entries h.
       held = drop (length (spelling frame)) inside.splitter.held;
       at = inside.splitter.at + length (spelling frame);
     } in
-    let bad = refuses_front IsCause inside.count inside.splitter frame c.in-Err.why
-    c.in-Some.ensures.fits c.in-Some.ensures.front c.in-Err.ensures.refused in
+    let bad = refuses_first IsCause inside.count inside.splitter frame c.in-Err.why
+    c.in-Some.ensures.fits c.in-Some.ensures.prefix c.in-Err.ensures.refused in
     rw c.end_of_refusal.ensures
     (subst (λ (r : Reader). EndsReading M IsCause r.first r.limit bytes left entries
     (refused_at (inside.first + c.at.result) c.in-Err.why)) c.self.view_is

@@ -10,7 +10,7 @@ new-requires-2 g c =
     (record { machine = c.in-Ok.machine; last = None }) (search rules))
 
 -- the last of one
-last_is : {A : Type 0} (front : List A) (a b : A) → front ++ b ∷ [] ≡ a ∷ [] → b ≡ a
+last_is : {A : Type 0} (prefix : List A) (a b : A) → prefix ++ b ∷ [] ≡ a ∷ [] → b ≡ a
 last_is [] a b e = cc (e)
 last_is (x ∷ []) a b e = absurd (cc (e))
 last_is (x ∷ y ∷ l) a b e = absurd (cc (e))

@@ -19,4 +19,4 @@ returns-clause-err g c =
       text = ap (λ (b : Buffer ChatLine). j.text ++ chats_text b.items) (sym chats);
       written = sym (append-nil j.written);
     })
-    (Appends-nil _) refl refl c.print_chats.ensures.prefix c.print_chats.ensures.blames
+    (Appends-nil _) refl refl c.print_chats.ensures.prefix c.print_chats.ensures.fault

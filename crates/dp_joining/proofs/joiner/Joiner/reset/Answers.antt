@@ -57,7 +57,7 @@ returns-in_err-send_reset-clause-err g c =
     rw (p.1, p.2) (fails_first c.in_err-send_reset.field-0.0 old
     (see (record c.args.self.now { tx = c.send_reset.new.tx }) c.args.output.now)
     (λ (j : Joining). reset_by j (reset_messages (snapshot (confirmed j.client)))) _ _ adds
-    c.in_err-send_reset.ensures.prefix refl refl refl c.in_err-send_reset.ensures.blames)
+    c.in_err-send_reset.ensures.prefix refl refl refl c.in_err-send_reset.ensures.fault)
 
 pub returns-clause-ok : goal.returns-clause-ok
 returns-clause-ok g c =
@@ -91,4 +91,4 @@ returns-clause-err g c =
     (see (record c.args.self.now { tx = c.send_reset.new.tx }) c.print_sent.new.output)
     (λ (j : Joining). reset_by j (reset_messages (snapshot (confirmed j.client)))) _ _ adds
     c.in_ok-send_reset.ensures.written c.in_ok-send_reset.ensures.kept refl
-    c.print_sent.ensures.prefix c.print_sent.ensures.blames
+    c.print_sent.ensures.prefix c.print_sent.ensures.fault

@@ -19,7 +19,7 @@ returns-in_err-send_entry-clause-err g c =
     (λ (j : Joining). said_by j c.args.msg) _ _
     (says_adds old c.args.msg c.user-user.result (length (said old.client c.args.msg).fork)
     c.user-user.ensures refl)
-    c.in_err-send_entry.ensures.prefix refl refl refl c.in_err-send_entry.ensures.blames)
+    c.in_err-send_entry.ensures.prefix refl refl refl c.in_err-send_entry.ensures.fault)
 
 pub returns-in_err-say-clause-err : goal.returns-in_err-say-clause-err
 returns-in_err-say-clause-err g c =
@@ -50,4 +50,4 @@ returns-clause-err g c =
     (says_adds old c.args.msg c.user-user.result c.pending_len.result c.user-user.ensures
     (c.pending_len.ensures ∙ ap (λ (s : State). length s.fork) c.in_ok-say.ensures.ok))
     c.in_ok-send_entry.ensures.written c.in_ok-send_entry.ensures.kept refl
-    c.print_line.ensures.prefix c.print_line.ensures.blames
+    c.print_line.ensures.prefix c.print_line.ensures.fault

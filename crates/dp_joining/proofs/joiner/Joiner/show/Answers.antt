@@ -19,4 +19,4 @@ returns-clause-err g c =
       text = ap (λ (s : State). j.text ++ shown_text c.args.shown s) (sym client);
       written = sym (append-nil j.written);
     })
-    (Appends-nil _) refl refl c.print_shown.ensures.prefix c.print_shown.ensures.blames
+    (Appends-nil _) refl refl c.print_shown.ensures.prefix c.print_shown.ensures.fault

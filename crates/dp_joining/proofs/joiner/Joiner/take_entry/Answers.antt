@@ -36,7 +36,7 @@ returns-in_err-acknowledge-clause-err g c =
     c.in_ok-taken.ensures.taken_of)
     c.in_err-acknowledge.ensures.prefix refl refl
     (ap (λ s. g.R.Source.faults s.rx) c.in_err-acknowledge.ensures.same)
-    c.in_err-acknowledge.ensures.blames)
+    c.in_err-acknowledge.ensures.fault)
 
 pub returns-in_err-keep_chat-clause-err : goal.returns-in_err-keep_chat-clause-err
 returns-in_err-keep_chat-clause-err g c =
@@ -99,4 +99,4 @@ returns-clause-err g c =
     acked.written)
     (ap (λ s. g.S.Sink.faults s.tx) chats ∙ acked.kept)
     (ap (λ s. g.R.Source.faults s.rx) chats ∙ ap (λ s. g.R.Source.faults s.rx) acked.same)
-    c.print_line.ensures.prefix c.print_line.ensures.blames
+    c.print_line.ensures.prefix c.print_line.ensures.fault

@@ -2,7 +2,7 @@ use Rattle.std.proofs.Common.{◌≡◌, ℕ, true, List, ap, sym, ◌∙◌, su
 use Rattle.dp_lines.specs.Held.{Held}
 use Rattle.dp_lines.specs.Taken.{Keeps, IsEnd}
 use Rattle.dp_lines.specs.Lines.{is_skipped}
-use Rattle.dp_lines.proofs.Numbering.{keeps_further, keeps_behind_skipped}
+use Rattle.dp_lines.proofs.Numbering.{keeps_further, keeps_after_skipped}
 use Rattle.dp_lines.proofs.lines.Lines.pass_over.Goals as goal
 
 -- one more line that is passed over
@@ -16,4 +16,4 @@ passed-preserved c =
     ap (λ (b : List ℕ). is_skipped (take c.in-Some.len b)) bytes ∙ sym c.if-not-is_passed.ensures in
     subst (λ (h : Held). Keeps c.args.self.now h) (sym c.drop_line.ensures)
     (keeps_further c.args.self.now c.first_end.new.self _ so_far
-    (keeps_behind_skipped c.first_end.new.self c.in-Some.len end skipped))
+    (keeps_after_skipped c.first_end.new.self c.in-Some.len end skipped))

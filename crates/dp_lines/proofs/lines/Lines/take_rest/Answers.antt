@@ -2,9 +2,9 @@ use Rattle.std.proofs.Common.{◌≡◌, ℕ, ◌+◌, ◌<◌, List, [], ◌∷
 use Rattle.std.proofs.lemmas.List.{nil_from_length}
 use Rattle.dp_lines.specs.Lines.{lines, numbered, is_skipped}
 use Rattle.dp_lines.specs.Held.{Held, lines_from}
-use Rattle.dp_lines.specs.Taken.{first_line, behind_first}
+use Rattle.dp_lines.specs.Taken.{first_line, after_first}
 use Rattle.dp_lines.proofs.Giving.{given_line, same_after, long_next, none_next, no_lines}
-use Rattle.dp_lines.proofs.Giving.{none_behind, rest_counted, skipped_rest, kept_rest}
+use Rattle.dp_lines.proofs.Giving.{none_after, rest_counted, skipped_rest, kept_rest}
 use Rattle.dp_lines.proofs.lines.Lines.take_rest.Goals as goal
 use Rattle.dp_lines.proofs.lines.Lines.take_rest.Goals.{Then-len-eq0, After-drop_line}
 use Rattle.dp_lines.proofs.lines.Lines.take_rest.Goals.{After-take_line}
@@ -29,7 +29,7 @@ returns-then-len-eq0-clause-long c n =
 
 -- what is known where the rest is passed over
 skipped_facts : (c : After-drop_line)
-    → (c.drop_line.new.self ≡ behind_first c.args.self.now (length c.args.self.now.bytes))
+    → (c.drop_line.new.self ≡ after_first c.args.self.now (length c.args.self.now.bytes))
     × (0 < length c.args.self.now.bytes) × (lines_from c.args.self.now ≡ [])
 skipped_facts c =
     let bytes = ap (λ (h : Held). h.bytes) c.self.view_is in
@@ -37,7 +37,7 @@ skipped_facts c =
     let some : 0 < length c.args.self.now.bytes = omega (arith, c.if-len-eq0.false, len) in
     let skipped = ap is_skipped (sym bytes ∙ sym c.as_slice.ensures)
     ∙ sym c.if-is_passed.ensures in (
-      c.drop_line.ensures ∙ ap (behind_first c.args.self.now) len,
+      c.drop_line.ensures ∙ ap (after_first c.args.self.now) len,
       some,
       skipped_rest c.args.self.now c.requires some skipped,
     )
@@ -45,7 +45,7 @@ skipped_facts c =
 pub returns-then-is_passed-clause-lines : goal.returns-then-is_passed-clause-lines
 returns-then-is_passed-clause-lines c =
     let facts = skipped_facts c in
-    facts.2 ∙ sym (ap lines_from facts.0 ∙ none_behind c.args.self.now)
+    facts.2 ∙ sym (ap lines_from facts.0 ∙ none_after c.args.self.now)
 
 pub returns-then-is_passed-clause-none : goal.returns-then-is_passed-clause-none
 returns-then-is_passed-clause-none c = (skipped_facts c).2
@@ -65,8 +65,8 @@ returns-then-is_passed-clause-count c =
 
 -- what is known where the rest is a line to come
 kept_facts : (c : After-take_line)
-    → (behind_first c.args.self.now (c.len-len.result + 0)
-    ≡ behind_first c.args.self.now (length c.args.self.now.bytes))
+    → (after_first c.args.self.now (c.len-len.result + 0)
+    ≡ after_first c.args.self.now (length c.args.self.now.bytes))
     × (0 < length c.args.self.now.bytes) × (lines_from c.args.self.now
     ≡ first_line c.args.self.now c.len-len.result ∷ [])
 kept_facts c =
@@ -75,7 +75,7 @@ kept_facts c =
     let some : 0 < length c.args.self.now.bytes = omega (arith, c.if-len-eq0.false, len) in
     let all : c.len-len.result + 0 ≡ length c.args.self.now.bytes = omega (arith, len) in
     let kept = ap is_skipped (sym bytes ∙ sym c.as_slice.ensures) ∙ sym c.if-is_passed.ensures in (
-      ap (behind_first c.args.self.now) all,
+      ap (after_first c.args.self.now) all,
       some,
       kept_rest c.args.self.now c.requires some kept
           ∙ ap (λ (k : ℕ). first_line c.args.self.now k ∷ []) (sym len),
@@ -84,9 +84,9 @@ kept_facts c =
 pub returns-clause-lines : goal.returns-clause-lines
 returns-clause-lines c =
     let facts = kept_facts c in
-    let none = ap lines_from facts.0 ∙ none_behind c.args.self.now in
+    let none = ap lines_from facts.0 ∙ none_after c.args.self.now in
     given_line lines_from c.args.self.now c.take_line.new.self
-    (behind_first c.args.self.now (c.len-len.result + 0))
+    (after_first c.args.self.now (c.len-len.result + 0))
     (first_line c.args.self.now c.len-len.result)
     c.take_line.result
     (facts.2 ∙ ap (λ ls. first_line c.args.self.now c.len-len.result ∷ ls) (sym none))
@@ -106,7 +106,7 @@ pub returns-clause-count : goal.returns-clause-count
 returns-clause-count c =
     let facts = kept_facts c in
     same_after (λ held. held.count + length (lines held.bytes)) c.args.self.now c.take_line.new.self
-    (behind_first c.args.self.now (c.len-len.result + 0)) c.take_line.result
+    (after_first c.args.self.now (c.len-len.result + 0)) c.take_line.result
     (ap (λ (h : Held). h.count + length (lines h.bytes)) facts.0
     ∙ rest_counted c.args.self.now c.requires facts.1)
     c.take_line.ensures.taken c.take_line.ensures.err

@@ -8,14 +8,15 @@ use Rattle.dp_pixels.proofs.dabs.DabRun.bounds.Goals as goal
 pub loop-dab-preserved : goal.loop-dab-preserved
 loop-dab-preserved c =
     let s = c.args.self in
-    let made = c.behind-next.ensures in
+    let made = c.placed_after-next.ensures in
     let next = next_is s.at.x s.at.y s.dabs.now c.loop-dab.dab-index c.loop-dab.last
-    c.behind-next.result c.loop-dab-test.true made.value made.near_x made.near_y
+    c.placed_after-next.result c.loop-dab-test.true made.value made.near_x made.near_y
     c.loop-dab.invariant.last in
     record {
       last = next.last;
       all = rect_more (placed_dabs s.at.x s.at.y s.dabs.now) c.loop-dab.dab-index
-          c.behind-next.result c.loop-dab.all c.rect.result c.extended.result next.within next.is
+          c.placed_after-next.result c.loop-dab.all c.rect.result c.extended.result next.within
+          next.is
           c.loop-dab.invariant.all c.rect.ensures c.extended.ensures;
     }
 

@@ -9,31 +9,35 @@ use Rattle.dp_pixels.specs.Dabs.{dab_covers, placed_dabs}
 use Rattle.dp_pixels.specs.Commands.{dabs_blended}
 use Rattle.dp_pixels.proofs.Strokes.{IsLast, last_more, placed_is, length-placed_dabs}
 use Rattle.dp_pixels.proofs.dabs.DabRun.pixel_after.Goals as goal
-use Rattle.dp_pixels.proofs.dabs.DabRun.pixel_after.Goals.{After-behind-placed, then-covers}
+use Rattle.dp_pixels.proofs.dabs.DabRun.pixel_after.Goals.{After-placed_after, then-covers}
 use Rattle.dp_pixels.proofs.dabs.DabRun.pixel_after.Goals.{else-covers}
 
 -- the dab stands after the last one
-next : (c : After-behind-placed) → IsLast c.args.self.at.x c.args.self.at.y c.args.self.dabs.now
-    (c.loop-dab.dab-index + 1) c.behind-placed.result.at
+next : (c : After-placed_after) → IsLast c.args.self.at.x c.args.self.at.y c.args.self.dabs.now
+    (c.loop-dab.dab-index + 1) c.placed_after-placed.result.at
 next c =
     let s = c.args.self in
-    last_more s.at.x s.at.y s.dabs.now c.loop-dab.dab-index c.loop-dab.last c.behind-placed.result
+    last_more s.at.x s.at.y s.dabs.now c.loop-dab.dab-index c.loop-dab.last
+    c.placed_after-placed.result
     c.loop-dab-test.true
-    c.behind-placed.ensures.value c.behind-placed.ensures.near_x c.behind-placed.ensures.near_y
+    c.placed_after-placed.ensures.value c.placed_after-placed.ensures.near_x
+    c.placed_after-placed.ensures.near_y
     c.loop-dab.invariant.last
 
 -- and is the next of the list
-is_next : (c : After-behind-placed) → get_or (placed_dabs c.args.self.at.x c.args.self.at.y
-    c.args.self.dabs.now) c.loop-dab.dab-index c.behind-placed.result ≡ c.behind-placed.result
+is_next : (c : After-placed_after) → get_or (placed_dabs c.args.self.at.x c.args.self.at.y
+    c.args.self.dabs.now) c.loop-dab.dab-index c.placed_after-placed.result
+    ≡ c.placed_after-placed.result
 is_next c =
     let s = c.args.self in
-    placed_is s.at.x s.at.y s.dabs.now c.loop-dab.dab-index c.loop-dab.last c.behind-placed.result
-    c.behind-placed.result c.loop-dab-test.true
-    c.behind-placed.ensures.value c.loop-dab.invariant.last
+    placed_is s.at.x s.at.y s.dabs.now c.loop-dab.dab-index c.loop-dab.last
+    c.placed_after-placed.result
+    c.placed_after-placed.result c.loop-dab-test.true
+    c.placed_after-placed.ensures.value c.loop-dab.invariant.last
 
 pub covers-requires : goal.covers-requires
 covers-requires c =
-    let near = (next (goal.at.covers-requires c).After-behind-placed).near in
+    let near = (next (goal.at.covers-requires c).After-placed_after).near in
     let short = c.args.self.short in
     let test = c.loop-dab-test.true in
     record { x = omega (arith, near.x, short, test); y = omega (arith, near.y, short, test) }
@@ -41,33 +45,34 @@ covers-requires c =
 pub loop-dab-preserved : goal.loop-dab-preserved
 loop-dab-preserved c =
     let s = c.args.self in
-    let a = (goal.at.loop-dab-preserved c).After-behind-placed in
+    let a = (goal.at.loop-dab-preserved c).After-placed_after in
     let dabs = placed_dabs s.at.x s.at.y s.dabs.now in
     let step = λ (under : Channels) (dab : PlacedDab).
     cond (dab_covers s.shape dab c.args.place.x c.args.place.y)
     (blend c.args.mode (fade c.args.source (from8 dab.opacity)) under) under in
     let within : c.loop-dab.dab-index < length dabs = omega
     (arith, c.loop-dab-test.true, length-placed_dabs s.at.x s.at.y s.dabs.now) in
-    let here : c.if-covers.pixel ≡ step c.loop-dab.pixel c.behind-placed.result =
+    let here : c.if-covers.pixel ≡ step c.loop-dab.pixel c.placed_after-placed.result =
     elim c.if-covers.branch [
       | then-covers w ↦ w.pixel-is
           ∙ (w.blend-pixel.ensures.value
           ∙ (ap (λ (p : Channels). blend c.args.mode p c.loop-dab.pixel)
           (w.fade.ensures.value ∙ ap (fade c.args.source) w.from8.ensures.value)
-          ∙ sym (cond-true (dab_covers s.shape c.behind-placed.result c.args.place.x c.args.place.y)
+          ∙ sym
+          (cond-true (dab_covers s.shape c.placed_after-placed.result c.args.place.x c.args.place.y)
           _ c.loop-dab.pixel (sym c.covers.ensures ∙ w.if-covers.true))))
       | else-covers w ↦ w.pixel-is
-          ∙ sym (cond-false (dab_covers s.shape c.behind-placed.result c.args.place.x
+          ∙ sym (cond-false (dab_covers s.shape c.placed_after-placed.result c.args.place.x
           c.args.place.y) _ c.loop-dab.pixel (sym c.covers.ensures ∙ w.if-covers.false))
     ] in
     record {
       last = next a;
       blended = here
-          ∙ (ap (λ (p : Channels). step p c.behind-placed.result) c.loop-dab.invariant.blended
+          ∙ (ap (λ (p : Channels). step p c.placed_after-placed.result) c.loop-dab.invariant.blended
           ∙ (ap (step (dabs_blended s.shape c.args.mode c.args.source
           (take c.loop-dab.dab-index dabs) c.args.place.x c.args.place.y c.args.old))
           (sym (is_next a))
-          ∙ sym (fold_more step c.args.old dabs c.loop-dab.dab-index c.behind-placed.result
+          ∙ sym (fold_more step c.args.old dabs c.loop-dab.dab-index c.placed_after-placed.result
           within)));
     }
 

@@ -4,7 +4,7 @@ use Rattle.std.proofs.lemmas.Bool.{lt-ltb}
 use Rattle.std.proofs.lemmas.Bool.Decides.{nat_tests}
 use Rattle.dp_acl.specs.Opening.{part_limit}
 use Rattle.dp_epochs.specs.State.{part_bytes, reset_byte_limit}
-use Rattle.dp_tables.specs.Ledger.{state_in}
+use Rattle.dp_tables.specs.SessionLog.{state_in}
 use Rattle.dp_tables.specs.Inside.{seen}
 use Rattle.dp_tables.proofs.TableLemmas.{of-ledger}
 use Rattle.dp_tables.proofs.ResetLemmas.{fits-is}

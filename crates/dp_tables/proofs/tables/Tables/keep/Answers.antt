@@ -1,5 +1,5 @@
 use Rattle.std.proofs.Common.{◌≡◌, ◌-◌, ◌++◌, ◌∷◌, [], length, refl, sym, ap, subst, ◌∙◌, arith}
-use Rattle.dp_tables.specs.Ledger.{state_in}
+use Rattle.dp_tables.specs.SessionLog.{state_in}
 use Rattle.dp_tables.specs.Tables.{quiet_of}
 use Rattle.dp_tables.specs.Inside.{ledger_of}
 use Rattle.dp_tables.specs.Plans.{event_in, opens_after, parts_after, bytes_after, IsReady}

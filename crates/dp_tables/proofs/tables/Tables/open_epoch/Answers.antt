@@ -5,7 +5,7 @@ use Rattle.dp_msg_meta.specs.declared.message.Meta.TheVariants.{ResetMark}
 use Rattle.dp_acl.specs.Carried.{carried}
 use Rattle.dp_acl.specs.Opening.{server_entry, last_join, opening}
 use Rattle.dp_epochs.specs.State.{epoch_of, user_ids, present_users, sent_commands}
-use Rattle.dp_tables.specs.Ledger.{state_in}
+use Rattle.dp_tables.specs.SessionLog.{state_in}
 use Rattle.dp_tables.specs.Inside.{seen}
 use Rattle.dp_tables.specs.Openings.{Holds}
 use Rattle.dp_tables.specs.Tables.{mark}

@@ -1,5 +1,5 @@
 use Rattle.std.proofs.Common.{◌≡◌, max, subst, IfOk}
-use Rattle.dp_tables.specs.Ledger.{state_in}
+use Rattle.dp_tables.specs.SessionLog.{state_in}
 use Rattle.dp_tables.proofs.TableLemmas.{of-ledger}
 use Rattle.dp_tables.proofs.ReadLemmas.{page-is}
 use Rattle.dp_tables.proofs.tables.Tables.page.Goals as goal

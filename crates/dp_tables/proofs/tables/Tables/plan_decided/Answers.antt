@@ -1,5 +1,5 @@
 use Rattle.std.proofs.Common.{ap}
-use Rattle.dp_tables.specs.Ledger.{state_in}
+use Rattle.dp_tables.specs.SessionLog.{state_in}
 use Rattle.dp_tables.proofs.PlanLemmas.{plan-ignored, plan-acknowledged, plan-placed}
 use Rattle.dp_tables.proofs.PlanLemmas.{plan-filtered, plan-dropped, plan-begun, plan-added}
 use Rattle.dp_tables.proofs.tables.Tables.plan_decided.Goals as goal

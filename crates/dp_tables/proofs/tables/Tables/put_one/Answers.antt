@@ -1,7 +1,7 @@
 use Rattle.std.proofs.Common.{◌++◌, take, length, sym, ap, ◌∙◌, append-nil}
 use Rattle.dp_messages.specs.Messages.{entry_bytes}
 use Rattle.dp_frame_log.specs.Frames.{frames_of}
-use Rattle.dp_tables.specs.Ledger.{state_in}
+use Rattle.dp_tables.specs.SessionLog.{state_in}
 use Rattle.dp_tables.specs.Tables.{entry_in}
 use Rattle.dp_tables.proofs.TableLemmas.{of-ledger}
 use Rattle.dp_tables.proofs.PageLemmas.{page-of-one, found-at}

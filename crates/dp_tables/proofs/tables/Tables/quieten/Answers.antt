@@ -1,6 +1,6 @@
 use Rattle.std.proofs.Common.{length, refl, ap, ◌∙◌}
 use Rattle.dp_epochs.specs.Past.{quiet_with}
-use Rattle.dp_tables.specs.Ledger.{state_in}
+use Rattle.dp_tables.specs.SessionLog.{state_in}
 use Rattle.dp_tables.specs.Tables.{quiet_of}
 use Rattle.dp_tables.specs.Inside.{ledger_of}
 use Rattle.dp_tables.proofs.TableLemmas.{ledger-is}

@@ -7,12 +7,12 @@ use Rattle.dp_epochs.specs.Past.{state_after}
 
 -- The events that were kept, the closings that were refused, the quiet connections by rising
 -- number, and whether memory is ready for any one event.
-pub record Ledger : Type 0 where
+pub record SessionLog : Type 0 where
   pub journal : List Event
   pub shut : List ShutAt
   pub quiet : List ℕ
   pub room : Bool
 
 -- the state to which they lead
-abbrev pub state_in : Ledger → State
+abbrev pub state_in : SessionLog → State
 state_in ledger = state_after ledger.journal ledger.shut

@@ -1,4 +1,4 @@
-use Rattle.dp_joining.proofs.linked.LinkedStanding.one_standing.Goals as goal
+use Rattle.dp_joining.proofs.join_standing.JoinStandingStanding.one_standing.Goals as goal
 
 pub returns-clause-one : goal.returns-clause-one
 returns-clause-one c before frame e f first second =

@@ -3,7 +3,7 @@ use Rattle.std.specs.Prelude.{is_some, position}
 use Rattle.std.proofs.lemmas.Bool.{false≢true}
 use Rattle.dp_layers.specs.Layers.{has_id}
 use Rattle.dp_layers.proofs.Places.{find_none, put_placed}
-use Rattle.dp_layers.proofs.changes.put_behind.Goals as goal
+use Rattle.dp_layers.proofs.changes.insert_after.Goals as goal
 
 pub unreachable-requires : goal.unreachable-requires
 unreachable-requires c =
@@ -16,7 +16,7 @@ returns c =
     c.insert.ensures.items
     ∙ rw (
       c.in_default-insert.is,
-      c.place_behind-to.ensures.place,
+      c.place_after-to.ensures.place,
       c.deref-2.ensures.value,
       c.remove-row.ensures.items,
     )

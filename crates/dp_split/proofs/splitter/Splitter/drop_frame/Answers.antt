@@ -4,7 +4,7 @@ use Rattle.byteorder.specs.Endian.{big_number}
 use Rattle.dp_frame.specs.Frames.{spelling}
 use Rattle.dp_split.specs.Stream.{Stream}
 use Rattle.dp_frame.proofs.Spellings.{first_number}
-use Rattle.dp_split.proofs.splitter.Splitter.drop_front.Goals as goal
+use Rattle.dp_split.proofs.splitter.Splitter.drop_frame.Goals as goal
 
 abbrev stream : List ℕ → ℕ → Stream
 stream held at = record { held = held; at = at }
@@ -15,8 +15,8 @@ same_stream : {held others : List ℕ} {at place : ℕ} → held ≡ others → 
 same_stream {held} {others} {at} {place} same_held same_at =
     ap (λ (l : List ℕ). stream l at) same_held ∙ ap (stream others) same_at
 
-pub returns-in-Some-clause-front : goal.returns-in-Some-clause-front
-returns-in-Some-clause-front c = λ f rest fits whole.
+pub returns-in-Some-clause-prefix : goal.returns-in-Some-clause-prefix
+returns-in-Some-clause-prefix c = λ f rest fits whole.
     let bytes = c.self.inside.buffer.items in
     let len = c.in-Some.len in
     let is_held : bytes ≡ spelling f ++ rest = ap (λ (s : Stream). s.held) c.self.view_is ∙ whole in

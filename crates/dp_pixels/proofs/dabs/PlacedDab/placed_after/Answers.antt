@@ -1,6 +1,6 @@
 use Rattle.std.proofs.Common.{arith}
 use Rattle.std.proofs.lemmas.Int.{ints, to_z-of_z}
-use Rattle.dp_pixels.proofs.dabs.PlacedDab.behind.Goals as goal
+use Rattle.dp_pixels.proofs.dabs.PlacedDab.placed_after.Goals as goal
 
 pub returns-clause-value : goal.returns-clause-value
 returns-clause-value c = grind (arith, ints, to_z-of_z)

@@ -1,7 +1,7 @@
 //! Frames that may stand on a link to a server.
 
 ghost use Rattle.std.specs.Prelude.{◌≡◌};
-ghost use Rattle.dp_joining.specs.Linked.{flaw_of, is_ping, is_welcome, may_come};
+ghost use Rattle.dp_joining.specs.JoinStanding.{flaw_of, is_ping, is_welcome, may_come};
 
 use dp_entries::{Refusal, Standing};
 use dp_frame::FrameView;
@@ -14,7 +14,7 @@ const LEAST_KIND: u8 = 32;
 
 /// Frames of a link to a server: first a Welcome or a Disconnect, and then messages of kinds from
 /// 32 on, Pings and Disconnects.
-pub struct Linked;
+pub struct JoinStanding;
 
 /// Why a frame may not stand on a link to a server.
 #[derive(Clone, Copy, Debug, PartialEq, Eq)]
@@ -25,8 +25,8 @@ pub enum LinkFlaw {
     Misplaced(u8),
 }
 
-impl Standing for Linked {
-    ghost use Rattle.dp_joining.specs.Linked.{IsFlaw, StandsOnLink};
+impl Standing for JoinStanding {
+    ghost use Rattle.dp_joining.specs.JoinStanding.{IsFlaw, StandsOnLink};
 
     type Cause = LinkFlaw;
 

@@ -11,32 +11,32 @@ use Rattle.dp_world.specs.Schedule.{AskFor, IsStep, world_limit, WorldComesTo}
 use Rattle.dp_world.specs.RunEnds.{HasBegunOf}
 use Rattle.dp_io.proofs.Prefixes.{grows_within}
 use Rattle.dp_world.proofs.Called.{OneAction}
-use Rattle.dp_world.proofs.Reports.{asked_front, report-append}
+use Rattle.dp_world.proofs.Reports.{asked_prefix, report-append}
 
 -- the first list goes on after the second
 record Beyond (xs us vs : List Line) : Type 0 where
   first : Line
   more : List Line
-  behind : List Line
+  after : List Line
   longer : xs ≡ us ++ first ∷ more
-  next : vs ≡ first ∷ behind
+  next : vs ≡ first ∷ after
 
 -- of two prefixes of a list one is a prefix of the other
-two_fronts : (xs ys us vs : List Line) → xs ++ ys ≡ us ++ vs
+two_prefixes : (xs ys us vs : List Line) → xs ++ ys ≡ us ++ vs
     → ((more : List Line) × (us ≡ xs ++ more)) ⊎ Beyond xs us vs
-two_fronts [] ys us vs same = inl (us, refl)
-two_fronts (x ∷ xs) ys [] vs same = inr record {
+two_prefixes [] ys us vs same = inl (us, refl)
+two_prefixes (x ∷ xs) ys [] vs same = inr record {
   first = x;
   more = xs;
-  behind = xs
+  after = xs
       ++ ys;
   longer = refl;
   next = sym same;
 }
-two_fronts (x ∷ xs) ys (u ∷ us) vs same =
+two_prefixes (x ∷ xs) ys (u ∷ us) vs same =
     let head : x ≡ u = cc (same) in
     let tail : xs ++ ys ≡ us ++ vs = cc (same) in
-    elim (two_fronts xs ys us vs tail) [
+    elim (two_prefixes xs ys us vs tail) [
       | inl (more, is) ↦ inl (
         more,
         ap (λ (l : Line). l ∷ us) (sym head)
@@ -45,22 +45,22 @@ two_fronts (x ∷ xs) ys (u ∷ us) vs same =
       | inr b ↦ inr record {
         first = b.first;
         more = b.more;
-        behind = b.behind;
+        after = b.after;
         longer = ap (λ (l : Line). l ∷ xs) head ∙ ap (λ (ls : List Line). u ∷ ls) b.longer;
         next = b.next;
       }
     ]
 
 -- lines that are seen and are steps are the first of those that the input comes to
-pub front_of_done : (bytes : List ℕ) (done behind others : List Line) (end : LinesEnd)
-    → seen world_limit bytes ≡ done ++ behind → AreSteps IsStep done
+pub first_of_done : (bytes : List ℕ) (done after others : List Line) (end : LinesEnd)
+    → seen world_limit bytes ≡ done ++ after → AreSteps IsStep done
     → LinesComeTo IsStep world_limit bytes others end
     → (more : List Line) × (others ≡ done ++ more)
-front_of_done bytes done behind others AllDone whole steps (few, all, are) = (behind, all ∙ whole)
-front_of_done bytes done behind others TooLong whole steps (many, all, are) = (behind, all ∙ whole)
-front_of_done bytes done behind others (BadLine n) whole steps stops =
-    elim (two_fronts done behind others (stops.line ∷ stops.behind) (sym whole ∙ stops.next)) [
-      | inl front ↦ front
+first_of_done bytes done after others AllDone whole steps (few, all, are) = (after, all ∙ whole)
+first_of_done bytes done after others TooLong whole steps (many, all, are) = (after, all ∙ whole)
+first_of_done bytes done after others (BadLine n) whole steps stops =
+    elim (two_prefixes done after others (stops.line ∷ stops.after) (sym whole ∙ stops.next)) [
+      | inl prefix ↦ prefix
       | inr b ↦
           let line : b.first ≡ stops.line = cc (b.next) in
           let longer : done ≡ others ++ stops.line ∷ b.more =
@@ -76,10 +76,10 @@ pub begun_due : OneAction → (bytes : List ℕ) (old now : Option (List ℕ))
     → GrowsByPrefix old now (report actions)
 begun_due one bytes old now begun done actions end (comes, asked) =
     let first = begun.has in
-    let front = front_of_done bytes begun.begun begun.behind done end begun.parts first.steps comes
+    let prefix = first_of_done bytes begun.begun begun.after done end begun.parts first.steps comes
     in
-    let asked_whole = subst (λ (ls : List Line). AskFor ls actions) front.1 asked in
-    let begins = asked_front one begun.begun front.0 first.actions actions first.asked
+    let asked_whole = subst (λ (ls : List Line). AskFor ls actions) prefix.1 asked in
+    let begins = asked_prefix one begun.begun prefix.0 first.actions actions first.asked
     asked_whole in
     let reports : report actions ≡ report first.actions ++ along printed (world_after first.actions)
     begins.rest =

@@ -7,13 +7,13 @@ use Rattle.dp_messages.specs.declared.decoder.DecodeError.TheVariants as decode
 use Rattle.dp_messages.specs.declared.message.Entry.{Entry}
 use Rattle.dp_messages.specs.declared.message.Msg.{Msg}
 use Rattle.dp_messages.specs.declared.message.Msg.TheVariants as msg
-use Rattle.dp_messages.specs.Decoded.{Carries, IsRefused}
+use Rattle.dp_messages.specs.Decoded.{Carries, IsPayloadRefused}
 use Rattle.dp_messages.specs.Messages.{kind_of}
 use Rattle.dp_messages.specs.Properties.{is_disconnect}
 use Rattle.dp_entries.specs.declared.ends.Refusal.{Refusal}
 use Rattle.dp_entries.specs.declared.ends.Refusal.TheVariants as refusal
-use Rattle.dp_joining.specs.declared.linked.LinkFlaw.{LinkFlaw}
-use Rattle.dp_joining.specs.declared.linked.LinkFlaw.TheVariants.{NoMessage, Misplaced}
+use Rattle.dp_joining.specs.declared.join_standing.LinkFlaw.{LinkFlaw}
+use Rattle.dp_joining.specs.declared.join_standing.LinkFlaw.TheVariants.{NoMessage, Misplaced}
 
 -- the message asks for a sign of life, or is one
 abbrev pub is_ping : Msg → Bool
@@ -41,7 +41,7 @@ StandsOnLink before frame entry = Carries frame entry × IsTrue (may_come before
 -- with so many frames before it, the frame may not stand: it carries no message, or one of this
 -- kind that may not come
 abbrev pub IsFlaw : ℕ → FrameParts → LinkFlaw → Type 0
-IsFlaw before frame (NoMessage why) = IsRefused frame.kind frame.body why
+IsFlaw before frame (NoMessage why) = IsPayloadRefused frame.kind frame.body why
 IsFlaw before frame (Misplaced kind) =
     (entry : Entry) × Carries frame entry × (¬ IsTrue (may_come before entry.msg))
     × (kind ≡ kind_of entry.msg)
