@@ -113,7 +113,7 @@ fn put<T: Ledger>(
 ) -> io::Result<()> {
     match command {
         Draw::FillRect { .. } | Draw::DabsRound { .. } => {
-            layer.paint(command, tiles)?;
+            layer.draw(command, tiles)?;
             Ok(())
         }
         _ => Ok(()),

@@ -24,7 +24,8 @@ use Rattle.dp_words.specs.CommandLines.{AsksFor}
 use Rattle.dp_words.specs.declared.command_line.CommandLine.{CommandLine}
 use Rattle.dp_words.specs.declared.command_line.CommandLine.TheVariants.{Replay, World, Play, Join}
 use Rattle.dp_words.specs.declared.command_line.CommandLine.TheVariants.{Serve}
-use Rattle.dp_world.specs.Schedule.{WorldComesTo, world_limit}
+use Rattle.dp_world.specs.Schedule.{WorldComesTo}
+use Rattle.dp_script.specs.Limits.{lines_limit}
 use Rattle.dp_lines.specs.RunEnds.{FaultMatchesEnd}
 use Rattle.dp_world.specs.RunEnds.{WorldLeaves}
 use Rattle.dp_app.specs.declared.ending.Ending.{Ending}
@@ -492,7 +493,7 @@ world_refused : (input left old new : Option (List ℕ)) → Keeps old new
 world_refused None left old new keeps = tt
 world_refused (Some bytes) left old new keeps = record {
   begun = [];
-  after = seen world_limit bytes;
+  after = seen lines_limit bytes;
   parts = refl;
   has = record {
     actions = [];

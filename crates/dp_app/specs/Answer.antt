@@ -22,7 +22,8 @@ use Rattle.dp_viewer.specs.Ways.{Way, play_way, replay_way}
 use Rattle.dp_words.specs.declared.command_line.CommandLine.{CommandLine}
 use Rattle.dp_words.specs.declared.command_line.CommandLine.TheVariants.{Replay, World, Play, Join}
 use Rattle.dp_words.specs.declared.command_line.CommandLine.TheVariants.{Serve}
-use Rattle.dp_world.specs.Schedule.{AskFor, WorldComesTo, world_limit}
+use Rattle.dp_world.specs.Schedule.{AskFor, WorldComesTo}
+use Rattle.dp_script.specs.Limits.{lines_limit}
 use Rattle.dp_world.specs.RunEnds.{WorldLeaves}
 use Rattle.dp_app.specs.Commands.{Asks, IsCommand}
 
@@ -162,5 +163,5 @@ CommandLeaves (Serve addr workers conns) input left old new end = ⊥
 abbrev pub HasHeadline : List ℕ → Type 0
 HasHeadline bytes =
     (done after : List Line) (actions : List Action)
-    → seen world_limit bytes ≡ done ++ after → AskFor done actions
+    → seen lines_limit bytes ≡ done ++ after → AskFor done actions
     → Headline (world_after actions)

@@ -126,6 +126,11 @@ fn many(rt: HostRuntime) {
     assert_eq!(rt; flags.iter().filter(|flag| **flag).count(), 83_330);
 }
 
+/// An act of user 1.
+fn of_one(act: Act<()>) -> UserAct<()> {
+    UserAct { user: 1, act }
+}
+
 #[test]
 fn without_commands(rt: HostRuntime) {
     commands_do_not_count::<u8, ()>();
@@ -138,12 +143,11 @@ fn without_commands(rt: HostRuntime) {
     final_flags_stay::<u8>();
     tables_follow::<u8>();
     let acts = [
-        Act::Point,
-        Act::Draw(()),
-        Act::Undo { who: 1 },
-        Act::Draw(()),
+        of_one(Act::Point),
+        of_one(Act::Draw(())),
+        of_one(Act::Undo { who: 1 }),
+        of_one(Act::Draw(())),
     ];
-    let acts = acts.map(|act| UserAct { user: 1, act });
     let flags = drawn_flags(rt.alloc(), 30, &acts).expect(&rt, "memory");
     assert_eq!(rt; flags.as_slice(), [false, false, false, true].as_slice());
 }

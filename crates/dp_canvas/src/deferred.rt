@@ -1,6 +1,7 @@
 //! The board on which `replay` and `play` draw: small fills wait until tiles are read.
 
 use dp_blend::Pixel;
+use dp_layers::Share;
 use dp_msg_draw::Draw;
 use dp_paint::DeferredGrid;
 use dp_pixels::{Resize, pixels_stay_pixels};
@@ -26,6 +27,14 @@ impl Model for DeferredPixels {
     ghost Value = { LayerOf };
 
     ghost view = { λ d. d.layer };
+}
+
+impl Share for DeferredPixels {
+    fn share(&self) -> Result<Self, AllocError> {
+        Ok(DeferredPixels {
+            layer: self.layer.share()?,
+        })
+    }
 }
 
 impl LayerPixels for DeferredPixels {
@@ -74,12 +83,6 @@ impl LayerPixels for DeferredPixels {
     ) -> Result<Self, AllocError> {
         Ok(DeferredPixels {
             layer: self.layer.resized(change, tiles)?,
-        })
-    }
-
-    fn share<T: Ledger>(&self, _tiles: &mut Steps<T>) -> Result<Self, AllocError> {
-        Ok(DeferredPixels {
-            layer: self.layer.share()?,
         })
     }
 

@@ -1,6 +1,7 @@
 //! The pixels of a layer as a grid of tiles.
 
 use dp_blend::{Pixel, length_of_canvas};
+use dp_layers::Share;
 use dp_msg_draw::Draw;
 use dp_paint::{blank_grid, move_in_place, paint_in_place, resized_grid};
 use dp_pixels::{Resize, pixels_stay_pixels};
@@ -23,6 +24,14 @@ impl Model for TiledPixels {
     ghost Value = { TileGrid };
 
     ghost view = { λ t. t.grid };
+}
+
+impl Share for TiledPixels {
+    fn share(&self) -> Result<Self, AllocError> {
+        Ok(TiledPixels {
+            grid: self.grid.share()?,
+        })
+    }
 }
 
 impl LayerPixels for TiledPixels {
@@ -76,12 +85,6 @@ impl LayerPixels for TiledPixels {
     ) -> Result<Self, AllocError> {
         Ok(TiledPixels {
             grid: resized_grid(&self.grid, change, tiles)?,
-        })
-    }
-
-    fn share<T: Ledger>(&self, _tiles: &mut Steps<T>) -> Result<Self, AllocError> {
-        Ok(TiledPixels {
-            grid: self.grid.share()?,
         })
     }
 

@@ -6,8 +6,6 @@
 
 mod answers;
 mod client;
-#[cfg(test)]
-mod tests;
 
 pub use client::{Client, Taken};
 pub use dp_fork::Own;

@@ -9,8 +9,6 @@ mod laws;
 mod reader;
 mod standing;
 mod taking;
-#[cfg(test)]
-mod tests;
 
 pub use anywhere::Anywhere;
 pub use ends::{ReadEnd, Refusal};

@@ -35,7 +35,8 @@ use Rattle.dp_joining.specs.Leaves.{FaultMatchesJoin, Counts, IsParting, IsWelco
 use Rattle.dp_joining.specs.Leaves.{OthersStay, Traffic, WritesAll}
 use Rattle.dp_joining.specs.Leaves.{WritesPart, WritesTaken, WhereKnown}
 use Rattle.dp_joining.specs.Outcomes.{AllAsk, BeginsWith, EndsByLink, EndsByScript, IsJoinStep}
-use Rattle.dp_joining.specs.Outcomes.{JoinComesTo, JoinOutcome, link_end, script_limit}
+use Rattle.dp_joining.specs.Outcomes.{JoinComesTo, JoinOutcome, link_end}
+use Rattle.dp_script.specs.Limits.{lines_limit}
 use Rattle.dp_joining.specs.Outcomes.{script_outcome}
 use Rattle.dp_joining.specs.Partings.{IsSilent, Parts, SaysFarewell}
 use Rattle.dp_joining.specs.Scripts.{GoesTo, HasDone, HasEnded, IsBegun, StopsAlong, text_of}
@@ -86,8 +87,8 @@ known_welcome name link first start welcome bytes known is =
 
 -- lines that are all done are the first
 first_of_all : (input : List ℕ) (done : List Line)
-    → LinesComeTo IsJoinStep script_limit input done ends.AllDone
-    → AreFirstOf IsJoinStep (seen script_limit input) done
+    → LinesComeTo IsJoinStep lines_limit input done ends.AllDone
+    → AreFirstOf IsJoinStep (seen lines_limit input) done
 first_of_all input done comes = record {
   after = [];
   parts = sym comes.1 ∙ sym (append-nil done);
@@ -96,21 +97,21 @@ first_of_all input done comes = record {
 
 -- lines before the next one are the first
 first_of_next : (input : List ℕ) (done : List Line) (line : Line)
-    → IsNextOf IsJoinStep (seen script_limit input) done line
-    → AreFirstOf IsJoinStep (seen script_limit input) done
+    → IsNextOf IsJoinStep (seen lines_limit input) done line
+    → AreFirstOf IsJoinStep (seen lines_limit input) done
 first_of_next input done line next =
     record { after = line ∷ next.after; parts = next.parts; steps = next.steps }
 
 -- the lines that were begun are the first
 first_of_begun : FurtherStep → (input : List ℕ) (done : List Line) (line : Line)
     (begun : List Line) → IsBegun done line begun
-    → IsNextOf IsJoinStep (seen script_limit input) done line
-    → AreFirstOf IsJoinStep (seen script_limit input) begun
+    → IsNextOf IsJoinStep (seen lines_limit input) done line
+    → AreFirstOf IsJoinStep (seen lines_limit input) begun
 first_of_begun further input done line begun (inl is) next =
-    subst (AreFirstOf IsJoinStep (seen script_limit input)) (sym is)
+    subst (AreFirstOf IsJoinStep (seen lines_limit input)) (sym is)
     (first_of_next input done line next)
 first_of_begun further input done line begun (inr (is, step)) next =
-    subst (AreFirstOf IsJoinStep (seen script_limit input)) (sym is) (record {
+    subst (AreFirstOf IsJoinStep (seen lines_limit input)) (sym is) (record {
       after = next.after;
       parts = next.parts ∙ sym (append_assoc done (line ∷ []) next.after);
       steps = further done line next.steps (record { fits = next.fits; step = step });
@@ -148,7 +149,7 @@ module _ {M O D T : Type 0} (see : M → O → Seen) where
           (sent : Option (List ℕ)) (more : List ℕ) (end : RunEnd)
           → IsWelcome name (Some bytes) first (at start) welcome
           → HasDone see start done now
-          → LinesComeTo IsJoinStep script_limit input done last
+          → LinesComeTo IsJoinStep lines_limit input done last
           → Appends (at now).written sent more
           → ((j : Joining) → (at now).client ≡ j.client
           → script_outcome last j
@@ -187,7 +188,7 @@ module _ {M O D T : Type 0} (see : M → O → Seen) where
           → t.sent_old ≡ first.written
           → IsWelcome name (Some bytes) first (at start) welcome
           → (has : HasDone see start done now)
-          → AreFirstOf IsJoinStep (seen script_limit input) done
+          → AreFirstOf IsJoinStep (seen lines_limit input) done
           → ((j : Joining) → (at now).client ≡ j.client
           → IsParting input done (Goes j []) parting)
           → GrowsByPrefix (at now).written t.sent_now parting
@@ -228,7 +229,7 @@ module _ {M O D T : Type 0} (see : M → O → Seen) where
           → t.sent_old ≡ first.written → t.sent_now ≡ (at now).written
           → IsWelcome name (Some bytes) first (at start) welcome
           → HasDone see start done now
-          → TookWithin (HoldsLines IsJoinStep script_limit done) 0 input t.left
+          → TookWithin (HoldsLines IsJoinStep lines_limit done) 0 input t.left
           → WritesTaken name t input bytes
       taken_of t done print_old print_now sent_old sent_now is has took =
           let go = has.goes first (newcomer (at start).client name) is.stands in
@@ -261,7 +262,7 @@ module _ {M O D T : Type 0} (see : M → O → Seen) where
       all_of : (done : List Line) (last : LinesEnd) (more : List ℕ) (end : RunEnd)
           → IsWelcome name link first (at start) welcome
           → HasDone see start done now
-          → IfSome input (λ bytes. LinesComeTo IsJoinStep script_limit bytes done last)
+          → IfSome input (λ bytes. LinesComeTo IsJoinStep lines_limit bytes done last)
           → Appends (at now).written sent more
           → ((j : Joining) → (at now).client ≡ j.client
           → script_outcome last j
@@ -273,14 +274,14 @@ module _ {M O D T : Type 0} (see : M → O → Seen) where
           × Appends first.written sent outcome.written) (λ i l input_is link_is.
           whole_of i l done last sent more end
           (known_welcome name link first (at start) welcome l link_is is) has
-          (said_of (λ b. LinesComeTo IsJoinStep script_limit b done last) input i input_is comes)
+          (said_of (λ b. LinesComeTo IsJoinStep lines_limit b done last) input i input_is comes)
           writes due)
 
       -- a script that ends before its end leaves nothing to be written
       silent_all : (done : List Line) (last : LinesEnd) (end : RunEnd)
           → IsWelcome name link first (at start) welcome
           → HasDone see start done now
-          → IfSome input (λ bytes. LinesComeTo IsJoinStep script_limit bytes done last)
+          → IfSome input (λ bytes. LinesComeTo IsJoinStep lines_limit bytes done last)
           → sent ≡ (at now).written
           → ((j : Joining)
           → script_outcome last j ≡ record { text = j.text; written = j.written; end = end })
@@ -292,7 +293,7 @@ module _ {M O D T : Type 0} (see : M → O → Seen) where
           (sym (append-nil j.written)))
 
       some_of : (done : List Line) (P : List ℕ → Type 0)
-          → ((i : List ℕ) → P i → AreFirstOf IsJoinStep (seen script_limit i) done)
+          → ((i : List ℕ) → P i → AreFirstOf IsJoinStep (seen lines_limit i) done)
           → (parting : List ℕ)
           → IsWelcome name link first (at start) welcome
           → HasDone see start done now → IfSome input P
@@ -311,7 +312,7 @@ module _ {M O D T : Type 0} (see : M → O → Seen) where
       says_farewell : (done : List Line) (before after : ℕ) (end : RunEnd) → IsAtEnd left
           → IsWelcome name link first (at start) welcome
           → HasDone see start done now
-          → IfSome input (λ bytes. LinesComeTo IsJoinStep script_limit bytes done ends.AllDone)
+          → IfSome input (λ bytes. LinesComeTo IsJoinStep lines_limit bytes done ends.AllDone)
           → SaysFarewell (at now).written sent before after (at now).client.user end
           → JoinLeaves name over end
       says_farewell done before after end at_end is has comes (inl (end_is, writes, kept)) =
@@ -329,12 +330,12 @@ module _ {M O D T : Type 0} (see : M → O → Seen) where
           (inr (inl (end_is, writes, rose, later)))
           =
           subst (JoinLeaves name over) (sym end_is)
-          (some_of done (λ b. LinesComeTo IsJoinStep script_limit b done ends.AllDone)
+          (some_of done (λ b. LinesComeTo IsJoinStep lines_limit b done ends.AllDone)
           (λ i. first_of_all i done) (farewell_bytes (at now).client.user) is has comes
           (λ i j all client. inr (all, j, [], refl, ap (λ c. farewell_bytes c.user) client)) writes)
       says_farewell done before after end at_end is has comes (inr (inr (end_is, writes, kept))) =
           subst (JoinLeaves name over) (sym end_is)
-          (some_of done (λ b. LinesComeTo IsJoinStep script_limit b done ends.AllDone)
+          (some_of done (λ b. LinesComeTo IsJoinStep lines_limit b done ends.AllDone)
           (λ i. first_of_all i done) (farewell_bytes (at now).client.user) is has comes
           (λ i j all client. inr (all, j, [], refl, ap (λ c. farewell_bytes c.user) client)) writes)
 
@@ -342,7 +343,7 @@ module _ {M O D T : Type 0} (see : M → O → Seen) where
       stopped_part : (done : List Line) (line : Line) (stop : JoinStop)
           → IsWelcome name link first (at start) welcome
           → (has : HasEnded see start done line now stop)
-          → IfSome input (λ bytes. IsNextOf IsJoinStep (seen script_limit bytes) done line)
+          → IfSome input (λ bytes. IsNextOf IsJoinStep (seen lines_limit bytes) done line)
           → sent ≡ (at now).written
           → ((bytes : List ℕ) → Shows bytes (welcome ∷ has.given) stop
           → BeginsWith bytes (welcome ∷ has.given))
@@ -359,7 +360,7 @@ module _ {M O D T : Type 0} (see : M → O → Seen) where
           record {
             begun = has.begun;
             prefix = first_of_begun further i done line has.begun has.is_begun
-                (said_of (λ b. IsNextOf IsJoinStep (seen script_limit b) done line) input i input_is
+                (said_of (λ b. IsNextOf IsJoinStep (seen lines_limit b) done line) input i input_is
                 next);
             actions = has.actions;
             asked = has.asked;
@@ -381,7 +382,7 @@ module _ {M O D T : Type 0} (see : M → O → Seen) where
       stopped_all : (done : List Line) (line : Line) (why : LinkCause)
           → IsWelcome name link first (at start) welcome
           → HasEnded see start done line now (stop.NoEntry why)
-          → IfSome input (λ bytes. IsNextOf IsJoinStep (seen script_limit bytes) done line)
+          → IfSome input (λ bytes. IsNextOf IsJoinStep (seen lines_limit bytes) done line)
           → sent ≡ (at now).written
           → WritesAll name over (link_end why)
       stopped_all done line why is has next same =
@@ -399,7 +400,7 @@ module _ {M O D T : Type 0} (see : M → O → Seen) where
             inr (record {
               begun = has.begun;
               prefix = first_of_begun further i done line has.begun has.is_begun
-                  (said_of (λ b. IsNextOf IsJoinStep (seen script_limit b) done line) input i
+                  (said_of (λ b. IsNextOf IsJoinStep (seen lines_limit b) done line) input i
                   input_is next);
               actions = has.actions;
               asked = has.asked;
@@ -424,7 +425,7 @@ module _ {M O D T : Type 0} (see : M → O → Seen) where
 
       pub leaves_of : (ended : ScriptEnd JoinStop) (before after : ℕ) (end : RunEnd)
           → IsWelcome name link first (at start) welcome
-          → ScriptLeaves IsJoinStep (HasDone see) (HasEnded see) script_limit input left start now
+          → ScriptLeaves IsJoinStep (HasDone see) (HasEnded see) lines_limit input left start now
           ended
           → Parts (at now).written sent before after (at now).client.user ended end
           → JoinLeaves name over end
@@ -438,14 +439,14 @@ module _ {M O D T : Type 0} (see : M → O → Seen) where
           (when_known input link (WritesTaken name over) (λ i l input_is link_is.
           taken_of i l over done refl refl refl parts.bytes
           (known_welcome name link first (at start) welcome l link_is is) has
-          (said_of (λ b. TookWithin (HoldsLines IsJoinStep script_limit done) 0 b left) input i
+          (said_of (λ b. TookWithin (HoldsLines IsJoinStep lines_limit done) 0 b left) input i
           input_is took)))
       leaves_of Long before after end is (done, has, comes) parts =
           subst (JoinLeaves name over) (sym parts.end_is)
           (silent_all done ends.TooLong run.Long is has comes parts.bytes (λ j. refl))
       leaves_of Memory before after end is (done, has, prefix) parts =
           subst (JoinLeaves name over) (sym parts.end_is)
-          (some_of done (λ b. AreFirstOf IsJoinStep (seen script_limit b) done) (λ i f. f) [] is has
+          (some_of done (λ b. AreFirstOf IsJoinStep (seen lines_limit b) done) (λ i f. f) [] is has
           prefix (λ i j f client. inl refl)
           (subst (λ s. GrowsByPrefix (at now).written s []) (sym parts.bytes)
           (grows_not (at now).written [])))
@@ -486,7 +487,7 @@ module _ {M O D T : Type 0} (see : M → O → Seen) where
     -- the count of the output's faults never falls
     pub later_of : (input left link : Option (List ℕ)) (ended : ScriptEnd JoinStop)
         → IsWelcome name link first (at start) welcome
-        → ScriptLeaves IsJoinStep (HasDone see) (HasEnded see) script_limit input left start now
+        → ScriptLeaves IsJoinStep (HasDone see) (HasEnded see) lines_limit input left start now
         ended
         → first.print_faults ≤ (at now).print_faults
     later_of input left link Done is (at_end, done, has, comes) = done_later link done is has
@@ -554,7 +555,7 @@ module _ {M O D T : Type 0} (see : M → O → Seen) where
 
       pub fault_matches_of : (input left link sent : Option (List ℕ)) (ended : ScriptEnd JoinStop)
           (user : ℕ) (end : RunEnd) → IsWelcome name link first (at start) welcome
-          → ScriptLeaves IsJoinStep (HasDone see) (HasEnded see) script_limit input left start now
+          → ScriptLeaves IsJoinStep (HasDone see) (HasEnded see) lines_limit input left start now
           ended
           → FaultMatchesInput before after ended
           → Parts (at now).written sent (at now).write_faults sink user ended end

@@ -18,7 +18,8 @@ use Rattle.dp_joining.specs.declared.stops.LinkCause.TheVariants as cause
 use Rattle.dp_joining.specs.Joining.{Joining, Progress, Goes, Waits, is_closed, joined}
 use Rattle.dp_joining.specs.Outcomes.{AllAsk, BeginsWith, EndsByLink, EndsByScript, EndsLink}
 use Rattle.dp_joining.specs.Outcomes.{IsJoinStep, JoinComesTo, LinkComesTo, JoinOutcome, link_end}
-use Rattle.dp_joining.specs.Outcomes.{script_limit, script_outcome}
+use Rattle.dp_joining.specs.Outcomes.{script_outcome}
+use Rattle.dp_script.specs.Limits.{lines_limit}
 use Rattle.dp_joining.proofs.Along.{closed-longer}
 use Rattle.dp_joining.proofs.Prefixes.{IsFirstOf, Laws, begin_alike, first_more, first_nil}
 use Rattle.dp_joining.proofs.Prefixes.{within_all}
@@ -30,11 +31,11 @@ pub record AllLaws : Type 0 where
   pub action : (line : List ℕ) (action other : JoinAction) → Asks line action → Asks line other
       → action ≡ other
   pub lines : (bytes : List ℕ) (done others : List Line) (end last : LinesEnd)
-      → LinesComeTo IsJoinStep script_limit bytes done end
-      → LinesComeTo IsJoinStep script_limit bytes others last → done ≡ others
+      → LinesComeTo IsJoinStep lines_limit bytes done end
+      → LinesComeTo IsJoinStep lines_limit bytes others last → done ≡ others
   pub last : (bytes : List ℕ) (done others : List Line) (end last : LinesEnd)
-      → LinesComeTo IsJoinStep script_limit bytes done end
-      → LinesComeTo IsJoinStep script_limit bytes others last → end ≡ last
+      → LinesComeTo IsJoinStep lines_limit bytes done end
+      → LinesComeTo IsJoinStep lines_limit bytes others last → end ≡ last
   pub entries : (link : List ℕ) (es ds : List Entry) (end other : RunEnd)
       → LinkComesTo link es end → LinkComesTo link ds other → es ≡ ds
   pub end : (link : List ℕ) (es ds : List Entry) (end other : RunEnd)
@@ -110,8 +111,8 @@ past_bad begun done line after rest (next ∷ more) is steps whole bad =
 
 -- steps that are the first lines are the first of those that are done
 first_within : (input : List ℕ) (begun done : List Line) (last : LinesEnd)
-    → AreFirstOf IsJoinStep (seen script_limit input) begun
-    → LinesComeTo IsJoinStep script_limit input done last → IsFirstOf begun done
+    → AreFirstOf IsJoinStep (seen lines_limit input) begun
+    → LinesComeTo IsJoinStep lines_limit input done last → IsFirstOf begun done
 first_within input begun done ends.AllDone prefix comes =
     record { rest = prefix.after; whole = comes.1 ∙ prefix.parts }
 first_within input begun done ends.TooLong prefix comes =

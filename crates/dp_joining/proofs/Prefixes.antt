@@ -11,7 +11,8 @@ use Rattle.dp_lines.specs.declared.run_end.RunEnd.{RunEnd}
 use Rattle.dp_lines.specs.declared.run_end.RunEnd.TheVariants as run
 use Rattle.dp_entries.specs.Input.{StandFor, Tells, TellsUpTo}
 use Rattle.dp_joining.specs.JoinStanding.{StandsOnLink}
-use Rattle.dp_joining.specs.Outcomes.{BeginsWith, LinkComesTo, link_limit}
+use Rattle.dp_joining.specs.Outcomes.{BeginsWith, LinkComesTo}
+use Rattle.dp_io.specs.Limits.{stream_limit}
 
 -- what the layers below say of frames
 pub record Laws : Type 0 where
@@ -135,15 +136,15 @@ within_bad laws k n (f ∷ fs) (g ∷ gs) (x ∷ es) (y ∷ ds) bad xs more at e
 
 -- the bytes that count begin with the entries, too
 counted : (link : List ℕ) (es : List Entry) (first : BeginsWith link es)
-    → take link_limit link ≡ flat_map spelling first.frames
-    ++ take (link_limit - length (flat_map spelling first.frames)) first.more
+    → take stream_limit link ≡ flat_map spelling first.frames
+    ++ take (stream_limit - length (flat_map spelling first.frames)) first.more
 counted link es first =
     let prefix = flat_map spelling first.frames in
-    let room : link_limit ≡ length prefix + (link_limit - length prefix) =
+    let room : stream_limit ≡ length prefix + (stream_limit - length prefix) =
     omega (arith, first.counts) in
-    ap (take link_limit) first.whole
+    ap (take stream_limit) first.whole
     ∙ ap (λ (n : ℕ). take n (prefix ++ first.more)) room
-    ∙ take-append-add prefix first.more (link_limit - length prefix)
+    ∙ take-append-add prefix first.more (stream_limit - length prefix)
 
 -- entries with which a link begins are the first of those that it comes to
 pub within_all : Laws → (link : List ℕ) (es ds : List Entry) (end : RunEnd)
@@ -157,12 +158,12 @@ within_all laws link es ds (run.Truncated n) first (rest, tells, some, ends, sho
     (sym first.whole ∙ tells.splits.whole)
 within_all laws link es ds run.Long first (rest, tells, long) =
     within_rest laws 0 first.frames tells.frames es ds
-    (take (link_limit - length (flat_map spelling first.frames)) first.more) rest first.each
+    (take (stream_limit - length (flat_map spelling first.frames)) first.more) rest first.each
     tells.splits.each first.stand tells.stand tells.splits.partial
     (sym (counted link es first) ∙ tells.splits.whole)
 within_all laws link es ds (run.BadMessage n) first (after, tells, place) =
     within_bad laws 0 (length tells.frames) first.frames tells.frames es ds tells.bad
-    (take (link_limit - length (flat_map spelling first.frames)) first.more) tells.more
+    (take (stream_limit - length (flat_map spelling first.frames)) first.more) tells.more
     (omega arith) first.each tells.each tells.fits first.stand tells.stand tells.nothing
     (sym (counted link es first) ∙ tells.whole)
 within_all laws link es ds run.ReadFault first comes = absurd comes

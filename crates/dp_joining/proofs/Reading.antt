@@ -24,7 +24,8 @@ use Rattle.dp_joining.specs.declared.stops.JoinStop.TheVariants.{WriteFault, Lin
 use Rattle.dp_joining.specs.declared.stops.JoinStop.TheVariants.{NoEntry}
 use Rattle.dp_joining.specs.Joining.{is_closed, takeable}
 use Rattle.dp_joining.specs.JoinStanding.{IsFlaw, StandsOnLink, is_ping}
-use Rattle.dp_joining.specs.Outcomes.{BeginsWith, EndsLink, link_limit}
+use Rattle.dp_joining.specs.Outcomes.{BeginsWith, EndsLink}
+use Rattle.dp_io.specs.Limits.{stream_limit}
 use Rattle.dp_joining.specs.Steps.{FaultMatchesReading, HasGiven, GivesEntry, GivesNone, IsReadable}
 use Rattle.dp_joining.specs.Steps.{ReadsOn}
 use Rattle.dp_joining.specs.Steps.{ReadsUpTo, Shows, Source}
@@ -51,7 +52,7 @@ given_begins s bytes entries readable has_given =
           ∙ ap (λ xs. xs ++ rest) has_given.follows.whole
           ∙ append_assoc prefix held rest;
       counts =
-          subst (λ n. n ≤ link_limit) has_given.follows.at readable.within;
+          subst (λ n. n ≤ stream_limit) has_given.follows.at readable.within;
     }
 
 -- reading goes on twice
@@ -97,9 +98,9 @@ stops_here a b xs reads bytes before has_given =
 -- what the bytes come to, by what the reader counts
 comes_to : (s : Source) (bytes : List ℕ) (entries : List Entry) → IsReadable s → (end : RunEnd)
     → ComesTo StandsOnLink s.reader.first s.reader.limit bytes entries end
-    → ComesTo StandsOnLink 0 link_limit bytes entries end
+    → ComesTo StandsOnLink 0 stream_limit bytes entries end
 comes_to s bytes entries readable end comes =
-    subst (λ n. ComesTo StandsOnLink n link_limit bytes entries end) readable.first
+    subst (λ n. ComesTo StandsOnLink n stream_limit bytes entries end) readable.first
     (subst (λ n. ComesTo StandsOnLink s.reader.first n bytes entries end) readable.limit comes)
 
 -- what is taken of one entry that is no Disconnect

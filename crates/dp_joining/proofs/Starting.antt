@@ -24,7 +24,7 @@ use Rattle.dp_joining.specs.Leaves.{FaultMatchesJoin, Counts, IsWelcome, JoinLea
 use Rattle.dp_joining.specs.Leaves.{Traffic}
 use Rattle.dp_joining.specs.Leaves.{WritesAll, WritesPart, WhereKnown}
 use Rattle.dp_joining.specs.Outcomes.{IsJoinStep, BeginsWith, JoinComesTo, JoinOutcome, link_end}
-use Rattle.dp_joining.specs.Outcomes.{script_limit}
+use Rattle.dp_script.specs.Limits.{lines_limit}
 use Rattle.dp_joining.specs.Scripts.{text_of, written_of}
 use Rattle.dp_joining.specs.Steps.{Seen, Shows, Source, Stands}
 use Rattle.dp_joining.specs.Stops.{end_of}
@@ -71,9 +71,9 @@ no_parts : (before : List Line) (line : Line) (after : List Line) → [] ≡ bef
 no_parts [] line after is = cc (is)
 no_parts (other ∷ before) line after is = cc (is)
 
-no_lines : (input : List ℕ) → AreFirstOf IsJoinStep (seen script_limit input) []
+no_lines : (input : List ℕ) → AreFirstOf IsJoinStep (seen lines_limit input) []
 no_lines input = record {
-  after = seen script_limit input;
+  after = seen lines_limit input;
   parts = refl;
   steps = λ before line after is. absurd (no_parts before line after is);
 }

@@ -18,7 +18,7 @@ use Rattle.dp_joining.specs.Greetings.{newcomer}
 use Rattle.dp_joining.specs.Joining.{Joining, Progress, Goes, farewell_bytes, greeted, is_closed}
 use Rattle.dp_joining.specs.Joining.{joined}
 use Rattle.dp_joining.specs.Outcomes.{AllAsk, BeginsWith, IsJoinStep, JoinComesTo, JoinOutcome}
-use Rattle.dp_joining.specs.Outcomes.{script_limit}
+use Rattle.dp_script.specs.Limits.{lines_limit}
 use Rattle.dp_joining.specs.Scripts.{text_of, written_of}
 use Rattle.dp_joining.specs.Steps.{HasGiven, Seen, Stands}
 
@@ -49,7 +49,7 @@ WritesAll name t end =
 abbrev pub IsParting : List ℕ → List Line → Progress → List ℕ → Type 0
 IsParting input begun progress parting =
     (parting ≡ [])
-    ⊎ (LinesComeTo IsJoinStep script_limit input begun ends.AllDone
+    ⊎ (LinesComeTo IsJoinStep lines_limit input begun ends.AllDone
     × (j : Joining) × (left : List Entry) × (progress ≡ Goes j left)
     × (parting ≡ farewell_bytes j.client.user))
 
@@ -57,7 +57,7 @@ IsParting input begun progress parting =
 -- entries of the link
 pub record WritesPart (name : List ℕ) (t : Traffic) (input link : List ℕ) : Type 0 where
   pub begun : List Line
-  pub prefix : AreFirstOf IsJoinStep (seen script_limit input) begun
+  pub prefix : AreFirstOf IsJoinStep (seen lines_limit input) begun
   pub actions : List JoinAction
   pub asked : AllAsk begun actions
   pub entries : List Entry
@@ -71,7 +71,7 @@ pub record WritesPart (name : List ℕ) (t : Traffic) (input link : List ℕ) : 
 -- the lines that are whole in what was taken of the script were done, and nothing more was written
 pub record WritesTaken (name : List ℕ) (t : Traffic) (input link : List ℕ) : Type 0 where
   pub done : List Line
-  pub took : TookWithin (HoldsLines IsJoinStep script_limit done) 0 input t.left
+  pub took : TookWithin (HoldsLines IsJoinStep lines_limit done) 0 input t.left
   pub actions : List JoinAction
   pub asked : AllAsk done actions
   pub entries : List Entry

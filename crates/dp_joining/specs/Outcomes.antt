@@ -1,5 +1,5 @@
 -- What a run of `join` comes to.
-use Rattle.std.specs.Prelude.{◌≡◌, ◌⊎◌, ℕ, ◌^◌, ◌≤◌, false, IsTrue, List, [], ◌∷◌, ◌++◌, length}
+use Rattle.std.specs.Prelude.{◌≡◌, ◌⊎◌, ℕ, ◌≤◌, false, IsTrue, List, [], ◌∷◌, ◌++◌, length}
 use Rattle.std.specs.List.{AllByRecursion, flat_map}
 use Rattle.dp_frame.specs.Frames.{FrameParts, IsFrame, spelling}
 use Rattle.dp_messages.specs.declared.message.Entry.{Entry}
@@ -14,15 +14,13 @@ use Rattle.dp_schedule.specs.JoinGrammar.{Asks}
 use Rattle.dp_script.specs.Leaves.{AreFirstOf}
 use Rattle.dp_joining.specs.declared.stops.LinkCause.{LinkCause}
 use Rattle.dp_joining.specs.declared.stops.LinkCause.TheVariants as cause
-use Rattle.dp_joining.specs.Joining.{Joining, Progress, Goes, Waits, farewell_bytes, is_closed}
+use Rattle.dp_joining.specs.Joining.{Joining, Goes, Waits, farewell_bytes, is_closed}
 use Rattle.dp_joining.specs.Joining.{joined}
 use Rattle.dp_joining.specs.JoinStanding.{StandsOnLink}
+use Rattle.dp_io.specs.Limits.{stream_limit}
+use Rattle.dp_script.specs.Limits.{lines_limit}
 
 -- ---- the script
-
--- how many bytes of a script count: 64 MiB
-abbrev pub script_limit : ℕ
-script_limit = 2 ^ 26
 
 -- a line is a step where it asks for something, whatever the lines before it are
 abbrev pub IsJoinStep : List Line → Line → Type 0
@@ -37,10 +35,6 @@ AllAsk (line ∷ lines) (action ∷ actions) = Asks line.bytes action × AllAsk 
 
 -- ---- the link
 
--- how many bytes of a link count: 1 GiB
-abbrev pub link_limit : ℕ
-link_limit = 2 ^ 30
-
 -- the link's bytes begin with whole frames, within those that count, that stand for the entries
 pub record BeginsWith (link : List ℕ) (entries : List Entry) : Type 0 where
   pub frames : List FrameParts
@@ -48,11 +42,11 @@ pub record BeginsWith (link : List ℕ) (entries : List Entry) : Type 0 where
   pub each : AllByRecursion IsFrame frames
   pub stand : StandFor StandsOnLink 0 frames entries
   pub whole : link ≡ flat_map spelling frames ++ more
-  pub counts : length (flat_map spelling frames) ≤ link_limit
+  pub counts : length (flat_map spelling frames) ≤ stream_limit
 
 -- the link's bytes come to these entries and this end
 abbrev pub LinkComesTo : List ℕ → List Entry → RunEnd → Type 0
-LinkComesTo link entries end = ComesTo StandsOnLink 0 link_limit link entries end
+LinkComesTo link entries end = ComesTo StandsOnLink 0 stream_limit link entries end
 
 -- Why a link gives no entry more after these: a Disconnect came, or the link ended, also inside a
 -- frame; or a frame came that may not stand, or more bytes than count.
@@ -96,7 +90,7 @@ script_outcome ends.TooLong j = record { text = j.text; written = j.written; end
 pub record EndsByScript (name input link : List ℕ) (outcome : JoinOutcome) : Type 0 where
   pub done : List Line
   pub last : LinesEnd
-  pub comes : LinesComeTo IsJoinStep script_limit input done last
+  pub comes : LinesComeTo IsJoinStep lines_limit input done last
   pub actions : List JoinAction
   pub asked : AllAsk done actions
   pub entries : List Entry
@@ -109,7 +103,7 @@ pub record EndsByScript (name input link : List ℕ) (outcome : JoinOutcome) : T
 -- The link ends the run: one of the first lines asks for an entry more than it gives.
 pub record EndsByLink (name input link : List ℕ) (outcome : JoinOutcome) : Type 0 where
   pub begun : List Line
-  pub prefix : AreFirstOf IsJoinStep (seen script_limit input) begun
+  pub prefix : AreFirstOf IsJoinStep (seen lines_limit input) begun
   pub actions : List JoinAction
   pub asked : AllAsk begun actions
   pub entries : List Entry

@@ -16,7 +16,8 @@ use Rattle.dp_joining.specs.declared.stops.JoinStop.TheVariants.{WriteFault, Lin
 use Rattle.dp_joining.specs.declared.stops.JoinStop.TheVariants.{NoEntry}
 use Rattle.dp_joining.specs.Joining.{Joining, after_line, asked_by, chat_limit, is_closed, takeable}
 use Rattle.dp_joining.specs.JoinStanding.{StandsOnLink}
-use Rattle.dp_joining.specs.Outcomes.{BeginsWith, EndsLink, link_limit}
+use Rattle.dp_joining.specs.Outcomes.{BeginsWith, EndsLink}
+use Rattle.dp_io.specs.Limits.{stream_limit}
 
 -- ---- the link
 
@@ -33,9 +34,9 @@ HasGiven s bytes entries = HasRead StandsOnLink bytes s.left entries s.reader
 
 -- a further entry can be read: of the link's bytes from the first on the limit counts
 pub record IsReadable (s : Source) : Type 0 where
-  pub within : s.reader.stream.at ≤ link_limit
+  pub within : s.reader.stream.at ≤ stream_limit
   pub first : s.reader.first ≡ 0
-  pub limit : s.reader.limit ≡ link_limit
+  pub limit : s.reader.limit ≡ stream_limit
   pub going : ¬ IsTrue s.reader.ended
 
 -- what the link gave goes on by these entries, none of which closes it

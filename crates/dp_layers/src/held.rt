@@ -5,6 +5,7 @@ ghost use Rattle.std.specs.Prelude.{OnOk, OnErr};
 ghost use Rattle.dp_layers.specs.Inside.{held_by, holding, paired};
 
 use crate::row::LayerRow;
+use crate::share::Share;
 use std::alloc::AllocError;
 
 /// What the paint row of the id holds.
@@ -64,4 +65,18 @@ pub(crate) fn paired<X: Drop>(
         hold(&mut held, row.id, x)?;
     }
     Ok(held)
+}
+
+/// What is held, once more for the same ids and in the same order.
+pub(crate) fn share_held<X: Share + Drop>(
+    contents: &Vec<Held<X>>,
+) -> Result<Vec<Held<X>>, AllocError>
+    ensures { IfOk result (λ shares. shares.items ≡ contents.now.items) }
+{
+    let mut shares = Vec::with_capacity(*contents.allocator(), contents.len())?;
+    for held in contents {
+        let x = held.x.share()?;
+        shares.push(Held { id: held.id, x })?;
+    }
+    Ok(shares)
 }

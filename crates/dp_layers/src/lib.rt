@@ -7,10 +7,12 @@ mod laws;
 mod lookup;
 mod row;
 mod rows;
+mod share;
 mod tree;
 
 pub use laws::{
     contents_in_order, contents_ride_along, listed_modes, one_tree, rows_by_id, trees_stay_trees,
 };
 pub use row::LayerRow;
+pub use share::Share;
 pub use tree::Tree;

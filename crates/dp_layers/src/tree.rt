@@ -35,10 +35,11 @@ ghost use Rattle.dp_layers.specs.Inside.{IsRearranging};
 ghost use Rattle.dp_layers.specs.Lends.{lends_content};
 
 use crate::changes::{drop_held, drop_rows, new_row, put_last, rearrange};
-use crate::held::{Held, held_by, paired, place_of_held};
+use crate::held::{Held, held_by, paired, place_of_held, share_held};
 use crate::lookup::{gone_ids, has_effect};
 use crate::row::LayerRow;
 use crate::rows::Rows;
+use crate::share::Share;
 use dp_msg_draw::Draw;
 use std::alloc::{AllocError, Global};
 use std::marker::Model;
@@ -264,6 +265,17 @@ impl<X: Drop> Tree<X> {
     {
         let rows = self.rows.share()?;
         let contents = paired(rows.as_slice(), contents)?;
+        Ok(Tree { rows, contents })
+    }
+}
+
+impl<X: Share + Drop> Tree<X> {
+    /// A second tree of the same rows, which hold the same. It asks for each content once.
+    pub fn share(&self) -> Result<Tree<X>, AllocError>
+        ensures { IfOk result (λ tree. tree ≡ self.now) }
+    {
+        let rows = self.rows.share()?;
+        let contents = share_held(&self.contents)?;
         Ok(Tree { rows, contents })
     }
 }

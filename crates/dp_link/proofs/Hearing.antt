@@ -25,7 +25,8 @@ use Rattle.dp_link.specs.declared.pieces.PieceEnd.TheVariants as piece
 use Rattle.dp_link.specs.declared.messages.BadFrame.TheVariants as bad
 use Rattle.dp_link.specs.Acts.{SeatView, IsAct, ActsOnce}
 use Rattle.dp_session_laws.specs.Logs.{ReplyOrMemory, LogEntry}
-use Rattle.dp_link.specs.Bytes.{link_limit, BeginsWith, TakesMessage}
+use Rattle.dp_link.specs.Bytes.{BeginsWith, TakesMessage}
+use Rattle.dp_io.specs.Limits.{stream_limit}
 use Rattle.dp_link.specs.Pieces.{room_after, ReadsPiece}
 use Rattle.dp_link.specs.Saying.{MayGoOn, stops, AreSaid, AreSaidTo, SaidBy, AreSpelled}
 use Rattle.dp_link.specs.Saying.{SpellFirst, counted, link_bytes, given_count, RestBy, RestHeld}
@@ -299,12 +300,12 @@ held-then-end u v w a b c conn end both p q = record {
 -- ---- the whole link
 
 pub so-far-starts : (v : SeatView) (left : Option (List ℕ)) (stream : Stream) (conn : ℕ)
-    → Continues v [] v → stream.at + length stream.held ≤ link_limit
+    → Continues v [] v → stream.at + length stream.held ≤ stream_limit
     → SaidSoFar v v left left stream stream conn false
 so-far-starts v left stream conn none within =
     let whole : counted stream [] ≡ stream.held =
-    ap (take (link_limit - stream.at)) (append-nil stream.held)
-    ∙ take_all (link_limit - stream.at) stream.held (omega arith) in
+    ap (take (stream_limit - stream.at)) (append-nil stream.held)
+    ∙ take_all (stream_limit - stream.at) stream.held (omega arith) in
     record {
       read = [];
       messages = [];
@@ -385,29 +386,29 @@ so-far-long u v left unread a b conn over more none p = record {
 -- while all bytes count
 all-count : {u v : SeatView} {left unread : Option (List ℕ)} {a b : Stream} {conn : ℕ}
     {over : Bool} → (p : SaidSoFar u v left unread a b conn over) → ¬ IsTrue over
-    → given_count a p.read ≤ link_limit
-all-count {a = a} p all = by_limit (cases_lt link_limit (given_count a p.read))
+    → given_count a p.read ≤ stream_limit
+all-count {a = a} p all = by_limit (cases_lt stream_limit (given_count a p.read))
   where
-    by_limit : (link_limit < given_count a p.read) ⊎ (given_count a p.read ≤ link_limit)
-        → given_count a p.read ≤ link_limit
+    by_limit : (stream_limit < given_count a p.read) ⊎ (given_count a p.read ≤ stream_limit)
+        → given_count a p.read ≤ stream_limit
     by_limit (inl more) = absurd (all (p.others.1 more))
     by_limit (inr few) = few
 
-counted-all : (a : Stream) (read : List ℕ) → given_count a read ≤ link_limit
+counted-all : (a : Stream) (read : List ℕ) → given_count a read ≤ stream_limit
     → counted a read ≡ link_bytes a read
-counted-all a read few = take_all (link_limit - a.at) (link_bytes a read) (omega (arith, few))
+counted-all a read few = take_all (stream_limit - a.at) (link_bytes a read) (omega (arith, few))
 
 -- a piece more counts as far as there is room
-counted-more : (a b : Stream) (read piece : List ℕ) → given_count a read ≤ link_limit
+counted-more : (a b : Stream) (read piece : List ℕ) → given_count a read ≤ stream_limit
     → b.at + length b.held ≡ a.at + length (counted a read)
     → counted a (read ++ piece) ≡ counted a read ++ take (room_after b) piece
 counted-more a b read piece few place =
     let all : counted a read ≡ link_bytes a read = counted-all a read few in
-    let room : room_after b ≡ link_limit - a.at - length (link_bytes a read) =
+    let room : room_after b ≡ stream_limit - a.at - length (link_bytes a read) =
     omega (arith, place, ap length all) in
-    let sum : link_limit - a.at ≡ length (link_bytes a read) + room_after b =
+    let sum : stream_limit - a.at ≡ length (link_bytes a read) + room_after b =
     omega (arith, room, few) in
-    ap (take (link_limit - a.at)) (sym (append_assoc a.held read piece))
+    ap (take (stream_limit - a.at)) (sym (append_assoc a.held read piece))
     ∙ ap (λ n. take n (link_bytes a read ++ piece)) sum
     ∙ take-append-add (link_bytes a read) piece (room_after b)
     ∙ ap (λ l. l ++ take (room_after b) piece) (sym all)
@@ -428,7 +429,7 @@ so-far-piece u v left unread more a b c conn over later all p r =
       length-append p.read r.piece,
       length-append a.held p.read,
     ) in
-    let room : room_after b ≡ link_limit - given_count a p.read =
+    let room : room_after b ≡ stream_limit - given_count a p.read =
     omega (arith, p.place, ap length (counted-all a p.read few)) in
     record {
       read = p.read ++ r.piece;
@@ -462,7 +463,7 @@ ends-here : (u v : SeatView) (left unread more : Option (List ℕ)) (a b : Strea
     (over : Bool) (piece : List ℕ) → ¬ IsTrue over → HoldsNoFrame b.held
     → (p : SaidSoFar u v left unread a b conn over) → Consumes unread more piece
     → length piece ≡ 0
-    → Consumes left more p.read × (HoldsNoFrame b.held × (given_count a p.read ≤ link_limit))
+    → Consumes left more p.read × (HoldsNoFrame b.held × (given_count a p.read ≤ stream_limit))
 ends-here u v left unread more a b conn over piece all none p read_is empty =
     let nil : piece ≡ [] = nil_from_length piece empty in
     let given : Consumes unread more [] =

@@ -10,7 +10,7 @@ use Rattle.std.specs.Io.KnownBytes.{Appends}
 use Rattle.dp_io.specs.Streams.{GrowsByPrefix}
 use Rattle.dp_messages.specs.declared.message.Entry.{Entry}
 use Rattle.dp_messages.specs.Messages.{entry_bytes}
-use Rattle.dp_frame_log.specs.Frames.{frames_of}
+use Rattle.dp_history.specs.Frames.{frames_of}
 
 -- ---- bytes that are known
 

@@ -16,7 +16,7 @@ use Rattle.dp_events.specs.declared.event.Answer.{Answer}
 use Rattle.dp_epochs.specs.State.{State}
 use Rattle.dp_epochs.specs.Past.{Past, Step, state_of}
 use Rattle.dp_epochs.specs.Pull.{answered}
-use Rattle.dp_frame_log.specs.Frames.{frames_of}
+use Rattle.dp_history.specs.Frames.{frames_of}
 use Rattle.dp_tables.specs.declared.pages.Page.{Page}
 use Rattle.dp_tables.specs.Pages.{AnswersBy, IsPage}
 use Rattle.dp_session_laws.specs.Growing.{GrowsInto}

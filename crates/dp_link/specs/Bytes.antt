@@ -1,5 +1,5 @@
 -- The bytes that a link gives.
-use Rattle.std.specs.Prelude.{◌≡◌, ℕ, ◌+◌, ◌^◌, List, ◌++◌, length, Option, None, Some}
+use Rattle.std.specs.Prelude.{◌≡◌, ℕ, ◌+◌, List, ◌++◌, length, Option, None, Some}
 use Rattle.std.specs.Prelude.{Result, Ok, Err, ⊤}
 use Rattle.dp_frame.specs.Frames.{FrameParts, IsFrame, spelling, HoldsNoFrame}
 use Rattle.dp_split.specs.Stream.{Stream}
@@ -13,10 +13,6 @@ use Rattle.dp_entries.specs.declared.ends.Refusal.{Refusal}
 use Rattle.dp_entries.specs.declared.ends.Refusal.TheVariants as refusal
 use Rattle.dp_link.specs.declared.messages.BadFrame.{BadFrame}
 use Rattle.dp_link.specs.declared.messages.BadFrame.TheVariants.{At, Memory}
-
--- so many bytes of a link count
-abbrev pub link_limit : ℕ
-link_limit = 2 ^ 30
 
 -- the bytes are this frame and then the rest
 pub record BeginsWith (bytes : List ℕ) (frame : FrameParts) (rest : List ℕ) : Type 0 where

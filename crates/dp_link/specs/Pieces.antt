@@ -6,11 +6,11 @@ use Rattle.dp_io.specs.Faults.{Rose}
 use Rattle.dp_split.specs.Stream.{Stream}
 use Rattle.dp_link.specs.declared.pieces.PieceEnd.{PieceEnd}
 use Rattle.dp_link.specs.declared.pieces.PieceEnd.TheVariants.{ReadFault, End, Memory}
-use Rattle.dp_link.specs.Bytes.{link_limit}
+use Rattle.dp_io.specs.Limits.{stream_limit}
 
 -- how many more bytes of a link count, of which a splitter has seen these
 abbrev pub room_after : Stream → ℕ
-room_after stream = link_limit - stream.at - length stream.held
+room_after stream = stream_limit - stream.at - length stream.held
 
 -- the bytes of the piece that count were fed; whether there were others
 pub record Feeds (piece : List ℕ) (old new : Stream) (over : Bool) : Type 0 where

@@ -17,7 +17,8 @@ use Rattle.dp_link.specs.declared.ends.UpEnd.{UpEnd}
 use Rattle.dp_link.specs.declared.ends.UpEnd.TheVariants as up
 use Rattle.dp_link.specs.Acts.{SeatView, IsAct, ActsOnce}
 use Rattle.dp_session_laws.specs.Logs.{ReplyOrMemory, LogEntry}
-use Rattle.dp_link.specs.Bytes.{link_limit, BeginsWithNoMessage}
+use Rattle.dp_link.specs.Bytes.{BeginsWithNoMessage}
+use Rattle.dp_io.specs.Limits.{stream_limit}
 
 -- ---- the messages that are said
 
@@ -96,7 +97,7 @@ link_bytes stream read = stream.held ++ read
 
 -- those of them that count
 abbrev pub counted : Stream → List ℕ → List ℕ
-counted stream read = take (link_limit - stream.at) (link_bytes stream read)
+counted stream read = take (stream_limit - stream.at) (link_bytes stream read)
 
 -- how many bytes the link has given so
 abbrev pub given_count : Stream → List ℕ → ℕ
@@ -105,9 +106,9 @@ given_count stream read = stream.at + length (link_bytes stream read)
 -- What is after the messages that were said, by the end: no whole frame, where all bytes count or
 -- where others were read; or a frame that spells no message and begins at that byte of the link.
 abbrev pub RestBy : UpEnd → Stream → List ℕ → List ℕ → Type 0
-RestBy up.End stream read rest = HoldsNoFrame rest × (given_count stream read ≤ link_limit)
-RestBy up.ReadFault stream read rest = HoldsNoFrame rest × (given_count stream read ≤ link_limit)
-RestBy up.Long stream read rest = HoldsNoFrame rest × (link_limit < given_count stream read)
+RestBy up.End stream read rest = HoldsNoFrame rest × (given_count stream read ≤ stream_limit)
+RestBy up.ReadFault stream read rest = HoldsNoFrame rest × (given_count stream read ≤ stream_limit)
+RestBy up.Long stream read rest = HoldsNoFrame rest × (stream_limit < given_count stream read)
 RestBy (up.BadMessage at) stream read rest =
     BeginsWithNoMessage rest × (at + length rest ≡ stream.at + length (counted stream read))
 RestBy up.Left stream read rest = ⊤
@@ -207,7 +208,7 @@ pub record SaidSoFar (v w : SeatView) (left unread : Option (List ℕ)) (old new
   pub goes : Continues v says w
   pub said : AreSaid conn messages says
   pub place : new.at + length new.held ≡ old.at + length (counted old read)
-  pub others : IsTrue over ↔ (link_limit < given_count old read)
+  pub others : IsTrue over ↔ (stream_limit < given_count old read)
 
 -- the same up to the end of the link
 pub record SaidToEnd (v w : SeatView) (left unread : Option (List ℕ)) (stream : Stream) (conn : ℕ)

@@ -3,7 +3,7 @@
 ghost use Rattle.std.specs.Prelude.{◌≡◌, ◌+◌, ℕ, List, [], length, IfOk, IfSome};
 ghost use Rattle.std.specs.declared.option.Option.{Option};
 ghost use Rattle.dp_messages.specs.declared.message.Entry.{Entry as Piece};
-ghost use Rattle.dp_frame_log.specs.Frames.{frames_of};
+ghost use Rattle.dp_history.specs.Frames.{frames_of};
 ghost use Rattle.dp_hall.specs.Calls.{IsOf, Asks, IsSound};
 ghost use Rattle.dp_events.specs.declared.event.Query.TheVariants.{Pull};
 ghost use Rattle.dp_epochs.specs.Past.{Step};

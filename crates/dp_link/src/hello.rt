@@ -4,7 +4,7 @@ ghost use Rattle.std.specs.Prelude.{◌≡◌, ◌≢◌, ◌+◌, ◌≤◌, []
 ghost use Rattle.std.specs.Prelude.{ℕ, List, length};
 ghost use Rattle.std.specs.Io.KnownBytes.{IsAtEnd};
 ghost use Rattle.dp_hall.specs.Calls.{IsOf};
-ghost use Rattle.dp_link.specs.Bytes.{link_limit};
+ghost use Rattle.dp_io.specs.Limits.{stream_limit};
 ghost use Rattle.dp_link.specs.Acts.{ActsOnce, SeatView, last_outcome};
 ghost use Rattle.dp_link.specs.Answers.{reason_of, OpensWith};
 ghost use Rattle.dp_link.specs.Hello.{Greets, FaultMatchesHello, Answers, ReadsName, TakesName};
@@ -55,7 +55,7 @@ pub fn greet<W: Wait, K: Keeper, R: Source, S: Sink, G: Gate>(
     ensures of { IsOf hall.now seat.new }
     ensures greets { Greets seat.old.view seat.new.view (R.left rx.old) (R.left rx.new)
         (S.held tx.old) (S.held tx.new) split.new result }
-    ensures within { OnOk result (split.new.at + length split.new.held ≤ link_limit) }
+    ensures within { OnOk result (split.new.at + length split.new.held ≤ stream_limit) }
     ensures at_end { result ≡ Err GreetEnd.End → IsAtEnd (R.left rx.new) }
     ensures fault { FaultMatchesHello result (R.faults rx.old) (R.faults rx.new)
         (S.faults tx.old) (S.faults tx.new) }
@@ -88,7 +88,7 @@ pub fn run_greet<W: Wait, K: Keeper, R: Source, S: Sink, G: Gate>(
     ensures greets { (h : Greets seat.old.view seat.new.view (R.left rx.old) (R.left rx.new)
         (S.held tx.old) (S.held tx.new) split.new result.end)
         × (last_outcome h.acts ≡ result.last) }
-    ensures within { OnOk result.end (split.new.at + length split.new.held ≤ link_limit) }
+    ensures within { OnOk result.end (split.new.at + length split.new.held ≤ stream_limit) }
     ensures at_end { result.end ≡ Err GreetEnd.End → IsAtEnd (R.left rx.new) }
     ensures fault { FaultMatchesHello result.end (R.faults rx.old) (R.faults rx.new)
         (S.faults tx.old) (S.faults tx.new) }
@@ -107,7 +107,7 @@ pub fn run_greet<W: Wait, K: Keeper, R: Source, S: Sink, G: Gate>(
 fn read_name<R: Source>(alloc: Global, rx: &mut R, split: &mut Splitter) -> Result<Octets, GreetEnd>
     requires fresh { split.old ≡ record { held = []; at = 0 } }
     ensures reads { ReadsName (R.left rx.old) (R.left rx.new) split.new result }
-    ensures within { OnOk result (split.new.at + length split.new.held ≤ link_limit) }
+    ensures within { OnOk result (split.new.at + length split.new.held ≤ stream_limit) }
     ensures at_end { result ≡ Err GreetEnd.End → IsAtEnd (R.left rx.new) }
     ensures fault { FaultMatchesHello result (R.faults rx.old) (R.faults rx.new) 0 0 }
 {

@@ -3,7 +3,7 @@
 ghost use Rattle.std.specs.Prelude.{◌≡◌, ◌↔◌, ℕ, ◌+◌, ◌<◌, ◌≤◌, ◌++◌, length, take, slice_index};
 ghost use Rattle.std.specs.Prelude.{Err, IfOk, OnOk, OnErr, IsTrue};
 ghost use Rattle.std.specs.Io.KnownBytes.{IsAtEnd};
-ghost use Rattle.dp_link.specs.Bytes.{link_limit};
+ghost use Rattle.dp_io.specs.Limits.{stream_limit};
 ghost use Rattle.dp_link.specs.Pieces.{ReadsPiece, FaultMatchesPiece, room_after};
 
 use dp_io::{Failed, Source};
@@ -27,9 +27,9 @@ pub(crate) enum PieceEnd {
 /// Reads a piece of at most 4096 bytes, and feeds those of it that count. It answers whether there
 /// were others.
 pub(crate) fn read_piece<R: Source>(rx: &mut R, split: &mut Splitter) -> Result<bool, PieceEnd>
-    requires { split.old.at + length split.old.held ≤ link_limit }
+    requires { split.old.at + length split.old.held ≤ stream_limit }
     ensures read { ReadsPiece (R.left rx.old) (R.left rx.new) split.old split.new result }
-    ensures within { split.new.at + length split.new.held ≤ link_limit }
+    ensures within { split.new.at + length split.new.held ≤ stream_limit }
     ensures at_end { result ≡ Err PieceEnd.End → IsAtEnd (R.left rx.new) }
     ensures fault { FaultMatchesPiece result (R.faults rx.old) (R.faults rx.new) }
 {
@@ -49,7 +49,7 @@ pub(crate) fn read_piece<R: Source>(rx: &mut R, split: &mut Splitter) -> Result<
 
 /// Feeds those of the bytes that count. It answers whether there were others.
 fn feed_counted(split: &mut Splitter, bytes: &[u8]) -> Result<bool, AllocError>
-    requires { split.old.at + length split.old.held ≤ link_limit }
+    requires { split.old.at + length split.old.held ≤ stream_limit }
     ensures held { OnOk result (split.new.held
         ≡ split.old.held ++ take (room_after split.old) bytes.now) }
     ensures at { split.new.at ≡ split.old.at }

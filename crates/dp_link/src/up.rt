@@ -6,7 +6,7 @@ ghost use Rattle.dp_frame.specs.Frames.{HoldsNoFrame};
 ghost use Rattle.dp_hall.specs.Calls.{IsOf};
 ghost use Rattle.dp_link.specs.Acts.{ActsOnce};
 ghost use Rattle.dp_session_laws.specs.Logs.{ReplyOrMemory as Came};
-ghost use Rattle.dp_link.specs.Bytes.{link_limit};
+ghost use Rattle.dp_io.specs.Limits.{stream_limit};
 ghost use Rattle.dp_link.specs.Saying.{SaysAll, SaysHeld, SaidToEnd, FaultMatchesUp, EndsBy};
 ghost use Rattle.dp_link.specs.Saying.{SaysOne};
 
@@ -47,7 +47,7 @@ pub fn pump_up<W: Wait, K: Keeper, R: Source, G: Gate>(
     gate: &G,
 ) -> UpEnd
     requires of { IsOf hall.now seat.old }
-    requires within { split.old.at + length split.old.held ≤ link_limit }
+    requires within { split.old.at + length split.old.held ≤ stream_limit }
     ensures of { IsOf hall.now seat.new }
     ensures says { (outcome : Came) × SaysAll seat.old.view seat.new.view
         (R.left rx.old) (R.left rx.new) split.old conn result outcome }
@@ -70,7 +70,7 @@ pub fn run_up<W: Wait, K: Keeper, R: Source, G: Gate>(
     gate: &G,
 ) -> UpRun
     requires of { IsOf hall.now seat.old }
-    requires within { split.old.at + length split.old.held ≤ link_limit }
+    requires within { split.old.at + length split.old.held ≤ stream_limit }
     ensures of { IsOf hall.now seat.new }
     ensures says { SaysAll seat.old.view seat.new.view
         (R.left rx.old) (R.left rx.new) split.old conn result.end result.close }
@@ -105,7 +105,7 @@ fn say_all<W: Wait, K: Keeper, R: Source, G: Gate>(
     gate: &G,
 ) -> UpEnd
     requires of { IsOf hall.now seat.old }
-    requires within { split.old.at + length split.old.held ≤ link_limit }
+    requires within { split.old.at + length split.old.held ≤ stream_limit }
     ensures of { IsOf hall.now seat.new }
     ensures says { SaidToEnd seat.old.view seat.new.view
         (R.left rx.old) (R.left rx.new) split.old conn result }

@@ -19,6 +19,3 @@ pub use lists::{Ids, NameBytes, Text};
 pub use message::{Control, Meta, Tiers};
 pub use reader::{read_control, read_meta};
 pub use writer::{write_control, write_meta};
-
-#[cfg(test)]
-mod tests;

@@ -3,7 +3,9 @@ use Rattle.std.proofs.Common.{◌≡◌, true, Some, ap, sym, ◌∙◌}
 use Rattle.std.specs.Prelude.{ℤ}
 use Rattle.std.proofs.lemmas.Option.{none-some, same_Some}
 use Rattle.dp_pixels.specs.declared.rect.Rect.{Rect}
-use Rattle.dp_pixels.specs.Feet.{Footprint, Area, Two, All, is_in_foot, squares_of, squares_of_foot}
+use Rattle.dp_pixels.specs.declared.feet.Footprint.{Footprint}
+use Rattle.dp_pixels.specs.declared.feet.Footprint.TheVariants.{Area, Two, All}
+use Rattle.dp_pixels.specs.Feet.{is_in_foot, squares_of, squares_of_foot}
 use Rattle.dp_pixels.specs.Rectangles.{is_in}
 use Rattle.dp_paint.specs.Painting.{foot_area}
 

@@ -9,7 +9,8 @@ use Rattle.dp_msg_draw.specs.declared.draw.Draw.TheVariants.{FillRect, PutImage,
 use Rattle.dp_msg_draw.specs.declared.draw.Draw.TheVariants.{DabsSquare}
 use Rattle.dp_pixels.specs.declared.rect.Rect.{Rect}
 use Rattle.dp_pixels.specs.Commands.{pixel_drawn}
-use Rattle.dp_pixels.specs.Feet.{Footprint, Area}
+use Rattle.dp_pixels.specs.declared.feet.Footprint.{Footprint}
+use Rattle.dp_pixels.specs.declared.feet.Footprint.TheVariants.{Area}
 use Rattle.dp_pixels.specs.Rectangles.{canvas_rect, is_in}
 use Rattle.dp_pixels.specs.Tiles.{tiles_along}
 use Rattle.dp_tile.specs.Tiles.{TileGrid}

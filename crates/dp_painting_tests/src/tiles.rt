@@ -65,7 +65,6 @@ fn check_shared<T: Ledger>(rt: &impl Abort, alloc: Global, tiles: &mut Steps<T>)
     other
         .paint(2, 1, &FirstWhite {}, tiles)
         .expect(rt, "memory");
-    grid.own(0, 0, tiles).expect(rt, "memory");
     let solid = Tile::solid(alloc, WHITE, tiles).expect(rt, "memory");
     grid.write(0, 1, solid).expect(rt, "memory");
     let all = CellArea {
@@ -76,6 +75,9 @@ fn check_shared<T: Ledger>(rt: &impl Abort, alloc: Global, tiles: &mut Steps<T>)
     };
     other
         .paint_area(all, &FirstWhite {}, tiles)
+        .expect(rt, "memory");
+    other
+        .paint_each(all, &FirstWhite {}, tiles)
         .expect(rt, "memory");
     let (of_grid, of_other) = (
         [
@@ -129,6 +131,4 @@ fn check_grids<T: Ledger>(rt: &impl Abort, alloc: Global, blank: Blank)
 #[test]
 fn grids_share_tiles(rt: HostRuntime) {
     check_grids::<Brand>(&rt, rt.alloc(), Blank::new(1));
-    let none = Grid::none(rt.alloc());
-    assert_eq!(rt; (none.cols(), none.rows()), (0, 0));
 }

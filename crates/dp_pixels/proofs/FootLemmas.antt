@@ -27,7 +27,9 @@ use Rattle.dp_pixels.specs.Dabs.{dab_covers, dab_rect, placed_dabs}
 use Rattle.dp_pixels.specs.Commands.{dab_blended, dabs_blended, drawn, filled, image_color}
 use Rattle.dp_pixels.specs.Commands.{image_index, imaged, moved, pixel_drawn, stroked}
 use Rattle.dp_pixels.specs.Tiles.{tile_changed, is_in_tiles, tiles_along}
-use Rattle.dp_pixels.specs.Feet.{Footprint, Area, Two, All, around, feet_meet, foot, foot_layer}
+use Rattle.dp_pixels.specs.declared.feet.Footprint.{Footprint}
+use Rattle.dp_pixels.specs.declared.feet.Footprint.TheVariants.{Area, Two, All}
+use Rattle.dp_pixels.specs.Feet.{around, feet_meet, foot, foot_layer}
 use Rattle.dp_pixels.specs.Feet.{greatest_canvas, is_in_foot, meets_area, on_greatest, on_side}
 use Rattle.dp_pixels.proofs.Rectangles.{IsIn, is_in-true, is_in_by, is_in-false, in_or_out}
 use Rattle.dp_pixels.proofs.Rectangles.{clipped_in, clipped_by}

@@ -18,3 +18,4 @@ pub mod Squares
 pub mod Clips
 pub mod Whole
 pub mod Sides
+pub mod Commuting

@@ -1,23 +1,19 @@
 -- The foot of a command: where it may change a layer, and where it reads it.
 use Rattle.std.specs.Prelude.{ℕ, ◌+◌, ◌-◌, ◌*◌, ◌/◌, ◌==◌, ℤ, pos, unsigned_abs}
-use Rattle.std.specs.Prelude.{Bool, true, ◌&&◌, ◌||◌, int_lt, if◌then◌else◌, List, [], ◌∷◌, map}
+use Rattle.std.specs.Prelude.{Bool, true, not, ◌&&◌, ◌||◌, int_lt, if◌then◌else◌, List, [], ◌∷◌, map}
 use Rattle.std.specs.Prelude.{fold, Option, Some, None}
 use Rattle.std.specs.List.{sum_by, count_by, range_with_len}
 use Rattle.dp_msg_draw.specs.declared.draw.Draw.{Draw}
 use Rattle.dp_msg_draw.specs.declared.draw.Draw.TheVariants.{CanvasResize, FillRect, PutImage}
 use Rattle.dp_msg_draw.specs.declared.draw.Draw.TheVariants.{PutTile, DabsRound, DabsSquare}
 use Rattle.dp_msg_draw.specs.declared.draw.Draw.TheVariants.{MoveRect}
+use Rattle.dp_pixels.specs.declared.feet.Footprint.{Footprint}
+use Rattle.dp_pixels.specs.declared.feet.Footprint.TheVariants.{Area, Two, All}
 use Rattle.dp_pixels.specs.declared.rect.Rect.{Rect}
 use Rattle.std.specs.Int.{int_max, int_min}
 use Rattle.dp_pixels.specs.Rectangles.{is_in, rect_at, share_place, joined, canvas_rect}
 use Rattle.dp_pixels.specs.declared.dabs.PlacedDab.{PlacedDab}
 use Rattle.dp_pixels.specs.Dabs.{placed_dabs, dab_rect}
-
--- a foot: a rectangle of a layer, two of them, or everything
-pub data Footprint : Type 0 where
-  Area : ℕ → Rect → Footprint
-  Two : ℕ → Rect → Rect → Footprint
-  All : Footprint
 
 -- a number, moved into the range from 0 to 4096
 abbrev pub on_side : ℤ → ℤ
@@ -77,6 +73,10 @@ abbrev pub feet_meet : Footprint → Footprint → Bool
 feet_meet a (Area layer rect) = meets_area a layer rect
 feet_meet a (Two layer from to) = meets_area a layer from || meets_area a layer to
 feet_meet a All = true
+
+-- the feet of two commands don't meet
+abbrev pub are_apart : Draw → Draw → Bool
+are_apart a b = not (feet_meet (foot a) (foot b))
 
 -- how many of the stretches of 64 numbers, counted from 0, have a number from a up to b, without b
 abbrev pub stretches : ℤ → ℤ → ℕ

@@ -2,7 +2,8 @@
 //!
 //! The rule: docs/protocol.md, "Pixel commands".
 
-ghost use Rattle.std.specs.Prelude.{◌≡◌, ◌≤◌, ◌↔◌, ℕ, ℤ, false, IsTrue, Some, None, fold};
+ghost use Rattle.std.specs.Prelude.{◌≡◌, ◌≤◌, ◌↔◌, ℕ, ℤ, List, false, IsTrue, Some, None};
+ghost use Rattle.std.specs.Prelude.{fold};
 ghost use Rattle.dp_blend.specs.Color.{Channels, IsPixel};
 ghost use Rattle.dp_blend.specs.declared.modes.Mode.{Mode};
 ghost use Rattle.dp_msg_draw.specs.declared.draw.Draw.{Draw};
@@ -13,12 +14,13 @@ ghost use Rattle.dp_pixels.specs.declared.stroke.Brush.{Brush};
 ghost use Rattle.dp_pixels.specs.Rectangles.{canvas_rect, is_in, share_place};
 ghost use Rattle.dp_pixels.specs.Colors.{FitsColors};
 ghost use Rattle.dp_pixels.specs.Dabs.{dab_rect};
-ghost use Rattle.dp_pixels.specs.Commands.{IsDabs, dab_blended, drawn, pixel_after};
+ghost use Rattle.dp_pixels.specs.Commands.{IsDabs, dab_blended, drawn, pixel_after, pixels_after};
 ghost use Rattle.dp_pixels.specs.Strokes.{brush_of, dabs_of_command};
-ghost use Rattle.dp_pixels.specs.Feet.{Footprint, feet_meet, foot, foot_layer, on_greatest};
+ghost use Rattle.dp_pixels.specs.declared.feet.Footprint.{Footprint};
+ghost use Rattle.dp_pixels.specs.Feet.{feet_meet, foot, foot_layer, on_greatest};
 ghost use Rattle.dp_pixels.specs.Feet.{is_in_foot, squares_of, squares_shared};
 
-use dp_blend::{blend_gives_pixels, fade_gives_pixels};
+use dp_blend::{blend_gives_pixels, equal_canvases, fade_gives_pixels, pixel_of_canvas};
 
 /// Outside its foot a command keeps each pixel.
 pub fn pixels_stay_outside_the_foot()
@@ -48,6 +50,18 @@ pub fn feet_apart()
     ensures { (a b : Footprint) (x y : ℤ) → foot_layer a ≡ foot_layer b → feet_meet a b ≡ false
         → IsTrue (is_in_foot a x y) → is_in_foot b x y ≡ false }
 {}
+
+/// Two commands on a layer whose feet don't meet give the same pixels in either order.
+pub fn apart_commands_commute()
+    ensures { (width height : ℕ) (a b : Draw) (pixels : List Channels)
+        → width ≤ 4096 → height ≤ 4096 → foot_layer (foot a) ≡ foot_layer (foot b)
+        → feet_meet (foot a) (foot b) ≡ false
+        → pixels_after width height b (pixels_after width height a pixels)
+        ≡ pixels_after width height a (pixels_after width height b pixels) }
+{
+    pixel_of_canvas();
+    equal_canvases();
+}
 
 /// A command makes pixels of pixels.
 pub fn pixels_stay_pixels()

@@ -6,6 +6,7 @@
 mod dabs;
 mod disc;
 mod draw;
+mod feet;
 mod fill;
 mod image;
 mod laws;
@@ -23,9 +24,11 @@ mod tiles;
 
 pub use dabs::{NearDab, PlacedDab, Shape};
 pub use draw::draw_region;
+pub use feet::{Footprint, foot, meets};
 pub use laws::{
-    dabs_stay_in_their_squares, feet_apart, messages_are_their_dabs, pixels_stay_outside_the_foot,
-    pixels_stay_pixels, shared_places, squares_are_counted, the_foot_tells_all,
+    apart_commands_commute, dabs_stay_in_their_squares, feet_apart, messages_are_their_dabs,
+    pixels_stay_outside_the_foot, pixels_stay_pixels, shared_places, squares_are_counted,
+    the_foot_tells_all,
 };
 pub use layer::draw_pixels;
 pub use place::{covers, pixel_after};

@@ -31,6 +31,7 @@ fn opaque(r: u8, g: u8, b: u8) -> Pixel
 }
 
 /// The rectangle of a fill.
+#[inline]
 pub(crate) fn rect_of(x: u32, y: u32, w: u32, h: u32) -> Rect
     ensures { result ≡ rect_at (pos x) (pos y) w h }
 {

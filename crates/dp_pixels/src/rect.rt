@@ -1,8 +1,14 @@
 //! Places, and rectangles of them.
 
-ghost use Rattle.std.specs.Prelude.{◌≡◌, ◌^◌, pos, ◌+ℤ◌, ◌-ℤ◌, ◌≤ℤ◌};
+ghost use Rattle.std.specs.Prelude.{◌≡◌, ◌^◌, pos, ◌+ℤ◌, ◌-ℤ◌, ◌≤ℤ◌, int_lt};
+ghost use Rattle.std.specs.Int.{int_max, int_min};
+ghost use Rattle.dp_pixels.specs.Feet.{on_greatest};
 ghost use Rattle.dp_pixels.specs.Rectangles.{canvas_rect, clipped, is_in, joined, rect_at};
+ghost use Rattle.dp_pixels.specs.Rectangles.{share_place};
 ghost use Rattle.dp_pixels.specs.Near.{IsNear};
+
+/// The greatest length of a side, in pixels.
+const MAX_SIDE: i64 = 4096;
 
 /// A place of the canvas, or past its sides.
 #[derive(Clone, Copy, Debug, PartialEq, Eq)]
@@ -22,8 +28,17 @@ pub struct Rect {
     pub y1: i64,
 }
 
+/// Whether the numbers from one on before another have one in common with those of a second range.
+#[inline]
+fn overlap(from: i64, to: i64, other_from: i64, other_to: i64) -> bool
+    ensures { result ≡ int_lt (int_max from other_from) (int_min to other_to) }
+{
+    from.max(other_from) < to.min(other_to)
+}
+
 impl Rect {
     /// The rectangle with its left upper corner at a place, w wide and h high.
+    #[inline]
     pub(crate) fn at(corner: Place, w: u32, h: u32) -> Rect
         requires { IsNear (2 ^ 40) corner }
         ensures { result ≡ rect_at corner.x corner.y w h }
@@ -88,6 +103,28 @@ impl Rect {
             y0: self.y0.max(other.y0),
             x1: self.x1.min(other.x1),
             y1: self.y1.min(other.y1),
+        }
+    }
+
+    /// Whether some place is in both rectangles.
+    #[inline]
+    pub(crate) fn shares_place(self, other: Rect) -> bool
+        ensures { result ≡ share_place self other }
+    {
+        overlap(self.x0, self.x1, other.x0, other.x1)
+            && overlap(self.y0, self.y1, other.y0, other.y1)
+    }
+
+    /// The places that are on the greatest canvas.
+    #[inline]
+    pub fn on_greatest(self) -> Rect
+        ensures { result ≡ on_greatest self }
+    {
+        Rect {
+            x0: self.x0.clamp(0, MAX_SIDE),
+            y0: self.y0.clamp(0, MAX_SIDE),
+            x1: self.x1.clamp(0, MAX_SIDE),
+            y1: self.y1.clamp(0, MAX_SIDE),
         }
     }
 }

@@ -1,14 +1,10 @@
--- What is read of a board, a row of pixels at a time.
-use Rattle.std.specs.Prelude.{ℕ, ◌&&◌, nat_lt, if◌then◌else◌, List, map, Option, None}
+-- What is read of a board.
+use Rattle.std.specs.Prelude.{ℕ, ◌&&◌, nat_lt, if◌then◌else◌, Option, None}
 use Rattle.std.specs.Prelude.{option_map}
 use Rattle.dp_blend.specs.Color.{Channels}
-use Rattle.dp_blend.specs.Canvas.{below, pixel_at}
+use Rattle.dp_blend.specs.Canvas.{pixel_at}
 use Rattle.dp_layers.specs.Rows.{content_of}
 use Rattle.dp_plain.specs.Board.{Board}
-
--- the row y of the pixels of a canvas of this width
-abbrev pub pixels_in_row : ℕ → List Channels → ℕ → List Channels
-pixels_in_row width pixels y = map (λ x. pixel_at width pixels x y) (below width)
 
 -- the pixel of the paint layer of the id at a place of the canvas; None where no paint layer has
 -- the id or the place is outside

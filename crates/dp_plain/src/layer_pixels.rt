@@ -11,6 +11,7 @@ ghost use Rattle.dp_pixels.specs.Resizes.{pixels_resized};
 ghost use Rattle.dp_pixels.specs.Tiles.{ShowsTile};
 
 use dp_blend::Pixel;
+use dp_layers::Share;
 use dp_msg_draw::Draw;
 use dp_pixels::Resize;
 use dp_steps::Steps;
@@ -18,8 +19,8 @@ use std::alloc::{AllocError, Global};
 use std::sync::ledger::Ledger;
 
 /// The pixels of a layer, in whatever form, on a canvas of sides that its holder knows. The tiles
-/// that are made are counted.
-pub trait LayerPixels: Sized + Drop {
+/// that are made are counted; a share makes none.
+pub trait LayerPixels: Share + Drop {
     /// The pixels on a canvas of this width and height, row by row from the top.
     ghost pixels: { ℕ → ℕ → Self → List Channels };
 
@@ -88,11 +89,6 @@ pub trait LayerPixels: Sized + Drop {
             ≡ pixels_resized change (pixels change.width change.height self.now)) }
         ensures tiles_rise { tiles.old ≤ tiles.new }
         ensures few_tiles { tiles.new ≤ tiles.old + resizing };
-
-    /// An equal content. It makes no tile.
-    fn share<T: Ledger>(&self, tiles: &mut Steps<T>) -> Result<Self, AllocError>
-        ensures same { IfOk result (λ other. other ≡ self.now) }
-        ensures no_tile { tiles.new ≡ tiles.old };
 
     /// Copies a part of the row y of the pixels, from x on.
     fn copy_part(&self, width: u32, height: u32, x: u32, y: u32, part: &mut [Pixel])

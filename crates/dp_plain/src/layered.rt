@@ -13,7 +13,7 @@ ghost use Rattle.dp_plain.specs.Weights.{board_weight};
 
 use crate::layer_pixels::LayerPixels;
 use crate::plain::PlainPixels;
-use crate::trees::{arrange_rows, new_content, paint_content, resized_tree, shared_tree};
+use crate::trees::{arrange_rows, new_content, paint_content, resized_tree};
 use crate::view::BoardView;
 use dp_blend::Pixel;
 use dp_board::Board;
@@ -235,13 +235,13 @@ impl<C: LayerPixels> Board for LayeredBoard<C> {
     fn share<D: Ledger, T: Ledger>(
         &self,
         _draws: &mut Steps<D>,
-        tiles: &mut Steps<T>,
+        _tiles: &mut Steps<T>,
     ) -> Result<Self, AllocError> {
         Ok(LayeredBoard {
             width: self.width,
             height: self.height,
             background: self.background,
-            tree: shared_tree(self.alloc, &self.tree, tiles)?,
+            tree: self.tree.share()?,
             alloc: self.alloc,
         })
     }

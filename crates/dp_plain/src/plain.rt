@@ -8,6 +8,7 @@ use crate::layer_pixels::LayerPixels;
 use crate::layered::LayeredBoard;
 use crate::resize::moved_pixels;
 use dp_blend::Pixel;
+use dp_layers::Share;
 use dp_msg_draw::Draw;
 use dp_pixels::{Resize, draw_pixels, pixels_stay_pixels};
 use dp_steps::Steps;
@@ -32,6 +33,14 @@ impl Model for PlainPixels {
     ghost Value = { List Channels };
 
     ghost view = { λ p. p.pixels.items };
+}
+
+impl Share for PlainPixels {
+    fn share(&self) -> Result<Self, AllocError> {
+        Ok(PlainPixels {
+            pixels: self.pixels.clone()?,
+        })
+    }
 }
 
 impl LayerPixels for PlainPixels {
@@ -77,12 +86,6 @@ impl LayerPixels for PlainPixels {
     ) -> Result<Self, AllocError> {
         Ok(PlainPixels {
             pixels: moved_pixels(alloc, &self.pixels, change)?,
-        })
-    }
-
-    fn share<T: Ledger>(&self, _tiles: &mut Steps<T>) -> Result<Self, AllocError> {
-        Ok(PlainPixels {
-            pixels: self.pixels.clone()?,
         })
     }
 

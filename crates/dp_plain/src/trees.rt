@@ -1,5 +1,4 @@
-//! Trees of contents: changed by a command, or made anew on a canvas of other sides or as a second
-//! one.
+//! Trees of contents: changed by a command, or made anew on a canvas of other sides.
 
 ghost use Rattle.std.specs.Prelude.{◌≡◌, ◌+◌, ◌*◌, ◌≤◌, None, Some, if◌then◌else◌, true, false};
 ghost use Rattle.std.specs.Prelude.{IsTrue, is_some, map, option_map, All, IfOk, OnOk, OnErr};
@@ -140,42 +139,6 @@ fn resized_contents<C: LayerPixels, T: Ledger>(
     for row in tree.rows() {
         if let Some(content) = tree.content(row.id) {
             contents.push(content.resize(alloc, change, tiles)?)?;
-        }
-    }
-    Ok(contents)
-}
-
-/// A tree of equal contents. It makes no tile.
-pub(crate) fn shared_tree<C: LayerPixels, T: Ledger>(
-    alloc: Global,
-    tree: &Tree<C>,
-    tiles: &mut Steps<T>,
-) -> Result<Tree<C>, AllocError>
-    ensures same { IfOk result (λ shared. shared ≡ tree.now) }
-    ensures no_tile { tiles.new ≡ tiles.old }
-{
-    contents_in_order::<C>();
-    one_tree::<C>();
-    let _rows = tree.rows();
-    let shared = tree.remake(shared_contents(alloc, tree, tiles)?)?;
-    let _shared_rows = shared.rows();
-    Ok(shared)
-}
-
-/// Contents equal to those of the paint rows, in order.
-fn shared_contents<C: LayerPixels, T: Ledger>(
-    alloc: Global,
-    tree: &Tree<C>,
-    tiles: &mut Steps<T>,
-) -> Result<Vec<C>, AllocError>
-    ensures same { IfOk result (λ contents. contents.items ≡ contents_of tree.now) }
-    ensures no_tile { tiles.new ≡ tiles.old }
-{
-    contents_in_order::<C>();
-    let mut contents = Vec::new(alloc);
-    for row in tree.rows() {
-        if let Some(held) = tree.content(row.id) {
-            contents.push(held.share(tiles)?)?;
         }
     }
     Ok(contents)

@@ -7,7 +7,7 @@ ghost use Rattle.dp_layers.specs.Rows.{layers_of};
 ghost use Rattle.dp_pixels.specs.Tiles.{ShowsTile};
 ghost use Rattle.dp_plain.specs.Board.{Board, HasPixels, IsBoard};
 ghost use Rattle.dp_plain.specs.Picture.{pixels_of};
-ghost use Rattle.dp_plain.specs.View.{pixel_in, pixels_in_row};
+ghost use Rattle.dp_plain.specs.View.{pixel_in};
 
 use dp_blend::Pixel;
 use dp_layers::LayerRow;
@@ -47,17 +47,6 @@ pub trait BoardView {
         requires within { x + length part.old ≤ (board self.now).width }
         ensures { part.new ≡ part_of_row (board self.now).width
             (pixels_of (board self.now) id) x y (length part.old) };
-
-    /// Copies the row y of the pixels of the paint layer of the id.
-    fn copy_row(&self, id: u16, y: u32, row: &mut [Pixel])
-        requires paint { IsTrue (is_paint_row (layers_of (board self.now).rows) id) }
-        requires inside { y < (board self.now).height }
-        requires long { length row.old ≡ (board self.now).width }
-        ensures { row.new
-            ≡ pixels_in_row (board self.now).width (pixels_of (board self.now) id) y }
-    {
-        self.copy_part(id, 0, y, row);
-    }
 
     /// The colour of the tile at a column and a row of tiles, of the paint layer of the id, where
     /// it is of one and that is known without reading it.

@@ -16,11 +16,11 @@ use Rattle.dp_recording.specs.declared.reader.RecError.TheVariants.{BadHeader, T
 use Rattle.dp_recording.specs.declared.reader.RecError.TheVariants.{ReadFault, Long, Memory}
 use Rattle.dp_recording.specs.Headers.{HasNoHeader, IsHeader}
 use Rattle.dp_recording.specs.Recordings.{EndsEarly, EndsRecording, RecordingComesTo, error_of}
-use Rattle.dp_recording.specs.Recordings.{recording_limit}
+use Rattle.dp_io.specs.Limits.{stream_limit}
 
 abbrev pub ComesAfter : List ℕ → List Entry → RunEnd → Type 0
 ComesAfter input entries end =
-    (len : ℕ) × IsHeader input len × ComesTo StandsAnywhere len recording_limit input entries end
+    (len : ℕ) × IsHeader input len × ComesTo StandsAnywhere len stream_limit input entries end
 
 abbrev pub HasNone : List ℕ → List Entry → RunEnd → Type 0
 HasNone input entries end = (entries ≡ []) × HasNoHeader input × (end ≡ run.BadHeader)
@@ -61,8 +61,8 @@ one-part part header reading input entries others end other (inl x) (inl y) =
 one-part part header reading input entries others end other (inl x) (inr y) = absurd (x.1 y.0 y.1)
 one-part part header reading input entries others end other (inr x) (inl y) = absurd (y.1 x.0 x.1)
 one-part part header reading input entries others end other (inr x) (inr y) =
-    reading x.0 recording_limit input entries others end other x.2
-    (subst (λ len. ComesTo StandsAnywhere len recording_limit input others other)
+    reading x.0 stream_limit input entries others end other x.2
+    (subst (λ len. ComesTo StandsAnywhere len stream_limit input others other)
     (header input y.0 x.0 y.1 x.1) y.2)
 
 -- ---- what is said where there is none
@@ -102,7 +102,7 @@ early-ends input left entries Long none ends = absurd ends
 -- after a header
 pub late-ends : (input : List ℕ) (left : Option (List ℕ)) (entries : List Entry) (len : ℕ)
     (end : ReadEnd DecodeError) → IsHeader input len
-    → EndsReading StandsAnywhere IsCauseAnywhere len recording_limit input left entries end
+    → EndsReading StandsAnywhere IsCauseAnywhere len stream_limit input left entries end
     → EndsRecording input left entries (error_of end)
 late-ends input left entries len read.ReadFault header ends = inr (len, header, ends)
 late-ends input left entries len (read.Truncated at) header ends = ((len, header, ends.0), ends.1)

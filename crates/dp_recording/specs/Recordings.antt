@@ -1,5 +1,5 @@
 -- What a recording comes to, and what was read of one.
-use Rattle.std.specs.Prelude.{◌≡◌, ◌⊎◌, ◌≤◌, ℕ, ◌+◌, ◌-◌, ◌^◌, IsTrue, List, [], ◌++◌, length}
+use Rattle.std.specs.Prelude.{◌≡◌, ◌⊎◌, ◌≤◌, ℕ, ◌+◌, ◌-◌, IsTrue, List, [], ◌++◌, length}
 use Rattle.std.specs.Prelude.{Option, Some}
 use Rattle.std.specs.Io.KnownBytes.{IsAtEnd}
 use Rattle.dp_io.specs.Faults.{Rose}
@@ -20,17 +20,14 @@ use Rattle.dp_recording.specs.declared.reader.RecError.TheVariants.{ReadFault, L
 use Rattle.dp_recording.specs.declared.reader.Phase.{Phase}
 use Rattle.dp_recording.specs.declared.reader.Phase.TheVariants.{New, Reading, Finished, Failed}
 use Rattle.dp_recording.specs.Headers.{HasNoHeader, IsHeader, IsShort}
-
--- so many bytes of a recording count
-abbrev pub recording_limit : ℕ
-recording_limit = 2 ^ 30
+use Rattle.dp_io.specs.Limits.{stream_limit}
 
 -- What an input comes to as a recording: it begins with no header, or what comes after its header
 -- comes to that end.
 abbrev pub RecordingComesTo : List ℕ → List Entry → RunEnd → Type 0
 RecordingComesTo input entries run.BadHeader = (entries ≡ []) × HasNoHeader input
 RecordingComesTo input entries end =
-    (len : ℕ) × IsHeader input len × ComesTo StandsAnywhere len recording_limit input entries end
+    (len : ℕ) × IsHeader input len × ComesTo StandsAnywhere len stream_limit input entries end
 
 -- why reading ended after a header
 abbrev pub error_of : ReadEnd DecodeError → RecError
@@ -56,7 +53,7 @@ abbrev pub RecordingTook : ℕ → List ℕ → Option (List ℕ) → Type 0
 RecordingTook most input left =
     TookWithin IsShort most input left
     ⊎ ((len : ℕ) × IsHeader input len
-    × TookNoCause StandsAnywhere len recording_limit most input left)
+    × TookNoCause StandsAnywhere len stream_limit most input left)
 
 -- How reading an input ended of which these bytes are left, after these entries: by its bytes, with
 -- a piece at most after what holds no cause; by a fault, with nothing after it; or because memory
@@ -85,7 +82,7 @@ EndsEarly input left Long = ⊥
 
 -- a number that falls with each entry
 abbrev pub measure_of : Phase → ℕ
-measure_of New = recording_limit + 1
+measure_of New = stream_limit + 1
 measure_of (Reading reader) = reader.limit - reader.stream.at
 measure_of Finished = 0
 measure_of (Failed error) = 0
@@ -99,7 +96,7 @@ IsReading (Failed error) = ⊥
 
 -- so many bytes count of what a reader reads
 abbrev pub limit_of : Phase → ℕ
-limit_of New = recording_limit
+limit_of New = stream_limit
 limit_of (Reading reader) = reader.limit
 limit_of Finished = 0
 limit_of (Failed error) = 0
@@ -125,7 +122,7 @@ EndsWithInput left Memory = Unit {0}
 abbrev pub HasReadOf : List ℕ → Option (List ℕ) → List Entry → Phase → Type 0
 HasReadOf input left entries New = (left ≡ Some input) × (entries ≡ [])
 HasReadOf input left entries (Reading reader) =
-    IsHeader input reader.first × (reader.limit ≡ recording_limit) × ¬ IsTrue reader.ended
+    IsHeader input reader.first × (reader.limit ≡ stream_limit) × ¬ IsTrue reader.ended
     × HasRead StandsAnywhere input left entries reader
 HasReadOf input left entries Finished = RecordingComesTo input entries run.Done × IsAtEnd left
 HasReadOf input left entries (Failed error) = EndsRecording input left entries error

@@ -12,6 +12,3 @@ pub use header::{HEADER, HeaderError, read_header};
 pub use laws::{one_header, one_recording, the_header_is_one};
 pub use reader::{RecError, RecordingReader};
 pub use writer::put_header;
-
-#[cfg(test)]
-mod tests;

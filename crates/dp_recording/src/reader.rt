@@ -13,7 +13,8 @@ ghost use Rattle.dp_recording.specs.Recordings.{FaultMatchesError, EndsEarly, En
 ghost use Rattle.dp_recording.specs.Recordings.{HasReadOf};
 ghost use Rattle.dp_recording.specs.Recordings.{EndsWithInput, GoesOn, HoldsHeader, IsReading};
 ghost use Rattle.dp_recording.specs.Recordings.{end_of, error_of, limit_of};
-ghost use Rattle.dp_recording.specs.Recordings.{measure_of, recording_limit};
+ghost use Rattle.dp_recording.specs.Recordings.{measure_of};
+ghost use Rattle.dp_io.specs.Limits.{stream_limit};
 
 use crate::header::{HeaderError, read_header};
 use dp_entries::{Anywhere, EntryReader, ReadEnd};
@@ -296,7 +297,7 @@ fn open<I: Source>(alloc: Global, input: &mut I) -> Result<EntryReader<Anywhere>
         → HasReadOf bytes (I.left input.new) [] (Reading reader)) }
     ensures ends { IfErr result (λ error. (bytes : List ℕ) → I.left input.old ≡ Some bytes
         → EndsEarly bytes (I.left input.new) error) }
-    ensures limit { IfOk result (λ reader. reader.limit ≡ recording_limit) }
+    ensures limit { IfOk result (λ reader. reader.limit ≡ stream_limit) }
     ensures goes_on { IfOk result (λ reader. ¬ IsTrue reader.ended) }
     ensures inside { IfErr result (EndsWithInput (I.left input.new)) }
     ensures kept { OnOk result (I.faults input.new ≡ I.faults input.old) }
@@ -349,7 +350,7 @@ fn begin(alloc: Global, held: &[u8], len: usize) -> Result<EntryReader<Anywhere>
     requires few { len ≤ 65543 }
     ensures begun { IfOk result (λ reader. (bytes : List ℕ) (left : Option (List ℕ))
         → HoldsHeader bytes left held.now → HasReadOf bytes left [] (Reading reader)) }
-    ensures limit { IfOk result (λ reader. reader.limit ≡ recording_limit) }
+    ensures limit { IfOk result (λ reader. reader.limit ≡ stream_limit) }
     ensures goes_on { IfOk result (λ reader. ¬ IsTrue reader.ended) }
     ensures memory { IfErr result (λ error. error ≡ Memory) }
 {

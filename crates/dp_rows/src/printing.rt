@@ -1,7 +1,5 @@
 //! What is printed of a run.
 
-ghost use Rattle.std.specs.Prelude.{◌≤◌, IfSome, length};
-
 use crate::answer::Answer;
 use dp_lines::{put_hex, put_number};
 use std::alloc::AllocError;
@@ -36,7 +34,7 @@ pub fn put_answer(answer: &Answer, out: &mut Vec<u8>) -> Result<(), AllocError> 
     put_numbered(b"status ", u64::from(answer.status), b"\n", out)?;
     match head_len(&answer.output) {
         Some(len) => {
-            let (head, pixels) = answer.output.split_at(len);
+            let (head, pixels) = answer.output.split_at(len.min(answer.output.len()));
             put_head(head, out)?;
             put_pixels(pixels, out)?;
         }
@@ -59,22 +57,16 @@ pub fn put_text(before: &[u8], text: &[u8], out: &mut Vec<u8>) -> Result<(), All
 }
 
 /// How long the head of a picture of bytes is, its three lines; `None` where it isn't whole.
-fn head_len(output: &[u8]) -> Option<usize>
-    ensures { IfSome result (λ len. len ≤ length output.now) }
-{
+fn head_len(output: &[u8]) -> Option<usize> {
     if !output.starts_with(b"P6\n") {
         return None;
     }
-    let mut lines = 0;
-    for (at, byte) in output.iter().enumerate() {
-        if *byte == b'\n' {
-            lines += 1;
-            if lines == 3 {
-                return Some(at + 1);
-            }
-        }
-    }
-    None
+    let ends = output
+        .iter()
+        .enumerate()
+        .filter(|(_, byte)| **byte == b'\n');
+    let (at, _) = ends.skip(2).next()?;
+    Some(at.saturating_add(1))
 }
 
 /// Adds the head of a picture in one line.

@@ -23,10 +23,23 @@ pub fn answer_to<R: Threads + Wait + Sync>(
     more: Option<Fail>,
 ) -> Result<Answer, AllocError> {
     let piece = (piece as usize).max(1);
-    let calls = |object: Object| calls_of(alloc, row, object, more);
-    let mut input = RowSource::new(&row.input, piece, calls(Object::Input)?);
-    let mut output = MemSink::new(alloc, row.room as usize, piece, calls(Object::Output)?)?;
-    let mut diag = MemSink::new(alloc, 1000, piece, calls(Object::Diag)?)?;
+    let mut input = RowSource::new(
+        &row.input,
+        piece,
+        calls_of(alloc, row, Object::Input, more)?,
+    );
+    let mut output = MemSink::new(
+        alloc,
+        row.room as usize,
+        piece,
+        calls_of(alloc, row, Object::Output, more)?,
+    )?;
+    let mut diag = MemSink::new(
+        alloc,
+        1000,
+        piece,
+        calls_of(alloc, row, Object::Diag, more)?,
+    )?;
     let wires = wires_of(alloc, row, piece, more)?;
     let outcome = outcome_of(
         rt,

@@ -1,40 +1,24 @@
 //! The input of a row.
 
-ghost use Rattle.std.specs.Prelude.{◌≡◌, ◌≤◌, None, length};
+ghost use Rattle.std.specs.Prelude.{◌≤◌, None, length};
 
 use crate::row::Part;
 use dp_io::{Failed, FaultPlan, Source};
 
-/// A source over the parts of an input, made as they are read. It gives them in pieces, and fails
-/// at chosen calls. It tells none of its bytes.
+/// The parts of an input that are left.
 #[derive(Drop)]
-pub struct RowSource<'a> {
+struct Left<'a> {
     parts: &'a [Part],
     /// How often the first part was given.
     times: u64,
     /// How many bytes of it were given after that.
     at: usize,
-    piece: usize,
-    plan: FaultPlan,
 }
 
-impl<'a> RowSource<'a> {
-    /// A source of these parts, at most `piece` bytes a call, which fails at the calls whose
-    /// numbers are in `fails`.
-    pub fn new(parts: &'a [Part], piece: usize, fails: Vec<u64>) -> Self {
-        RowSource {
-            parts,
-            times: 0,
-            at: 0,
-            piece,
-            plan: FaultPlan::new(fails),
-        }
-    }
-
-    /// The next bytes that lie together, at most so many; none where nothing is left.
+impl<'a> Left<'a> {
+    /// Gives the next bytes that lie together, at most so many; none where nothing is left.
     fn next_bytes(&mut self, most: usize) -> &'a [u8]
-        ensures within { length result.now ≤ most }
-        ensures plan { self.new.plan ≡ self.old.plan }
+        ensures { length result.now ≤ most }
     {
         for _ in 0..self.parts.len() {
             let Some((part, rest)) = self.parts.split_first() else {
@@ -58,6 +42,32 @@ impl<'a> RowSource<'a> {
     }
 }
 
+/// A source over the parts of an input, made as they are read. It gives them in pieces, and fails
+/// at chosen calls. It tells none of its bytes.
+#[derive(Drop)]
+pub struct RowSource<'a> {
+    left: Left<'a>,
+    piece: usize,
+    plan: FaultPlan,
+}
+
+impl<'a> RowSource<'a> {
+    /// A source of these parts, at most `piece` bytes a call, which fails at the calls whose
+    /// numbers are in `fails`.
+    pub fn new(parts: &'a [Part], piece: usize, fails: Vec<u64>) -> Self {
+        let left = Left {
+            parts,
+            times: 0,
+            at: 0,
+        };
+        RowSource {
+            left,
+            piece,
+            plan: FaultPlan::new(fails),
+        }
+    }
+}
+
 impl<'a> Source for RowSource<'a> {
     ghost left = { λ _. None };
 
@@ -71,7 +81,7 @@ impl<'a> Source for RowSource<'a> {
         if most == 0 {
             return Ok(0);
         }
-        let bytes = self.next_bytes(most);
+        let bytes = self.left.next_bytes(most);
         buf[..bytes.len()].copy_from_slice(bytes);
         Ok(bytes.len())
     }

@@ -17,6 +17,3 @@ pub use join_parser::read_join_action;
 pub use laws::{one_action, one_join_action};
 pub use parser::read_action;
 pub use report_line::ReportLine;
-
-#[cfg(test)]
-mod tests;

@@ -2,3 +2,4 @@ pub mod Moments
 pub mod Ends
 pub mod Progress
 pub mod Leaves
+pub mod Limits

@@ -126,7 +126,7 @@ fn check_page<K: Keeper>(
     let page = session
         .put_page(conn, epoch, at, &mut frames)
         .expect(rt, "memory");
-    let max = page.map_or(1, |page| page.count as u32);
+    let max = page.map_or(1, |page| u32::try_from(page.count).unwrap_or(0));
     let query = Query::Pull {
         conn,
         epoch,

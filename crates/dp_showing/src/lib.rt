@@ -10,6 +10,3 @@ mod snapshot;
 mod text;
 
 pub use showing::{Shown, show};
-
-#[cfg(test)]
-mod tests;

@@ -14,7 +14,8 @@ use Rattle.dp_events.specs.declared.connection.Connection.{Connection}
 use Rattle.dp_tables.specs.declared.plan.Change.{Change}
 use Rattle.dp_tables.specs.declared.plan.Change.TheVariants.{Stays, Adds, Becomes}
 use Rattle.dp_events.specs.Connections.{is_open}
-use Rattle.dp_tables.specs.Tables.{mark, is_holder, MarksHolders}
+use Rattle.dp_history.specs.Users.{mark}
+use Rattle.dp_tables.specs.Tables.{is_holder, MarksHolders}
 use Rattle.dp_tables.specs.Plans.{changed, marks_after, IsChange}
 
 any-head : (b any : Bool) (n : ℕ) → any ≡ ltb 0 n → (b || any) ≡ ltb 0 (cond b 1 0 + n)

@@ -1,4 +1,3 @@
-pub mod Ranges
 pub mod Holders
 pub mod TableLemmas
 pub mod ResetLemmas

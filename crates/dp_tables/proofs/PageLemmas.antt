@@ -1,32 +1,18 @@
 -- Pages of a history, and the frames of its first entries.
-use Rattle.std.proofs.Common.{◌≡◌, ℕ, zero, suc, ◌+◌, ◌<◌, ◌≤◌, max, List, [], ◌∷◌, ◌++◌, length}
-use Rattle.std.proofs.Common.{map, take, drop, get_or, Some, Result, Ok, Err, IfOk, sym, ap, ◌∙◌}
-use Rattle.std.proofs.Common.{arith, append_assoc}
-use Rattle.std.proofs.Math.Seq.{drop-append_seam}
+use Rattle.std.proofs.Common.{◌≡◌, ℕ, ◌+◌, ◌<◌, ◌≤◌, max, List, ◌∷◌, ◌++◌, length}
+use Rattle.std.proofs.Common.{map, take, drop, Some, Result, Ok, Err, IfOk, sym, ap, ◌∙◌}
+use Rattle.std.proofs.Common.{arith}
 use Rattle.std.specs.List.{slice_get}
-use Rattle.std.specs.Option.{option_map}
-use Rattle.std.proofs.lemmas.Option.{slice_get-map, slice_get-get_or}
 use Rattle.std.proofs.lemmas.List.{drop-take, take-append-le, length-take-le, length-drop}
 use Rattle.std.proofs.lemmas.List.{take-take}
 use Rattle.dp_messages.specs.declared.message.Entry.{Entry}
 use Rattle.dp_events.specs.declared.event.Event.{Event}
 use Rattle.dp_epochs.specs.Pull.{page}
-use Rattle.dp_frame_log.specs.Frames.{Frames, AreFramesOf, AreWritten, frames_of}
-use Rattle.dp_tables.specs.declared.history_item.HistoryItem.{HistoryItem}
-use Rattle.dp_tables.specs.Tables.{entry_in}
+use Rattle.dp_history.specs.Frames.{Frames, AreFramesOf, frames_of}
+use Rattle.dp_history.specs.declared.item.HistoryItem.{HistoryItem}
+use Rattle.dp_history.specs.Items.{entry_in}
 use Rattle.dp_tables.proofs.ReadLemmas.{page-is}
-
--- what stands at a place is the first of the rest there
-drop-at : {X : Type 0} (xs : List X) (at : ℕ) (x : X) → slice_get xs at ≡ Some x
-    → (rest : List X) × (drop at xs ≡ x ∷ rest)
-drop-at [] at x found = cc
-drop-at (y ∷ ys) zero x found = (ys, cc)
-drop-at (y ∷ ys) (suc at) x found = drop-at ys at x found
-
--- what a look-up found stands there
-pub found-at : {X : Type 0} (xs : List X) (at : ℕ) (x : X) → at < length xs → x ≡ get_or xs at x
-    → slice_get xs at ≡ Some x
-found-at xs at x within is = slice_get-get_or xs at x within ∙ ap Some (sym is)
+use Rattle.dp_history.proofs.ItemLemmas.{drop-at}
 
 -- ---- a page of one entry
 
@@ -86,26 +72,3 @@ prefix-put (Err e) frames written rest live end at most old new all within befor
     put
 
 -- ---- one frame more
-
-pub written-more : (old new : Frames) (journal : List Event) (live : List HistoryItem)
-    (item : HistoryItem) (entry : Entry)
-    → (are : AreWritten old (map (entry_in journal) live))
-    → slice_get live (length are.written) ≡ Some item → entry ≡ entry_in journal item
-    → ((entries : List Entry) → AreFramesOf old entries → AreFramesOf new (entries ++ entry ∷ []))
-    → AreWritten new (map (entry_in journal) live)
-written-more old new journal live item entry are found is more =
-    let n = length are.written in
-    let history = map (entry_in journal) live in
-    let here : slice_get history n ≡ Some (entry_in journal item) =
-    slice_get-map (entry_in journal) live n ∙ ap (option_map (entry_in journal)) found in
-    let d = drop-at history n (entry_in journal item) here in
-    let rest_is : are.rest ≡ entry ∷ d.0 =
-    sym (drop-append_seam are.written are.rest) ∙ ap (drop n) (sym are.all) ∙ d.1
-    ∙ ap (λ e. e ∷ d.0) (sym is) in
-    record {
-      written = are.written ++ entry ∷ [];
-      rest = d.0;
-      of = more are.written are.of;
-      all = are.all ∙ ap (λ xs. are.written ++ xs) rest_is
-          ∙ sym (append_assoc are.written (entry ∷ []) d.0);
-    }

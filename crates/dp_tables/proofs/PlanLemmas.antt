@@ -1,17 +1,14 @@
 -- What an event makes of a state, as it is planned.
-use Rattle.std.proofs.Common.{◌≡◌, ℕ, ◌+◌, ◌-◌, ◌<◌, ◌≤◌, ◌==◌, Bool, true, false, not, ◌&&◌}
-use Rattle.std.proofs.Common.{if◌then◌else◌, nat_le, IsSome}
-use Rattle.std.proofs.Common.{List, [], ◌∷◌, ◌++◌, length, set, Option, None, Some, is_some}
+use Rattle.std.proofs.Common.{◌≡◌, ℕ, ◌+◌, ◌-◌, ◌<◌, ◌==◌, Bool, true, false, not, ◌&&◌}
+use Rattle.std.proofs.Common.{if◌then◌else◌}
+use Rattle.std.proofs.Common.{List, ◌∷◌, ◌++◌, length, set, Option, None, Some}
 use Rattle.std.proofs.Common.{refl, sym, ap, subst, ◌∙◌, ⊎_elim, arith, append-nil, append_assoc}
 use Rattle.std.specs.Prelude.{option_to_list}
 use Rattle.std.specs.List.{list_any, find, slice_get}
 use Rattle.std.specs.Option.{MatchOption, option_map, option_map_or}
-use Rattle.std.proofs.lemmas.Bool.{cond_both, cases_Bool, le-leb}
-use Rattle.std.proofs.lemmas.Str.{IsUtf8-from_is_utf8, is_utf8-from_IsUtf8}
+use Rattle.std.proofs.lemmas.Bool.{cond_both, cases_Bool}
 use Rattle.std.proofs.Math.ListN.{length-set}
-use Rattle.std.specs.Str.{IsUtf8, is_utf8}
 use Rattle.dp_msg_draw.specs.declared.draw.Draw.{Draw}
-use Rattle.dp_msg_meta.specs.Fields.{IsText}
 use Rattle.dp_msg_meta.specs.declared.message.Meta.TheVariants.{Leave}
 use Rattle.dp_messages.specs.declared.message.Msg.{Msg}
 use Rattle.dp_messages.specs.declared.message.Msg.TheVariants as msg
@@ -28,7 +25,7 @@ use Rattle.dp_events.specs.declared.event.Event.{Event}
 use Rattle.dp_events.specs.declared.event.Event.TheVariants as event
 use Rattle.dp_events.specs.declared.event.Reply.{Reply}
 use Rattle.dp_events.specs.declared.event.Reply.TheVariants as reply
-use Rattle.dp_tables.specs.declared.opening.Opening.{Opening}
+use Rattle.dp_history.specs.declared.opening.Opening.{Opening}
 use Rattle.dp_tables.specs.declared.plan.Change.TheVariants.{Stays, Becomes}
 use Rattle.dp_tables.specs.declared.plan.Plan.{Plan}
 use Rattle.dp_tables.specs.declared.plan.StreamChange.TheVariants as stream
@@ -47,16 +44,19 @@ use Rattle.dp_epochs.specs.Past.{Past, state_of, refused}
 use Rattle.dp_epochs.specs.Laws.{shut_by}
 use Rattle.dp_tables.specs.declared.tables.Tables.TheInside.{Inside}
 use Rattle.dp_tables.specs.SessionLog.{state_in}
-use Rattle.dp_tables.specs.Tables.{mark, is_holder, commands_in, Seen, AreOf}
-use Rattle.dp_tables.specs.Openings.{Holds}
+use Rattle.dp_history.specs.Users.{mark}
+use Rattle.dp_tables.specs.Tables.{is_holder, Seen, AreOf}
+use Rattle.dp_history.specs.Items.{commands_in}
+use Rattle.dp_history.specs.Openings.{Holds}
 use Rattle.dp_tables.specs.Inside.{ledger_of, AreTables}
 use Rattle.dp_tables.specs.Plans.{IsChange, IsJoinOf, IsStreamChange, IsOpening, IsPlan, event_of}
-use Rattle.dp_tables.specs.Plans.{planned, first_operator, next_operator, changed, streamed}
+use Rattle.dp_tables.specs.Plans.{planned, changed, streamed}
+use Rattle.dp_history.specs.Users.{first_operator, next_operator}
 use Rattle.dp_tables.specs.Plans.{opens_after}
 use Rattle.dp_tables.specs.Plans.{stream_left, shut_change, still_plan, join_plan, leave_plan}
 use Rattle.dp_tables.specs.Plans.{ack_plan, placed_plan, filtered_plan, noted_plan, epoch_plan}
-use Rattle.dp_tables.proofs.Ranges.{find_user-same, find_user-passes, any_user-same}
-use Rattle.dp_tables.proofs.Ranges.{list_any-filter, list_any-find}
+use Rattle.dp_history.proofs.Ranges.{find_user-same, find_user-passes, any_user-same}
+use Rattle.dp_history.proofs.Ranges.{list_any-filter}
 use Rattle.dp_tables.proofs.Holders.{any-marked, marks-changed}
 use Rattle.dp_tables.proofs.TableLemmas.{present-marked, IsClosing, IsLeftOut, tables-left}
 
@@ -385,7 +385,7 @@ module _ (journal : List Event) (s : State) (conn : ℕ) (c : Connection)
   -- it ends, and the next epoch opens
   pub plan-opened : (next : Opening) (epoch : ℕ) → epoch ≡ epoch_of s + 1
       → Holds journal next (opening (epoch_of s + 1) s.live (present_users s)
-      (sent_commands s.stream))
+      (sent_commands s.stream) [])
       → decision.OpenEpoch ≡ decided s conn c m
       → IsPlan journal s (event.Say conn m) (epoch_plan conn m epoch next)
   plan-opened next epoch epoch_is holds is =
@@ -398,30 +398,6 @@ module _ (journal : List Event) (s : State) (conn : ℕ) (c : Connection)
       (holds.said, subst (StandsFor next.rights.value) (sym holds.entries) holds.stands))
 
 -- ---- operators
-
--- the user who becomes operator
-pub next-is : (operates : ℕ → Bool) (present : List Bool) (user : ℕ) (o p : Option ℕ)
-    → operates user ≡ true
-    → o ≡ find (λ other. mark present other && operates other) user_ids → is_some o ≡ false
-    → p ≡ find (mark present) user_ids → p ≡ next_operator operates present user
-next-is operates present user o p operating found none next =
-    let any = list_any-find (λ other. mark present other && operates other) user_ids in
-    cc (any, operating, found, none, next)
-
--- none does, where the user was no operator
-pub next-no_operator : (operates : ℕ → Bool) (present : List Bool) (user : ℕ)
-    → operates user ≡ false
-    → None ≡ next_operator operates present user
-next-no_operator operates present user no_one = cc
-
--- none does, where an operator stays
-pub next-operator_stays : (operates : ℕ → Bool) (present : List Bool) (user : ℕ) (o : Option ℕ)
-    → operates user ≡ true
-    → o ≡ find (λ other. mark present other && operates other) user_ids → is_some o ≡ true
-    → None ≡ next_operator operates present user
-next-operator_stays operates present user o operating found some =
-    let any = list_any-find (λ other. mark present other && operates other) user_ids in
-    cc (any, operating, found, some)
 
 -- ---- a Close that was left out
 
@@ -465,24 +441,3 @@ tables-closed leads old new conn are left =
     (omega (arith, h.2, are.of.opened)) h.3
 
 -- ---- names
-
--- a name is tested by its length and as a text
-pub name-tested : (name bytes : List ℕ) (o : Option (List ℕ)) → bytes ≡ name → 1 ≤ length name
-    → length name ≤ 32
-    → (IsSome o → IsText bytes) → (IsText bytes → IsSome o) → is_some o ≡ is_name name
-name-tested name bytes o same above below is_text has =
-    by_text o is_text has
-    ∙ sym (ap (λ b. b && nat_le (length name) 32 && is_utf8 name) (le-leb 1 (length name) above)
-    ∙ ap (λ b. b && is_utf8 name) (le-leb (length name) 32 below)) where
-      by_text : (o : Option (List ℕ)) → (IsSome o → IsText bytes) → (IsText bytes → IsSome o)
-          → is_some o ≡ is_utf8 name
-      by_text (Some text) is_text has = sym (is_utf8-from_IsUtf8 name
-          (subst IsUtf8 same (is_text refl).0))
-      by_text None is_text has =
-          ⊎_elim (λ (utf8 : is_utf8 name ≡ true).
-          let wrong : false ≡ true = has (
-            subst IsUtf8 (sym same) (IsUtf8-from_is_utf8 name utf8),
-            omega (arith, ap length same),
-          ) in cc)
-          (λ (other : is_utf8 name ≡ false). sym other)
-          (cases_Bool (is_utf8 name))

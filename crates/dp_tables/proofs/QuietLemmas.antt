@@ -17,10 +17,11 @@ use Rattle.dp_tables.specs.declared.plan.Change.{Change}
 use Rattle.dp_tables.specs.declared.plan.Change.TheVariants.{Stays, Adds, Becomes}
 use Rattle.dp_epochs.specs.State.{State}
 use Rattle.dp_epochs.specs.Past.{quiet_with}
-use Rattle.dp_tables.specs.Tables.{mark, quiet_of, flagged}
+use Rattle.dp_history.specs.Users.{mark}
+use Rattle.dp_tables.specs.Tables.{quiet_of, flagged}
 use Rattle.dp_tables.specs.Plans.{quiet_after}
-use Rattle.dp_tables.proofs.Ranges.{find-first, find-none, filter-range_same, list_any-find}
-use Rattle.dp_tables.proofs.Ranges.{list_any-filter, both}
+use Rattle.dp_history.proofs.Ranges.{find-first, find-none, filter-range_same, list_any-find}
+use Rattle.dp_history.proofs.Ranges.{list_any-filter, both}
 
 -- a number of a range is among those that pass a test exactly where it passes
 any-range : (p : ℕ → Bool) (low n conn : ℕ) → low ≤ conn → conn < low + n

@@ -11,10 +11,10 @@ use Rattle.dp_lists.proofs.Numbered.{number-found}
 use Rattle.dp_messages.specs.declared.message.Entry.{Entry}
 use Rattle.dp_events.specs.declared.connection.Connection.{Connection}
 use Rattle.dp_events.specs.declared.event.Event.{Event}
-use Rattle.dp_tables.specs.declared.history_item.HistoryItem.{HistoryItem}
+use Rattle.dp_history.specs.declared.item.HistoryItem.{HistoryItem}
 use Rattle.dp_events.specs.Connections.{is_open}
 use Rattle.dp_epochs.specs.State.{open_in, where_open, connection_in}
-use Rattle.dp_tables.specs.Tables.{entry_in}
+use Rattle.dp_history.specs.Items.{entry_in}
 
 -- a page of the entries is that of the history
 pub page-is : (journal : List Event) (live : List HistoryItem) (history : List Entry)

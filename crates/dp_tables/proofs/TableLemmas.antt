@@ -29,8 +29,8 @@ use Rattle.dp_acl.specs.Opening.{opening_limit}
 use Rattle.dp_events.specs.declared.connection.Connection.{Connection}
 use Rattle.dp_events.specs.declared.event.Event.{Event}
 use Rattle.dp_events.specs.declared.event.Event.TheVariants as event
-use Rattle.dp_tables.specs.declared.history_item.HistoryItem.{HistoryItem}
-use Rattle.dp_tables.specs.declared.history_item.HistoryItem.TheVariants as item
+use Rattle.dp_history.specs.declared.item.HistoryItem.{HistoryItem}
+use Rattle.dp_history.specs.declared.item.HistoryItem.TheVariants as item
 use Rattle.dp_tables.specs.declared.plan.Change.{Change}
 use Rattle.dp_tables.specs.declared.plan.Change.TheVariants.{Stays, Adds, Becomes}
 use Rattle.dp_tables.specs.declared.plan.Placing.{Placing}
@@ -48,10 +48,13 @@ use Rattle.dp_tables.specs.declared.tables.Tables.TheInside.{Inside}
 use Rattle.dp_events.specs.Rows.{row_of, row_bytes, event_limit, byte_limit, has_room}
 use Rattle.dp_epochs.specs.Past.{Past, state_after, state_of, kept, refused}
 use Rattle.dp_epochs.specs.Laws.{ShutBefore, shut_by}
-use Rattle.dp_frame_log.specs.Frames.{Frames, AreFramesOf, AreWritten}
+use Rattle.dp_history.specs.Frames.{Frames, AreFramesOf, AreWritten}
 use Rattle.dp_tables.specs.SessionLog.{SessionLog, state_in}
-use Rattle.dp_tables.specs.Tables.{message_of, IsSay, part_of, join_of, entry_in, IsIn, mark}
-use Rattle.dp_tables.specs.Tables.{IsPart, commands_in, stream_in, IsResetIn, IsJoinedBy, AreJoined}
+use Rattle.dp_history.specs.Items.{message_of, IsSay, part_of, join_of, entry_in, IsIn}
+use Rattle.dp_history.specs.Users.{mark}
+use Rattle.dp_history.specs.Items.{IsPart, commands_in}
+use Rattle.dp_tables.specs.Tables.{stream_in, IsResetIn}
+use Rattle.dp_history.specs.Users.{IsJoinedBy, AreJoined}
 use Rattle.dp_tables.specs.Tables.{is_holder, MarksHolders, Seen, AreOf}
 use Rattle.dp_tables.specs.Inside.{ledger_of, seen, AreTables}
 use Rattle.dp_tables.specs.Plans.{event_of, entries_of, items_of, items_after, history_after}
@@ -59,7 +62,7 @@ use Rattle.dp_tables.specs.Plans.{ended_after, epoch_after, IsOpening, opens_aft
 use Rattle.dp_tables.specs.Plans.{IsJoinOf, streamed, owner_after, parts_after, bytes_after}
 use Rattle.dp_tables.specs.Plans.{IsGrowth, IsStreamChange, changed, marks_after, quiet_after}
 use Rattle.dp_tables.specs.Plans.{IsChange, IsPlan}
-use Rattle.dp_tables.proofs.Ranges.{lists-user}
+use Rattle.dp_history.proofs.Ranges.{lists-user}
 use Rattle.dp_tables.proofs.Holders.{any-marked, mark-set_same, mark-set_other, marks-changed}
 
 -- ---- entries

@@ -3,7 +3,7 @@ use Rattle.std.specs.Prelude.{◌≡◌, ◌+◌, ◌≤◌, ◌&&◌, Bool, nat
 use Rattle.std.specs.Prelude.{vec_capacity}
 use Rattle.dp_events.specs.Rows.{row_bytes, event_limit, byte_limit}
 use Rattle.dp_tables.specs.declared.tables.Tables.TheInside.{Inside}
-use Rattle.dp_frame_log.specs.Frames.{AreWritten}
+use Rattle.dp_history.specs.Frames.{AreWritten}
 use Rattle.dp_tables.specs.SessionLog.{SessionLog, state_in}
 use Rattle.dp_tables.specs.Tables.{Seen, AreOf, quiet_of}
 

@@ -1,8 +1,8 @@
 -- What is ready to be kept of an event, and when it is what the event makes.
-use Rattle.std.specs.Prelude.{◌≡◌, ℕ, ◌+◌, ◌-◌, ◌<◌, Bool, true, false, not, ◌&&◌, ◌==◌}
+use Rattle.std.specs.Prelude.{◌≡◌, ℕ, ◌+◌, ◌-◌, ◌<◌, Bool, true, false, not, ◌==◌}
 use Rattle.std.specs.Prelude.{if◌then◌else◌, Option, None, Some, option_to_list, MatchOption}
-use Rattle.std.specs.Prelude.{List, [], ◌∷◌, ◌++◌, length, map, slice_get, slice_set, All}
-use Rattle.std.specs.List.{find, list_any}
+use Rattle.std.specs.Prelude.{List, ◌∷◌, ◌++◌, length, map, slice_get, slice_set, All}
+use Rattle.std.specs.List.{list_any}
 use Rattle.std.specs.Option.{option_map}
 use Rattle.dp_msg_meta.specs.declared.message.Meta.TheVariants.{Join, Leave}
 use Rattle.dp_messages.specs.declared.message.Msg.{Msg}
@@ -15,25 +15,26 @@ use Rattle.dp_events.specs.declared.event.Event.{Event}
 use Rattle.dp_events.specs.declared.event.Event.TheVariants as event
 use Rattle.dp_events.specs.declared.event.Reply.{Reply}
 use Rattle.dp_events.specs.declared.event.Reply.TheVariants as reply
-use Rattle.dp_tables.specs.declared.history_item.HistoryItem.{HistoryItem}
-use Rattle.dp_tables.specs.declared.history_item.HistoryItem.TheVariants as item
+use Rattle.dp_history.specs.declared.item.HistoryItem.{HistoryItem}
+use Rattle.dp_history.specs.declared.item.HistoryItem.TheVariants as item
 use Rattle.dp_tables.specs.declared.plan.Change.{Change}
 use Rattle.dp_tables.specs.declared.plan.Change.TheVariants.{Stays, Adds, Becomes}
 use Rattle.dp_tables.specs.declared.plan.Placing.{Placing}
 use Rattle.dp_tables.specs.declared.plan.Placing.TheVariants.{Said, Server, Opens}
 use Rattle.dp_tables.specs.declared.plan.StreamChange.{StreamChange}
 use Rattle.dp_tables.specs.declared.plan.StreamChange.TheVariants as stream
-use Rattle.dp_tables.specs.declared.opening.Opening.{Opening}
+use Rattle.dp_history.specs.declared.opening.Opening.{Opening}
 use Rattle.dp_tables.specs.declared.plan.Plan.{Plan}
 use Rattle.dp_tables.specs.declared.plan.Ready.{Ready}
 use Rattle.dp_events.specs.Rows.{row_of, has_room}
 use Rattle.dp_events.specs.Connections.{is_open}
 use Rattle.dp_acl.specs.Table.{StandsFor}
-use Rattle.dp_epochs.specs.State.{State, Stream, entry_of, filtered_entry, acted, user_ids}
+use Rattle.dp_epochs.specs.State.{State, Stream, entry_of, filtered_entry, acted}
 use Rattle.dp_epochs.specs.State.{first_stream, with_part, is_name, free_id}
 use Rattle.dp_epochs.specs.Effects.{IsFittingPart}
 use Rattle.dp_tables.specs.SessionLog.{SessionLog, state_in}
-use Rattle.dp_tables.specs.Tables.{mark, is_holder, message_of, entry_in, IsIn}
+use Rattle.dp_tables.specs.Tables.{is_holder}
+use Rattle.dp_history.specs.Items.{message_of, entry_in, IsIn}
 
 -- the event
 abbrev pub event_of : Placing → Event
@@ -289,16 +290,3 @@ pub record IsReady (ledger : SessionLog) (e : Event) (ready : Ready) : Type 0 wh
   pub plan : IsPlan ledger.journal (state_in ledger) e ready.plan
   pub row : ready.row ≡ record { n = length ledger.journal; bytes = row_of e }
   pub room : has_room ledger.journal e ≡ true
-
--- the user, who joins, as the first operator, where no one is marked
-abbrev pub first_operator : List Bool → ℕ → Option ℕ
-first_operator present user = if list_any (mark present) user_ids then None else Some user
-
--- The user who becomes operator when another leaves, where these are marked who stay: the lowest of
--- them, if the other was operator and none of them is.
-abbrev pub next_operator : (ℕ → Bool) → List Bool → ℕ → Option ℕ
-next_operator is_operator present user =
-    if is_operator user && not (list_any (λ other. mark present other && is_operator other)
-    user_ids)
-    then find (mark present) user_ids
-    else None

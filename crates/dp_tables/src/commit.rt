@@ -22,7 +22,7 @@ ghost use Rattle.dp_messages.specs.declared.message.Entry.{Entry as Piece};
 ghost use Rattle.dp_acl.specs.Table.{StandsFor};
 ghost use Rattle.dp_epochs.specs.State.{acted, open_in};
 ghost use Rattle.dp_epochs.specs.Past.{shut_with, quiet_with};
-ghost use Rattle.dp_frame_log.specs.Frames.{AreWritten};
+ghost use Rattle.dp_history.specs.Frames.{AreWritten};
 ghost use Rattle.dp_tables.specs.SessionLog.{state_in};
 ghost use Rattle.dp_tables.specs.Tables.{flagged};
 ghost use Rattle.dp_tables.specs.Plans.{event_of, epoch_after, items_after, history_after};
@@ -30,13 +30,12 @@ ghost use Rattle.dp_tables.specs.Plans.{IsOpening, owner_after, parts_after, byt
 ghost use Rattle.dp_tables.specs.Plans.{changed, marks_after, opens_after, quiet_after, event_in};
 ghost use Rattle.dp_tables.specs.Plans.{shut_change, IsChange, IsReady};
 
-use crate::history_item::HistoryItem;
 use crate::plan::{Change, Placing, Plan, Ready, StreamChange};
 use crate::tables::{Tables, open_connection};
 use dp_acl::Rights;
 use dp_epochs::{epochs_are_few, joins_stay, steps_lead_on};
 use dp_events::{Connection, Ending, Event, Reply, ShutAt};
-use dp_frame_log::FrameLog;
+use dp_history::{FrameLog, HistoryItem};
 use dp_messages::Entry;
 
 /// Places an entry, if there is one.

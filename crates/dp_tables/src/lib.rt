@@ -4,12 +4,9 @@
 #![tactic(auto)]
 
 mod commit;
-mod history_item;
-mod opening;
 mod pages;
 mod plan;
 mod planner;
-mod presence;
 mod resets;
 mod tables;
 

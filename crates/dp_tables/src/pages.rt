@@ -31,15 +31,14 @@ ghost use Rattle.dp_epochs.specs.Pull.{page, pulled_from, pulled_by_left, pulled
 ghost use Rattle.dp_tables.specs.SessionLog.{state_in};
 ghost use Rattle.dp_messages.specs.declared.message.Entry.{Entry as Piece};
 ghost use Rattle.dp_messages.specs.Messages.{entry_bytes};
-ghost use Rattle.dp_frame_log.specs.Frames.{AreFramesOf, AreWritten, IsShort, frames_of};
+ghost use Rattle.dp_history.specs.Frames.{AreFramesOf, AreWritten, IsShort, frames_of};
 ghost use Rattle.dp_tables.specs.Pages.{answer_of, IsBounded, IsPage, page_most};
-ghost use Rattle.dp_tables.specs.Tables.{entry_in, IsIn, IsSay, join_of, mark, message_of, part_of};
+ghost use Rattle.dp_history.specs.Items.{entry_in, IsIn, IsSay, join_of, message_of, part_of};
+ghost use Rattle.dp_history.specs.Users.{mark};
 
-use crate::history_item::HistoryItem;
-use crate::planner::name_text;
 use crate::tables::Tables;
 use dp_events::{Answer, Ending, Entries, Event, Place};
-use dp_frame_log::FrameLog;
+use dp_history::{copies, put_item, write_all};
 use dp_lists::{prefix_of, rest_of};
 use dp_messages::{Entry, Msg, put_entry};
 use dp_msg_meta::Meta;
@@ -64,164 +63,12 @@ pub(crate) struct Due {
     pub(crate) end: usize,
 }
 
-/// The message that the event says.
-fn said(journal: &[Event], event: u32, user: u8) -> Result<Entry, AllocError>
-    requires { IsSay (slice_get journal.now event) }
-    ensures { IfOk result (λ entry. entry
-        ≡ entry_of user (message_of (slice_get journal.now event))) }
-{
-    match journal.get(event as usize) {
-        Some(Event::Say { msg, .. }) => Ok(Entry {
-            user,
-            msg: msg.copy()?,
-        }),
-        _ => unreachable!(),
-    }
-}
-
-/// The command of the part that the event says.
-fn command(journal: &[Event], event: u32) -> Result<Entry, AllocError>
-    requires { is_some (part_of (slice_get journal.now event)) ≡ true }
-    ensures { IfOk result (λ entry. Some entry
-        ≡ option_map command_entry (part_of (slice_get journal.now event))) }
-{
-    match journal.get(event as usize) {
-        Some(
-            Event::Say {
-                msg: Msg::Part(command),
-                ..
-            },
-        ) => Ok(Entry {
-            user: 0,
-            msg: Msg::Draw(command.copy()?),
-        }),
-        _ => unreachable!(),
-    }
-}
-
-/// The user's Join by the Open that the event is.
-fn join(alloc: Global, journal: &[Event], event: u32, user: u8) -> Result<Entry, AllocError>
-    requires { is_some (join_of user (slice_get journal.now event)) ≡ true }
-    ensures { IfOk result (λ entry. Some entry ≡ join_of user (slice_get journal.now event)) }
-{
-    match journal.get(event as usize) {
-        Some(Event::Open { name, registered }) => match name_text(alloc, name.as_slice())? {
-            Some(name) => Ok(Entry {
-                user,
-                msg: Msg::Meta(Meta::Join {
-                    registered: *registered,
-                    name,
-                }),
-            }),
-            None => unreachable!(),
-        },
-        _ => unreachable!(),
-    }
-}
-
-/// A copy of an entry that is kept beside the journal.
-pub(crate) fn entry(
-    alloc: Global,
-    journal: &[Event],
-    item: &HistoryItem,
-) -> Result<Entry, AllocError>
-    requires { IsIn journal.now item.now }
-    ensures { IfOk result (λ entry. entry ≡ entry_in journal.now item.now) }
-{
-    match item {
-        HistoryItem::Said { event, user } => said(journal, *event, *user),
-        HistoryItem::Joined { event, user } => join(alloc, journal, *event, *user),
-        HistoryItem::Command { event } => command(journal, *event),
-        HistoryItem::Server(entry) => entry.copy(),
-    }
-}
-
-/// Copies of entries.
-fn copies(alloc: Global, journal: &[Event], items: &[HistoryItem]) -> Result<Entries, AllocError>
-    requires { All (IsIn journal.now) items.now }
-    ensures { IfOk result (λ copies. copies ≡ map (entry_in journal.now) items.now) }
-{
-    let mut entries = Vec::new(alloc);
-    for item in items {
-        entries.push(entry(alloc, journal, item)?)?;
-    }
-    Ok(Entries::from_vec(entries))
-}
-
 /// Whether the connection of the number, which was given out, is flagged.
 fn is_flagged(quiet: &[bool], conn: u32) -> bool
     requires { 0 < conn }
     ensures { result ≡ mark quiet.now (conn - 1) }
 {
     quiet.get(conn as usize - 1).copied().unwrap_or(false)
-}
-
-/// Puts the frame of an entry that is kept beside the journal at the end of the bytes.
-fn put_item(
-    alloc: Global,
-    journal: &[Event],
-    item: &HistoryItem,
-    out: &mut Vec<u8>,
-) -> Result<(), AllocError>
-    requires { IsIn journal.now item.now }
-    ensures ok { OnOk result (out.new.items
-        ≡ out.old.items ++ entry_bytes (entry_in journal.now item.now)) }
-    ensures err { OnErr result (out.new.items ≡ out.old.items) }
-{
-    let entry = entry(alloc, journal, item)?;
-    put_entry(&entry, out)
-}
-
-/// Adds the frame of an entry that is kept beside the journal.
-fn append_item(
-    alloc: Global,
-    journal: &[Event],
-    item: &HistoryItem,
-    frames: &mut FrameLog,
-) -> Result<(), AllocError>
-    requires { IsIn journal.now item.now }
-    ensures ok { OnOk result ((entries : List Piece) → AreFramesOf frames.old entries
-        → AreFramesOf frames.new (entries ++ entry_in journal.now item.now ∷ [])) }
-    ensures err { OnErr result ((entries : List Piece) → AreFramesOf frames.old entries
-        → AreFramesOf frames.new entries) }
-{
-    let entry = entry(alloc, journal, item)?;
-    frames.append(&entry)
-}
-
-/// Makes the frame of the entry at a place, if there is one.
-fn write_at(
-    alloc: Global,
-    journal: &[Event],
-    live: &[HistoryItem],
-    frames: &mut FrameLog,
-) -> Result<bool, AllocError>
-    requires { All (IsIn journal.now) live.now }
-    ensures { AreWritten frames.old (map (entry_in journal.now) live.now)
-        → AreWritten frames.new (map (entry_in journal.now) live.now) }
-{
-    match live.get(frames.len()) {
-        Some(item) => {
-            append_item(alloc, journal, item, frames)?;
-            Ok(true)
-        }
-        None => Ok(false),
-    }
-}
-
-/// Makes the frames of the entries that have none yet, as far as memory goes.
-fn write_all(alloc: Global, journal: &[Event], live: &[HistoryItem], frames: &mut FrameLog)
-    requires { All (IsIn journal.now) live.now }
-    ensures { AreWritten frames.old (map (entry_in journal.now) live.now)
-        → AreWritten frames.new (map (entry_in journal.now) live.now) }
-{
-    for _entry in frames.len()..live.len() {
-        match write_at(alloc, journal, live, frames) {
-            Ok(true) => {}
-            Ok(false) => return,
-            Err(AllocError) => return,
-        }
-    }
 }
 
 impl Tables {

@@ -1,7 +1,7 @@
 //! What is ready to be kept of an event.
 
-use crate::opening::Opening;
 use dp_events::{Connection, Event, Reply};
+use dp_history::Opening;
 use dp_keeper::Row;
 use dp_messages::Entry;
 

@@ -10,15 +10,14 @@ ghost use Rattle.dp_tables.specs.SessionLog.{state_in};
 ghost use Rattle.dp_tables.specs.Plans.{still_plan, join_plan, leave_plan, ack_plan, placed_plan};
 ghost use Rattle.dp_tables.specs.Plans.{filtered_plan, noted_plan, epoch_plan, IsPlan, IsReady};
 
-use crate::opening::Opening;
 use crate::plan::{Change, Placing, Plan, Ready, StreamChange};
-use crate::presence::{first_operator, free_id, next_operator};
 use crate::resets::stream_left;
 use crate::tables::Tables;
 use dp_acl::operators_stay;
 use dp_epochs::parts_fit;
 use dp_events::{Connection, Decision, Ending, Event, Place, Reply, make_row};
 use dp_frame::Octets;
+use dp_history::{Opening, first_operator, free_id, name_text, next_operator};
 use dp_keeper::{Row, RowBytes};
 use dp_messages::{Entry, Msg};
 use dp_msg_meta::{Control, Ids, Meta, Text};
@@ -38,17 +37,6 @@ fn owner_entry(alloc: Global, user: Option<u8>) -> Result<Option<Entry>, AllocEr
             ids: Ids::from_vec(ids),
         }),
     }))
-}
-
-/// The name as a text, if it is a name.
-pub(crate) fn name_text(alloc: Global, name: &[u8]) -> Result<Option<Text>, AllocError>
-    ensures named { IfOk result (λ text. is_some text ≡ is_name name.now) }
-    ensures text { IfOk result (λ found. IfSome found (λ text. text ≡ name.now)) }
-{
-    if name.is_empty() || name.len() > 32 {
-        return Ok(None);
-    }
-    Ok(Text::from_vec(Vec::from_slice(alloc, name)?))
 }
 
 /// The plan that keeps an event and changes nothing.
@@ -329,6 +317,7 @@ impl Tables {
         match msg {
             Msg::Control(Control::ResetBegin) => self.hear_begin(conn, connection),
             Msg::Control(Control::ResetEnd) => self.hear_end(conn, connection),
+            Msg::Control(Control::ResetFrom { .. }) => Decision::Filter,
             Msg::Part(command) => self.hear_part(conn, connection, command, size),
             _ => {
                 if self.permits(connection.user, msg) {

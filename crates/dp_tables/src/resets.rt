@@ -1,6 +1,6 @@
 //! Resets: who may send one, what becomes of its messages, and how it opens the next epoch.
 
-ghost use Rattle.std.specs.Prelude.{◌≡◌, ◌+◌, Some, false, is_some, IfOk};
+ghost use Rattle.std.specs.Prelude.{◌≡◌, ◌+◌, [], Some, false, is_some, IfOk};
 ghost use Rattle.std.specs.Option.{option_map_or};
 ghost use Rattle.dp_acl.specs.Opening.{opening, server_entry};
 ghost use Rattle.dp_messages.specs.declared.message.Msg.TheVariants as msg;
@@ -20,14 +20,13 @@ ghost use Rattle.dp_msg_meta.specs.declared.message.Meta.TheVariants.{ResetMark}
 ghost use Rattle.dp_msg_meta.specs.declared.message.Control.TheVariants.{ResetBegin, ResetEnd};
 ghost use Rattle.dp_tables.specs.SessionLog.{state_in};
 ghost use Rattle.dp_tables.specs.Plans.{stream_left};
-ghost use Rattle.dp_tables.specs.Openings.{Holds};
+ghost use Rattle.dp_history.specs.Openings.{Holds};
 
-use crate::opening::Opening;
 use crate::plan::StreamChange;
-use crate::presence::present_ids;
 use crate::tables::Tables;
 use dp_epochs::{epochs_are_few, openings, present_users_rise};
 use dp_events::{Connection, Decision};
+use dp_history::{Opening, present_ids};
 use dp_messages::{Entry, Msg};
 use dp_msg_draw::Draw;
 use dp_msg_meta::Meta;
@@ -135,7 +134,7 @@ impl Tables {
     pub(crate) fn open_epoch(&self) -> Result<Opening, AllocError>
         ensures { IfOk result (λ o. Holds self.now.journal o
             (opening (epoch_of (state_in self.now) + 1) (state_in self.now).live
-            (present_users (state_in self.now)) (sent_commands (state_in self.now).stream))) }
+            (present_users (state_in self.now)) (sent_commands (state_in self.now).stream) [])) }
     {
         openings();
         present_users_rise();

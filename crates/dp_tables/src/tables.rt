@@ -28,11 +28,10 @@ ghost use Rattle.dp_epochs.specs.State.{connection_in, connection_of, open_in, o
 ghost use Rattle.dp_epochs.specs.State.{next_open, here};
 ghost use Rattle.dp_tables.specs.SessionLog.{state_in};
 
-use crate::history_item::HistoryItem;
 use dp_acl::Rights;
 use dp_epochs::histories_are_short;
 use dp_events::{Connection, Ending, Event, Place, ShutAt};
-use dp_frame_log::FrameLog;
+use dp_history::{FrameLog, HistoryItem};
 use dp_messages::{Entry, Msg};
 use dp_msg_meta::Meta;
 use std::alloc::{AllocError, Global};

@@ -1,9 +1,10 @@
 -- Rectangles of cells, and what is painted on them.
 use Rattle.std.specs.Prelude.{◌≡◌, ℕ, ◌+◌, ◌-◌, ◌<◌, List, [], ◌∷◌, ◌++◌, take, drop}
-use Rattle.std.specs.Prelude.{Bool, ◌&&◌, nat_le, nat_lt, if◌then◌else◌}
+use Rattle.std.specs.Prelude.{Bool, ◌&&◌, nat_le, nat_lt, if◌then◌else◌, ◌≤◌, ◌≢◌}
+use Rattle.std.specs.List.{range_with_len, sum_by}
 use Rattle.dp_blend.specs.Color.{Channels}
 use Rattle.dp_tile.specs.declared.area.CellArea.{CellArea}
-use Rattle.dp_tile.specs.Tiles.{TileGrid, cell_at}
+use Rattle.dp_tile.specs.Tiles.{TileGrid, cell_at, tiles_for}
 
 -- a painter by columns and rows: the pixels after it, of the tile there that has these pixels
 abbrev pub Painted : Type 0
@@ -25,7 +26,43 @@ pub record IsPaintedOn (area : CellArea) (painted : Painted) (old new : TileGrid
       then painted col row (cell_at old col row)
       else cell_at old col row)
 
+-- how many cells of a row show something, from a column on before another
+abbrev pub shown_in_row : ℕ → ℕ → ℕ → TileGrid → ℕ
+shown_in_row left right row g =
+    sum_by (λ col. tiles_for (cell_at g col row)) (range_with_len left (right - left))
+
+-- how many cells of an area show something
+abbrev pub shown_in : CellArea → TileGrid → ℕ
+shown_in area g =
+    sum_by (λ row. shown_in_row area.left area.right row g)
+    (range_with_len area.top (area.bottom - area.top))
+
 -- ---- in the words of the code
+
+-- the cells of a row from one column on before another were painted, and no others
+pub record IsRowPainted (painted : Painted) (row left right : ℕ) (old new : TileGrid)
+    : Type 0 where
+  pub cols : new.cols ≡ old.cols
+  pub rows : new.rows ≡ old.rows
+  pub inside : (col : ℕ) → left ≤ col → col < right
+      → cell_at new col row ≡ painted col row (cell_at old col row)
+  pub before : (col : ℕ) → col < left → cell_at new col row ≡ cell_at old col row
+  pub after : (col : ℕ) → right ≤ col → col < old.cols → cell_at new col row ≡ cell_at old col row
+  pub others : (col other : ℕ) → other ≢ row → col < old.cols
+      → cell_at new col other ≡ cell_at old col other
+
+-- the rows of an area before a row were painted, and no other cells
+pub record IsUpTo (painted : Painted) (area : CellArea) (row : ℕ) (old new : TileGrid)
+    : Type 0 where
+  pub cols : new.cols ≡ old.cols
+  pub rows : new.rows ≡ old.rows
+  pub inside : (col k : ℕ) → area.left ≤ col → col < area.right → area.top ≤ k → k < row
+      → cell_at new col k ≡ painted col k (cell_at old col k)
+  pub before : (col k : ℕ) → col < area.left → cell_at new col k ≡ cell_at old col k
+  pub after : (col k : ℕ) → area.right ≤ col → col < old.cols
+      → cell_at new col k ≡ cell_at old col k
+  pub above : (col k : ℕ) → k < area.top → col < old.cols → cell_at new col k ≡ cell_at old col k
+  pub below : (col k : ℕ) → row ≤ k → col < old.cols → cell_at new col k ≡ cell_at old col k
 
 -- the elements of a list from one index on before another
 abbrev pub part : {X : Type 0} → ℕ → ℕ → List X → List X

@@ -1,8 +1,9 @@
 -- A tile is a square of 64 by 64 pixels, seen as their list: row by row from the top, each row from
 -- the left. A grid is tiles in columns and rows.
 use Rattle.std.specs.Prelude.{◌≡◌, ℕ, ◌+◌, ◌*◌, ◌/◌, ◌%◌, ◌≤◌, List, length, replicate}
-use Rattle.std.specs.Prelude.{[], map, slice_index_or, slice_set, All, Option}
-use Rattle.std.specs.List.{flat_map}
+use Rattle.std.specs.Prelude.{[], map, slice_index_or, slice_set, All, Option, Bool, not, ◌==◌}
+use Rattle.std.specs.Prelude.{◌&&◌, count_by, if◌then◌else◌}
+use Rattle.std.specs.List.{flat_map, list_any}
 use Rattle.std.specs.Option.{ForSome}
 use Rattle.dp_blend.specs.Color.{Channels, clear}
 use Rattle.dp_blend.specs.Canvas.{below, canvas_of, pixel_at}
@@ -86,3 +87,17 @@ grid_pixels width height g = canvas_of width height (grid_pixel g)
 -- so many pixels of the row y of a grid, from x on
 abbrev pub part_of_grid : TileGrid → ℕ → ℕ → ℕ → List Channels
 part_of_grid g x y count = map (λ i. grid_pixel g (x + i) y) (below count)
+
+-- ---- what shows
+
+-- a pixel of a cell isn't clear
+abbrev pub shows : List Channels → Bool
+shows cell = list_any (λ p. not (p.r == 0 && p.g == 0 && p.b == 0 && p.a == 0)) cell
+
+-- the tiles that a cell needs: one where it shows something
+abbrev pub tiles_for : List Channels → ℕ
+tiles_for cell = if shows cell then 1 else 0
+
+-- how many cells of a grid show something
+abbrev pub cells_shown : TileGrid → ℕ
+cells_shown g = count_by shows g.cells

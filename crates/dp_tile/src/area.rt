@@ -50,6 +50,7 @@ pub(crate) fn paint_area<P: TilePainter, T: Ledger>(
     area: CellArea,
     painter: &P,
     rows: &mut [Row],
+    palette: &mut Palette,
     tiles: &mut Steps<T>,
 ) -> Result<(), AllocError>
     requires across { area.left ≤ area.right }
@@ -65,7 +66,6 @@ pub(crate) fn paint_area<P: TilePainter, T: Ledger>(
     ensures few_tiles { tiles.new
         ≤ tiles.old + (area.bottom - area.top) * (area.right - area.left) }
 {
-    let mut palette = Palette::new(alloc);
     let work = Work {
         alloc,
         painter,
@@ -73,7 +73,7 @@ pub(crate) fn paint_area<P: TilePainter, T: Ledger>(
         right: area.right,
     };
     let (top, bottom) = (area.top as usize, area.bottom as usize);
-    paint_rows(&work, area.top, &mut rows[top..bottom], &mut palette, tiles)
+    paint_rows(&work, area.top, &mut rows[top..bottom], palette, tiles)
 }
 
 // The colour of all tiles of a row after it is painted, where all of the row is painted and that is
@@ -316,11 +316,16 @@ fn paint_first<P: TilePainter, T: Ledger>(
             Ok(())
         }
         TileChange::Unknown if others.is_empty() && below.is_empty() => {
-            first.paint(work.alloc, cell.col, cell.row, work.painter, tiles)
+            first.paint_pixels(cell.col, cell.row, work.painter, palette, tiles)
         }
         TileChange::Unknown => {
-            first.own(work.alloc, tiles)?;
-            paint_owned(work, cell, first, others, below, palette, tiles)
+            if first.is_sole() {
+                return paint_owned(work, cell, first, others, below, palette, tiles);
+            }
+            let slot = first.painted(cell.col, cell.row, work.painter, palette, tiles)?;
+            paint_cells(work, next, others, below, palette, tiles)?;
+            *first = slot;
+            Ok(())
         }
     }
 }

@@ -3,11 +3,12 @@
 ghost use Rattle.std.specs.Prelude.{◌≡◌, [], ◌+◌, ◌-◌, ◌*◌, ◌<◌, ◌≤◌, length, replicate, All};
 ghost use Rattle.std.specs.Prelude.{slice_index_or, slice_set, IfOk, OnOk, OnErr};
 ghost use Rattle.dp_blend.specs.Color.{clear};
-ghost use Rattle.dp_tile.specs.Tiles.{tile_of, with_cell_in_rows};
+ghost use Rattle.dp_tile.specs.Tiles.{tile_of, tiles_for, with_cell_in_rows};
 ghost use Rattle.dp_tile.specs.Areas.{area_painted};
 
 use crate::area::{CellArea, paint_area};
 use crate::painter::TilePainter;
+use crate::palette::Palette;
 use crate::row::Row;
 use crate::slot::Slot;
 use dp_steps::Steps;
@@ -33,13 +34,6 @@ impl Model for Cells {
 }
 
 impl Cells {
-    // No row. It takes no memory.
-    pub(crate) fn none() -> Cells
-        ensures { result ≡ [] }
-    {
-        Cells { rows: None }
-    }
-
     // So many rows of so many slots without tiles.
     pub(crate) fn clear(alloc: Global, cols: usize, rows: usize) -> Result<Cells, AllocError>
         ensures { IfOk result (λ cells. cells ≡ replicate rows (replicate cols (tile_of clear))) }
@@ -92,30 +86,6 @@ impl Cells {
         }
     }
 
-    // Makes the tile at a column and a row this grid's alone.
-    pub(crate) fn own_tile<T: Ledger>(
-        &mut self,
-        alloc: Global,
-        col: usize,
-        row: usize,
-        tiles: &mut Steps<T>,
-    ) -> Result<(), AllocError>
-        requires row { row < length self.old }
-        requires col { col < length (slice_index_or self.old row []) }
-        ensures same { self.new ≡ self.old }
-        ensures tiles_rise { tiles.old ≤ tiles.new }
-        ensures one_tile { tiles.new ≤ tiles.old + 1 }
-    {
-        self.own(alloc)?;
-        match &mut self.rows {
-            None => Ok(()),
-            Some(rows) => match Arc::get_mut(rows) {
-                None => Err(AllocError),
-                Some(sole) => sole[row].own_tile(alloc, col, tiles),
-            },
-        }
-    }
-
     // Paints the tile at a column and a row.
     pub(crate) fn paint<P: TilePainter, T: Ledger>(
         &mut self,
@@ -123,6 +93,7 @@ impl Cells {
         col: u32,
         row: u32,
         painter: &P,
+        palette: &mut Palette,
         tiles: &mut Steps<T>,
     ) -> Result<(), AllocError>
         requires row { row < length self.old }
@@ -137,13 +108,16 @@ impl Cells {
         ensures err { OnErr result (self.new ≡ self.old) }
         ensures tiles_rise { tiles.old ≤ tiles.new }
         ensures one_tile { tiles.new ≤ tiles.old + 1 }
+        ensures few_shown { OnOk result (tiles.new ≤ tiles.old + tiles_for
+            (P.painted painter.now col row
+            (slice_index_or (slice_index_or self.old row []) col (tile_of clear)))) }
     {
         self.own(alloc)?;
         match &mut self.rows {
             None => Ok(()),
             Some(rows) => match Arc::get_mut(rows) {
                 None => Err(AllocError),
-                Some(sole) => sole[row as usize].paint(alloc, col, row, painter, tiles),
+                Some(sole) => sole[row as usize].paint(alloc, col, row, painter, palette, tiles),
             },
         }
     }
@@ -154,6 +128,7 @@ impl Cells {
         alloc: Global,
         area: CellArea,
         painter: &P,
+        palette: &mut Palette,
         tiles: &mut Steps<T>,
     ) -> Result<(), AllocError>
         requires across { area.left ≤ area.right }
@@ -174,7 +149,7 @@ impl Cells {
             None => Ok(()),
             Some(rows) => match Arc::get_mut(rows) {
                 None => Err(AllocError),
-                Some(sole) => paint_area(alloc, area, painter, sole.as_mut_slice(), tiles),
+                Some(sole) => paint_area(alloc, area, painter, sole.as_mut_slice(), palette, tiles),
             },
         }
     }

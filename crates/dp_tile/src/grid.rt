@@ -5,14 +5,15 @@ ghost use Rattle.dp_blend.specs.Color.{Channels};
 ghost use Rattle.std.specs.Prelude.{IfOk, IfSome, IfNone, OnOk, OnErr};
 ghost use Rattle.dp_blend.specs.Color.{clear};
 ghost use Rattle.dp_tile.specs.Tiles.{IsGrid, IsOfColor, cell_at, clear_grid, grid_pixel};
-ghost use Rattle.dp_tile.specs.Tiles.{tile_of, with_cell};
+ghost use Rattle.dp_tile.specs.Tiles.{tile_of, tiles_for, with_cell};
 ghost use Rattle.dp_blend.specs.Stretches.{IsStretch};
 ghost use Rattle.dp_tile.specs.Tiles.{part_of_grid};
-ghost use Rattle.dp_tile.specs.Areas.{IsPaintedOn};
+ghost use Rattle.dp_tile.specs.Areas.{IsPaintedOn, IsRowPainted, shown_in, shown_in_row};
 
 use crate::area::CellArea;
 use crate::cells::Cells;
 use crate::painter::TilePainter;
+use crate::palette::Palette;
 use crate::slot::Slot;
 use crate::tile::{SIDE, Tile};
 use dp_blend::{Pixel, Stretch};
@@ -29,6 +30,7 @@ pub struct Grid {
     rows: u32,
     cells: Cells,
     alloc: Global,
+    palette: Palette,
 }
 
 impl Model for Grid {
@@ -67,19 +69,8 @@ impl Grid {
             rows,
             cells,
             alloc,
+            palette: Palette::new(alloc),
         })
-    }
-
-    /// A grid without tiles. It takes no memory.
-    pub fn none(alloc: Global) -> Grid
-        ensures { result ≡ clear_grid 0 0 }
-    {
-        Grid {
-            cols: 0,
-            rows: 0,
-            cells: Cells::none(),
-            alloc,
-        }
     }
 
     /// A second grid of the same tiles. It makes no tile, and costs the same whatever their number.
@@ -92,6 +83,7 @@ impl Grid {
             rows: self.rows,
             cells,
             alloc: self.alloc,
+            palette: Palette::new(self.alloc),
         })
     }
 
@@ -132,8 +124,8 @@ impl Grid {
         slot.get(x % SIDE, y % SIDE)
     }
 
-    /// A part of the row y, within the 64 columns of a tile: `count` pixels from x on.
-    pub fn stretch(&self, x: u32, y: u32, count: u32) -> Stretch<'_>
+    // A part of the row y, within the 64 columns of a tile: `count` pixels from x on.
+    fn stretch(&self, x: u32, y: u32, count: u32) -> Stretch<'_>
         requires one_tile { x % 64 + count ≤ 64 }
         requires x { x < self.now.cols * 64 }
         requires y { y < self.now.rows * 64 }
@@ -212,25 +204,8 @@ impl Grid {
         self.cells.put(self.alloc, col, row, slot)
     }
 
-    /// Makes the tile at a column and a row this grid's alone, so that a `paint` of it takes no
-    /// memory while the grid isn't shared. It makes at most one tile, and the pixels stay.
-    pub fn own<T: Ledger>(
-        &mut self,
-        col: u32,
-        row: u32,
-        tiles: &mut Steps<T>,
-    ) -> Result<(), AllocError>
-        requires col { col < self.old.cols }
-        requires row { row < self.old.rows }
-        ensures same { self.new ≡ self.old }
-        ensures tiles_rise { tiles.old ≤ tiles.new }
-        ensures one_tile { tiles.new ≤ tiles.old + 1 }
-    {
-        let (col, row) = (col as usize, row as usize);
-        self.cells.own_tile(self.alloc, col, row, tiles)
-    }
-
-    /// Paints the tile at a column and a row. Other grids that shared it keep the old one.
+    /// Paints the tile at a column and a row. Other grids that shared it keep the old one. A tile
+    /// is made only where it isn't of one colour, or where its colour is none of the last ones.
     ///
     /// # Errors
     ///
@@ -249,13 +224,16 @@ impl Grid {
         ensures err { OnErr result (self.new ≡ self.old) }
         ensures tiles_rise { tiles.old ≤ tiles.new }
         ensures one_tile { tiles.new ≤ tiles.old + 1 }
+        ensures few_shown { OnOk result
+            (tiles.new ≤ tiles.old + tiles_for (cell_at self.new col row)) }
     {
-        self.cells.paint(self.alloc, col, row, painter, tiles)
+        self.cells
+            .paint(self.alloc, col, row, painter, &mut self.palette, tiles)
     }
 
-    /// Paints the tiles of an area. Other grids that shared them keep the old ones. All its tiles
-    /// are made this grid's alone before the first is painted, and then are painted in place. Cells
-    /// that become of one colour have one tile in common. Its depth on the stack is the number of
+    /// Paints the tiles of an area. Other grids that shared them keep the old ones. Tiles that are
+    /// this grid's alone are painted in place, when nothing can fail any more. Cells that become of
+    /// one colour have one tile in common. Its depth on the stack is the number of
     /// cells.
     ///
     /// # Errors
@@ -278,6 +256,62 @@ impl Grid {
         ensures few_tiles { tiles.new
             ≤ tiles.old + (area.bottom - area.top) * (area.right - area.left) }
     {
-        self.cells.paint_area(self.alloc, area, painter, tiles)
+        self.cells
+            .paint_area(self.alloc, area, painter, &mut self.palette, tiles)
+    }
+
+    // Paints the tiles of a row, from the column `left` on before `right`.
+    fn paint_row<P: TilePainter, T: Ledger>(
+        &mut self,
+        row: u32,
+        left: u32,
+        right: u32,
+        painter: &P,
+        tiles: &mut Steps<T>,
+    ) -> Result<(), AllocError>
+        requires order { left ≤ right }
+        requires cols { right ≤ self.old.cols }
+        requires row { row < self.old.rows }
+        ensures painted { OnOk result
+            (IsRowPainted (P.painted painter.now) row left right self.old self.new) }
+        ensures tiles_rise { tiles.old ≤ tiles.new }
+        ensures few_tiles { tiles.new ≤ tiles.old + (right - left) }
+        ensures few_shown { OnOk result
+            (tiles.new ≤ tiles.old + shown_in_row left right row self.new) }
+    {
+        for col in left..right {
+            self.known();
+            self.paint(col, row, painter, tiles)?;
+        }
+        Ok(())
+    }
+
+    /// Paints the tiles of an area one after the other. Other grids that shared them keep the old
+    /// ones. It makes no tile for a cell that shows nothing.
+    ///
+    /// # Errors
+    ///
+    /// Some of them are painted, and tiles that were made are counted.
+    pub fn paint_each<P: TilePainter, T: Ledger>(
+        &mut self,
+        area: CellArea,
+        painter: &P,
+        tiles: &mut Steps<T>,
+    ) -> Result<(), AllocError>
+        requires across { area.left ≤ area.right }
+        requires down { area.top ≤ area.bottom }
+        requires cols { area.right ≤ self.old.cols }
+        requires rows { area.bottom ≤ self.old.rows }
+        ensures painted { OnOk result
+            (IsPaintedOn area (P.painted painter.now) self.old self.new) }
+        ensures tiles_rise { tiles.old ≤ tiles.new }
+        ensures few_tiles { tiles.new
+            ≤ tiles.old + (area.bottom - area.top) * (area.right - area.left) }
+        ensures few_shown { OnOk result (tiles.new ≤ tiles.old + shown_in area self.new) }
+    {
+        for row in area.top..area.bottom {
+            self.paint_row(row, area.left, area.right, painter, tiles)?;
+        }
+        Ok(())
     }
 }

@@ -15,6 +15,3 @@ pub use area::CellArea;
 pub use grid::Grid;
 pub use painter::{TileChange, TilePainter};
 pub use tile::{SIDE, Tile};
-
-#[cfg(test)]
-mod tests;

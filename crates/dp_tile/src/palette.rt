@@ -1,7 +1,7 @@
 //! Tiles of one colour and rows of them, each made once.
 
-ghost use Rattle.std.specs.Prelude.{◌≡◌, ◌+◌, ◌≤◌, [], replicate, IfOk};
-ghost use Rattle.dp_tile.specs.Tiles.{tile_of};
+ghost use Rattle.std.specs.Prelude.{◌≡◌, ◌+◌, ◌≤◌, [], replicate, IfOk, OnOk};
+ghost use Rattle.dp_tile.specs.Tiles.{tile_of, tiles_for};
 
 use crate::row::Row;
 use crate::slot::Slot;
@@ -28,7 +28,11 @@ struct PlainRow {
     ghost plain: { row ≡ replicate count (tile_of color) },
 }
 
-/// Slots that have tiles of one colour, one for each colour that was asked for, and rows of them.
+// How many slots are kept, and how many rows.
+const KEPT: usize = 16;
+
+/// Slots that have tiles of one colour, one for each colour that was asked for last, and rows of
+/// them.
 #[derive(Drop)]
 pub(crate) struct Palette {
     slots: Vec<PlainSlot>,
@@ -46,7 +50,14 @@ impl Palette {
         }
     }
 
-    // A slot of this colour. A tile is made the first time alone, and none for the clear colour.
+    // The memory that its tiles are made in.
+    pub(crate) fn alloc(&self) -> Global {
+        self.alloc
+    }
+
+    // A slot of this colour. A tile is made where no slot of the colour is kept, and none for the
+    // clear colour.
+    #[tactic(auto, using(crate::proofs::Shows::shows_color))]
     #[inline(never)]
     pub(crate) fn slot<T: Ledger>(
         &mut self,
@@ -56,6 +67,7 @@ impl Palette {
         ensures plain { IfOk result (λ slot. slot ≡ tile_of p) }
         ensures tiles_rise { tiles.old ≤ tiles.new }
         ensures one_tile { tiles.new ≤ tiles.old + 1 }
+        ensures few_shown { OnOk result (tiles.new ≤ tiles.old + tiles_for (tile_of p)) }
     {
         if p == Pixel::CLEAR {
             return Ok(Slot::clear());
@@ -68,11 +80,14 @@ impl Palette {
         let tile = Tile::solid(self.alloc, p, tiles)?;
         let slot = Slot::of(self.alloc, tile)?;
         let other = slot.share()?;
+        if self.slots.len() >= KEPT {
+            self.slots.clear();
+        }
         self.slots.push(PlainSlot { color: p, slot })?;
         Ok(other)
     }
 
-    // A row of so many slots of this colour. It is made the first time alone.
+    // A row of so many slots of this colour. It is made where none is kept.
     #[inline(never)]
     pub(crate) fn row<T: Ledger>(
         &mut self,
@@ -92,6 +107,9 @@ impl Palette {
         let slot = self.slot(p, tiles)?;
         let row = Row::solid(self.alloc, count, &slot)?;
         let other = row.share()?;
+        if self.rows.len() >= KEPT {
+            self.rows.clear();
+        }
         self.rows.push(PlainRow {
             color: p,
             count,

@@ -3,9 +3,10 @@
 ghost use Rattle.std.specs.Prelude.{◌≡◌, ◌+◌, ◌<◌, ◌≤◌, length, replicate, All};
 ghost use Rattle.std.specs.Prelude.{slice_index_or, slice_set, IfOk, IfSome, OnOk, OnErr};
 ghost use Rattle.dp_blend.specs.Color.{clear};
-ghost use Rattle.dp_tile.specs.Tiles.{tile_of};
+ghost use Rattle.dp_tile.specs.Tiles.{tile_of, tiles_for};
 
 use crate::painter::TilePainter;
+use crate::palette::Palette;
 use crate::slot::Slot;
 use dp_blend::Pixel;
 use dp_steps::Steps;
@@ -83,25 +84,6 @@ impl Row {
         &slots[col]
     }
 
-    // Makes the tile at a column this row's alone.
-    pub(crate) fn own_tile<T: Ledger>(
-        &mut self,
-        alloc: Global,
-        col: usize,
-        tiles: &mut Steps<T>,
-    ) -> Result<(), AllocError>
-        requires { col < length self.old }
-        ensures same { self.new ≡ self.old }
-        ensures tiles_rise { tiles.old ≤ tiles.new }
-        ensures one_tile { tiles.new ≤ tiles.old + 1 }
-    {
-        own_slots(alloc, &mut self.slots)?;
-        match Arc::get_mut(&mut self.slots) {
-            None => Err(AllocError),
-            Some(sole) => sole[col].own(alloc, tiles),
-        }
-    }
-
     // Paints the tile at a column, on the row of this number.
     pub(crate) fn paint<P: TilePainter, T: Ledger>(
         &mut self,
@@ -109,6 +91,7 @@ impl Row {
         col: u32,
         row: u32,
         painter: &P,
+        palette: &mut Palette,
         tiles: &mut Steps<T>,
     ) -> Result<(), AllocError>
         requires inside { col < length self.old }
@@ -121,11 +104,13 @@ impl Row {
         ensures err { OnErr result (self.new ≡ self.old) }
         ensures tiles_rise { tiles.old ≤ tiles.new }
         ensures one_tile { tiles.new ≤ tiles.old + 1 }
+        ensures few_shown { OnOk result (tiles.new ≤ tiles.old + tiles_for
+            (P.painted painter.now col row (slice_index_or self.old col (tile_of clear)))) }
     {
         own_slots(alloc, &mut self.slots)?;
         match Arc::get_mut(&mut self.slots) {
             None => Err(AllocError),
-            Some(sole) => sole[col as usize].paint(alloc, col, row, painter, tiles),
+            Some(sole) => sole[col as usize].paint(col, row, painter, palette, tiles),
         }
     }
 

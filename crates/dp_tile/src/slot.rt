@@ -4,10 +4,11 @@ ghost use Rattle.std.specs.Prelude.{◌≡◌, ◌+◌, ◌<◌, ◌≤◌, leng
 ghost use Rattle.dp_blend.specs.Color.{clear};
 ghost use Rattle.dp_blend.specs.Canvas.{part_of_row, pixel_at};
 ghost use Rattle.dp_blend.specs.Stretches.{IsStretch};
-ghost use Rattle.dp_tile.specs.Tiles.{IsOfColor, tile_of};
+ghost use Rattle.dp_tile.specs.Tiles.{IsOfColor, tile_of, tiles_for};
 
-use crate::painter::TilePainter;
-use crate::tile::Tile;
+use crate::painter::{TileChange, TilePainter};
+use crate::palette::Palette;
+use crate::tile::{Tile, color_of, solid_pixels};
 use dp_blend::{Pixel, Stretch};
 use dp_steps::Steps;
 use std::alloc::{AllocError, Global};
@@ -129,36 +130,83 @@ impl Slot {
         }
     }
 
-    // Makes the tile this slot's alone: a new one where there is none, a copy where others have it
-    // too.
-    #[inline(never)]
-    pub(crate) fn own<T: Ledger>(
-        &mut self,
-        alloc: Global,
-        tiles: &mut Steps<T>,
-    ) -> Result<(), AllocError>
-        ensures same { self.new ≡ self.old }
-        ensures tiles_rise { tiles.old ≤ tiles.new }
-        ensures one_tile { tiles.new ≤ tiles.old + 1 }
+    // Whether no other slot has its tile.
+    pub(crate) fn is_sole(&mut self) -> bool
+        ensures { self.new ≡ self.old }
     {
         match &mut self.tile {
-            None => {
-                let tile = Tile::blank(alloc, tiles)?;
-                self.tile = Some(Arc::new(alloc, tile)?);
-                Ok(())
-            }
-            Some(tile) => own_tile(alloc, tile, tiles),
+            None => false,
+            Some(tile) => match Arc::get_mut(tile) {
+                Some(_sole) => true,
+                None => false,
+            },
         }
     }
 
-    // Paints the tile, of a column and a row, on one that is this slot's alone.
+    // A list of its pixels.
+    fn pixels(&self, alloc: Global) -> Result<Vec<Pixel>, AllocError>
+        ensures { IfOk result (λ pixels. pixels.items ≡ self.now) }
+    {
+        match &self.tile {
+            None => solid_pixels(alloc, Pixel::CLEAR),
+            Some(tile) => tile.pixels(alloc),
+        }
+    }
+
+    // What the slot is after it is painted. Its pixels are painted beside it, and a tile is made of
+    // them where they aren't of one colour.
     #[inline(never)]
-    pub(crate) fn paint<P: TilePainter, T: Ledger>(
-        &mut self,
-        alloc: Global,
+    pub(crate) fn painted<P: TilePainter, T: Ledger>(
+        &self,
         col: u32,
         row: u32,
         painter: &P,
+        palette: &mut Palette,
+        tiles: &mut Steps<T>,
+    ) -> Result<Slot, AllocError>
+        requires col { col < 64 }
+        requires row { row < 64 }
+        ensures painted { IfOk result (λ slot. slot ≡ P.painted painter.now col row self.now) }
+        ensures count { OnOk result (length (P.painted painter.now col row self.now) ≡ 4096) }
+        ensures tiles_rise { tiles.old ≤ tiles.new }
+        ensures one_tile { tiles.new ≤ tiles.old + 1 }
+        ensures few_shown { OnOk result
+            (tiles.new ≤ tiles.old + tiles_for (P.painted painter.now col row self.now)) }
+    {
+        self.known();
+        let mut pixels = self.pixels(palette.alloc())?;
+        painter.paint(col, row, &mut pixels);
+        slot_of(pixels, palette, tiles)
+    }
+
+    // Paints its tile, of a column and a row, which no other slot has.
+    fn paint_sole<P: TilePainter>(
+        &mut self,
+        col: u32,
+        row: u32,
+        painter: &P,
+    ) -> Result<(), AllocError>
+        requires col { col < 64 }
+        requires row { row < 64 }
+        ensures painted { OnOk result (self.new ≡ P.painted painter.now col row self.old) }
+        ensures count { OnOk result (length (P.painted painter.now col row self.old) ≡ 4096) }
+        ensures err { OnErr result (self.new ≡ self.old) }
+    {
+        match &mut self.tile {
+            None => Err(AllocError),
+            Some(tile) => paint_tile(tile, col, row, painter),
+        }
+    }
+
+    // Paints the pixels, of the tile at a column and a row: on the tile itself where it is this
+    // slot's alone, and else beside it.
+    #[inline(never)]
+    pub(crate) fn paint_pixels<P: TilePainter, T: Ledger>(
+        &mut self,
+        col: u32,
+        row: u32,
+        painter: &P,
+        palette: &mut Palette,
         tiles: &mut Steps<T>,
     ) -> Result<(), AllocError>
         requires col { col < 64 }
@@ -168,33 +216,64 @@ impl Slot {
         ensures err { OnErr result (self.new ≡ self.old) }
         ensures tiles_rise { tiles.old ≤ tiles.new }
         ensures one_tile { tiles.new ≤ tiles.old + 1 }
+        ensures few_shown { OnOk result
+            (tiles.new ≤ tiles.old + tiles_for (P.painted painter.now col row self.old)) }
     {
-        self.own(alloc, tiles)?;
-        match &mut self.tile {
-            None => Err(AllocError),
-            Some(tile) => paint_tile(tile, col, row, painter),
+        if self.is_sole() {
+            return self.paint_sole(col, row, painter);
+        }
+        *self = self.painted(col, row, painter, palette, tiles)?;
+        Ok(())
+    }
+
+    // Paints the tile, of a column and a row.
+    pub(crate) fn paint<P: TilePainter, T: Ledger>(
+        &mut self,
+        col: u32,
+        row: u32,
+        painter: &P,
+        palette: &mut Palette,
+        tiles: &mut Steps<T>,
+    ) -> Result<(), AllocError>
+        requires col { col < 64 }
+        requires row { row < 64 }
+        ensures painted { OnOk result (self.new ≡ P.painted painter.now col row self.old) }
+        ensures count { OnOk result (length (P.painted painter.now col row self.old) ≡ 4096) }
+        ensures err { OnErr result (self.new ≡ self.old) }
+        ensures tiles_rise { tiles.old ≤ tiles.new }
+        ensures one_tile { tiles.new ≤ tiles.old + 1 }
+        ensures few_shown { OnOk result
+            (tiles.new ≤ tiles.old + tiles_for (P.painted painter.now col row self.old)) }
+    {
+        self.known();
+        match painter.change(col, row, self.color()) {
+            TileChange::Stays => Ok(()),
+            TileChange::Becomes(p) => {
+                *self = palette.slot(p, tiles)?;
+                self.known();
+                Ok(())
+            }
+            TileChange::Unknown => self.paint_pixels(col, row, painter, palette, tiles),
         }
     }
 }
 
-// Makes the tile the caller's alone: a copy, where others have it too.
-fn own_tile<T: Ledger>(
-    alloc: Global,
-    tile: &mut Arc<Tile>,
+// A slot that shows the pixels. A tile is made of them where they aren't of one colour.
+fn slot_of<T: Ledger>(
+    pixels: Vec<Pixel>,
+    palette: &mut Palette,
     tiles: &mut Steps<T>,
-) -> Result<(), AllocError>
-    ensures same { tile.new.value ≡ tile.old.value }
+) -> Result<Slot, AllocError>
+    requires { length pixels.items ≡ 4096 }
+    ensures same { IfOk result (λ slot. slot ≡ pixels.items) }
     ensures tiles_rise { tiles.old ≤ tiles.new }
     ensures one_tile { tiles.new ≤ tiles.old + 1 }
+    ensures few_shown { OnOk result (tiles.new ≤ tiles.old + tiles_for pixels.items) }
 {
-    match Arc::get_mut(tile) {
-        Some(_sole) => {}
-        None => {
-            let copy = tile.copy(alloc, tiles)?;
-            *tile = Arc::new(alloc, copy)?;
-        }
+    match color_of(&pixels) {
+        Some(p) => palette.slot(p, tiles),
+        None => Slot::of(palette.alloc(), Tile::of(pixels, tiles)),
     }
-    Ok(())
 }
 
 // Paints a tile that no one else has. It takes no memory.

@@ -1,16 +1,16 @@
 //! A square of pixels.
 
 ghost use Rattle.std.specs.Prelude.{◌≡◌, ◌+◌, ◌*◌, ◌<◌, ◌≤◌, length, slice_set, IfNone, IfOk};
-ghost use Rattle.std.specs.Prelude.{IfSome, OnOk, OnErr};
+ghost use Rattle.std.specs.Prelude.{IfSome, OnOk, OnErr, true};
 ghost use Rattle.dp_blend.specs.Color.{clear};
 ghost use Rattle.dp_blend.specs.Canvas.{pixel_at};
 ghost use Rattle.dp_blend.specs.Stretches.{IsStretch};
 ghost use Rattle.dp_blend.specs.Canvas.{part_of_row};
-ghost use Rattle.dp_tile.specs.Tiles.{IsOfColor, tile_of};
+ghost use Rattle.dp_tile.specs.Tiles.{IsOfColor, shows, tile_of};
 
 use crate::painter::TilePainter;
 use dp_blend::{Pixel, Stretch};
-use dp_steps::Steps;
+use dp_steps::{Counted, Steps};
 use std::alloc::{AllocError, Global};
 use std::marker::Model;
 use std::sync::ledger::Ledger;
@@ -22,11 +22,13 @@ pub const SIDE: usize = 64;
 const COUNT: usize = SIDE * SIDE;
 
 /// A square of 64 by 64 pixels. It is seen as their list, row by row from the top, each row from
-/// the left. Where it is known to be of one colour, it is marked with that.
+/// the left. Where it is known to be of one colour, it is marked with that. None is built that isn't
+/// counted.
 #[derive(Drop)]
 pub struct Tile {
     pixels: Vec<Pixel>,
     color: Option<Pixel>,
+    counted: Counted,
 }
 
 impl Model for Tile {
@@ -62,10 +64,10 @@ impl Tile {
         ensures err { OnErr result (tiles.new ≡ tiles.old) }
     {
         let pixels = solid_pixels(alloc, p)?;
-        tiles.tick();
         Ok(Tile {
             pixels,
             color: Some(p),
+            counted: tiles.tick(),
         })
     }
 
@@ -76,11 +78,31 @@ impl Tile {
         ensures err { OnErr result (tiles.new ≡ tiles.old) }
     {
         let pixels = Vec::from_slice(alloc, &self.pixels)?;
-        tiles.tick();
         Ok(Tile {
             pixels,
             color: self.color,
+            counted: tiles.tick(),
         })
+    }
+
+    // A tile of these pixels.
+    pub(crate) fn of<T: Ledger>(pixels: Vec<Pixel>, tiles: &mut Steps<T>) -> Tile
+        requires { length pixels.items ≡ 4096 }
+        ensures same { result ≡ pixels.items }
+        ensures one_tile { tiles.new ≡ tiles.old + 1 }
+    {
+        Tile {
+            pixels,
+            color: None,
+            counted: tiles.tick(),
+        }
+    }
+
+    // A list of its pixels.
+    pub(crate) fn pixels(&self, alloc: Global) -> Result<Vec<Pixel>, AllocError>
+        ensures { IfOk result (λ pixels. pixels.items ≡ self.now) }
+    {
+        Vec::from_slice(alloc, &self.pixels)
     }
 
     /// A tile has 4096 pixels.
@@ -128,8 +150,8 @@ impl Tile {
         self.pixels[y * SIDE + x] = p;
     }
 
-    /// A part of the row y: so many pixels from x on.
-    pub fn stretch(&self, x: usize, y: usize, count: usize) -> Stretch<'_>
+    // A part of the row y: so many pixels from x on.
+    pub(crate) fn stretch(&self, x: usize, y: usize, count: usize) -> Stretch<'_>
         requires within { x + count ≤ 64 }
         requires y { y < 64 }
         ensures { IsStretch result (part_of_row 64 self.now x y count) }
@@ -151,14 +173,29 @@ impl Tile {
         ensures painted { self.new ≡ P.painted painter.now col row self.old }
         ensures count { length self.new ≡ 4096 }
     {
-        let Tile { pixels, color } = self;
+        let Tile { pixels, color, .. } = self;
         *color = None;
         painter.paint(col, row, pixels);
     }
 }
 
+// The colour of all pixels, if they are of one.
+pub(crate) fn color_of(pixels: &[Pixel]) -> Option<Pixel>
+    requires { length pixels.now ≡ 4096 }
+    ensures color { IfSome result (λ p. pixels.now ≡ tile_of p) }
+    ensures shows { IfNone result (shows pixels.now ≡ true) }
+{
+    let first = pixels[0];
+    for pixel in pixels {
+        if *pixel != first {
+            return None;
+        }
+    }
+    Some(first)
+}
+
 // The pixels of a tile of one colour.
-fn solid_pixels(alloc: Global, p: Pixel) -> Result<Vec<Pixel>, AllocError>
+pub(crate) fn solid_pixels(alloc: Global, p: Pixel) -> Result<Vec<Pixel>, AllocError>
     ensures solid { IfOk result (λ pixels. pixels.items ≡ tile_of p) }
     ensures count { IfOk result (λ pixels. length pixels.items ≡ 4096) }
 {

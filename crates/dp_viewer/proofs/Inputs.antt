@@ -15,7 +15,8 @@ use Rattle.dp_entries.specs.Reading as reading
 use Rattle.dp_msg_draw.specs.declared.draw.Draw.{Draw}
 use Rattle.dp_plain.specs.Board.{Board}
 use Rattle.dp_rollback.specs.Trailing.{Trailing}
-use Rattle.dp_viewer.specs.Ways.{replay_limit, replay_way}
+use Rattle.dp_viewer.specs.Ways.{replay_way}
+use Rattle.dp_io.specs.Limits.{stream_limit}
 use Rattle.dp_viewer.specs.Reading.{EndsReading, TrailsShown}
 
 -- What was read of an input whose bytes are known, of which those are left: the board trails what
@@ -57,7 +58,7 @@ told_further (Some bytes) left now board later entry old new given more (all, re
 
 -- the input is at its end
 pub told_done : (input left now : Option (List ℕ)) (board : Trailing Board Draw) (r : Reader)
-    → r.first ≡ 0 → r.limit ≡ replay_limit
+    → r.first ≡ 0 → r.limit ≡ stream_limit
     → ((bytes : List ℕ) (es : List Entry) → HasRead StandsAnywhere bytes left es r
     → ComesTo StandsAnywhere r.first r.limit bytes es run.Done)
     → IsShown input left board r
@@ -65,7 +66,7 @@ pub told_done : (input left now : Option (List ℕ)) (board : Trailing Board Dra
 told_done None left now board r first limit done told = tt
 told_done (Some bytes) left now board r first limit done (all, read, trails) = (
   all,
-  subst (λ (n : ℕ). ComesTo StandsAnywhere n replay_limit bytes all run.Done) first
+  subst (λ (n : ℕ). ComesTo StandsAnywhere n stream_limit bytes all run.Done) first
       (subst (λ (n : ℕ). ComesTo StandsAnywhere r.first n bytes all run.Done) limit
       (done bytes all read)),
   trails,
@@ -73,7 +74,7 @@ told_done (Some bytes) left now board r first limit done (all, read, trails) = (
 
 ends_of : (bytes : List ℕ) (left : Option (List ℕ)) (board : Trailing Board Draw) (all : List Entry)
     (end : ReadEnd DecodeError)
-    → reading.EndsReading StandsAnywhere IsCauseAnywhere 0 replay_limit bytes left all end
+    → reading.EndsReading StandsAnywhere IsCauseAnywhere 0 stream_limit bytes left all end
     → TrailsShown board all → EndsReading replay_way bytes left board (end_of end)
 ends_of bytes left board all ReadFault ends trails = ends
 ends_of bytes left board all (Truncated n) ends trails = (all, ends.0, trails)
@@ -84,7 +85,7 @@ ends_of bytes left board all Memory ends trails = tt
 -- reading ended so
 pub told_end : (input left now : Option (List ℕ)) (board : Trailing Board Draw) (r : Reader)
     (end : ReadEnd DecodeError)
-    → r.first ≡ 0 → r.limit ≡ replay_limit
+    → r.first ≡ 0 → r.limit ≡ stream_limit
     → ((bytes : List ℕ) (es : List Entry) → HasRead StandsAnywhere bytes left es r
     → reading.EndsReading StandsAnywhere IsCauseAnywhere r.first r.limit bytes now es end)
     → IsShown input left board r
@@ -92,7 +93,7 @@ pub told_end : (input left now : Option (List ℕ)) (board : Trailing Board Draw
 told_end None left now board r end first limit ends told = tt
 told_end (Some bytes) left now board r end first limit ends (all, read, trails) =
     ends_of bytes now board all end
-    (subst (λ (n : ℕ). reading.EndsReading StandsAnywhere IsCauseAnywhere n replay_limit bytes now
+    (subst (λ (n : ℕ). reading.EndsReading StandsAnywhere IsCauseAnywhere n stream_limit bytes now
     all end) first
     (subst (λ (n : ℕ). reading.EndsReading StandsAnywhere IsCauseAnywhere r.first n bytes now
     all end) limit (ends bytes all read))) trails

@@ -1,11 +1,12 @@
 -- How a command reads its input for a picture.
-use Rattle.std.specs.Prelude.{ℕ, ◌^◌, List, take, Option, Some, None, ⊤}
+use Rattle.std.specs.Prelude.{ℕ, List, take, Option, Some, None, ⊤}
 use Rattle.dp_messages.specs.declared.message.Entry.{Entry}
 use Rattle.dp_lines.specs.declared.run_end.RunEnd.{RunEnd}
 use Rattle.dp_entries.specs.Anywhere.{StandsAnywhere}
 use Rattle.dp_entries.specs.Input.{ComesTo}
 use Rattle.dp_entries.specs.Reading.{TookNoCause}
 use Rattle.dp_recording.specs.Recordings.{RecordingComesTo, RecordingTook}
+use Rattle.dp_io.specs.Limits.{stream_limit}
 
 -- A way to read an input: what an input comes to; that what was taken of one of which these bytes
 -- are left holds no cause to end, but for its last bytes, at most so many; which of the entries are
@@ -16,20 +17,16 @@ pub record Way : Type 1 where
   pub shows : List Entry → List Entry
   pub may_lack : Type 0
 
--- how many bytes of the input of `replay` count: 1 GiB
-abbrev pub replay_limit : ℕ
-replay_limit = 2 ^ 30
-
 -- what an input comes to for `replay`: frames from its first byte on, each of which may stand
 -- wherever it is
 abbrev pub ReplayComesTo : List ℕ → List Entry → RunEnd → Type 0
-ReplayComesTo input entries end = ComesTo StandsAnywhere 0 replay_limit input entries end
+ReplayComesTo input entries end = ComesTo StandsAnywhere 0 stream_limit input entries end
 
 -- the way of `replay`, which shows all entries
 abbrev pub replay_way : Way
 replay_way = record {
   comes = ReplayComesTo;
-  took = TookNoCause StandsAnywhere 0 replay_limit;
+  took = TookNoCause StandsAnywhere 0 stream_limit;
   shows = λ entries. entries;
   may_lack = ⊥;
 }

@@ -7,7 +7,7 @@ ghost use Rattle.dp_session_laws.specs.Logs.{HasOpened};
 ghost use Rattle.dp_link.specs.declared.ends.UpEnd.TheVariants as ups;
 ghost use Rattle.dp_link.specs.declared.ends.DownEnd.TheVariants as downs;
 ghost use Rattle.dp_link.specs.Acts.{ActsOnce};
-ghost use Rattle.dp_link.specs.Bytes.{link_limit};
+ghost use Rattle.dp_io.specs.Limits.{stream_limit};
 ghost use Rattle.dp_link.specs.Sending.{session_of};
 ghost use Rattle.dp_worker.specs.Links.{link_seen};
 ghost use Rattle.dp_worker.specs.Links.{is_up_memory, is_down_memory, is_failed, is_store_fault};
@@ -146,7 +146,7 @@ fn talk<W: Threads + Wait + Sync, K: Keeper + Send, R: Source + Send, S: Sink + 
     requires start { ShutBefore hall.now.start }
     requires opened { HasOpened seat.old.view.seen greeting.now.conn greeting.now.user
         greeting.now.epoch greeting.now.at }
-    requires within { split.at + length split.held ≤ link_limit }
+    requires within { split.at + length split.held ≤ stream_limit }
     ensures of { IsOf hall.now seat.new }
     ensures talks { Talks (session_of hall.now.start seat.new.view) seat.old.view seat.new.view
         greeting.now split result.end (link_seen R.left R.faults S.held S.faults (rx, tx))

@@ -6,7 +6,7 @@ ghost use Rattle.dp_hall.specs.Calls.{IsOf};
 ghost use Rattle.dp_hall.specs.Laws.{Continues};
 ghost use Rattle.dp_epochs.specs.Laws.{ShutBefore};
 ghost use Rattle.dp_session_laws.specs.Logs.{HasOpened};
-ghost use Rattle.dp_link.specs.Bytes.{link_limit};
+ghost use Rattle.dp_io.specs.Limits.{stream_limit};
 ghost use Rattle.dp_link.specs.Saying.{SaysAll, FaultMatchesUp};
 ghost use Rattle.dp_link.specs.Sending.{Sends, FaultMatchesDown, session_of};
 ghost use Rattle.dp_link.specs.declared.ends.UpEnd.TheVariants.{End};
@@ -56,7 +56,7 @@ pub(crate) fn run_pumps<
     requires start { ShutBefore hall.now.start }
     requires opened { HasOpened other.view.seen greeting.now.conn greeting.now.user
         greeting.now.epoch greeting.now.at }
-    requires within { split.at + length split.held ≤ link_limit }
+    requires within { split.at + length split.held ≤ stream_limit }
     ensures of { IsOf hall.now seat.new }
     ensures pumps { Pumps hall.now.start seat.old.view other.view seat.new.view greeting.now.conn
         split (link_seen R.left R.faults S.held S.faults (rx, tx))
@@ -104,7 +104,7 @@ fn run_both<
     requires opened { HasOpened other.old.view.seen greeting.now.conn greeting.now.user
         greeting.now.epoch greeting.now.at }
     requires conn { conn ≡ greeting.now.conn }
-    requires within { split.old.at + length split.old.held ≤ link_limit }
+    requires within { split.old.at + length split.old.held ≤ stream_limit }
     ensures of { IsOf hall.now seat.new × IsOf hall.now other.new }
     ensures calls { Continues other.old.view [] other.new.view }
     ensures sends { Sends (session_of hall.now.start other.new.view) greeting.now.conn
@@ -130,7 +130,7 @@ fn run_both<
         { pump_down(rt, alloc, hall, other, tx, greeting) },
         &mut || -> UpRun
             requires { IsOf hall.now seat.now
-                × (split.now.at + length split.now.held ≤ link_limit) }
+                × (split.now.at + length split.now.held ≤ stream_limit) }
             ensures { IsOf hall.entry.now seat.exit.now
                 × SaysAll seat.entry.now.view seat.exit.now.view (R.left rx.entry.now)
                 (R.left rx.exit.now) split.entry.now conn result.end result.close

@@ -18,7 +18,8 @@ use Rattle.dp_script.specs.Ends.{FaultMatchesInput}
 use Rattle.dp_script.specs.Leaves.{HoldsLines, AreFirstOf, IsNextOf, ScriptLeaves}
 use Rattle.dp_script.specs.Moments.{Moment}
 use Rattle.dp_sim.specs.World.{World, first_world}
-use Rattle.dp_world.specs.Schedule.{AskFor, IsStep, world_limit}
+use Rattle.dp_world.specs.Schedule.{AskFor, IsStep}
+use Rattle.dp_script.specs.Limits.{lines_limit}
 use Rattle.dp_world.specs.Progress.{HasDone, HasEnded, Wrote}
 use Rattle.dp_lines.specs.RunEnds.{FaultMatchesEnd}
 use Rattle.dp_world.specs.RunEnds.{ReportsOf, ReportsPart}
@@ -44,7 +45,7 @@ pub refused_leaves : AreSteps IsStep [] → (input left old : Option (List ℕ))
 refused_leaves none None left old = tt
 refused_leaves none (Some bytes) left old = record {
   begun = [];
-  after = seen world_limit bytes;
+  after = seen lines_limit bytes;
   parts = refl;
   has = record { actions = []; asked = tt; steps = none; text = (0, omega arith, Appends-nil old) };
 }
@@ -53,7 +54,7 @@ refused_leaves none (Some bytes) left old = record {
 whole_of : {M O D T : Type 0} {world : M → World} {held : O → Option (List ℕ)} {faults : O → ℕ}
     {start now : Moment M O D T} (input : Option (List ℕ)) (done : List Line) (end : LinesEnd)
     → HasDone world held faults start done now
-    → IfSome input (λ bytes. LinesComeTo IsStep world_limit bytes done end)
+    → IfSome input (λ bytes. LinesComeTo IsStep lines_limit bytes done end)
     → ReportsWhole input (held start.output) (held now.output) end
 whole_of None done end has comes = tt
 whole_of (Some bytes) done end has comes = (done, has.actions, (comes, has.asked), has.text)
@@ -62,7 +63,7 @@ whole_of (Some bytes) done end has comes = (done, has.actions, (comes, has.asked
 fault_of : {M O D T : Type 0} {world : M → World} {held : O → Option (List ℕ)} {faults : O → ℕ}
     {start now : Moment M O D T} (input left : Option (List ℕ)) (done : List Line)
     → HasDone world held faults start done now
-    → IfSome input (λ bytes. TookWithin (HoldsLines IsStep world_limit done) 0 bytes left)
+    → IfSome input (λ bytes. TookWithin (HoldsLines IsStep lines_limit done) 0 bytes left)
     → IfSome input (λ bytes. ReportsOf bytes left (held start.output) (held now.output))
 fault_of None left done has took = tt
 fault_of (Some bytes) left done has took = record {
@@ -81,7 +82,7 @@ fault_of (Some bytes) left done has took = record {
 
 -- a prefix of the report of the lines that were done
 part_of_done : (input old now : Option (List ℕ)) (done : List Line) → Wrote done old now
-    → IfSome input (λ bytes. AreFirstOf IsStep (seen world_limit bytes) done)
+    → IfSome input (λ bytes. AreFirstOf IsStep (seen lines_limit bytes) done)
     → ReportsPart input old now
 part_of_done None old now done wrote prefix = tt
 part_of_done (Some bytes) old now done wrote prefix = record {
@@ -98,8 +99,8 @@ part_of_done (Some bytes) old now done wrote prefix = record {
 
 -- the lines that were done are the first
 first_of_next : (input : Option (List ℕ)) (done : List Line) (line : Line)
-    → IfSome input (λ bytes. IsNextOf IsStep (seen world_limit bytes) done line)
-    → IfSome input (λ bytes. AreFirstOf IsStep (seen world_limit bytes) done)
+    → IfSome input (λ bytes. IsNextOf IsStep (seen lines_limit bytes) done line)
+    → IfSome input (λ bytes. AreFirstOf IsStep (seen lines_limit bytes) done)
 first_of_next None done line next = tt
 first_of_next (Some bytes) done line next =
     record { after = line ∷ next.after; parts = next.parts; steps = next.steps }
@@ -107,7 +108,7 @@ first_of_next (Some bytes) done line next =
 -- a prefix of the report of the lines that were done and of the next one
 part_of_next : FurtherStep → (input old now : Option (List ℕ)) (done : List Line) (line : Line)
     → IsStep done line → Wrote (done ++ line ∷ []) old now
-    → IfSome input (λ bytes. IsNextOf IsStep (seen world_limit bytes) done line)
+    → IfSome input (λ bytes. IsNextOf IsStep (seen lines_limit bytes) done line)
     → ReportsPart input old now
 part_of_next further None old now done line step wrote next = tt
 part_of_next further (Some bytes) old now done line step wrote next = record {
@@ -125,7 +126,7 @@ part_of_next further (Some bytes) old now done line step wrote next = record {
 -- memory ran out before the next line, or in its text
 part_of_memory : FurtherStep → (input old now : Option (List ℕ)) (done : List Line) (line : Line)
     → Wrote done old now ⊎ (IsStep done line × Wrote (done ++ line ∷ []) old now)
-    → IfSome input (λ bytes. IsNextOf IsStep (seen world_limit bytes) done line)
+    → IfSome input (λ bytes. IsNextOf IsStep (seen lines_limit bytes) done line)
     → ReportsPart input old now
 part_of_memory further input old now done line (inl wrote) next =
     part_of_done input old now done wrote (first_of_next input done line next)
@@ -135,7 +136,7 @@ part_of_memory further input old now done line (inr (step, wrote)) next =
 pub leaves_of : {M O D T : Type 0} (world : M → World) (held : O → Option (List ℕ))
     (faults : O → ℕ) → FurtherStep → (input left : Option (List ℕ)) (start now : Moment M O D T)
     (end : ScriptEnd PictureEnd)
-    → ScriptLeaves IsStep (HasDone world held faults) (HasEnded held faults) world_limit input left
+    → ScriptLeaves IsStep (HasDone world held faults) (HasEnded held faults) lines_limit input left
     start now end
     → TookNoCause input left
     → WorldLeaves input left (held start.output) (held now.output) (run_end_of end)
@@ -163,7 +164,7 @@ leaves_of world held faults further input left start now (Ended picture.Memory)
 pub fault_matches_of : {M O D T : Type 0} (world : M → World) (held : O → Option (List ℕ))
     (faults : O → ℕ) (input left : Option (List ℕ)) (start now : Moment M O D T)
     (before after : ℕ) (end : ScriptEnd PictureEnd)
-    → ScriptLeaves IsStep (HasDone world held faults) (HasEnded held faults) world_limit input left
+    → ScriptLeaves IsStep (HasDone world held faults) (HasEnded held faults) lines_limit input left
     start now end
     → FaultMatchesInput before after end
     → FaultMatchesEnd before after (faults start.output) (faults now.output) (run_end_of end)
@@ -189,7 +190,7 @@ fault_matches_of world held faults input left start now before after (Ended pict
 pub later_of : {M O D T : Type 0} (world : M → World) (held : O → Option (List ℕ))
     (faults : O → ℕ) (input left : Option (List ℕ)) (start now : Moment M O D T)
     (end : ScriptEnd PictureEnd)
-    → ScriptLeaves IsStep (HasDone world held faults) (HasEnded held faults) world_limit input left
+    → ScriptLeaves IsStep (HasDone world held faults) (HasEnded held faults) lines_limit input left
     start now end
     → faults start.output ≤ faults now.output
 later_of world held faults input left start now Done (at_end, done, has, comes) =

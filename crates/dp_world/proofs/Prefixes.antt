@@ -7,7 +7,8 @@ use Rattle.dp_lines.specs.Ends.{LinesEnd, AllDone, BadLine, TooLong, LinesComeTo
 use Rattle.dp_schedule.specs.declared.action.Action.{Action}
 use Rattle.dp_sim.specs.Report.{printed, along, report}
 use Rattle.dp_sim.specs.World.{world_after}
-use Rattle.dp_world.specs.Schedule.{AskFor, IsStep, world_limit, WorldComesTo}
+use Rattle.dp_world.specs.Schedule.{AskFor, IsStep, WorldComesTo}
+use Rattle.dp_script.specs.Limits.{lines_limit}
 use Rattle.dp_world.specs.RunEnds.{HasBegunOf}
 use Rattle.dp_io.proofs.Prefixes.{grows_within}
 use Rattle.dp_world.proofs.Called.{OneAction}
@@ -53,8 +54,8 @@ two_prefixes (x ∷ xs) ys (u ∷ us) vs same =
 
 -- lines that are seen and are steps are the first of those that the input comes to
 pub first_of_done : (bytes : List ℕ) (done after others : List Line) (end : LinesEnd)
-    → seen world_limit bytes ≡ done ++ after → AreSteps IsStep done
-    → LinesComeTo IsStep world_limit bytes others end
+    → seen lines_limit bytes ≡ done ++ after → AreSteps IsStep done
+    → LinesComeTo IsStep lines_limit bytes others end
     → (more : List Line) × (others ≡ done ++ more)
 first_of_done bytes done after others AllDone whole steps (few, all, are) = (after, all ∙ whole)
 first_of_done bytes done after others TooLong whole steps (many, all, are) = (after, all ∙ whole)
@@ -70,7 +71,7 @@ first_of_done bytes done after others (BadLine n) whole steps stops =
 
 -- so a prefix of their report is one of the report that the input is due
 pub begun_due : OneAction → (bytes : List ℕ) (old now : Option (List ℕ))
-    → HasBegunOf (seen world_limit bytes) old now
+    → HasBegunOf (seen lines_limit bytes) old now
     → (done : List Line) (actions : List Action) (end : LinesEnd)
     → WorldComesTo bytes done actions end
     → GrowsByPrefix old now (report actions)

@@ -18,7 +18,8 @@ use Rattle.dp_script.specs.declared.machine.ScriptEnd.{ScriptEnd}
 use Rattle.dp_script.specs.declared.machine.ScriptEnd.TheVariants as script
 use Rattle.dp_script.specs.Leaves.{HoldsNoCause}
 use Rattle.dp_sim.specs.Report.{report}
-use Rattle.dp_world.specs.Schedule.{AskFor, IsStep, WorldComesTo, world_limit}
+use Rattle.dp_world.specs.Schedule.{AskFor, IsStep, WorldComesTo}
+use Rattle.dp_script.specs.Limits.{lines_limit}
 
 -- how a run ends where that of its lines ends so
 abbrev pub run_end_of : ScriptEnd PictureEnd → RunEnd
@@ -54,13 +55,13 @@ pub record HasBegunOf (lines : List Line) (old now : Option (List ℕ)) : Type 0
 -- input whose bytes are known
 abbrev pub ReportsPart : Option (List ℕ) → Option (List ℕ) → Option (List ℕ) → Type 0
 ReportsPart input old new =
-    IfSome input (λ bytes. HasBegunOf (seen world_limit bytes) old new)
+    IfSome input (λ bytes. HasBegunOf (seen lines_limit bytes) old new)
 
 -- What was taken of an input whose bytes are known holds no cause to end, but for the last bytes of
 -- it, at most a piece of 4096.
 abbrev pub TookNoCause : Option (List ℕ) → Option (List ℕ) → Type 0
 TookNoCause input left =
-    IfSome input (λ bytes. TookWithin (HoldsNoCause IsStep world_limit) 4096 bytes left)
+    IfSome input (λ bytes. TookWithin (HoldsNoCause IsStep lines_limit) 4096 bytes left)
 
 -- Of the bytes of the input these were taken, and those are left. What was taken holds no cause to
 -- end: the lines that are whole in it are steps, the output grew by the report of them, and what
@@ -70,7 +71,7 @@ pub record ReportsOf (bytes : List ℕ) (left old new : Option (List ℕ)) : Typ
   pub untaken : List ℕ
   pub parts : bytes ≡ taken ++ untaken
   pub left_is : left ≡ Some untaken
-  pub quiet : HoldsNoCause IsStep world_limit taken
+  pub quiet : HoldsNoCause IsStep lines_limit taken
   pub actions : List Action
   pub asked : AskFor (numbered 0 (ended taken)) actions
   pub text : Appends old new (report actions)

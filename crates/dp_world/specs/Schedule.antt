@@ -1,11 +1,12 @@
 -- The schedule that an input is.
-use Rattle.std.specs.Prelude.{ℕ, ◌^◌, List, [], ◌∷◌, ⊤, IsSome}
+use Rattle.std.specs.Prelude.{ℕ, List, [], ◌∷◌, ⊤, IsSome}
 use Rattle.dp_lines.specs.declared.line.Line.{Line}
 use Rattle.dp_lines.specs.Ends.{LinesEnd, LinesComeTo}
 use Rattle.dp_schedule.specs.declared.action.Action.{Action}
 use Rattle.dp_schedule.specs.declared.action.Action.TheVariants.{Join, Act, Show}
 use Rattle.dp_schedule.specs.LineGrammar.{Parses}
 use Rattle.dp_sim.specs.World.{World, world_after, participant_of}
+use Rattle.dp_script.specs.Limits.{lines_limit}
 
 -- the lines ask for these actions, one each
 abbrev pub AskFor : List Line → List Action → Type 0
@@ -28,11 +29,7 @@ pub record IsStep (done : List Line) (line : Line) : Type 0 where
   pub asks : Parses line.bytes action
   pub possible : IsPossible (world_after actions) action
 
--- how many bytes of a schedule count: 64 MiB
-abbrev pub world_limit : ℕ
-world_limit = 2 ^ 26
-
 -- what an input comes to: the lines that are done, what they ask for, and how it ends
 abbrev pub WorldComesTo : List ℕ → List Line → List Action → LinesEnd → Type 0
 WorldComesTo input done actions end =
-    LinesComeTo IsStep world_limit input done end × AskFor done actions
+    LinesComeTo IsStep lines_limit input done end × AskFor done actions

@@ -10,7 +10,8 @@ ghost use Rattle.dp_schedule.specs.declared.action.Action.{Action};
 ghost use Rattle.dp_sim.specs.Invariant.{SaysNoControl};
 ghost use Rattle.dp_sim.specs.Report.{report};
 ghost use Rattle.dp_world.specs.RunEnds.{HasBegunOf};
-ghost use Rattle.dp_world.specs.Schedule.{AskFor, WorldComesTo, world_limit};
+ghost use Rattle.dp_world.specs.Schedule.{AskFor, WorldComesTo};
+ghost use Rattle.dp_script.specs.Limits.{lines_limit};
 
 use crate::line_run::WorldRun;
 use dp_lines::one_end;
@@ -35,7 +36,7 @@ pub fn one_schedule()
 pub fn begun_lines_are_due()
     ensures { (bytes : List ℕ) (old now : Option (List ℕ)) (done : List Line)
         (actions : List Action) (end : LinesEnd)
-        → HasBegunOf (seen world_limit bytes) old now → WorldComesTo bytes done actions end
+        → HasBegunOf (seen lines_limit bytes) old now → WorldComesTo bytes done actions end
         → GrowsByPrefix old now (report actions) }
 {
     one_action();

@@ -1,7 +1,7 @@
 use Rattle.std.proofs.Common.{◌++◌, sym, subst, append_assoc}
 use Rattle.std.specs.Prelude.{option_to_list}
 use Rattle.dp_acl.specs.Table.{StandsFor}
-use Rattle.dp_frame_log.specs.Frames.{AreWritten}
+use Rattle.dp_history.specs.Frames.{AreWritten}
 use Rattle.dp_tables.specs.Plans.{history_after}
 use Rattle.dp_tables.proofs.TableLemmas.{written-on, none-written}
 use Rattle.dp_tables.proofs.commit.place.Goals as goal

@@ -1,7 +1,7 @@
 use Rattle.std.proofs.Common.{◌+◌, ◌-◌, ◌<◌, ◌≤◌, length, is_some, sym, ap, ◌∙◌, ⊎_elim, arith}
 use Rattle.std.proofs.lemmas.Bool.{cases_lt}
 use Rattle.dp_epochs.specs.State.{open_in}
-use Rattle.dp_tables.proofs.Ranges.{find-first, find-none}
+use Rattle.dp_history.proofs.Ranges.{find-first, find-none}
 use Rattle.dp_tables.proofs.ReadLemmas.{open-index}
 use Rattle.dp_tables.proofs.tables.next_open.Goals as goal
 

@@ -1,5 +1,5 @@
 use Rattle.std.proofs.Common.{◌≡◌, ◌-◌}
-use Rattle.dp_joining.specs.Outcomes.{link_limit}
+use Rattle.dp_io.specs.Limits.{stream_limit}
 use Rattle.dp_joining.specs.Steps.{source_of}
 use Rattle.dp_joining.proofs.Reading.{Pings}
 use Rattle.dp_joining.proofs.joiner.Joiner.next_entry.Given as goal
@@ -15,4 +15,4 @@ invariant-pings g l = record {
 }
 
 abbrev pub decreases-pings : goal.decreases-pings
-decreases-pings g l = link_limit - l.self.reader.stream.at
+decreases-pings g l = stream_limit - l.self.reader.stream.at

@@ -1,7 +1,7 @@
 use Rattle.std.proofs.Common.{◌≤◌, ◌-◌, ◌==◌, length, sym, ap, ◌∙◌, arith}
 use Rattle.std.specs.List.{list_any}
 use Rattle.dp_tables.specs.SessionLog.{state_in}
-use Rattle.dp_tables.specs.Tables.{mark}
+use Rattle.dp_history.specs.Users.{mark}
 use Rattle.dp_tables.proofs.TableLemmas.{of-ledger}
 use Rattle.dp_tables.proofs.QuietLemmas.{quiet-listed}
 use Rattle.dp_tables.proofs.ReadLemmas.{given-out}

@@ -1,7 +1,7 @@
 use Rattle.std.proofs.Common.{[], ◌++◌, ◌∷◌, refl, ap, ◌∙◌}
 use Rattle.dp_msg_meta.specs.declared.message.Meta.TheVariants.{ResetMark}
 use Rattle.dp_acl.specs.Opening.{server_entry}
-use Rattle.dp_tables.specs.declared.history_item.HistoryItem.TheVariants as item
+use Rattle.dp_history.specs.declared.item.HistoryItem.TheVariants as item
 use Rattle.dp_tables.proofs.TableLemmas.{tables-first}
 use Rattle.dp_tables.proofs.tables.Tables.new.Goals as goal
 

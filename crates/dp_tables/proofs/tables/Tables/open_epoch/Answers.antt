@@ -7,8 +7,8 @@ use Rattle.dp_acl.specs.Opening.{server_entry, last_join, opening}
 use Rattle.dp_epochs.specs.State.{epoch_of, user_ids, present_users, sent_commands}
 use Rattle.dp_tables.specs.SessionLog.{state_in}
 use Rattle.dp_tables.specs.Inside.{seen}
-use Rattle.dp_tables.specs.Openings.{Holds}
-use Rattle.dp_tables.specs.Tables.{mark}
+use Rattle.dp_history.specs.Openings.{Holds}
+use Rattle.dp_history.specs.Users.{mark}
 use Rattle.dp_tables.proofs.TableLemmas.{of-ledger}
 use Rattle.dp_tables.proofs.ResetLemmas.{present-is, opens-so, count-fits}
 use Rattle.dp_tables.proofs.tables.Tables.open_epoch.Goals as goal
@@ -60,7 +60,7 @@ returns c =
     let four = drawn J ((([] ++ first ∷ []) ++ filter_map (last_join s.live) present)
     ++ map server_entry metas) are.reset.said three in
     subst (λ j. Holds j c.add_commands.new.self (opening (epoch_of s + 1) s.live (present_users s)
-    (sent_commands s.stream))) (ap (λ l. l.journal) c.self.view_is)
+    (sent_commands s.stream) [])) (ap (λ l. l.journal) c.self.view_is)
     (subst (Holds J c.add_commands.new.self)
     (opens-so s (seen t) are metas c.next_epoch.result count metas_are c.next_epoch.ensures
     (omega (

@@ -1,0 +1,71 @@
+//! Rights of control messages, which no line of a schedule says.
+
+use dp_acl::Rights;
+use dp_frame::{Frame, Octets};
+use dp_lines::hex_of;
+use dp_messages::{Entry, decode};
+use dp_msg_meta::{Ids, kind_of_meta};
+use std::alloc::Global;
+use std::process::Abort;
+
+/// A user, a kind and a payload in hexadecimal. User 1 is the operator, 2 is trusted, 3 is
+/// registered, and 4 is a guest.
+static SESSION: [(u8, u8, &str); 6] = [
+    (1, 32, "0061"),
+    (2, 32, "0062"),
+    (3, 32, "0163"),
+    (4, 32, "0064"),
+    (1, 34, "01"),
+    (1, 36, "02"),
+];
+
+/// A kind below 32, a payload, and the users who may send it.
+static CONTROLS: [(u8, &str, &str); 9] = [
+    (0, "61", ""),
+    (1, "00", "1234"),
+    (2, "00", "1234"),
+    (3, "00000000", "1234"),
+    (4, "0001010000000000000001", ""),
+    (5, "", "1"),
+    (7, "", "1"),
+    (8, "00000000", "1"),
+    (6, "820401000000", "1"),
+];
+
+/// The entry of a user, a kind and a payload.
+fn entry_of(rt: &impl Abort, alloc: Global, user: u8, kind: u8, digits: &str) -> Entry {
+    let bytes = hex_of(alloc, digits.as_bytes()).expect(rt, "memory");
+    let payload = bytes.expect(rt, "hexadecimal");
+    assert!(rt; payload.len() < 65_536);
+    let frame = Frame::new(kind, user, Octets::from_vec(payload));
+    decode(alloc, &frame.view()).expect(rt, "an entry")
+}
+
+#[test]
+fn rights_of_control_messages(rt: HostRuntime) {
+    let alloc = rt.alloc();
+    let mut rights = Rights::new(alloc);
+    for (user, kind, digits) in &SESSION {
+        let entry = entry_of(&rt, alloc, *user, *kind, digits);
+        rights.note(&entry).expect(&rt, "memory");
+    }
+    for (kind, digits, users) in &CONTROLS {
+        let entry = entry_of(&rt, alloc, 0, *kind, digits);
+        for user in 1..5u8 {
+            assert_eq!(rt;
+                rights.permits(user, &entry.msg),
+                users.as_bytes().contains(&(b'0' + user)),
+                "{kind} {digits} of user {user}"
+            );
+        }
+    }
+    assert!(rt; rights.is_operator(1) && !rights.is_operator(2));
+    rights.reserve(1).expect(&rt, "memory");
+    let present = Vec::from_slice(alloc, &[1, 2, 3]).expect(&rt, "memory");
+    let carried = rights.carry(&Ids::from_vec(present)).expect(&rt, "memory");
+    let mut kinds = Vec::new(alloc);
+    for meta in &carried {
+        kinds.push(kind_of_meta(meta)).expect(&rt, "memory");
+    }
+    assert_eq!(rt; kinds.as_slice(), [34, 36, 66, 68].as_slice());
+}

@@ -1,0 +1,14 @@
+use Rattle.std.proofs.Common.{length, ap, arith}
+use Rattle.dp_history.proofs.FrameLemmas.{length-ends}
+use Rattle.dp_history.proofs.log.FrameLog.len.Goals as goal
+
+pub returns : goal.returns
+returns c = λ entries are.
+    omega (
+      arith,
+      c.len.ensures,
+      c.self.inside.ends.ok.0,
+      ap (λ frames. length frames.ends) c.self.view_is,
+      ap length are.ends,
+      length-ends 0 entries,
+    )

@@ -1,0 +1,44 @@
+use Rattle.std.proofs.Common.{◌≡◌, ◌+◌, ◌-◌, ◌++◌, List, ℕ, true, false, sym, subst, arith, rules}
+use Rattle.std.specs.List.{filter, filter_map, range_with_len}
+use Rattle.dp_acl.specs.Opening.{last_join}
+use Rattle.dp_epochs.specs.State.{user_ids}
+use Rattle.dp_history.specs.Openings.{Holds}
+use Rattle.dp_history.specs.Users.{mark}
+use Rattle.dp_history.proofs.ItemLemmas.{joins-marked, ids-unmarked}
+use Rattle.dp_history.proofs.opening.Opening.add_joins.Goals as goal
+use Rattle.dp_history.proofs.opening.Opening.add_joins.Goals.{then-present-user+in_ok-add_join}
+use Rattle.dp_history.proofs.opening.Opening.add_joins.Goals.{else-present-user}
+
+pub loop-user-preserved : goal.loop-user-preserved
+loop-user-preserved c = λ history live joined h.
+    let journal = c.args.journal.now in
+    let p = mark c.args.present.now in
+    let k = c.loop-user.user in
+    let joins = λ (ids : List ℕ). history ++ filter_map (last_join live) ids in
+    let before = c.loop-user.invariant history live joined h in
+    elim c.if-present-user.branch [
+      | then-present-user+in_ok-add_join w ↦
+          let marked : mark c.args.present.now c.loop-user.user ≡ true = search rules in
+          let user = joined k (omega arith) (omega arith) marked in
+          subst (λ o. Holds journal o (joins (filter p (range_with_len 1 (k + 1 - 1)))))
+          (sym w.self-is)
+          (subst (Holds journal w.add_join.new.self)
+          (joins-marked (last_join live) p k (omega arith) history marked)
+          (w.in_ok-add_join.ensures (joins (filter p (range_with_len 1 (k - 1)))) live user.last
+          before))
+      | else-present-user w ↦
+          let unmarked : mark c.args.present.now c.loop-user.user ≡ false = search rules in
+          subst (λ o. Holds journal o (joins (filter p (range_with_len 1 (k + 1 - 1)))))
+          (sym w.self-is)
+          (subst (λ ids. Holds journal c.loop-user.self (joins ids))
+          (ids-unmarked (last_join live) p k (omega arith) unmarked) before)
+    ]
+
+pub returns : goal.returns
+unfolding user_ids
+returns c = λ history live joined h.
+    let last : c.loop-user.user - 1 ≡ 254 = omega arith in
+    subst (λ n. Holds c.args.journal.now c.loop-user.self
+    (history ++ filter_map (last_join live)
+    (filter (mark c.args.present.now) (range_with_len 1 n)))) last
+    (c.loop-user.invariant history live joined h)

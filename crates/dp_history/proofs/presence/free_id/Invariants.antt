@@ -1,0 +1,6 @@
+use Rattle.std.proofs.Common.{◌≡◌, ℕ, ◌<◌, ◌≤◌, true}
+use Rattle.dp_history.specs.Users.{mark}
+use Rattle.dp_history.proofs.presence.free_id.Given as goal
+
+abbrev pub invariant-loop-user : goal.invariant-loop-user
+invariant-loop-user l = (k : ℕ) → 1 ≤ k → k < l.user → mark l.present k ≡ true

@@ -1,0 +1,4 @@
+pub mod Frames
+pub mod Items
+pub mod Openings
+pub mod Users

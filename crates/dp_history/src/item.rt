@@ -1,0 +1,192 @@
+//! Entries of the history as they are kept.
+
+ghost use Rattle.std.specs.Prelude.{◌≡◌, ◌++◌, ◌∷◌, List, OnOk, true, is_some, map, slice_get, All, IfOk, OnErr, Some, IfSome};
+ghost use Rattle.std.specs.Option.{option_map};
+ghost use Rattle.dp_acl.specs.Opening.{command_entry};
+ghost use Rattle.dp_epochs.specs.State.{entry_of, is_name};
+ghost use Rattle.dp_messages.specs.declared.message.Entry.{Entry as Piece};
+ghost use Rattle.dp_messages.specs.Messages.{entry_bytes};
+ghost use Rattle.dp_history.specs.Frames.{AreFramesOf, AreWritten};
+ghost use Rattle.dp_history.specs.Items.{entry_in, IsIn, IsSay, join_of, message_of, part_of};
+
+use crate::log::FrameLog;
+use dp_events::{Entries, Event};
+use dp_messages::{Entry, Msg, put_entry};
+use dp_msg_meta::{Meta, Text};
+use std::alloc::{AllocError, Global};
+
+/// An entry of the history. What was said is kept once, in the journal.
+#[derive(Debug, Drop)]
+pub enum HistoryItem {
+    /// The user said the message of this event of the journal.
+    Said { event: u32, user: u8 },
+    /// The user's Join, by the Open that is this event of the journal.
+    Joined { event: u32, user: u8 },
+    /// The command of the part of a reset that is this event of the journal.
+    Command { event: u32 },
+    /// An entry that no event says.
+    Server(Entry),
+}
+
+/// The name as a text, if it is a name.
+pub fn name_text(alloc: Global, name: &[u8]) -> Result<Option<Text>, AllocError>
+    ensures named { IfOk result (λ text. is_some text ≡ is_name name.now) }
+    ensures text { IfOk result (λ found. IfSome found (λ text. text ≡ name.now)) }
+{
+    if name.is_empty() || name.len() > 32 {
+        return Ok(None);
+    }
+    Ok(Text::from_vec(Vec::from_slice(alloc, name)?))
+}
+
+/// The message that the event says.
+fn said(journal: &[Event], event: u32, user: u8) -> Result<Entry, AllocError>
+    requires { IsSay (slice_get journal.now event) }
+    ensures { IfOk result (λ entry. entry
+        ≡ entry_of user (message_of (slice_get journal.now event))) }
+{
+    match journal.get(event as usize) {
+        Some(Event::Say { msg, .. }) => Ok(Entry {
+            user,
+            msg: msg.copy()?,
+        }),
+        _ => unreachable!(),
+    }
+}
+
+/// The command of the part that the event says.
+fn command(journal: &[Event], event: u32) -> Result<Entry, AllocError>
+    requires { is_some (part_of (slice_get journal.now event)) ≡ true }
+    ensures { IfOk result (λ entry. Some entry
+        ≡ option_map command_entry (part_of (slice_get journal.now event))) }
+{
+    match journal.get(event as usize) {
+        Some(
+            Event::Say {
+                msg: Msg::Part(command),
+                ..
+            },
+        ) => Ok(Entry {
+            user: 0,
+            msg: Msg::Draw(command.copy()?),
+        }),
+        _ => unreachable!(),
+    }
+}
+
+/// The user's Join by the Open that the event is.
+fn join(alloc: Global, journal: &[Event], event: u32, user: u8) -> Result<Entry, AllocError>
+    requires { is_some (join_of user (slice_get journal.now event)) ≡ true }
+    ensures { IfOk result (λ entry. Some entry ≡ join_of user (slice_get journal.now event)) }
+{
+    match journal.get(event as usize) {
+        Some(Event::Open { name, registered }) => match name_text(alloc, name.as_slice())? {
+            Some(name) => Ok(Entry {
+                user,
+                msg: Msg::Meta(Meta::Join {
+                    registered: *registered,
+                    name,
+                }),
+            }),
+            None => unreachable!(),
+        },
+        _ => unreachable!(),
+    }
+}
+
+/// A copy of an entry that is kept beside the journal.
+pub fn entry(
+    alloc: Global,
+    journal: &[Event],
+    item: &HistoryItem,
+) -> Result<Entry, AllocError>
+    requires { IsIn journal.now item.now }
+    ensures { IfOk result (λ entry. entry ≡ entry_in journal.now item.now) }
+{
+    match item {
+        HistoryItem::Said { event, user } => said(journal, *event, *user),
+        HistoryItem::Joined { event, user } => join(alloc, journal, *event, *user),
+        HistoryItem::Command { event } => command(journal, *event),
+        HistoryItem::Server(entry) => entry.copy(),
+    }
+}
+
+/// Copies of entries.
+pub fn copies(alloc: Global, journal: &[Event], items: &[HistoryItem]) -> Result<Entries, AllocError>
+    requires { All (IsIn journal.now) items.now }
+    ensures { IfOk result (λ copies. copies ≡ map (entry_in journal.now) items.now) }
+{
+    let mut entries = Vec::new(alloc);
+    for item in items {
+        entries.push(entry(alloc, journal, item)?)?;
+    }
+    Ok(Entries::from_vec(entries))
+}
+
+/// Puts the frame of an entry that is kept beside the journal at the end of the bytes.
+pub fn put_item(
+    alloc: Global,
+    journal: &[Event],
+    item: &HistoryItem,
+    out: &mut Vec<u8>,
+) -> Result<(), AllocError>
+    requires { IsIn journal.now item.now }
+    ensures ok { OnOk result (out.new.items
+        ≡ out.old.items ++ entry_bytes (entry_in journal.now item.now)) }
+    ensures err { OnErr result (out.new.items ≡ out.old.items) }
+{
+    let entry = entry(alloc, journal, item)?;
+    put_entry(&entry, out)
+}
+
+/// Adds the frame of an entry that is kept beside the journal.
+fn append_item(
+    alloc: Global,
+    journal: &[Event],
+    item: &HistoryItem,
+    frames: &mut FrameLog,
+) -> Result<(), AllocError>
+    requires { IsIn journal.now item.now }
+    ensures ok { OnOk result ((entries : List Piece) → AreFramesOf frames.old entries
+        → AreFramesOf frames.new (entries ++ entry_in journal.now item.now ∷ [])) }
+    ensures err { OnErr result ((entries : List Piece) → AreFramesOf frames.old entries
+        → AreFramesOf frames.new entries) }
+{
+    let entry = entry(alloc, journal, item)?;
+    frames.append(&entry)
+}
+
+/// Makes the frame of the entry at a place, if there is one.
+fn write_at(
+    alloc: Global,
+    journal: &[Event],
+    live: &[HistoryItem],
+    frames: &mut FrameLog,
+) -> Result<bool, AllocError>
+    requires { All (IsIn journal.now) live.now }
+    ensures { AreWritten frames.old (map (entry_in journal.now) live.now)
+        → AreWritten frames.new (map (entry_in journal.now) live.now) }
+{
+    match live.get(frames.len()) {
+        Some(item) => {
+            append_item(alloc, journal, item, frames)?;
+            Ok(true)
+        }
+        None => Ok(false),
+    }
+}
+
+/// Makes the frames of the entries that have none yet, as far as memory goes.
+pub fn write_all(alloc: Global, journal: &[Event], live: &[HistoryItem], frames: &mut FrameLog)
+    requires { All (IsIn journal.now) live.now }
+    ensures { AreWritten frames.old (map (entry_in journal.now) live.now)
+        → AreWritten frames.new (map (entry_in journal.now) live.now) }
+{
+    for _entry in frames.len()..live.len() {
+        match write_at(alloc, journal, live, frames) {
+            Ok(true) => {}
+            Ok(false) => return,
+            Err(AllocError) => return,
+        }
+    }
+}

@@ -1,0 +1,13 @@
+//! A history as a session keeps it beside its journal: items that name events, the frames of their
+//! entries, made once for all who get them, and how the next epoch opens.
+#![tactic(auto)]
+
+mod item;
+mod log;
+mod opening;
+mod presence;
+
+pub use item::{HistoryItem, copies, entry, name_text, put_item, write_all};
+pub use log::FrameLog;
+pub use opening::Opening;
+pub use presence::{first_operator, free_id, next_operator, present_ids};

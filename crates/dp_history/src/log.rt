@@ -1,0 +1,124 @@
+//! The frames of a history, as they are sent.
+
+ghost use Rattle.std.specs.Prelude.{◌≡◌, ◌+◌, ◌<◌, ◌≤◌, ◌∷◌, ◌++◌, [], List, length, take, drop};
+ghost use Rattle.std.specs.Prelude.{◌-◌, ◌⊎◌, slice_index_or, IfOk, OnOk, OnErr};
+ghost use Rattle.dp_messages.specs.declared.message.Entry.{Entry as Piece};
+ghost use Rattle.dp_history.specs.Frames.{AreFramesOf, IsShort, frames_of};
+
+use dp_lists::{prefix_of, rest_of};
+use dp_messages::{Entry, put_entry};
+use std::alloc::{AllocError, Global};
+use std::marker::Model;
+
+/// A page of more bytes has one entry.
+const PAGE_BYTES: usize = 1 << 16;
+
+/// Frames of entries, one after another, so that each is made once for all who get it. It is seen
+/// as their bytes and the places where they end.
+#[derive(Drop)]
+pub struct FrameLog {
+    bytes: Vec<u8>,
+    ends: Vec<usize>,
+}
+
+impl Model for FrameLog {
+    ghost use Rattle.dp_history.specs.Frames.{Frames};
+
+    ghost Value = { Frames };
+
+    ghost view = { λ log. record { bytes = log.bytes.items; ends = log.ends.items } };
+}
+
+/// How many of the frames that end at these places end up to a limit, or one.
+fn count_within(ends: &[usize], limit: usize) -> usize
+    requires { 0 < length ends.now }
+    ensures some { 0 < result }
+    ensures within { result ≤ length ends.now }
+    ensures limit { (result ≡ 1) ⊎ (slice_index_or ends.now (result - 1) 0 ≤ limit) }
+{
+    for count in 1..ends.len() {
+        if ends[count] > limit {
+            return count;
+        }
+    }
+    ends.len()
+}
+
+impl FrameLog {
+    /// No frame.
+    pub fn new(alloc: Global) -> FrameLog
+        ensures { AreFramesOf result [] }
+    {
+        FrameLog {
+            bytes: Vec::new(alloc),
+            ends: Vec::new(alloc),
+        }
+    }
+
+    /// Takes all frames away.
+    pub fn clear(&mut self)
+        ensures { AreFramesOf self.new [] }
+    {
+        self.bytes.clear();
+        self.ends.clear();
+    }
+
+    /// How many frames there are.
+    pub fn len(&self) -> usize
+        ensures { (entries : List Piece) → AreFramesOf self.now entries
+            → result ≡ length entries }
+    {
+        self.ends.len()
+    }
+
+    /// Adds the frame of one more entry.
+    ///
+    /// # Errors
+    ///
+    /// The frames are those that there were.
+    pub fn append(&mut self, entry: &Entry) -> Result<(), AllocError>
+        ensures ok { OnOk result ((entries : List Piece) → AreFramesOf self.old entries
+            → AreFramesOf self.new (entries ++ entry.now ∷ [])) }
+        ensures err { OnErr result ((entries : List Piece) → AreFramesOf self.old entries
+            → AreFramesOf self.new entries) }
+    {
+        self.ends.reserve(1)?;
+        put_entry(entry, &mut self.bytes)?;
+        self.ends.push_reserved(self.bytes.len());
+        Ok(())
+    }
+
+    /// Where the frame of the entry at a place begins, or where the last one ends.
+    fn start(&self, at: usize) -> usize
+        requires { (entries : List Piece) × AreFramesOf self.now entries × (at ≤ length entries) }
+        ensures { (entries : List Piece) → AreFramesOf self.now entries
+            → result ≡ length (frames_of (take at entries)) }
+    {
+        if at == 0 { 0 } else { self.ends[at - 1] }
+    }
+
+    /// Adds the frames from a place on at the end of the bytes, at most this many, and no more than
+    /// `PAGE_BYTES` bytes of them unless it is one. It answers how many.
+    ///
+    /// # Errors
+    ///
+    /// The bytes are as they were.
+    pub fn put(&self, at: usize, most: usize, out: &mut Vec<u8>) -> Result<usize, AllocError>
+        requires are { (entries : List Piece) × AreFramesOf self.now entries
+            × (at + most ≤ length entries) }
+        requires some { 0 < most }
+        ensures some { IfOk result (λ count. 0 < count) }
+        ensures most { IfOk result (λ count. count ≤ most) }
+        ensures put { IfOk result (λ count. (entries : List Piece) → AreFramesOf self.now entries
+            → out.new.items ≡ out.old.items ++ frames_of (take count (drop at entries))) }
+        ensures short { IfOk result (λ count. IsShort count out.old.items out.new.items) }
+        ensures err { OnErr result (out.new.items ≡ out.old.items) }
+    {
+        let start = self.start(at);
+        let ends = prefix_of(rest_of(&self.ends, at), most);
+        let count = count_within(ends, start.saturating_add(PAGE_BYTES));
+        let size = self.start(at + count).saturating_sub(start);
+        out.extend_from_slice(prefix_of(rest_of(&self.bytes, start), size))?;
+        Ok(count)
+    }
+}
