@@ -3,7 +3,7 @@ use Rattle.std.proofs.Common.{◌≡◌, ℕ, List, [], ◌∷◌, ◌++◌, ref
 use Rattle.std.proofs.lemmas.List.{map-append}
 use Rattle.std.specs.List.{fold}
 use Rattle.dp_board.specs.declared.act.Act.{Act}
-use Rattle.dp_board.specs.declared.act.Act.TheVariants.{Point, Undo, Redo, Draw, Other}
+use Rattle.dp_board.specs.declared.act.Act.TheVariants.{Point, Undo, Redo, Draw, Depth, Other}
 use Rattle.dp_board.specs.declared.act.UserAct.{UserAct}
 use Rattle.dp_board.specs.Strokes.{Strokes, no_strokes, last_of, after_act, strokes}
 use Rattle.dp_board.specs.Flags.{is_group_drawn, flag_of, flags_from}
@@ -22,6 +22,7 @@ after_act-map_act f user s sender Point = refl
 after_act-map_act f user s sender (Undo who) = refl
 after_act-map_act f user s sender (Redo who) = refl
 after_act-map_act f user s sender (Draw op) = refl
+after_act-map_act f user s sender (Depth d) = refl
 after_act-map_act f user s sender Other = refl
 
 -- the strokes after a list of acts with other commands
@@ -46,6 +47,7 @@ flag_of-map_act f depth all before user (Draw op) =
 flag_of-map_act f depth all before user Point = refl
 flag_of-map_act f depth all before user (Undo who) = refl
 flag_of-map_act f depth all before user (Redo who) = refl
+flag_of-map_act f depth all before user (Depth d) = refl
 flag_of-map_act f depth all before user Other = refl
 
 -- the flags of the rest of a history with other commands

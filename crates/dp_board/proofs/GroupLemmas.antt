@@ -9,7 +9,7 @@ use Rattle.std.proofs.lemmas.List.Folds.{find_at}
 use Rattle.std.proofs.lemmas.List.Elements.{All-nil, All-cons, All-head, All-tail, All-push}
 use Rattle.std.proofs.lemmas.List.Elements.{All-take, All-weaker}
 use Rattle.dp_board.specs.declared.act.Act.{Act}
-use Rattle.dp_board.specs.declared.act.Act.TheVariants.{Point, Undo, Redo, Draw, Other}
+use Rattle.dp_board.specs.declared.act.Act.TheVariants.{Point, Undo, Redo, Draw, Depth, Other}
 use Rattle.dp_board.specs.declared.act.UserAct.{UserAct}
 use Rattle.dp_board.specs.Strokes.{Window, Groups, Strokes, no_groups, no_strokes, is_eligible}
 use Rattle.dp_board.specs.Strokes.{last_of, without, where_eligible, undoable, redoable, undo, redo}
@@ -138,6 +138,7 @@ groups_after-are_points user before s sender (Draw op) here same all =
       undone = All-nil (IsPointOf user
           (before ++ act_by sender (Draw op) ∷ []));
     }
+groups_after-are_points user before s sender (Depth d) here same all = all
 groups_after-are_points user before s sender Other here same all = all
 
 -- each act leaves groups that are Points
@@ -187,6 +188,7 @@ moved-holds P s (Undo who) group all is = undoable-holds P s.window s.groups gro
 moved-holds P s (Redo who) group all is = redoable-holds P s.window s.groups group all is
 moved-holds P s Point group all is = let wrong : None ≡ Some group = is in cc
 moved-holds P s (Draw op) group all is = let wrong : None ≡ Some group = is in cc
+moved-holds P s (Depth d) group all is = let wrong : None ≡ Some group = is in cc
 moved-holds P s Other group all is = let wrong : None ≡ Some group = is in cc
 
 -- the group that an act moves is named by the position of a Point of the user whom the act concerns

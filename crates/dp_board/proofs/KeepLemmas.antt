@@ -8,7 +8,7 @@ use Rattle.std.specs.List.{slice_get}
 use Rattle.std.proofs.lemmas.Bool.{ne_eqb, cases_eq}
 use Rattle.std.proofs.lemmas.List.{same_from_push, get_or-set_same, get_or-set_other, length-set}
 use Rattle.dp_board.specs.declared.act.Act.{Act}
-use Rattle.dp_board.specs.declared.act.Act.TheVariants.{Point, Undo, Redo, Draw, Other}
+use Rattle.dp_board.specs.declared.act.Act.TheVariants.{Point, Undo, Redo, Draw, Depth, Other}
 use Rattle.dp_board.specs.declared.act.UserAct.{UserAct}
 use Rattle.dp_board.specs.Strokes.{Window, Groups, Strokes, no_groups, is_eligible}
 use Rattle.dp_board.specs.Strokes.{last_of, without_last, without, where_eligible, undoable}
@@ -25,7 +25,8 @@ use Rattle.dp_board.proofs.TimesLemmas.{times, one_same, one_other, times-append
 use Rattle.dp_board.proofs.TimesLemmas.{is_among-none, without_last-push}
 use Rattle.dp_board.proofs.StepLemmas.{total, IsSound-strokes, where_eligible-is}
 use Rattle.dp_board.proofs.StepLemmas.{times-window_after, total-undo, total-redo}
-use Rattle.dp_board.proofs.MoveLemmas.{joins-append, position-is}
+use Rattle.dp_board.proofs.MoveLemmas.{joins-append}
+use Rattle.dp_board.proofs.WindowLemmas.{position-is}
 use Rattle.dp_board.proofs.TableLemmas.{strokes-push}
 
 -- the place past some is in the rest
@@ -66,6 +67,7 @@ moved-keeps position w all kept (Redo who) keeps =
     ap (λ undone. redoable w (record { done = []; undone = undone })) (sym keeps.undone)
 moved-keeps position w all kept Point keeps = refl
 moved-keeps position w all kept (Draw op) keeps = refl
+moved-keeps position w all kept (Depth d) keeps = refl
 moved-keeps position w all kept Other keeps = refl
 
 -- the first that is kept stays out of reach
@@ -196,6 +198,7 @@ KeepsGroups-act position w all kept (Redo who) keeps =
     (redo (redoable w (record { done = []; undone = undone })) kept)) keeps.undone
     (KeepsGroups-redo w all kept (redoable w all) keeps)
 KeepsGroups-act position w all kept (Draw op) keeps = KeepsGroups-undone w all kept [] keeps
+KeepsGroups-act position w all kept (Depth d) keeps = keeps
 KeepsGroups-act position w all kept Other keeps = keeps
 
 -- done groups without settled ones, after some that were left out
@@ -266,6 +269,7 @@ KeepsGroups-kept_after w Point all kept keeps = KeepsGroups-unsettled w all kept
 KeepsGroups-kept_after w (Undo who) all kept keeps = keeps
 KeepsGroups-kept_after w (Redo who) all kept keeps = keeps
 KeepsGroups-kept_after w (Draw op) all kept keeps = keeps
+KeepsGroups-kept_after w (Depth d) all kept keeps = keeps
 KeepsGroups-kept_after w Other all kept keeps = keeps
 
 -- the strokes of a user after a history, by the table
@@ -292,6 +296,7 @@ join_of-last user (Draw op) g h same = ap (join_in user) same
 join_of-last user Point g h same = refl
 join_of-last user (Undo who) g h same = refl
 join_of-last user (Redo who) g h same = refl
+join_of-last user (Depth d) g h same = refl
 join_of-last user Other g h same = refl
 
 -- a table after a history says what an act joins
@@ -343,6 +348,8 @@ KeepsGroups-step position w all kept (Draw op) new keeps =
     (groups_after (strokes_with position w all) (Draw op))
     (groups_after (strokes_with position w kept) (Draw op))
     (omega arith) (KeepsGroups-act position w all kept (Draw op) keeps)
+KeepsGroups-step {Op} position w all kept (Depth d) new keeps =
+    KeepsGroups-later {Op = Op} position (Depth d) w all kept new keeps
 KeepsGroups-step {Op} position w all kept Other new keeps =
     KeepsGroups-later {Op = Op} position Other w all kept new keeps
 

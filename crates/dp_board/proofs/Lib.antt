@@ -1,4 +1,8 @@
 pub mod WindowLemmas
+pub mod RenamingLemmas
+pub mod RenamedStrokes
+pub mod OtherLemmas
+pub mod PrefixLemmas
 pub mod RedoLemmas
 pub mod TableLemmas
 pub mod SortedLemmas

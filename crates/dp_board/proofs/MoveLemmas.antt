@@ -11,11 +11,11 @@ use Rattle.std.proofs.lemmas.Grind.{fold-append}
 use Rattle.std.proofs.lemmas.List.{append-nil, map-append, take-map, take-append-le, length-map}
 use Rattle.std.proofs.lemmas.Option.{slice_get-map, slice_get_within}
 use Rattle.dp_board.specs.declared.act.Act.{Act}
-use Rattle.dp_board.specs.declared.act.Act.TheVariants.{Point, Undo, Redo, Draw, Other}
+use Rattle.dp_board.specs.declared.act.Act.TheVariants.{Point, Undo, Redo, Draw, Depth, Other}
 use Rattle.dp_board.specs.declared.act.UserAct.{UserAct}
 use Rattle.dp_board.specs.declared.join.Join.{Join}
 use Rattle.dp_board.specs.declared.join.Join.TheVariants.{NoCommand, GroupZero, InGroup}
-use Rattle.dp_board.specs.Strokes.{Strokes, no_strokes, is_among}
+use Rattle.dp_board.specs.Strokes.{Strokes, no_strokes, is_among, is_eligible}
 use Rattle.dp_board.specs.Strokes.{last_of, without_last, concerned, groups_after, after_act}
 use Rattle.dp_board.specs.Strokes.{strokes, moved}
 use Rattle.dp_board.specs.Strokes.{moved_by}
@@ -24,14 +24,15 @@ use Rattle.dp_board.specs.Joins.{join_in, join_of, joins_from, joins}
 use Rattle.dp_board.specs.Moves.{is_draw, is_redo, flag_with, flags_with, IsOutOfReach, IsFinal}
 use Rattle.dp_board.specs.Moves.{FlagsGoOn, FlagsMove, FlagsStayBefore, JoinsComeLater}
 use Rattle.dp_board.specs.Moves.{MovedIsInReach, FinalFlagsStay}
+use Rattle.dp_board.specs.Laws.{CutOutStaysOut}
 use Rattle.dp_board.proofs.TimesLemmas.{times, one_same, one_other, times-append}
-use Rattle.dp_board.proofs.TimesLemmas.{is_among-some, times-none, times-some}
+use Rattle.dp_board.proofs.TimesLemmas.{is_among-none, is_among-some, times-none, times-some}
 use Rattle.dp_board.proofs.TimesLemmas.{without_last-push, if_cases}
 use Rattle.dp_board.proofs.StepLemmas.{total, IsSound, IsSound-strokes}
 use Rattle.dp_board.proofs.StepLemmas.{moved-is, done-unmoved, done-moved, done-others}
 use Rattle.dp_board.proofs.StepLemmas.{total-after_act, times-after_act}
 use Rattle.dp_board.proofs.TableLemmas.{strokes-push}
-use Rattle.dp_board.proofs.WindowLemmas.{window_is_of_last_points}
+use Rattle.dp_board.proofs.WindowLemmas.{position-is}
 
 -- what joined so is drawn at the end of a history
 abbrev drawn_in : {Op : Type 0} → ℕ → List (UserAct Op) → Join → Bool
@@ -54,6 +55,7 @@ drawn_in-join_of depth all before user (Draw op) =
 drawn_in-join_of depth all before user Point = refl
 drawn_in-join_of depth all before user (Undo who) = refl
 drawn_in-join_of depth all before user (Redo who) = refl
+drawn_in-join_of depth all before user (Depth d) = refl
 drawn_in-join_of depth all before user Other = refl
 
 map-drawn_in : {Op : Type 0} → (depth : ℕ) (all before rest : List (UserAct Op))
@@ -97,11 +99,6 @@ pub length-joins : {Op : Type 0} → (depth : ℕ) (acts : List (UserAct Op))
     → length (joins depth acts) ≡ length acts
 length-joins depth acts = length-joins_from depth [] acts
 
--- the position of a user's strokes is the length of the history
-pub position-is : {Op : Type 0} → (depth user : ℕ) (acts : List (UserAct Op))
-    → (strokes depth user acts).position ≡ length acts
-position-is {Op} depth user acts = (window_is_of_last_points Op depth user acts).position
-
 -- the group that a command joins is among the done ones
 last_of-among : (done : List ℕ) (group : ℕ) → last_of done ≡ Some group → 1 ≤ times group done
 last_of-among done group is =
@@ -129,6 +126,8 @@ join_of-later s sender Point user group sound is =
 join_of-later s sender (Undo who) user group sound is =
     let wrong : NoCommand ≡ InGroup user group = is in cc
 join_of-later s sender (Redo who) user group sound is =
+    let wrong : NoCommand ≡ InGroup user group = is in cc
+join_of-later s sender (Depth d) user group sound is =
     let wrong : NoCommand ≡ InGroup user group = is in cc
 join_of-later s sender Other user group sound is =
     let wrong : NoCommand ≡ InGroup user group = is in cc
@@ -298,6 +297,7 @@ last_flag depth acts sender (Draw op) =
 last_flag depth acts sender Point = refl
 last_flag depth acts sender (Undo who) = refl
 last_flag depth acts sender (Redo who) = refl
+last_flag depth acts sender (Depth d) = refl
 last_flag depth acts sender Other = refl
 
 -- the flags of a history with one more act, by what its acts joined
@@ -329,6 +329,7 @@ moved-no_draw s (Draw op) group is = let wrong : None ≡ Some group = is in cc
 moved-no_draw s Point group is = refl
 moved-no_draw s (Undo who) group is = refl
 moved-no_draw s (Redo who) group is = refl
+moved-no_draw s (Depth d) group is = refl
 moved-no_draw s Other group is = refl
 
 -- an act that moves a group changes the flags of that group, and no others
@@ -451,6 +452,25 @@ fold-settled user (a ∷ later) s g before is =
     fold-settled user later (after_act user s a) g (omega arith)
     (IsSettled-after_act user s a g before is)
     ∙ done-settled user s a g before is
+
+-- a Point that is out of reach stays so
+fold-cut_out : {Op : Type 0} → (user : ℕ) (more : List (UserAct Op)) (s : Strokes) (point : ℕ)
+    → point < s.position → times point s.window.points ≡ 0
+    → times point (fold (after_act user) s more).window.points ≡ 0
+fold-cut_out user [] s point before out = out
+fold-cut_out user (a ∷ more) s point before out =
+    fold-cut_out user more (after_act user s a) point (omega arith)
+    (omega (arith, times-after_act user s a point, one_other s.position point (omega arith)))
+
+-- a Point that was cut out stays out
+pub cut_out_stays_out : (Op : Type 0) → CutOutStaysOut Op
+cut_out_stays_out Op depth user acts more point before out =
+    let s = strokes depth user acts in
+    ap (λ t. is_eligible t.window point)
+    (fold-append (after_act user) (no_strokes depth) acts more)
+    ∙ is_among-none (fold (after_act user) s more).window.points point
+    (fold-cut_out user more s point (omega (arith, position-is depth user acts))
+    (times-none s.window.points point out))
 
 -- what joined a group that no later act can move stays drawn, or not
 drawn_in-final : {Op : Type 0} → (depth : ℕ) (acts later : List (UserAct Op)) (join : Join)

@@ -5,7 +5,7 @@ use Rattle.std.proofs.Common.{sym, ◌∙◌, arith, subst, inl, inr}
 use Rattle.std.specs.List.{fold}
 use Rattle.std.proofs.lemmas.Bool.{cases_eq}
 use Rattle.dp_board.specs.declared.act.Act.{Act}
-use Rattle.dp_board.specs.declared.act.Act.TheVariants.{Point, Undo, Redo, Draw, Other}
+use Rattle.dp_board.specs.declared.act.Act.TheVariants.{Point, Undo, Redo, Draw, Depth, Other}
 use Rattle.dp_board.specs.declared.act.UserAct.{UserAct}
 use Rattle.dp_board.specs.Strokes.{Window, Groups, Strokes, no_strokes, is_eligible, is_among}
 use Rattle.dp_board.specs.Strokes.{last_of, without_last, where_eligible, undoable}
@@ -63,6 +63,7 @@ total-groups_after s (Undo who) h =
 total-groups_after s (Redo who) h =
     omega (arith, total-redo s.window s.groups (redoable s.window s.groups) h refl)
 total-groups_after s (Draw op) h = omega arith
+total-groups_after s (Depth d) h = omega arith
 total-groups_after s Other h = omega arith
 
 -- an act brings no Point into reach but its own
@@ -80,6 +81,8 @@ times-window_after position (Redo who) w h =
     omega (arith, times-drop h (length w.points - w.depth) w.points)
 times-window_after position (Draw op) w h =
     omega (arith, times-drop h (length w.points - w.depth) w.points)
+times-window_after position (Depth d) w h =
+    omega (arith, times-drop h (length w.points - d) w.points)
 times-window_after position Other w h =
     omega (arith, times-drop h (length w.points - w.depth) w.points)
 
@@ -159,6 +162,7 @@ moved-is s (Redo who) group is =
     (found.1, omega (arith, found.0))
 moved-is s Point group is = let wrong : None ≡ Some group = is in cc
 moved-is s (Draw op) group is = let wrong : None ≡ Some group = is in cc
+moved-is s (Depth d) group is = let wrong : None ≡ Some group = is in cc
 moved-is s Other group is = let wrong : None ≡ Some group = is in cc
 
 -- two lists that have a group alike
@@ -184,6 +188,7 @@ done-unmoved s (Undo who) h before none =
 done-unmoved s (Redo who) h before none =
     ap (λ o. is_among (redo o s.groups).done h) none
 done-unmoved s (Draw op) h before none = refl
+done-unmoved s (Depth d) h before none = refl
 done-unmoved s Other h before none = refl
 
 -- an act that moves a group makes it done by a Redo and not done by an Undo
@@ -208,6 +213,7 @@ done-moved s (Redo who) group sound is =
     (omega (arith, times-append group s.groups.done (group ∷ []), one_same group group refl))
 done-moved s Point group sound is = let wrong : None ≡ Some group = is in cc
 done-moved s (Draw op) group sound is = let wrong : None ≡ Some group = is in cc
+done-moved s (Depth d) group sound is = let wrong : None ≡ Some group = is in cc
 done-moved s Other group sound is = let wrong : None ≡ Some group = is in cc
 
 -- an act that moves a group leaves the others done, or not
@@ -233,4 +239,5 @@ done-others s (Redo who) group h differ is =
     omega (arith, times-append h s.groups.done (group ∷ []), one_other group h other))
 done-others s Point group h differ is = let wrong : None ≡ Some group = is in cc
 done-others s (Draw op) group h differ is = let wrong : None ≡ Some group = is in cc
+done-others s (Depth d) group h differ is = let wrong : None ≡ Some group = is in cc
 done-others s Other group h differ is = let wrong : None ≡ Some group = is in cc

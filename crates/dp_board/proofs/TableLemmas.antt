@@ -6,7 +6,7 @@ use Rattle.std.proofs.lemmas.List.{take_more, drop_more}
 use Rattle.std.proofs.lemmas.List.Sums.{fold_push}
 use Rattle.std.specs.List.{All}
 use Rattle.dp_board.specs.declared.act.Act.{Act}
-use Rattle.dp_board.specs.declared.act.Act.TheVariants.{Point, Undo, Redo, Draw, Other}
+use Rattle.dp_board.specs.declared.act.Act.TheVariants.{Point, Undo, Redo, Draw, Depth, Other}
 use Rattle.dp_board.specs.declared.act.UserAct.{UserAct}
 use Rattle.dp_board.specs.declared.join.Join.{Join}
 use Rattle.dp_board.specs.Strokes.{no_strokes, is_among, after_act, strokes}
@@ -83,6 +83,7 @@ is_join_drawn-join_of depth all before table done user (Draw op) are have small 
 is_join_drawn-join_of depth all before table done user Point are have small = refl
 is_join_drawn-join_of depth all before table done user (Undo who) are have small = refl
 is_join_drawn-join_of depth all before table done user (Redo who) are have small = refl
+is_join_drawn-join_of depth all before table done user (Depth d) are have small = refl
 is_join_drawn-join_of depth all before table done user Other are have small = refl
 
 -- the flags of the rest of a history, from what its acts joined

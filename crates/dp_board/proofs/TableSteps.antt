@@ -8,7 +8,7 @@ use Rattle.std.specs.Option.{IfSome}
 use Rattle.std.proofs.lemmas.List.Elements.{All-head, All-tail, All-weaker, All-push, All-drop}
 use Rattle.std.proofs.lemmas.List.Elements.{All-nil, All-cons}
 use Rattle.dp_board.specs.declared.act.Act.{Act}
-use Rattle.dp_board.specs.declared.act.Act.TheVariants.{Point, Undo, Redo, Draw, Other}
+use Rattle.dp_board.specs.declared.act.Act.TheVariants.{Point, Undo, Redo, Draw, Depth, Other}
 use Rattle.dp_board.specs.declared.act.UserAct.{UserAct}
 use Rattle.dp_board.specs.Strokes.{Window, concerned, window_after}
 use Rattle.dp_board.specs.Table.{Table, begins_settled, without_settled, moved_in, oldest_in}
@@ -86,6 +86,8 @@ All-window_after P position (Redo who) w all here =
     All-drop P (length w.points - w.depth) w.points all
 All-window_after P position (Draw op) w all here =
     All-drop P (length w.points - w.depth) w.points all
+All-window_after P position (Depth d) w all here =
+    All-drop P (length w.points - d) w.points all
 All-window_after P position Other w all here =
     All-drop P (length w.points - w.depth) w.points all
 

@@ -1,7 +1,8 @@
 -- The commands of a history that are drawn, and histories that differ in their commands alone.
 use Rattle.std.specs.Prelude.{ℕ, Bool, true, List, [], ◌∷◌, ◌++◌, map}
+use Rattle.std.specs.List.{flat_map}
 use Rattle.dp_board.specs.declared.act.Act.{Act}
-use Rattle.dp_board.specs.declared.act.Act.TheVariants.{Point, Undo, Redo, Draw, Other}
+use Rattle.dp_board.specs.declared.act.Act.TheVariants.{Point, Undo, Redo, Draw, Depth, Other}
 use Rattle.dp_board.specs.declared.act.UserAct.{UserAct}
 use Rattle.dp_board.specs.Flags.{drawn_flags}
 
@@ -9,6 +10,10 @@ use Rattle.dp_board.specs.Flags.{drawn_flags}
 abbrev pub command_of : {Op : Type 0} → Act Op → Bool → List Op
 command_of (Draw op) true = op ∷ []
 command_of act flag = []
+
+-- the commands of some acts, drawn or not
+abbrev pub all_commands : {Op : Type 0} → List (UserAct Op) → List Op
+all_commands acts = flat_map (λ a. command_of a.act true) acts
 
 -- the commands whose flags are true, in the order of the history
 abbrev pub commands : {Op : Type 0} → List (UserAct Op) → List Bool → List Op
@@ -26,6 +31,7 @@ map_act f Point = Point
 map_act f (Undo who) = Undo who
 map_act f (Redo who) = Redo who
 map_act f (Draw op) = Draw (f op)
+map_act f (Depth depth) = Depth depth
 map_act f Other = Other
 
 -- the act of the same user with another command

@@ -1,4 +1,5 @@
 pub mod Strokes
+pub mod FirstStrokes
 pub mod Flags
 pub mod Commands
 pub mod Replay

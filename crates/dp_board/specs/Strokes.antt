@@ -3,10 +3,10 @@ use Rattle.std.specs.Prelude.{ℕ, ◌+◌, ◌-◌, ◌==◌, Bool, if◌then�
 use Rattle.std.specs.Prelude.{List, [], ◌∷◌, ◌++◌, length, take, drop, slice_get}
 use Rattle.std.specs.List.{list_any, find, fold}
 use Rattle.dp_board.specs.declared.act.Act.{Act}
-use Rattle.dp_board.specs.declared.act.Act.TheVariants.{Point, Undo, Redo, Draw, Other}
+use Rattle.dp_board.specs.declared.act.Act.TheVariants.{Point, Undo, Redo, Draw, Depth, Other}
 use Rattle.dp_board.specs.declared.act.UserAct.{UserAct}
 
--- the positions in the history of the Points in reach: the last of all users, at most `depth`
+-- the positions in the history of the Points in reach, of all users, and how many they may be
 pub record Window : Type 0 where
   pub depth : ℕ
   pub points : List ℕ
@@ -43,12 +43,13 @@ last_few n xs = drop (length xs - n) xs
 abbrev pub cut : Window → Window
 cut window = record window { points = last_few window.depth window.points }
 
--- the window with a Point that joins it, where the act at the position is one
+-- an act at a position changes the window: a Point joins it at its end, and a Depth sets its depth
 abbrev pub window_with : {Op : Type 0} → ℕ → Act Op → Window → Window
 window_with position Point window = record window { points = window.points ++ position ∷ [] }
+window_with position (Depth depth) window = record window { depth = depth }
 window_with position act window = window
 
--- the window after an act at a position
+-- the window after an act at a position: its last Points alone are left in it
 abbrev pub window_after : {Op : Type 0} → ℕ → Act Op → Window → Window
 window_after position act window = cut (window_with position act window)
 
@@ -117,6 +118,7 @@ groups_with position group Point g = open_group position g
 groups_with position group (Undo who) g = undo group g
 groups_with position group (Redo who) g = redo group g
 groups_with position group (Draw op) g = clear_undone g
+groups_with position group (Depth depth) g = g
 groups_with position group Other g = g
 
 -- a user's groups after an act that concerns the user

@@ -15,6 +15,8 @@ pub enum Act<Op> {
     },
     /// A command of the sender.
     Draw(Op),
+    /// Sets how many of the last points undo and redo reach, from here on.
+    Depth(u8),
     /// An entry that has no effect on strokes.
     Other,
 }

@@ -71,7 +71,7 @@ impl UserGroups {
             Act::Undo { .. } => self.undo(window)?,
             Act::Redo { .. } => self.redo(window)?,
             Act::Draw(_) => self.clear_undone(),
-            Act::Other => {}
+            Act::Depth(_) | Act::Other => {}
         }
         Ok(())
     }

@@ -1,7 +1,9 @@
 //! Laws of the definitions.
 
 ghost use Rattle.dp_board.specs.Laws.{CommandsDoNotCount, EachActHasAFlag};
-ghost use Rattle.dp_board.specs.Laws.{StrokesGoOn, WindowIsOfLastPoints};
+ghost use Rattle.dp_board.specs.FirstStrokes.{FirstStrokesStay};
+ghost use Rattle.dp_board.specs.Laws.{StrokesGoOn, WindowIsOfLastPoints, DepthIsInForce};
+ghost use Rattle.dp_board.specs.Laws.{CutOutStaysOut, OthersDoNotCount, PrefixesWithoutPoints};
 ghost use Rattle.dp_board.specs.Laws.{GroupsArePoints, MovedIsAPoint};
 ghost use Rattle.dp_board.specs.Moves.{FlagsGoOn, FlagsMove, FlagsStayBefore, JoinsComeLater};
 ghost use Rattle.dp_board.specs.Moves.{EachActHasAJoin, MovedIsInReach, FinalFlagsStay};
@@ -23,9 +25,36 @@ pub fn strokes_go_on<Op>()
     ensures { StrokesGoOn Op }
 {}
 
-/// The window after a history has the last points of it, as many as the depth at most.
+/// The window after a history that sets no depth has the last points of it, as many as the depth at
+/// most.
 pub fn window_is_of_last_points<Op>()
     ensures { WindowIsOfLastPoints Op }
+{}
+
+/// The depth in force after a history is the last that was set.
+pub fn depth_is_in_force<Op>()
+    ensures { DepthIsInForce Op }
+{}
+
+/// A point that was cut out of the window stays out, whatever depth is set later.
+pub fn cut_out_stays_out<Op>()
+    ensures { CutOutStaysOut Op }
+{}
+
+/// A history that sets no depth has the strokes of the first profile.
+pub fn first_strokes_stay<Op>()
+    ensures { FirstStrokesStay Op }
+{}
+
+/// An act that has no effect on strokes changes nothing of what is drawn, wherever it stands.
+pub fn others_do_not_count<Op>()
+    ensures { OthersDoNotCount Op }
+{}
+
+/// The beginning of a history, where it has no point, is drawn whole. What comes after it is drawn
+/// as if it stood alone, from the depth that the beginning leaves.
+pub fn prefixes_without_points<Op>()
+    ensures { PrefixesWithoutPoints Op }
 {}
 
 /// Each group of a user is named by the position of a point of that user, and so is the group that

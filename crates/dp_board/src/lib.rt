@@ -22,8 +22,10 @@ pub use board::Board;
 pub use flags::drawn_flags;
 pub use join::Join;
 pub use laws::{
-    commands_do_not_count, each_act_has_a_flag, final_flags_stay, flags_go_on, groups_are_points,
-    groups_come_first, strokes_go_on, tables_follow, window_is_of_last_points,
+    commands_do_not_count, cut_out_stays_out, depth_is_in_force, each_act_has_a_flag,
+    final_flags_stay, first_strokes_stay, flags_go_on, groups_are_points, groups_come_first,
+    others_do_not_count, prefixes_without_points, strokes_go_on, tables_follow,
+    window_is_of_last_points,
 };
 pub use number_board::{NumberBoard, SetNumber};
 pub use table::{NextStrokes, StrokeTable, concerned};

@@ -62,13 +62,16 @@ impl PointWindow {
         })
     }
 
-    /// Adds the point of an act at a position, if it is one, and keeps the last ones alone.
+    /// Takes an act at a position: a point joins the window, a depth sets how many points it has.
+    /// Then the last ones alone are kept.
     pub(crate) fn take<Op>(&mut self, position: usize, act: &Act<Op>) -> Result<(), AllocError>
         ensures ok { OnOk result (self.new ≡ window_after position act.now self.old) }
         ensures err { OnErr result (self.new ≡ self.old) }
     {
-        if matches!(act, Act::Point) {
-            self.points.push_back(position)?;
+        match act {
+            Act::Point => self.points.push_back(position)?,
+            Act::Depth(depth) => self.depth = u32::from(*depth),
+            _ => {}
         }
         self.cut();
         Ok(())

@@ -8,18 +8,18 @@ use Rattle.std.proofs.lemmas.List.{take-append-drop, drop-drop, drop_more, lengt
 use Rattle.std.proofs.lemmas.List.Concat.{flat_map-append}
 use Rattle.std.proofs.lemmas.List.Sums.{sum_by-append}
 use Rattle.dp_board.specs.declared.act.Act.{Act}
-use Rattle.dp_board.specs.declared.act.Act.TheVariants.{Point, Undo, Redo, Draw, Other}
+use Rattle.dp_board.specs.declared.act.Act.TheVariants.{Point, Undo, Redo, Draw, Depth, Other}
 use Rattle.dp_board.specs.declared.act.UserAct.{UserAct}
 use Rattle.dp_board.specs.declared.act.Change.TheVariants.{Drew, Rebuilt, Nothing}
 use Rattle.dp_board.specs.Strokes.{Strokes, concerned, strokes, moved, moved_by}
 use Rattle.dp_board.specs.Flags.{drawn_flags}
 use Rattle.dp_board.specs.Joins.{joins}
-use Rattle.dp_board.specs.Commands.{command_of}
+use Rattle.dp_board.specs.Commands.{command_of, all_commands}
 use Rattle.dp_board.specs.Moves.{is_draw}
 use Rattle.dp_board.specs.Table.{moved_in}
 use Rattle.dp_rollback.specs.declared.kept.KeptAct.{KeptAct}
 use Rattle.dp_rollback.specs.Kept.{kept_of, commands_among}
-use Rattle.dp_rollback.specs.Due.{all_commands, due_by, due_commands, change_by, change_of}
+use Rattle.dp_rollback.specs.Due.{due_by, due_commands, change_by, change_of}
 use Rattle.dp_rollback.specs.Due.{OwnCommandIsDue, FewAreDue}
 use Rattle.dp_rollback.specs.Rollback.{Rolled, StandsFor}
 use Rattle.dp_rollback.specs.Moves.{mark_by, mark_in, save_before, kept_from, due_in}
@@ -65,6 +65,7 @@ due_by-none acts (Draw op) = refl
 due_by-none acts Point = refl
 due_by-none acts (Undo who) = refl
 due_by-none acts (Redo who) = refl
+due_by-none acts (Depth d) = refl
 due_by-none acts Other = refl
 
 -- one that moves a group may draw those after it
@@ -75,6 +76,7 @@ due_by-some s acts (Draw op) group is = let wrong : None ≡ Some group = is in 
 due_by-some s acts Point group is = refl
 due_by-some s acts (Undo who) group is = refl
 due_by-some s acts (Redo who) group is = refl
+due_by-some s acts (Depth d) group is = refl
 due_by-some s acts Other group is = refl
 
 -- the commands from the savepoint on
@@ -125,6 +127,8 @@ change_by-made a (Undo who) None = refl
 change_by-made a (Undo who) (Some group) = refl
 change_by-made a (Redo who) None = refl
 change_by-made a (Redo who) (Some group) = refl
+change_by-made a (Depth d) None = refl
+change_by-made a (Depth d) (Some group) = refl
 change_by-made a Other None = refl
 change_by-made a Other (Some group) = refl
 
@@ -157,6 +161,7 @@ length-command_of (Draw op) false = omega arith
 length-command_of Point drawn = omega arith
 length-command_of (Undo who) drawn = omega arith
 length-command_of (Redo who) drawn = omega arith
+length-command_of (Depth d) drawn = omega arith
 length-command_of Other drawn = omega arith
 
 length-all_commands : {Op : Type 0} → (acts : List (UserAct Op))

@@ -5,7 +5,7 @@ use Rattle.std.proofs.Common.{arith}
 use Rattle.std.specs.List.{fold}
 use Rattle.std.proofs.lemmas.List.{take-append-le, length-map}
 use Rattle.dp_board.specs.declared.act.Act.{Act}
-use Rattle.dp_board.specs.declared.act.Act.TheVariants.{Point, Undo, Redo, Draw, Other}
+use Rattle.dp_board.specs.declared.act.Act.TheVariants.{Point, Undo, Redo, Draw, Depth, Other}
 use Rattle.dp_board.specs.declared.act.UserAct.{UserAct}
 use Rattle.dp_board.specs.Strokes.{Strokes, concerned, strokes, moved, moved_by}
 use Rattle.dp_board.specs.Flags.{drawn_flags}
@@ -42,6 +42,7 @@ moved-no_draw s (Draw op) group is = let wrong : None ≡ Some group = is in cc
 moved-no_draw s Point group is = refl
 moved-no_draw s (Undo who) group is = refl
 moved-no_draw s (Redo who) group is = refl
+moved-no_draw s (Depth d) group is = refl
 moved-no_draw s Other group is = refl
 
 -- with an act that moves no group

@@ -2,14 +2,13 @@
 use Rattle.std.proofs.Common.{◌≡◌, ℕ, Bool, true, false, List, [], ◌∷◌, ◌++◌}
 use Rattle.std.proofs.Common.{length, take, drop, map, refl, ap, arith, suc, zero}
 use Rattle.dp_board.specs.declared.act.Act.{Act}
-use Rattle.dp_board.specs.declared.act.Act.TheVariants.{Point, Undo, Redo, Draw, Other}
+use Rattle.dp_board.specs.declared.act.Act.TheVariants.{Point, Undo, Redo, Draw, Depth, Other}
 use Rattle.dp_board.specs.declared.act.UserAct.{UserAct}
 use Rattle.dp_board.specs.declared.join.Join.{Join}
-use Rattle.dp_board.specs.Commands.{command_of, commands}
+use Rattle.dp_board.specs.Commands.{command_of, all_commands, commands}
 use Rattle.dp_board.specs.Moves.{flag_with, flags_with, is_draw}
 use Rattle.dp_rollback.specs.declared.kept.Mark.{Mark}
 use Rattle.dp_rollback.specs.Kept.{kept_acts, drawn_among, commands_among, marked}
-use Rattle.dp_rollback.specs.Due.{all_commands}
 
 -- an act of each
 pub length-kept_acts : {Op : Type 0} → (acts : List (UserAct Op)) (joins : List Join)
@@ -102,6 +101,7 @@ command_of-false (Draw op) = refl
 command_of-false Point = refl
 command_of-false (Undo who) = refl
 command_of-false (Redo who) = refl
+command_of-false (Depth d) = refl
 command_of-false Other = refl
 
 pub command_of-is_draw : {Op : Type 0} → (act : Act Op)
@@ -110,4 +110,5 @@ command_of-is_draw (Draw op) = refl
 command_of-is_draw Point = refl
 command_of-is_draw (Undo who) = refl
 command_of-is_draw (Redo who) = refl
+command_of-is_draw (Depth d) = refl
 command_of-is_draw Other = refl

@@ -1,18 +1,13 @@
 -- What an act that comes next may draw.
 use Rattle.std.specs.Prelude.{◌≡◌, ℕ, ◌+◌, ◌-◌, ◌≤◌, length, true, Option, Some, None, List, []}
 use Rattle.std.specs.Prelude.{◌∷◌, drop}
-use Rattle.std.specs.List.{flat_map}
 use Rattle.dp_board.specs.declared.act.Act.{Act}
 use Rattle.dp_board.specs.declared.act.Act.TheVariants.{Draw}
 use Rattle.dp_board.specs.declared.act.UserAct.{UserAct}
 use Rattle.dp_board.specs.declared.act.Change.{Change}
 use Rattle.dp_board.specs.declared.act.Change.TheVariants.{Drew, Rebuilt, Nothing}
 use Rattle.dp_board.specs.Strokes.{moved_by}
-use Rattle.dp_board.specs.Commands.{command_of}
-
--- the commands of some acts, drawn or not
-abbrev pub all_commands : {Op : Type 0} → List (UserAct Op) → List Op
-all_commands acts = flat_map (λ a. command_of a.act true) acts
+use Rattle.dp_board.specs.Commands.{command_of, all_commands}
 
 -- the commands that an act after others may draw, where it moves the group `moved`: its own, or
 -- those that come at most 64 acts before the Point of that group, or later

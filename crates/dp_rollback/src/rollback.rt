@@ -70,6 +70,7 @@ fn copy_act<B: Board>(alloc: Global, act: &Act<B::Op>) -> Result<Act<B::Op>, All
         Act::Undo { who } => Act::Undo { who: *who },
         Act::Redo { who } => Act::Redo { who: *who },
         Act::Draw(op) => Act::Draw(B::copy_op(alloc, op)?),
+        Act::Depth(depth) => Act::Depth(*depth),
         Act::Other => Act::Other,
     })
 }

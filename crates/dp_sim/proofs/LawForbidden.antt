@@ -5,7 +5,9 @@ use Rattle.std.proofs.lemmas.List.{map-append}
 use Rattle.dp_messages.specs.declared.message.Msg.TheVariants as msg
 use Rattle.dp_messages.specs.declared.message.Entry.{Entry}
 use Rattle.dp_messages.specs.Messages.{kind_of}
+use Rattle.dp_msg_draw.specs.declared.draw.Draw.{Draw}
 use Rattle.dp_board.specs.Commands.{drawn_commands}
+use Rattle.dp_board.specs.Laws.{OthersDoNotCount}
 use Rattle.dp_plain.specs.Board.{empty_board}
 use Rattle.dp_plain.specs.Commands.{draw}
 use Rattle.dp_replay.specs.Replay.{replay, user_act_of, undo_depth}
@@ -19,25 +21,25 @@ use Rattle.dp_epochs.specs.State.{State}
 use Rattle.dp_epochs.specs.Effects.{Effect, Nothing, Filtered, Dropped}
 use Rattle.dp_epochs.specs.Effects.{live_after, answer_of, IsStill, IsEffect, EventsHaveEffects}
 use Rattle.dp_sim.specs.Headline.{ChangesNothing, ForbiddenChangesNothing}
-use Rattle.dp_sim.proofs.LawStrokes.{drawn-other}
 
 -- the entry in place of a forbidden message changes no canvas
-replay-filtered : (before after : List Entry) (sender kind : ℕ)
+replay-filtered : OthersDoNotCount Draw → (before after : List Entry) (sender kind : ℕ)
     → replay (before ++ acl.filtered sender kind ∷ after) ≡ replay (before ++ after)
-replay-filtered before after sender kind =
+replay-filtered others before after sender kind =
     ap (λ acts. fold draw empty_board (drawn_commands undo_depth acts))
     (map-append user_act_of before (acl.filtered sender kind ∷ after))
-    ∙ ap (fold draw empty_board) (drawn-other undo_depth sender (map user_act_of before)
+    ∙ ap (fold draw empty_board) (others undo_depth sender (map user_act_of before)
     (map user_act_of after))
     ∙ ap (λ acts. fold draw empty_board (drawn_commands undo_depth acts))
     (sym (map-append user_act_of before after))
 
-entry-nothing : ForbiddenChangesNoRight → (live : List Entry) (sender kind : ℕ)
+entry-nothing : OthersDoNotCount Draw → ForbiddenChangesNoRight → (live : List Entry)
+    (sender kind : ℕ)
     → ChangesNothing live (live ++ acl.filtered sender kind ∷ [])
-entry-nothing rights live sender kind = record {
+entry-nothing others rights live sender kind = record {
   canvas = λ more.
       ap replay (append_assoc live (acl.filtered sender kind ∷ []) more)
-      ∙ replay-filtered live more sender kind;
+      ∙ replay-filtered others live more sender kind;
   rights = λ more user m.
       ap (λ history. permitted history user m) (append_assoc live (acl.filtered sender kind ∷ [])
       more)
@@ -45,20 +47,21 @@ entry-nothing rights live sender kind = record {
 }
 
 -- what is answered Filtered has changed nothing
-effect-nothing : ForbiddenChangesNoRight → (s : State) (e : Event) (effect : Effect)
-    → IsEffect s e effect → (epoch at : ℕ) → answer_of s effect ≡ reply.Filtered epoch at
+effect-nothing : OthersDoNotCount Draw → ForbiddenChangesNoRight → (s : State) (e : Event)
+    (effect : Effect) → IsEffect s e effect → (epoch at : ℕ) → answer_of s effect ≡ reply.Filtered epoch at
     → ChangesNothing s.live (live_after s effect)
-effect-nothing rights s e (Nothing answer) cause epoch at is = absurd (subst IsStill is cause)
-effect-nothing rights s e (Filtered conn c m) cause epoch at is =
-    entry-nothing rights s.live c.user (kind_of m)
-effect-nothing rights s e (Dropped conn c command) cause epoch at is =
-    entry-nothing rights s.live c.user (kind_of (msg.Part command))
-effect-nothing rights s e effect cause epoch at is = cc
+effect-nothing others rights s e (Nothing answer) cause epoch at is = absurd (subst IsStill is cause)
+effect-nothing others rights s e (Filtered conn c m) cause epoch at is =
+    entry-nothing others rights s.live c.user (kind_of m)
+effect-nothing others rights s e (Dropped conn c command) cause epoch at is =
+    entry-nothing others rights s.live c.user (kind_of (msg.Part command))
+effect-nothing others rights s e effect cause epoch at is = cc
 
-pub forbidden-nothing : ForbiddenChangesNoRight → EventsHaveEffects → (s : State)
+pub forbidden-nothing : OthersDoNotCount Draw → ForbiddenChangesNoRight → EventsHaveEffects
+    → (s : State)
     → ForbiddenChangesNothing s
-forbidden-nothing rights effects s conn m epoch at is =
+forbidden-nothing others rights effects s conn m epoch at is =
     let e = event.Say conn m in
     let h = effects s e in
     subst (λ a. ChangesNothing s.live a.state.live) (sym h.made)
-    (effect-nothing rights s e h.effect h.cause epoch at (ap (λ a. a.reply) (sym h.made) ∙ is))
+    (effect-nothing others rights s e h.effect h.cause epoch at (ap (λ a. a.reply) (sym h.made) ∙ is))

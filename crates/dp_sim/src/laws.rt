@@ -3,7 +3,7 @@
 ghost use Rattle.std.specs.Prelude.{◌≡◌, ℕ, List};
 ghost use Rattle.dp_acl.specs.Opening.{opening};
 ghost use Rattle.dp_messages.specs.declared.message.Entry.{Entry};
-ghost use Rattle.dp_msg_draw.specs.declared.draw.Draw.{Draw};
+ghost use Rattle.dp_msg_draw.specs.declared.draw.Draw.{Draw as Command};
 ghost use Rattle.dp_plain.specs.Board.{empty_board};
 ghost use Rattle.dp_plain.specs.Commands.{draw_all};
 ghost use Rattle.dp_replay.specs.Replay.{replay};
@@ -14,9 +14,11 @@ ghost use Rattle.dp_sim.specs.Headline.{Headline, ForbiddenChangesNothing};
 ghost use Rattle.dp_epochs.specs.State.{State};
 
 use dp_acl::forbidden_changes_no_right;
+use dp_board::others_do_not_count;
 use dp_epochs::{
     epochs_rise, events_have_effects, histories_are_marked, histories_grow, steps_lead_on,
 };
+use dp_msg_draw::Draw;
 
 /// What is true of every world: of the first one, and of the one after any action.
 pub fn worlds_stay_worlds()
@@ -38,12 +40,13 @@ pub fn forbidden_changes_nothing()
 {
     forbidden_changes_no_right();
     events_have_effects();
+    others_do_not_count::<Draw>();
 }
 
 /// What an epoch opens with shows the commands of its reset, drawn in order on the empty board: of
 /// the epoch before nothing is seen but what they draw.
 pub fn resets_show_their_commands()
-    ensures { (epoch : ℕ) (history : List Entry) (present : List ℕ) (commands : List Draw)
+    ensures { (epoch : ℕ) (history : List Entry) (present : List ℕ) (commands : List Command)
         → replay (opening epoch history present commands) ≡ draw_all empty_board commands }
 {}
 

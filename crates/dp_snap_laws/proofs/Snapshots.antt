@@ -1,22 +1,17 @@
 -- A snapshot, drawn on the empty board and replayed, gives its board.
-use Rattle.std.proofs.Common.{◌≡◌, ◌≢◌, ◌==◌, ℕ, ◌+◌, ◌≤◌, true, false, List, [], ◌∷◌}
-use Rattle.std.proofs.Common.{◌++◌, map, get_or, Some, refl, ap, sym, ◌∙◌}
-use Rattle.std.proofs.Common.{subst, inl, ⊎_elim, arith, zero-add}
-use Rattle.std.specs.Prelude.{All, pos, ◌+ℤ◌, slice_get}
+use Rattle.std.proofs.Common.{◌≡◌, ◌≢◌, ◌==◌, ℕ, ◌+◌, ◌≤◌, true, false, List, []}
+use Rattle.std.proofs.Common.{◌++◌, map, Some, refl, ap, sym, ◌∙◌}
+use Rattle.std.proofs.Common.{inl, ⊎_elim, arith, zero-add}
+use Rattle.std.specs.Prelude.{pos, ◌+ℤ◌}
 use Rattle.std.specs.List.{fold, flat_map}
 use Rattle.std.proofs.lemmas.Bool.{cases_Bool, eqb-true, eqb-false, le-leb}
-use Rattle.std.proofs.lemmas.List.Elements.{All-nil, All-head, All-tail, All-push}
+use Rattle.std.proofs.lemmas.List.{append-nil}
 use Rattle.std.proofs.lemmas.List.Sums.{fold-append}
-use Rattle.std.proofs.lemmas.Option.{slice_get_within, slice_get-get_or, same_Some}
 use Rattle.std.proofs.lemmas.Simd.{map-map}
 use Rattle.dp_blend.specs.Color.{Channels}
-use Rattle.dp_board.specs.declared.act.Act.{Act}
-use Rattle.dp_board.specs.declared.act.Act.TheVariants as act
 use Rattle.dp_board.specs.declared.act.UserAct.{UserAct}
-use Rattle.dp_board.specs.Strokes.{strokes}
-use Rattle.dp_board.specs.Flags.{is_drawn, flag_of, flags_from}
-use Rattle.dp_board.specs.Commands.{command_of, commands, drawn_commands}
-use Rattle.dp_board.specs.Laws.{GroupsArePoints, IsPointOf, point_of}
+use Rattle.dp_board.specs.Commands.{all_commands, drawn_commands}
+use Rattle.dp_board.specs.Laws.{HasNoPoint, PrefixesWithoutPoints}
 use Rattle.dp_msg_draw.specs.Limits.{IsListedMode}
 use Rattle.dp_layers.specs.Layers.{is_listed_mode}
 use Rattle.dp_layers.specs.Rows.{Row, layers_of}
@@ -25,7 +20,6 @@ use Rattle.dp_plain.specs.Commands.{draw, draw_all}
 use Rattle.dp_plain.proofs.Resizes.{side_if, resized_to}
 use Rattle.dp_snap.specs.Snapshot.{side_commands, background_commands, create_of, moves_after}
 use Rattle.dp_snap.specs.Snapshot.{attrs_of, layer_puts, snapshot}
-use Rattle.dp_snap_laws.specs.Acts.{commands_of, IsNoPoint}
 use Rattle.dp_snap_laws.proofs.Making.{with_rows, shown_row, create_all, move_all, attr_all}
 use Rattle.dp_snap_laws.proofs.Layers.{fill_all}
 
@@ -103,51 +97,10 @@ module _ (board : Board) (whole : IsBoard board) where
 
 -- ---- replayed
 
-module _ {Op : Type 0} (depth : ℕ) (law : GroupsArePoints Op) where
-  at_index : (P : UserAct Op → Type 0) (acts : List (UserAct Op)) (k : ℕ) (a : UserAct Op)
-      → All P acts → slice_get acts k ≡ Some a → P a
-  at_index P acts k a each found =
-      let within = slice_get_within acts k a found in
-      let is : get_or acts k a ≡ a =
-      same_Some (get_or acts k a) a (sym (slice_get-get_or acts k a within) ∙ found) in
-      subst P is (each k a within)
-
-  -- without points there are no groups
-  none_done : (user : ℕ) (acts : List (UserAct Op)) → All IsNoPoint acts
-      → (strokes depth user acts).groups.done ≡ []
-  none_done user acts none =
-      no_groups (strokes depth user acts).groups.done (law depth user acts).0
-    where
-      no_groups : (done : List ℕ) → All (IsPointOf user acts) done → done ≡ []
-      no_groups [] each = refl
-      no_groups (g ∷ done) each =
-          absurd (at_index IsNoPoint acts g (point_of user) none
-          (All-head (IsPointOf user acts) g done each))
-
-  drawn_of : (all before : List (UserAct Op)) (user : ℕ) → All IsNoPoint before
-      → is_drawn depth all before user ≡ true
-  drawn_of all before user none = rw (none_done user before none) refl
-
-  command_drawn : (all before : List (UserAct Op)) (user : ℕ) (a : Act Op) → All IsNoPoint before
-      → command_of a (flag_of depth all before user a) ≡ command_of a true
-  command_drawn all before user (act.Draw op) none = rw (drawn_of all before user none) refl
-  command_drawn all before user act.Point none = refl
-  command_drawn all before user (act.Undo who) none = refl
-  command_drawn all before user (act.Redo who) none = refl
-  command_drawn all before user act.Other none = refl
-
-  all_from : (all before rest : List (UserAct Op)) → All IsNoPoint before → All IsNoPoint rest
-      → commands rest (flags_from depth all before rest) ≡ commands_of rest
-  all_from all before [] none more = refl
-  all_from all before (a ∷ rest) none more =
-      ap (λ ops. ops ++ commands rest (flags_from depth all (before ++ a ∷ []) rest))
-      (command_drawn all before a.user a.act none)
-      ∙ ap (λ ops. command_of a.act true ++ ops)
-      (all_from all (before ++ a ∷ []) rest
-      (All-push IsNoPoint before a none (All-head IsNoPoint a rest more))
-      (All-tail IsNoPoint a rest more))
-
-  -- without points each command is drawn
-  pub all_drawn : (acts : List (UserAct Op)) → All IsNoPoint acts
-      → drawn_commands depth acts ≡ commands_of acts
-  all_drawn acts none = all_from acts [] acts (All-nil IsNoPoint) none
+-- without points each command is drawn
+pub all_drawn : {Op : Type 0} → PrefixesWithoutPoints Op → (depth : ℕ) (acts : List (UserAct Op))
+    → HasNoPoint acts → drawn_commands depth acts ≡ all_commands acts
+all_drawn law depth acts none =
+    ap (drawn_commands depth) (sym (append-nil acts))
+    ∙ law depth acts [] none
+    ∙ append-nil (all_commands acts)

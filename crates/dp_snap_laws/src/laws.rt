@@ -3,6 +3,8 @@
 //! The rule: docs/protocol.md, "Snapshots".
 
 ghost use Rattle.std.specs.Prelude.{◌≡◌, ℕ, List, All};
+ghost use Rattle.dp_board.specs.Commands.{all_commands};
+ghost use Rattle.dp_board.specs.Laws.{HasNoPoint};
 ghost use Rattle.dp_board.specs.Replay.{replay as replay_acts};
 ghost use Rattle.dp_board.specs.declared.act.UserAct.{UserAct};
 ghost use Rattle.dp_messages.specs.declared.message.Entry.{Entry};
@@ -12,9 +14,8 @@ ghost use Rattle.dp_plain.specs.Board.{Board, HasPixels, IsBoard, empty_board};
 ghost use Rattle.dp_plain.specs.Commands.{draw, draw_all};
 ghost use Rattle.dp_replay.specs.Replay.{replay};
 ghost use Rattle.dp_snap.specs.Snapshot.{snapshot};
-ghost use Rattle.dp_snap_laws.specs.Acts.{commands_of, IsNoPoint};
 
-use dp_board::{Board as Drawn, groups_are_points};
+use dp_board::{Board as Drawn, prefixes_without_points};
 use dp_layers::{listed_modes, trees_stay_trees};
 use dp_msg_draw::Draw;
 use dp_plain::{PlainBoard, PlainPixels, spelled_commands_keep_pixels};
@@ -26,14 +27,14 @@ pub fn snapshots_replay()
     ensures drawn { (board : Board) → IsBoard board → HasPixels board
         → draw_all empty_board (snapshot board) ≡ board }
     ensures replayed { (board : Board) (depth : ℕ) (acts : List (UserAct Message))
-        → IsBoard board → HasPixels board → All IsNoPoint acts
-        → commands_of acts ≡ snapshot board
+        → IsBoard board → HasPixels board → HasNoPoint acts
+        → all_commands acts ≡ snapshot board
         → replay_acts draw empty_board depth acts ≡ board }
     ensures again { (entries : List Entry) → All (λ e. HasSpelling e.msg) entries
         → draw_all empty_board (snapshot (replay entries)) ≡ replay entries }
 {
     listed_modes();
-    groups_are_points::<Draw>();
+    prefixes_without_points::<Draw>();
     replays_are_boards();
     replays_have_pixels();
 }

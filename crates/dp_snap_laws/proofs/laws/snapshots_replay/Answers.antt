@@ -13,7 +13,7 @@ returns-clause-drawn c = λ board whole has.
 pub returns-clause-replayed : goal.returns-clause-replayed
 returns-clause-replayed c = λ board depth acts whole has none are.
     ap (fold draw empty_board)
-    (all_drawn depth c.groups_are_points.ensures.groups acts none ∙ are)
+    (all_drawn c.prefixes_without_points.ensures depth acts none ∙ are)
     ∙ snapshot_drawn board whole has (λ mode. (c.listed_modes.ensures mode).1)
 
 pub returns-clause-again : goal.returns-clause-again
