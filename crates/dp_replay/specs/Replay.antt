@@ -2,6 +2,8 @@
 use Rattle.std.specs.Prelude.{ℕ, ◌==◌, Bool, true, false, List, map, if◌then◌else◌}
 use Rattle.std.specs.List.{after_last}
 use Rattle.dp_msg_draw.specs.declared.draw.Draw.{Draw}
+use Rattle.dp_msg_meta.specs.declared.message.Meta.{Meta}
+use Rattle.dp_msg_meta.specs.declared.message.Meta.TheVariants.{UndoDepth}
 use Rattle.dp_messages.specs.declared.message.Msg.{Msg}
 use Rattle.dp_messages.specs.declared.message.Msg.TheVariants as msg
 use Rattle.dp_messages.specs.declared.message.Entry.{Entry}
@@ -9,6 +11,7 @@ use Rattle.dp_messages.specs.Properties.{is_reset_mark}
 use Rattle.dp_board.specs.declared.act.Act.{Act}
 use Rattle.dp_board.specs.declared.act.Act.TheVariants as act
 use Rattle.dp_board.specs.declared.act.UserAct.{UserAct}
+use Rattle.dp_board.specs.Laws.{depth_after}
 use Rattle.dp_board.specs.Replay as strokes
 use Rattle.dp_plain.specs.Board.{Board, empty_board}
 use Rattle.dp_plain.specs.Commands.{draw}
@@ -17,6 +20,11 @@ use Rattle.dp_plain.specs.Commands.{draw}
 abbrev pub moved_user : ℕ → ℕ → ℕ
 moved_user sender target = if target == 0 then sender else target
 
+-- what a message on the session does to strokes: that of the undo depth sets the depth
+abbrev pub act_of_meta : {Op : Type 0} → Meta → Act Op
+act_of_meta (UndoDepth depth) = act.Depth depth
+act_of_meta m = act.Other
+
 -- what a message of a sender does to strokes
 abbrev pub act_of_message : ℕ → Msg → Act Draw
 act_of_message sender msg.Point = act.Point
@@ -24,7 +32,7 @@ act_of_message sender (msg.Undo target false) = act.Undo (moved_user sender targ
 act_of_message sender (msg.Undo target true) = act.Redo (moved_user sender target)
 act_of_message sender (msg.Draw command) = act.Draw command
 act_of_message sender (msg.Control m) = act.Other
-act_of_message sender (msg.Meta m) = act.Other
+act_of_message sender (msg.Meta m) = act_of_meta m
 act_of_message sender (msg.Part command) = act.Other
 act_of_message sender (msg.Opaque kind body) = act.Other
 
@@ -36,13 +44,22 @@ act_of entry = act_of_message entry.user entry.msg
 abbrev pub user_act_of : Entry → UserAct Draw
 user_act_of entry = record { user = entry.user; act = act_of entry }
 
--- a group can be undone and redone while its point is among the last 30
+-- how many of the last points undo and redo reach at the start of a history
 abbrev pub undo_depth : ℕ
 undo_depth = 30
 
--- the commands of a history that are drawn at its end, in its order, from a blank board of any kind
+-- the depth in force after a history: the last that was set, or that of the start
+abbrev pub depth_in_force : List Entry → ℕ
+depth_in_force entries = depth_after undo_depth (map user_act_of entries)
+
+-- the commands of entries that are drawn at their end, in their order, from a board of any kind and
+-- a depth on
+abbrev pub replay_from : {B : Type 0} → (B → Draw → B) → B → ℕ → List Entry → B
+replay_from draw board depth entries = strokes.replay draw board depth (map user_act_of entries)
+
+-- those of a history, from a blank board on
 abbrev pub replay_on : {B : Type 0} → (B → Draw → B) → B → List Entry → B
-replay_on draw blank entries = strokes.replay draw blank undo_depth (map user_act_of entries)
+replay_on draw blank entries = replay_from draw blank undo_depth entries
 
 -- these commands on an empty board
 abbrev pub replay : List Entry → Board

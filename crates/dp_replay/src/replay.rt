@@ -7,18 +7,19 @@ ghost use Rattle.std.specs.List.{after_last, fold};
 ghost use Rattle.dp_board.specs.Commands.{command_of, commands, drawn_commands};
 ghost use Rattle.dp_board.specs.Counts.{CountsFew};
 ghost use Rattle.dp_replay.specs.Kinds.{kind_of_entry};
-ghost use Rattle.dp_replay.specs.Replay.{act_of, user_act_of, is_command, is_mark, moved_user};
-ghost use Rattle.dp_replay.specs.Replay.{undo_depth, shown, shown_on, replay_on};
+ghost use Rattle.dp_replay.specs.Replay.{act_of, act_of_meta, user_act_of, is_command, is_mark};
+ghost use Rattle.dp_replay.specs.Replay.{moved_user, undo_depth, shown, shown_on, replay_on};
 
 use dp_board::{Act, Board, UserAct, commands_do_not_count, drawn_flags, each_act_has_a_flag};
 use dp_messages::{Entry, Msg};
 use dp_msg_draw::Draw;
+use dp_msg_meta::Meta;
 use dp_plain::PlainBoard;
 use dp_steps::Steps;
 use std::alloc::{AllocError, Global};
 use std::sync::ledger::Ledger;
 
-/// A group of strokes can be undone and redone while its point is among as many last ones.
+/// How many of the last points undo and redo reach at the start of a history.
 pub const UNDO_DEPTH: u32 = 30;
 
 /// What an entry does to strokes, with a copy of its command.
@@ -38,11 +39,23 @@ pub fn act_of(entry: &Entry) -> Result<Act<Draw>, AllocError>
             who: moved_user(user, *target),
         },
         Msg::Draw(command) => Act::Draw(command.copy()?),
-        Msg::Control(_) | Msg::Meta(_) | Msg::Part(_) | Msg::Opaque { .. } => Act::Other,
+        Msg::Meta(meta) => act_of_meta(meta),
+        Msg::Control(_) | Msg::Part(_) | Msg::Opaque { .. } => Act::Other,
     })
 }
 
+/// What a message on the session does to strokes.
+fn act_of_meta<Op>(meta: &Meta) -> Act<Op>
+    ensures { result ≡ act_of_meta meta.now }
+{
+    match meta {
+        Meta::UndoDepth { depth } => Act::Depth(*depth),
+        _ => Act::Other,
+    }
+}
+
 /// What an entry does to strokes, with the user who sent it. The command is moved, not copied.
+#[inline(always)]
 pub fn act_of_entry(entry: Entry) -> UserAct<Draw>
     ensures { result ≡ user_act_of entry }
 {
@@ -60,7 +73,7 @@ pub fn act_of_entry(entry: Entry) -> UserAct<Draw>
         },
         Msg::Draw(command) => Act::Draw(command),
         Msg::Control(_control) => Act::Other,
-        Msg::Meta(_meta) => Act::Other,
+        Msg::Meta(meta) => act_of_meta(&meta),
         Msg::Part(_part) => Act::Other,
         Msg::Opaque { body: _body, .. } => Act::Other,
     };
@@ -187,7 +200,8 @@ fn kind_of_entry(entry: &Entry) -> UserAct<()>
             who: moved_user(user, *target),
         },
         Msg::Draw(_) => Act::Draw(()),
-        Msg::Control(_) | Msg::Meta(_) | Msg::Part(_) | Msg::Opaque { .. } => Act::Other,
+        Msg::Meta(meta) => act_of_meta(meta),
+        Msg::Control(_) | Msg::Part(_) | Msg::Opaque { .. } => Act::Other,
     };
     UserAct { user, act }
 }

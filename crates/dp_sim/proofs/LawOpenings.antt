@@ -1,28 +1,31 @@
--- What an epoch opens with shows the commands of its reset.
+-- What an epoch opens with shows the commands of its reset, and what comes after it goes on from
+-- there.
 use Rattle.std.proofs.Common.{◌≡◌, ℕ, zero, suc, ◌==◌, Bool, true, false, cond, List, [], ◌∷◌}
-use Rattle.std.proofs.Common.{◌++◌, map, fold, Option, None, Some, is_some, refl, ap, subst, ◌∙◌}
+use Rattle.std.proofs.Common.{◌++◌, map, fold, Option, None, Some, is_some, refl, ap, sym, subst}
+use Rattle.std.proofs.Common.{◌∙◌, append_assoc}
 use Rattle.std.proofs.Common.{⊎_elim, length}
 use Rattle.std.specs.Prelude.{◌-◌}
 use Rattle.std.specs.List.{AllByRecursion, filter, filter_map, cons_option, slice_get}
-use Rattle.std.proofs.lemmas.Bool.{cond_both, cases_Bool, and_parts}
+use Rattle.std.proofs.lemmas.Bool.{cases_Bool, and_parts}
+use Rattle.std.proofs.lemmas.List.{append-nil, map-append}
 use Rattle.std.proofs.lemmas.List.Sums.{fold-append}
 use Rattle.dp_msg_draw.specs.declared.draw.Draw.{Draw}
 use Rattle.dp_msg_meta.specs.declared.message.Meta.{Meta}
+use Rattle.dp_msg_meta.specs.declared.message.Meta.TheVariants.{UndoDepth, ResetMark}
 use Rattle.dp_messages.specs.declared.message.Msg.{Msg}
 use Rattle.dp_messages.specs.declared.message.Msg.TheVariants as msg
 use Rattle.dp_messages.specs.declared.message.Entry.{Entry}
 use Rattle.dp_messages.specs.Properties as properties
-use Rattle.dp_board.specs.declared.act.UserAct.{UserAct}
-use Rattle.dp_board.specs.Strokes.{Strokes, Groups, groups_after, after_act, concerned, strokes}
-use Rattle.dp_board.specs.Flags.{is_group_drawn, is_drawn, flag_of, flags_from}
-use Rattle.dp_board.specs.Strokes.{no_strokes, last_of}
-use Rattle.dp_board.specs.Commands.{command_of, commands}
+use Rattle.dp_board.specs.Commands.{command_of, all_commands, drawn_commands}
+use Rattle.dp_board.specs.Laws.{is_point, HasNoPoint, PrefixesWithoutPoints}
 use Rattle.dp_plain.specs.Board.{empty_board}
 use Rattle.dp_plain.specs.Commands.{draw, draw_all}
-use Rattle.dp_replay.specs.Replay.{replay, act_of_message, user_act_of, undo_depth}
+use Rattle.dp_replay.specs.Replay.{replay, replay_from, act_of_meta, act_of_message, user_act_of}
+use Rattle.dp_replay.specs.Replay.{undo_depth, depth_in_force}
 use Rattle.dp_acl.specs.LookBack.{joined, is_join_of}
 use Rattle.dp_acl.specs.Carried.{carried}
 use Rattle.dp_acl.specs.Opening.{server_entry, command_entry, last_join, opening}
+use Rattle.dp_sim.proofs.LawDepths.{joins-none, depth-opening}
 
 -- the message moves no strokes
 abbrev IsPlain : Msg → Type 0
@@ -41,76 +44,66 @@ ArePlain entries = AllByRecursion (λ e. IsPlain e.msg) entries
 abbrev AreMeta : List Entry → Type 0
 AreMeta entries = AllByRecursion (λ e. IsMeta e.msg) entries
 
--- ---- without groups each command is drawn
+-- ---- what shows of a history that begins so
 
--- nobody has done a group
-abbrev NoneDone : List (UserAct Draw) → Type 0
-NoneDone acts = (user : ℕ) → (strokes undo_depth user acts).groups.done ≡ []
+-- a message on the session is no Point
+meta-no_point : (m : Meta) → is_point (act_of_meta {Op = Draw} m) ≡ false
+meta-no_point (UndoDepth depth) = refl
+meta-no_point m = refl
 
-plain-groups : (s : Strokes) (sender : ℕ) (m : Msg) → IsPlain m → s.groups.done ≡ []
-    → (groups_after s (act_of_message sender m)).done ≡ []
-plain-groups s sender (msg.Meta m) plain none = none
-plain-groups s sender (msg.Draw command) plain none = none
-plain-groups s sender (msg.Control m) plain none = absurd plain
-plain-groups s sender (msg.Part command) plain none = absurd plain
-plain-groups s sender msg.Point plain none = absurd plain
-plain-groups s sender (msg.Undo target redo) plain none = absurd plain
-plain-groups s sender (msg.Opaque kind body) plain none = absurd plain
+act-no_point : (sender : ℕ) (m : Msg) → IsPlain m → is_point (act_of_message sender m) ≡ false
+act-no_point sender (msg.Meta m) plain = meta-no_point m
+act-no_point sender (msg.Draw command) plain = refl
+act-no_point sender (msg.Control m) plain = absurd plain
+act-no_point sender (msg.Part command) plain = absurd plain
+act-no_point sender msg.Point plain = absurd plain
+act-no_point sender (msg.Undo target redo) plain = absurd plain
+act-no_point sender (msg.Opaque kind body) plain = absurd plain
 
-none-more : (acts : List (UserAct Draw)) (e : Entry) → IsPlain e.msg → NoneDone acts
-    → NoneDone (acts ++ user_act_of e ∷ [])
-none-more acts e plain none user =
-    let s = strokes undo_depth user acts in
-    let a = user_act_of e in
-    ap (λ (t : Strokes). t.groups.done)
-    (fold-append (after_act user) (no_strokes undo_depth) acts (a ∷ []))
-    ∙ cond_both (concerned a == user) (groups_after s a.act) s.groups (λ (g : Groups). g.done ≡ [])
-    (λ yes. plain-groups s e.user e.msg plain (none user)) (λ other. none user)
-
-drawn-before : (all before : List (UserAct Draw)) (user : ℕ) → NoneDone before
-    → is_drawn undo_depth all before user ≡ true
-drawn-before all before user none =
-    ap (λ done. is_group_drawn (strokes undo_depth user all).groups.done (last_of done)) (none user)
+no_points : (entries : List Entry) → ArePlain entries → HasNoPoint (map user_act_of entries)
+no_points [] plain = tt
+no_points (e ∷ entries) plain = (act-no_point e.user e.msg plain.0, no_points entries plain.1)
 
 -- the command of an entry, if it is one
 abbrev commands_of : List Entry → List Draw
 commands_of entries = filter_map (λ e. properties.command_of e.msg) entries
 
-first-drawn : (all before : List (UserAct Draw)) (e : Entry) (rest : List Draw) → IsPlain e.msg
-    → NoneDone before
-    → command_of (user_act_of e).act (flag_of undo_depth all before e.user (user_act_of e).act)
-    ++ rest ≡ cons_option (properties.command_of e.msg) rest
-first-drawn all before e rest plain none = by_message e.user e.msg plain
-  where
-    by_message : (sender : ℕ) (m : Msg) → IsPlain m
-        → command_of (act_of_message sender m)
-        (flag_of undo_depth all before sender (act_of_message sender m)) ++ rest
-        ≡ cons_option (properties.command_of m) rest
-    by_message sender (msg.Meta m) plain = refl
-    by_message sender (msg.Draw command) plain =
-        ap (λ b. command_of (act_of_message sender (msg.Draw command)) b ++ rest)
-        (drawn-before all before sender none)
-    by_message sender (msg.Control m) plain = absurd plain
-    by_message sender (msg.Part command) plain = absurd plain
-    by_message sender msg.Point plain = absurd plain
-    by_message sender (msg.Undo target redo) plain = absurd plain
-    by_message sender (msg.Opaque kind body) plain = absurd plain
+-- a message on the session is no command
+meta-no_command : (m : Meta) → command_of (act_of_meta {Op = Draw} m) true ≡ []
+meta-no_command (UndoDepth depth) = refl
+meta-no_command m = refl
 
-all-drawn : (all before : List (UserAct Draw)) (rest : List Entry) → NoneDone before
-    → ArePlain rest
-    → commands (map user_act_of rest) (flags_from undo_depth all before (map user_act_of rest))
-    ≡ commands_of rest
-all-drawn all before [] none plain = refl
-all-drawn all before (e ∷ rest) none plain =
-    first-drawn all before e (commands (map user_act_of rest) (flags_from undo_depth all
-    (before ++ user_act_of e ∷ []) (map user_act_of rest))) plain.0 none
-    ∙ ap (cons_option (properties.command_of e.msg))
-    (all-drawn all (before ++ user_act_of e ∷ []) rest (none-more before e plain.0 none) plain.1)
+first-command : (sender : ℕ) (m : Msg) (rest : List Draw) → IsPlain m
+    → command_of (act_of_message sender m) true ++ rest
+    ≡ cons_option (properties.command_of m) rest
+first-command sender (msg.Meta m) rest plain = ap (λ ops. ops ++ rest) (meta-no_command m)
+first-command sender (msg.Draw command) rest plain = refl
+first-command sender (msg.Control m) rest plain = absurd plain
+first-command sender (msg.Part command) rest plain = absurd plain
+first-command sender msg.Point rest plain = absurd plain
+first-command sender (msg.Undo target redo) rest plain = absurd plain
+first-command sender (msg.Opaque kind body) rest plain = absurd plain
 
-replay-plain : (entries : List Entry) → ArePlain entries
-    → replay entries ≡ draw_all empty_board (commands_of entries)
-replay-plain entries plain =
-    ap (fold draw empty_board) (all-drawn (map user_act_of entries) [] entries (λ user. refl) plain)
+all-commands : (entries : List Entry) → ArePlain entries
+    → all_commands (map user_act_of entries) ≡ commands_of entries
+all-commands [] plain = refl
+all-commands (e ∷ entries) plain =
+    first-command e.user e.msg (all_commands (map user_act_of entries)) plain.0
+    ∙ ap (cons_option (properties.command_of e.msg)) (all-commands entries plain.1)
+
+-- its commands are drawn, and what comes after them goes on from there
+replay-plain : PrefixesWithoutPoints Draw → (entries more : List Entry) → ArePlain entries
+    → replay (entries ++ more)
+    ≡ replay_from draw (draw_all empty_board (commands_of entries)) (depth_in_force entries) more
+replay-plain law entries more plain =
+    let before = map user_act_of entries in
+    let after = map user_act_of more in
+    let rest = drawn_commands (depth_in_force entries) after in
+    ap (λ acts. fold draw empty_board (drawn_commands undo_depth acts))
+    (map-append user_act_of entries more)
+    ∙ ap (fold draw empty_board) (law undo_depth before after (no_points entries plain))
+    ∙ fold-append draw empty_board (all_commands before) rest
+    ∙ ap (λ ops. fold draw (fold draw empty_board ops) rest) (all-commands entries plain)
 
 -- ---- what an epoch opens with
 
@@ -158,26 +151,33 @@ found-passes {X} p (y ∷ ys) x i h =
     (subst (λ b. slice_get (cond b (y ∷ filter p ys) (filter p ys)) i ≡ Some x) other h))
     (cases_Bool (p y))
 
+abbrev AreJoins : List Entry → Type 0
+AreJoins entries = AllByRecursion (λ e. is_some (joined e.msg) ≡ true) entries
+
 joined-meta : (m : Msg) → is_some (joined m) ≡ true → IsMeta m
 joined-meta (msg.Meta m) some = tt
 joined-meta m some = cc
 
 -- the last Joins
-joins-meta : (history : List Entry) (users : List ℕ)
-    → AreMeta (filter_map (last_join history) users)
-joins-meta history [] = tt
-joins-meta history (user ∷ users) =
+joins-joined : (history : List Entry) (users : List ℕ)
+    → AreJoins (filter_map (last_join history) users)
+joins-joined history [] = tt
+joins-joined history (user ∷ users) =
     one (last_join history user) (filter_map (last_join history) users)
     (λ e is. (and_parts (is_some (joined e.msg)) (e.user == user)
     (found-passes (is_join_of user) history e (length (filter (is_join_of user) history) - 1)
     is)).0)
-    (joins-meta history users)
+    (joins-joined history users)
   where
     one : (o : Option Entry) (rest : List Entry)
-        → ((e : Entry) → o ≡ Some e → is_some (joined e.msg) ≡ true) → AreMeta rest
-        → AreMeta (cons_option o rest)
-    one None rest some metas = metas
-    one (Some e) rest some metas = (joined-meta e.msg (some e refl), metas)
+        → ((e : Entry) → o ≡ Some e → is_some (joined e.msg) ≡ true) → AreJoins rest
+        → AreJoins (cons_option o rest)
+    one None rest some are = are
+    one (Some e) rest some are = (some e refl, are)
+
+joins-meta : (entries : List Entry) → AreJoins entries → AreMeta entries
+joins-meta [] are = tt
+joins-meta (e ∷ entries) are = (joined-meta e.msg are.0, joins-meta entries are.1)
 
 server-meta : (ms : List Meta) → AreMeta (map server_entry ms)
 server-meta [] = tt
@@ -191,18 +191,32 @@ drawn-commands : (list : List Draw) → commands_of (map command_entry list) ≡
 drawn-commands [] = refl
 drawn-commands (command ∷ list) = ap (λ xs. command ∷ xs) (drawn-commands list)
 
--- it shows the commands of the reset
-pub opening-shows : (epoch : ℕ) (history : List Entry) (present : List ℕ) (list : List Draw)
-    → replay (opening epoch history present list) ≡ draw_all empty_board list
-opening-shows epoch history present list =
+-- it shows the commands of the reset, and what it keeps and what comes after it go on from there
+pub openings_go_on : PrefixesWithoutPoints Draw → (epoch : ℕ) (history : List Entry)
+    (present : List ℕ) (list : List Draw) (kept more : List Entry)
+    → replay (opening epoch history present list kept ++ more)
+    ≡ replay_from draw (draw_all empty_board list) (depth_in_force history) (kept ++ more)
+openings_go_on law epoch history present list kept more =
     let joins = filter_map (last_join history) present in
     let rights = map server_entry (carried history present) in
     let drawn = map command_entry list in
+    let first = joins ++ rights ++ drawn in
+    let mark = server_entry (ResetMark epoch (length (first ++ kept))) in
+    let are : AreJoins joins = joins-joined history present in
     let metas : AreMeta (joins ++ rights) =
-    metas-append joins rights (joins-meta history present) (server-meta (carried history present))
-    in
-    let plain : ArePlain (joins ++ rights ++ drawn) =
-    plain-append (joins ++ rights) drawn metas (drawn-plain list) in
-    replay-plain (opening epoch history present list) (tt, plain)
-    ∙ ap (draw_all empty_board)
-    (meta-commands (joins ++ rights) drawn metas ∙ drawn-commands list)
+    metas-append joins rights (joins-meta joins are) (server-meta (carried history present)) in
+    let plain : ArePlain first = plain-append (joins ++ rights) drawn metas (drawn-plain list) in
+    ap (λ entries. replay (mark ∷ entries)) (append_assoc first kept more)
+    ∙ replay-plain law (mark ∷ first) (kept ++ more) (tt, plain)
+    ∙ ap (λ ops. replay_from draw (draw_all empty_board ops) (depth_in_force (mark ∷ first))
+    (kept ++ more)) (meta-commands (joins ++ rights) drawn metas ∙ drawn-commands list)
+    ∙ ap (λ depth. replay_from draw (draw_all empty_board list) depth (kept ++ more))
+    (depth-opening undo_depth history joins present list (joins-none joins are))
+
+-- it shows the commands of the reset
+pub opening-shows : PrefixesWithoutPoints Draw → (epoch : ℕ) (history : List Entry)
+    (present : List ℕ) (list : List Draw)
+    → replay (opening epoch history present list []) ≡ draw_all empty_board list
+opening-shows law epoch history present list =
+    ap replay (sym (append-nil (opening epoch history present list [])))
+    ∙ openings_go_on law epoch history present list [] []
