@@ -50,10 +50,10 @@ impl Rights {
         ensures { OnOk result (metas.new.items ≡ metas.old.items
             ++ option_to_list (option_map UndoDepth self.now.depth)) }
     {
-        match self.depth {
-            Some(depth) => metas.push(Meta::UndoDepth { depth }),
-            None => Ok(()),
+        if let Some(depth) = self.depth {
+            metas.push(Meta::UndoDepth { depth })?;
         }
+        Ok(())
     }
 
     /// 0, where all are locked, and the present ids that are listed.

@@ -1,7 +1,7 @@
 -- What an event does is one of the effects, and what they all leave as it was.
 use Rattle.std.proofs.Common.{◌≡◌, ℕ, zero, suc, ◌+◌, ◌-◌, ◌≤◌, ◌==◌, ◌&&◌, not, Bool, true, false}
 use Rattle.std.proofs.Common.{if◌then◌else◌, List, [], ◌∷◌, ◌++◌, length, Option, None, Some}
-use Rattle.std.proofs.Common.{is_some}
+use Rattle.std.proofs.Common.{is_some, IfSome}
 use Rattle.std.proofs.Common.{refl, sym, ap, subst, ◌∙◌, ⊎_elim, arith, append-nil, append_assoc}
 use Rattle.std.specs.Prelude.{slice_set, slice_index_or}
 use Rattle.std.specs.Option.{option_map, option_map_or}
@@ -16,7 +16,6 @@ use Rattle.dp_acl.specs.Rights.{is_operator}
 use Rattle.dp_acl.specs.Permitted.{permitted}
 use Rattle.dp_acl.specs.Opening.{opening}
 use Rattle.dp_lists.specs.Numbered.{numbered}
-use Rattle.dp_lists.proofs.Options.{option_both}
 use Rattle.dp_lists.proofs.Numbered.{number-found, numbered-other, numbered-same, numbered-old}
 use Rattle.dp_events.specs.declared.connection.Connection.{Connection}
 use Rattle.dp_events.specs.declared.connection.Ending.TheVariants as ending
@@ -164,6 +163,7 @@ heard-reason s conn c (msg.Control control.ResetBegin) ready =
     )) (λ no. ready)
 heard-reason s conn c (msg.Control control.ResetEnd) ready =
     end-reason s conn c ready (reset_of s conn c) refl
+heard-reason s conn c (msg.Control (control.ResetFrom at)) ready = ready
 heard-reason s conn c (msg.Part command) ready =
     part-reason s conn c command ready (reset_of s conn c) refl
 heard-reason s conn c m ready = judged-reason s conn c m ready
@@ -204,7 +204,7 @@ nothing-made : (s : State) (r : Reply) → stays s r ≡ made s (Nothing r)
 nothing-made s r =
     ap (λ live. record { state = record s { live = live }; reply = r }) (sym (append-nil s.live))
 
-nothing-done : (s : State) (e : Event) (r : Reply) → IsStill r → HasEffect s e (stays s r)
+nothing-done : (s : State) (e : Event) (r : Reply) → IsStill s e r → HasEffect s e (stays s r)
 nothing-done s e r still =
     record { effect = Nothing r; cause = still; made = nothing-made s r }
 
@@ -212,7 +212,7 @@ open-effect : (s : State) (name : List ℕ) (registered : Bool) (o : Option ℕ)
     → is_name name ≡ true
     → HasEffect s (event.Open name registered) (opened_as s registered name o)
 open-effect s name registered None is named =
-    nothing-done s (event.Open name registered) reply.Full tt
+    nothing-done s (event.Open name registered) reply.Full (named, is)
 open-effect s name registered (Some user) is named = record {
   effect = Joined user registered name (owner_on_join s user);
   cause = record { came = refl; named = named; free = is; owner = refl };
@@ -307,7 +307,8 @@ say-effect : (s : State) (conn : ℕ) (c : Connection) (m : Msg) → IsOpenAt s 
     → (d : Decision) → decided s conn c m ≡ d → Reason s conn c m d
     → HasEffect s (event.Say conn m) (acted_by s conn c m d)
 say-effect s conn c m at decision.Ignore is why =
-    nothing-done s (event.Say conn m) reply.Ignored tt
+    nothing-done s (event.Say conn m) reply.Ignored
+    (subst (λ o. IfSome o (λ c. decided s conn c m ≡ decision.Ignore)) (sym at.found) is)
 say-effect s conn c m at decision.Acknowledge is why = record {
   effect = TakesUp conn c;
   cause = (m, record { came = refl; at = at; decided = is }, why);
@@ -366,24 +367,30 @@ close-effect s conn c at =
       }) (append_assoc s.live (entry_of c.user (msg.Meta Leave) ∷ []) (next_owner next));
     }
 
+said-effect : (s : State) (conn : ℕ) (m : Msg) (o : Option Connection)
+    → open_connection s conn ≡ o
+    → HasEffect s (event.Say conn m)
+    (option_map_or (says_by s conn m) o (stays s reply.Ignored))
+said-effect s conn m None is =
+    nothing-done s (event.Say conn m) reply.Ignored
+    (subst (λ o. IfSome o (λ c. decided s conn c m ≡ decision.Ignore)) (sym is) tt)
+said-effect s conn m (Some c) is =
+    say-effect s conn c m (open-at s conn c is) (decided s conn c m) refl (decided-reason s conn c m)
+
+closed-effect : (s : State) (conn : ℕ) (o : Option Connection) → open_connection s conn ≡ o
+    → HasEffect s (event.Close conn) (option_map_or (closed_by s conn) o (stays s reply.Ignored))
+closed-effect s conn None is = nothing-done s (event.Close conn) reply.Ignored is
+closed-effect s conn (Some c) is = close-effect s conn c (open-at s conn c is)
+
 -- what an event does is one of the effects
 pub has-effect : (s : State) (e : Event) → HasEffect s e (acted s e)
 has-effect s (event.Open name registered) =
     cond_both (is_name name) (opened_as s registered name (free_id s)) (stays s reply.NameRefused)
     (HasEffect s (event.Open name registered))
     (λ named. open-effect s name registered (free_id s) refl named)
-    (λ no. nothing-done s (event.Open name registered) reply.NameRefused tt)
-has-effect s (event.Say conn m) =
-    option_both (says_by s conn m) (open_connection s conn) (stays s reply.Ignored)
-    (HasEffect s (event.Say conn m))
-    (λ c found. say-effect s conn c m (open-at s conn c found) (decided s conn c m) refl
-    (decided-reason s conn c m))
-    (nothing-done s (event.Say conn m) reply.Ignored tt)
-has-effect s (event.Close conn) =
-    option_both (closed_by s conn) (open_connection s conn) (stays s reply.Ignored)
-    (HasEffect s (event.Close conn))
-    (λ c found. close-effect s conn c (open-at s conn c found))
-    (nothing-done s (event.Close conn) reply.Ignored tt)
+    (λ no. nothing-done s (event.Open name registered) reply.NameRefused no)
+has-effect s (event.Say conn m) = said-effect s conn m (open_connection s conn) refl
+has-effect s (event.Close conn) = closed-effect s conn (open_connection s conn) refl
 
 -- ---- what they leave
 
@@ -424,7 +431,7 @@ histories-go_on : (s : State) (effect : Effect) (k : ℕ)
     → Continues (history_of s k)
     (slice_index_or (ended_after s effect ++ live_after s effect ∷ []) k [])
 histories-go_on s (Reopened conn c commands) k =
-    opened-grows s.ended s.live (opening (epoch_of s + 1) s.live (present_users s) commands) k
+    opened-grows s.ended s.live (opening (epoch_of s + 1) s.live (present_users s) commands []) k
 histories-go_on s effect k = last-grows s.ended s.live (entries_of effect) k
 
 -- the history of each epoch goes on

@@ -127,7 +127,8 @@ module _ (user : ℕ) where
   effect-join s e (Dropped conn c command) cause present =
       last-more s.live (entries_of (Dropped conn c command)) refl
   effect-join s e (Reopened conn c commands) cause present =
-      opening-joins s.live user (epoch_of s + 1) (present_users s) commands (present-rise s) present
+      opening-joins s.live user (epoch_of s + 1) (present_users s) commands [] (present-rise s) present
+      refl
 
   pub join-stays : (s : State) (e : Event) → lists (present_users s) user ≡ true
       → last_join (after_event s e).live user ≡ last_join s.live user

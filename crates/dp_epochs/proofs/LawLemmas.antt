@@ -126,7 +126,7 @@ module _ (P : State → ℕ → Type 0)
       run-holds (after_shut s conn) n more (shut s conn n h)
 
   -- what holds at first, and stays so with each event, holds of the state of each past
-  past-holds : P first_state 0 → (past : Past) → P (state_of past) (length past.journal)
+  pub past-holds : P first_state 0 → (past : Past) → P (state_of past) (length past.journal)
   past-holds first past =
       subst (P (state_of past)) (omega (arith, came_in-interleaved 0 past.journal past.shut))
       (run-holds first_state 0 (interleaved 0 past.journal past.shut) first)
@@ -201,7 +201,7 @@ short-effect s e (Dropped conn c command) cause n h =
 short-effect s e (Reopened conn c commands) cause n h =
     let sends = reset-sends s conn c commands cause.1 in
     let few : length sends.stream.commands ≤ part_limit = subst IsShortStream sends.is h.stream in
-    let short = opening-short (epoch_of s + 1) s.live (present_users s) commands (present-few s)
+    let short = opening-short (epoch_of s + 1) s.live (present_users s) commands [] (present-few s)
     (omega (arith, few, ap length sends.same)) in
     record {
       ended = All-push (λ (history : List Entry). length history ≤ 2 * suc n + opening_limit)
@@ -349,10 +349,10 @@ marked-effect : (s : State) (e : Event) (effect : Effect) → IsEffect s e effec
     → AreMarked 0 (ended_after s effect ++ live_after s effect ∷ [])
 marked-effect s e (Reopened conn c commands) cause h =
     marked-opened 0 (s.ended ++ s.live ∷ [])
-    (opening (epoch_of s + 1) s.live (present_users s) commands) h
-    (subst (λ k. IsHistory k (opening (epoch_of s + 1) s.live (present_users s) commands))
+    (opening (epoch_of s + 1) s.live (present_users s) commands []) h
+    (subst (λ k. IsHistory k (opening (epoch_of s + 1) s.live (present_users s) commands []))
     (omega (arith, length-append s.ended (s.live ∷ [])))
-    (opening-marked (epoch_of s + 1) s.live (present_users s) commands))
+    (opening-marked (epoch_of s + 1) s.live (present_users s) commands [] tt))
 marked-effect s e effect cause h =
     marked-grown 0 s.ended s.live (entries_of effect) h (entries-unmarked s e effect cause)
 

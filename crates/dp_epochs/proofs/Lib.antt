@@ -3,3 +3,4 @@ pub mod OpeningLemmas
 pub mod EffectLemmas
 pub mod JoinLemmas
 pub mod LawLemmas
+pub mod PermittedLemmas

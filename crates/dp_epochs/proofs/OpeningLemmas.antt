@@ -21,8 +21,8 @@ use Rattle.dp_messages.specs.declared.message.Msg.TheVariants as msg
 use Rattle.dp_messages.specs.declared.message.Entry.{Entry}
 use Rattle.dp_messages.specs.Properties.{marked}
 use Rattle.dp_acl.specs.LookBack.{numbers_below, lists, joined, is_join_of, LayerRule}
-use Rattle.dp_acl.specs.Rights.{rule_of}
-use Rattle.dp_acl.specs.Carried.{acl_with, carried_rule, carried_rules, carried}
+use Rattle.dp_acl.specs.Rights.{rule_of, depth_of}
+use Rattle.dp_acl.specs.Carried.{acl_with, carried_depth, carried_rule, carried_rules, carried}
 use Rattle.dp_acl.specs.Opening.{server_entry, command_entry, last_join, carried_entries, opening}
 use Rattle.dp_acl.specs.Opening.{part_limit, opening_limit}
 use Rattle.dp_epochs.specs.State.{State, is_present, user_ids, present_users}
@@ -51,26 +51,39 @@ unfolding numbers_below
 length-numbers n = length-range_with_len 0 n
 
 length-carried : (history : List Entry) (present : List ℕ)
-    → length (carried history present) ≤ 65540
+    → length (carried history present) ≤ 65541
 length-carried history present =
     omega (
       arith,
+      length-append (carried_depth history) (carried_rules history),
+      length-one meta.UndoDepth (depth_of history),
       length-kept (carried_rule history) (numbers_below 65536),
       length-numbers 65536,
     )
+  where
+    length-one : (f : ℕ → Meta) (o : Option ℕ) → length (option_to_list (option_map f o)) ≤ 1
+    length-one f None = omega arith
+    length-one f (Some x) = omega arith
 
-rest-short : (joins rights drawn : List Entry) → length joins ≤ 254 → length rights ≤ 65540
-    → length drawn ≤ part_limit → length (joins ++ rights ++ drawn) < opening_limit
-rest-short joins rights drawn hj hr hd =
-    omega (arith, length-append (joins ++ rights) drawn, length-append joins rights)
+rest-short : (joins rights drawn kept : List Entry) → length joins ≤ 254 → length rights ≤ 65541
+    → length drawn ≤ part_limit
+    → length (joins ++ rights ++ drawn ++ kept) < opening_limit + length kept
+rest-short joins rights drawn kept hj hr hd =
+    omega (
+      arith,
+      length-append (joins ++ rights ++ drawn) kept,
+      length-append (joins ++ rights) drawn,
+      length-append joins rights,
+    )
 
 pub opening-short : (epoch : ℕ) (history : List Entry) (present : List ℕ) (commands : List Draw)
-    → length present ≤ 254 → length commands ≤ part_limit
-    → length (opening epoch history present commands) ≤ opening_limit
-opening-short epoch history present commands few parts =
-    let rest : length (carried_entries history present commands) < opening_limit =
+    (kept : List Entry) → length present ≤ 254 → length commands ≤ part_limit
+    → length (opening epoch history present commands kept) ≤ opening_limit + length kept
+opening-short epoch history present commands kept few parts =
+    let rest : length (carried_entries history present commands kept)
+    < opening_limit + length kept =
     rest-short (filter_map (last_join history) present) (map server_entry (carried history present))
-    (map command_entry commands)
+    (map command_entry commands) kept
     (omega (arith, length-kept (last_join history) present))
     (omega (
       arith,
@@ -175,17 +188,37 @@ commands-unmarked : (commands : List Draw) → HasNoMark (map command_entry comm
 commands-unmarked [] = tt
 commands-unmarked (command ∷ commands) = (refl, commands-unmarked commands)
 
+depth-unmarked : (o : Option ℕ) (rest : List Meta) → HasNoMark (map server_entry rest)
+    → HasNoMark (map server_entry (option_to_list (option_map meta.UndoDepth o) ++ rest))
+depth-unmarked None rest clean = clean
+depth-unmarked (Some depth) rest clean = (refl, clean)
+
 pub opening-marked : (epoch : ℕ) (history : List Entry) (present : List ℕ) (commands : List Draw)
-    → IsHistory epoch (opening epoch history present commands)
-opening-marked epoch history present commands =
-    let rights : HasNoMark (map server_entry (carried history present)) =
-    (refl, (refl, (refl, (refl, rules-unmarked history (numbers_below 65536))))) in (
+    (kept : List Entry) → HasNoMark kept
+    → IsHistory epoch (opening epoch history present commands kept)
+opening-marked epoch history present commands kept clean =
+    let joins = filter_map (last_join history) present in
+    let metas = map server_entry (carried history present) in
+    let rights : HasNoMark metas = (
       refl,
-      unmarked-append (filter_map (last_join history) present
-          ++ map server_entry (carried history present)) (map command_entry commands)
-          (unmarked-append (filter_map (last_join history) present)
-          (map server_entry (carried history present)) (joins-unmarked history present) rights)
-          (commands-unmarked commands),
+      (
+        refl,
+        (
+          refl,
+          (
+            refl,
+            depth-unmarked (depth_of history) (carried_rules history)
+                (rules-unmarked history (numbers_below 65536)),
+          ),
+        ),
+      ),
+    ) in (
+      refl,
+      unmarked-append (joins ++ metas ++ map command_entry commands) kept
+          (unmarked-append (joins ++ metas) (map command_entry commands)
+          (unmarked-append joins metas (joins-unmarked history present) rights)
+          (commands-unmarked commands))
+          clean,
     )
 
 -- ---- Joins
@@ -285,16 +318,19 @@ module _ (history : List Entry) (user : ℕ) where
       cond-false (is_join_of user mark) (mark ∷ mine rest) (mine rest) other ∙ all in
       ap (λ es. slice_get es (length es - 1)) first ∙ last-of (last_join history user)
 
-  pub opening-joins : (epoch : ℕ) (present : List ℕ) (commands : List Draw) → RiseFrom 1 present
-      → lists present user ≡ true
-      → last_join (opening epoch history present commands) user ≡ last_join history user
-  opening-joins epoch present commands rise is =
+  pub opening-joins : (epoch : ℕ) (present : List ℕ) (commands : List Draw) (kept : List Entry)
+      → RiseFrom 1 present → lists present user ≡ true → mine kept ≡ []
+      → last_join (opening epoch history present commands kept) user ≡ last_join history user
+  opening-joins epoch present commands kept rise is none =
       let joins = filter_map (last_join history) present in
       let rights = map server_entry (carried history present) in
       let drawn = map command_entry commands in
       let above : 0 < user = omega (arith, listed-above 1 user present rise is) in
-      let all : mine (joins ++ rights ++ drawn) ≡ option_to_list (last_join history user) =
-      filter-append (is_join_of user) (joins ++ rights) drawn
+      let all : mine (joins ++ rights ++ drawn ++ kept) ≡ option_to_list (last_join history user) =
+      filter-append (is_join_of user) (joins ++ rights ++ drawn) kept
+      ∙ ap (λ es. mine (joins ++ rights ++ drawn) ++ es) none
+      ∙ append-nil (mine (joins ++ rights ++ drawn))
+      ∙ filter-append (is_join_of user) (joins ++ rights) drawn
       ∙ ap (λ es. mine (joins ++ rights) ++ es) (commands-none commands)
       ∙ append-nil (mine (joins ++ rights))
       ∙ filter-append (is_join_of user) joins rights
@@ -302,5 +338,5 @@ module _ (history : List Entry) (user : ℕ) where
       ∙ append-nil (mine joins)
       ∙ joins-found 1 present rise is in
       opened (server_entry (meta.ResetMark epoch
-      (length (carried_entries history present commands))))
-      (carried_entries history present commands) refl all
+      (length (carried_entries history present commands kept))))
+      (carried_entries history present commands kept) refl all

@@ -1,6 +1,6 @@
 -- What an event does to a session, by the kinds of outcome.
 use Rattle.std.specs.Prelude.{◌≡◌, ℕ, ◌+◌, ◌-◌, Bool, true, false, Option, None, Some}
-use Rattle.std.specs.Prelude.{List, [], ◌∷◌, ◌++◌, length, slice_set}
+use Rattle.std.specs.Prelude.{IfSome, List, [], ◌∷◌, ◌++◌, length, slice_set}
 use Rattle.dp_msg_draw.specs.declared.draw.Draw.{Draw}
 use Rattle.dp_msg_meta.specs.declared.message.Control.TheVariants.{ResetBegin, ResetEnd}
 use Rattle.dp_msg_meta.specs.declared.message.Meta.TheVariants.{Join, Leave}
@@ -75,7 +75,7 @@ ended_after s other = s.ended
 -- the live history after it
 abbrev pub live_after : State → Effect → List Entry
 live_after s (Reopened conn connection commands) =
-    opening (epoch_of s + 1) s.live (present_users s) commands
+    opening (epoch_of s + 1) s.live (present_users s) commands []
 live_after s other = s.live ++ entries_of other
 
 -- the connections after it: at most one is added, or changed
@@ -135,12 +135,29 @@ made s effect = record {
 
 -- ---- when it is the event's
 
--- the answer says that nothing was done
-abbrev pub IsStill : Reply → Type 0
-IsStill reply.Ignored = Unit {0}
-IsStill reply.NameRefused = Unit {0}
-IsStill reply.Full = Unit {0}
-IsStill other = ⊥
+-- the event is ignored: its connection isn't open, or that becomes of what it says
+abbrev pub IsIgnored : State → Event → Type 0
+IsIgnored s (event.Open name registered) = ⊥
+IsIgnored s (event.Say conn m) =
+    IfSome (open_connection s conn) (λ c. decided s conn c m ≡ decision.Ignore)
+IsIgnored s (event.Close conn) = open_connection s conn ≡ None
+
+-- the event is an Open whose name is none
+abbrev pub IsRefusedName : Event → Type 0
+IsRefusedName (event.Open name registered) = is_name name ≡ false
+IsRefusedName other = ⊥
+
+-- the event is an Open with a name while all ids are held
+abbrev pub IsForNoOne : State → Event → Type 0
+IsForNoOne s (event.Open name registered) = (is_name name ≡ true) × (free_id s ≡ None)
+IsForNoOne s other = ⊥
+
+-- nothing is done, and the answer says why
+abbrev pub IsStill : State → Event → Reply → Type 0
+IsStill s e reply.Ignored = IsIgnored s e
+IsStill s e reply.NameRefused = IsRefusedName e
+IsStill s e reply.Full = IsForNoOne s e
+IsStill s e other = ⊥
 
 -- the connection of this number was given out, and is open
 pub record IsOpenAt (s : State) (conn : ℕ) (connection : Connection) : Type 0 where
@@ -181,7 +198,7 @@ pub record IsLeave (s : State) (e : Event) (conn : ℕ) (connection : Connection
 
 -- the event has this effect on the state
 abbrev pub IsEffect : State → Event → Effect → Type 0
-IsEffect s e (Nothing answer) = IsStill answer
+IsEffect s e (Nothing answer) = IsStill s e answer
 IsEffect s e (TakesUp conn connection) =
     (m : Msg)
     × IsSaid s e conn connection m decision.Acknowledge

@@ -1,9 +1,13 @@
 -- What laws of sessions speak of.
-use Rattle.std.specs.Prelude.{◌≡◌, ◌≤◌, ℕ, None, Some, List, [], ◌∷◌, ◌++◌, length, Result, Ok, Err}
+use Rattle.std.specs.Prelude.{◌≡◌, ◌≤◌, ◌<◌, ◌⊎◌, ℕ, Bool, true, false, None, Some, List, [], ◌∷◌, ◌++◌, length, Result, Ok, Err}
 use Rattle.std.specs.List.{All, AllByRecursion}
 use Rattle.std.specs.declared.alloc.AllocError.{AllocError}
 use Rattle.dp_messages.specs.declared.message.Entry.{Entry}
-use Rattle.dp_messages.specs.Properties.{marked}
+use Rattle.dp_messages.specs.Properties.{marked, carried_in}
+use Rattle.dp_messages.specs.declared.message.Msg.{Msg}
+use Rattle.dp_messages.specs.declared.message.Msg.TheVariants as msg
+use Rattle.dp_msg_meta.specs.declared.message.Meta.TheVariants.{Join, Leave, Filtered}
+use Rattle.dp_acl.specs.Permitted.{permitted}
 use Rattle.dp_events.specs.declared.event.Event.{Event}
 use Rattle.dp_events.specs.declared.event.Reply.{Reply}
 use Rattle.dp_events.specs.declared.event.Reply.TheVariants.{StoreFault}
@@ -28,6 +32,26 @@ IsHistory epoch (first ∷ rest) = (marked first.msg ≡ Some epoch) × HasNoMar
 abbrev pub AreHistories : State → Type 0
 AreHistories s =
     (epoch : ℕ) → epoch ≤ epoch_of s → IsHistory epoch (history_of s epoch)
+
+-- the server alone places the message
+abbrev pub is_servers : Msg → Bool
+is_servers (msg.Meta (Join registered name)) = true
+is_servers (msg.Meta Leave) = true
+is_servers (msg.Meta (Filtered kind)) = true
+is_servers m = false
+
+-- after these entries the entry may stand: it is the server's, or its user may send its message
+abbrev pub IsAllowed : List Entry → Entry → Type 0
+IsAllowed before entry =
+    (entry.user ≡ 0) ⊎ (is_servers entry.msg ≡ true)
+    ⊎ (permitted before entry.user entry.msg ≡ true)
+
+-- each entry after those that the history carried is allowed after the entries before it
+abbrev pub ArePermitted : List Entry → Type 0
+ArePermitted history =
+    (before after : List Entry) (entry : Entry)
+    → history ≡ before ++ entry ∷ after → carried_in history < length before
+    → IsAllowed before entry
 
 -- an event, what came of it, and what it left
 pub record LoggedStep : Type 0 where

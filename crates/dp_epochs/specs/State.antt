@@ -7,7 +7,7 @@ use Rattle.std.specs.Option.{option_map, option_map_or}
 use Rattle.std.specs.Str.{is_utf8}
 use Rattle.dp_msg_draw.specs.declared.draw.Draw.{Draw}
 use Rattle.dp_msg_meta.specs.declared.message.Control.TheVariants.{Ping, Disconnect, Ack}
-use Rattle.dp_msg_meta.specs.declared.message.Control.TheVariants.{ResetBegin, ResetEnd}
+use Rattle.dp_msg_meta.specs.declared.message.Control.TheVariants.{ResetBegin, ResetEnd, ResetFrom}
 use Rattle.dp_msg_meta.specs.declared.message.Meta.TheVariants.{Join, Leave, Owners, ResetMark}
 use Rattle.dp_msg_meta.specs.declared.message.Meta.TheVariants.{Filtered}
 use Rattle.dp_messages.specs.declared.message.Msg.{Msg}
@@ -265,7 +265,7 @@ with_part m stream = stream
 abbrev pub epoch_opened : State → List Draw → State
 epoch_opened s commands = record s {
   ended = s.ended ++ s.live ∷ [];
-  live = opening (epoch_of s + 1) s.live (present_users s) commands;
+  live = opening (epoch_of s + 1) s.live (present_users s) commands [];
   stream = None;
 }
 
@@ -304,12 +304,14 @@ part_decided command None = decision.Filter
 part_decided command (Some commands) =
     if fits_reset commands command then decision.AddPart else decision.DropReset
 
--- what becomes of a message of a connection that has taken up the live epoch
+-- What becomes of a message of a connection that has taken up the live epoch. No reset keeps entries
+-- so far, so a ResetFrom isn't permitted.
 abbrev pub heard : State → ℕ → Connection → Msg → Decision
 heard s conn connection (msg.Control ResetBegin) =
     if may_begin s conn connection then decision.BeginReset else decision.Filter
 heard s conn connection (msg.Control ResetEnd) =
     if is_some (reset_of s conn connection) then decision.OpenEpoch else decision.Filter
+heard s conn connection (msg.Control (ResetFrom at)) = decision.Filter
 heard s conn connection (msg.Part command) = part_decided command (reset_of s conn connection)
 heard s conn connection m = judged s connection m
 

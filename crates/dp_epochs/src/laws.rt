@@ -7,7 +7,8 @@ ghost use Rattle.dp_msg_meta.specs.Fields.{RiseFrom};
 ghost use Rattle.dp_msg_meta.specs.declared.message.Meta.TheVariants.{Join};
 ghost use Rattle.dp_messages.specs.declared.message.Msg.TheVariants.{Meta};
 ghost use Rattle.dp_messages.specs.declared.message.Entry.{Entry};
-ghost use Rattle.dp_acl.specs.LookBack.{lists};
+ghost use Rattle.std.specs.List.{filter};
+ghost use Rattle.dp_acl.specs.LookBack.{lists, is_join_of};
 ghost use Rattle.dp_events.specs.declared.event.Event.{Event as Kept};
 ghost use Rattle.dp_events.specs.declared.event.Event.TheVariants.{Open};
 ghost use Rattle.dp_events.specs.declared.event.ShutAt.{ShutAt};
@@ -18,7 +19,7 @@ ghost use Rattle.dp_epochs.specs.State.{entry_of, free_id, is_name};
 ghost use Rattle.dp_epochs.specs.Effects.{EventsHaveEffects, ConnectionsStay, PartsFit};
 ghost use Rattle.dp_epochs.specs.Laws.{Continues, LoggedStep, IsRun, AreFaults, ShutBefore};
 ghost use Rattle.dp_epochs.specs.Laws.{shut_by};
-ghost use Rattle.dp_epochs.specs.Laws.{IsHistory, AreHistories};
+ghost use Rattle.dp_epochs.specs.Laws.{HasNoMark, IsHistory, AreHistories, ArePermitted};
 
 /// A session has one answer for each event of its journal, whatever was closed between.
 pub fn one_answer_each()
@@ -87,17 +88,26 @@ pub fn histories_are_marked()
     ensures { (past : Past) → AreHistories (state_of past) }
 {}
 
-/// How an epoch opens: with the mark of its number, after which no other stands. Who is present has
-/// joined last as before.
+/// In the history of each epoch every entry after those with which it opened is the server's, or its
+/// user was permitted to send its message by the entries before it.
+pub fn histories_are_permitted()
+    ensures { (past : Past) (epoch : ℕ) → ArePermitted (history_of (state_of past) epoch) }
+{}
+
+/// How an epoch opens: with the mark of its number, after which no other stands, where none is kept.
+/// Who is present has joined last as before, where no Join of the user is kept.
 pub fn openings()
     ensures marked { (epoch : ℕ) (history : List Entry) (present : List ℕ) (commands : List Draw)
-        → IsHistory epoch (opening epoch history present commands) }
+        (kept : List Entry) → HasNoMark kept
+        → IsHistory epoch (opening epoch history present commands kept) }
     ensures short { (epoch : ℕ) (history : List Entry) (present : List ℕ) (commands : List Draw)
-        → length present ≤ 254 → length commands ≤ part_limit
-        → length (opening epoch history present commands) ≤ opening_limit }
+        (kept : List Entry) → length present ≤ 254 → length commands ≤ part_limit
+        → length (opening epoch history present commands kept) ≤ opening_limit + length kept }
     ensures joins { (epoch : ℕ) (history : List Entry) (present : List ℕ) (commands : List Draw)
-        (user : ℕ) → RiseFrom 1 present → lists present user ≡ true
-        → last_join (opening epoch history present commands) user ≡ last_join history user }
+        (kept : List Entry) (user : ℕ) → RiseFrom 1 present → lists present user ≡ true
+        → filter (is_join_of user) kept ≡ []
+        → last_join (opening epoch history present commands kept) user
+        ≡ last_join history user }
 {}
 
 /// The present users rise.

@@ -107,6 +107,7 @@ none_greeted name (msg.Control (control.Ping pong)) is = refl
 none_greeted name (msg.Control (control.Ack epoch)) is = refl
 none_greeted name (msg.Control control.ResetBegin) is = refl
 none_greeted name (msg.Control control.ResetEnd) is = refl
+none_greeted name (msg.Control (control.ResetFrom at)) is = refl
 none_greeted name (msg.Meta m) is = refl
 none_greeted name (msg.Part op) is = refl
 none_greeted name msg.Point is = refl

@@ -2,4 +2,4 @@ pub mod KindRanges
 pub mod OneMessage
 pub mod Refusals
 pub mod Comparing
-pub mod Lifting
+pub mod KindSeventy

@@ -48,14 +48,15 @@ rise-given n given m more (inr (one, next)) rise =
 
 -- ---- a step
 
-still-gives : (answer : Reply) → IsStill answer → given_by (Ok answer) ≡ []
-still-gives (reply.Opened conn user epoch at) still = absurd still
-still-gives answer still = refl
+still-gives : (s : State) (e : Event) (answer : Reply) → IsStill s e answer
+    → given_by (Ok answer) ≡ []
+still-gives s e (reply.Opened conn user epoch at) still = absurd still
+still-gives s e answer still = refl
 
 effect-gives : (s : State) (e : Event) (effect : Effect) → IsEffect s e effect
     → Gives (length s.connections) (given_by (Ok (answer_of s effect)))
     (length (connections_after s effect))
-effect-gives s e (Nothing answer) cause = inl (still-gives answer cause, refl)
+effect-gives s e (Nothing answer) cause = inl (still-gives s e answer cause, refl)
 effect-gives s e (TakesUp conn c) cause =
     inl (refl, length-set s.connections (conn - 1) (record c { acknowledged = epoch_of s }))
 effect-gives s e (Placed conn c m) cause = inl (refl, refl)

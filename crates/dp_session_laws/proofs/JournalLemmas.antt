@@ -21,21 +21,22 @@ use Rattle.dp_epochs.specs.Past.{state_of}
 use Rattle.dp_session_laws.specs.Logs.{ReplyOrMemory, LogEntry, IsSessionLog}
 use Rattle.dp_session_laws.specs.Journals.{is_kept, kept_events, HasBroken}
 
-still-kept : (answer : Reply) → IsStill answer → is_kept (Ok answer) ≡ true
-still-kept reply.Ignored still = refl
-still-kept reply.NameRefused still = refl
-still-kept reply.Full still = refl
-still-kept reply.Ended still = absurd still
-still-kept (reply.StoreFault count) still = absurd still
-still-kept (reply.Opened conn user epoch at) still = absurd still
-still-kept (reply.Placed epoch at) still = absurd still
-still-kept (reply.Filtered epoch at) still = absurd still
-still-kept reply.Noted still = absurd still
+still-kept : (s : State) (e : Event) (answer : Reply) → IsStill s e answer
+    → is_kept (Ok answer) ≡ true
+still-kept s e reply.Ignored still = refl
+still-kept s e reply.NameRefused still = refl
+still-kept s e reply.Full still = refl
+still-kept s e reply.Ended still = absurd still
+still-kept s e (reply.StoreFault count) still = absurd still
+still-kept s e (reply.Opened conn user epoch at) still = absurd still
+still-kept s e (reply.Placed epoch at) still = absurd still
+still-kept s e (reply.Filtered epoch at) still = absurd still
+still-kept s e reply.Noted still = absurd still
 
 -- the own answer to an event is none of those
 effect-kept : (s : State) (e : Event) (effect : Effect) → IsEffect s e effect
     → is_kept (Ok (answer_of s effect)) ≡ true
-effect-kept s e (Nothing answer) cause = still-kept answer cause
+effect-kept s e (Nothing answer) cause = still-kept s e answer cause
 effect-kept s e (TakesUp conn c) cause = refl
 effect-kept s e (Placed conn c m) cause = refl
 effect-kept s e (Filtered conn c m) cause = refl

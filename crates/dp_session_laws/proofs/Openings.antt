@@ -136,7 +136,7 @@ effect-opens : (s : State) (e : Event) (effect : Effect) → IsEffect s e effect
     → (conn user epoch at : ℕ) → answer_of s effect ≡ reply.Opened conn user epoch at
     → Begins (made s effect).state conn epoch
 effect-opens s e (Nothing answer) cause conn user epoch at is =
-    absurd (subst IsStill is cause)
+    absurd (subst (IsStill s e) is cause)
 effect-opens s e (TakesUp n c) cause conn user epoch at is = cc
 effect-opens s e (Placed n c m) cause conn user epoch at is = cc
 effect-opens s e (Filtered n c m) cause conn user epoch at is = cc

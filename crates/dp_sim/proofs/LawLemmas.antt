@@ -151,13 +151,13 @@ Answers s connections (reply.Opened conn user epoch at) =
     × (is_some (open_in connections conn) ≡ true)
 Answers s connections other = length connections ≡ length s.connections
 
-answers-still : (s : State) (r : Reply) → IsStill r → Answers s s.connections r
-answers-still s (reply.Opened conn user epoch at) still = absurd still
-answers-still s r still = refl
+answers-still : (s : State) (e : Event) (r : Reply) → IsStill s e r → Answers s s.connections r
+answers-still s e (reply.Opened conn user epoch at) still = absurd still
+answers-still s e r still = refl
 
 effect-answers : (s : State) (e : Event) (effect : Effect) → IsEffect s e effect
     → Answers s (connections_after s effect) (answer_of s effect)
-effect-answers s e (Nothing answer) cause = answers-still s answer cause
+effect-answers s e (Nothing answer) cause = answers-still s e answer cause
 effect-answers s e (TakesUp conn c) cause =
     length-set s.connections (conn - 1) (record c { acknowledged = epoch_of s })
 effect-answers s e (Joined user registered name next) cause =

@@ -12,6 +12,7 @@ use Rattle.dp_events.specs.declared.event.Event.TheVariants.{Say}
 use Rattle.dp_events.specs.declared.event.Reply.TheVariants.{Filtered}
 use Rattle.dp_epochs.specs.State.{State, acted, history_of}
 use Rattle.dp_epochs.specs.Past.{state_of}
+use Rattle.dp_epochs.specs.Laws.{ArePermitted}
 use Rattle.dp_sim.specs.World.{World, participant_of}
 
 -- What a client shows: it has taken the first `count` entries of the history of its epoch, its
@@ -38,8 +39,9 @@ ForbiddenChangesNothing s =
     → ChangesNothing s.live (acted s (Say conn m)).state.live
 
 -- What is true of the world after every schedule: each client shows a prefix of the history of its
--- epoch, and a forbidden message changes nothing.
+-- epoch, a forbidden message changes nothing, and no history holds one.
 pub record Headline (w : World) : Type 0 where
   pub clients : (number : ℕ) → IfSome (participant_of w number)
       (λ participant. ShowsPrefix (state_of w.past) participant.state)
   pub forbidden : ForbiddenChangesNothing (state_of w.past)
+  pub allowed : (epoch : ℕ) → ArePermitted (history_of (state_of w.past) epoch)

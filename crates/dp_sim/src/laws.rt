@@ -16,7 +16,8 @@ ghost use Rattle.dp_epochs.specs.State.{State};
 use dp_acl::forbidden_changes_no_right;
 use dp_board::{others_do_not_count, prefixes_without_points};
 use dp_epochs::{
-    epochs_rise, events_have_effects, histories_are_marked, histories_grow, steps_lead_on,
+    epochs_rise, events_have_effects, histories_are_marked, histories_are_permitted,
+    histories_grow, steps_lead_on,
 };
 use dp_msg_draw::Draw;
 
@@ -66,10 +67,12 @@ pub fn openings_go_on()
 
 /// After every schedule each client has taken a prefix of the history of its epoch; its confirmed
 /// canvas is that prefix replayed, and its view the same with its unanswered sends drawn after it.
-/// A message that is not permitted changes no canvas and no right.
+/// A message that is not permitted changes no canvas and no right: what is answered Filtered doesn't,
+/// and no history holds an entry that its user was not permitted to send.
 pub fn headline()
     ensures { (actions : List Action) → Headline (world_after actions) }
 {
     worlds_stay_worlds();
     forbidden_changes_nothing();
+    histories_are_permitted();
 }

@@ -10,7 +10,8 @@ use Rattle.std.specs.List.{find, list_any, range_with_len, slice_get}
 use Rattle.std.specs.Option.{option_map_or}
 use Rattle.std.proofs.lemmas.Bool.{cases_eq, cases_Bool, cond_both, eq-eqb, eqb-true, or_parts}
 use Rattle.std.proofs.lemmas.Bool.{and_parts, le-leb, not-true, false≢true}
-use Rattle.dp_client.specs.Client.{carried_in, may_answer}
+use Rattle.dp_client.specs.Client.{may_answer}
+use Rattle.dp_messages.specs.Properties.{carried_in}
 use Rattle.dp_msg_draw.specs.declared.draw.Draw.{Draw}
 use Rattle.dp_msg_meta.specs.declared.message.Control.TheVariants as control
 use Rattle.dp_msg_meta.specs.declared.message.Meta.TheVariants as meta
@@ -248,12 +249,12 @@ unheard-more user (x ∷ live) more h none =
     }
 
 unheard-opening : (user epoch : ℕ) (history : List Entry) (present : List ℕ) (commands : List Draw)
-    → Unheard user (opening epoch history present commands)
+    → Unheard user (opening epoch history present commands [])
 unheard-opening user epoch history present commands =
-    let rest = carried_entries history present commands in
+    let rest = carried_entries history present commands [] in
     record {
       base = omega arith;
-      none = answers-before user (length rest) 0 (opening epoch history present commands)
+      none = answers-before user (length rest) 0 (opening epoch history present commands [])
           (omega arith);
     }
 
@@ -353,6 +354,7 @@ may-permitted h user (msg.Meta (meta.UserAcl ids)) may = refl
 may-permitted h user (msg.Meta (meta.LayerAcl layer locked tier ids)) may = refl
 may-permitted h user (msg.Meta (meta.FeatureTiers tiers)) may = refl
 may-permitted h user (msg.Meta (meta.Filtered kind)) may = cc
+may-permitted h user (msg.Meta (meta.UndoDepth depth)) may = refl
 may-permitted h user (msg.Control m) may = refl
 may-permitted h user (msg.Part command) may = refl
 may-permitted h user msg.Point may = refl
@@ -597,6 +599,11 @@ hears-decided s conn c (msg.Control (control.Welcome version user epoch at)) fou
     hears-ready s conn c m found decision.Filter refl
     (λ ready. hears-filtered s conn c m found (noted s (acted_by s conn c m decision.Filter)) refl
     refl refl refl refl refl)
+hears-decided s conn c (msg.Control (control.ResetFrom at)) found high =
+    let m = msg.Control (control.ResetFrom at) in
+    hears-ready s conn c m found decision.Filter refl
+    (λ ready. hears-filtered s conn c m found (noted s (acted_by s conn c m decision.Filter)) refl
+    refl refl refl refl refl)
 hears-decided s conn c (msg.Part command) found high =
     let m = msg.Part command in
     hears-ready s conn c m found (heard s conn c m) refl
@@ -814,14 +821,14 @@ pub record Opens (s : State) (r : Reply) (t : State) : Type 0 where
   pub passes : Passes s Everyone t
   pub tells : Tells s t r
 
-still-tells : (s t : State) (r : Reply) → IsStill r → Tells s t r
-still-tells s t (reply.Opened conn user epoch at) still = absurd still
-still-tells s t r still = tt
+still-tells : (s t : State) (e : Event) (r : Reply) → IsStill s e r → Tells s t r
+still-tells s t e (reply.Opened conn user epoch at) still = absurd still
+still-tells s t e r still = tt
 
 effect-tells : (s : State) (e : Event) (effect : Effect) → IsEffect s e effect
     → Tells s (noted s (made s effect)) (answer_of s effect)
 effect-tells s e (Nothing answer) cause =
-    still-tells s (noted s (made s (Nothing answer))) answer cause
+    still-tells s (noted s (made s (Nothing answer))) e answer cause
 effect-tells s e (Joined user registered name next) cause =
     let join = entry_of user (msg.Meta (meta.Join registered name)) in
     let more : List Entry = join ∷ next_owner next in

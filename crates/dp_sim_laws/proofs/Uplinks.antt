@@ -57,6 +57,7 @@ high-send epoch (msg.Control (control.Ack other)) high = absurd (omega arith)
 high-send epoch (msg.Control (control.Welcome version user other at)) high = absurd (omega arith)
 high-send epoch (msg.Control control.ResetBegin) high = absurd (omega arith)
 high-send epoch (msg.Control control.ResetEnd) high = absurd (omega arith)
+high-send epoch (msg.Control (control.ResetFrom at)) high = absurd (omega arith)
 high-send epoch (msg.Part command) high = absurd (omega arith)
 high-send epoch m high = (high, refl, refl)
 
@@ -71,6 +72,7 @@ no-ack epoch later (msg.Control (control.Ping pong)) less h = refl
 no-ack epoch later (msg.Control (control.Welcome version user other at)) less h = refl
 no-ack epoch later (msg.Control control.ResetBegin) less h = refl
 no-ack epoch later (msg.Control control.ResetEnd) less h = refl
+no-ack epoch later (msg.Control (control.ResetFrom at)) less h = refl
 no-ack epoch later m less h = refl
 
 -- ---- all of them

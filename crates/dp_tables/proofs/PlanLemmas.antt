@@ -385,7 +385,7 @@ module _ (journal : List Event) (s : State) (conn : ℕ) (c : Connection)
   -- it ends, and the next epoch opens
   pub plan-opened : (next : Opening) (epoch : ℕ) → epoch ≡ epoch_of s + 1
       → Holds journal next (opening (epoch_of s + 1) s.live (present_users s)
-      (sent_commands s.stream))
+      (sent_commands s.stream) [])
       → decision.OpenEpoch ≡ decided s conn c m
       → IsPlan journal s (event.Say conn m) (epoch_plan conn m epoch next)
   plan-opened next epoch epoch_is holds is =

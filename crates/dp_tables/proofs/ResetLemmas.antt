@@ -249,13 +249,14 @@ module _ (s : State) (t : Seen) (are : AreOf s t) where
       ∙ sent-commands t.owner (commands_in t.journal t.parts)
       (λ no_one. ap (commands_in t.journal) (are.reset.none no_one))
 
-  rest-length : length (carried_entries s.live present (commands_in t.journal t.parts))
+  rest-length : length (carried_entries s.live present (commands_in t.journal t.parts) [])
       ≡ length present + length (carried s.live present) + length t.parts
   rest-length =
       let joins = filter_map (last_join s.live) present in
       let rights = map server_entry (carried s.live present) in
       let drawn = map command_entry (commands_in t.journal t.parts) in
-      length-append (joins ++ rights) drawn
+      ap length (append-nil (joins ++ rights ++ drawn))
+      ∙ length-append (joins ++ rights) drawn
       ∙ ap (λ n. n + length drawn) (length-append joins rights)
       ∙ ap (λ n. n + length rights + length drawn) joined-present
       ∙ ap (λ n. length present + n + length drawn)
@@ -270,33 +271,38 @@ module _ (s : State) (t : Seen) (are : AreOf s t) where
       → ((([] ++ server_entry (ResetMark next count) ∷ [])
       ++ filter_map (last_join s.live) present) ++ map server_entry metas)
       ++ map command_entry (commands_in t.journal t.parts)
-      ≡ opening (epoch_of s + 1) s.live (present_users s) (sent_commands s.stream)
+      ≡ opening (epoch_of s + 1) s.live (present_users s) (sent_commands s.stream) []
   opens-so metas next count metas_are next_is count_is =
       let number : count ≡ length (carried_entries s.live present
-      (commands_in t.journal t.parts)) =
+      (commands_in t.journal t.parts) []) =
       count_is ∙ ap (λ list. length present + length list + length t.parts) metas_are
       ∙ sym rest-length in
       ap (λ list. server_entry (ResetMark next count)
       ∷ (filter_map (last_join s.live) present ++ map server_entry list
       ++ map command_entry (commands_in t.journal t.parts))) metas_are
+      ∙ ap (λ list. server_entry (ResetMark next count) ∷ list)
+      (sym (append-nil (filter_map (last_join s.live) present
+      ++ map server_entry (carried s.live present)
+      ++ map command_entry (commands_in t.journal t.parts))))
       ∙ ap (λ n. server_entry (ResetMark n count)
-      ∷ carried_entries s.live present (commands_in t.journal t.parts)) next_is
+      ∷ carried_entries s.live present (commands_in t.journal t.parts) []) next_is
       ∙ ap (λ n. server_entry (ResetMark (epoch_of s + 1) n)
-      ∷ carried_entries s.live present (commands_in t.journal t.parts)) number
-      ∙ ap (λ users. opening (epoch_of s + 1) s.live users (commands_in t.journal t.parts))
+      ∷ carried_entries s.live present (commands_in t.journal t.parts) []) number
+      ∙ ap (λ users. opening (epoch_of s + 1) s.live users (commands_in t.journal t.parts) [])
       present-is
-      ∙ ap (opening (epoch_of s + 1) s.live (present_users s)) (sym commands-sent)
+      ∙ ap (λ list. opening (epoch_of s + 1) s.live (present_users s) list []) (sym commands-sent)
 
   -- it has few entries
   pub count-fits : ((epoch : ℕ) (history : List Entry) (users : List ℕ) (commands : List Draw)
-      → length users ≤ 254 → length commands ≤ part_limit
-      → length (opening epoch history users commands) ≤ opening_limit) → (metas : List Meta)
+      (kept : List Entry) → length users ≤ 254 → length commands ≤ part_limit
+      → length (opening epoch history users commands kept) ≤ opening_limit + length kept)
+      → (metas : List Meta)
       → metas ≡ carried s.live present
       → length present + length metas + length t.parts < opening_limit
   count-fits short metas metas_are =
       omega (
         arith,
-        short 0 s.live present (commands_in t.journal t.parts) present-few
+        short 0 s.live present (commands_in t.journal t.parts) [] present-few
             (omega (arith, length-commands t.journal t.parts are.reset.said, are.reset.many)),
         rest-length,
         ap length metas_are,

@@ -1,6 +1,6 @@
 //! Resets: who may send one, what becomes of its messages, and how it opens the next epoch.
 
-ghost use Rattle.std.specs.Prelude.{◌≡◌, ◌+◌, Some, false, is_some, IfOk};
+ghost use Rattle.std.specs.Prelude.{◌≡◌, ◌+◌, [], Some, false, is_some, IfOk};
 ghost use Rattle.std.specs.Option.{option_map_or};
 ghost use Rattle.dp_acl.specs.Opening.{opening, server_entry};
 ghost use Rattle.dp_messages.specs.declared.message.Msg.TheVariants as msg;
@@ -135,7 +135,7 @@ impl Tables {
     pub(crate) fn open_epoch(&self) -> Result<Opening, AllocError>
         ensures { IfOk result (λ o. Holds self.now.journal o
             (opening (epoch_of (state_in self.now) + 1) (state_in self.now).live
-            (present_users (state_in self.now)) (sent_commands (state_in self.now).stream))) }
+            (present_users (state_in self.now)) (sent_commands (state_in self.now).stream) [])) }
     {
         openings();
         present_users_rise();

@@ -8,5 +8,5 @@ pub returns-clause-short : goal.returns-clause-short
 returns-clause-short c = opening-short
 
 pub returns-clause-joins : goal.returns-clause-joins
-returns-clause-joins c = λ epoch history present commands user rise is.
-    opening-joins history user epoch present commands rise is
+returns-clause-joins c = λ epoch history present commands kept user rise is none.
+    opening-joins history user epoch present commands kept rise is none

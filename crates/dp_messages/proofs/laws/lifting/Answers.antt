@@ -1,6 +1,6 @@
 use Rattle.std.proofs.Common.{sym, subst}
 use Rattle.dp_messages.specs.Messages.{Spells}
-use Rattle.dp_messages.proofs.Lifting.{is_opaque, opaque_is, other_kind}
+use Rattle.dp_messages.proofs.KindSeventy.{is_opaque, opaque_is, other_kind}
 use Rattle.dp_messages.proofs.laws.lifting.Goals as goal
 
 pub returns-clause-depth : goal.returns-clause-depth

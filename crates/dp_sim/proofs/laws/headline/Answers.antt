@@ -7,4 +7,5 @@ pub returns : goal.returns
 returns c = λ actions. record {
   clients = all-show c.worlds_stay_worlds.ensures.stays c.worlds_stay_worlds.ensures.first actions;
   forbidden = c.forbidden_changes_nothing.ensures (state_of (world_after actions).past);
+  allowed = c.histories_are_permitted.ensures (world_after actions).past;
 }

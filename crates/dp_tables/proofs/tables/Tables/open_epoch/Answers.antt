@@ -60,7 +60,7 @@ returns c =
     let four = drawn J ((([] ++ first ∷ []) ++ filter_map (last_join s.live) present)
     ++ map server_entry metas) are.reset.said three in
     subst (λ j. Holds j c.add_commands.new.self (opening (epoch_of s + 1) s.live (present_users s)
-    (sent_commands s.stream))) (ap (λ l. l.journal) c.self.view_is)
+    (sent_commands s.stream) [])) (ap (λ l. l.journal) c.self.view_is)
     (subst (Holds J c.add_commands.new.self)
     (opens-so s (seen t) are metas c.next_epoch.result count metas_are c.next_epoch.ensures
     (omega (

@@ -1,6 +1,6 @@
 //! Frames of the first profile.
 //!
-//! The rule: docs/protocol.md, "Recordings".
+//! The rule: docs/protocol.md, "Messages".
 
 ghost use Rattle.std.specs.Prelude.{◌≡◌};
 ghost use Rattle.dp_messages.specs.Messages.{lifted_kind};
