@@ -1,4 +1,5 @@
 pub mod WindowLemmas
+pub mod RisingLemmas
 pub mod RenamingLemmas
 pub mod RenamedStrokes
 pub mod OtherLemmas

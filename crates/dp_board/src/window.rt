@@ -1,7 +1,7 @@
 //! The points that undo and redo reach.
 
-ghost use Rattle.std.specs.Prelude.{◌≡◌, min, IfOk, OnOk, OnErr};
-ghost use Rattle.std.specs.List.{fold};
+ghost use Rattle.std.specs.Prelude.{◌≡◌, ◌<◌, min, IfOk, OnOk, OnErr};
+ghost use Rattle.std.specs.List.{fold, All};
 
 use crate::act::Act;
 use std::alloc::{AllocError, Global};
@@ -16,11 +16,14 @@ pub(crate) struct PointWindow {
 }
 
 impl Model for PointWindow {
+    ghost use Rattle.std.specs.List.Sorted.{IsNonDecreasing};
     ghost use Rattle.dp_board.specs.Strokes.{Window};
 
     ghost Value = { Window };
 
     ghost view = { λ window. record { depth = window.depth; points = window.points.items } };
+
+    ghost invariant = { λ window. IsNonDecreasing window.points.items };
 }
 
 impl PointWindow {
@@ -40,6 +43,16 @@ impl PointWindow {
     pub(crate) fn is_eligible(&self, group: usize) -> bool
         ensures { result ≡ is_eligible self.now group }
     {
+        if let Some(first) = self.points.front()
+            && group < *first
+        {
+            return false;
+        }
+        if let Some(last) = self.points.back()
+            && *last < group
+        {
+            return false;
+        }
         self.points.contains(&group)
     }
 
@@ -65,6 +78,7 @@ impl PointWindow {
     /// Takes an act at a position: a point joins the window, a depth sets how many points it has.
     /// Then the last ones alone are kept.
     pub(crate) fn take<Op>(&mut self, position: usize, act: &Act<Op>) -> Result<(), AllocError>
+        requires { All (λ point. point < position) self.old.points }
         ensures ok { OnOk result (self.new ≡ window_after position act.now self.old) }
         ensures err { OnErr result (self.new ≡ self.old) }
     {

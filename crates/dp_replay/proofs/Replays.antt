@@ -2,13 +2,26 @@
 use Rattle.std.proofs.Common.{◌≡◌, ℕ, List, [], ◌∷◌, Bool, length, map, refl, ap, ◌∙◌}
 use Rattle.std.proofs.lemmas.List.{length-map}
 use Rattle.dp_msg_draw.specs.declared.draw.Draw.{Draw}
+use Rattle.dp_msg_meta.specs.declared.message.Meta.{Meta}
+use Rattle.dp_msg_meta.specs.declared.message.Meta.TheVariants.{UndoDepth}
 use Rattle.dp_messages.specs.declared.message.Entry.{Entry}
 use Rattle.dp_board.specs.declared.act.UserAct.{UserAct}
 use Rattle.dp_board.specs.Flags.{drawn_flags}
-use Rattle.dp_board.specs.Commands.{map_commands}
+use Rattle.dp_board.specs.Commands.{command_of, map_act, map_commands}
 use Rattle.dp_board.specs.Laws.{CommandsDoNotCount, EachActHasAFlag}
-use Rattle.dp_replay.specs.Replay.{user_act_of}
+use Rattle.dp_replay.specs.Replay.{act_of_meta, user_act_of}
 use Rattle.dp_replay.specs.Kinds.{kind_of_entry}
+
+-- a message on the session is no command
+pub command_of_meta : (m : Meta) (flag : Bool) → command_of (act_of_meta {Op = Draw} m) flag ≡ []
+command_of_meta (UndoDepth depth) flag = refl
+command_of_meta m flag = refl
+
+-- its act is the same with nothing in place of a command
+pub kind_of_meta : (m : Meta)
+    → act_of_meta {Op = Unit {0}} m ≡ map_act (λ (command : Draw). tt) (act_of_meta m)
+kind_of_meta (UndoDepth depth) = refl
+kind_of_meta m = refl
 
 -- the kinds of entries are their acts, with nothing in place of their commands
 kinds_are_acts : (entries : List Entry)

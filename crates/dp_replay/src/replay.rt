@@ -183,7 +183,7 @@ fn kinds_of(alloc: Global, entries: &[Entry]) -> Result<Vec<UserAct<()>>, AllocE
 }
 
 /// What an entry does to strokes, without its command.
-#[tactic(auto, unfolding(crate::specs::Kinds::kind_of_entry))]
+#[tactic(auto, using(crate::proofs::Replays::kind_of_meta), unfolding(crate::specs::Kinds::kind_of_entry))]
 fn kind_of_entry(entry: &Entry) -> UserAct<()>
     ensures { result ≡ kind_of_entry entry.now }
 {
@@ -236,6 +236,7 @@ fn draw_flagged<B: Board<Op = Draw>, D: Ledger, T: Ledger>(
 }
 
 /// Draws the command of an entry, if it has one and its flag is true.
+#[tactic(auto, using(crate::proofs::Replays::command_of_meta))]
 fn draw_entry<B: Board<Op = Draw>, D: Ledger, T: Ledger>(
     board: &mut B,
     entry: &Entry,

@@ -48,7 +48,8 @@ entry-nothing others rights live sender kind = record {
 
 -- what is answered Filtered has changed nothing
 effect-nothing : OthersDoNotCount Draw → ForbiddenChangesNoRight → (s : State) (e : Event)
-    (effect : Effect) → IsEffect s e effect → (epoch at : ℕ) → answer_of s effect ≡ reply.Filtered epoch at
+    (effect : Effect) → IsEffect s e effect → (epoch at : ℕ)
+    → answer_of s effect ≡ reply.Filtered epoch at
     → ChangesNothing s.live (live_after s effect)
 effect-nothing others rights s e (Nothing answer) cause epoch at is =
     absurd (subst (IsStill s e) is cause)

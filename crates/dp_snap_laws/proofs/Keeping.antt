@@ -6,6 +6,8 @@ use Rattle.std.specs.List.{fold}
 use Rattle.std.proofs.lemmas.List.Elements.{All-nil, All-cons, All-head, All-tail, All-append}
 use Rattle.dp_blend.specs.Color.{Channels, IsPixel}
 use Rattle.dp_board.specs.Commands.{command_of, commands}
+use Rattle.dp_msg_meta.specs.declared.message.Meta.{Meta}
+use Rattle.dp_msg_meta.specs.declared.message.Meta.TheVariants.{UndoDepth}
 use Rattle.dp_messages.specs.declared.message.Entry.{Entry}
 use Rattle.dp_messages.specs.declared.message.Msg.{Msg}
 use Rattle.dp_messages.specs.declared.message.Msg.TheVariants as msg
@@ -16,7 +18,13 @@ use Rattle.dp_layers.specs.Rows.{Row}
 use Rattle.dp_layers.specs.Tree.{IsTree}
 use Rattle.dp_plain.specs.Board.{Board, Covers, HasPixels, IsBoard, empty_board}
 use Rattle.dp_plain.specs.Commands.{draw}
-use Rattle.dp_replay.specs.Replay.{act_of_message, user_act_of}
+use Rattle.dp_replay.specs.Replay.{act_of_meta, act_of_message, user_act_of}
+
+-- a message on the session has no command
+meta_spelled : (m : Meta) (flag : Bool)
+    → All DrawHasSpelling (command_of (act_of_meta {Op = Draw} m) flag)
+meta_spelled (UndoDepth depth) flag = All-nil DrawHasSpelling
+meta_spelled m flag = All-nil DrawHasSpelling
 
 -- a command that is drawn is that of a message
 command_spelled : (user : ℕ) (m : Msg) (flag : Bool) → HasSpelling m
@@ -28,7 +36,7 @@ command_spelled user msg.Point flag spelled = All-nil DrawHasSpelling
 command_spelled user (msg.Undo target true) flag spelled = All-nil DrawHasSpelling
 command_spelled user (msg.Undo target false) flag spelled = All-nil DrawHasSpelling
 command_spelled user (msg.Control m) flag spelled = All-nil DrawHasSpelling
-command_spelled user (msg.Meta m) flag spelled = All-nil DrawHasSpelling
+command_spelled user (msg.Meta m) flag spelled = meta_spelled m flag
 command_spelled user (msg.Part command) flag spelled = All-nil DrawHasSpelling
 command_spelled user (msg.Opaque kind body) flag spelled = All-nil DrawHasSpelling
 

@@ -1,5 +1,6 @@
 use Rattle.std.proofs.Common.{◌≡◌}
 use Rattle.std.specs.VecDeque.{deque_len}
+use Rattle.std.specs.List.Sorted.{IsNonDecreasing}
 use Rattle.dp_board.specs.Strokes.{last_few}
 use Rattle.dp_board.proofs.window.PointWindow.cut.Given as goal
 
@@ -9,6 +10,7 @@ invariant-loop-self l = record {
   depth : l.self-inside.depth ≡ l.fn.self.depth;
   last : last_few l.fn.self.depth l.self-inside.points.items
       ≡ last_few l.fn.self.depth l.fn.self.points;
+  rising : IsNonDecreasing l.self-inside.points.items;
 }
 
 abbrev pub decreases-loop-self : goal.decreases-loop-self
