@@ -14,7 +14,7 @@ returns-clause-value g c =
     let first = c.split_at.result.0.now in
     let last = c.split_at.result.1.now in
     let sources : first ++ last ≡ c.args.sources.now =
-    rw (c.split_at.ensures.prefix, c.split_at.ensures.back)
+    rw (c.split_at.ensures.front, c.split_at.ensures.back)
     (take-append-drop (length eights) c.args.sources.now) in
     rw (c.merge_eights.ensures, c.merge_twos.ensures)
     (row_merged-append mode by first last eights rest c.split_at.ensures.front_len

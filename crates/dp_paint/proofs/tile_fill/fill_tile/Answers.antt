@@ -10,9 +10,9 @@ loop-k-preserved c =
     let p = c.args.color in
     let k = c.loop-k.k in
     let parts = c.split_at_mut-done in
-    let prefix = parts.result.0.now in
-    let done = parts.ensures.prefix ∙ c.loop-k.invariant.done in
-    let copied : take 512 prefix ≡ replicate 512 p =
+    let front = parts.result.0.now in
+    let done = parts.ensures.front ∙ c.loop-k.invariant.done in
+    let copied : take 512 front ≡ replicate 512 p =
     ap (take 512) done ∙ take-replicate 512 (k * 512) p (omega (arith, c.loop-k.auto.k)) in
     record {
       count = simp (length-append) (omega (
@@ -22,9 +22,9 @@ loop-k-preserved c =
         c.copy_block.auto.to,
         c.loop-k.invariant.count,
       ));
-      done = block_more p (k * 512) ((k + 1) * 512) _ prefix (take 512 prefix)
+      done = block_more p (k * 512) ((k + 1) * 512) _ front (take 512 front)
           (drop 512 parts.result.1.now) done copied (omega arith)
-          (ap (λ (l : List Channels). prefix ++ l) c.copy_block.ensures);
+          (ap (λ (l : List Channels). front ++ l) c.copy_block.ensures);
     }
 
 pub returns : goal.returns
