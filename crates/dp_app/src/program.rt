@@ -137,7 +137,7 @@ pub fn drawpile<
     // And whatever the input comes to: after its first lines, however many, each client has taken a
     // prefix of the history of its epoch, its confirmed canvas is that prefix replayed, its view
     // the same with its unanswered sends drawn, and a message that is not permitted changes
-    // nothing.
+    // nothing and stands in no history.
     ensures headline { IsWorld words.now → IfSome (I.left input.old) HasHeadline }
 
     // Of all but a server: the input is read to its end. Faults are reported, and none is passed
