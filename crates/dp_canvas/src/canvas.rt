@@ -1,9 +1,9 @@
 //! The canvas.
 
-ghost use Rattle.std.specs.Prelude.{◌≡◌, false, option_copied, option_map, IfSome};
+ghost use Rattle.std.specs.Prelude.{◌≡◌, option_copied, option_map, IfSome};
 ghost use Rattle.dp_layers.specs.Rows.{content_of};
 ghost use Rattle.dp_paint.specs.Painting.{IsGridOf};
-ghost use Rattle.dp_pixels.specs.Feet.{reach};
+ghost use Rattle.dp_pixels.specs.Feet.{are_apart, reach};
 ghost use Rattle.dp_plain.specs.Board.{empty_board, IsBoard};
 ghost use Rattle.dp_plain.specs.Commands.{draw};
 ghost use Rattle.dp_tile.specs.Tiles.{grid_pixels};
@@ -69,7 +69,7 @@ impl Board for Canvas {
 
     ghost weight = { reach };
 
-    ghost are_apart = { λ a b. false };
+    ghost are_apart = { are_apart };
 
     fn known(&self) {
         self.board.known();
@@ -98,8 +98,8 @@ impl Board for Canvas {
         op.copy()
     }
 
-    fn apart(_a: &Draw, _b: &Draw) -> bool {
-        false
+    fn apart(a: &Draw, b: &Draw) -> bool {
+        LayeredBoard::<TiledPixels>::apart(a, b)
     }
 
     fn laws() {

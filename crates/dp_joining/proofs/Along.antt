@@ -14,7 +14,7 @@ use Rattle.dp_schedule.specs.declared.join_action.JoinAction.{JoinAction}
 use Rattle.dp_joining.specs.Joining.{Joining, Progress, Goes, Waits, after_line, along, asked_by}
 use Rattle.dp_joining.specs.Joining.{is_closed, takeable}
 use Rattle.dp_joining.specs.JoinStanding.{is_ping}
-use Rattle.dp_joining.specs.Scripts.{text_of, written_of}
+use Rattle.dp_joining.specs.Scripts.{progress_text, progress_written}
 
 -- ---- what is taken of a link
 
@@ -175,18 +175,18 @@ along_short action coming j few = along_few action [] coming j few
 -- what one line prints and writes, with at most as many entries as it asks for
 pub line_text : (action : JoinAction) (coming : List Entry) (j : Joining)
     → length coming ≤ asked_by action
-    → text_of (along (action ∷ []) coming j) ≡ (after_line action coming j).text
+    → progress_text (along (action ∷ []) coming j) ≡ (after_line action coming j).text
 line_text action coming j within =
     elim (cases_lt (length coming) (asked_by action)) [
-      | inl few ↦ ap text_of (along_short action coming j few)
-      | inr past ↦ ap text_of (along_exact action coming j (omega arith))
+      | inl few ↦ ap progress_text (along_short action coming j few)
+      | inr past ↦ ap progress_text (along_exact action coming j (omega arith))
     ]
 
 pub line_written : (action : JoinAction) (coming : List Entry) (j : Joining)
     → length coming ≤ asked_by action
-    → written_of (along (action ∷ []) coming j) ≡ (after_line action coming j).written
+    → progress_written (along (action ∷ []) coming j) ≡ (after_line action coming j).written
 line_written action coming j within =
     elim (cases_lt (length coming) (asked_by action)) [
-      | inl few ↦ ap written_of (along_short action coming j few)
-      | inr past ↦ ap written_of (along_exact action coming j (omega arith))
+      | inl few ↦ ap progress_written (along_short action coming j few)
+      | inr past ↦ ap progress_written (along_exact action coming j (omega arith))
     ]

@@ -20,8 +20,8 @@ use Rattle.dp_joining.specs.declared.stops.JoinStop.TheVariants.{NoEntry}
 use Rattle.dp_joining.specs.Joining.{Joining, Progress, Goes, Waits, after_line, along, takeable}
 use Rattle.dp_joining.specs.Outcomes.{AllAsk, IsJoinStep}
 use Rattle.dp_joining.specs.Scripts.{GoesTo, HasDone, HasEnded, IsJoinLineRefused, StopsAlong}
-use Rattle.dp_joining.specs.Scripts.{text_of}
-use Rattle.dp_joining.specs.Scripts.{written_of}
+use Rattle.dp_joining.specs.Scripts.{progress_text}
+use Rattle.dp_joining.specs.Scripts.{progress_written}
 use Rattle.dp_joining.specs.Steps.{Began, Halts, IsNoEntry, IsReadable, Passes, Seen, Stands, Stops}
 use Rattle.dp_joining.specs.Steps.{Wrote}
 use Rattle.dp_joining.proofs.Along.{along_exact, along_next, along_short, line_text, line_written}
@@ -44,11 +44,11 @@ asked_more (first ∷ done) (one ∷ actions) line action (here, asked) asks =
 
 -- what was written on the way to the next line
 wrote_along : (first now : Seen) (progress : Progress) (j : Joining) (stop : JoinStop)
-    → text_of progress ≡ j.text → written_of progress ≡ j.written
+    → progress_text progress ≡ j.text → progress_written progress ≡ j.written
     → Wrote first now j.text j.written stop
-    → Wrote first now (text_of progress) (written_of progress) stop
+    → Wrote first now (progress_text progress) (progress_written progress) stop
 wrote_along first now progress j stop text written wrote =
-    subst (λ t. Wrote first now t (written_of progress) stop) (sym text)
+    subst (λ t. Wrote first now t (progress_written progress) stop) (sym text)
     (subst (λ w. Wrote first now j.text w stop) (sym written) wrote)
 
 -- what stands is written whole, and is a prefix
@@ -109,10 +109,11 @@ module _ {M O D T : Type 0} (see : M → O → Seen) where
         ∙ along_next has.actions action (takeable has.given) (takeable halts.given) j
         before.joining before.goes in
         let next = after_line action (takeable halts.given) before.joining in
-        let text : text_of progress ≡ next.text =
-        ap text_of is ∙ line_text action (takeable halts.given) before.joining halts.few in
-        let written : written_of progress ≡ next.written =
-        ap written_of is ∙ line_written action (takeable halts.given) before.joining halts.few in
+        let text : progress_text progress ≡ next.text =
+        ap progress_text is ∙ line_text action (takeable halts.given) before.joining halts.few in
+        let written : progress_written progress ≡ next.written =
+        ap progress_written is
+        ∙ line_written action (takeable halts.given) before.joining halts.few in
         let stopped = halts.stops first before.joining before.stands in
         record {
           wrote = wrote_along first (at now) progress next stop text written stopped.wrote;
@@ -120,7 +121,7 @@ module _ {M O D T : Type 0} (see : M → O → Seen) where
           waits = λ none.
               is ∙ along_short action (takeable halts.given) before.joining (halts.waits none)
               ∙ ap (λ t. Waits t next.written) (sym text)
-              ∙ ap (λ w. Waits (text_of progress) w) (sym written);
+              ∙ ap (λ w. Waits (progress_text progress) w) (sym written);
         };
   }
 
@@ -139,8 +140,9 @@ module _ {M O D T : Type 0} (see : M → O → Seen) where
         let before = has.goes first j stands in
         let progress = along has.actions (takeable has.given) j in
         record {
-          wrote = wrote_along first (at now) progress before.joining Memory (ap text_of before.goes)
-              (ap written_of before.goes) (began_whole first (at now) before.joining
+          wrote = wrote_along first (at now) progress before.joining Memory
+              (ap progress_text before.goes)
+              (ap progress_written before.goes) (began_whole first (at now) before.joining
               before.stands);
           fault = before.stands.faultless;
           waits = λ none. absurd none;

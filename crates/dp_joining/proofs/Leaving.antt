@@ -39,8 +39,8 @@ use Rattle.dp_joining.specs.Outcomes.{JoinComesTo, JoinOutcome, link_end}
 use Rattle.dp_script.specs.Limits.{lines_limit}
 use Rattle.dp_joining.specs.Outcomes.{script_outcome}
 use Rattle.dp_joining.specs.Partings.{IsSilent, Parts, SaysFarewell}
-use Rattle.dp_joining.specs.Scripts.{GoesTo, HasDone, HasEnded, IsBegun, StopsAlong, text_of}
-use Rattle.dp_joining.specs.Scripts.{written_of}
+use Rattle.dp_joining.specs.Scripts.{GoesTo, HasDone, HasEnded, IsBegun, StopsAlong, progress_text}
+use Rattle.dp_joining.specs.Scripts.{progress_written}
 use Rattle.dp_joining.specs.Steps.{Began, FaultMatchesStop, HasGiven, IsFaultless, Seen, Shows}
 use Rattle.dp_joining.specs.Steps.{Stands}
 use Rattle.dp_joining.specs.Stops.{end_of}
@@ -207,7 +207,7 @@ module _ {M O D T : Type 0} (see : M → O → Seen) where
             entries = welcome ∷ has.given;
             begins = begins_of bytes done is has;
             text =
-                subst (λ w. GrowsByPrefix t.print_old t.print_now (text_of w)) (sym progress)
+                subst (λ w. GrowsByPrefix t.print_old t.print_now (progress_text w)) (sym progress)
                 (subst (λ a. GrowsByPrefix a t.print_now j.text) (sym print_old)
                 (subst (λ b. GrowsByPrefix first.printed b j.text) (sym print_now)
                 (grows_whole first.printed (at now).printed j.text go.stands.text)));
@@ -216,7 +216,7 @@ module _ {M O D T : Type 0} (see : M → O → Seen) where
                 subst (λ w. IsParting input done w parting) (sym progress)
                 (parts j go.stands.client);
             written =
-                subst (λ w. GrowsByPrefix t.sent_old t.sent_now (written_of w ++ parting))
+                subst (λ w. GrowsByPrefix t.sent_old t.sent_now (progress_written w ++ parting))
                 (sym progress)
                 (subst (λ a. GrowsByPrefix a t.sent_now (j.written ++ parting)) (sym sent_old)
                 (grows_after first.written (at now).written t.sent_now j.written parting
@@ -347,8 +347,8 @@ module _ {M O D T : Type 0} (see : M → O → Seen) where
           → sent ≡ (at now).written
           → ((bytes : List ℕ) → Shows bytes (welcome ∷ has.given) stop
           → BeginsWith bytes (welcome ∷ has.given))
-          → Began first (at now) (text_of (along has.actions (takeable has.given)
-          (newcomer (at start).client name))) (written_of (along has.actions
+          → Began first (at now) (progress_text (along has.actions (takeable has.given)
+          (newcomer (at start).client name))) (progress_written (along has.actions
           (takeable has.given) (newcomer (at start).client name)))
           → WhereKnown over (WritesPart name over)
       stopped_part done line stop is has next same begins began =
@@ -367,14 +367,15 @@ module _ {M O D T : Type 0} (see : M → O → Seen) where
             entries = welcome ∷ has.given;
             begins = begins l (has.reads l (welcome ∷ []) known.has_given is.still);
             text =
-                subst (λ w. GrowsByPrefix first.printed (at now).printed (text_of w)) (sym joins)
+                subst (λ w. GrowsByPrefix first.printed (at now).printed (progress_text w))
+                (sym joins)
                 began.printed;
             parting = [];
             is_parting = inl refl;
             written =
                 subst (GrowsByPrefix first.written sent) (sym (append-nil _))
-                (subst (λ w. GrowsByPrefix first.written sent (written_of w)) (sym joins)
-                (subst (λ s. GrowsByPrefix first.written s (written_of progress)) (sym same)
+                (subst (λ w. GrowsByPrefix first.written sent (progress_written w)) (sym joins)
+                (subst (λ s. GrowsByPrefix first.written s (progress_written progress)) (sym same)
                 began.sent));
           })
 
@@ -393,8 +394,8 @@ module _ {M O D T : Type 0} (see : M → O → Seen) where
           let progress = along has.actions (takeable has.given) (newcomer (at start).client name) in
           let stops = has.stops first (newcomer (at start).client name) is.stands in (
             record {
-              text = text_of progress;
-              written = written_of progress;
+              text = progress_text progress;
+              written = progress_written progress;
               end = link_end why;
             },
             inr (record {
@@ -414,7 +415,8 @@ module _ {M O D T : Type 0} (see : M → O → Seen) where
             }),
             refl,
             stops.wrote.0,
-            subst (λ s. Appends first.written s (written_of progress)) (sym same) stops.wrote.1,
+            subst (λ s. Appends first.written s (progress_written progress)) (sym same)
+                stops.wrote.1,
           ))
 
       link_leaves : (why : LinkCause) → WritesAll name over (link_end why)

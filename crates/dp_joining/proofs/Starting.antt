@@ -25,7 +25,7 @@ use Rattle.dp_joining.specs.Leaves.{Traffic}
 use Rattle.dp_joining.specs.Leaves.{WritesAll, WritesPart, WhereKnown}
 use Rattle.dp_joining.specs.Outcomes.{IsJoinStep, BeginsWith, JoinComesTo, JoinOutcome, link_end}
 use Rattle.dp_script.specs.Limits.{lines_limit}
-use Rattle.dp_joining.specs.Scripts.{text_of, written_of}
+use Rattle.dp_joining.specs.Scripts.{progress_text, progress_written}
 use Rattle.dp_joining.specs.Steps.{Seen, Shows, Source, Stands}
 use Rattle.dp_joining.specs.Stops.{end_of}
 use Rattle.dp_joining.proofs.Moving.{grows_not}
@@ -103,14 +103,14 @@ module _ (name : List ℕ) (t : Traffic) (source source_now sink sink_now : ℕ)
         entries = fails.given;
         begins = begins l shows;
         text =
-            subst (λ (w : Progress). GrowsByPrefix t.print_old t.print_now (text_of w))
+            subst (λ (w : Progress). GrowsByPrefix t.print_old t.print_now (progress_text w))
             (sym (fails.waits []))
             (subst (λ (p : Option (List ℕ)). GrowsByPrefix t.print_old p []) (sym same)
             (grows_not t.print_old []));
         parting = [];
         is_parting = inl refl;
         written =
-            subst (λ (w : Progress). GrowsByPrefix t.sent_old t.sent_now (written_of w ++ []))
+            subst (λ (w : Progress). GrowsByPrefix t.sent_old t.sent_now (progress_written w ++ []))
             (sym (fails.waits []))
             (subst (GrowsByPrefix t.sent_old t.sent_now) (sym (append-nil (hello_bytes name)))
             wrote);

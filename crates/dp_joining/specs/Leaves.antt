@@ -19,7 +19,7 @@ use Rattle.dp_joining.specs.Joining.{Joining, Progress, Goes, farewell_bytes, gr
 use Rattle.dp_joining.specs.Joining.{joined}
 use Rattle.dp_joining.specs.Outcomes.{AllAsk, BeginsWith, IsJoinStep, JoinComesTo, JoinOutcome}
 use Rattle.dp_script.specs.Limits.{lines_limit}
-use Rattle.dp_joining.specs.Scripts.{text_of, written_of}
+use Rattle.dp_joining.specs.Scripts.{progress_text, progress_written}
 use Rattle.dp_joining.specs.Steps.{HasGiven, Seen, Stands}
 
 -- What a run sees of its devices before and after it: the bytes that are left of the script, and
@@ -62,11 +62,11 @@ pub record WritesPart (name : List ℕ) (t : Traffic) (input link : List ℕ) : 
   pub asked : AllAsk begun actions
   pub entries : List Entry
   pub begins : BeginsWith link entries
-  pub text : GrowsByPrefix t.print_old t.print_now (text_of (joined name actions entries))
+  pub text : GrowsByPrefix t.print_old t.print_now (progress_text (joined name actions entries))
   pub parting : List ℕ
   pub is_parting : IsParting input begun (joined name actions entries) parting
   pub written : GrowsByPrefix t.sent_old t.sent_now
-      (written_of (joined name actions entries) ++ parting)
+      (progress_written (joined name actions entries) ++ parting)
 
 -- the lines that are whole in what was taken of the script were done, and nothing more was written
 pub record WritesTaken (name : List ℕ) (t : Traffic) (input link : List ℕ) : Type 0 where

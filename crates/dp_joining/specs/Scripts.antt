@@ -38,13 +38,13 @@ IsJoinLineRefused line (undone.Ended Memory) = Unit {0}
 IsJoinLineRefused line (undone.Ended (NoEntry why)) = ⊥
 
 -- what is printed, and what is written to the link
-abbrev pub text_of : Progress → List ℕ
-text_of (Goes j left) = j.text
-text_of (Waits text written) = text
+abbrev pub progress_text : Progress → List ℕ
+progress_text (Goes j left) = j.text
+progress_text (Waits text written) = text
 
-abbrev pub written_of : Progress → List ℕ
-written_of (Goes j left) = j.written
-written_of (Waits text written) = written
+abbrev pub progress_written : Progress → List ℕ
+progress_written (Goes j left) = j.written
+progress_written (Waits text written) = written
 
 -- all the lines are done, with all the entries
 pub record GoesTo (start now : Seen) (progress : Progress) : Type 0 where
@@ -54,9 +54,9 @@ pub record GoesTo (start now : Seen) (progress : Progress) : Type 0 where
 
 -- on the way the client stops so: where the link gives no entry more, a line asks for one
 pub record StopsAlong (start now : Seen) (progress : Progress) (stop : JoinStop) : Type 0 where
-  pub wrote : Wrote start now (text_of progress) (written_of progress) stop
+  pub wrote : Wrote start now (progress_text progress) (progress_written progress) stop
   pub fault : FaultMatchesStop start now stop
-  pub waits : IsNoEntry stop → progress ≡ Waits (text_of progress) (written_of progress)
+  pub waits : IsNoEntry stop → progress ≡ Waits (progress_text progress) (progress_written progress)
 
 -- From the first moment to the second one these lines were done, with these entries of the link.
 pub record HasDone {M O D T : Type 0} (see : M → O → Seen) (start : Moment M O D T)

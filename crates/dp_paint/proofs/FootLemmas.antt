@@ -1,13 +1,20 @@
 -- Feet that are one rectangle.
-use Rattle.std.proofs.Common.{◌≡◌, true, Some, ap, sym, ◌∙◌}
-use Rattle.std.specs.Prelude.{ℤ}
+use Rattle.std.proofs.Common.{◌≡◌, ◌==◌, ◌*◌, true, Some, ap, subst, sym, ◌∙◌, arith}
+use Rattle.std.specs.Prelude.{ℤ, pos, ◌≤ℤ◌}
+use Rattle.std.proofs.lemmas.Bool.{cond_both}
+use Rattle.std.specs.Int.{int_min}
+use Rattle.std.proofs.lemmas.Int.{ints, int_max_is, int_min_is}
 use Rattle.std.proofs.lemmas.Option.{none-some, same_Some}
+use Rattle.dp_msg_draw.specs.declared.draw.Draw.{Draw}
+use Rattle.dp_msg_draw.specs.declared.draw.Draw.TheVariants as op
 use Rattle.dp_pixels.specs.declared.rect.Rect.{Rect}
 use Rattle.dp_pixels.specs.declared.feet.Footprint.{Footprint}
 use Rattle.dp_pixels.specs.declared.feet.Footprint.TheVariants.{Area, Two, All}
-use Rattle.dp_pixels.specs.Feet.{is_in_foot, squares_of, squares_of_foot}
-use Rattle.dp_pixels.specs.Rectangles.{is_in}
-use Rattle.dp_paint.specs.Painting.{foot_area}
+use Rattle.dp_pixels.specs.Feet.{around, foot, greatest_canvas, is_in_foot, on_greatest, on_side}
+use Rattle.dp_pixels.specs.Feet.{squares_of, squares_of_foot}
+use Rattle.dp_pixels.specs.Dabs.{placed_dabs}
+use Rattle.dp_pixels.specs.Rectangles.{is_in, rect_at}
+use Rattle.dp_paint.specs.Painting.{IsOnGreatest, foot_area}
 
 -- its squares are those of the foot
 pub area_squares : (r : Rect) (f : Footprint) → foot_area f ≡ Some r
@@ -23,3 +30,47 @@ in_area r (Area layer rect) x y is inside =
     ap (λ (area : Rect). is_in area x y) (sym (same_Some rect r is)) ∙ inside
 in_area r (Two layer from to) x y is inside = absurd (none-some r is)
 in_area r All x y is inside = absurd (none-some r is)
+
+-- ---- where it is
+
+-- a number that was moved onto a side
+record IsOnSide (z : ℤ) : Type 0 where
+  low : pos 0 ≤ℤ z
+  high : z ≤ℤ pos 4096
+
+side_within : (z : ℤ) → IsOnSide (on_side z)
+side_within z = record {
+  low = omega (arith, ints, int_max_is (pos 0) (int_min z (pos 4096)));
+  high = omega (
+    arith,
+    ints,
+    int_max_is (pos 0) (int_min z (pos 4096)),
+    int_min_is z (pos 4096),
+  );
+}
+
+pub greatest_within : (r : Rect) → IsOnGreatest (on_greatest r)
+greatest_within r = record {
+  left = (side_within r.x0).low;
+  top = (side_within r.y0).low;
+  right = (side_within r.x1).high;
+  bottom = (side_within r.y1).high;
+}
+
+-- the rectangle of a foot that is one is on the greatest canvas
+pub area_within : (d : Draw) (r : Rect) → foot_area (foot d) ≡ Some r → IsOnGreatest r
+area_within (op.FillRect layer mode x y w h color) r is =
+    subst IsOnGreatest (same_Some _ r is) (greatest_within (rect_at (pos x) (pos y) w h))
+area_within (op.PutImage layer mode x y w h colors) r is =
+    subst IsOnGreatest (same_Some _ r is) (greatest_within (rect_at (pos x) (pos y) w h))
+area_within (op.DabsRound layer x y red g b mode dabs) r is =
+    subst IsOnGreatest (same_Some _ r is) (greatest_within (around (placed_dabs x y dabs)))
+area_within (op.DabsSquare layer x y red g b mode dabs) r is =
+    subst IsOnGreatest (same_Some _ r is) (greatest_within (around (placed_dabs x y dabs)))
+area_within (op.PutTile layer col row repeat content) r is =
+    subst IsOnGreatest (same_Some _ r is)
+    (cond_both (repeat == 0)
+    (on_greatest (rect_at (pos (col * 64)) (pos (row * 64)) 64 64)) greatest_canvas IsOnGreatest
+    (λ _. greatest_within (rect_at (pos (col * 64)) (pos (row * 64)) 64 64))
+    (λ _. greatest_within greatest_canvas))
+area_within _ r is = absurd (none-some r is)

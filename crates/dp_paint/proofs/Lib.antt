@@ -12,3 +12,5 @@ pub mod Resized
 pub mod RowLemmas
 pub mod Shown
 pub mod Tiles
+pub mod Lifting
+pub mod Kept

@@ -17,12 +17,7 @@ pub(crate) fn on_greatest(rect: Rect) -> Rect
     ensures value { result ≡ on_greatest rect }
     ensures within { IsOnGreatest result }
 {
-    Rect {
-        x0: rect.x0.clamp(0, MAX_SIDE),
-        y0: rect.y0.clamp(0, MAX_SIDE),
-        x1: rect.x1.clamp(0, MAX_SIDE),
-        y1: rect.y1.clamp(0, MAX_SIDE),
-    }
+    rect.on_greatest()
 }
 
 /// Of so many tiles along a side, those that have one of the places from one on before another: the

@@ -1,16 +1,15 @@
 //! The tiles that a command may change.
 
 ghost use Rattle.std.specs.Prelude.{◌≡◌, ◌+◌, ◌-◌, ◌*◌, ◌/◌, ◌<◌, ◌≤◌, ℕ, pos, ◌≤ℤ◌, ◌<ℤ◌};
-ghost use Rattle.std.specs.Prelude.{true, if◌then◌else◌, ◌==◌, Some};
+ghost use Rattle.std.specs.Prelude.{true, Some};
 ghost use Rattle.dp_pixels.specs.Rectangles.{rect_at};
-ghost use Rattle.dp_pixels.specs.Feet.{foot, greatest_canvas, is_in_foot, on_greatest};
-ghost use Rattle.dp_pixels.specs.Feet.{squares_of_foot};
+ghost use Rattle.dp_pixels.specs.Feet.{foot, is_in_foot, squares_of_foot};
 ghost use Rattle.dp_tile.specs.Areas.{is_in_cells};
 ghost use Rattle.dp_paint.specs.Painting.{IsOnGreatest, IsPainting, foot_area};
 
-use crate::cells::{cells_in, on_greatest};
+use crate::cells::cells_in;
 use dp_msg_draw::Draw;
-use dp_pixels::{Rect, dabs_bounds};
+use dp_pixels::{Footprint, Rect, foot};
 use dp_tile::CellArea;
 
 /// The rectangle of this corner and these sides.
@@ -25,36 +24,14 @@ pub(crate) fn rect_of(x: u32, y: u32, w: u32, h: u32) -> Rect
     }
 }
 
-/// The rectangle of the foot of PutTile.
-fn tiles_rect(col: u16, row: u16, repeat: u16) -> Rect
-    ensures value { result ≡ (if repeat == 0
-        then on_greatest (rect_at (pos (col * 64)) (pos (row * 64)) 64 64)
-        else greatest_canvas) }
-    ensures within { IsOnGreatest result }
-{
-    if repeat == 0 {
-        on_greatest(rect_of(col as u32 * 64, row as u32 * 64, 64, 64))
-    } else {
-        rect_of(0, 0, 4096, 4096)
-    }
-}
-
 /// The rectangle of the foot of a command.
 fn foot_rect(command: &Draw) -> Rect
     requires { IsPainting command.now }
     ensures foot { foot_area (foot command.now) ≡ Some result }
     ensures within { IsOnGreatest result }
 {
-    match command {
-        Draw::FillRect { x, y, w, h, .. } => on_greatest(rect_of(*x, *y, *w, *h)),
-        Draw::PutImage { x, y, w, h, .. } => on_greatest(rect_of(*x, *y, *w, *h)),
-        Draw::PutTile {
-            col,
-            row,
-            repeat,
-            ..
-        } => tiles_rect(*col, *row, *repeat),
-        Draw::DabsRound { .. } | Draw::DabsSquare { .. } => on_greatest(dabs_bounds(command)),
+    match foot(command) {
+        Footprint::Area { rect, .. } => rect,
         _ => unreachable!(),
     }
 }

@@ -6,3 +6,4 @@ pub mod Views
 pub mod Remaking
 pub mod Holds
 pub mod Pixels
+pub mod Commuting

@@ -1,10 +1,11 @@
 //! The board over contents of any kind: the dispatch of the commands.
 
-ghost use Rattle.std.specs.Prelude.{◌≡◌, ◌+◌, ◌*◌, ◌≤◌, pos, ◌+ℤ◌, ◌&&◌, true, false, Some};
+ghost use Rattle.std.specs.Prelude.{◌≡◌, ◌+◌, ◌*◌, ◌≤◌, pos, ◌+ℤ◌, ◌&&◌, true, Some};
 ghost use Rattle.std.specs.Prelude.{option_copied, option_map, IfSome, OnOk, OnErr};
 ghost use Rattle.dp_layers.specs.Layers.{is_paint_row, row_limit};
 ghost use Rattle.dp_layers.specs.Rows.{content_of, layers_of};
 ghost use Rattle.dp_layers.specs.Changes.{IsCreate, has_effect};
+ghost use Rattle.dp_pixels.specs.Feet.{are_apart};
 ghost use Rattle.dp_pixels.specs.Resizes.{is_side};
 ghost use Rattle.dp_plain.specs.Board.{empty_board, IsBoard};
 ghost use Rattle.dp_plain.specs.Commands.{draw, resized, arranged, painted, painted_layer};
@@ -19,7 +20,7 @@ use dp_blend::Pixel;
 use dp_board::Board;
 use dp_layers::{LayerRow, Tree, contents_ride_along, trees_stay_trees};
 use dp_msg_draw::Draw;
-use dp_pixels::Resize;
+use dp_pixels::{Resize, apart_commands_commute, foot, meets};
 use dp_steps::Steps;
 use std::alloc::{AllocError, Global};
 use std::marker::Model;
@@ -206,7 +207,7 @@ impl<C: LayerPixels> Board for LayeredBoard<C> {
 
     ghost weight = { board_weight C.resizing C.weight };
 
-    ghost are_apart = { λ a b. false };
+    ghost are_apart = { are_apart };
 
     fn known(&self) {
         C::laws();
@@ -250,11 +251,12 @@ impl<C: LayerPixels> Board for LayeredBoard<C> {
         op.copy()
     }
 
-    fn apart(_a: &Draw, _b: &Draw) -> bool {
-        false
+    fn apart(a: &Draw, b: &Draw) -> bool {
+        !meets(&foot(a), &foot(b))
     }
 
     fn laws() {
+        apart_commands_commute();
         trees_stay_trees::<PlainPixels>();
     }
 }

@@ -1,6 +1,8 @@
-use Rattle.std.proofs.Common.{arith}
-use Rattle.std.proofs.lemmas.Int.{to_z-of_z}
+use Rattle.std.proofs.Common.{subst, sym}
+use Rattle.dp_paint.specs.Painting.{IsOnGreatest}
+use Rattle.dp_paint.proofs.FootLemmas.{greatest_within}
 use Rattle.dp_paint.proofs.cells.on_greatest.Goals as goal
 
-pub returns-clause-value : goal.returns-clause-value
-returns-clause-value c = grind (arith, to_z-of_z)
+pub returns-clause-within : goal.returns-clause-within
+returns-clause-within c =
+    subst IsOnGreatest (sym c.on_greatest.ensures) (greatest_within c.args.rect)
