@@ -43,7 +43,7 @@ impl PointWindow {
     pub(crate) fn is_eligible(&self, group: usize) -> bool
         ensures { result ≡ is_eligible self.now group }
     {
-        if let Some(first) = self.points.prefix()
+        if let Some(first) = self.points.front()
             && group < *first
         {
             return false;

@@ -176,7 +176,7 @@ impl<B: Board> Fork<B> {
     fn begins_with_command(&self) -> bool
         ensures { result ≡ list_any is_draw (take 1 self.now.acts) }
     {
-        match self.acts.prefix() {
+        match self.acts.front() {
             Some(act) => is_draw(act),
             None => false,
         }
