@@ -1,5 +1,5 @@
 -- Entries as they are kept, and what opens an epoch.
-use Rattle.std.proofs.Common.{◌≡◌, ℕ, ◌+◌, ◌-◌, ◌<◌, ◌≤◌, Bool, true, false, ◌&&◌, nat_le, IsSome, List, ◌∷◌, ◌++◌, length, Option, None, Some, is_some, refl, sym, ap, subst, ◌∙◌, ⊎_elim, arith, append-nil, append_assoc, zero, suc, cond, unwrap_or, map, All, take, get_or, drop}
+use Rattle.std.proofs.Common.{◌≡◌, ℕ, ◌+◌, ◌-◌, ◌<◌, ◌≤◌, Bool, true, false, ◌&&◌, nat_le, IsSome, List, ◌∷◌, ◌++◌, length, Option, None, Some, is_some, refl, sym, ap, subst, ◌∙◌, ⊎_elim, arith, append-nil, append_assoc, zero, suc, cond, unwrap_or, map, All, take, get_or, drop, []}
 use Rattle.std.specs.List.{find, slice_get, filter, filter_map, cons_option, range_with_len}
 use Rattle.std.specs.Option.{option_map, option_map_or}
 use Rattle.std.proofs.lemmas.Bool.{cases_Bool, le-leb, cond-true, cond-false}

@@ -1,6 +1,6 @@
 //! Entries of the history as they are kept.
 
-ghost use Rattle.std.specs.Prelude.{◌≡◌, ◌++◌, ◌∷◌, List, OnOk, true, is_some, map, slice_get, All, IfOk, OnErr, Some, IfSome};
+ghost use Rattle.std.specs.Prelude.{◌≡◌, ◌++◌, ◌∷◌, List, OnOk, true, is_some, map, slice_get, All, IfOk, OnErr, Some, IfSome, []};
 ghost use Rattle.std.specs.Option.{option_map};
 ghost use Rattle.dp_acl.specs.Opening.{command_entry};
 ghost use Rattle.dp_epochs.specs.State.{entry_of, is_name};
@@ -95,11 +95,7 @@ fn join(alloc: Global, journal: &[Event], event: u32, user: u8) -> Result<Entry,
 }
 
 /// A copy of an entry that is kept beside the journal.
-pub fn entry(
-    alloc: Global,
-    journal: &[Event],
-    item: &HistoryItem,
-) -> Result<Entry, AllocError>
+pub fn entry(alloc: Global, journal: &[Event], item: &HistoryItem) -> Result<Entry, AllocError>
     requires { IsIn journal.now item.now }
     ensures { IfOk result (λ entry. entry ≡ entry_in journal.now item.now) }
 {
@@ -112,7 +108,11 @@ pub fn entry(
 }
 
 /// Copies of entries.
-pub fn copies(alloc: Global, journal: &[Event], items: &[HistoryItem]) -> Result<Entries, AllocError>
+pub fn copies(
+    alloc: Global,
+    journal: &[Event],
+    items: &[HistoryItem],
+) -> Result<Entries, AllocError>
     requires { All (IsIn journal.now) items.now }
     ensures { IfOk result (λ copies. copies ≡ map (entry_in journal.now) items.now) }
 {

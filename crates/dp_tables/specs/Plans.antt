@@ -1,5 +1,5 @@
 -- What is ready to be kept of an event, and when it is what the event makes.
-use Rattle.std.specs.Prelude.{◌≡◌, ℕ, ◌+◌, ◌-◌, ◌<◌, Bool, true, false, not, ◌==◌}
+use Rattle.std.specs.Prelude.{◌≡◌, ℕ, ◌+◌, ◌-◌, ◌<◌, Bool, true, false, not, ◌==◌, []}
 use Rattle.std.specs.Prelude.{if◌then◌else◌, Option, None, Some, option_to_list, MatchOption}
 use Rattle.std.specs.Prelude.{List, ◌∷◌, ◌++◌, length, map, slice_get, slice_set, All}
 use Rattle.std.specs.List.{list_any}
