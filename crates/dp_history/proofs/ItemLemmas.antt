@@ -1,5 +1,8 @@
 -- Entries as they are kept, and what opens an epoch.
-use Rattle.std.proofs.Common.{◌≡◌, ℕ, ◌+◌, ◌-◌, ◌<◌, ◌≤◌, Bool, true, false, ◌&&◌, nat_le, IsSome, List, ◌∷◌, ◌++◌, length, Option, None, Some, is_some, refl, sym, ap, subst, ◌∙◌, ⊎_elim, arith, append-nil, append_assoc, zero, suc, cond, unwrap_or, map, All, take, get_or, drop, []}
+use Rattle.std.proofs.Common.{◌≡◌, ℕ, ◌+◌, ◌-◌, ◌<◌, ◌≤◌, Bool, true, false, ◌&&◌, nat_le, IsSome}
+use Rattle.std.proofs.Common.{List, ◌∷◌, ◌++◌, length, Option, None, Some, is_some, refl, sym, ap}
+use Rattle.std.proofs.Common.{subst, ◌∙◌, ⊎_elim, arith, append-nil, append_assoc, zero, suc, cond}
+use Rattle.std.proofs.Common.{unwrap_or, map, All, take, get_or, drop, []}
 use Rattle.std.specs.List.{find, slice_get, filter, filter_map, cons_option, range_with_len}
 use Rattle.std.specs.Option.{option_map, option_map_or}
 use Rattle.std.proofs.lemmas.Bool.{cases_Bool, le-leb, cond-true, cond-false}
@@ -21,7 +24,8 @@ use Rattle.dp_history.specs.Users.{next_operator}
 use Rattle.dp_history.proofs.Ranges.{list_any-find, range-more}
 use Rattle.std.proofs.Math.Seq.{take-suc, drop-append_seam}
 use Rattle.std.proofs.lemmas.List.{map-append}
-use Rattle.std.proofs.lemmas.List.Elements.{All-append, All-cons, All-nil, filter-append, filter_map-append}
+use Rattle.std.proofs.lemmas.List.Elements.{All-append, All-cons, All-nil, filter-append}
+use Rattle.std.proofs.lemmas.List.Elements.{filter_map-append}
 use Rattle.dp_msg_meta.specs.declared.message.Meta.{Meta}
 use Rattle.dp_history.specs.declared.item.HistoryItem.{HistoryItem}
 use Rattle.std.proofs.lemmas.Option.{slice_get-map, slice_get-get_or}
