@@ -190,7 +190,7 @@ module _ (f : ℕ → Option Entry) (p : ℕ → Bool) (k : ℕ) (above : 1 ≤ 
       ∙ append-nil (filter p (range_with_len 1 (k - 1))))
 
 -- what stands at a place is the first of the rest there
-drop-at : {X : Type 0} (xs : List X) (at : ℕ) (x : X) → slice_get xs at ≡ Some x
+pub drop-at : {X : Type 0} (xs : List X) (at : ℕ) (x : X) → slice_get xs at ≡ Some x
     → (rest : List X) × (drop at xs ≡ x ∷ rest)
 drop-at [] at x found = cc
 drop-at (y ∷ ys) zero x found = (ys, cc)

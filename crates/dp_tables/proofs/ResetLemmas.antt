@@ -1,5 +1,6 @@
 -- What a reset that is being sent may have, and how the next epoch opens.
 use Rattle.std.proofs.Common.{◌≡◌, ℕ, zero, suc, ◌+◌, ◌-◌, ◌<◌, ◌≤◌, ◌&&◌, Bool, true, false, cond}
+use Rattle.std.proofs.Common.{append-nil}
 use Rattle.std.proofs.Common.{[]}
 use Rattle.std.proofs.Common.{nat_lt, nat_le, is_some, List, ◌∷◌, ◌++◌, length, map}
 use Rattle.std.proofs.Common.{Option, None, Some}

@@ -7,10 +7,10 @@ use Rattle.dp_pixels.specs.declared.dabs.PlacedDab.{PlacedDab}
 use Rattle.dp_pixels.specs.Dabs.{dab_covers, placed_dabs}
 use Rattle.dp_pixels.proofs.Strokes.{IsLast, last_more, placed_is, length-placed_dabs}
 use Rattle.dp_pixels.proofs.dabs.DabRun.covers.Goals as goal
-use Rattle.dp_pixels.proofs.dabs.DabRun.covers.Goals.{After-placed_after}
+use Rattle.dp_pixels.proofs.dabs.DabRun.covers.Goals.{After-placed_after-placed}
 
 -- the dab stands after the last one
-next : (c : After-placed_after) → IsLast c.args.self.at.x c.args.self.at.y c.args.self.dabs.now
+next : (c : After-placed_after-placed) → IsLast c.args.self.at.x c.args.self.at.y c.args.self.dabs.now
     (c.loop-dab.dab-index + 1) c.placed_after-placed.result.at
 next c =
     let s = c.args.self in
@@ -22,7 +22,7 @@ next c =
     c.loop-dab.invariant.last
 
 -- and is the next of the list
-is_next : (c : After-placed_after) → get_or (placed_dabs c.args.self.at.x c.args.self.at.y
+is_next : (c : After-placed_after-placed) → get_or (placed_dabs c.args.self.at.x c.args.self.at.y
     c.args.self.dabs.now) c.loop-dab.dab-index c.placed_after-placed.result
     ≡ c.placed_after-placed.result
 is_next c =
@@ -33,7 +33,7 @@ is_next c =
     c.placed_after-placed.ensures.value c.loop-dab.invariant.last
 
 -- it is in the list
-is_within : (c : After-placed_after) → c.loop-dab.dab-index
+is_within : (c : After-placed_after-placed) → c.loop-dab.dab-index
     < length (placed_dabs c.args.self.at.x c.args.self.at.y c.args.self.dabs.now)
 is_within c = let s = c.args.self in omega (
   arith,
@@ -44,7 +44,7 @@ is_within c = let s = c.args.self in omega (
 
 pub covers-requires : goal.covers-requires
 covers-requires c =
-    let near = (next (goal.at.covers-requires c).After-placed_after).near in
+    let near = (next (goal.at.covers-requires c).After-placed_after-placed).near in
     let short = c.args.self.short in
     let test = c.loop-dab-test.true in
     record { x = omega (arith, near.x, short, test); y = omega (arith, near.y, short, test) }
@@ -52,7 +52,7 @@ covers-requires c =
 pub returns-then-covers : goal.returns-then-covers
 returns-then-covers c =
     let s = c.args.self in
-    let a = (goal.at.returns-then-covers c).After-placed_after in
+    let a = (goal.at.returns-then-covers c).After-placed_after-placed in
     let covers_place = λ (dab : PlacedDab). dab_covers s.shape dab c.args.place.x c.args.place.y in
     sym (list_any_at covers_place (placed_dabs s.at.x s.at.y s.dabs.now) c.loop-dab.dab-index
     c.placed_after-placed.result (is_within a)
@@ -61,7 +61,7 @@ returns-then-covers c =
 pub loop-dab-preserved : goal.loop-dab-preserved
 loop-dab-preserved c =
     let s = c.args.self in
-    let a = (goal.at.loop-dab-preserved c).After-placed_after in
+    let a = (goal.at.loop-dab-preserved c).After-placed_after-placed in
     let covers_place = λ (dab : PlacedDab). dab_covers s.shape dab c.args.place.x c.args.place.y in
     let here : covers_place (get_or (placed_dabs s.at.x s.at.y s.dabs.now) c.loop-dab.dab-index
     c.placed_after-placed.result) ≡ false =

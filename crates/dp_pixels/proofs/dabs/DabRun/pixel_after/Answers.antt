@@ -9,11 +9,11 @@ use Rattle.dp_pixels.specs.Dabs.{dab_covers, placed_dabs}
 use Rattle.dp_pixels.specs.Commands.{dabs_blended}
 use Rattle.dp_pixels.proofs.Strokes.{IsLast, last_more, placed_is, length-placed_dabs}
 use Rattle.dp_pixels.proofs.dabs.DabRun.pixel_after.Goals as goal
-use Rattle.dp_pixels.proofs.dabs.DabRun.pixel_after.Goals.{After-placed_after, then-covers}
+use Rattle.dp_pixels.proofs.dabs.DabRun.pixel_after.Goals.{After-placed_after-placed, then-covers}
 use Rattle.dp_pixels.proofs.dabs.DabRun.pixel_after.Goals.{else-covers}
 
 -- the dab stands after the last one
-next : (c : After-placed_after) → IsLast c.args.self.at.x c.args.self.at.y c.args.self.dabs.now
+next : (c : After-placed_after-placed) → IsLast c.args.self.at.x c.args.self.at.y c.args.self.dabs.now
     (c.loop-dab.dab-index + 1) c.placed_after-placed.result.at
 next c =
     let s = c.args.self in
@@ -25,7 +25,7 @@ next c =
     c.loop-dab.invariant.last
 
 -- and is the next of the list
-is_next : (c : After-placed_after) → get_or (placed_dabs c.args.self.at.x c.args.self.at.y
+is_next : (c : After-placed_after-placed) → get_or (placed_dabs c.args.self.at.x c.args.self.at.y
     c.args.self.dabs.now) c.loop-dab.dab-index c.placed_after-placed.result
     ≡ c.placed_after-placed.result
 is_next c =
@@ -37,7 +37,7 @@ is_next c =
 
 pub covers-requires : goal.covers-requires
 covers-requires c =
-    let near = (next (goal.at.covers-requires c).After-placed_after).near in
+    let near = (next (goal.at.covers-requires c).After-placed_after-placed).near in
     let short = c.args.self.short in
     let test = c.loop-dab-test.true in
     record { x = omega (arith, near.x, short, test); y = omega (arith, near.y, short, test) }
@@ -45,7 +45,7 @@ covers-requires c =
 pub loop-dab-preserved : goal.loop-dab-preserved
 loop-dab-preserved c =
     let s = c.args.self in
-    let a = (goal.at.loop-dab-preserved c).After-placed_after in
+    let a = (goal.at.loop-dab-preserved c).After-placed_after-placed in
     let dabs = placed_dabs s.at.x s.at.y s.dabs.now in
     let step = λ (under : Channels) (dab : PlacedDab).
     cond (dab_covers s.shape dab c.args.place.x c.args.place.y)
