@@ -1,10 +1,10 @@
 //! Entries of three frames: cut, with failing reads, at limits, and after other bytes.
 
 use dp_entries::{Anywhere, EntryReader, ReadEnd, Refusal, Stop, take_entry};
-use dp_split::Splitter;
 use dp_io::MemSource;
 use dp_lines::RunEnd;
 use dp_messages::DecodeError;
+use dp_split::Splitter;
 use std::alloc::Global;
 use std::process::Abort;
 
