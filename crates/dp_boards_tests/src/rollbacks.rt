@@ -13,8 +13,11 @@ use std::sync::ledger::{Blank, Ledger};
 /// How many numbers the row has.
 const NUMBERS: usize = 8;
 
-/// The act of a word: what it does (Point, Draw, Undo, Redo, Other) and a user. A command sets the
-/// number of its user to its place in the history.
+/// What the letter S sets the depth to, by its digit.
+static DEPTHS: [u8; 4] = [1, 2, 30, 255];
+
+/// The act of a word: what it does (Point, Draw, Undo, Redo, Set the depth, Other) and a user. A
+/// command sets the number of its user to its place in the history.
 fn act_of(rt: &impl Abort, word: &str, place: usize) -> UserAct<SetNumber> {
     let [kind, digit] = word.as_bytes() else {
         panic!(rt; "{word} has not two letters");
@@ -28,6 +31,7 @@ fn act_of(rt: &impl Abort, word: &str, place: usize) -> UserAct<SetNumber> {
         }),
         b'U' => Act::Undo { who: user },
         b'R' => Act::Redo { who: user },
+        b'S' => Act::Depth(DEPTHS[usize::from(user) % 4]),
         _ => Act::Other,
     };
     UserAct { user, act }
@@ -114,7 +118,7 @@ fn check_script<D: Ledger, T: Ledger>(
 }
 
 /// A depth, a script and the letters of its changes.
-static SCRIPTS: [(u32, &str, &str); 8] = [
+static SCRIPTS: [(u32, &str, &str); 16] = [
     (30, "", ""),
     (30, "D1 P1 D1 U1 U1", "d-dr-"),
     (30, "P1 D1 P2 D2 U1 D1 R1", "-d-drd-"),
@@ -124,16 +128,33 @@ static SCRIPTS: [(u32, &str, &str); 8] = [
     (0, "P1 D1 U1", "-d-"),
     (1, "P1 D1 P2 U1 U2", "-d--r"),
     (2, "P1 D1 P1 D1 P1 D1 U1 U1 U1 R1 R1", "-d-d-drr-rr"),
+    // A depth of 1, 2, 30 or 255 (S0 to S3): it is no point, what it cuts out stays out, undone
+    // groups stay.
+    (30, "S0 P1 D1 U1", "--dr"),
+    (30, "S0 P1 D1 P2 S3 U1", "--d---"),
+    (30, "S1 P1 D1 P2 U1", "--d-r"),
+    (30, "P1 D1 P2 S0 U1 U2", "-d---r"),
+    (30, "P1 D1 U1 S0 R1", "-dr-r"),
+    (30, "P1 D1 U1 P2 S0 R1", "-dr---"),
+    (30, "S0 P1 D1 P1 D1 U1 U1", "--d-dr-"),
+    (30, "S0 P1 D1 S0 U1", "--d-r"),
 ];
 
-/// The word of an act of the group of a number, where each third group is undone and each sixth
-/// comes back.
+/// The words of the group of a number, where each third group is undone and each sixth comes back.
+/// Before each fifth a depth is set.
 fn add_group(script: &mut String, number: usize, commands: usize) -> Result<(), AllocError> {
     let (point, command, undo) = match number % 3 {
         0 => (" P1", " D1", ""),
         1 => (" P2", " D2", ""),
         _ => (" P3", " D3", " U3"),
     };
+    script.push_str(match number % 20 {
+        0 => " S0",
+        5 => " S1",
+        10 => " S2",
+        15 => " S3",
+        _ => "",
+    })?;
     script.push_str(point)?;
     for _ in 0..commands {
         script.push_str(command)?;

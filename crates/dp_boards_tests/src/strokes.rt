@@ -8,6 +8,9 @@ use dp_board::{
 use std::alloc::Global;
 use std::process::Abort;
 
+/// What the letter S sets the depth to, by its digit.
+static DEPTHS: [u8; 4] = [1, 2, 30, 255];
+
 /// The act of a word: its user, what it does (Point, Draw, Undo, Redo, Other) and the user of an
 /// Undo or a Redo. A Draw that is expected to be drawn ends in `+`.
 fn act_of(rt: &impl Abort, word: &str) -> UserAct<u8> {
@@ -19,6 +22,7 @@ fn act_of(rt: &impl Abort, word: &str) -> UserAct<u8> {
         b'D' => Act::Draw(*last),
         b'U' => Act::Undo { who: *last },
         b'R' => Act::Redo { who: *last },
+        b'S' => Act::Depth(DEPTHS[usize::from(*last) % 4]),
         b'O' => Act::Other,
         _ => panic!(rt; "{word} does nothing known"),
     };
@@ -38,7 +42,14 @@ fn is_as_expected(acts: &[UserAct<u8>], flags: &[bool]) -> bool {
 }
 
 /// The depth of undo, and a history: one script, points of user 2 and another script.
-static HISTORIES: [(u32, &str, u32, &str); 36] = [
+static HISTORIES: [(u32, &str, u32, &str); 42] = [
+    // A depth that is set: 1, 2, 30 or 255 (S0 to S3).
+    (30, "1S0 1P. 1D-", 0, "1U1"),
+    (30, "1S0 1P. 1D+", 1, "1S3 1U1"),
+    (30, "1S1 1P. 1D-", 1, "1U1"),
+    (30, "1P. 1D+", 1, "1S0 1S3 1U1"),
+    (30, "1P. 1D+ 1U1 1S0 1R1", 0, ""),
+    (30, "2S0 1P. 1D+", 1, "1U1"),
     (30, "", 0, ""),
     (30, "1P. 1D- 1U1", 0, ""),
     (30, "1P. 1D- 1D- 1U1", 0, ""),
@@ -204,6 +215,9 @@ fn one_act_at_a_time(rt: HostRuntime) {
     for row in [
         ("1D. 1P. 1D. 1U1 1D. 1R1", "---1--", ".-1-.-"),
         ("1P. 1D. 2U1 2D. 1R1 1D.", "--0-0-", "-0-.-0"),
+        // A depth that is set.
+        ("1P. 1P. 1S0 1U1 1U1", "---1-", "-----"),
+        ("1S3 1P. 1P. 1P. 1U1 1U1 1U1 1D.", "----321-", "-------."),
         // The first of three groups is out of reach, and commands join it after two undos.
         ("1P. 1P. 1P. 1U1 1U1 1U1 1D. 1R1", "---21---", "------0-"),
         (
