@@ -12,5 +12,3 @@ pub mod Resized
 pub mod RowLemmas
 pub mod Shown
 pub mod Tiles
-pub mod Lifting
-pub mod Kept

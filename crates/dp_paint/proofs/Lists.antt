@@ -154,6 +154,12 @@ lengths_kept cols rows old new is len each = record {
       ∙ is.wide row [] (omega (arith, inside, len));
 }
 
+-- rows with the same fills
+pub lists_kept : (cols rows : ℕ) (old new : List (List FillList)) → AreLists cols rows old
+    → HaveSameRows old new → AreLists cols rows new
+lists_kept cols rows old new is same =
+    lengths_kept cols rows old new is same.len (λ row. (same.each row).len)
+
 -- no fill waits on the tile at a column and a row
 pub listed_none : (cols rows col row : ℕ) (new : List (List FillList))
     → new ≡ replicate rows (replicate cols no_fill) → listed_at new col row ≡ []

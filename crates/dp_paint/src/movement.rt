@@ -1,6 +1,6 @@
 //! Rectangles that move on a grid.
 
-ghost use Rattle.std.specs.Prelude.{◌≡◌, ℕ, ℤ, ◌+◌, ◌*◌, ◌<◌, ◌≤◌, ◌^◌, ◌≤ℤ◌, ◌<ℤ◌, ◌+ℤ◌, ◌-ℤ◌, ◌⊎◌, true};
+ghost use Rattle.std.specs.Prelude.{◌≡◌, ℕ, ℤ, ◌+◌, ◌<◌, ◌≤◌, ◌^◌, ◌≤ℤ◌, ◌<ℤ◌, ◌+ℤ◌, ◌-ℤ◌, true};
 ghost use Rattle.std.specs.Prelude.{false, pos};
 ghost use Rattle.std.specs.Prelude.{map, length, slice_index_or, unsigned_abs};
 ghost use Rattle.std.specs.Prelude.{IfOk, OnOk, OnErr};
@@ -10,7 +10,7 @@ ghost use Rattle.dp_blend.specs.Canvas.{below};
 ghost use Rattle.dp_pixels.specs.Rectangles.{canvas_rect, clipped, rect_at};
 ghost use Rattle.dp_pixels.specs.Commands.{pixels_after};
 ghost use Rattle.dp_pixels.specs.Feet.{reach};
-ghost use Rattle.dp_tile.specs.Tiles.{cells_shown, grid_pixels};
+ghost use Rattle.dp_tile.specs.Tiles.{grid_pixels};
 ghost use Rattle.dp_paint.specs.Painting.{IsGridOf};
 ghost use Rattle.dp_paint.specs.Reading.{ArePainted, IsAreaOf, IsMove, cells_of, moved_part};
 ghost use Rattle.dp_paint.specs.Movements.{move_of};
@@ -123,67 +123,6 @@ impl Moved<'_> {
     {
         self.lay_source(x - self.right, y - self.down, row);
     }
-
-    /// Whether the square of 64 by 64 places at a place is clear once the source was lifted, as far
-    /// as that is known without reading it.
-    fn leaves_nothing(self, x: i64, y: i64) -> bool
-        requires x { unsigned_abs x < 2 ^ 38 }
-        requires y { unsigned_abs y < 2 ^ 38 }
-        ensures { result ≡ true → (i j : ℕ) → i < 64 → j < 64
-            → cleared self.entry.source (shown self.entry.old.width self.entry.old.height
-            self.entry.old.grid.now) (x +ℤ pos i) (y +ℤ pos j) ≡ clear }
-    {
-        if has_square(self.source, x, y) {
-            return true;
-        }
-        self.old.is_clear(x, y)
-    }
-
-    /// Whether nothing that shows moves to the square of 64 by 64 places at a place, as far as that
-    /// is known without reading it.
-    fn lays_nothing(self, x: i64, y: i64) -> bool
-        requires x { unsigned_abs x < 2 ^ 38 }
-        requires y { unsigned_abs y < 2 ^ 38 }
-        ensures { result ≡ true → (i j : ℕ) → i < 64 → j < 64
-            → laid self.entry.source self.entry.right self.entry.down
-            (shown self.entry.old.width self.entry.old.height self.entry.old.grid.now)
-            (λ _ _. clear) (x +ℤ pos i) (y +ℤ pos j) ≡ clear }
-    {
-        if is_apart(x - self.right, self.source.x0, self.source.x1) {
-            return true;
-        }
-        if is_apart(y - self.down, self.source.y0, self.source.y1) {
-            return true;
-        }
-        self.old.is_clear(x - self.right, y - self.down)
-    }
-}
-
-/// The first place of a column or row of tiles.
-fn place_of_tile(tile: u32) -> i64
-    requires { tile < 64 }
-    ensures value { result ≡ pos (tile * 64) }
-    ensures near { unsigned_abs result < 2 ^ 38 }
-{
-    tile as i64 * 64
-}
-
-/// Whether all of the square of 64 by 64 places at a place is in a rectangle.
-fn has_square(rect: Rect, x: i64, y: i64) -> bool
-    requires x { unsigned_abs x < 2 ^ 40 }
-    requires y { unsigned_abs y < 2 ^ 40 }
-    ensures { result ≡ true → (rect.x0 ≤ℤ x) × ((x +ℤ pos 64) ≤ℤ rect.x1) × (rect.y0 ≤ℤ y)
-        × ((y +ℤ pos 64) ≤ℤ rect.y1) }
-{
-    rect.x0 <= x && x + 64 <= rect.x1 && rect.y0 <= y && y + 64 <= rect.y1
-}
-
-/// Whether none of the 64 numbers from x on is among those from one on before another.
-fn is_apart(x: i64, from: i64, to: i64) -> bool
-    requires { unsigned_abs x < 2 ^ 40 }
-    ensures { result ≡ true → (to ≤ℤ x) ⊎ ((x +ℤ pos 64) ≤ℤ from) }
-{
-    to <= x || x + 64 <= from
 }
 
 /// Blends pixels on those of a row.
@@ -209,13 +148,8 @@ impl RowSource for Moved<'_> {
         self.lay(x, y, row);
     }
 
-    fn change(&self, col: u32, row: u32, _color: Option<Pixel>) -> TileChange {
-        let (x, y) = (place_of_tile(col), place_of_tile(row));
-        if self.leaves_nothing(x, y) && self.lays_nothing(x, y) {
-            TileChange::Becomes(Pixel::CLEAR)
-        } else {
-            TileChange::Unknown
-        }
+    fn change(&self, _col: u32, _row: u32, _color: Option<Pixel>) -> TileChange {
+        TileChange::Unknown
     }
 }
 
@@ -277,13 +211,10 @@ fn paint_areas<T: Ledger>(
         grid.old grid.new) }
     ensures tiles_rise { tiles.old ≤ tiles.new }
     ensures few_tiles { tiles.new ≤ tiles.old + cells_of from + cells_of to }
-    ensures few_shown { OnOk result (tiles.new ≤ tiles.old + 2 * cells_shown grid.new) }
 {
     let painter = RowPainter { source: moved };
-    grid.paint_each(from, &painter, tiles)?;
-    grid.paint_each(to, &painter, tiles)?;
-    grid.known();
-    Ok(())
+    grid.paint_area(from, &painter, tiles)?;
+    grid.paint_area(to, &painter, tiles)
 }
 
 /// Moves a rectangle on a grid, as another grid of the same pixels shows it. Where it is refused, a
@@ -302,7 +233,6 @@ fn paint_move<T: Ledger>(
         (grid_pixels old.entry.width old.entry.height grid.old)) }
     ensures tiles_rise { tiles.old ≤ tiles.new }
     ensures few_tiles { (layer : ℕ) → tiles.new ≤ tiles.old + reach (move_of layer movement) }
-    ensures few_shown { OnOk result (tiles.new ≤ tiles.old + 2 * cells_shown grid.new) }
 {
     pixels_stay_outside_the_foot();
     let Movement {
@@ -352,7 +282,7 @@ fn movement_of(command: &Draw) -> Movement
     }
 }
 
-/// Paints a MoveRect on a grid. It makes no tile for a cell that shows nothing.
+/// Paints a MoveRect on a grid.
 ///
 /// # Errors
 ///
@@ -372,7 +302,6 @@ pub fn move_in_place<T: Ledger>(
     ensures err { OnErr result (grid.new ≡ grid.old) }
     ensures tiles_rise { tiles.old ≤ tiles.new }
     ensures few_tiles { tiles.new ≤ tiles.old + reach command.now }
-    ensures few_shown { OnOk result (tiles.new ≤ tiles.old + 2 * cells_shown grid.new) }
 {
     let old = grid.share()?;
     let shown = Shown {
@@ -404,8 +333,6 @@ pub fn move_one<T: Ledger>(
         ≡ pixels_after width height command.now (grid_pixels width height grid.now)) }
     ensures tiles_rise { tiles.old ≤ tiles.new }
     ensures few_tiles { tiles.new ≤ tiles.old + reach command.now }
-    ensures few_shown { IfOk result
-        (λ moved. tiles.new ≤ tiles.old + 2 * cells_shown moved) }
 {
     let mut moved = grid.share()?;
     move_in_place(&mut moved, width, height, command, tiles)?;

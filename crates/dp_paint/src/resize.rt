@@ -5,7 +5,6 @@ ghost use Rattle.std.specs.Prelude.{unsigned_abs, Some, IfOk};
 ghost use Rattle.dp_blend.specs.Color.{clear};
 ghost use Rattle.dp_pixels.specs.declared.resize.Resize.{Resize as Change};
 ghost use Rattle.dp_pixels.specs.Tiles.{tiles_along};
-ghost use Rattle.dp_tile.specs.Tiles.{cells_shown};
 ghost use Rattle.dp_paint.specs.Painting.{IsGridOf};
 ghost use Rattle.dp_paint.specs.Reading.{IsResizeBy, IsResized};
 
@@ -78,7 +77,7 @@ impl RowSource for Shifted<'_> {
     }
 }
 
-/// The grid on a canvas of the new sides. It makes no tile for a cell that shows nothing.
+/// The grid on a canvas of the new sides. Where the canvas was clear, no tile is made.
 pub fn resized_grid<T: Ledger>(
     grid: &Grid,
     change: Resize,
@@ -89,7 +88,6 @@ pub fn resized_grid<T: Ledger>(
     ensures tiles_rise { tiles.old ≤ tiles.new }
     ensures few_tiles { tiles.new
         ≤ tiles.old + tiles_along change.new_height * tiles_along change.new_width }
-    ensures few_shown { IfOk result (λ resized. tiles.new ≤ tiles.old + cells_shown resized) }
 {
     let shifted = Shifted {
         old: Shown {
@@ -112,8 +110,7 @@ pub fn resized_grid<T: Ledger>(
         top: 0,
         bottom: resized.rows(),
     };
-    resized.paint_each(all, &painter, tiles)?;
-    resized.known();
+    resized.paint_area(all, &painter, tiles)?;
     Ok(resized)
 }
 
