@@ -3,7 +3,7 @@
 ghost use Rattle.std.specs.Prelude.{◌≡◌, ◌+◌, ◌≤◌, length, ⊤};
 
 use dp_lines::{
-    Line, LineBytes, LineError, Lines, RunEnd, Steps, further_step, hex_of, hex_read_back,
+    Line, LineBytes, LineError, Lines, RunEnd, StepRule, further_step, hex_of, hex_read_back,
     lines_seen, number, one_end, one_number, one_way, put_hex, put_number, still_left, whole_lines,
     word, word_count,
 };
@@ -224,7 +224,7 @@ fn ends_and_errors_are_told_apart(rt: HostRuntime) {
 /// Any line is a step.
 struct AnyLine;
 
-impl Steps for AnyLine {
+impl StepRule for AnyLine {
     ghost is_step = { λ _ _. ⊤ };
 }
 
