@@ -34,7 +34,7 @@ pub nothing_done : {M O D T : Type 0} (world : M → World) (held : O → Option
 nothing_done world held faults start first = record {
   actions = [];
   asked = tt;
-  after = first;
+  reaches = first;
   text = Appends-nil (held start.output);
   kept = refl;
 }
