@@ -30,7 +30,9 @@ fn red_dabs(rt: &impl Abort, alloc: Global, round: bool, at: (i32, i32), list: &
     ensures { IsTrue (is_stamp result) }
 {
     let (x, y) = at;
-    let dabs = Dabs::from_vec(Vec::from_slice(alloc, list).expect(rt, "memory"));
+    let list = Vec::from_slice(alloc, list).expect(rt, "memory");
+    assert!(rt; list.len() <= 16_380);
+    let dabs = Dabs::from_vec(list);
     let (layer, r, g, b, mode) = (1, 255, 0, 0, 1);
     if round {
         Draw::DabsRound {

@@ -1,8 +1,8 @@
 //! Commands on the pixels of layers that are grids of tiles.
 
 ghost use Rattle.std.specs.Prelude.{◌≡◌, ◌<◌, length};
-ghost use Rattle.dp_paint.specs.Painting.{IsGridOf};
-ghost use Rattle.dp_paint.specs.Reading.{ChangesPixels};
+ghost use Rattle.dp_paint.specs.Painting.{IsGridOf, IsPainting};
+ghost use Rattle.dp_paint.specs.Reading.{ChangesPixels, IsMove};
 
 use crate::colors::{CLEAR, WHITE};
 use dp_blend::{Pixel, of_argb};
@@ -17,7 +17,8 @@ use std::sync::ledger::{Blank, Ledger};
 
 /// A fill from a place on.
 fn fill(x: u32, y: u32, w: u32, h: u32, color: u32) -> Draw
-    ensures { ChangesPixels result }
+    ensures changes { ChangesPixels result }
+    ensures painting { IsPainting result }
 {
     Draw::FillRect {
         layer: 1,
@@ -32,7 +33,8 @@ fn fill(x: u32, y: u32, w: u32, h: u32, color: u32) -> Draw
 
 /// A move of one pixel.
 fn move_of(from: (u32, u32), to: (i32, i32)) -> Draw
-    ensures { ChangesPixels result }
+    ensures changes { ChangesPixels result }
+    ensures moves { IsMove result }
 {
     let (sx, sy) = from;
     let (tx, ty) = to;
@@ -84,6 +86,8 @@ fn check_stroke<T: Ledger>(rt: &impl Abort, alloc: Global, tiles: &mut Steps<T>)
         dabs: Dabs::from_vec(list),
     };
     let grid = paint_one(&old, 256, 64, &stroke, tiles).expect(rt, "memory");
+    assert!(rt; grid.cols() == 4);
+    assert!(rt; grid.rows() == 1);
     let made = [
         grid.tile(0, 0).is_some(),
         grid.tile(1, 0).is_some(),

@@ -12,7 +12,6 @@ use dp_tile::{CellArea, Grid, Tile, TileChange, TilePainter};
 use std::alloc::Global;
 use std::marker::Brand;
 use std::process::Abort;
-use std::ptr;
 use std::sync::ledger::{Blank, Ledger};
 
 /// It makes the first pixel white.
@@ -30,28 +29,6 @@ impl TilePainter for FirstWhite {
     fn paint(&self, _col: u32, _row: u32, pixels: &mut [Pixel]) {
         pixels[0] = Pixel::WHITE;
     }
-}
-
-/// It keeps all pixels, and says of a tile of one colour that it becomes of that colour.
-struct Repainting {}
-
-impl TilePainter for Repainting {
-    ghost painted = { λ _ _ _ pixels. pixels };
-
-    ghost keeps_count = { λ _ _ _ _ count. count };
-
-    fn change(&self, _col: u32, _row: u32, color: Option<Pixel>) -> TileChange {
-        match color {
-            Some(p) => TileChange::Becomes(p),
-            None => TileChange::Unknown,
-        }
-    }
-
-    fn change_row(&self, _row: u32, _left: u32, _right: u32, color: Pixel) -> TileChange {
-        TileChange::Becomes(color)
-    }
-
-    fn paint(&self, _col: u32, _row: u32, _pixels: &mut [Pixel]) {}
 }
 
 /// Pixels of a grid and of the one that it was shared from, after both were written to.
@@ -97,26 +74,6 @@ fn check_shared<T: Ledger>(rt: &impl Abort, alloc: Global, tiles: &mut Steps<T>)
     assert_eq!(rt; of_other, [WHITE, WHITE, WHITE, CLEAR]);
 }
 
-/// Two white tiles in two rows become white: they are one tile then.
-fn check_one_tile<T: Ledger>(rt: &impl Abort, alloc: Global, tiles: &mut Steps<T>) {
-    let mut grid = Grid::new(alloc, 3, 2).expect(rt, "memory");
-    let white = Tile::solid(alloc, WHITE, tiles).expect(rt, "memory");
-    let copy = white.copy(alloc, tiles).expect(rt, "memory");
-    grid.write(1, 0, copy).expect(rt, "memory");
-    grid.write(2, 1, white).expect(rt, "memory");
-    let all = CellArea {
-        left: 0,
-        right: 3,
-        top: 0,
-        bottom: 2,
-    };
-    grid.paint_area(all, &Repainting {}, tiles)
-        .expect(rt, "memory");
-    let first = grid.tile(1, 0).expect(rt, "a tile");
-    let last = grid.tile(2, 1).expect(rt, "a tile");
-    assert!(rt; ptr::eq(first, last));
-}
-
 /// Looks at grids with a counter over this blank.
 fn check_grids<T: Ledger>(rt: &impl Abort, alloc: Global, blank: Blank)
     requires name { blank.name ≡ T.name }
@@ -125,7 +82,6 @@ fn check_grids<T: Ledger>(rt: &impl Abort, alloc: Global, blank: Blank)
 {
     let mut tiles = Steps::<T>::new(blank);
     check_shared(rt, alloc, &mut tiles);
-    check_one_tile(rt, alloc, &mut tiles);
 }
 
 #[test]

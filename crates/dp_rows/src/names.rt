@@ -57,13 +57,19 @@ fn put_digits(alloc: Global, text: &str, out: &mut Vec<u8>) -> Result<bool, Allo
     Ok(true)
 }
 
+/// Adds what a word stands for.
+fn put_word(names: &Names<'_>, word: &str, out: &mut Vec<u8>) -> Result<(), AllocError> {
+    let text = (&*names).text(&*word);
+    out.extend_from_slice(text.as_bytes())
+}
+
 /// Adds a line of text, with what its words stand for.
 pub fn put_line(names: &Names<'_>, line: &str, out: &mut Vec<u8>) -> Result<(), AllocError> {
     for (k, word) in line.split(' ').enumerate() {
         if k > 0 {
             out.push(b' ')?;
         }
-        out.extend_from_slice(names.text(word).as_bytes())?;
+        put_word(names, word, out)?;
     }
     out.push(b'\n')?;
     Ok(())
