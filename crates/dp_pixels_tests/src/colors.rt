@@ -5,8 +5,6 @@ use std::process::Abort;
 
 pub const CLEAR: Pixel = Pixel::CLEAR;
 
-pub const WHITE: Pixel = Pixel::WHITE;
-
 pub const RED: u32 = 0xffff_0000;
 
 pub const BLUE: u32 = 0xff00_00ff;
