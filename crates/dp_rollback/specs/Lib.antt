@@ -3,4 +3,3 @@ pub mod Due
 pub mod Rollback
 pub mod Moves
 pub mod Laws
-pub mod Trailing

@@ -13,7 +13,7 @@ pub fn few_are_due<Op>()
 {}
 
 /// The laws of strokes and flags.
-pub(crate) fn stroke_laws<Op>()
+pub fn stroke_laws<Op>()
     ensures { Laws Op }
 {
     flags_go_on::<Op>();

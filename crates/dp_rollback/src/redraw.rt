@@ -16,7 +16,7 @@ use std::sync::ledger::Ledger;
 pub(crate) const SPACING: usize = 64;
 
 /// Draws the command of an act, where it is one and is to be drawn.
-pub(crate) fn draw_act<B: Board, D: Ledger, T: Ledger>(
+pub fn draw_act<B: Board, D: Ledger, T: Ledger>(
     board: &mut B,
     act: &Act<B::Op>,
     drawn: bool,

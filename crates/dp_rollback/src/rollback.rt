@@ -76,14 +76,14 @@ fn copy_act<B: Board>(alloc: Global, act: &Act<B::Op>) -> Result<Act<B::Op>, All
 }
 
 /// Whether an act is a command.
-pub(crate) fn is_draw<Op>(act: &Act<Op>) -> bool
+pub fn is_draw<Op>(act: &Act<Op>) -> bool
     ensures { result ≡ is_draw act.now }
 {
     matches!(act, Act::Draw(_))
 }
 
 /// The mark of an act, where it moves a group.
-pub(crate) fn mark_of<Op>(table: &StrokeTable, act: &UserAct<Op>) -> Option<Mark>
+pub fn mark_of<Op>(table: &StrokeTable, act: &UserAct<Op>) -> Option<Mark>
     ensures value { result ≡ mark_in table.now act.now }
     ensures reach { IfSome result (λ mark. oldest_in table.now ≤ mark.group) }
     ensures before { IfSome result (λ mark. mark.group < table.now.position) }
