@@ -13,7 +13,7 @@ mod rollback;
 mod room;
 
 pub use kept::{KeptAct, Mark, mark_all};
-pub use laws::{few_are_due, stroke_laws};
+pub use laws::{few_are_due, replay_goes_on, stroke_laws};
 pub use ready::Ready;
 pub use redraw::draw_act;
 pub use rollback::{Rollback, is_draw, mark_of};
