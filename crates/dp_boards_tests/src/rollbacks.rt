@@ -3,8 +3,9 @@
 ghost use Rattle.std.specs.Prelude.{◌≡◌, ◌<◌};
 
 use dp_board::{Act, Change, NumberBoard, SetNumber, UserAct, drawn_flags};
-use dp_rollback::{Rollback, TrailingBoard, few_are_due};
+use dp_rollback::{Rollback, few_are_due};
 use dp_steps::Steps;
+use dp_trailing::TrailingBoard;
 use std::alloc::{AllocError, Global};
 use std::marker::Brand;
 use std::process::Abort;

@@ -4,4 +4,4 @@ pub mod StandLemmas
 pub mod DueLemmas
 pub mod RedrawLemmas
 pub mod ReadyLemmas
-pub mod TrailingLemmas
+pub mod ReplayLemmas

@@ -1,16 +1,25 @@
 -- What is made ready for an act.
 use Rattle.std.proofs.Common.{◌≡◌, ℕ, List, [], ◌∷◌, ◌++◌, ap, sym, ◌∙◌}
-use Rattle.std.proofs.Common.{subst}
+use Rattle.std.proofs.Common.{subst, refl, ◌+◌, ◌*◌, ◌%◌, ◌<◌, ◌≤◌, None, Some, length, true, drop}
+use Rattle.std.specs.Prelude.{◌≢◌}
+use Rattle.std.specs.List.{fold}
+use Rattle.std.proofs.lemmas.Bool.{ne_eqb}
+use Rattle.dp_board.specs.Commands.{command_of}
+use Rattle.dp_board.specs.Strokes.{concerned}
+use Rattle.dp_board.specs.Table.{oldest_in, next_strokes, table_with}
 use Rattle.std.specs.Prelude.{if◌then◌else◌, is_some}
 use Rattle.dp_board.specs.declared.act.Act.{Act}
 use Rattle.dp_board.specs.declared.act.UserAct.{UserAct}
+use Rattle.dp_board.specs.declared.act.Change.{Change}
 use Rattle.dp_board.specs.declared.act.Change.TheVariants.{Drew, Rebuilt, Nothing}
 use Rattle.dp_board.specs.Moves.{is_draw}
 use Rattle.dp_rollback.specs.Due.{due_commands, change_of}
-use Rattle.dp_rollback.specs.Rollback.{Rolled, Next, StandsFor, put_on, change_in}
-use Rattle.dp_rollback.specs.Moves.{mark_in, due_in, IsKnown, IsNext}
+use Rattle.dp_rollback.specs.Rollback.{Rolled, Next, StandsFor, put_on, change_in, grown, needless}
+use Rattle.dp_rollback.specs.Rollback.{IsInOrder}
+use Rattle.dp_rollback.specs.Moves.{mark_in, due_in, IsKnown, IsNext, IsDrawnFor, next_here}
+use Rattle.dp_rollback.specs.Moves.{HasAdded, kept_in}
 use Rattle.dp_rollback.specs.Laws.{Laws}
-use Rattle.dp_rollback.proofs.StandLemmas.{StandsFor-put_on, StandsFor-spare}
+use Rattle.dp_rollback.proofs.StandLemmas.{StandsFor-put_on, StandsFor-spare, whole_stays}
 use Rattle.dp_rollback.proofs.DueLemmas.{IsFewer, due_in-due, change-made}
 
 -- an act of a sender
@@ -64,3 +73,86 @@ ready-due laws draw old now user copy act weight same copied known blank depth a
     (due_commands depth acts (act_by user b))) copied
     (due_in-due laws draw (act_by user copy) now weight known.known known.reach blank depth acts
     (stands-now draw old now same blank depth acts st))
+
+-- what an act makes of it that moves no group, where no savepoint falls due
+pub IsNext-here : {B Op : Type 0} → (draw : B → Op → B) (r : Rolled B Op) (a : UserAct Op)
+    → mark_in r.table a ≡ None → (length r.kept + 1) % 64 ≢ 0
+    → oldest_in r.table ≤ oldest_in (table_with (next_strokes r.table a) r.table)
+    → IsNext draw r a (next_here draw r a)
+IsNext-here {B} draw r a none part later =
+    let board : B = fold draw r.board (command_of a.act true) in
+    record {
+      act = refl;
+      mark = sym none;
+      strokes = refl;
+      made = record {
+        first = [];
+        drawn = subst (λ m. IsDrawnFor draw r a.act m board [] (length r.saves)) (sym none)
+            (record { stay = refl; drawn = refl; saved = refl });
+        saved = sym (ap (λ b. if b then board ∷ [] else [])
+            (ne_eqb ((length r.kept + 1) % 64) 0 part));
+      };
+      later = later;
+    }
+
+-- in place it goes on to what the act makes of it
+pub put-here : {B Op : Type 0} → (draw : B → Op → B) (old : Rolled B Op) (a : UserAct Op)
+    (new : Rolled B Op) (n : ℕ) → new.board ≡ fold draw old.board (command_of a.act true)
+    → new.table ≡ table_with (next_strokes old.table a) old.table
+    → n ≡ needless (grown (next_here draw old a) old) → new.base ≡ old.base + 64 * n
+    → new.kept ≡ drop (64 * n) (old.kept ++ kept_in old.table a ∷ [])
+    → new.saves ≡ drop n old.saves
+    → new ≡ record (put_on (next_here draw old a) old) { spare = new.spare }
+put-here {B} {Op} draw old a new n board table count base kept saves =
+    let next = next_here draw old a in
+    let goal : Rolled B Op = record (put_on next old) { spare = new.spare } in
+    let gone = needless (grown next old) in
+    ap (λ x. record new { board = x }) board
+    ∙ ap (λ x. record goal { table = x; base = new.base; kept = new.kept; saves = new.saves })
+    table
+    ∙ ap (λ x. record goal { base = x; kept = new.kept; saves = new.saves })
+    (base ∙ ap (λ m. old.base + 64 * m) count)
+    ∙ ap (λ x. record goal { kept = x; saves = new.saves })
+    (kept ∙ ap (λ m. drop (64 * m) (old.kept ++ kept_in old.table a ∷ [])) count)
+    ∙ ap (λ x. record goal { saves = x })
+    (saves ∙ ap (λ m. drop m old.saves) count
+    ∙ ap (drop gone) (sym (whole_stays old.saves)))
+
+-- an act that moves no group is known
+pub IsKnown-unmoved : {B Op : Type 0} → (r : Rolled B Op) (a : UserAct Op) → a.user < 256
+    → concerned a < 256 → IsInOrder r → mark_in r.table a ≡ None → IsKnown r a
+IsKnown-unmoved r a sender known order none = record {
+  sender = sender;
+  known = known;
+  order = order;
+  reach = λ mark some. let wrong : None ≡ Some mark = sym none ∙ some in cc;
+  before = λ mark some. let wrong : None ≡ Some mark = sym none ∙ some in cc;
+}
+
+-- what went on by an act stands for the acts with it
+pub added-stands : {B Op : Type 0} → Laws Op → (draw : B → Op → B) (old now new : Rolled B Op)
+    (user : ℕ) (copy act : Act Op) (change : Change) → now ≡ record old { spare = now.spare }
+    → copy ≡ act → IsKnown now (act_by user copy)
+    → HasAdded draw now (act_by user copy) change new
+    → (blank : B) (depth : ℕ) (acts : List (UserAct Op)) → StandsFor draw blank depth acts old
+    → StandsFor draw blank depth (acts ++ act_by user act ∷ []) new
+added-stands laws draw old now new user copy act change same copied known added blank depth acts
+    st =
+    let later = acts ++ act_by user act ∷ [] in
+    subst (StandsFor draw blank depth later) (sym added.same)
+    (StandsFor-spare draw blank depth later (put_on added.next now) new.spare
+    (ready-stands laws draw old now user copy act same copied known added.next added.made blank
+    depth acts st))
+
+-- the change is that of the act
+pub added-change : {B Op : Type 0} → Laws Op → (draw : B → Op → B) (old now new : Rolled B Op)
+    (user : ℕ) (copy act : Act Op) (change : Change) → now ≡ record old { spare = now.spare }
+    → copy ≡ act → IsKnown now (act_by user copy)
+    → HasAdded draw now (act_by user copy) change new
+    → (blank : B) (depth : ℕ) (acts : List (UserAct Op)) → StandsFor draw blank depth acts old
+    → change ≡ change_of depth acts (act_by user act)
+added-change laws draw old now new user copy act change same copied known added blank depth acts
+    st =
+    added.tells
+    ∙ ready-change laws draw old now user copy act same copied known added.next added.made blank
+    depth acts st

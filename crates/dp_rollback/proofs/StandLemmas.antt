@@ -550,6 +550,10 @@ FitsOn-made draw r a next known is room =
       enough = omega (arith, is.later, known.order.enough);
     }
 
+-- all savepoints stay, and no more come
+pub whole_stays : {X : Type 0} → (xs : List X) → take (length xs) xs ++ [] ≡ xs
+whole_stays xs = append-nil (take (length xs) xs) ∙ take_all (length xs) xs (omega arith)
+
 -- what has no act yet stands for the history without acts
 pub StandsFor-new : {B Op : Type 0} → (draw : B → Op → B) (blank : B) (depth : ℕ)
     (r : Rolled B Op) → IsTableAfter {Op = Op} depth [] r.table → r.base ≡ 0 → r.kept ≡ []

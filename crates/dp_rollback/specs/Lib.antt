@@ -3,4 +3,4 @@ pub mod Due
 pub mod Rollback
 pub mod Moves
 pub mod Laws
-pub mod Trailing
+pub mod Replays

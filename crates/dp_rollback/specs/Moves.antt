@@ -7,6 +7,7 @@ use Rattle.std.specs.Option.{option_map, ForSome}
 use Rattle.std.specs.List.{fold}
 use Rattle.dp_board.specs.declared.act.Act.{Act}
 use Rattle.dp_board.specs.declared.act.UserAct.{UserAct}
+use Rattle.dp_board.specs.declared.act.Change.{Change}
 use Rattle.dp_board.specs.Strokes.{concerned}
 use Rattle.dp_board.specs.Commands.{command_of}
 use Rattle.dp_board.specs.Moves.{is_redo, is_draw}
@@ -14,7 +15,7 @@ use Rattle.dp_board.specs.Table.{Table, moved_in, joined_in, next_strokes, oldes
 use Rattle.dp_rollback.specs.declared.kept.KeptAct.{KeptAct}
 use Rattle.dp_rollback.specs.declared.kept.Mark.{Mark}
 use Rattle.dp_rollback.specs.Kept.{marked, drawn_among, commands_among}
-use Rattle.dp_rollback.specs.Rollback.{Rolled, Next, IsInOrder}
+use Rattle.dp_rollback.specs.Rollback.{Rolled, Next, IsInOrder, put_on, change_in}
 
 -- the mark of an act that moves the group
 abbrev pub mark_by : {Op : Type 0} → UserAct Op → ℕ → Mark
@@ -93,3 +94,23 @@ pub record IsNext {B Op : Type 0} (draw : B → Op → B) (r : Rolled B Op) (a :
   pub strokes : next.strokes ≡ next_strokes r.table a
   pub made : IsMade draw r a.act (mark_in r.table a) next.board next.saves next.stays
   pub later : oldest_in r.table ≤ oldest_in (table_with next.strokes r.table)
+
+-- what an act makes of it that moves no group, where no savepoint falls due: it has the command of
+-- the act, where it is one
+abbrev pub next_here : {B Op : Type 0} → (B → Op → B) → Rolled B Op → UserAct Op → Next B Op
+next_here draw r a = record {
+  act = kept_in r.table a;
+  mark = None;
+  stays = length r.saves;
+  strokes = next_strokes r.table a;
+  board = fold draw r.board (command_of a.act true);
+  saves = [];
+}
+
+-- it went on by an act, which did so to the board
+pub record HasAdded {B Op : Type 0} (draw : B → Op → B) (old : Rolled B Op) (a : UserAct Op)
+    (change : Change) (new : Rolled B Op) : Type 0 where
+  pub next : Next B Op
+  pub made : IsNext draw old a next
+  pub same : new ≡ record (put_on next old) { spare = new.spare }
+  pub tells : change ≡ change_in next

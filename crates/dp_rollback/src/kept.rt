@@ -47,7 +47,7 @@ impl Mark {
 }
 
 /// Gives the acts of a group that moves their new flag.
-pub(crate) fn mark_all<Op>(kept: &mut [KeptAct<Op>], mark: Mark)
+pub fn mark_all<Op>(kept: &mut [KeptAct<Op>], mark: Mark)
     ensures { kept.new ≡ map (marked mark) kept.old }
 {
     for act in kept.iter_mut() {

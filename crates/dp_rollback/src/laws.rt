@@ -2,6 +2,7 @@
 
 ghost use Rattle.dp_rollback.specs.Due.{OwnCommandIsDue, FewAreDue};
 ghost use Rattle.dp_rollback.specs.Laws.{Laws};
+ghost use Rattle.dp_rollback.specs.Replays.{ReplayGoesOn};
 
 use dp_board::{each_act_has_a_flag, flags_go_on, groups_come_first, tables_follow};
 
@@ -12,8 +13,16 @@ pub fn few_are_due<Op>()
     ensures moved { FewAreDue Op }
 {}
 
+/// With one more act, which moves no group, the replay has the command of the act drawn, where it
+/// is one.
+pub fn replay_goes_on<B, Op>()
+    ensures { ReplayGoesOn B Op }
+{
+    stroke_laws::<Op>();
+}
+
 /// The laws of strokes and flags.
-pub(crate) fn stroke_laws<Op>()
+pub fn stroke_laws<Op>()
     ensures { Laws Op }
 {
     flags_go_on::<Op>();

@@ -2,7 +2,7 @@
 //!
 //! After each act a `Rollback` is the replay of all of them. An act that moves a group goes back to
 //! the last savepoint before the group, and draws from there. What no act can undo any more is let
-//! go. A `TrailingBoard` draws only that, and the rest once the history ends.
+//! go.
 #![tactic(auto)]
 
 mod kept;
@@ -11,10 +11,9 @@ mod ready;
 mod redraw;
 mod rollback;
 mod room;
-mod trailing;
 
-pub use kept::{KeptAct, Mark};
-pub use laws::few_are_due;
+pub use kept::{KeptAct, Mark, mark_all};
+pub use laws::{few_are_due, replay_goes_on, stroke_laws};
 pub use ready::Ready;
-pub use rollback::Rollback;
-pub use trailing::TrailingBoard;
+pub use redraw::draw_act;
+pub use rollback::{Rollback, is_draw, mark_of};

@@ -1,7 +1,7 @@
 //! How acts are drawn from a savepoint on.
 
 ghost use Rattle.std.specs.Prelude.{◌≡◌, ℕ, ◌+◌, ◌*◌, ◌/◌, ◌<◌, ◌≤◌, true, length, map, take};
-ghost use Rattle.std.specs.Prelude.{slice_index_or, IfOk, OnOk};
+ghost use Rattle.std.specs.Prelude.{slice_index_or, IfOk, OnOk, OnErr};
 ghost use Rattle.std.specs.List.{fold, sum_by};
 ghost use Rattle.dp_board.specs.Commands.{command_of};
 ghost use Rattle.dp_rollback.specs.Kept.{marked, drawn_command, drawn_among, commands_among};
@@ -16,7 +16,11 @@ use std::sync::ledger::Ledger;
 pub(crate) const SPACING: usize = 64;
 
 /// Draws the command of an act, where it is one and is to be drawn.
-pub(crate) fn draw_act<B: Board, D: Ledger, T: Ledger>(
+///
+/// # Errors
+///
+/// The board is as it was.
+pub fn draw_act<B: Board, D: Ledger, T: Ledger>(
     board: &mut B,
     act: &Act<B::Op>,
     drawn: bool,
@@ -24,6 +28,7 @@ pub(crate) fn draw_act<B: Board, D: Ledger, T: Ledger>(
     tiles: &mut Steps<T>,
 ) -> Result<(), AllocError>
     ensures board { OnOk result (board.new ≡ fold B.drawn board.old (command_of act.now drawn)) }
+    ensures err { OnErr result (board.new ≡ board.old) }
     ensures draws_rise { draws.old ≤ draws.new }
     ensures few_draws { draws.new ≤ draws.old + length (command_of act.now true) }
     ensures tiles_rise { tiles.old ≤ tiles.new }

@@ -1,20 +1,23 @@
 //! A board that goes on act by act, and back to savepoints.
 
-ghost use Rattle.std.specs.Prelude.{◌≡◌, ℕ, ◌+◌, ◌-◌, ◌*◌, ◌/◌, ◌<◌, ◌≤◌, List, [], ◌∷◌, ◌++◌};
+ghost use Rattle.std.specs.Prelude.{◌≡◌, ◌≢◌, ℕ, ◌+◌, ◌-◌, ◌*◌, ◌/◌, ◌%◌, ◌<◌, ◌≤◌, List, []};
+ghost use Rattle.std.specs.Prelude.{◌∷◌, ◌++◌};
 ghost use Rattle.std.specs.Prelude.{true, Some, length, drop, take, map, slice_index_or};
-ghost use Rattle.std.specs.Prelude.{IfOk, OnOk, OnErr, IfSome};
+ghost use Rattle.std.specs.Prelude.{IfOk, OnOk, OnErr, IfSome, IsTrue, None, if◌then◌else◌};
 ghost use Rattle.std.specs.Option.{ForSome};
 ghost use Rattle.std.specs.List.{fold, sum_by};
 ghost use Rattle.dp_board.specs.declared.act.UserAct.{UserAct as UserActOf};
 ghost use Rattle.dp_board.specs.Replay.{replay};
+ghost use Rattle.dp_board.specs.declared.act.Change.TheVariants.{Drew, Nothing};
 ghost use Rattle.dp_board.specs.Table.{oldest_in};
 ghost use Rattle.dp_board.specs.Moves.{is_draw};
 ghost use Rattle.dp_board.specs.Strokes.{concerned};
 ghost use Rattle.dp_board.specs.Commands.{command_of};
 ghost use Rattle.dp_rollback.specs.Kept.{marked, drawn_among, commands_among};
 ghost use Rattle.dp_rollback.specs.Due.{due_commands, change_of};
-ghost use Rattle.dp_rollback.specs.Rollback.{StandsFor, FitsOn, put_on, change_in};
+ghost use Rattle.dp_rollback.specs.Rollback.{StandsFor, IsInOrder, FitsOn, put_on, change_in};
 ghost use Rattle.dp_rollback.specs.Moves.{mark_in, save_before, kept_from, due_in};
+ghost use Rattle.dp_rollback.specs.Moves.{HasAdded};
 ghost use Rattle.dp_rollback.specs.Moves.{IsRedrawn, IsDrawnLast, IsMade, IsKnown, IsNext};
 
 use crate::kept::{KeptAct, Mark};
@@ -76,14 +79,21 @@ fn copy_act<B: Board>(alloc: Global, act: &Act<B::Op>) -> Result<Act<B::Op>, All
 }
 
 /// Whether an act is a command.
-pub(crate) fn is_draw<Op>(act: &Act<Op>) -> bool
+pub fn is_draw<Op>(act: &Act<Op>) -> bool
     ensures { result ≡ is_draw act.now }
 {
     matches!(act, Act::Draw(_))
 }
 
+/// What an act that moves no group does to the board.
+fn change_by_draw(drawn: bool) -> Change
+    ensures { result ≡ (if drawn then Drew else Nothing) }
+{
+    if drawn { Change::Drew } else { Change::Nothing }
+}
+
 /// The mark of an act, where it moves a group.
-pub(crate) fn mark_of<Op>(table: &StrokeTable, act: &UserAct<Op>) -> Option<Mark>
+pub fn mark_of<Op>(table: &StrokeTable, act: &UserAct<Op>) -> Option<Mark>
     ensures value { result ≡ mark_in table.now act.now }
     ensures reach { IfSome result (λ mark. oldest_in table.now ≤ mark.group) }
     ensures before { IfSome result (λ mark. mark.group < table.now.position) }
@@ -182,10 +192,86 @@ impl<B: Board> Rollback<B> {
             → StandsFor B.drawn blank depth acts self.old → tiles.new ≤ tiles.old
             + sum_by B.weight (due_commands depth acts (record { user = user; act = act.now })) }
     {
-        let ready = self.ready(user, act, draws, tiles)?;
+        stroke_laws::<B::Op>();
+        let act = UserAct {
+            user,
+            act: copy_act::<B>(self.alloc, act)?,
+        };
+        self.make_room()?;
+        self.add(act, draws, tiles)
+    }
+
+    /// Adds an act, for which there is room.
+    fn add<D: Ledger, T: Ledger>(
+        &mut self,
+        act: UserAct<B::Op>,
+        draws: &mut Steps<D>,
+        tiles: &mut Steps<T>,
+    ) -> Result<Change, AllocError>
+        requires room { 1 ≤ self.old.spare }
+        ensures known { IsKnown self.old act }
+        ensures added { IfOk result (λ change. HasAdded B.drawn self.old act change self.new) }
+        ensures err { OnErr result (self.new ≡ self.old) }
+        ensures draws_rise { draws.old ≤ draws.new }
+        ensures few_draws { draws.new ≤ draws.old
+            + length (due_in self.old act.act (mark_in self.old.table act)) }
+        ensures tiles_rise { tiles.old ≤ tiles.new }
+        ensures few_tiles { tiles.new ≤ tiles.old
+            + sum_by B.weight (due_in self.old act.act (mark_in self.old.table act)) }
+    {
+        if self.is_plain(&act) {
+            return self.draw_here(act, draws, tiles);
+        }
+        let ready = self.made(act, draws, tiles)?;
         let change = ready.change();
-        self.put(ready);
+        self.settle(ready);
         Ok(change)
+    }
+
+    /// Whether an act that comes next moves no group, and no savepoint falls due after it.
+    fn is_plain(&self, act: &UserAct<B::Op>) -> bool
+        ensures unmoved { IsTrue result → mark_in self.now.table act.now ≡ None }
+        ensures unsaved { IsTrue result → (length self.now.kept + 1) % 64 ≢ 0 }
+        ensures order { IsInOrder self.now }
+    {
+        let _ = &self.base;
+        match mark_of(&self.table, act) {
+            Some(_) => false,
+            None => (self.kept.len() + 1) % SPACING != 0,
+        }
+    }
+
+    /// Adds an act that moves no group, where no savepoint falls due. The board itself is drawn on,
+    /// after all memory was got.
+    fn draw_here<D: Ledger, T: Ledger>(
+        &mut self,
+        act: UserAct<B::Op>,
+        draws: &mut Steps<D>,
+        tiles: &mut Steps<T>,
+    ) -> Result<Change, AllocError>
+        requires room { 1 ≤ self.old.spare }
+        requires unmoved { mark_in self.old.table act ≡ None }
+        requires unsaved { (length self.old.kept + 1) % 64 ≢ 0 }
+        ensures sender { act.user < 256 }
+        ensures known { concerned act < 256 }
+        ensures added { IfOk result (λ change. HasAdded B.drawn self.old act change self.new) }
+        ensures err { OnErr result (self.new ≡ self.old) }
+        ensures draws_rise { draws.old ≤ draws.new }
+        ensures few_draws { draws.new ≤ draws.old + length (command_of act.act true) }
+        ensures tiles_rise { tiles.old ≤ tiles.new }
+        ensures few_tiles { tiles.new ≤ tiles.old + sum_by B.weight (command_of act.act true) }
+    {
+        let join = self.table.join_of(&act);
+        let strokes = self.table.next(self.alloc, &act)?;
+        let drawn = is_draw(&act.act);
+        draw_act(&mut self.board, &act.act, true, draws, tiles)?;
+        self.table.put(strokes);
+        self.kept.push_reserved(KeptAct { act, join, drawn });
+        let gone = (self.table.oldest() - self.base) / SPACING;
+        drop_first(&mut self.kept, SPACING * gone);
+        drop_first(&mut self.saves, gone);
+        self.base += SPACING * gone;
+        Ok(change_by_draw(drawn))
     }
 
     /// What an act that comes next makes of the board, with all memory that it takes. The board

@@ -14,7 +14,7 @@ use Rattle.dp_entries.specs.Reader.{Reader, HasRead}
 use Rattle.dp_entries.specs.Reading as reading
 use Rattle.dp_msg_draw.specs.declared.draw.Draw.{Draw}
 use Rattle.dp_plain.specs.Board.{Board}
-use Rattle.dp_rollback.specs.Trailing.{Trailing}
+use Rattle.dp_trailing.specs.Trailing.{Trailing}
 use Rattle.dp_viewer.specs.Ways.{replay_way}
 use Rattle.dp_io.specs.Limits.{stream_limit}
 use Rattle.dp_viewer.specs.Reading.{EndsReading, TrailsShown}

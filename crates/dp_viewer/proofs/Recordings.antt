@@ -15,7 +15,7 @@ use Rattle.dp_recording.specs.Recordings.{FaultMatchesError, EndsRecording, Goes
 use Rattle.dp_recording.specs.Recordings.{end_of}
 use Rattle.dp_msg_draw.specs.declared.draw.Draw.{Draw}
 use Rattle.dp_plain.specs.Board.{Board}
-use Rattle.dp_rollback.specs.Trailing.{Trailing}
+use Rattle.dp_trailing.specs.Trailing.{Trailing}
 use Rattle.dp_viewer.specs.Ways.{first_of, play_way}
 use Rattle.dp_viewer.specs.Reading.{AreDue, EndsReading, FaultMatchesWay, TrailsShown}
 

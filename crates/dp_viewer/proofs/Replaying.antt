@@ -13,7 +13,7 @@ use Rattle.dp_lines.specs.declared.run_end.RunEnd.TheVariants.{Done, BadLine, Re
 use Rattle.dp_lines.specs.declared.run_end.RunEnd.TheVariants.{LinkFault, Memory, Long, Truncated}
 use Rattle.dp_lines.specs.declared.run_end.RunEnd.TheVariants.{BadMessage, Closed, BadHeader}
 use Rattle.dp_lines.specs.RunEnds.{FaultMatchesEnd}
-use Rattle.dp_rollback.specs.Trailing.{Trailing}
+use Rattle.dp_trailing.specs.Trailing.{Trailing}
 use Rattle.dp_viewer.specs.Ways.{Way}
 use Rattle.dp_viewer.specs.Reading.{EndsReading, FaultMatchesWay, ReadsToEnd, TrailsShown}
 use Rattle.dp_viewer.specs.Reading.{WritesShown}

@@ -15,7 +15,7 @@ use Rattle.dp_board.specs.declared.act.UserAct.{UserAct}
 use Rattle.dp_plain.specs.Board.{Board, empty_board}
 use Rattle.dp_plain.specs.Commands.{draw}
 use Rattle.dp_replay.specs.Replay.{is_mark, undo_depth, user_act_of}
-use Rattle.dp_rollback.specs.Trailing.{Trailing, Trails}
+use Rattle.dp_trailing.specs.Trailing.{Trailing, Trails}
 use Rattle.dp_viewer.specs.Ways.{first_of}
 use Rattle.dp_viewer.specs.Reading.{AreDue, TrailsShown, is_due}
 

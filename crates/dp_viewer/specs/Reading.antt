@@ -16,7 +16,7 @@ use Rattle.dp_lines.specs.declared.run_end.RunEnd.{RunEnd}
 use Rattle.dp_lines.specs.declared.run_end.RunEnd.TheVariants.{Done, BadLine, ReadFault, WriteFault}
 use Rattle.dp_lines.specs.declared.run_end.RunEnd.TheVariants.{LinkFault, Memory, Long, Truncated}
 use Rattle.dp_lines.specs.declared.run_end.RunEnd.TheVariants.{BadMessage, Closed, BadHeader}
-use Rattle.dp_rollback.specs.Trailing.{Trailing, Trails}
+use Rattle.dp_trailing.specs.Trailing.{Trailing, Trails}
 use Rattle.dp_viewer.specs.Ways.{Way}
 
 -- the board trails what these entries show: those after the last mark of a reset, from the empty

@@ -16,8 +16,8 @@ use dp_lines::RunEnd;
 use dp_messages::Entry;
 use dp_recording::RecordingReader;
 use dp_replay::{UNDO_DEPTH, act_of_entry};
-use dp_rollback::TrailingBoard;
 use dp_steps::Steps;
+use dp_trailing::TrailingBoard;
 use std::alloc::{AllocError, Global};
 use std::sync::ledger::Ledger;
 

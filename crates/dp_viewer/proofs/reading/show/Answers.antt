@@ -4,7 +4,7 @@ use Rattle.dp_board.specs.declared.act.UserAct.{UserAct}
 use Rattle.dp_msg_draw.specs.declared.draw.Draw.{Draw}
 use Rattle.dp_plain.specs.Board.{Board}
 use Rattle.dp_plain.specs.Commands.{draw}
-use Rattle.dp_rollback.specs.Trailing.{Trails}
+use Rattle.dp_trailing.specs.Trailing.{Trails}
 use Rattle.dp_viewer.proofs.Showing.{TrailsShown-entry}
 use Rattle.dp_viewer.proofs.reading.show.Goals as goal
 

@@ -1,8 +1,8 @@
 use Rattle.std.proofs.Common.{◌∙◌, ap}
 use Rattle.std.specs.List.{fold}
 use Rattle.dp_rollback.specs.Kept.{drawn_among}
-use Rattle.dp_rollback.proofs.TrailingLemmas.{Trails-replay}
-use Rattle.dp_rollback.proofs.trailing.TrailingBoard.finish.Goals as goal
+use Rattle.dp_trailing.proofs.TrailingLemmas.{Trails-replay}
+use Rattle.dp_trailing.proofs.trailing.TrailingBoard.finish.Goals as goal
 
 pub returns-clause-replay : goal.returns-clause-replay
 returns-clause-replay g c = λ blank depth acts trails.

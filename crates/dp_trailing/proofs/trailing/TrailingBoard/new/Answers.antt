@@ -1,6 +1,6 @@
 use Rattle.std.proofs.Common.{◌≡◌, ap, arith, refl}
-use Rattle.dp_rollback.proofs.TrailingLemmas.{Trails-new}
-use Rattle.dp_rollback.proofs.trailing.TrailingBoard.new.Goals as goal
+use Rattle.dp_trailing.proofs.TrailingLemmas.{Trails-new}
+use Rattle.dp_trailing.proofs.trailing.TrailingBoard.new.Goals as goal
 
 pub invariant_of-result : goal.invariant_of-result
 invariant_of-result g c =

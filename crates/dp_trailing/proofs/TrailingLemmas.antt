@@ -18,8 +18,8 @@ use Rattle.dp_rollback.specs.Kept.{kept_of, drawn_command, drawn_among, marked}
 use Rattle.dp_rollback.specs.Kept.{commands_among}
 use Rattle.dp_rollback.specs.Laws.{Laws}
 use Rattle.dp_rollback.specs.Moves.{mark_by, mark_in, kept_in}
-use Rattle.dp_rollback.specs.Trailing.{Trailing, Trails, TrailsReach, IsHeldNext, marked_later}
-use Rattle.dp_rollback.specs.Trailing.{with_act, drawn_up_to}
+use Rattle.dp_trailing.specs.Trailing.{Trailing, Trails, TrailsReach, IsHeldNext, marked_later}
+use Rattle.dp_trailing.specs.Trailing.{with_act, drawn_up_to}
 use Rattle.dp_rollback.proofs.HistoryLemmas.{length-kept_of, replay-kept_of, take-marked}
 use Rattle.dp_rollback.proofs.HistoryLemmas.{kept_of-unmoved, kept_of-moved, take-kept_of-moved}
 use Rattle.dp_rollback.proofs.HistoryLemmas.{take-kept_of-unmoved}

@@ -2,9 +2,9 @@ use Rattle.std.proofs.Common.{◌+◌, ◌≤◌, [], ◌∷◌, ◌++◌, lengt
 use Rattle.std.specs.Prelude.{Result, Ok, Err, OnOk}
 use Rattle.std.proofs.lemmas.Result.{on_ok_weaker}
 use Rattle.dp_rollback.specs.Kept.{commands_among}
-use Rattle.dp_rollback.specs.Trailing.{Trails}
-use Rattle.dp_rollback.proofs.TrailingLemmas.{Trails-with_act, few-with_act}
-use Rattle.dp_rollback.proofs.trailing.TrailingBoard.hold.Goals as goal
+use Rattle.dp_trailing.specs.Trailing.{Trails}
+use Rattle.dp_trailing.proofs.TrailingLemmas.{Trails-with_act, few-with_act}
+use Rattle.dp_trailing.proofs.trailing.TrailingBoard.hold.Goals as goal
 
 -- two facts of an `Ok` give a third
 on_ok_both : {T E P Q R : Type 0} (r : Result T E) → (P → Q → R) → OnOk r P → OnOk r Q → OnOk r R

@@ -2,8 +2,8 @@ use Rattle.std.proofs.Common.{◌+◌, ap, arith, drop, length, length-append, t
 use Rattle.dp_board.specs.Commands.{command_of}
 use Rattle.dp_rollback.specs.Kept.{commands_among}
 use Rattle.dp_rollback.proofs.DueLemmas.{commands_among-at}
-use Rattle.dp_rollback.proofs.TrailingLemmas.{board-next}
-use Rattle.dp_rollback.proofs.trailing.draw_kept.Goals as goal
+use Rattle.dp_trailing.proofs.TrailingLemmas.{board-next}
+use Rattle.dp_trailing.proofs.trailing.draw_kept.Goals as goal
 
 pub loop-next-preserved : goal.loop-next-preserved
 loop-next-preserved g c =

@@ -7,14 +7,11 @@ ghost use Rattle.std.specs.Vec.{vec_len, vec_capacity};
 ghost use Rattle.dp_board.specs.declared.act.UserAct.{UserAct as UserActOf};
 ghost use Rattle.dp_board.specs.Replay.{replay};
 ghost use Rattle.dp_rollback.specs.Kept.{drawn_among, commands_among};
-ghost use Rattle.dp_rollback.specs.Trailing.{Trails, IsHeldNext, marked_later, with_act};
-ghost use Rattle.dp_rollback.specs.Trailing.{drawn_to_reach};
+ghost use Rattle.dp_trailing.specs.Trailing.{Trails, IsHeldNext, marked_later, with_act};
+ghost use Rattle.dp_trailing.specs.Trailing.{drawn_to_reach};
 
-use crate::kept::{KeptAct, Mark, mark_all};
-use crate::laws::stroke_laws;
-use crate::redraw::draw_act;
-use crate::rollback::{is_draw, mark_of};
 use dp_board::{Board, StrokeTable, UserAct, tables_follow};
+use dp_rollback::{KeptAct, Mark, draw_act, is_draw, mark_all, mark_of, stroke_laws};
 use dp_steps::Steps;
 use std::alloc::{AllocError, Global};
 use std::marker::Model;
@@ -37,7 +34,7 @@ pub struct TrailingBoard<B: Board> {
 impl<B: Board> Model for TrailingBoard<B> {
     ghost use Rattle.std.specs.Vec.{vec_len};
     ghost use Rattle.dp_board.specs.Table.{oldest_in};
-    ghost use Rattle.dp_rollback.specs.Trailing.{Trailing, HoldsReach};
+    ghost use Rattle.dp_trailing.specs.Trailing.{Trailing, HoldsReach};
 
     ghost Value = { Trailing B B.Op };
 

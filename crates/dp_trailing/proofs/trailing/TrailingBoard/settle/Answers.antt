@@ -1,9 +1,9 @@
 use Rattle.std.proofs.Common.{◌-◌, subst, sym}
 use Rattle.std.proofs.lemmas.Result.{on_ok_weaker}
 use Rattle.dp_board.specs.Table.{oldest_in}
-use Rattle.dp_rollback.specs.Trailing.{Trails}
-use Rattle.dp_rollback.proofs.TrailingLemmas.{Trails-drawn_up_to}
-use Rattle.dp_rollback.proofs.trailing.TrailingBoard.settle.Goals as goal
+use Rattle.dp_trailing.specs.Trailing.{Trails}
+use Rattle.dp_trailing.proofs.TrailingLemmas.{Trails-drawn_up_to}
+use Rattle.dp_trailing.proofs.trailing.TrailingBoard.settle.Goals as goal
 
 pub returns-clause-trails : goal.returns-clause-trails
 returns-clause-trails g c =

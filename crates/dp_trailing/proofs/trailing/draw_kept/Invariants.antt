@@ -1,7 +1,7 @@
 use Rattle.std.proofs.Common.{◌≡◌, ◌+◌, ◌≤◌, length, take, drop}
 use Rattle.std.specs.List.{fold}
 use Rattle.dp_rollback.specs.Kept.{drawn_among, commands_among}
-use Rattle.dp_rollback.proofs.trailing.draw_kept.Given as goal
+use Rattle.dp_trailing.proofs.trailing.draw_kept.Given as goal
 
 -- the acts so far are drawn
 abbrev pub invariant-loop-next : goal.invariant-loop-next

@@ -1,7 +1,7 @@
 use Rattle.std.proofs.Common.{◌≡◌, ◌-◌, ap, arith, length, take}
 use Rattle.dp_rollback.specs.Kept.{commands_among}
-use Rattle.dp_rollback.proofs.TrailingLemmas.{length-drawn_up_to}
-use Rattle.dp_rollback.proofs.trailing.TrailingBoard.draw_to_reach.Goals as goal
+use Rattle.dp_trailing.proofs.TrailingLemmas.{length-drawn_up_to}
+use Rattle.dp_trailing.proofs.trailing.TrailingBoard.draw_to_reach.Goals as goal
 
 pub returns-clause-few_draws : goal.returns-clause-few_draws
 returns-clause-few_draws g c =
