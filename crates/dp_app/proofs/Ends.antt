@@ -112,7 +112,8 @@ module _ {A W R T : Type 0} (see : Wires W R T) (words : List (String A)) (e : E
 
   pub nothing-kept : (ending : Ending) → EndsWords see words e ending → ¬ HasWires words e.old
       → KeepsNothing e.kept
-  nothing-kept ending h never = of-each ending h (λ nothing. nothing.stays.nothing) (kind-nothing never)
+  nothing-kept ending h never =
+      of-each ending h (λ nothing. nothing.stays.nothing) (kind-nothing never)
 
   kind-stay : ¬ HasLinks words e.old → (command : CommandLine) (end : RunEnd)
       → Asks words command → KindLeaves see command e end → e.new ≡ e.old

@@ -109,8 +109,8 @@ pub fn drawpile<
     // memory ran out before the words were read. The link is handed back, and other wires stay.
     ensures joins { (addr name : List ℕ) → Asks words.now (Join addr name) → wires.items ≢ []
         → HasJoined (wire_seen W.links W.faults W.Rx.left W.Rx.faults W.Tx.held W.Tx.faults)
-        name (effects (streams I.left I.faults O.held O.faults input.old input.new output.old output.new)
-        wires.items result.wires.items (kept result.journal result.shut result.reports))
+        name (effects (streams I.left I.faults O.held O.faults input.old input.new output.old
+        output.new) wires.items result.wires.items (kept result.journal result.shut result.reports))
         (E.held diag.old) (E.held diag.new) (E.faults diag.old) (E.faults diag.new)
         result.status }
 
@@ -120,8 +120,8 @@ pub fn drawpile<
     ensures serves { (addr : List ℕ) (conns : Option ℕ) (service : Service)
         → Asks words.now (Listen addr (length wires.items) conns service)
         → HasServed (wire_seen W.links W.faults W.Rx.left W.Rx.faults W.Tx.held W.Tx.faults)
-        conns (effects (streams I.left I.faults O.held O.faults input.old input.new output.old output.new)
-        wires.items result.wires.items (kept result.journal result.shut result.reports))
+        conns (effects (streams I.left I.faults O.held O.faults input.old input.new output.old
+        output.new) wires.items result.wires.items (kept result.journal result.shut result.reports))
         (E.held diag.old) (E.held diag.new) (E.faults diag.old) (E.faults diag.new)
         result.status }
 

@@ -74,7 +74,8 @@ pub(crate) fn run_words<
     draws: &mut Steps<D>,
     tiles: &mut Steps<T>,
 ) -> Ran<W>
-    ensures ends { EndsWords (wire_seen W.links W.faults W.Rx.left W.Rx.faults W.Tx.held W.Tx.faults)
+    ensures ends { EndsWords
+        (wire_seen W.links W.faults W.Rx.left W.Rx.faults W.Tx.held W.Tx.faults)
         words.now
         (effects (streams I.left I.faults O.held O.faults input.old input.new output.old output.new)
         wires.items result.wires.items (kept result.journal result.shut result.reports))
@@ -112,7 +113,8 @@ fn run_command<
     tiles: &mut Steps<T>,
 ) -> Ran<W>
     requires { FitsLimits command.now }
-    ensures ends { EndsCommand (wire_seen W.links W.faults W.Rx.left W.Rx.faults W.Tx.held W.Tx.faults)
+    ensures ends { EndsCommand
+        (wire_seen W.links W.faults W.Rx.left W.Rx.faults W.Tx.held W.Tx.faults)
         command.now
         (effects (streams I.left I.faults O.held O.faults input.old input.new output.old output.new)
         wires.items result.wires.items (kept result.journal result.shut result.reports))

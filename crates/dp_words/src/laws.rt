@@ -4,7 +4,8 @@ ghost use Rattle.std.specs.Prelude.{◌≡◌, List, [], ◌∷◌, Some, None, 
 ghost use Rattle.clap.specs.Walk.{Text};
 ghost use Rattle.dp_words.specs.declared.command_line.CommandLine.{CommandLine};
 ghost use Rattle.dp_words.specs.declared.command_line.CommandLine.TheVariants.{Local, Join, Listen};
-ghost use Rattle.dp_words.specs.declared.command_line.LocalCommand.TheVariants.{Replay, World, Play};
+ghost use Rattle.dp_words.specs.declared.command_line.LocalCommand.TheVariants.{Replay, World};
+ghost use Rattle.dp_words.specs.declared.command_line.LocalCommand.TheVariants.{Play};
 ghost use Rattle.dp_words.specs.declared.command_line.Service.TheVariants.{Session};
 ghost use Rattle.dp_words.specs.CommandLines.{AsksFor, IsCommandLine};
 
