@@ -1,21 +1,29 @@
 -- A board that is drawn anew, from a savepoint on.
 use Rattle.std.proofs.Common.{◌≡◌, ℕ, ◌+◌, ◌-◌, ◌<◌, ◌≤◌, Bool, true, false, List, [], ◌∷◌, ◌++◌}
-use Rattle.std.proofs.Common.{length, take, drop, map, get_or, ap, sym, ◌∙◌, arith, refl}
+use Rattle.std.proofs.Common.{length, take, drop, map, get_or, ap, sym, ◌∙◌, arith, refl, subst}
 use Rattle.std.proofs.Common.{length-append}
-use Rattle.std.specs.Prelude.{if◌then◌else◌, nat_lt, sum_by, slice_range}
-use Rattle.std.specs.List.{fold}
-use Rattle.std.proofs.lemmas.Bool.{ltb-true}
+use Rattle.std.specs.Prelude.{if◌then◌else◌, nat_lt, sum_by, slice_range, Option, unwrap_or}
+use Rattle.std.specs.Prelude.{◌%◌, ◌==◌, ◌≢◌}
+use Rattle.std.specs.Option.{option_to_list}
+use Rattle.std.specs.List.{fold, Contains}
+use Rattle.std.proofs.lemmas.Bool.{ltb-true, ne_eqb}
 use Rattle.std.proofs.lemmas.List.{take-append-drop, drop-drop, drop-map, take_more, map-append}
-use Rattle.std.proofs.lemmas.List.{take-map, length-map}
+use Rattle.std.proofs.lemmas.List.{take-map, length-map, take_all, length-drop}
 use Rattle.std.proofs.lemmas.List.Concat.{flat_map-append}
 use Rattle.std.proofs.lemmas.List.Sums.{sum_by-append}
 use Rattle.dp_board.specs.Commands.{command_of}
 use Rattle.dp_board.specs.Counts.{CountsFew}
+use Rattle.dp_board.specs.declared.act.Act.{Act}
+use Rattle.dp_board.specs.Laws.{depth_in}
+use Rattle.dp_board.specs.Strokes.{last_few}
+use Rattle.dp_board.specs.Table.{Table}
 use Rattle.dp_rollback.specs.declared.kept.KeptAct.{KeptAct}
 use Rattle.dp_rollback.specs.declared.kept.Mark.{Mark}
 use Rattle.dp_rollback.specs.Kept.{marked, drawn_among, commands_among}
-use Rattle.dp_rollback.specs.Rollback.{PointSave, save_place}
-use Rattle.dp_rollback.specs.Runs.{Running, IsRun, LeavesFew, run_to, saved_anew, save_anew}
+use Rattle.dp_rollback.specs.Rollback.{PointSave, Rolled, save_place}
+use Rattle.dp_rollback.specs.Moves.{IsRedrawn, kept_from, last_after, save_of, saves_after}
+use Rattle.dp_rollback.specs.Runs.{Running, IsRun, IsFinished, LeavesFew, run_to, saved_anew}
+use Rattle.dp_rollback.specs.Runs.{save_anew}
 use Rattle.dp_rollback.proofs.StandLemmas.{fold-drawn, take-more}
 
 -- it goes on to a later place
@@ -156,3 +164,95 @@ run-rest draw kept mark from run is =
     ∙ ap (λ b. fold draw b (drawn_among (drop a all))) is.board
     ∙ sym (fold-drawn draw from (take a all) (drop a all))
     ∙ ap (λ xs. fold draw from (drawn_among xs)) (take-append-drop a all)
+
+-- a slice from a place on is the list without the elements before it
+pub slice-from : {A : Type 0} → (xs ys : List A) (a b : ℕ) → xs ≡ ys → a ≡ b
+    → take (length xs - a) (drop a xs) ≡ drop b ys
+slice-from xs ys a b same at =
+    take_all (length xs - a) (drop a xs) (omega (arith, length-drop a xs))
+    ∙ ap (drop a) same ∙ ap (λ n. drop n ys) at
+
+-- at its start it has drawn nothing
+pub IsRun-begins : {B Op : Type 0} → (draw : B → Op → B) (kept : List (KeptAct Op)) (from : B)
+    (run : Running B) → run.at ≡ run.start → run.board ≡ from → run.save ≡ from
+    → IsRun draw kept from run
+IsRun-begins draw kept from run begun board save =
+    let none : 0 ≡ run.at - run.start = omega (arith, begun) in
+    record {
+      begun = omega (arith, begun);
+      within = omega (arith, begun);
+      board = board ∙ ap (λ n. fold draw from (drawn_among (take n kept))) none;
+      save = save ∙ sym board;
+    }
+
+-- all drawn anew from the savepoint of the group on
+pub IsRedrawn-run : {B Op : Type 0} → (draw : B → Op → B) (r : Rolled B Op) (mark : Mark)
+    (kept : List (KeptAct Op)) (save : PointSave B) (start position : ℕ) (old_last : B)
+    (old_saves : List (PointSave B)) (board last : B) (saves : List (PointSave B))
+    → kept ≡ kept_from r mark → start ≡ save_place mark.group → position ≡ r.table.position
+    → old_last ≡ r.last → old_saves ≡ r.saves → Contains r.saves save → save.point ≡ mark.group
+    → IsFinished draw (map (marked mark) kept) save.board start position old_last old_saves board
+    last saves
+    → IsRedrawn draw r mark board last saves
+IsRedrawn-run draw r mark kept save start position old_last old_saves board last saves kept_is
+    start_is position_is last_is saves_are begun point finished =
+    let from = save.board in
+    record {
+      from = from;
+      begun = subst (λ p. Contains r.saves (record { point = p; board = from })) point begun;
+      finished =
+          subst (λ xs. IsFinished draw (map (marked mark) xs) from (save_place mark.group)
+          r.table.position r.last r.saves board last saves) kept_is
+          (subst (λ n. IsFinished draw (map (marked mark) kept) from n r.table.position r.last
+          r.saves board last saves) start_is
+          (subst (λ n. IsFinished draw (map (marked mark) kept) from start n r.last r.saves board
+          last saves) position_is
+          (subst (λ b. IsFinished draw (map (marked mark) kept) from start position b r.saves board
+          last saves) last_is
+          (subst (λ xs. IsFinished draw (map (marked mark) kept) from start position old_last xs
+          board last saves) saves_are finished))));
+    }
+
+-- the counters were as they are at the entry before the acts from the savepoint on were drawn
+pub CountsFew-from : {B Op : Type 0} → (weight : Op → ℕ) (r : Rolled B Op) (mark : Mark)
+    (kept : List (KeptAct Op)) (draws draws' draws'' tiles tiles' tiles'' : ℕ)
+    → kept ≡ kept_from r mark → draws' ≡ draws → tiles' ≡ tiles
+    → CountsFew weight (commands_among kept) draws' draws'' tiles' tiles''
+    → CountsFew weight (commands_among (kept_from r mark)) draws draws'' tiles tiles''
+CountsFew-from weight r mark kept draws draws' draws'' tiles tiles' tiles'' kept_is same same_tiles
+    counts =
+    subst (λ xs. CountsFew weight (commands_among xs) draws draws'' tiles tiles'') kept_is
+    (subst (λ n. CountsFew weight (commands_among kept) n draws'' tiles tiles'') same
+    (subst (λ n. CountsFew weight (commands_among kept) draws' draws'' n tiles'') same_tiles counts))
+
+-- a savepoint falls due by the count of the acts that are kept
+pub due-by-kept : (position base kept oldest : ℕ) → position ≡ base + kept
+    → base ≡ save_place oldest → (position + 1) % 64 ≡ (kept + 1) % 64
+due-by-kept position base kept oldest up_to_end begins = omega (arith, up_to_end, begins)
+
+-- the last savepoint, where one falls due
+pub last-due : {B : Type 0} → (count : ℕ) (board last : B) → count % 64 ≡ 0
+    → board ≡ last_after count board last
+last-due count board last due = sym (ap (λ n. if n == 0 then board else last) due)
+
+-- the last savepoint, where none falls due
+pub last-stays : {B : Type 0} → (count : ℕ) (board last : B) → count % 64 ≢ 0
+    → last ≡ last_after count board last
+last-stays count board last stays =
+    sym (ap (λ b. if b then board else last) (ne_eqb (count % 64) 0 stays))
+
+-- the savepoints after an act, where those of the last Points are kept
+pub saves-made : {B Op : Type 0} → (table : Table) (act : Act Op) (last : B)
+    (old room new : List (PointSave B)) (save : Option (PointSave B)) (depth window position : ℕ)
+    → new ≡ last_few depth (room ++ option_to_list save)
+    → depth ≡ unwrap_or (depth_in act) window → window ≡ table.window.depth → room ≡ old
+    → option_to_list save ≡ save_of position last act → position ≡ table.position
+    → new ≡ saves_after table last act old
+saves-made table act last old room new save depth window position new_is depth_is window_is room_is
+    save_is position_is =
+    let few : ℕ = unwrap_or (depth_in act) table.window.depth in
+    new_is
+    ∙ ap (λ n. last_few n (room ++ option_to_list save))
+    (depth_is ∙ ap (unwrap_or (depth_in act)) window_is)
+    ∙ ap (λ xs. last_few few (xs ++ option_to_list save)) room_is
+    ∙ ap (λ xs. last_few few (old ++ xs)) (save_is ∙ ap (λ n. save_of n last act) position_is)

@@ -1,7 +1,7 @@
 -- What is drawn for one more act.
-use Rattle.std.specs.Prelude.{◌≡◌, ℕ, ◌+◌, ◌-◌, ◌*◌, ◌/◌, ◌%◌, ◌<◌, ◌≤◌, ◌==◌, true, Option, Some}
+use Rattle.std.specs.Prelude.{◌≡◌, ℕ, ◌+◌, ◌-◌, ◌%◌, ◌<◌, ◌≤◌, ◌==◌, true, Option, Some}
 use Rattle.std.specs.Prelude.{None}
-use Rattle.std.specs.Prelude.{List, [], ◌∷◌, ◌++◌, take, drop, map}
+use Rattle.std.specs.Prelude.{List, [], ◌∷◌, ◌++◌, drop, map}
 use Rattle.std.specs.Prelude.{if◌then◌else◌, unwrap_or}
 use Rattle.std.specs.Option.{option_map, ForSome}
 use Rattle.std.specs.List.{fold, Contains}
@@ -16,7 +16,7 @@ use Rattle.dp_board.specs.Moves.{is_redo, is_draw}
 use Rattle.dp_board.specs.Table.{Table, moved_in, joined_in, next_strokes, oldest_in, table_with}
 use Rattle.dp_rollback.specs.declared.kept.KeptAct.{KeptAct}
 use Rattle.dp_rollback.specs.declared.kept.Mark.{Mark}
-use Rattle.dp_rollback.specs.Kept.{marked, drawn_among, commands_among}
+use Rattle.dp_rollback.specs.Kept.{marked, commands_among}
 use Rattle.dp_rollback.specs.Rollback.{PointSave, Rolled, Next, IsInOrder, put_on, change_in}
 use Rattle.dp_rollback.specs.Rollback.{save_place}
 use Rattle.dp_rollback.specs.Runs.{IsFinished}

@@ -11,7 +11,7 @@ ghost use Rattle.dp_board.specs.Replay.{replay};
 ghost use Rattle.dp_board.specs.declared.act.Change.TheVariants.{Drew, Nothing};
 ghost use Rattle.dp_board.specs.Table.{oldest_in};
 ghost use Rattle.dp_board.specs.Moves.{is_draw};
-ghost use Rattle.dp_board.specs.Strokes.{concerned};
+ghost use Rattle.dp_board.specs.Strokes.{concerned, is_eligible};
 ghost use Rattle.dp_board.specs.Commands.{command_of};
 ghost use Rattle.dp_board.specs.Counts.{CountsFew};
 ghost use Rattle.dp_rollback.specs.Kept.{commands_among};
@@ -103,6 +103,7 @@ fn change_by_draw(drawn: bool) -> Change
 /// The mark of an act, where it moves a group.
 pub fn mark_of<Op>(table: &StrokeTable, act: &UserAct<Op>) -> Option<Mark>
     ensures value { result ≡ mark_in table.now act.now }
+    ensures among { IfSome result (λ mark. is_eligible table.now.window mark.group ≡ true) }
     ensures reach { IfSome result (λ mark. oldest_in table.now ≤ mark.group) }
     ensures before { IfSome result (λ mark. mark.group < table.now.position) }
 {
@@ -390,6 +391,8 @@ impl<B: Board> Rollback<B> {
         draws: &mut Steps<D>,
         tiles: &mut Steps<T>,
     ) -> Result<Drawn<B>, AllocError>
+        requires among { ForSome mark
+            (λ mark. is_eligible self.now.table.window mark.group ≡ true) }
         requires reach { ForSome mark (λ mark. oldest_in self.now.table ≤ mark.group) }
         requires before { ForSome mark (λ mark. mark.group < self.now.table.position) }
         ensures made { IfOk result (λ drawn. IsMade B.drawn self.now act.now mark
@@ -444,6 +447,7 @@ impl<B: Board> Rollback<B> {
         draws: &mut Steps<D>,
         tiles: &mut Steps<T>,
     ) -> Result<Drawn<B>, AllocError>
+        requires among { is_eligible self.now.table.window mark.group ≡ true }
         requires reach { oldest_in self.now.table ≤ mark.group }
         requires before { mark.group < self.now.table.position }
         ensures made { IfOk result (λ drawn. IsRedrawn B.drawn self.now mark
@@ -452,7 +456,7 @@ impl<B: Board> Rollback<B> {
             draws.new tiles.old tiles.new }
     {
         let Some(from) = save_at(&self.saves, mark.group) else {
-            return Err(AllocError);
+            unreachable!()
         };
         let start = save_place(mark.group);
         let run = Run {

@@ -1,12 +1,13 @@
 //! Savepoints of the points in reach.
 
 ghost use Rattle.std.specs.Prelude.{◌≡◌, ◌++◌, ◌<◌, ◌≤◌, IfOk, IfSome, unwrap_or, length, map};
+ghost use Rattle.std.specs.Prelude.{is_some};
 ghost use Rattle.std.specs.Option.{option_to_list};
 ghost use Rattle.std.specs.Vec.{vec_len, vec_capacity};
 ghost use Rattle.std.specs.List.{Contains};
 ghost use Rattle.dp_board.specs.Laws.{depth_in};
-ghost use Rattle.dp_board.specs.Strokes.{last_few};
-ghost use Rattle.dp_rollback.specs.Rollback.{save_place};
+ghost use Rattle.dp_board.specs.Strokes.{last_few, is_among};
+ghost use Rattle.dp_rollback.specs.Rollback.{save_place, points_of};
 ghost use Rattle.dp_rollback.specs.Moves.{save_of};
 
 use crate::room::drop_first;
@@ -100,7 +101,9 @@ pub(crate) fn put_save<B: Drop>(saves: &mut Vec<Save<B>>, save: Option<Save<B>>,
 
 /// The savepoint of a point, where it has one.
 pub(crate) fn save_at<B>(saves: &[Save<B>], point: usize) -> Option<&Save<B>>
-    ensures { IfSome result (λ save. (save.now.point ≡ point) × Contains saves.now save.now) }
+    ensures found { IfSome result
+        (λ save. (save.now.point ≡ point) × Contains saves.now save.now) }
+    ensures among { is_some result ≡ is_among (points_of saves.now) point }
 {
     for save in saves {
         if save.point == point {

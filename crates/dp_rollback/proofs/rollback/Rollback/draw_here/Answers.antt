@@ -24,11 +24,10 @@ invariant_of-self-2 g c =
     let table = c.put.ensures ∙ ap (λ s. table_with s old.table) strokes in
     let depth = c.depth_after-depth.ensures ∙ ap (unwrap_or (depth_in a.act)) c.self.invariant.0 in
     let saves = c.put_save.ensures
-        ∙ ap (λ n. last_few n (old.saves.items ++ option_to_list c.in_ok-save.save)) depth
-        ∙ ap (λ xs. last_few (unwrap_or (depth_in a.act) old.table.window.depth)
-        (old.saves.items ++ xs)) (c.in_ok-save.ensures
-        ∙ ap (λ n. save_of n old.last.value a.act) c.position.ensures) in
-    (
+    ∙ ap (λ n. last_few n (old.saves.items ++ option_to_list c.in_ok-save.save)) depth
+    ∙ ap (λ xs. last_few (unwrap_or (depth_in a.act) old.table.window.depth)
+    (old.saves.items ++ xs)) (c.in_ok-save.ensures
+    ∙ ap (λ n. save_of n old.last.value a.act) c.position.ensures) in (
       depth ∙ depth-next old.table.position a.act old.table.window
           ∙ sym (ap (λ t. t.window.depth) table),
       subst (λ t. IsSpaced t c.let_go.new.base (vec_len c.let_go.new.kept)
@@ -56,12 +55,12 @@ returns-clause-added g c =
     let table = c.put.ensures ∙ ap (λ s. table_with s old.table) strokes in
     let depth = c.depth_after-depth.ensures ∙ ap (unwrap_or (depth_in a.act)) c.self.invariant.0 in
     let saves = c.put_save.ensures
-        ∙ ap (λ n. last_few n (old.saves.items ++ option_to_list c.in_ok-save.save)) depth
-        ∙ ap (λ xs. last_few (unwrap_or (depth_in a.act) old.table.window.depth)
-        (old.saves.items ++ xs)) (c.in_ok-save.ensures
-        ∙ ap (λ n. save_of n old.last.value a.act) c.position.ensures) in
+    ∙ ap (λ n. last_few n (old.saves.items ++ option_to_list c.in_ok-save.save)) depth
+    ∙ ap (λ xs. last_few (unwrap_or (depth_in a.act) old.table.window.depth)
+    (old.saves.items ++ xs)) (c.in_ok-save.ensures
+    ∙ ap (λ n. save_of n old.last.value a.act) c.position.ensures) in
     let first = c.save_place-first.ensures
-        ∙ ap save_place (c.oldest.ensures.value ∙ ap oldest_in table) in
+    ∙ ap save_place (c.oldest.ensures.value ∙ ap oldest_in table) in
     let place = save_place (oldest_in (table_with (next_strokes old.table a) old.table)) in
     record {
       next = next_here draw now a;

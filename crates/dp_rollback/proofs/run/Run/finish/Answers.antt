@@ -20,8 +20,8 @@ returns-clause-redrawn g c = λ from is.
     let ran = went.run from (saves.run from is) in
     let start = went.start ∙ saves.start in
     let near = saves.at c.args.position (All-weaker (λ p. p < c.args.position)
-        (λ p. p ≤ c.args.position) (λ p lt. omega (arith, lt)) (points_of c.args.saves.now)
-        c.requires.before) c.requires.first in
+    (λ p. p ≤ c.args.position) (λ p lt. omega (arith, lt)) (points_of c.args.saves.now)
+    c.requires.before) c.requires.first in
     record {
       drawn = c.in_ok-redraw.ensures.board
           ∙ ap (λ xs. fold draw rest.board (drawn_among (map (marked c.args.mark) xs)))

@@ -1,7 +1,6 @@
-use Rattle.std.proofs.Common.{◌≡◌, ◌<◌, ◌∙◌, ◌++◌, ◌∷◌, [], ap, arith, get_or, length, map, sym}
+use Rattle.std.proofs.Common.{◌≡◌, ◌∙◌, ◌++◌, ◌∷◌, [], ap, arith, map, sym}
 use Rattle.std.proofs.lemmas.List.{get_or-map, length-map, take_all}
 use Rattle.dp_rollback.specs.Kept.{marked}
-use Rattle.dp_rollback.specs.Rollback.{points_of, save_place}
 use Rattle.dp_rollback.specs.Runs.{save_anew, saved_anew}
 use Rattle.dp_rollback.proofs.RunLemmas.{saved-run, saves-more}
 use Rattle.dp_rollback.proofs.run.Run.saves.Goals as goal
@@ -12,7 +11,7 @@ go_to-requires-clause-within g c =
     let k = c.save-item.result in
     let i = c.loop-save.save-index in
     let at = get_or-map (λ s. s.point) olds i k k.point c.loop-save-test.true
-        ∙ ap (λ s. s.point) (sym c.save-item.is) in
+    ∙ ap (λ s. s.point) (sym c.save-item.is) in
     omega (
       arith,
       ap (λ s. s.point) c.save.view_is,
@@ -38,7 +37,7 @@ loop-save-preserved g c =
     let many = length-map olds (λ s. s.point) in
     let point = ap (λ s. s.point) c.save.view_is in
     let at = get_or-map (λ s. s.point) olds i k k.point inside
-        ∙ ap (λ s. s.point) (sym c.save-item.is) in
+    ∙ ap (λ s. s.point) (sym c.save-item.is) in
     let within = c.requires.within i k.point (omega (arith, inside, many)) in
     let start : new.start ≡ first = went.start ∙ was.start in
     let near = was.next i k.point (omega arith) inside in
