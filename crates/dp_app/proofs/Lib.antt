@@ -1,3 +1,4 @@
-pub mod Completeness
-pub mod JoinLemmas
-pub mod ServerLemmas
+pub mod Answering
+pub mod ByKind
+pub mod Ends
+pub mod LocalRuns

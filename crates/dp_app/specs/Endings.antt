@@ -1,14 +1,16 @@
--- What is left where the program ends in one of its ways.
-use Rattle.std.specs.Prelude.{◌≡◌, ℕ, List, Option}
-use Rattle.std.specs.declared.string.String.{String}
+-- The ways in which the program ends, and what becomes of its streams, wires and logs.
+use Rattle.std.specs.Prelude.{◌≡◌, ℕ, List, [], Option}
 use Rattle.std.specs.Io.KnownBytes.{Keeps}
+use Rattle.dp_events.specs.declared.event.Event.{Event}
+use Rattle.dp_events.specs.declared.event.ShutAt.{ShutAt}
+use Rattle.dp_serve.specs.Serving.{Seen}
+use Rattle.dp_wire.specs.Links.{Links}
+use Rattle.dp_worker.specs.declared.report.LinkReport.{LinkReport}
+use Rattle.dp_worker.specs.Links.{link_seen}
 use Rattle.dp_lines.specs.declared.run_end.RunEnd.TheVariants.{Memory}
-use Rattle.dp_words.specs.declared.command_line.CommandLine.{CommandLine}
-use Rattle.dp_lines.specs.RunEnds.{FaultMatchesEnd}
 use Rattle.dp_app.specs.declared.ending.Ending.{Ending}
 use Rattle.dp_app.specs.declared.ending.Ending.TheVariants.{Usage, NoLink, NoWords, Run}
-use Rattle.dp_app.specs.Answer.{CommandLeaves, line_of, no_link_line, status_of, usage_line}
-use Rattle.dp_app.specs.Commands.{Asks, IsCommand, Runs}
+use Rattle.dp_app.specs.Answer.{line_of, no_link_line, status_of, usage_line}
 
 -- the program's status where it ends so
 abbrev pub code_of : Ending → ℕ
@@ -56,20 +58,68 @@ Untouched s =
     Keeps s.input s.left × Keeps s.old s.new × (s.read_now ≡ s.read)
     × (s.written_now ≡ s.written)
 
--- what a command that ends so has left
-abbrev pub EndsCommand : CommandLine → Streams → Ending → Type 0
-EndsCommand command s Usage = ⊥
-EndsCommand command s NoLink = ¬ Runs command × Untouched s
-EndsCommand command s NoWords = ⊥
-EndsCommand command s (Run end) =
-    Runs command × CommandLeaves command s.input s.left s.old s.new end
-    × FaultMatchesEnd s.read s.read_now s.written s.written_now end
+-- what a server leaves beside its wires: the events that were kept, the closings that were refused,
+-- and a report of each link
+pub record Kept : Type 0 where
+  pub journal : List Event
+  pub shut : List ShutAt
+  pub reports : List LinkReport
 
--- what words that end so have left
-abbrev pub EndsWords : {A : Type 0} → List (String A) → Streams → Ending → Type 0
-EndsWords words s Usage = ¬ IsCommand words × Untouched s
-EndsWords words s NoLink =
-    (command : CommandLine) × Asks words command × EndsCommand command s NoLink
-EndsWords words s NoWords = Untouched s
-EndsWords words s (Run end) =
-    (command : CommandLine) × Asks words command × EndsCommand command s (Run end)
+-- the same of its parts
+abbrev pub kept : List Event → List ShutAt → List LinkReport → Kept
+kept journal shut reports = record { journal = journal; shut = shut; reports = reports }
+
+-- there was no server
+abbrev pub KeepsNothing : Kept → Type 0
+KeepsNothing kept = (kept.journal ≡ []) × (kept.shut ≡ []) × (kept.reports ≡ [])
+
+-- what became of the streams, of the wires, and what a server kept
+pub record Effects (W : Type 0) : Type 0 where
+  pub streams : Streams
+  pub old : List W
+  pub new : List W
+  pub kept : Kept
+
+-- the same of its parts
+abbrev pub effects : {W : Type 0} → Streams → List W → List W → Kept → Effects W
+effects streams old new kept =
+    record { streams = streams; old = old; new = new; kept = kept }
+
+-- nothing was done to the wires, and nothing was kept
+pub record StaysLocal {W : Type 0} (e : Effects W) : Type 0 where
+  pub wires : e.new ≡ e.old
+  pub nothing : KeepsNothing e.kept
+
+-- nothing at all was done
+pub record IsUntouched {W : Type 0} (e : Effects W) : Type 0 where
+  pub streams : Untouched e.streams
+  pub stays : StaysLocal e
+
+-- what contracts see of a wire and of its links
+pub record Wires (W R T : Type 0) : Type 0 where
+  pub links : W → Option (Links R T)
+  pub faults : W → ℕ
+  pub left : R → Option (List ℕ)
+  pub read_faults : R → ℕ
+  pub held : T → Option (List ℕ)
+  pub write_faults : T → ℕ
+
+-- the same of its parts
+abbrev pub wire_seen : {W R T : Type 0} → (W → Option (Links R T)) → (W → ℕ)
+    → (R → Option (List ℕ)) → (R → ℕ) → (T → Option (List ℕ)) → (T → ℕ) → Wires W R T
+wire_seen links faults left read_faults held write_faults = record {
+  links = links;
+  faults = faults;
+  left = left;
+  read_faults = read_faults;
+  held = held;
+  write_faults = write_faults;
+}
+
+-- the same as a server sees them
+abbrev pub served_wires : {W R T : Type 0} → Wires W R T → Seen W R T
+served_wires see = record {
+  links = see.links;
+  faults = see.faults;
+  link = link_seen see.left see.read_faults see.held see.write_faults;
+}

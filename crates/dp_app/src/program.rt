@@ -7,27 +7,31 @@ ghost use Rattle.dp_io.specs.Faults.{Rose};
 ghost use Rattle.dp_lines.specs.declared.run_end.RunEnd.{RunEnd};
 ghost use Rattle.dp_lines.specs.declared.run_end.RunEnd.TheVariants.{Memory};
 ghost use Rattle.dp_words.specs.declared.command_line.CommandLine.{CommandLine};
-ghost use Rattle.dp_words.specs.declared.command_line.CommandLine.TheVariants.{Join, Serve};
+ghost use Rattle.dp_words.specs.declared.command_line.CommandLine.TheVariants.{Local, Join, Listen};
+ghost use Rattle.dp_words.specs.declared.command_line.LocalCommand.{LocalCommand};
+ghost use Rattle.dp_words.specs.declared.command_line.Service.{Service};
 ghost use Rattle.dp_lines.specs.RunEnds.{FaultMatchesEnd};
-ghost use Rattle.dp_app.specs.Answer.{Answer, CommandLeaves, HasHeadline, IsDue, IsGiven};
-ghost use Rattle.dp_app.specs.Answer.{Says, SaysNoLink, SaysUsage};
-ghost use Rattle.dp_app.specs.Commands.{AskForLink, AskForRun, Asks, IsCommand, IsWorld, Runs};
-ghost use Rattle.dp_app.specs.Endings.{streams};
-ghost use Rattle.dp_app.specs.Joins.{HasJoined, HasLink};
-ghost use Rattle.dp_app.specs.Servers.{HasLinks, HasServed, HasWires, KeepsNothing};
-ghost use Rattle.dp_app.specs.Servers.{kept, wire_seen};
+ghost use Rattle.dp_app.specs.Answer.{Answer, HasHeadline, IsGiven, Says, SaysNoLink, SaysUsage};
+ghost use Rattle.dp_app.specs.Commands.{AskAndLack, AskForLocal, Asks, HasLink, HasLinks, HasWires};
+ghost use Rattle.dp_app.specs.Commands.{IsCommand, IsWorld, LacksWires};
+ghost use Rattle.dp_app.specs.Due.{GetsLink, IsDue};
+ghost use Rattle.dp_app.specs.Endings.{KeepsNothing, effects, kept, streams, wire_seen};
+ghost use Rattle.dp_app.specs.Joins.{HasJoined};
+ghost use Rattle.dp_app.specs.Kinds.{Reads};
+ghost use Rattle.dp_app.specs.Runs.{run_of};
+ghost use Rattle.dp_app.specs.Servers.{HasServed};
 
 use crate::diagnostics::say;
+use crate::laws::local_commands_are_runs;
 use crate::running::{Ran, run_words};
 use dp_events::{Journal, Shut};
 use dp_io::{Sink, Source};
+use dp_joining::one_outcome;
 use dp_serve::Reports;
 use dp_sim::headline;
 use dp_steps::Steps;
-use dp_viewer::{one_play, one_replay};
 use dp_wire::{Gate, Wire};
 use dp_words::one_command_line;
-use dp_world::one_schedule;
 use std::alloc::Global;
 use std::sync::Wait;
 use std::sync::ledger::Ledger;
@@ -74,37 +78,26 @@ pub fn drawpile<
     tiles: &mut Steps<T>,
 ) -> Outcome<W>
     // Words that are no command are refused, and so is a command that needs links where the wires
-    // for them aren't there. Neither input nor output is touched then, nor by a server. Reading the
-    // words can run out of memory.
-    ensures usage { result.status ≡ 1 → ¬ IsCommand words.now }
+    // for them aren't there. Reading the words can run out of memory.
     ensures other_words { ¬ IsCommand words.now
         → SaysUsage (E.held diag.old) (E.held diag.new) (E.faults diag.old) (E.faults diag.new)
         result.status
         ⊎ Says (E.held diag.old) (E.held diag.new) (E.faults diag.old) (E.faults diag.new)
         result.status Memory }
-    ensures no_link { AskForLink words.now → wires.items ≡ []
+    ensures no_link { (command : CommandLine)
+        → Asks words.now command → LacksWires command wires.items
         → SaysNoLink (E.held diag.old) (E.held diag.new) (E.faults diag.old) (E.faults diag.new)
         result.status
         ⊎ Says (E.held diag.old) (E.held diag.new) (E.faults diag.old) (E.faults diag.new)
         result.status Memory }
-    ensures no_wires { (addr : List ℕ) (workers : ℕ) (conns : Option ℕ)
-        → Asks words.now (Serve addr workers conns) → length wires.items ≢ workers
-        → SaysNoLink (E.held diag.old) (E.held diag.new) (E.faults diag.old) (E.faults diag.new)
-        result.status
-        ⊎ Says (E.held diag.old) (E.held diag.new) (E.faults diag.old) (E.faults diag.new)
-        result.status Memory }
-    ensures untouched { ¬ AskForRun words.now → ¬ HasLink words.now wires.items
-        → Keeps (I.left input.old) (I.left input.new) × Keeps (O.held output.old)
-        (O.held output.new) }
-    ensures uncounted { ¬ AskForRun words.now → ¬ HasLink words.now wires.items
-        → (I.faults input.new ≡ I.faults input.old) × (O.faults output.new ≡ O.faults output.old) }
 
-    // A command ends in one of the ways of a run: what the input comes to decides what is written,
-    // the fault that ends it is the one that was counted, and the status and the line on diag
-    // report it. Of `world` what is written is the report of the lines that are done.
-    ensures ends { (command : CommandLine) → Asks words.now command → Runs command
+    // A command on the input and the output alone ends in one of the ways of a run: what the input
+    // comes to decides what is written, the fault that ends it is the one that was counted, and the
+    // status and the line on diag report it. Of `world` what is written is the report of the lines
+    // that are done.
+    ensures ends { (command : LocalCommand) → Asks words.now (Local command)
         → (end : RunEnd)
-        × CommandLeaves command (I.left input.old) (I.left input.new)
+        × (run_of command).leaves (I.left input.old) (I.left input.new)
         (O.held output.old) (O.held output.new) end
         × FaultMatchesEnd (I.faults input.old) (I.faults input.new)
         (O.faults output.old) (O.faults output.new) end
@@ -115,24 +108,22 @@ pub fn drawpile<
     // script and the link come to decides what is printed and what is written to the link. Or
     // memory ran out before the words were read. The link is handed back, and other wires stay.
     ensures joins { (addr name : List ℕ) → Asks words.now (Join addr name) → wires.items ≢ []
-        → HasJoined W.links W.faults W.Rx.left W.Rx.faults W.Tx.held W.Tx.faults name
-        wires.items result.wires.items (streams I.left I.faults O.held O.faults input.old
-        input.new output.old output.new)
+        → HasJoined (wire_seen W.links W.faults W.Rx.left W.Rx.faults W.Tx.held W.Tx.faults)
+        name (effects (streams I.left I.faults O.held O.faults input.old input.new output.old
+        output.new) wires.items result.wires.items (kept result.journal result.shut result.reports))
         (E.held diag.old) (E.held diag.new) (E.faults diag.old) (E.faults diag.new)
         result.status }
 
     // `serve` runs a worker for each wire. What is left of the wires, and what was kept and
     // reported, is what serving a new session over them leaves; the input and the output aren't
     // touched. Or memory ran out before there was a session.
-    ensures serves { (addr : List ℕ) (conns : Option ℕ)
-        → Asks words.now (Serve addr (length wires.items) conns)
+    ensures serves { (addr : List ℕ) (conns : Option ℕ) (service : Service)
+        → Asks words.now (Listen addr (length wires.items) conns service)
         → HasServed (wire_seen W.links W.faults W.Rx.left W.Rx.faults W.Tx.held W.Tx.faults)
-        conns wires.items result.wires.items (kept result.journal result.shut result.reports)
+        conns (effects (streams I.left I.faults O.held O.faults input.old input.new output.old
+        output.new) wires.items result.wires.items (kept result.journal result.shut result.reports))
         (E.held diag.old) (E.held diag.new) (E.faults diag.old) (E.faults diag.new)
         result.status }
-    ensures nothing_kept { ¬ HasWires words.now wires.items
-        → KeepsNothing (kept result.journal result.shut result.reports) }
-    ensures wires_stay { ¬ HasLinks words.now wires.items → result.wires.items ≡ wires.items }
 
     // And whatever the input comes to: after its first lines, however many, each client has taken a
     // prefix of the history of its epoch, its confirmed canvas is that prefix replayed, its view
@@ -140,9 +131,46 @@ pub fn drawpile<
     // nothing and stands in no history.
     ensures headline { IsWorld words.now → IfSome (I.left input.old) HasHeadline }
 
-    // Of all but a server: the input is read to its end. Faults are reported, and none is passed
-    // over.
-    ensures to_end { IsCommand words.now → ¬ HasWires words.now wires.items
+    // Where nothing failed and memory sufficed, an answer is given that the words, the input's
+    // bytes and those of the link of `join` are due, and they are due no other. (What `serve` does
+    // depends on which worker comes first, too: `serves` says it.)
+    ensures complete { ¬ HasWires words.now wires.items
+        → ¬ Rose (I.faults input.old) (I.faults input.new)
+        → ¬ Rose (O.faults output.old) (O.faults output.new)
+        → ¬ Rose (E.faults diag.old) (E.faults diag.new)
+        → result.status ≢ 7 → (HasLink words.now wires.items → result.status ≢ 5)
+        → IfSome (I.left input.old) (λ bytes. (link : Option (List ℕ))
+        → GetsLink (wire_seen W.links W.faults W.Rx.left W.Rx.faults W.Tx.held W.Tx.faults)
+        words.now wires.items link
+        → (answer : Answer) × IsDue words.now bytes link answer
+        × IsGiven answer result.status
+        (O.held output.old) (O.held output.new) (E.held diag.old) (E.held diag.new)) }
+    ensures exact { ¬ HasWires words.now wires.items
+        → ¬ Rose (I.faults input.old) (I.faults input.new)
+        → ¬ Rose (O.faults output.old) (O.faults output.new)
+        → ¬ Rose (E.faults diag.old) (E.faults diag.new)
+        → result.status ≢ 7 → (HasLink words.now wires.items → result.status ≢ 5)
+        → IfSome (I.left input.old) (λ bytes. (link : Option (List ℕ))
+        → GetsLink (wire_seen W.links W.faults W.Rx.left W.Rx.faults W.Tx.held W.Tx.faults)
+        words.now wires.items link
+        → (answer : Answer) → IsDue words.now bytes link answer
+        → IsGiven answer result.status
+        (O.held output.old) (O.held output.new) (E.held diag.old) (E.held diag.new)) }
+
+    // These follow from the clauses above, or from their proofs: what each status says, and what
+    // stays where a command doesn't need it.
+    ensures usage { result.status ≡ 1 → ¬ IsCommand words.now }
+    ensures lacks { result.status ≡ 13 → AskAndLack words.now wires.items }
+    ensures link_fault { result.status ≡ 5 → HasLinks words.now wires.items }
+    ensures untouched { ¬ AskForLocal words.now → ¬ HasLink words.now wires.items
+        → Keeps (I.left input.old) (I.left input.new) × Keeps (O.held output.old)
+        (O.held output.new) }
+    ensures uncounted { ¬ AskForLocal words.now → ¬ HasLink words.now wires.items
+        → (I.faults input.new ≡ I.faults input.old) × (O.faults output.new ≡ O.faults output.old) }
+    ensures nothing_kept { ¬ HasWires words.now wires.items
+        → KeepsNothing (kept result.journal result.shut result.reports) }
+    ensures wires_stay { ¬ HasLinks words.now wires.items → result.wires.items ≡ wires.items }
+    ensures to_end { (command : CommandLine) → Asks words.now command → Reads command
         → (result.status ≡ 0) ⊎ (result.status ≡ 9)
         → IsAtEnd (I.left input.new) }
     ensures fault_told { IsCommand words.now → I.faults input.old < I.faults input.new
@@ -152,8 +180,6 @@ pub fn drawpile<
         → (result.status ≡ 0) ⊎ (result.status ≡ 2) ⊎ (result.status ≡ 8) ⊎ (result.status ≡ 9)
         ⊎ (result.status ≡ 10) ⊎ (result.status ≡ 12)
         → (I.faults input.new ≡ I.faults input.old) × (O.faults output.new ≡ O.faults output.old) }
-
-    // Faults have their causes.
     ensures read_fault { result.status ≡ 3 → Rose (I.faults input.old) (I.faults input.new) }
     ensures write_fault { result.status ≡ 4
         → Rose (O.faults output.old) (O.faults output.new)
@@ -161,31 +187,10 @@ pub fn drawpile<
     ensures input_later { I.faults input.old ≤ I.faults input.new }
     ensures output_later { O.faults output.old ≤ O.faults output.new }
     ensures diag_later { E.faults diag.old ≤ E.faults diag.new }
-
-    // Where nothing failed and memory sufficed, an answer is given that the words and the input's
-    // bytes are due, and they are due no other. (What `join` and `serve` do over links depends on
-    // the links' bytes, too: `joins` and `serves` say it.)
-    ensures complete { ¬ HasLinks words.now wires.items
-        → ¬ Rose (I.faults input.old) (I.faults input.new)
-        → ¬ Rose (O.faults output.old) (O.faults output.new)
-        → ¬ Rose (E.faults diag.old) (E.faults diag.new)
-        → result.status ≢ 7
-        → IfSome (I.left input.old) (λ bytes. (answer : Answer) × IsDue words.now bytes answer
-        × IsGiven answer result.status
-        (O.held output.old) (O.held output.new) (E.held diag.old) (E.held diag.new)) }
-    ensures exact { ¬ HasLinks words.now wires.items
-        → ¬ Rose (I.faults input.old) (I.faults input.new)
-        → ¬ Rose (O.faults output.old) (O.faults output.new)
-        → ¬ Rose (E.faults diag.old) (E.faults diag.new)
-        → result.status ≢ 7
-        → IfSome (I.left input.old) (λ bytes. (answer : Answer) → IsDue words.now bytes answer
-        → IsGiven answer result.status
-        (O.held output.old) (O.held output.new) (E.held diag.old) (E.held diag.new)) }
 {
     one_command_line();
-    one_replay();
-    one_play();
-    one_schedule();
+    local_commands_are_runs();
+    one_outcome();
     headline();
     let Ran {
         ending,

@@ -1,22 +1,26 @@
 //! Running what the words ask for.
 
-ghost use Rattle.std.specs.Prelude.{◌≡◌, ◌≤◌, ◌⊎◌, [], length};
-ghost use Rattle.dp_app.specs.Endings.{EndsCommand, EndsWords, streams};
-ghost use Rattle.dp_app.specs.Joins.{AskAndLack, EndsJoin, EndsLocally, FitsLimits, JoinsAs};
-ghost use Rattle.dp_app.specs.Joins.{JoinsBy, LacksWires};
-ghost use Rattle.dp_app.specs.Servers.{KeepsNothing, ServesAs, ServesBy, kept, wire_seen};
+ghost use Rattle.std.specs.Prelude.{◌≡◌, ◌≤◌, ℕ, List, length};
+ghost use Rattle.dp_lines.specs.RunEnds.{FaultMatchesEnd};
+ghost use Rattle.dp_words.specs.CommandLines.{FitsLimits};
+ghost use Rattle.dp_words.specs.declared.command_line.CommandLine.TheVariants.{Join};
+ghost use Rattle.dp_app.specs.Endings.{Kept, KeepsNothing, effects, kept, streams};
+ghost use Rattle.dp_app.specs.Endings.{wire_seen};
+ghost use Rattle.dp_app.specs.Kinds.{EndsCommand, EndsWords};
+ghost use Rattle.dp_app.specs.Runs.{run_of};
 
 use crate::ending::Ending;
 use crate::server::run_server;
 use dp_events::{Journal, Shut};
 use dp_io::{Sink, Source};
 use dp_joining::run_join;
+use dp_lines::RunEnd;
 use dp_msg_meta::Text;
 use dp_serve::Reports;
 use dp_steps::Steps;
 use dp_viewer::{run_play, run_replay};
 use dp_wire::{Gate, Wire};
-use dp_words::{CommandLine, read_words};
+use dp_words::{CommandLine, LocalCommand, read_words};
 use dp_world::run_world;
 use std::alloc::{AllocError, Global};
 use std::sync::Wait;
@@ -70,18 +74,12 @@ pub(crate) fn run_words<
     draws: &mut Steps<D>,
     tiles: &mut Steps<T>,
 ) -> Ran<W>
-    ensures ends { ((EndsLocally
-        (EndsWords words.now (streams I.left I.faults O.held O.faults input.old input.new
-        output.old output.new) result.ending)
-        (AskAndLack words.now wires.items) wires.items result.wires.items result.ending
-        ⊎ JoinsBy W.links W.faults W.Rx.left W.Rx.faults W.Tx.held W.Tx.faults words.now
-        wires.items result.wires.items (streams I.left I.faults O.held O.faults input.old
-        input.new output.old output.new) result.ending)
-        × KeepsNothing (kept result.journal result.shut result.reports))
-        ⊎ ServesBy (wire_seen W.links W.faults W.Rx.left W.Rx.faults W.Tx.held W.Tx.faults)
-        words.now wires.items result.wires.items (streams I.left I.faults O.held O.faults
-        input.old input.new output.old output.new)
-        (kept result.journal result.shut result.reports) result.ending }
+    ensures ends { EndsWords
+        (wire_seen W.links W.faults W.Rx.left W.Rx.faults W.Tx.held W.Tx.faults)
+        words.now
+        (effects (streams I.left I.faults O.held O.faults input.old input.new output.old output.new)
+        wires.items result.wires.items (kept result.journal result.shut result.reports))
+        result.ending }
     ensures input_later { I.faults input.old ≤ I.faults input.new }
     ensures output_later { O.faults output.old ≤ O.faults output.new }
 {
@@ -115,42 +113,52 @@ fn run_command<
     tiles: &mut Steps<T>,
 ) -> Ran<W>
     requires { FitsLimits command.now }
-    ensures ends { ((EndsLocally
-        (EndsCommand command.now (streams I.left I.faults O.held O.faults input.old input.new
-        output.old output.new) result.ending)
-        (LacksWires command.now wires.items) wires.items result.wires.items result.ending
-        ⊎ JoinsAs W.links W.faults W.Rx.left W.Rx.faults W.Tx.held W.Tx.faults command.now
-        wires.items result.wires.items (streams I.left I.faults O.held O.faults input.old
-        input.new output.old output.new) result.ending)
-        × KeepsNothing (kept result.journal result.shut result.reports))
-        ⊎ ServesAs (wire_seen W.links W.faults W.Rx.left W.Rx.faults W.Tx.held W.Tx.faults)
-        command.now wires.items result.wires.items (streams I.left I.faults O.held O.faults
-        input.old input.new output.old output.new)
-        (kept result.journal result.shut result.reports) result.ending }
+    ensures ends { EndsCommand
+        (wire_seen W.links W.faults W.Rx.left W.Rx.faults W.Tx.held W.Tx.faults)
+        command.now
+        (effects (streams I.left I.faults O.held O.faults input.old input.new output.old output.new)
+        wires.items result.wires.items (kept result.journal result.shut result.reports))
+        result.ending }
     ensures input_later { I.faults input.old ≤ I.faults input.new }
     ensures output_later { O.faults output.old ≤ O.faults output.new }
 {
     match command {
-        CommandLine::Replay => {
-            let end = run_replay(alloc, input, output, draws, tiles);
-            Ran::without(alloc, Ending::Run(end), wires)
-        }
-        CommandLine::World => {
-            let end = run_world(alloc, input, output, draws, tiles);
-            Ran::without(alloc, Ending::Run(end), wires)
-        }
-        CommandLine::Play { at } => {
-            let end = run_play(alloc, input, output, *at, draws, tiles);
+        CommandLine::Local(command) => {
+            let end = run_local(alloc, command, input, output, draws, tiles);
             Ran::without(alloc, Ending::Run(end), wires)
         }
         CommandLine::Join { addr: _, name } => {
             run_link(alloc, name, input, output, wires, draws, tiles)
         }
-        CommandLine::Serve {
+        CommandLine::Listen {
             addr: _,
             workers,
             conns,
+            service: _,
         } => run_server(rt, alloc, wires, *workers, *conns, gate),
+    }
+}
+
+/// Runs a command on the input and the output alone.
+fn run_local<I: Source, O: Sink, D: Ledger, T: Ledger>(
+    alloc: Global,
+    command: &LocalCommand,
+    input: &mut I,
+    output: &mut O,
+    draws: &mut Steps<D>,
+    tiles: &mut Steps<T>,
+) -> RunEnd
+    ensures leaves { (run_of command.now).leaves (I.left input.old) (I.left input.new)
+        (O.held output.old) (O.held output.new) result }
+    ensures fault { FaultMatchesEnd (I.faults input.old) (I.faults input.new)
+        (O.faults output.old) (O.faults output.new) result }
+    ensures input_later { I.faults input.old ≤ I.faults input.new }
+    ensures output_later { O.faults output.old ≤ O.faults output.new }
+{
+    match command {
+        LocalCommand::Replay => run_replay(alloc, input, output, draws, tiles),
+        LocalCommand::World => run_world(alloc, input, output, draws, tiles),
+        LocalCommand::Play { at } => run_play(alloc, input, output, *at, draws, tiles),
     }
 }
 
@@ -165,10 +173,12 @@ fn run_link<I: Source, O: Sink, W: Wire, D: Ledger, T: Ledger>(
     tiles: &mut Steps<T>,
 ) -> Ran<W>
     requires { length name.now ≤ 32 }
-    ensures ends { EndsJoin W.links W.faults W.Rx.left W.Rx.faults W.Tx.held W.Tx.faults name.now
-        wires.items result.wires.items (streams I.left I.faults O.held O.faults input.old input.new
-        output.old output.new) result.ending }
-    ensures nothing { KeepsNothing (kept result.journal result.shut result.reports) }
+    ensures ends { (addr : List ℕ) → EndsCommand
+        (wire_seen W.links W.faults W.Rx.left W.Rx.faults W.Tx.held W.Tx.faults)
+        (Join addr name.now)
+        (effects (streams I.left I.faults O.held O.faults input.old input.new output.old output.new)
+        wires.items result.wires.items (kept result.journal result.shut result.reports))
+        result.ending }
     ensures input_later { I.faults input.old ≤ I.faults input.new }
     ensures output_later { O.faults output.old ≤ O.faults output.new }
 {
@@ -188,9 +198,11 @@ fn join_first<I: Source, O: Sink, W: Wire, D: Ledger, T: Ledger>(
     tiles: &mut Steps<T>,
 ) -> Ending
     requires { length name.now ≤ 32 }
-    ensures ends { EndsJoin W.links W.faults W.Rx.left W.Rx.faults W.Tx.held W.Tx.faults name.now
-        wires.old wires.new (streams I.left I.faults O.held O.faults input.old
-        input.new output.old output.new) result }
+    ensures ends { (addr : List ℕ) (nothing : Kept) → KeepsNothing nothing → EndsCommand
+        (wire_seen W.links W.faults W.Rx.left W.Rx.faults W.Tx.held W.Tx.faults)
+        (Join addr name.now)
+        (effects (streams I.left I.faults O.held O.faults input.old input.new output.old output.new)
+        wires.old wires.new nothing) result }
     ensures input_later { I.faults input.old ≤ I.faults input.new }
     ensures output_later { O.faults output.old ≤ O.faults output.new }
 {

@@ -1,7 +1,11 @@
 //! Running a server.
 
-ghost use Rattle.std.specs.Prelude.{◌≡◌, ◌≤◌};
-ghost use Rattle.dp_app.specs.Servers.{EndsServer, kept, server_end, wire_seen};
+ghost use Rattle.std.specs.Prelude.{◌≡◌, ◌≤◌, ℕ, List};
+ghost use Rattle.dp_words.specs.declared.command_line.CommandLine.TheVariants.{Listen};
+ghost use Rattle.dp_words.specs.declared.command_line.Service.{Service};
+ghost use Rattle.dp_app.specs.Endings.{Streams, Untouched, effects, kept, wire_seen};
+ghost use Rattle.dp_app.specs.Kinds.{EndsCommand};
+ghost use Rattle.dp_app.specs.Servers.{server_end};
 
 use crate::ending::Ending;
 use crate::running::Ran;
@@ -24,9 +28,11 @@ pub(crate) fn run_server<R: Threads + Wait + Sync, W: Wire + Send, G: Gate>(
     gate: &G,
 ) -> Ran<W>
     requires { workers ≤ 64 }
-    ensures { EndsServer (wire_seen W.links W.faults W.Rx.left W.Rx.faults W.Tx.held W.Tx.faults)
-        workers conns wires.items result.wires.items
-        (kept result.journal result.shut result.reports) result.ending }
+    ensures { (addr : List ℕ) (service : Service) (s : Streams) → Untouched s → EndsCommand
+        (wire_seen W.links W.faults W.Rx.left W.Rx.faults W.Tx.held W.Tx.faults)
+        (Listen addr workers conns service)
+        (effects s wires.items result.wires.items
+        (kept result.journal result.shut result.reports)) result.ending }
 {
     if wires.len() != workers as usize {
         return Ran::without(alloc, Ending::NoLink, wires);

@@ -1,7 +1,7 @@
 //! Word lists of each kind, and the devices that they want.
 
 use Wanted::*;
-use dp_words::{CommandLine, Devices, read_words, wanted};
+use dp_words::{CommandLine, Devices, LocalCommand, read_words, wanted};
 use std::alloc::Global;
 use std::process::Abort;
 
@@ -91,21 +91,30 @@ fn words_of(rt: &impl Abort, alloc: Global, line: &str) -> Vec<String> {
     words
 }
 
+/// Whether a command on the input and the output is the one that is wanted.
+fn is_wanted_local(command: &LocalCommand, wanted: Wanted) -> bool {
+    match (command, wanted) {
+        (LocalCommand::Replay, Replay) | (LocalCommand::World, World) => true,
+        (LocalCommand::Play { at }, Play(wanted)) => *at == wanted,
+        _ => false,
+    }
+}
+
 /// Whether a command line is the one that is wanted.
 fn is_wanted(line: &Option<CommandLine>, wanted: Wanted) -> bool {
     match (line, wanted) {
-        (Some(CommandLine::Replay), Replay) | (Some(CommandLine::World), World) | (None, Bad) =>
-            true,
-        (Some(CommandLine::Play { at }), Play(wanted)) => *at == wanted,
+        (Some(CommandLine::Local(command)), _) => is_wanted_local(command, wanted),
+        (None, Bad) => true,
         (Some(CommandLine::Join { addr, name }), Join(to, by)) => {
             addr.as_str() == to && name.as_str() == by
         }
         (
             Some(
-                CommandLine::Serve {
+                CommandLine::Listen {
                     addr,
                     workers,
                     conns,
+                    service: _,
                 },
             ),
             Serve(at, count, links),

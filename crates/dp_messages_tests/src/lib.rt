@@ -1,14 +1,7 @@
-//! The tests of messages, of the entries that are read from frames, of recordings, and of the lines
-//! of reports: what no row of `dp_rows` shows.
+//! The tests of messages and of their payloads: what no row of `dp_rows` shows.
 #![tactic(auto)]
 
 #[cfg(test)]
 mod drawing;
 #[cfg(test)]
-mod entries;
-#[cfg(test)]
 mod messages;
-#[cfg(test)]
-mod recording;
-#[cfg(test)]
-mod schedule;

@@ -1,6 +1,6 @@
 -- Feet that are one rectangle.
-use Rattle.std.proofs.Common.{◌≡◌, ◌==◌, ◌*◌, true, Some, ap, subst, sym, ◌∙◌, arith}
-use Rattle.std.specs.Prelude.{ℤ, pos, ◌≤ℤ◌}
+use Rattle.std.proofs.Common.{◌≡◌, ℕ, ◌==◌, ◌*◌, ◌<◌, true, Some, ap, subst, sym, ◌∙◌, arith}
+use Rattle.std.specs.Prelude.{ℤ, pos, ◌≤ℤ◌, ◌^◌, unsigned_abs}
 use Rattle.std.proofs.lemmas.Bool.{cond_both}
 use Rattle.std.specs.Int.{int_min}
 use Rattle.std.proofs.lemmas.Int.{ints, int_max_is, int_min_is}
@@ -14,7 +14,8 @@ use Rattle.dp_pixels.specs.Feet.{around, foot, greatest_canvas, is_in_foot, on_g
 use Rattle.dp_pixels.specs.Feet.{squares_of, squares_of_foot}
 use Rattle.dp_pixels.specs.Dabs.{placed_dabs}
 use Rattle.dp_pixels.specs.Rectangles.{is_in, rect_at}
-use Rattle.dp_paint.specs.Painting.{IsOnGreatest, foot_area}
+use Rattle.dp_paint.specs.Painting.{IsNear, IsOnGreatest, foot_area}
+use Rattle.dp_paint.specs.Reading.{IsMove}
 
 -- its squares are those of the foot
 pub area_squares : (r : Rect) (f : Footprint) → foot_area f ≡ Some r
@@ -74,3 +75,52 @@ area_within (op.PutTile layer col row repeat content) r is =
     (λ _. greatest_within (rect_at (pos (col * 64)) (pos (row * 64)) 64 64))
     (λ _. greatest_within greatest_canvas))
 area_within _ r is = absurd (none-some r is)
+
+-- ---- feet of MoveRect
+
+abbrev from_of : Footprint → Rect → Rect
+from_of (Two layer from to) other = from
+from_of _ other = other
+
+abbrev to_of : Footprint → Rect → Rect
+to_of (Two layer from to) other = to
+to_of _ other = other
+
+module _ (layer sx sy w h : ℕ) (tx ty : ℤ) (other : ℕ) (from to : Rect)
+    (is : foot (op.MoveRect layer sx sy w h tx ty) ≡ Two other from to) where
+  pub rects_from : from ≡ on_greatest (rect_at (pos sx) (pos sy) w h)
+  rects_from = sym (ap (λ f. from_of f from) is)
+
+  pub rects_to : to ≡ on_greatest (rect_at tx ty w h)
+  rects_to = sym (ap (λ f. to_of f to) is)
+
+near_side : (z : ℤ) → unsigned_abs (on_side z) < 2 ^ 38
+near_side z = omega (arith, ints, (side_within z).low, (side_within z).high)
+
+pub greatest_near : (r : Rect) → IsNear (on_greatest r)
+greatest_near r = record {
+  left = near_side r.x0;
+  top = near_side r.y0;
+  right = near_side r.x1;
+  bottom = near_side r.y1;
+}
+
+-- its rectangles are on the greatest canvas
+pub record AreRects (first second : Rect) : Type 0 where
+  pub from : IsOnGreatest first
+  pub to : IsOnGreatest second
+  pub near : IsNear first
+
+pub move_within : (d : Draw) → IsMove d → (layer : ℕ) (from to : Rect)
+    → foot d ≡ Two layer from to → AreRects from to
+move_within (op.MoveRect own sx sy w h tx ty) move layer from to is =
+    let source = rect_at (pos sx) (pos sy) w h in
+    let target = rect_at tx ty w h in
+    let first = sym (rects_from own sx sy w h tx ty layer from to is) in
+    record {
+      from = subst IsOnGreatest first (greatest_within source);
+      to = subst IsOnGreatest (sym (rects_to own sx sy w h tx ty layer from to is))
+          (greatest_within target);
+      near = subst IsNear first (greatest_near source);
+    }
+move_within _ move layer from to is = absurd move

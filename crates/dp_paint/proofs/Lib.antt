@@ -7,6 +7,7 @@ pub mod FootLemmas
 pub mod Moving
 pub mod Painting
 pub mod Plain
+pub mod Puts
 pub mod Read
 pub mod Resized
 pub mod RowLemmas

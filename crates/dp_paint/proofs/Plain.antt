@@ -1,18 +1,20 @@
 -- Tiles of one colour that a command fills.
-use Rattle.std.proofs.Common.{◌≡◌, ℕ, ◌+◌, ◌*◌, ◌<◌, ◌≤◌, List, arith}
-use Rattle.std.proofs.Common.{ap, sym, ◌∙◌, refl, true}
+use Rattle.std.proofs.Common.{◌≡◌, ℕ, ◌+◌, ◌*◌, ◌<◌, ◌≤◌, List, length, arith}
+use Rattle.std.proofs.Common.{ap, sym, ◌∙◌, refl, Bool, true, false, cond, Some, None}
+use Rattle.std.specs.Prelude.{Option}
 use Rattle.std.specs.Prelude.{pos, ℤ}
 use Rattle.std.specs.Option.{option_map_or}
 use Rattle.std.proofs.lemmas.Int.{ints}
 use Rattle.std.proofs.lemmas.Bool.{cond-true}
 use Rattle.dp_blend.specs.Color.{Channels, of_argb}
 use Rattle.dp_blend.specs.Blending.{blend, mode_numbered}
+use Rattle.dp_blend.specs.declared.modes.Mode.{Mode}
 use Rattle.dp_blend.specs.Canvas.{pixel_at}
 use Rattle.dp_msg_draw.specs.declared.draw.Draw.{Draw}
 use Rattle.dp_msg_draw.specs.declared.draw.Draw.TheVariants as draws
 use Rattle.dp_pixels.specs.declared.rect.Rect.{Rect}
 use Rattle.dp_pixels.specs.Rectangles.{canvas_rect, is_in, rect_at}
-use Rattle.dp_pixels.specs.Commands.{filled, pixel_after, pixel_drawn}
+use Rattle.dp_pixels.specs.Commands.{IsDabs, filled, pixel_after, pixel_drawn}
 use Rattle.dp_pixels.proofs.Rectangles.{is_in_by}
 use Rattle.dp_tile.specs.Tiles.{tile_of}
 use Rattle.dp_tile.proofs.Tiles.{length-tile_of, pixel-tile_of}
@@ -36,46 +38,24 @@ within_fill : (mode color : ℕ) (area : Rect) (x y : ℤ) (p : Channels) → is
     ≡ option_map_or (λ m. blend m (of_argb color) p) (mode_numbered mode) p
 within_fill mode color area x y p inside = rw inside refl
 
--- it is the same at any place in the rectangle
-fill_same : (layer mode x y w h color : ℕ) (a b c d : ℤ) (p : Channels)
-    → is_in (rect_at (pos x) (pos y) w h) a b ≡ true
-    → is_in (rect_at (pos x) (pos y) w h) c d ≡ true
-    → pixel_after (draws.FillRect layer mode x y w h color) a b p
-    ≡ pixel_after (draws.FillRect layer mode x y w h color) c d p
-fill_same layer mode x y w h color a b c d p one other =
-    within_fill mode color (rect_at (pos x) (pos y) w h) a b p one
-    ∙ sym (within_fill mode color (rect_at (pos x) (pos y) w h) c d p other)
-
--- the corner of a tile that is within a rectangle
-corner_in : (width height : ℕ) (area : Rect) (col row : ℕ) → IsTileWithin width height area col row
-    → is_in area (pos (col * 64)) (pos (row * 64)) ≡ true
-corner_in width height area col row within =
-    let at_x : col * 64 + 0 ≡ col * 64 = omega arith in
-    let at_y : row * 64 + 0 ≡ row * 64 = omega arith in
-    ap (λ k. is_in area (pos k) (pos (row * 64))) (sym at_x)
-    ∙ ap (λ k. is_in area (pos (col * 64 + 0)) (pos k)) (sym at_y)
-    ∙ (within 0 0 (omega arith) (omega arith)).0
-
 -- a tile of one colour that is filled, the whole of it
 pub filled_tile : (width height layer mode x y w h color col row : ℕ) (p : Channels)
     → IsTileWithin width height (rect_at (pos x) (pos y) w h) col row
     → tile_drawn width height (draws.FillRect layer mode x y w h color) col row (tile_of p)
-    ≡ tile_of (pixel_after (draws.FillRect layer mode x y w h color) (pos (col * 64))
-    (pos (row * 64)) p)
+    ≡ tile_of (option_map_or (λ m. blend m (of_argb color) p) (mode_numbered mode) p)
 filled_tile width height layer mode x y w h color col row p within =
     let op = draws.FillRect layer mode x y w h color in
     let area = rect_at (pos x) (pos y) w h in
-    let first = corner_in width height area col row within in
-    becomes width height op col row (tile_of p) (pixel_after op (pos (col * 64)) (pos (row * 64)) p)
+    becomes width height op col row (tile_of p)
+    (option_map_or (λ m. blend m (of_argb color) p) (mode_numbered mode) p)
     (λ i j in_x in_y.
     let here = within i j in_x in_y in
     let old : pixel_at 64 (tile_of p) i j ≡ p = pixel-tile_of p (j * 64 + i)
     (omega (arith, in_x, in_y)) in
     ap (pixel_drawn width height op (pos (col * 64 + i)) (pos (row * 64 + j))) old
     ∙ cond-true (is_in (canvas_rect width height) (pos (col * 64 + i)) (pos (row * 64 + j)))
-    (pixel_after op (pos (col * 64 + i)) (pos (row * 64 + j)) p) p here.1
-    ∙ fill_same layer mode x y w h color (pos (col * 64 + i)) (pos (row * 64 + j))
-    (pos (col * 64)) (pos (row * 64)) p here.0 first)
+    (filled mode area color (pos (col * 64 + i)) (pos (row * 64 + j)) p) p here.1
+    ∙ within_fill mode color area (pos (col * 64 + i)) (pos (row * 64 + j)) p here.0)
 
 -- a tile on both sides
 pub tile_within : (width height x y w h col row : ℕ) → (x ≤ col * 64) × (col * 64 + 64 ≤ x + w)
@@ -110,27 +90,69 @@ pub fill_becomes : (width height : ℕ) (op : Draw) (layer mode x y w h color co
     (p q : Channels) (pixels : List Channels)
     → op ≡ draws.FillRect layer mode x y w h color
     → IsTileWithin width height (rect_at (pos x) (pos y) w h) col row
-    → q ≡ pixel_after op (pos (col * 64)) (pos (row * 64)) p → pixels ≡ tile_of p
-    → tile_drawn width height op col row pixels ≡ tile_of q
+    → q ≡ option_map_or (λ m. blend m (of_argb color) p) (mode_numbered mode) p
+    → pixels ≡ tile_of p → tile_drawn width height op col row pixels ≡ tile_of q
 fill_becomes width height op layer mode x y w h color col row p q pixels is within after plain =
     rw (after, plain, is) (filled_tile width height layer mode x y w h color col row p within)
 
--- the same, of a tile of a row, by the pixel in the corner of another
-pub fill_of_row_becomes : (width height : ℕ) (op : Draw)
-    (layer mode x y w h color other col row : ℕ) (p q : Channels) (pixels : List Channels)
+-- ---- tiles that stay
+
+-- a tile whose pixels all stay
+pub keeps : (width height : ℕ) (op : Draw) (col row : ℕ) (pixels : List Channels)
+    → length pixels ≡ 4096
+    → ((i j : ℕ) → i < 64 → j < 64
+    → pixel_drawn width height op (pos (col * 64 + i)) (pos (row * 64 + j)) (pixel_at 64 pixels i j)
+    ≡ pixel_at 64 pixels i j)
+    → tile_drawn width height op col row pixels ≡ pixels
+keeps width height op col row pixels count each =
+    sym (is_tile_drawn width height op col row pixels pixels count
+    (λ i j in_x in_y. sym (each i j in_x in_y)))
+
+-- a tile of a colour that is kept at each place
+pub keeps_tile : (width height : ℕ) (op : Draw) (col row : ℕ) (pixels : List Channels)
+    (p : Channels) → length pixels ≡ 4096 → pixels ≡ tile_of p
+    → ((x y : ℤ) → pixel_drawn width height op x y p ≡ p)
+    → tile_drawn width height op col row pixels ≡ pixels
+keeps_tile width height op col row pixels p count plain each =
+    keeps width height op col row pixels count
+    (λ i j in_x in_y.
+    let x = pos (col * 64 + i) in
+    let y = pos (row * 64 + j) in
+    let old : pixel_at 64 pixels i j ≡ p = ap (λ all. pixel_at 64 all i j) plain
+    ∙ pixel-tile_of p (j * 64 + i) (omega (arith, in_x, in_y)) in
+    ap (pixel_drawn width height op x y) old ∙ each x y ∙ sym old)
+
+-- what is blended in a rectangle alone
+in_part : (mode : Option Mode) (inside : Bool) (blended : Mode → Channels) (p : Channels)
+    → option_map_or blended mode p ≡ p
+    → option_map_or (λ m. cond inside (blended m) p) mode p ≡ p
+in_part None inside blended p is = refl
+in_part (Some m) true blended p is = is
+in_part (Some m) false blended p is = refl
+
+pub on_part : (on : Bool) (q p : Channels) → q ≡ p → cond on q p ≡ p
+on_part true q p is = is
+on_part false q p is = refl
+
+-- a fill that changes nothing of a colour
+pub fill_keeps : (width height : ℕ) (op : Draw) (layer mode x y w h color : ℕ) (p : Channels)
     → op ≡ draws.FillRect layer mode x y w h color
-    → IsTileWithin width height (rect_at (pos x) (pos y) w h) other row
-    → IsTileWithin width height (rect_at (pos x) (pos y) w h) col row
-    → q ≡ pixel_after op (pos (other * 64)) (pos (row * 64)) p → pixels ≡ tile_of p
-    → tile_drawn width height op col row pixels ≡ tile_of q
-fill_of_row_becomes width height op layer mode x y w h color other col row p q pixels is
-    other_within within after plain =
-    let area = rect_at (pos x) (pos y) w h in
-    let same : pixel_after op (pos (other * 64)) (pos (row * 64)) p
-    ≡ pixel_after op (pos (col * 64)) (pos (row * 64)) p
-    = rw is (fill_same layer mode x y w h color (pos (other * 64)) (pos (row * 64))
-    (pos (col * 64)) (pos (row * 64)) p
-    (corner_in width height area other row other_within)
-    (corner_in width height area col row within)) in
-    fill_becomes width height op layer mode x y w h color col row p q pixels is within
-    (after ∙ same) plain
+    → option_map_or (λ m. blend m (of_argb color) p) (mode_numbered mode) p ≡ p
+    → (a b : ℤ) → pixel_drawn width height op a b p ≡ p
+fill_keeps width height op layer mode x y w h color p is same a b =
+    ap (λ c. pixel_drawn width height c a b p) is
+    ∙ on_part (is_in (canvas_rect width height) a b)
+    (filled mode (rect_at (pos x) (pos y) w h) color a b p) p
+    (in_part (mode_numbered mode) (is_in (rect_at (pos x) (pos y) w h) a b)
+    (λ m. blend m (of_argb color) p) p same)
+
+-- dabs that change nothing of a colour
+pub dabs_stay : (width height : ℕ) (op : Draw) (p : Channels) → IsDabs op
+    → ((a b : ℤ) → pixel_after op a b p ≡ p) → (a b : ℤ) → pixel_drawn width height op a b p ≡ p
+dabs_stay width height (draws.DabsRound layer x y red g bl mode dabs) p are same a b =
+    on_part (is_in (canvas_rect width height) a b)
+    (pixel_after (draws.DabsRound layer x y red g bl mode dabs) a b p) p (same a b)
+dabs_stay width height (draws.DabsSquare layer x y red g bl mode dabs) p are same a b =
+    on_part (is_in (canvas_rect width height) a b)
+    (pixel_after (draws.DabsSquare layer x y red g bl mode dabs) a b p) p (same a b)
+dabs_stay width height _ p are same a b = absurd are

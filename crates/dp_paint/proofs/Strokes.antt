@@ -1,25 +1,27 @@
 -- Dabs of a message, tile by tile.
 use Rattle.std.proofs.Common.{◌≡◌, ℕ, ◌+◌, ◌-◌, ◌*◌, ◌<◌, ◌≤◌, List, [], ◌∷◌, ◌++◌, length, get_or}
 use Rattle.std.proofs.Common.{drop, map, fold, cond, Bool, true, false, ◌&&◌, leb, ltb, Some}
-use Rattle.std.proofs.Common.{refl, sym, ◌∙◌, ap, arith}
-use Rattle.std.specs.Prelude.{ℤ, pos}
-use Rattle.std.specs.List.{filter}
+use Rattle.std.proofs.Common.{refl, sym, subst, ◌∙◌, ap, arith}
+use Rattle.std.specs.Prelude.{ℤ, pos, All}
+use Rattle.std.specs.List.{AllByRecursion, enumerate_from, filter}
 use Rattle.std.proofs.lemmas.Bool.{false_from_ne_true, false≢true, le-leb, lt-ltb}
 use Rattle.std.proofs.lemmas.Bool.{and_right, and_parts, leb-true, ltb-true}
 use Rattle.std.proofs.lemmas.Int.{ints}
 use Rattle.std.proofs.lemmas.List.{append-nil, get_or-map, length-map, length-take, length-drop}
-use Rattle.std.proofs.lemmas.List.Elements.{filter-append}
+use Rattle.std.proofs.lemmas.List.Elements.{filter-append, recursion_from_All}
 use borrow.Rule.Slice.PartMut.{mid_of, put_mid, same_len_mid}
-use Rattle.dp_blend.specs.Color.{Channels, clear}
+use Rattle.dp_blend.specs.Color.{Channels, clear, fade, from8}
+use Rattle.dp_blend.specs.Blending.{blend}
 use Rattle.dp_blend.specs.Canvas.{pixel_at}
 use Rattle.dp_blend.proofs.Canvas.{is_canvas_of, canvas_of-same}
 use Rattle.dp_msg_draw.specs.declared.draw.Draw.{Draw}
+use Rattle.dp_msg_draw.specs.declared.lists.Dab.{Dab}
 use Rattle.dp_pixels.specs.declared.rect.Rect.{Rect}
 use Rattle.dp_pixels.specs.declared.region.Region.{Region}
 use Rattle.dp_pixels.specs.declared.dabs.PlacedDab.{PlacedDab}
 use Rattle.dp_pixels.specs.declared.stroke.Brush.{Brush}
 use Rattle.dp_pixels.specs.Rectangles.{canvas_rect, is_in, share_place}
-use Rattle.dp_pixels.specs.Dabs.{dab_rect}
+use Rattle.dp_pixels.specs.Dabs.{dab_covers, dab_rect, placed_dabs}
 use Rattle.dp_pixels.specs.Commands.{IsDabs, dab_blended, dabs_blended, pixel_after, pixel_drawn}
 use Rattle.dp_pixels.specs.Strokes.{brush_of, dabs_of_command}
 use Rattle.dp_pixels.specs.Regions.{IsPainted, on_canvas}
@@ -30,9 +32,12 @@ use Rattle.dp_pixels.proofs.Messages.{message_by_dabs}
 use Rattle.dp_pixels.proofs.Strokes.{drawn_dabs}
 use Rattle.dp_tile.specs.declared.area.CellArea.{CellArea}
 use Rattle.dp_tile.specs.Areas.{is_in_cells}
+use Rattle.dp_tile.specs.Tiles.{tile_of}
+use Rattle.dp_tile.proofs.Tiles.{pixel-tile_of}
 use Rattle.dp_paint.specs.declared.stroke.StrokePainter.{StrokePainter}
 use Rattle.dp_paint.specs.Painting.{tile_drawn}
-use Rattle.dp_paint.specs.Strokes.{AreFiled, IsFiled, dabs_at, dabs_on, meets_stretch}
+use Rattle.dp_paint.proofs.Plain.{on_part}
+use Rattle.dp_paint.specs.Strokes.{AreFiled, IsFiled, KeepsColor, dabs_at, dabs_on, meets_stretch}
 use Rattle.dp_paint.specs.Strokes.{pixel_stroked, tile_square, tile_stroked}
 
 -- ---- the tiles of a row that a square meets
@@ -266,3 +271,52 @@ stroked_window p col row region dabs old new at_x at_y wide high in_width in_hei
     (is.inside i j clear (omega (arith, wide, in_x)) (omega (arith, high, in_y))))
 
 -- ---- grids
+
+-- ---- dabs that change nothing of a colour
+
+pub dabs_kept : (brush : Brush) (color : Channels) (dabs : List PlacedDab)
+    → AllByRecursion (λ (dab : PlacedDab). KeepsColor brush color dab.opacity) dabs → (x y : ℤ)
+    → dabs_blended brush.shape brush.mode brush.color dabs x y color ≡ color
+dabs_kept brush color [] all x y = refl
+dabs_kept brush color (dab ∷ dabs) all x y =
+    ap (dabs_blended brush.shape brush.mode brush.color dabs x y)
+    (on_part (dab_covers brush.shape dab x y)
+    (blend brush.mode (fade brush.color (from8 dab.opacity)) color) color all.0)
+    ∙ dabs_kept brush color dabs all.1 x y
+
+-- dabs keep their opacities where they are placed
+kept_placed : (place : ℕ × Dab → PlacedDab) → ((e : ℕ × Dab) → (place e).opacity ≡ e.1.opacity)
+    → (P : ℕ → Type 0) (n : ℕ) (dabs : List Dab)
+    → AllByRecursion (λ (dab : Dab). P dab.opacity) dabs
+    → AllByRecursion (λ (dab : PlacedDab). P dab.opacity) (map place (enumerate_from n dabs))
+kept_placed place same P n [] all = tt
+kept_placed place same P n (dab ∷ dabs) all = (
+  subst P (sym (same (n, dab))) all.0,
+  kept_placed place same P (n + 1) dabs all.1,
+)
+
+pub placed_kept : (brush : Brush) (color : Channels) (x y : ℤ) (dabs : List Dab)
+    → All (λ (dab : Dab). KeepsColor brush color dab.opacity) dabs
+    → AllByRecursion (λ (dab : PlacedDab). KeepsColor brush color dab.opacity)
+    (placed_dabs x y dabs)
+placed_kept brush color x y dabs all =
+    kept_placed _ (λ e. refl) (KeepsColor brush color) 0 dabs
+    (recursion_from_All (λ (dab : Dab). KeepsColor brush color dab.opacity) dabs all)
+
+-- a tile of a colour that is kept at each place
+pub stroked_kept : (p : StrokePainter) (col row : ℕ) (pixels : List Channels) (color : Channels)
+    → length pixels ≡ 4096 → pixels ≡ tile_of color
+    → ((x y : ℤ) → pixel_stroked p col row x y color ≡ color)
+    → tile_stroked p col row pixels ≡ pixels
+unfolding tile_stroked
+stroked_kept p col row pixels color count plain each =
+    sym (is_canvas_of 64 64
+    (λ i j.
+    pixel_stroked p col row (pos (col * 64 + i)) (pos (row * 64 + j)) (pixel_at 64 pixels i j))
+    pixels count
+    (λ i j in_x in_y.
+    let x = pos (col * 64 + i) in
+    let y = pos (row * 64 + j) in
+    let old : pixel_at 64 pixels i j ≡ color = ap (λ all. pixel_at 64 all i j) plain
+    ∙ pixel-tile_of color (j * 64 + i) (omega (arith, in_x, in_y)) in
+    sym (ap (pixel_stroked p col row x y) old ∙ each x y ∙ sym old)))

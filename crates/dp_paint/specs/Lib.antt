@@ -1,4 +1,5 @@
 pub mod Painting
+pub mod Puts
 pub mod Strokes
 pub mod Waiting
 pub mod Reading

@@ -1,6 +1,6 @@
 -- Commands on grids of tiles.
 use Rattle.std.specs.Prelude.{◌≡◌, ℕ, ◌+◌, ◌*◌, ◌<◌, ◌≤◌, pos, ◌≤ℤ◌, true, List, length}
-use Rattle.std.specs.Prelude.{Option, Some, None}
+use Rattle.std.specs.Prelude.{Option, Some, None, unsigned_abs, ◌^◌}
 use Rattle.dp_blend.specs.Color.{Channels}
 use Rattle.dp_blend.specs.Canvas.{canvas_of, pixel_at}
 use Rattle.dp_blend.proofs.Canvas.{length-canvas_of}
@@ -49,6 +49,13 @@ pub record IsOnGreatest (r : Rect) : Type 0 where
   pub top : pos 0 ≤ℤ r.y0
   pub right : r.x1 ≤ℤ pos 4096
   pub bottom : r.y1 ≤ℤ pos 4096
+
+-- the numbers of the rectangle are so near that sums of them fit in 64 bits
+pub record IsNear (r : Rect) : Type 0 where
+  pub left : unsigned_abs r.x0 < 2 ^ 38
+  pub top : unsigned_abs r.y0 < 2 ^ 38
+  pub right : unsigned_abs r.x1 < 2 ^ 38
+  pub bottom : unsigned_abs r.y1 < 2 ^ 38
 
 -- each place of the tile at a column and a row is in the rectangle and on the canvas
 abbrev pub IsTileWithin : ℕ → ℕ → Rect → ℕ → ℕ → Type 0

@@ -72,6 +72,16 @@ laid source right down old under x y =
     then blend Normal (old (x -ℤ right) (y -ℤ down)) (under x y)
     else under x y
 
+-- the rectangle, moved so far
+abbrev pub shifted : Rect → ℤ → ℤ → Rect
+shifted r right down =
+    record {
+      x0 = r.x0 +ℤ right;
+      y0 = r.y0 +ℤ down;
+      x1 = r.x1 +ℤ right;
+      y1 = r.y1 +ℤ down;
+    }
+
 -- pixels at all places, after those in a rectangle moved so far
 abbrev pub moved_part : Rect → ℤ → ℤ → (ℤ → ℤ → Channels) → ℤ → ℤ → Channels
 moved_part source right down old = laid source right down old (cleared source old)

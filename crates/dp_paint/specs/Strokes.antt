@@ -3,11 +3,13 @@ use Rattle.std.specs.Prelude.{◌≡◌, ℕ, ◌+◌, ◌-◌, ◌*◌, ◌<◌
 use Rattle.std.specs.Prelude.{Bool, ◌&&◌, if◌then◌else◌, List, [], length, slice_index_or}
 use Rattle.std.specs.List.{filter}
 use Rattle.std.specs.Int.{int_max, int_min}
-use Rattle.dp_blend.specs.Color.{Channels}
+use Rattle.dp_blend.specs.Color.{Channels, fade, from8}
+use Rattle.dp_blend.specs.Blending.{blend}
 use Rattle.dp_blend.specs.Canvas.{canvas_of, pixel_at}
 use Rattle.dp_blend.proofs.Canvas.{length-canvas_of}
 use Rattle.dp_pixels.specs.declared.rect.Rect.{Rect}
 use Rattle.dp_pixels.specs.declared.dabs.PlacedDab.{PlacedDab}
+use Rattle.dp_pixels.specs.declared.stroke.Brush.{Brush}
 use Rattle.dp_pixels.specs.Rectangles.{canvas_rect, is_in, rect_at, share_place}
 use Rattle.dp_pixels.specs.Dabs.{dab_rect}
 use Rattle.dp_pixels.specs.Commands.{dabs_blended}
@@ -26,6 +28,11 @@ dabs_on col row dabs = filter (λ dab. share_place (dab_rect dab) (tile_square c
 abbrev pub meets_stretch : ℤ → ℤ → ℕ → Bool
 meets_stretch from to stretch =
     int_lt (int_max from (pos (stretch * 64))) (int_min to (pos (stretch * 64) +ℤ pos 64))
+
+-- a dab of this opacity keeps a colour where it covers it
+abbrev pub KeepsColor : Brush → Channels → ℕ → Type 0
+KeepsColor brush color opacity =
+    blend brush.mode (fade brush.color (from8 opacity)) color ≡ color
 
 -- the dabs of each of so many tiles of a row, from a column on
 pub record IsFiled (left count row : ℕ) (dabs : List PlacedDab) (cells : List (List PlacedDab))

@@ -9,11 +9,9 @@ use std::alloc::{AllocError, Global};
 
 /// How many tiles there are along a side.
 pub(crate) fn tiles_along(side: u32) -> u32
-    requires { side ≤ 4096 }
-    ensures value { result ≡ tiles_along side }
-    ensures few { result ≤ 64 }
+    ensures { result ≡ tiles_along side }
 {
-    (side + 63) / 64
+    ((side as u64 + 63) / 64) as u32
 }
 
 /// The grid of a canvas of these sides that shows nothing. It makes no tile.

@@ -2,15 +2,16 @@
 
 ghost use Rattle.std.specs.Prelude.{◌≡◌, [], ◌∷◌, ◌++◌, ℕ, ◌+◌, ◌-◌, ◌*◌, ◌<◌, ◌≤◌, ◌&&◌};
 ghost use Rattle.std.specs.Prelude.{nat_le, nat_lt, List, map, replicate, length};
-ghost use Rattle.std.specs.Prelude.{IsTrue, IfOk, OnOk};
+ghost use Rattle.std.specs.Prelude.{All, IsTrue, IfOk, OnOk, true};
 ghost use Rattle.dp_pixels.specs.declared.dabs.PlacedDab.{PlacedDab};
 ghost use Rattle.dp_pixels.specs.Rectangles.{share_place};
 ghost use Rattle.dp_pixels.specs.Commands.{dabs_blended};
 ghost use Rattle.dp_pixels.specs.Regions.{IsPainted, on_canvas};
-ghost use Rattle.dp_paint.specs.Strokes.{AreFiled, IsFiled, meets_stretch, tile_square};
+ghost use Rattle.dp_paint.specs.Strokes.{AreFiled, IsFiled, KeepsColor, meets_stretch};
+ghost use Rattle.dp_paint.specs.Strokes.{tile_square};
 
 use crate::cells::MAX_SIDE;
-use dp_blend::Pixel;
+use dp_blend::{Pixel, blend, fade, from8};
 use dp_pixels::{Brush, NearDab, Rect, Region, draw_dab};
 use dp_tile::{CellArea, SIDE};
 use std::alloc::{AllocError, Global};
@@ -29,6 +30,13 @@ impl Model for DabList {
     ghost Value = { List PlacedDab };
 
     ghost view = { λ l. map (λ near. near.dab) l.dabs.items };
+}
+
+/// Whether a dab of this opacity keeps a colour.
+pub(crate) fn keeps_color(brush: &Brush, opacity: u8, color: Pixel) -> bool
+    ensures { result ≡ true → KeepsColor brush.now color opacity }
+{
+    blend(brush.mode, fade(brush.color, from8(opacity)), color) == color
 }
 
 impl DabList {
@@ -54,6 +62,19 @@ impl DabList {
         ensures { IsTrue result → self.now ≡ [] }
     {
         self.dabs.is_empty()
+    }
+
+    /// Whether each dab keeps a colour.
+    pub(crate) fn keeps(&self, brush: &Brush, color: Pixel) -> bool
+        ensures { result ≡ true
+            → All (λ (dab : PlacedDab). KeepsColor brush.now color dab.opacity) self.now }
+    {
+        for near in &self.dabs {
+            if !keeps_color(brush, near.dab.opacity, color) {
+                return false;
+            }
+        }
+        true
     }
 
     /// Draws the dabs one after the other on a region as wide as a tile.

@@ -2,27 +2,16 @@
 
 ghost use Rattle.std.specs.Prelude.{◌≡◌, ◌+◌, ◌-◌, ◌*◌, ◌/◌, ◌<◌, ◌≤◌, ℕ, pos, ◌≤ℤ◌, ◌<ℤ◌};
 ghost use Rattle.std.specs.Prelude.{true, Some};
-ghost use Rattle.dp_pixels.specs.Rectangles.{rect_at};
+ghost use Rattle.dp_pixels.specs.declared.feet.Footprint.TheVariants.{Two};
 ghost use Rattle.dp_pixels.specs.Feet.{foot, is_in_foot, squares_of_foot};
 ghost use Rattle.dp_tile.specs.Areas.{is_in_cells};
-ghost use Rattle.dp_paint.specs.Painting.{IsOnGreatest, IsPainting, foot_area};
+ghost use Rattle.dp_paint.specs.Painting.{IsNear, IsOnGreatest, IsPainting, foot_area};
+ghost use Rattle.dp_paint.specs.Reading.{IsMove};
 
 use crate::cells::cells_in;
 use dp_msg_draw::Draw;
 use dp_pixels::{Footprint, Rect, foot};
 use dp_tile::CellArea;
-
-/// The rectangle of this corner and these sides.
-pub(crate) fn rect_of(x: u32, y: u32, w: u32, h: u32) -> Rect
-    ensures { result ≡ rect_at (pos x) (pos y) w h }
-{
-    Rect {
-        x0: x as i64,
-        y0: y as i64,
-        x1: x as i64 + w as i64,
-        y1: y as i64 + h as i64,
-    }
-}
 
 /// The rectangle of the foot of a command.
 fn foot_rect(command: &Draw) -> Rect
@@ -32,6 +21,21 @@ fn foot_rect(command: &Draw) -> Rect
 {
     match foot(command) {
         Footprint::Area { rect, .. } => rect,
+        _ => unreachable!(),
+    }
+}
+
+/// The rectangles of the foot of a MoveRect: the one that it clears, and the one that it moves it
+/// to.
+pub(crate) fn move_rects(command: &Draw) -> (Rect, Rect)
+    requires { IsMove command.now }
+    ensures foot { (layer : ℕ) × (foot command.now ≡ Two layer result.0 result.1) }
+    ensures from { IsOnGreatest result.0 }
+    ensures to { IsOnGreatest result.1 }
+    ensures near { IsNear result.0 }
+{
+    match foot(command) {
+        Footprint::Two { from, to, .. } => (from, to),
         _ => unreachable!(),
     }
 }

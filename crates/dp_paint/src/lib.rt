@@ -12,6 +12,7 @@ mod fetch;
 mod movement;
 mod paint;
 mod painter;
+mod put;
 mod reading;
 mod resize;
 mod rows;

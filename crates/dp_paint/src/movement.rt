@@ -1,30 +1,32 @@
 //! Rectangles that move on a grid.
 
-ghost use Rattle.std.specs.Prelude.{◌≡◌, ℕ, ℤ, ◌+◌, ◌<◌, ◌≤◌, ◌^◌, ◌≤ℤ◌, ◌<ℤ◌, ◌+ℤ◌, ◌-ℤ◌, true};
-ghost use Rattle.std.specs.Prelude.{false, pos};
+ghost use Rattle.std.specs.Prelude.{◌≡◌, ℕ, ℤ, ◌+◌, ◌*◌, ◌<◌, ◌≤◌, ◌^◌, ◌≤ℤ◌, ◌<ℤ◌, ◌+ℤ◌, ◌-ℤ◌};
+ghost use Rattle.std.specs.Prelude.{true, false, pos};
 ghost use Rattle.std.specs.Prelude.{map, length, slice_index_or, unsigned_abs};
 ghost use Rattle.std.specs.Prelude.{IfOk, OnOk, OnErr};
 ghost use Rattle.dp_blend.specs.Color.{Channels, clear};
 ghost use Rattle.dp_blend.specs.Blending.{blend};
 ghost use Rattle.dp_blend.specs.Canvas.{below};
-ghost use Rattle.dp_pixels.specs.Rectangles.{canvas_rect, clipped, rect_at};
+ghost use Rattle.dp_pixels.specs.Rectangles.{canvas_rect, clipped, is_in};
 ghost use Rattle.dp_pixels.specs.Commands.{pixels_after};
 ghost use Rattle.dp_pixels.specs.Feet.{reach};
-ghost use Rattle.dp_tile.specs.Tiles.{grid_pixels};
-ghost use Rattle.dp_paint.specs.Painting.{IsGridOf};
+ghost use Rattle.dp_tile.specs.Tiles.{cells_shown, grid_pixels};
+ghost use Rattle.dp_paint.specs.Painting.{IsGridOf, IsNear};
 ghost use Rattle.dp_paint.specs.Reading.{ArePainted, IsAreaOf, IsMove, cells_of, moved_part};
 ghost use Rattle.dp_paint.specs.Movements.{move_of};
-ghost use Rattle.dp_paint.specs.Reading.{cleared, laid, lifted, row_from, shown};
+ghost use Rattle.dp_paint.specs.Reading.{cleared, laid, lifted, row_from, shifted, shown};
 
-use crate::cells::{cells_in, on_greatest};
-use crate::feet::rect_of;
+use crate::cells::cells_in;
+use crate::feet::move_rects;
 use crate::reading::{Shown, clear_row, count_below, place_after};
 use crate::rows::{RowPainter, RowSource};
 use dp_blend::{Mode, ONE, Pixel, fade_by_one_keeps, row_merge};
 use dp_msg_draw::Draw;
-use dp_pixels::{Rect, pixels_stay_outside_the_foot};
+use dp_pixels::Rect;
 use dp_steps::Steps;
-use dp_tile::{CellArea, Grid, SIDE, TileChange};
+use dp_tile::{
+    CellArea, Grid, SIDE, TileChange, an_area_shows_at_most_its_grid, same_cells_show_alike,
+};
 use std::alloc::AllocError;
 use std::sync::ledger::Ledger;
 
@@ -38,6 +40,8 @@ struct Moved<'a> {
     down: i64,
     ghost near_x0: { unsigned_abs source.x0 < 2 ^ 38 },
     ghost near_x1: { unsigned_abs source.x1 < 2 ^ 38 },
+    ghost near_y0: { unsigned_abs source.y0 < 2 ^ 38 },
+    ghost near_y1: { unsigned_abs source.y1 < 2 ^ 38 },
     ghost near_right: { unsigned_abs right < 2 ^ 38 },
     ghost near_down: { unsigned_abs down < 2 ^ 38 },
 }
@@ -50,6 +54,38 @@ impl Moved<'_> {
             → ⊥ }
     {
         self.source.y0 <= y && y < self.source.y1
+    }
+
+    /// Whether the source has all places of the square of 64 by 64 at a place.
+    fn has_square(self, x: i64, y: i64) -> bool
+        requires x { unsigned_abs x < 2 ^ 39 }
+        requires y { unsigned_abs y < 2 ^ 39 }
+        ensures { result ≡ true → (i j : ℕ) → i < 64 → j < 64
+            → is_in self.entry.source (x +ℤ pos i) (y +ℤ pos j) ≡ true }
+    {
+        has_stretch(self.source.x0, self.source.x1, x)
+            && has_stretch(self.source.y0, self.source.y1, y)
+    }
+
+    /// Whether the source has none of them.
+    fn misses_square(self, x: i64, y: i64) -> bool
+        requires x { unsigned_abs x < 2 ^ 39 }
+        requires y { unsigned_abs y < 2 ^ 39 }
+        ensures { result ≡ true → (i j : ℕ) → i < 64 → j < 64
+            → is_in self.entry.source (x +ℤ pos i) (y +ℤ pos j) ≡ false }
+    {
+        misses_stretch(self.source.x0, self.source.x1, x)
+            || misses_stretch(self.source.y0, self.source.y1, y)
+    }
+
+    /// The places of a rectangle on the canvas to which the source moves.
+    fn target_in(self, to: Rect) -> Rect
+        ensures { result ≡ clipped
+            (clipped to (shifted self.entry.source self.entry.right self.entry.down))
+            (canvas_rect self.entry.old.width self.entry.old.height) }
+    {
+        to.clipped(shifted_rect(self.source, self.right, self.down))
+            .clipped(Rect::canvas(self.old.width, self.old.height))
     }
 
     /// Clears the places of a row that are in the source.
@@ -125,6 +161,43 @@ impl Moved<'_> {
     }
 }
 
+/// Whether all of 64 numbers, from x on, are from one on before another.
+fn has_stretch(from: i64, to: i64, x: i64) -> bool
+    requires { unsigned_abs x < 2 ^ 39 }
+    ensures { result ≡ true → (i : ℕ) → i < 64
+        → (from ≤ℤ (x +ℤ pos i)) × ((x +ℤ pos i) <ℤ to) }
+{
+    from <= x && x + 64 <= to
+}
+
+/// Whether none of them is.
+fn misses_stretch(from: i64, to: i64, x: i64) -> bool
+    requires { unsigned_abs x < 2 ^ 39 }
+    ensures { result ≡ true → (i : ℕ) → i < 64 → from ≤ℤ (x +ℤ pos i)
+        → (x +ℤ pos i) <ℤ to → ⊥ }
+{
+    x + 64 <= from || to <= x
+}
+
+/// The first place of a column or row of tiles.
+fn tile_start(tile: u32) -> i64
+    requires { tile < 64 }
+    ensures value { result ≡ pos (tile * 64) }
+    ensures near { unsigned_abs result < 2 ^ 13 }
+{
+    tile as i64 * 64
+}
+
+/// A place, so far back.
+fn place_back(x: i64, by: i64) -> i64
+    requires x { unsigned_abs x < 2 ^ 13 }
+    requires by { unsigned_abs by < 2 ^ 38 }
+    ensures value { result ≡ x -ℤ by }
+    ensures near { unsigned_abs result < 2 ^ 39 }
+{
+    x - by
+}
+
 /// Blends pixels on those of a row.
 fn lay_row(sources: &[Pixel], row: &mut [Pixel])
     requires { length sources.now ≡ length row.old }
@@ -148,8 +221,14 @@ impl RowSource for Moved<'_> {
         self.lay(x, y, row);
     }
 
-    fn change(&self, _col: u32, _row: u32, _color: Option<Pixel>) -> TileChange {
-        TileChange::Unknown
+    fn change(&self, col: u32, row: u32, _color: Option<Pixel>) -> TileChange {
+        let (x, y) = (tile_start(col), tile_start(row));
+        let (back_x, back_y) = (place_back(x, self.right), place_back(y, self.down));
+        if self.has_square(x, y) && self.misses_square(back_x, back_y) {
+            TileChange::Becomes(Pixel::CLEAR)
+        } else {
+            TileChange::Unknown
+        }
     }
 }
 
@@ -164,18 +243,6 @@ struct Movement {
     ty: i32,
 }
 
-/// The rectangle of this corner and these sides.
-fn target_rect(x: i32, y: i32, w: u32, h: u32) -> Rect
-    ensures { result ≡ rect_at x y w h }
-{
-    Rect {
-        x0: x as i64,
-        y0: y as i64,
-        x1: x as i64 + w as i64,
-        y1: y as i64 + h as i64,
-    }
-}
-
 /// How far it is from a place to another one.
 fn way(from: u32, to: i32) -> i64
     ensures value { result ≡ to -ℤ pos from }
@@ -184,18 +251,35 @@ fn way(from: u32, to: i32) -> i64
     to as i64 - from as i64
 }
 
+/// The rectangle, moved so far.
+fn shifted_rect(rect: Rect, right: i64, down: i64) -> Rect
+    requires near { IsNear rect }
+    requires right { unsigned_abs right < 2 ^ 38 }
+    requires down { unsigned_abs down < 2 ^ 38 }
+    ensures { result ≡ shifted rect right down }
+{
+    Rect {
+        x0: rect.x0 + right,
+        y0: rect.y0 + down,
+        x1: rect.x1 + right,
+        y1: rect.y1 + down,
+    }
+}
+
 /// The part of a rectangle that is on a canvas.
 fn on_canvas(rect: Rect, width: u32, height: u32) -> Rect
-    requires x0 { unsigned_abs rect.x0 < 2 ^ 38 }
-    requires x1 { unsigned_abs rect.x1 < 2 ^ 38 }
+    requires { IsNear rect }
     ensures value { result ≡ clipped rect (canvas_rect width height) }
     ensures x0 { unsigned_abs result.x0 < 2 ^ 38 }
     ensures x1 { unsigned_abs result.x1 < 2 ^ 38 }
+    ensures y0 { unsigned_abs result.y0 < 2 ^ 38 }
+    ensures y1 { unsigned_abs result.y1 < 2 ^ 38 }
 {
     rect.clipped(Rect::canvas(width, height))
 }
 
-/// Paints what moved on two areas of a grid. Where it is refused, one of them may be painted.
+/// Paints what moved on two areas of a grid. Where it is refused, some of their cells may be
+/// painted.
 fn paint_areas<T: Ledger>(
     grid: &mut Grid,
     moved: &Moved,
@@ -211,49 +295,47 @@ fn paint_areas<T: Ledger>(
         grid.old grid.new) }
     ensures tiles_rise { tiles.old ≤ tiles.new }
     ensures few_tiles { tiles.new ≤ tiles.old + cells_of from + cells_of to }
+    ensures few_shown { OnOk result (tiles.new ≤ tiles.old + 2 * cells_shown grid.new) }
 {
+    an_area_shows_at_most_its_grid();
+    same_cells_show_alike();
     let painter = RowPainter { source: moved };
-    grid.paint_area(from, &painter, tiles)?;
-    grid.paint_area(to, &painter, tiles)
+    grid.paint_each(from, &painter, tiles)?;
+    grid.paint_each(to, &painter, tiles)?;
+    grid.known();
+    Ok(())
 }
 
-/// Moves a rectangle on a grid, as another grid of the same pixels shows it. Where it is refused, a
+/// Paints a MoveRect on a grid, as another grid of the same pixels shows it. Where it is refused, a
 /// part may be painted.
 fn paint_move<T: Ledger>(
     grid: &mut Grid,
     old: Shown,
-    movement: Movement,
+    command: &Draw,
     tiles: &mut Steps<T>,
 ) -> Result<(), AllocError>
     requires same { old.grid.now ≡ grid.old }
+    requires command { IsMove command.now }
     ensures grid { OnOk result (IsGridOf old.entry.width old.entry.height grid.new) }
-    ensures pixels { (layer : ℕ) → OnOk result
-        (grid_pixels old.entry.width old.entry.height grid.new
-        ≡ pixels_after old.entry.width old.entry.height (move_of layer movement)
+    ensures pixels { OnOk result (grid_pixels old.entry.width old.entry.height grid.new
+        ≡ pixels_after old.entry.width old.entry.height command.now
         (grid_pixels old.entry.width old.entry.height grid.old)) }
     ensures tiles_rise { tiles.old ≤ tiles.new }
-    ensures few_tiles { (layer : ℕ) → tiles.new ≤ tiles.old + reach (move_of layer movement) }
+    ensures few_tiles { tiles.new ≤ tiles.old + reach command.now }
+    ensures few_shown { OnOk result (tiles.new ≤ tiles.old + 2 * cells_shown grid.new) }
 {
-    pixels_stay_outside_the_foot();
-    let Movement {
-        sx,
-        sy,
-        w,
-        h,
-        tx,
-        ty,
-    } = movement;
-    let source = rect_of(sx, sy, w, h);
+    let movement = movement_of(command);
+    let (from, to) = move_rects(command);
     let moved = Moved {
         old,
-        source: on_canvas(source, old.width, old.height),
-        right: way(sx, tx),
-        down: way(sy, ty),
+        source: on_canvas(from, old.width, old.height),
+        right: way(movement.sx, movement.tx),
+        down: way(movement.sy, movement.ty),
     };
     let (cols, rows) = (old.grid.cols(), old.grid.rows());
-    let from = cells_in(on_greatest(source), cols, rows);
-    let to = cells_in(on_greatest(target_rect(tx, ty, w, h)), cols, rows);
-    paint_areas(grid, &moved, from, to, tiles)
+    let cleared = cells_in(moved.source, cols, rows);
+    let laid = cells_in(moved.target_in(to), cols, rows);
+    paint_areas(grid, &moved, cleared, laid, tiles)
 }
 
 /// The movement of a MoveRect.
@@ -282,7 +364,7 @@ fn movement_of(command: &Draw) -> Movement
     }
 }
 
-/// Paints a MoveRect on a grid.
+/// Paints a MoveRect on a grid. It makes no tile for a cell that shows nothing then.
 ///
 /// # Errors
 ///
@@ -302,6 +384,7 @@ pub fn move_in_place<T: Ledger>(
     ensures err { OnErr result (grid.new ≡ grid.old) }
     ensures tiles_rise { tiles.old ≤ tiles.new }
     ensures few_tiles { tiles.new ≤ tiles.old + reach command.now }
+    ensures few_shown { OnOk result (tiles.new ≤ tiles.old + 2 * cells_shown grid.new) }
 {
     let old = grid.share()?;
     let shown = Shown {
@@ -309,7 +392,7 @@ pub fn move_in_place<T: Ledger>(
         width,
         height,
     };
-    match paint_move(grid, shown, movement_of(command), tiles) {
+    match paint_move(grid, shown, command, tiles) {
         Ok(()) => Ok(()),
         Err(refused) => {
             *grid = old;
@@ -318,7 +401,8 @@ pub fn move_in_place<T: Ledger>(
     }
 }
 
-/// The grid after a MoveRect. It shares the tiles that the command doesn't change.
+/// The grid after a MoveRect. It shares the tiles that the command doesn't change, and no tile is
+/// made for a cell that shows nothing.
 pub fn move_one<T: Ledger>(
     grid: &Grid,
     width: u32,
@@ -333,6 +417,7 @@ pub fn move_one<T: Ledger>(
         ≡ pixels_after width height command.now (grid_pixels width height grid.now)) }
     ensures tiles_rise { tiles.old ≤ tiles.new }
     ensures few_tiles { tiles.new ≤ tiles.old + reach command.now }
+    ensures few_shown { IfOk result (λ moved. tiles.new ≤ tiles.old + 2 * cells_shown moved) }
 {
     let mut moved = grid.share()?;
     move_in_place(&mut moved, width, height, command, tiles)?;

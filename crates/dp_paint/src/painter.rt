@@ -1,14 +1,21 @@
 //! What a command does to a tile.
 
-ghost use Rattle.std.specs.Prelude.{◌≡◌, ℕ, ◌+◌, ◌*◌, ◌<◌, ◌≤◌, pos, true, false, IsTrue, length};
+ghost use Rattle.std.specs.Prelude.{◌≡◌, ℕ, ◌+◌, ◌*◌, ◌<◌, ◌≤◌, pos, true, false, length};
+ghost use Rattle.std.specs.Prelude.{Option, Some};
+ghost use Rattle.std.specs.Option.{option_map_or};
+ghost use Rattle.dp_blend.specs.Color.{Channels, of_argb};
+ghost use Rattle.dp_blend.specs.Blending.{blend, mode_numbered};
 ghost use Rattle.dp_pixels.specs.Rectangles.{rect_at};
-ghost use Rattle.dp_pixels.specs.Commands.{is_stamp, pixel_after};
+ghost use Rattle.dp_pixels.specs.Commands.{IsDabs};
+ghost use Rattle.dp_tile.specs.Painters.{KnownChange};
 ghost use Rattle.dp_paint.specs.Painting.{IsTileWithin, length-tile_drawn, tile_drawn};
 
 use crate::fetch::Fill;
-use dp_blend::Pixel;
+use crate::put::TileRun;
+use crate::stroke::dabs_keep;
+use dp_blend::{Mode, Pixel, blend, of_argb};
 use dp_msg_draw::Draw;
-use dp_pixels::{Region, draw_region, pixel_after};
+use dp_pixels::{Region, draw_region};
 use dp_tile::{SIDE, TileChange, TilePainter};
 
 /// A command other than MoveRect, on a canvas of these sides.
@@ -29,18 +36,18 @@ fn is_side_within(stretch: u32, from: u32, len: u32, limit: u32) -> bool
     start >= from as u64 && start + 64 <= end && start + 64 <= limit as u64
 }
 
-impl CommandPainter<'_> {
-    /// Whether all of the tile at a column and a row is in the rectangle and on the canvas.
-    fn is_within(&self, area: Fill, col: u32, row: u32) -> bool
-        requires col { col < 64 }
-        requires row { row < 64 }
-        ensures { result ≡ true → IsTileWithin self.now.width self.now.height
-            (rect_at (pos area.x) (pos area.y) area.w area.h) col row }
-    {
-        is_side_within(col, area.x, area.w, self.width)
-            && is_side_within(row, area.y, area.h, self.height)
+/// What a fill makes of a pixel of its rectangle, by the number of its mode.
+fn filled_color(mode: u8, color: u32, old: Pixel) -> Pixel
+    ensures { result
+        ≡ option_map_or (λ m. blend m (of_argb color) old) (mode_numbered mode) old }
+{
+    match Mode::from_u8(mode) {
+        Some(mode) => blend(mode, of_argb(color), old),
+        None => old,
     }
+}
 
+impl CommandPainter<'_> {
     /// Whether all of each tile of a row, from the column `left` on before `right`, is in the
     /// rectangle and on the canvas.
     fn is_row_within(&self, area: Fill, row: u32, left: u32, right: u32) -> bool
@@ -56,14 +63,102 @@ impl CommandPainter<'_> {
             && is_side_within(row, area.y, area.h, self.height)
     }
 
-    /// The pixel in the corner of the tile at a column and a row after a fill, of the old one.
-    fn corner_after(&self, col: u32, row: u32, old: Pixel) -> Pixel
-        requires stamp { IsTrue (is_stamp self.now.command.now) }
-        requires col { col < 64 }
+    /// What a fill does to each tile of a row, from the column `left` on before `right`, of which
+    /// all pixels are of this colour. It may be met in part where the colour stays.
+    fn fill_change(&self, row: u32, left: u32, right: u32, color: Pixel) -> TileChange
         requires row { row < 64 }
-        ensures { result ≡ pixel_after self.now.command.now (pos (col * 64)) (pos (row * 64)) old }
+        requires order { left < right }
+        requires cols { right ≤ 64 }
+        ensures { (col : ℕ) → left ≤ col → col < right → KnownChange result (Some color)
+            (tile_drawn self.now.width self.now.height self.now.command.now col row) }
     {
-        pixel_after(self.command, col as i64 * 64, row as i64 * 64, old)
+        let Draw::FillRect {
+            mode,
+            x,
+            y,
+            w,
+            h,
+            color: source,
+            ..
+        } = self.command
+        else {
+            return TileChange::Unknown;
+        };
+        let area = Fill {
+            x: *x,
+            y: *y,
+            w: *w,
+            h: *h,
+        };
+        let after = filled_color(*mode, *source, color);
+        if after == color {
+            TileChange::Stays
+        } else if self.is_row_within(area, row, left, right) {
+            TileChange::Becomes(after)
+        } else {
+            TileChange::Unknown
+        }
+    }
+
+    /// What a PutTile does to each tile of a row, from the column `left` on before `right`,
+    /// whatever their pixels are.
+    fn put_change(&self, row: u32, left: u32, right: u32) -> TileChange
+        requires row { row < 64 }
+        requires order { left < right }
+        requires cols { right ≤ 64 }
+        ensures { (color : Option Channels) (col : ℕ) → left ≤ col → col < right
+            → KnownChange result color
+            (tile_drawn self.now.width self.now.height self.now.command.now col row) }
+    {
+        let Draw::PutTile {
+            layer,
+            col,
+            row: top,
+            repeat,
+            content,
+        } = self.command
+        else {
+            return TileChange::Unknown;
+        };
+        let run = TileRun {
+            layer: *layer,
+            width: self.width,
+            height: self.height,
+            col: *col,
+            row: *top,
+            repeat: *repeat,
+        };
+        run.change(content, row, left, right)
+    }
+
+    /// What dabs do to any tile of which all pixels are of this colour.
+    fn dabs_change(&self, color: Pixel) -> TileChange
+        requires { IsDabs self.now.command.now }
+        ensures { (col row : ℕ) → KnownChange result (Some color)
+            (tile_drawn self.now.width self.now.height self.now.command.now col row) }
+    {
+        if dabs_keep(self.command, color) {
+            TileChange::Stays
+        } else {
+            TileChange::Unknown
+        }
+    }
+
+    /// What the command does to each tile of a row, from the column `left` on before `right`, of
+    /// which all pixels are of this colour.
+    fn known_change(&self, row: u32, left: u32, right: u32, color: Pixel) -> TileChange
+        requires row { row < 64 }
+        requires order { left < right }
+        requires cols { right ≤ 64 }
+        ensures { (col : ℕ) → left ≤ col → col < right → KnownChange result (Some color)
+            (tile_drawn self.now.width self.now.height self.now.command.now col row) }
+    {
+        match self.command {
+            Draw::FillRect { .. } => self.fill_change(row, left, right, color),
+            Draw::PutTile { .. } => self.put_change(row, left, right),
+            Draw::DabsRound { .. } | Draw::DabsSquare { .. } => self.dabs_change(color),
+            _ => TileChange::Unknown,
+        }
     }
 
     /// Fetches what a fill paints of the tile at a column and a row. The answer is no.
@@ -114,41 +209,14 @@ impl TilePainter for CommandPainter<'_> {
         length-tile_drawn p.width p.height p.command.now col row pixels };
 
     fn change(&self, col: u32, row: u32, color: Option<Pixel>) -> TileChange {
-        match (self.command, color) {
-            (Draw::FillRect { x, y, w, h, .. }, Some(p)) => {
-                let area = Fill {
-                    x: *x,
-                    y: *y,
-                    w: *w,
-                    h: *h,
-                };
-                if self.is_within(area, col, row) {
-                    TileChange::Becomes(self.corner_after(col, row, p))
-                } else {
-                    TileChange::Unknown
-                }
-            }
-            _ => TileChange::Unknown,
+        match color {
+            Some(p) => self.known_change(row, col, col + 1, p),
+            None => self.put_change(row, col, col + 1),
         }
     }
 
     fn change_row(&self, row: u32, left: u32, right: u32, color: Pixel) -> TileChange {
-        match self.command {
-            Draw::FillRect { x, y, w, h, .. } => {
-                let area = Fill {
-                    x: *x,
-                    y: *y,
-                    w: *w,
-                    h: *h,
-                };
-                if self.is_row_within(area, row, left, right) {
-                    TileChange::Becomes(self.corner_after(left, row, color))
-                } else {
-                    TileChange::Unknown
-                }
-            }
-            _ => TileChange::Unknown,
-        }
+        self.known_change(row, left, right, color)
     }
 
     fn paint(&self, col: u32, row: u32, pixels: &mut [Pixel]) {

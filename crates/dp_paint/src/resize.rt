@@ -5,6 +5,7 @@ ghost use Rattle.std.specs.Prelude.{unsigned_abs, Some, IfOk};
 ghost use Rattle.dp_blend.specs.Color.{clear};
 ghost use Rattle.dp_pixels.specs.declared.resize.Resize.{Resize as Change};
 ghost use Rattle.dp_pixels.specs.Tiles.{tiles_along};
+ghost use Rattle.dp_tile.specs.Tiles.{cells_shown};
 ghost use Rattle.dp_paint.specs.Painting.{IsGridOf};
 ghost use Rattle.dp_paint.specs.Reading.{IsResizeBy, IsResized};
 
@@ -15,7 +16,7 @@ use dp_blend::Pixel;
 use dp_msg_draw::Draw;
 use dp_pixels::Resize;
 use dp_steps::Steps;
-use dp_tile::{CellArea, Grid, TileChange};
+use dp_tile::{CellArea, Grid, TileChange, an_area_shows_at_most_its_grid};
 use std::alloc::AllocError;
 use std::sync::ledger::Ledger;
 
@@ -77,7 +78,7 @@ impl RowSource for Shifted<'_> {
     }
 }
 
-/// The grid on a canvas of the new sides. Where the canvas was clear, no tile is made.
+/// The grid on a canvas of the new sides. No tile is made for a cell that shows nothing.
 pub fn resized_grid<T: Ledger>(
     grid: &Grid,
     change: Resize,
@@ -88,7 +89,9 @@ pub fn resized_grid<T: Ledger>(
     ensures tiles_rise { tiles.old ≤ tiles.new }
     ensures few_tiles { tiles.new
         ≤ tiles.old + tiles_along change.new_height * tiles_along change.new_width }
+    ensures few_shown { IfOk result (λ resized. tiles.new ≤ tiles.old + cells_shown resized) }
 {
+    an_area_shows_at_most_its_grid();
     let shifted = Shifted {
         old: Shown {
             grid,
@@ -110,7 +113,8 @@ pub fn resized_grid<T: Ledger>(
         top: 0,
         bottom: resized.rows(),
     };
-    resized.paint_area(all, &painter, tiles)?;
+    resized.paint_each(all, &painter, tiles)?;
+    resized.known();
     Ok(resized)
 }
 
@@ -129,6 +133,7 @@ pub fn resize_grid<T: Ledger>(
     ensures tiles_rise { tiles.old ≤ tiles.new }
     ensures few_tiles { (change : Change) → IsResizeBy width height command.now change
         → tiles.new ≤ tiles.old + tiles_along change.new_height * tiles_along change.new_width }
+    ensures few_shown { IfOk result (λ resized. tiles.new ≤ tiles.old + cells_shown resized) }
 {
     let Draw::CanvasResize {
         top,

@@ -1,6 +1,6 @@
 //! What a fill does on one tile.
 
-ghost use Rattle.std.specs.Prelude.{◌≡◌, ℕ, ◌+◌, ◌*◌, ◌/◌, ◌<◌, ◌≤◌, true, List, length, IfSome, ◌++◌};
+ghost use Rattle.std.specs.Prelude.{◌≡◌, ℕ, ◌+◌, ◌*◌, ◌/◌, ◌<◌, ◌≤◌, true, List, length, ◌++◌};
 ghost use Rattle.std.specs.Prelude.{take, drop};
 ghost use Rattle.std.specs.Prelude.{pos};
 ghost use Rattle.dp_pixels.specs.Feet.{foot, is_in_foot};
@@ -12,8 +12,7 @@ ghost use Rattle.dp_paint.specs.Waiting.{IsOnTile, fill_command, is_in_fill, pix
 ghost use Rattle.dp_paint.specs.Waiting.{code_of, mode_coded, tile_filled};
 ghost use Rattle.dp_paint.specs.Waiting.{tile_pixels};
 
-use crate::cells::{cells_in, on_greatest};
-use crate::feet::rect_of;
+use crate::feet::cells_of;
 use dp_blend::{Mode, Pixel, blend, of_argb, rows_fill};
 use dp_msg_draw::Draw;
 use dp_tile::{CellArea, SIDE};
@@ -44,11 +43,22 @@ impl RectFill {
             → is_in_foot (foot (fill_command self)) (pos x) (pos y) ≡ true
             → is_in_cells result (x / 64) (y / 64) ≡ true }
     {
-        cells_in(
-            on_greatest(rect_of(self.x, self.y, self.w, self.h)),
-            cols,
-            rows,
-        )
+        cells_of(&self.command(), cols, rows)
+    }
+
+    /// The command that it is.
+    fn command(self) -> Draw
+        ensures { result ≡ fill_command self }
+    {
+        Draw::FillRect {
+            layer: self.layer,
+            mode: self.mode,
+            x: self.x,
+            y: self.y,
+            w: self.w,
+            h: self.h,
+            color: self.color,
+        }
     }
 }
 

@@ -211,6 +211,70 @@ static CASES: [Case; 7] = [
     },
 ];
 
+/// Pairs of commands, each a kind and its payload, and whether they are apart, in either order.
+static PAIRS: [(&[u8], &[u8], bool); 10] = [
+    // Touching by one pixel.
+    (
+        b"\x89\x01\x01\x01\0\0\0\0\0\0\0\0\0\0\0\x02\0\0\0\x01\xff\xff\0\0",
+        b"\x89\x01\x01\x01\0\0\0\x01\0\0\0\0\0\0\0\x02\0\0\0\x01\xff\0\0\xff",
+        false,
+    ),
+    // Side by side.
+    (
+        b"\x89\x01\x01\x01\0\0\0\0\0\0\0\0\0\0\0\x01\0\0\0\x01\xff\xff\0\0",
+        b"\x89\x01\x01\x01\0\0\0\x01\0\0\0\0\0\0\0\x01\0\0\0\x01\xff\0\0\xff",
+        true,
+    ),
+    // The same places of another layer.
+    (
+        b"\x89\x01\x01\x01\0\0\0\0\0\0\0\0\0\0\0\x03\0\0\0\x01\xff\xff\0\0",
+        b"\x89\x01\x02\x01\0\0\0\0\0\0\0\0\0\0\0\x03\0\0\0\x01\xff\0\0\xff",
+        true,
+    ),
+    // A MoveRect onto what the other fills.
+    (
+        b"\x98\x01\x01\0\0\0\0\0\0\0\0\0\0\0\x01\0\0\0\x01\0\0\0\x02\0\0\0\0",
+        b"\x89\x01\x01\x01\0\0\0\x02\0\0\0\0\0\0\0\x01\0\0\0\x01\xff\0\0\xff",
+        false,
+    ),
+    // A MoveRect from where the other fills.
+    (
+        b"\x98\x01\x01\0\0\0\0\0\0\0\0\0\0\0\x01\0\0\0\x01\0\0\0\x02\0\0\0\0",
+        b"\x89\x01\x01\x01\0\0\0\0\0\0\0\0\0\0\0\x01\0\0\0\x01\xff\0\0\xff",
+        false,
+    ),
+    // A MoveRect beside what the other fills.
+    (
+        b"\x98\x01\x01\0\0\0\0\0\0\0\0\0\0\0\x01\0\0\0\x01\0\0\0\x02\0\0\0\0",
+        b"\x89\x01\x01\x01\0\0\0\x01\0\0\0\0\0\0\0\x01\0\0\0\x01\xff\0\0\xff",
+        true,
+    ),
+    // Dabs around the pixel of the other.
+    (
+        b"\x96\x01\x01\0\0\0\0\0\0\0\0\0\0\xff\x01\0\0\x01\xff\x02\0\x01\xff",
+        b"\x89\x01\x01\x01\0\0\0\x01\0\0\0\0\0\0\0\x01\0\0\0\x01\xff\xff\0\0",
+        false,
+    ),
+    // A tile, and the pixel beside it.
+    (
+        b"\x92\x01\x01\0\0\0\0\0\0\0\0\0\0\0\0\0\x80\0",
+        b"\x89\x01\x01\x01\0\0\0@\0\0\0\0\0\0\0\x01\0\0\0\x01\xff\xff\0\0",
+        true,
+    ),
+    // Two tiles, and a pixel of the second.
+    (
+        b"\x92\x01\x01\0\0\0\0\0\x01\0\0\0\0\0\0\0\x80\0",
+        b"\x89\x01\x01\x01\0\0\0@\0\0\0\0\0\0\0\x01\0\0\0\x01\xff\xff\0\0",
+        false,
+    ),
+    // A layer that is made, and a fill of it.
+    (
+        LAYER,
+        b"\x89\x01\x01\x01\0\0\0\0\0\0\0\0\0\0\0\x01\0\0\0\x01\xff\xff\0\0",
+        false,
+    ),
+];
+
 /// Draws the cases on each kind of board, with counters over these blanks.
 fn on_all_boards<D: Ledger, T: Ledger>(
     rt: &impl Abort,
@@ -238,4 +302,19 @@ fn on_all_boards<D: Ledger, T: Ledger>(
 #[test]
 fn commands_on_all_boards(rt: HostRuntime) {
     on_all_boards::<Brand, Brand>(&rt, rt.alloc(), Blank::new(1), Blank::new(1));
+}
+
+#[test]
+fn pairs_are_apart(rt: HostRuntime) {
+    let alloc = rt.alloc();
+    for (first, second, apart) in &PAIRS {
+        let (a, b) = (command(&rt, alloc, first), command(&rt, alloc, second));
+        assert_eq!(rt; Canvas::apart(&a, &b), *apart, "{first:?} and {second:?}");
+        assert_eq!(rt; Canvas::apart(&b, &a), *apart, "{second:?} and {first:?}");
+        assert_eq!(rt;
+            PlainBoard::apart(&a, &b),
+            *apart,
+            "{first:?} and {second:?}"
+        );
+    }
 }

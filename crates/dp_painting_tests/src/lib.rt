@@ -1,15 +1,9 @@
-//! The tests of pixels, tiles, canvases and pictures, in a crate of their own: so each crate of these
-//! is proved once, and not once more with its tests.
+//! The tests of tiles, canvases and pictures, in a crate of their own: so each crate of these is
+//! proved once, and not once more with its tests.
 #![tactic(auto)]
 
 #[cfg(test)]
-mod blending;
-#[cfg(test)]
 mod boards;
-#[cfg(test)]
-mod colors;
-#[cfg(test)]
-mod commands;
 #[cfg(test)]
 mod painting;
 #[cfg(test)]

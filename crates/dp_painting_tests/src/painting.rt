@@ -4,7 +4,6 @@ ghost use Rattle.std.specs.Prelude.{◌≡◌, ◌<◌, length};
 ghost use Rattle.dp_paint.specs.Painting.{IsGridOf, IsPainting};
 ghost use Rattle.dp_paint.specs.Reading.{ChangesPixels, IsMove};
 
-use crate::colors::{CLEAR, WHITE};
 use dp_blend::{Pixel, of_argb};
 use dp_msg_draw::{Dab, Dabs, Draw};
 use dp_paint::{DeferredGrid, blank_grid, move_one, paint_one, resize_grid};
@@ -60,7 +59,10 @@ fn check_fill<T: Ledger>(rt: &impl Abort, alloc: Global, tiles: &mut Steps<T>) {
         grid.get(65, 2),
         grid.get(66, 2),
     ];
-    assert_eq!(rt; pixels, [CLEAR, WHITE, WHITE, CLEAR]);
+    assert_eq!(rt;
+        pixels,
+        [Pixel::CLEAR, Pixel::WHITE, Pixel::WHITE, Pixel::CLEAR]
+    );
 }
 
 /// Two square dabs, in the first and in the third tile of a canvas of 256 by 64, make no tile
@@ -112,7 +114,7 @@ fn check_move<T: Ledger>(rt: &impl Abort, alloc: Global, tiles: &mut Steps<T>) {
     let to_the_right = move_of((1, 1), (65, 2));
     let grid = move_one(&old, 66, 3, &to_the_right, tiles).expect(rt, "memory");
     let pixels = [grid.get(1, 1), grid.get(65, 2), grid.get(64, 2)];
-    assert_eq!(rt; pixels, [CLEAR, WHITE, CLEAR]);
+    assert_eq!(rt; pixels, [Pixel::CLEAR, Pixel::WHITE, Pixel::CLEAR]);
 }
 
 /// A canvas grows by 64 on the left and by 1 above: by a column of tiles.
@@ -125,7 +127,10 @@ fn check_resize<T: Ledger>(rt: &impl Abort, alloc: Global, tiles: &mut Steps<T>)
         left: 64,
     };
     let grid = resize_grid(&old, 66, 3, &grow, tiles).expect(rt, "memory");
-    assert_eq!(rt; [grid.get(1, 1), grid.get(65, 2)], [CLEAR, WHITE]);
+    assert_eq!(rt;
+        [grid.get(1, 1), grid.get(65, 2)],
+        [Pixel::CLEAR, Pixel::WHITE]
+    );
     assert_eq!(rt; grid.cols(), 3);
 }
 
@@ -147,7 +152,7 @@ fn read_right(layer: &DeferredGrid, pixels: &mut [Pixel]) -> [Pixel; 4]
 /// one by one.
 fn check_waiting<T: Ledger>(rt: &impl Abort, alloc: Global, tiles: &mut Steps<T>) {
     let black = of_argb(0xff00_0000);
-    let mut pixels = vec![in alloc; CLEAR; 4096].expect(rt, "memory");
+    let mut pixels = vec![in alloc; Pixel::CLEAR; 4096].expect(rt, "memory");
     let mut layer = DeferredGrid::blank(alloc, 70, 2).expect(rt, "memory");
     layer
         .draw(&fill(63, 0, 2, 2, 0xffff_ffff), tiles)
@@ -156,24 +161,24 @@ fn check_waiting<T: Ledger>(rt: &impl Abort, alloc: Global, tiles: &mut Steps<T>
         .draw(&fill(64, 1, 2, 2, 0xff00_0000), tiles)
         .expect(rt, "memory");
     let read = read_right(&layer, &mut pixels);
-    assert_eq!(rt; read, [WHITE, black, black, CLEAR]);
+    assert_eq!(rt; read, [Pixel::WHITE, black, black, Pixel::CLEAR]);
     layer
         .draw(&fill(65, 1, 2, 2, 0xffff_ffff), tiles)
         .expect(rt, "memory");
     let read = read_right(&layer, &mut pixels);
-    assert_eq!(rt; read, [WHITE, black, WHITE, CLEAR]);
+    assert_eq!(rt; read, [Pixel::WHITE, black, Pixel::WHITE, Pixel::CLEAR]);
     let each = [
         layer.pixel(64, 0),
         layer.pixel(64, 1),
         layer.pixel(65, 1),
         layer.pixel(69, 0),
     ];
-    assert_eq!(rt; each, [WHITE, black, WHITE, CLEAR]);
+    assert_eq!(rt; each, [Pixel::WHITE, black, Pixel::WHITE, Pixel::CLEAR]);
     layer
         .draw(&move_of((64, 1), (69, 0)), tiles)
         .expect(rt, "memory");
     let read = read_right(&layer, &mut pixels);
-    assert_eq!(rt; read, [WHITE, CLEAR, WHITE, black]);
+    assert_eq!(rt; read, [Pixel::WHITE, Pixel::CLEAR, Pixel::WHITE, black]);
 }
 
 /// Draws on layers with a counter over this blank.

@@ -2,7 +2,6 @@
 
 ghost use Rattle.std.specs.Prelude.{◌≡◌, ◌<◌};
 
-use crate::colors::{BLUE, RED};
 use dp_blend::to8;
 use dp_board::Board;
 use dp_flat::{PictureEnd, flatten, write_p3, write_p6};
@@ -14,6 +13,10 @@ use std::alloc::Global;
 use std::marker::Brand;
 use std::process::Abort;
 use std::sync::ledger::{Blank, Ledger};
+
+const RED: u32 = 0xffff_0000;
+
+const BLUE: u32 = 0xff00_00ff;
 
 fn resize(right: i32, bottom: i32) -> Draw {
     Draw::CanvasResize {

@@ -5,7 +5,6 @@ ghost use Rattle.std.proofs.Common.{◌∙◌};
 ghost use Rattle.std.proofs.lemmas.List.{length-set};
 ghost use Rattle.dp_blend.specs.Color.{white};
 
-use crate::colors::{CLEAR, WHITE};
 use dp_blend::Pixel;
 use dp_steps::Steps;
 use dp_tile::{CellArea, Grid, Tile, TileChange, TilePainter};
@@ -35,14 +34,14 @@ impl TilePainter for FirstWhite {
 fn check_shared<T: Ledger>(rt: &impl Abort, alloc: Global, tiles: &mut Steps<T>) {
     let mut grid = Grid::new(alloc, 3, 2).expect(rt, "memory");
     let mut tile = Tile::blank(alloc, tiles).expect(rt, "memory");
-    tile.set(5, 7, WHITE);
+    tile.set(5, 7, Pixel::WHITE);
     let copy = tile.copy(alloc, tiles).expect(rt, "memory");
     grid.write(2, 1, copy).expect(rt, "memory");
     let mut other = grid.share().expect(rt, "memory");
     other
         .paint(2, 1, &FirstWhite {}, tiles)
         .expect(rt, "memory");
-    let solid = Tile::solid(alloc, WHITE, tiles).expect(rt, "memory");
+    let solid = Tile::solid(alloc, Pixel::WHITE, tiles).expect(rt, "memory");
     grid.write(0, 1, solid).expect(rt, "memory");
     let all = CellArea {
         left: 0,
@@ -70,8 +69,14 @@ fn check_shared<T: Ledger>(rt: &impl Abort, alloc: Global, tiles: &mut Steps<T>)
             other.get(63, 127),
         ],
     );
-    assert_eq!(rt; of_grid, [CLEAR, WHITE, CLEAR, WHITE]);
-    assert_eq!(rt; of_other, [WHITE, WHITE, WHITE, CLEAR]);
+    assert_eq!(rt;
+        of_grid,
+        [Pixel::CLEAR, Pixel::WHITE, Pixel::CLEAR, Pixel::WHITE]
+    );
+    assert_eq!(rt;
+        of_other,
+        [Pixel::WHITE, Pixel::WHITE, Pixel::WHITE, Pixel::CLEAR]
+    );
 }
 
 /// Looks at grids with a counter over this blank.

@@ -1,7 +1,7 @@
 -- Areas that are painted cell by cell, and how many of their cells show something.
 use Rattle.std.proofs.Common.{◌≡◌, ℕ, zero, suc, ◌+◌, ◌-◌, ◌*◌, ◌<◌, ◌≤◌, ◌≢◌, List, ◌∷◌, length}
-use Rattle.std.proofs.Common.{get_or, set, take, ap, sym, ◌∙◌, subst, refl, arith, Bool, true, false}
-use Rattle.std.proofs.Common.{cond, ◌&&◌, ◌⊎◌, inl, inr, ⊎_elim}
+use Rattle.std.proofs.Common.{get_or, set, take, ap, sym, ◌∙◌, subst, refl, arith}
+use Rattle.std.proofs.Common.{Bool, true, false, cond, ◌&&◌, ◌⊎◌, inl, inr, ⊎_elim}
 use Rattle.std.specs.Prelude.{nat_le, nat_lt, Result, OnOk}
 use Rattle.std.proofs.Common.{Ok, Err}
 use Rattle.std.specs.List.{range_with_len, sum_by}
@@ -12,7 +12,8 @@ use Rattle.std.proofs.lemmas.List.{get_or-set_same, get_or-set_other}
 use Rattle.std.proofs.lemmas.List.Sums.{sum_by-cons, sum_by_more, sum_by-take-le}
 use Rattle.dp_blend.specs.Color.{Channels, clear}
 use Rattle.dp_tile.specs.declared.area.CellArea.{CellArea}
-use Rattle.dp_tile.specs.Tiles.{IsGrid, TileGrid, cell_at, cells_shown, tile_of, tiles_for, with_cell}
+use Rattle.dp_tile.specs.Tiles.{IsGrid, TileGrid, cell_at, cells_shown, tile_of, tiles_for}
+use Rattle.dp_tile.specs.Tiles.{with_cell}
 use Rattle.dp_tile.specs.Areas.{Painted, IsPaintedOn, IsRowPainted, IsUpTo, is_in_cells}
 use Rattle.dp_tile.specs.Areas.{shown_in, shown_in_row}
 
@@ -55,8 +56,8 @@ next_sum : (f : ℕ → ℕ) (from to : ℕ) → from ≤ to
 next_sum f from to order =
     let more : to + 1 - from ≡ suc (to - from) = omega (arith, order) in
     let back : from + (to - from) ≡ to = omega (arith, order) in
-    rw more (sum_next f from (to - from) ∙ ap (λ k. sum_by f (range_with_len from (to - from)) + f k)
-    back)
+    rw more (sum_next f from (to - from)
+    ∙ ap (λ k. sum_by f (range_with_len from (to - from)) + f k) back)
 
 -- ---- cells
 
@@ -126,7 +127,8 @@ module _ (painted : Painted) (row left : ℕ) (old : TileGrid) where
     pub here : cell_at new col row ≡ painted col row (cell_at old col row)
     here =
         by_put col row ∙ cell_same g is col row v in_cols in_rows
-        ∙ ap (painted col row) (so_far.after col (omega arith) (omega (arith, in_cols, so_far.cols)))
+        ∙ ap (painted col row)
+        (so_far.after col (omega arith) (omega (arith, in_cols, so_far.cols)))
 
     pub beside : (k : ℕ) → k ≢ col → cell_at new k row ≡ cell_at g k row
     beside k other = by_put k row ∙ cell_beside g is col row v in_cols k other
@@ -277,6 +279,24 @@ module _ (painted : Painted) (area : CellArea) (old : TileGrid) where
             → x ≡ cond b y z
         by_test true x y z is_true is_false = is_true refl
         by_test false x y z is_true is_false = is_false refl
+
+-- ---- the same cells
+
+pub shown_same : (area : CellArea) (g other : TileGrid)
+    → ((col row : ℕ) → is_in_cells area col row ≡ true → cell_at g col row ≡ cell_at other col row)
+    → shown_in area g ≡ shown_in area other
+shown_same area g other same =
+    sum_same (λ row. shown_in_row area.left area.right row g)
+    (λ row. shown_in_row area.left area.right row other) area.top (area.bottom - area.top)
+    (λ row from to.
+    sum_same (λ col. tiles_for (cell_at g col row)) (λ col. tiles_for (cell_at other col row))
+    area.left (area.right - area.left)
+    (λ col after below. ap tiles_for (same col row (rw (
+      le-leb area.left col after,
+      lt-ltb col area.right (omega (arith, after, below)),
+      le-leb area.top row from,
+      lt-ltb row area.bottom (omega (arith, from, to)),
+    ) refl))))
 
 -- ---- as many as the grid has at most
 

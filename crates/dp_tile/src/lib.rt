@@ -5,6 +5,7 @@
 mod area;
 mod cells;
 mod grid;
+mod laws;
 mod painter;
 mod palette;
 mod row;
@@ -13,5 +14,6 @@ mod tile;
 
 pub use area::CellArea;
 pub use grid::Grid;
+pub use laws::{an_area_shows_at_most_its_grid, same_cells_show_alike};
 pub use painter::{TileChange, TilePainter};
 pub use tile::{SIDE, Tile};

@@ -22,8 +22,8 @@ pub const SIDE: usize = 64;
 const COUNT: usize = SIDE * SIDE;
 
 /// A square of 64 by 64 pixels. It is seen as their list, row by row from the top, each row from
-/// the left. Where it is known to be of one colour, it is marked with that. None is built that isn't
-/// counted.
+/// the left. Where it is known to be of one colour, it is marked with that. None is built without
+/// being counted.
 #[derive(Drop)]
 pub struct Tile {
     pixels: Vec<Pixel>,

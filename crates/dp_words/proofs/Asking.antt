@@ -1,50 +1,27 @@
--- What a command of a name can ask for.
+-- What the words of the commands can ask for.
 use Rattle.std.proofs.Common.{◌≡◌, ◌<◌, ℕ, zero, suc, ◌+◌, List, [], ◌∷◌, Option, Some, None}
-use Rattle.std.proofs.Common.{IfNone, ap, ap₂, arith, codes, decimal, length, refl}
-use Rattle.std.proofs.Common.{slice_index, subst, sym, ◌∙◌}
+use Rattle.std.proofs.Common.{Bool, true, false, IfNone, ap, ap₂, arith, codes, decimal, length}
+use Rattle.std.proofs.Common.{refl, slice_index, subst, sym, ◌∙◌}
 use Rattle.std.proofs.lemmas.Fmt.{first_decimal}
+use Rattle.std.proofs.lemmas.Slice.Eq.{bytes_eq-Decides}
 use Rattle.std.specs.Fmt.{digits}
-use Rattle.std.specs.Prelude.{unwrap_or}
+use Rattle.std.specs.Prelude.{Decides, IfOk, MatchBool, Result, unwrap_or}
+use Rattle.std.specs.Str.{bytes_eq}
 use Rattle.clap.specs.Faults.{fault_of}
 use Rattle.clap.specs.Simple.{subcommand_of}
 use Rattle.clap.specs.Walk.{Row, Text, first_of}
 use Rattle.dp_lines.specs.Numbers.{IsNumber}
 use Rattle.dp_words.specs.declared.command_line.CommandLine.{CommandLine}
-use Rattle.dp_words.specs.declared.command_line.CommandLine.TheVariants.{Replay, World, Play, Join}
-use Rattle.dp_words.specs.declared.command_line.CommandLine.TheVariants.{Serve}
-use Rattle.dp_words.specs.CommandLines.{AsksBy, AsksIn, HasAt, HasWorkers}
-use Rattle.dp_words.specs.CommandLines.{IsCommandLine}
+use Rattle.dp_words.specs.declared.command_line.CommandLine.TheVariants.{Local, Join, Listen}
+use Rattle.dp_words.specs.declared.command_line.LocalCommand.TheVariants.{Play}
+use Rattle.dp_words.specs.declared.command_line.Service.TheVariants.{Session}
+use Rattle.dp_words.specs.CommandLines.{AsksBy, AsksIn, AsksOf, IsCommandLine}
+use Rattle.dp_words.specs.Forms.{Form, forms, join_form, play_form, replay_form, serve_form}
+use Rattle.dp_words.specs.Forms.{world_form}
 use Rattle.dp_words.specs.Program.{program}
+use Rattle.dp_words.specs.Values.{HasAt, HasWorkers}
 
--- ---- the name says which command it is
-
--- the first bytes of the names are different
-abbrev pub letter : CommandLine → ℕ
-letter Replay = 114
-letter World = 119
-letter (Play at) = 112
-letter (Join addr user) = 106
-letter (Serve addr workers conns) = 115
-
-first-byte : {s t : Text} → s ≡ t → slice_index s 0 ≡ slice_index t 0
-first-byte e = ap (λ t. slice_index t 0) e
-
-begins : (name : Text) (rows : List Row) (line : CommandLine) → AsksBy name rows line
-    → slice_index name 0 ≡ letter line
-begins name rows Replay e = first-byte e
-begins name rows World e = first-byte e
-begins name rows (Play at) asks = first-byte asks.0
-begins name rows (Join addr user) asks = first-byte asks.0
-begins name rows (Serve addr workers conns) asks = first-byte asks.0
-
--- so all that words ask for has one letter
-pub same-letter : (entered : Option (Text × List Row)) (a b : CommandLine)
-    → AsksIn entered a → AsksIn entered b → letter a ≡ letter b
-same-letter None a b x y = absurd x
-same-letter (Some entered) a b x y =
-    sym (begins entered.0 entered.1 a x) ∙ begins entered.0 entered.1 b y
-
--- ---- words ask for one thing
+-- ---- each form asks for one thing
 
 abbrev pub OneNumber : Type 0
 OneNumber = (word : List ℕ) (m n : ℕ) → IsNumber word m → IsNumber word n → m ≡ n
@@ -65,25 +42,60 @@ one-workers one (Some word) m n x y = one word m n x.0 y.0
 some-same : {a b : Text} {found : Option Text} → found ≡ Some a → found ≡ Some b → a ≡ b
 some-same {a} x y = ap (λ o. unwrap_or o a) (sym x ∙ y)
 
-pub one-line : OneNumber → (name : Text) (rows : List Row) (a b : CommandLine)
-    → letter a ≡ letter b → AsksBy name rows a → AsksBy name rows b → a ≡ b
-one-line one name rows Replay Replay e x y = refl
-one-line one name rows World World e x y = refl
-one-line one name rows (Play at) (Play other) e x y = ap Play (one-at one _ at other x.1 y.1)
-one-line one name rows (Join addr user) (Join other you) e x y =
-    ap₂ Join (some-same x.1 y.1) (some-same x.2 y.2)
-one-line one name rows (Serve addr m at) (Serve other n more) e x y =
-    let addr-is : addr ≡ other = some-same x.1 y.1 in
-    let workers-are : m ≡ n = one-workers one _ m n x.2 y.2 in
-    let conns-are : at ≡ more = one-at one _ at more x.3 y.3 in
+abbrev pub AsksOne : Form → Type 0
+AsksOne form =
+    (rows : List Row) (a b : CommandLine) → form.asks rows a → form.asks rows b → a ≡ b
+
+replay-one : AsksOne replay_form
+replay-one rows a b x y = x ∙ sym y
+
+world-one : AsksOne world_form
+world-one rows a b x y = x ∙ sym y
+
+play-one : OneNumber → AsksOne play_form
+play-one one rows a b (at, x, e) (other, y, f) =
+    e ∙ ap (λ n. Local (Play n)) (one-at one _ at other x y) ∙ sym f
+
+join-one : AsksOne join_form
+join-one rows a b x y = x.6 ∙ ap₂ Join (some-same x.2 y.2) (some-same x.3 y.3) ∙ sym y.6
+
+serve-one : OneNumber → AsksOne serve_form
+serve-one one rows a b x y =
+    let addr-is : x.0 ≡ y.0 = some-same x.3 y.3 in
+    let workers-are : x.1 ≡ y.1 = one-workers one _ x.1 y.1 x.4 y.4 in
+    let conns-are : x.2 ≡ y.2 = one-at one _ x.2 y.2 x.5 y.5 in
+    let a-is : a ≡ Listen x.0 x.1 x.2 Session = x.7 in
+    let b-is : b ≡ Listen y.0 y.1 y.2 Session = y.7 in
     cc
-one-line one name rows a b e x y = absurd (omega arith)
+
+-- ---- words ask for one thing
+
+abbrev pub EachAsksOne : List Form → Type 0
+EachAsksOne [] = Unit {0}
+EachAsksOne (form ∷ rest) = AsksOne form × EachAsksOne rest
+
+each-one : OneNumber → EachAsksOne forms
+each-one one = (replay-one, (world-one, (play-one one, (join-one, (serve-one one, tt)))))
+
+either-one : (test : Bool) (form : Form) (rest : List Form) (name : Text) (rows : List Row)
+    (a b : CommandLine) → AsksOne form
+    → (AsksOf rest name rows a → AsksOf rest name rows b → a ≡ b)
+    → MatchBool test (form.asks rows a) (AsksOf rest name rows a)
+    → MatchBool test (form.asks rows b) (AsksOf rest name rows b) → a ≡ b
+either-one true form rest name rows a b here later x y = here rows a b x y
+either-one false form rest name rows a b here later x y = later x y
+
+one-of : (all : List Form) → EachAsksOne all → (name : Text) (rows : List Row) (a b : CommandLine)
+    → AsksOf all name rows a → AsksOf all name rows b → a ≡ b
+one-of [] each name rows a b x y = absurd x
+one-of (form ∷ rest) each name rows a b x y =
+    either-one (bytes_eq name form.name) form rest name rows a b each.0
+    (one-of rest each.1 name rows a b) x y
 
 pub one-in : OneNumber → (entered : Option (Text × List Row)) (a b : CommandLine)
     → AsksIn entered a → AsksIn entered b → a ≡ b
 one-in one None a b x y = absurd x
-one-in one (Some entered) a b x y =
-    one-line one entered.0 entered.1 a b (same-letter (Some entered) a b x y) x y
+one-in one (Some entered) a b x y = one-of forms (each-one one) entered.0 entered.1 a b x y
 
 -- ---- words that ask for nothing
 
@@ -109,9 +121,10 @@ plus : (rest : Text) (n : ℕ) → IsNumber (43 ∷ rest) n → ⊥
 unfolding digits
 plus rest zero is =
     let text : (43 ∷ rest) ≡ 48 ∷ [] = is.text in
-    absurd (omega (arith, first-byte text))
+    absurd (omega (arith, ap (λ (t : Text). slice_index t 0) text))
 plus rest (suc n) is =
-    let first : 43 ≡ slice_index (decimal (suc n)) 0 = first-byte is.text in
+    let first : 43 ≡ slice_index (decimal (suc n)) 0 =
+    ap (λ (t : Text). slice_index t 0) is.text in
     let low : 48 < slice_index (decimal (suc n)) 0 =
     first_decimal (suc n) (omega arith) (omega (arith, is.fits)) in
     absurd (omega (arith, first, low))
@@ -121,13 +134,45 @@ no-plus-at rest None x = x
 no-plus-at rest (Some n) x = plus rest n x
 
 -- so `play` with such a word is no command line
-signed : (rows : List Row) (rest : Text) → first_of (codes "at") rows ≡ Some (43 ∷ rest)
-    → (line : CommandLine) → AsksBy (codes "play") rows line → ⊥
-signed rows rest e (Play at) x = no-plus-at rest at (subst (λ o. HasAt o at) e x.1)
-signed rows rest e line x = absurd (omega (arith, begins (codes "play") rows line x))
-
 pub signed-words : (words : List Text) (rows : List Row) (rest : Text)
     → subcommand_of program words ≡ Some (codes "play", rows)
     → first_of (codes "at") rows ≡ Some (43 ∷ rest) → IsCommandLine words → ⊥
-signed-words words rows rest named at asked =
-    signed rows rest at asked.0 (subst (λ e. AsksIn e asked.0) named asked.1.1)
+signed-words words rows rest named at (line, asked) =
+    let asks : play_form.asks rows line = subst (λ e. AsksIn e line) named asked.1 in
+    no-plus-at rest asks.0 (subst (λ o. HasAt o asks.0) at asks.1)
+
+-- none of these forms has the name
+abbrev pub NoneNamed : List Form → Text → Type 0
+NoneNamed [] name = Unit {0}
+NoneNamed (form ∷ rest) name = (name ≡ form.name → ⊥) × NoneNamed rest name
+
+not-here : (test : Bool) (name known : Text) (P Q : Type 0) → Decides test (name ≡ known)
+    → (name ≡ known → ⊥) → (Q → ⊥) → MatchBool test P Q → ⊥
+not-here true name known P Q decides other rest h = other (decides.0 refl)
+not-here false name known P Q decides other rest h = rest h
+
+-- so a command of the name asks for nothing
+pub unnamed : (all : List Form) (name : Text) (rows : List Row) (line : CommandLine)
+    → NoneNamed all name → AsksOf all name rows line → ⊥
+unnamed [] name rows line none h = h
+unnamed (form ∷ rest) name rows line none h =
+    not-here (bytes_eq name form.name) name form.name (form.asks rows line)
+    (AsksOf rest name rows line) (bytes_eq-Decides name form.name) none.0
+    (unnamed rest name rows line none.1) h
+
+-- ---- a name that is known
+
+-- what is so of a command's name is so of a text that is that name
+pub none-of : (found : Option CommandLine) (name known : Text) (rows : List Row) → name ≡ known
+    → IfNone found ((other : CommandLine) → AsksBy known rows other → ⊥)
+    → IfNone found ((other : CommandLine) → AsksBy name rows other → ⊥)
+none-of found name known rows same none = subst
+    (λ (n : Text). IfNone found ((other : CommandLine) → AsksBy n rows other → ⊥)) (sym same) none
+
+pub none-read : {E : Type 0} (read : Result (Option CommandLine) E) (name known : Text)
+    (rows : List Row) → name ≡ known
+    → IfOk read (λ found. IfNone found ((other : CommandLine) → AsksBy known rows other → ⊥))
+    → IfOk read (λ found. IfNone found ((other : CommandLine) → AsksBy name rows other → ⊥))
+none-read read name known rows same none = subst
+    (λ (n : Text). IfOk read (λ found. IfNone found ((other : CommandLine)
+    → AsksBy n rows other → ⊥))) (sym same) none

@@ -1,3 +1,5 @@
 pub mod CommandLines
+pub mod Forms
 pub mod Program
+pub mod Values
 pub mod Wanted

@@ -1,48 +1,17 @@
 -- The program's commands, as `clap` sees them.
-use Rattle.std.specs.Prelude.{true, Some, codes}
+use Rattle.std.specs.Prelude.{true, List, [], ◌∷◌, codes}
 use Rattle.clap.specs.Walk.{Rule}
-use Rattle.clap.specs.Simple.{App, new_app, new_rule, on_top, with_rule, with_subcommand}
+use Rattle.clap.specs.Simple.{App, new_app, on_top, with_rule, with_subcommand}
+use Rattle.dp_words.specs.Forms.{Form, forms}
 
--- `--at N`
-abbrev pub at_option : Rule
-at_option = record (new_rule (codes "at")) { long = Some (codes "at") }
+-- with these options and words
+abbrev pub with_rules : App → List Rule → App
+with_rules app [] = app
+with_rules app (rule ∷ rest) = with_rules (with_rule app rule) rest
 
--- `--workers N`, which has to be there
-abbrev pub workers_option : Rule
-workers_option = record (new_rule (codes "workers")) {
-  long = Some (codes "workers");
-  required = true;
-}
-
--- `--conns K`
-abbrev pub conns_option : Rule
-conns_option = record (new_rule (codes "conns")) { long = Some (codes "conns") }
-
--- a word that has to be there
-abbrev pub required_word : Rule → Rule
-required_word rule = record rule { required = true }
-
-abbrev pub replay_command : App
-replay_command = new_app (codes "replay")
-
-abbrev pub world_command : App
-world_command = new_app (codes "world")
-
--- `play [--at N]`
-abbrev pub play_command : App
-play_command = with_rule (new_app (codes "play")) at_option
-
--- `join ADDR NAME`
-abbrev pub join_command : App
-join_command =
-    with_rule (with_rule (new_app (codes "join")) (required_word (new_rule (codes "addr"))))
-    (required_word (new_rule (codes "name")))
-
--- `serve ADDR --workers N [--conns K]`
-abbrev pub serve_command : App
-serve_command =
-    with_rule (with_rule (with_rule (new_app (codes "serve"))
-    (required_word (new_rule (codes "addr")))) workers_option) conns_option
+-- the command of a form
+abbrev pub command_of : Form → App
+command_of form = with_rules (new_app form.name) form.rules
 
 -- what stands before the commands: no name of the program, no help, and a command has to be there
 abbrev pub bare_program : App
@@ -53,9 +22,11 @@ bare_program = on_top (λ top. record top {
   subcommand_required = true;
 }) (new_app (codes "drawpile"))
 
+-- with the commands of these forms
+abbrev pub with_forms : App → List Form → App
+with_forms app [] = app
+with_forms app (form ∷ rest) = with_forms (with_subcommand app (command_of form).top) rest
+
 -- the program with its commands
 abbrev pub program : App
-program =
-    with_subcommand (with_subcommand (with_subcommand (with_subcommand (with_subcommand
-    bare_program replay_command.top) world_command.top) play_command.top) join_command.top)
-    serve_command.top
+program = with_forms bare_program forms

@@ -1,17 +1,21 @@
 -- What the program needs of the outside, by its words.
-use Rattle.std.specs.Prelude.{ℕ, List, Option}
+use Rattle.std.specs.Prelude.{◌≡◌, ◌⊎◌, List}
 use Rattle.clap.specs.Walk.{Text}
-use Rattle.dp_words.specs.declared.command_line.CommandLine.TheVariants.{Join, Serve}
+use Rattle.dp_words.specs.declared.command_line.CommandLine.{CommandLine}
+use Rattle.dp_words.specs.declared.command_line.CommandLine.TheVariants as line
 use Rattle.dp_words.specs.declared.devices.Devices.{Devices}
 use Rattle.dp_words.specs.declared.devices.Devices.TheVariants.{Nothing, Dial, Listen}
-use Rattle.dp_words.specs.CommandLines.{AsksFor}
+use Rattle.dp_words.specs.CommandLines.{AsksFor, IsCommandLine}
 
--- The words want these devices: a link to the server that `join` names, a wire for each worker of
--- `serve`, and nothing for all others.
+-- the devices of a command line: a link to the server that it joins, or a wire for each worker
+abbrev pub devices_of : CommandLine → Devices
+devices_of (line.Local command) = Nothing
+devices_of (line.Join addr name) = Dial addr
+devices_of (line.Listen addr workers conns service) = Listen addr workers
+
+-- The words want these devices: those of the line for which they ask, and nothing where they ask
+-- for none.
 abbrev pub Wants : List Text → Devices → Type 0
-Wants words Nothing =
-    ((addr name : Text) → ¬ AsksFor words (Join addr name))
-    × ((addr : Text) (workers : ℕ) (conns : Option ℕ) → ¬ AsksFor words (Serve addr workers conns))
-Wants words (Dial addr) = (name : Text) × AsksFor words (Join addr name)
-Wants words (Listen addr workers) =
-    (conns : Option ℕ) × AsksFor words (Serve addr workers conns)
+Wants words devices =
+    ((line : CommandLine) × AsksFor words line × (devices ≡ devices_of line))
+    ⊎ (¬ IsCommandLine words × (devices ≡ Nothing))

@@ -3,8 +3,8 @@
 ghost use Rattle.std.specs.Prelude.{◌≡◌, false, IfOk};
 ghost use Rattle.clap.specs.Words.{app_of};
 ghost use Rattle.clap.specs.declared.builder.command.Command.TheViews.{out-Command};
-ghost use Rattle.dp_words.specs.Program.{bare_program, program, play_command, join_command};
-ghost use Rattle.dp_words.specs.Program.{serve_command};
+ghost use Rattle.dp_words.specs.Forms.{play_form, join_form, serve_form};
+ghost use Rattle.dp_words.specs.Program.{bare_program, command_of, program};
 
 use clap::{Arg, Command};
 use std::alloc::{AllocError, Global};
@@ -35,7 +35,7 @@ fn bare_of<'a>(alloc: Global) -> Command<'a>
 
 /// `play`, with its option.
 fn play_of<'a>(alloc: Global) -> Result<Command<'a>, AllocError>
-    ensures app { IfOk result (λ made. app_of made ≡ play_command) }
+    ensures app { IfOk result (λ made. app_of made ≡ command_of play_form) }
     ensures plain { IfOk result (λ made. (out-Command made).has_globals ≡ false) }
 {
     let at = Arg::new(alloc, "at").long("at");
@@ -44,7 +44,7 @@ fn play_of<'a>(alloc: Global) -> Result<Command<'a>, AllocError>
 
 /// `join`, with its two words.
 fn join_of<'a>(alloc: Global) -> Result<Command<'a>, AllocError>
-    ensures app { IfOk result (λ made. app_of made ≡ join_command) }
+    ensures app { IfOk result (λ made. app_of made ≡ command_of join_form) }
     ensures plain { IfOk result (λ made. (out-Command made).has_globals ≡ false) }
 {
     let addr = Arg::new(alloc, "addr").required(true);
@@ -54,7 +54,7 @@ fn join_of<'a>(alloc: Global) -> Result<Command<'a>, AllocError>
 
 /// `serve`, with its word and its options.
 fn serve_of<'a>(alloc: Global) -> Result<Command<'a>, AllocError>
-    ensures app { IfOk result (λ made. app_of made ≡ serve_command) }
+    ensures app { IfOk result (λ made. app_of made ≡ command_of serve_form) }
     ensures plain { IfOk result (λ made. (out-Command made).has_globals ≡ false) }
 {
     let addr = Arg::new(alloc, "addr").required(true);

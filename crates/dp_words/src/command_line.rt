@@ -3,27 +3,40 @@
 use crate::address::Address;
 use dp_msg_meta::Text;
 
-/// What the program is asked for.
+/// What the program is asked for, by what that needs.
 #[derive(Debug, Drop)]
 pub enum CommandLine {
-    /// Frames on the input, a picture on the output.
-    Replay,
-    /// A schedule on the input, its report on the output.
-    World,
-    /// A recording on the input, a picture on the output: of its first `at` entries, or of all.
-    Play {
-        at: Option<u32>,
-    },
+    /// A command on the input and the output alone.
+    Local(LocalCommand),
     /// A script on the input, for a client of this name at the server at `addr`.
     Join {
         addr: Address,
         name: Text,
     },
-    /// The server of a session at `addr`, with so many workers, from 1 to 64. Each worker ends
-    /// after `conns` links, at least 1, or goes on where there is no such number.
-    Serve {
+    /// A server at `addr` with so many workers, from 1 to 64. Each worker ends after `conns`
+    /// links, at least 1, or goes on where there is no such number.
+    Listen {
         addr: Address,
         workers: u32,
         conns: Option<u32>,
+        service: Service,
     },
+}
+
+/// A command that needs nothing beside the input and the output.
+#[derive(Debug, Drop)]
+pub enum LocalCommand {
+    /// Frames on the input, a picture on the output.
+    Replay,
+    /// A schedule on the input, its report on the output.
+    World,
+    /// A recording on the input, a picture on the output: of its first `at` entries, or of all.
+    Play { at: Option<u32> },
+}
+
+/// What a server serves.
+#[derive(Debug, Drop)]
+pub enum Service {
+    /// One session.
+    Session,
 }

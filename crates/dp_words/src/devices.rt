@@ -1,7 +1,7 @@
 //! What the program needs of the outside.
 
-ghost use Rattle.std.specs.Prelude.{map, string_bytes, IfOk};
-ghost use Rattle.dp_words.specs.Wanted.{Wants};
+ghost use Rattle.std.specs.Prelude.{◌≡◌, map, string_bytes, IfOk};
+ghost use Rattle.dp_words.specs.Wanted.{Wants, devices_of};
 
 use crate::address::Address;
 use crate::command_line::CommandLine;
@@ -24,14 +24,23 @@ pub fn wanted(alloc: Global, words: &[String]) -> Result<Devices, AllocError>
     ensures { IfOk result (Wants (map string_bytes words.now)) }
 {
     match read_words(alloc, words)? {
-        Some(CommandLine::Join { addr, name: _ }) => Ok(Devices::Dial { addr }),
-        Some(
-            CommandLine::Serve {
-                addr,
-                workers,
-                conns: _,
-            },
-        ) => Ok(Devices::Listen { addr, workers }),
-        _ => Ok(Devices::Nothing),
+        Some(line) => Ok(devices_of(line)),
+        None => Ok(Devices::Nothing),
+    }
+}
+
+/// The devices of a command line.
+fn devices_of(line: CommandLine) -> Devices
+    ensures { result ≡ devices_of line }
+{
+    match line {
+        CommandLine::Local(_) => Devices::Nothing,
+        CommandLine::Join { addr, name: _ } => Devices::Dial { addr },
+        CommandLine::Listen {
+            addr,
+            workers,
+            conns: _,
+            service: _,
+        } => Devices::Listen { addr, workers },
     }
 }

@@ -3,8 +3,10 @@
 ghost use Rattle.std.specs.Prelude.{◌≡◌, List, [], ◌∷◌, Some, None, codes};
 ghost use Rattle.clap.specs.Walk.{Text};
 ghost use Rattle.dp_words.specs.declared.command_line.CommandLine.{CommandLine};
-ghost use Rattle.dp_words.specs.declared.command_line.CommandLine.TheVariants.{Replay, World, Play};
-ghost use Rattle.dp_words.specs.declared.command_line.CommandLine.TheVariants.{Join, Serve};
+ghost use Rattle.dp_words.specs.declared.command_line.CommandLine.TheVariants.{Local, Join, Listen};
+ghost use Rattle.dp_words.specs.declared.command_line.LocalCommand.TheVariants.{Replay, World};
+ghost use Rattle.dp_words.specs.declared.command_line.LocalCommand.TheVariants.{Play};
+ghost use Rattle.dp_words.specs.declared.command_line.Service.TheVariants.{Session};
 ghost use Rattle.dp_words.specs.CommandLines.{AsksFor, IsCommandLine};
 
 use dp_lines::one_number;
@@ -19,18 +21,20 @@ pub fn one_command_line()
 
 /// Words of each kind ask for what they should, and others for nothing.
 pub fn some_command_lines()
-    ensures replay { AsksFor (codes "replay" ∷ []) Replay }
-    ensures world { AsksFor (codes "world" ∷ []) World }
-    ensures play { AsksFor (codes "play" ∷ []) (Play None) }
-    ensures play_at { AsksFor (codes "play" ∷ codes "--at" ∷ codes "30" ∷ []) (Play (Some 30)) }
-    ensures play_at_one_word { AsksFor (codes "play" ∷ codes "--at=30" ∷ []) (Play (Some 30)) }
+    ensures replay { AsksFor (codes "replay" ∷ []) (Local Replay) }
+    ensures world { AsksFor (codes "world" ∷ []) (Local World) }
+    ensures play { AsksFor (codes "play" ∷ []) (Local (Play None)) }
+    ensures play_at { AsksFor (codes "play" ∷ codes "--at" ∷ codes "30" ∷ [])
+        (Local (Play (Some 30))) }
+    ensures play_at_one_word { AsksFor (codes "play" ∷ codes "--at=30" ∷ [])
+        (Local (Play (Some 30))) }
     ensures join { AsksFor (codes "join" ∷ codes "localhost:7" ∷ codes "ann" ∷ [])
         (Join (codes "localhost:7") (codes "ann")) }
     ensures serve { AsksFor (codes "serve" ∷ codes "localhost:7" ∷ codes "--workers" ∷ codes "2"
-        ∷ []) (Serve (codes "localhost:7") 2 None) }
+        ∷ []) (Listen (codes "localhost:7") 2 None Session) }
     ensures serve_conns { AsksFor (codes "serve" ∷ codes "localhost:7" ∷ codes "--workers"
         ∷ codes "64" ∷ codes "--conns" ∷ codes "1" ∷ [])
-        (Serve (codes "localhost:7") 64 (Some 1)) }
+        (Listen (codes "localhost:7") 64 (Some 1) Session) }
     ensures no_workers { ¬ IsCommandLine (codes "serve" ∷ codes "localhost:7" ∷ []) }
     ensures no_word { ¬ IsCommandLine [] }
     ensures another_word { ¬ IsCommandLine (codes "paint" ∷ []) }

@@ -11,7 +11,7 @@ mod laws;
 mod parser;
 
 pub use address::Address;
-pub use command_line::CommandLine;
+pub use command_line::{CommandLine, LocalCommand, Service};
 pub use devices::{Devices, wanted};
 pub use laws::{one_command_line, some_command_lines};
 pub use parser::read_words;

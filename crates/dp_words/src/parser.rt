@@ -4,12 +4,13 @@ ghost use Rattle.std.specs.Prelude.{◌≡◌, ℕ, Option, codes, map, option_m
 ghost use Rattle.std.specs.Prelude.{IfNone, IfOk, IfSome};
 ghost use Rattle.clap.specs.Words.{first_of, found_of, rows_of, subcommand_rows_of};
 ghost use Rattle.dp_words.specs.declared.command_line.CommandLine.{CommandLine};
-ghost use Rattle.dp_words.specs.CommandLines.{AsksBy, AsksFor, AsksIn, IsCommandLine};
-ghost use Rattle.dp_words.specs.CommandLines.{HasAt, HasWorkers, IsConns};
+ghost use Rattle.dp_words.specs.CommandLines.{AsksBy, AsksFor, AsksIn, FitsLimits, IsCommandLine};
+ghost use Rattle.dp_words.specs.Forms.{join_form, play_form, serve_form};
+ghost use Rattle.dp_words.specs.Values.{HasAt, HasWorkers, IsConns};
 
 use crate::address::Address;
 use crate::app::program_of;
-use crate::command_line::CommandLine;
+use crate::command_line::{CommandLine, LocalCommand, Service};
 use clap::ArgMatches;
 use clap::error::ErrorKind;
 use dp_lines::{number, one_number};
@@ -22,6 +23,7 @@ pub fn read_words(alloc: Global, words: &[String]) -> Result<Option<CommandLine>
     ensures some { IfOk result (λ line. IfSome line (AsksFor (map string_bytes words.now))) }
     ensures none { IfOk result (λ line. IfNone line
         (¬ IsCommandLine (map string_bytes words.now))) }
+    ensures limits { IfOk result (λ line. IfSome line FitsLimits) }
 {
     match program_of(alloc)?.try_get_matches_from(words) {
         Ok(matches) => line_of(alloc, &matches),
@@ -35,6 +37,7 @@ fn line_of(alloc: Global, matches: &ArgMatches) -> Result<Option<CommandLine>, A
     ensures some { IfOk result (λ line. IfSome line (AsksIn (subcommand_rows_of matches.now))) }
     ensures none { IfOk result (λ line. IfNone line ((other : CommandLine)
         → ¬ AsksIn (subcommand_rows_of matches.now) other)) }
+    ensures limits { IfOk result (λ line. IfSome line FitsLimits) }
 {
     match matches.subcommand() {
         Some((name, given)) => asked_by(alloc, name, given),
@@ -52,10 +55,11 @@ fn asked_by(
         (AsksBy name.now (rows_of (found_of given.now)))) }
     ensures none { IfOk result (λ line. IfNone line ((other : CommandLine)
         → ¬ AsksBy name.now (rows_of (found_of given.now)) other)) }
+    ensures limits { IfOk result (λ line. IfSome line FitsLimits) }
 {
     match name {
-        "replay" => Ok(Some(CommandLine::Replay)),
-        "world" => Ok(Some(CommandLine::World)),
+        "replay" => Ok(Some(CommandLine::Local(LocalCommand::Replay))),
+        "world" => Ok(Some(CommandLine::Local(LocalCommand::World))),
         "play" => Ok(played(given)),
         "join" => joined(alloc, given),
         "serve" => served(alloc, given),
@@ -65,24 +69,25 @@ fn asked_by(
 
 /// `play` with its option.
 fn played(given: &ArgMatches) -> Option<CommandLine>
-    ensures some { IfSome result (AsksBy (codes "play") (rows_of (found_of given.now))) }
+    ensures some { IfSome result (play_form.asks (rows_of (found_of given.now))) }
     ensures none { IfNone result ((other : CommandLine)
         → ¬ AsksBy (codes "play") (rows_of (found_of given.now)) other) }
+    ensures limits { IfSome result FitsLimits }
 {
-    match value_of(given, "at") {
-        Some(word) => Some(CommandLine::Play {
-            at: Some(number(word.as_bytes())?),
-        }),
-        None => Some(CommandLine::Play { at: None }),
-    }
+    let at = match value_of(given, "at") {
+        Some(word) => Some(number(word.as_bytes())?),
+        None => None,
+    };
+    Some(CommandLine::Local(LocalCommand::Play { at }))
 }
 
 /// `join` with its words, if the name has from 1 to 32 bytes.
 fn joined(alloc: Global, given: &ArgMatches) -> Result<Option<CommandLine>, AllocError>
     ensures some { IfOk result (λ line. IfSome line
-        (AsksBy (codes "join") (rows_of (found_of given.now)))) }
+        (join_form.asks (rows_of (found_of given.now)))) }
     ensures none { IfOk result (λ line. IfNone line ((other : CommandLine)
         → ¬ AsksBy (codes "join") (rows_of (found_of given.now)) other)) }
+    ensures limits { IfOk result (λ line. IfSome line FitsLimits) }
 {
     let (Some(addr), Some(name)) = (value_of(given, "addr"), value_of(given, "name")) else {
         return Ok(None);
@@ -98,9 +103,10 @@ fn joined(alloc: Global, given: &ArgMatches) -> Result<Option<CommandLine>, Allo
 /// `serve` with its word and its options, if their numbers are ones that it takes.
 fn served(alloc: Global, given: &ArgMatches) -> Result<Option<CommandLine>, AllocError>
     ensures some { IfOk result (λ line. IfSome line
-        (AsksBy (codes "serve") (rows_of (found_of given.now)))) }
+        (serve_form.asks (rows_of (found_of given.now)))) }
     ensures none { IfOk result (λ line. IfNone line ((other : CommandLine)
         → ¬ AsksBy (codes "serve") (rows_of (found_of given.now)) other)) }
+    ensures limits { IfOk result (λ line. IfSome line FitsLimits) }
 {
     let Some(addr) = value_of(given, "addr") else {
         return Ok(None);
@@ -109,10 +115,11 @@ fn served(alloc: Global, given: &ArgMatches) -> Result<Option<CommandLine>, Allo
         return Ok(None);
     };
     let addr = Address::from_str(alloc, addr)?;
-    Ok(Some(CommandLine::Serve {
+    Ok(Some(CommandLine::Listen {
         addr,
         workers,
         conns,
+        service: Service::Session,
     }))
 }
 

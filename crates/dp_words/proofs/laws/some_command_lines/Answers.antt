@@ -1,5 +1,5 @@
 -- Each is computed by `clap`'s functions.
-use Rattle.std.proofs.Common.{[], ◌∷◌, codes, refl, lit<, lit≤}
+use Rattle.std.proofs.Common.{[], ◌∷◌, None, Some, codes, refl, lit<, lit≤}
 use Rattle.std.specs.Fmt.{digits}
 use Rattle.clap.proofs.OnLiterals.{clap_on_literals}
 use Rattle.std.proofs.Common.{List}
@@ -20,25 +20,36 @@ returns-clause-world c = (refl, refl)
 
 pub returns-clause-play : goal.returns-clause-play
 unfolding clap_on_literals
-returns-clause-play c = (refl, (refl, tt))
+returns-clause-play c = (refl, (None, tt, refl))
 
 pub returns-clause-play_at : goal.returns-clause-play_at
 unfolding clap_on_literals digits
-returns-clause-play_at c = (refl, (refl, record { fits = lit< tt; text = refl }))
+returns-clause-play_at c = (refl, (Some 30, record { fits = lit< tt; text = refl }, refl))
 
 pub returns-clause-play_at_one_word : goal.returns-clause-play_at_one_word
 unfolding clap_on_literals digits
-returns-clause-play_at_one_word c = (refl, (refl, record { fits = lit< tt; text = refl }))
+returns-clause-play_at_one_word c =
+    (refl, (Some 30, record { fits = lit< tt; text = refl }, refl))
 
 pub returns-clause-join : goal.returns-clause-join
 unfolding clap_on_literals
-returns-clause-join c = (refl, (refl, refl, refl, lit≤ tt, lit≤ tt))
+returns-clause-join c =
+    (refl, (codes "localhost:7", codes "ann", refl, refl, lit≤ tt, lit≤ tt, refl))
 
 pub returns-clause-serve : goal.returns-clause-serve
 unfolding clap_on_literals digits
 returns-clause-serve c = (
   refl,
-  (refl, refl, (record { fits = lit< tt; text = refl }, lit≤ tt, lit≤ tt), tt, tt),
+  (
+    codes "localhost:7",
+    2,
+    None,
+    refl,
+    (record { fits = lit< tt; text = refl }, lit≤ tt, lit≤ tt),
+    tt,
+    tt,
+    refl,
+  ),
 )
 
 pub returns-clause-serve_conns : goal.returns-clause-serve_conns
@@ -46,11 +57,14 @@ unfolding clap_on_literals digits
 returns-clause-serve_conns c = (
   refl,
   (
-    refl,
+    codes "localhost:7",
+    64,
+    Some 1,
     refl,
     (record { fits = lit< tt; text = refl }, lit≤ tt, lit≤ tt),
     record { fits = lit< tt; text = refl },
     lit≤ tt,
+    refl,
   ),
 )
 

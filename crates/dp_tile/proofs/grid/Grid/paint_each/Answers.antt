@@ -22,8 +22,8 @@ loop-row-preserved g c =
     let next = c.in_ok-paint_row.ensures in
     let one_more : row + 1 - area.top ≡ row - area.top + 1 = omega (arith, order) in
     record {
-      painted = area_next painted area c.args.self.now row c.loop-row.self c.paint_row.new.self order
-          c.requires.across c.requires.cols inv.painted next.painted;
+      painted = area_next painted area c.args.self.now row c.loop-row.self c.paint_row.new.self
+          order c.requires.across c.requires.cols inv.painted next.painted;
       rise = omega (arith, inv.rise, next.tiles_rise);
       few = rw one_more (omega (arith, inv.few, next.few_tiles));
       shown = omega (

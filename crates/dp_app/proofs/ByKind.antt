@@ -1,0 +1,255 @@
+-- What holds of a run of each kind: on its streams alone, over a link, and of a server.
+use Rattle.std.proofs.Common.{◌≡◌, ◌≢◌, ℕ, ◌⊎◌, Bool, true, false, List, [], ◌∷◌, length}
+use Rattle.std.proofs.Common.{◌++◌, drop, refl, sym, ap, ◌∙◌, subst, inl, inr, take}
+use Rattle.std.proofs.lemmas.List.{take_at}
+use Rattle.std.specs.Prelude.{Option, Some, None, IfSome}
+use Rattle.std.specs.declared.string.String.{String}
+use Rattle.std.specs.Io.KnownBytes.{Appends, Keeps}
+use Rattle.dp_joining.specs.Leaves.{Counts, FaultMatchesJoin, JoinLeaves, Traffic}
+use Rattle.dp_joining.specs.Leaves as leaves
+use Rattle.dp_joining.specs.Outcomes.{JoinComesTo, JoinOutcome}
+use Rattle.dp_joining.specs.Runs.{JoinsOver, Returns, RunLeaves}
+use Rattle.dp_lines.specs.declared.run_end.RunEnd.{RunEnd}
+use Rattle.dp_lines.specs.declared.run_end.RunEnd.TheVariants.{Done, BadLine, ReadFault, WriteFault}
+use Rattle.dp_lines.specs.declared.run_end.RunEnd.TheVariants.{LinkFault, Memory, Long, Truncated}
+use Rattle.dp_lines.specs.declared.run_end.RunEnd.TheVariants.{BadMessage, BadHeader, Closed}
+use Rattle.dp_lines.specs.RunEnds.{FaultMatchesEnd}
+use Rattle.dp_wire.specs.Links.{Links, WhereKnown}
+use Rattle.dp_words.specs.declared.command_line.CommandLine.{CommandLine}
+use Rattle.dp_words.specs.declared.command_line.CommandLine.TheVariants.{Local, Join, Listen}
+use Rattle.dp_words.specs.declared.command_line.LocalCommand.{LocalCommand}
+use Rattle.dp_words.specs.declared.command_line.Service.{Service}
+use Rattle.dp_app.specs.Commands.{Asks, HasLink, HasLinks, HasWires}
+use Rattle.dp_app.specs.Due.{GivesLink}
+use Rattle.dp_app.specs.declared.ending.Ending.{Ending}
+use Rattle.dp_app.specs.declared.ending.Ending.TheVariants.{NoLink, NoWords, Run, Usage}
+use Rattle.dp_app.specs.Endings.{Effects, Kept, Streams, Untouched, Wires, effects}
+use Rattle.dp_app.specs.Joins.{JoinsOn, ends_of}
+use Rattle.dp_app.specs.Kinds.{EndsCommand, KindLeaves, Reads}
+use Rattle.dp_app.specs.Runs.{IsReadWhole, IsRun, IsUnfailed, run_of}
+use Rattle.dp_app.specs.Servers.{NotServed, RunsServer, ServedOn, server_end}
+
+-- the laws on the commands that need no link
+abbrev pub AreRuns : Type 0
+AreRuns = (command : LocalCommand) → IsRun (run_of command)
+
+-- which counts of the streams rise in a run that ends so
+abbrev pub Matches : Streams → RunEnd → Type 0
+Matches s end = FaultMatchesEnd s.read s.read_now s.written s.written_now end
+
+-- ---- over a link
+
+of-streams : (old now : Counts) (end : RunEnd) → FaultMatchesJoin old now end
+    → FaultMatchesEnd old.input now.input old.output now.output end
+of-streams old now ReadFault b = (b.0, b.1.output)
+of-streams old now WriteFault b = (b.0, b.1)
+of-streams old now LinkFault b = (b.0, b.1)
+of-streams old now _ b = (b.0, b.1.output)
+
+script-whole : (name : List ℕ) (t : Traffic) (end : RunEnd) → JoinLeaves name t end
+    → IsReadWhole end t.left
+script-whole name t Done h = h.0
+script-whole name t (Truncated n) h = absurd h
+script-whole name t _ h = tt
+
+-- what a script and a link come to was written
+abbrev pub Writes : List ℕ → Traffic → RunEnd → List ℕ → List ℕ → Type 0
+Writes name t end input link =
+    (outcome : JoinOutcome) × JoinComesTo name input link outcome × (outcome.end ≡ end)
+    × Appends t.print_old t.print_now outcome.text × Appends t.sent_old t.sent_now outcome.written
+
+writes-all : (name : List ℕ) (t : Traffic) (end : RunEnd) (input link : List ℕ)
+    → t.input ≡ Some input → t.link ≡ Some link → leaves.WritesAll name t end
+    → (outcome : JoinOutcome) × JoinComesTo name input link outcome × (outcome.end ≡ end)
+    × Appends t.print_old t.print_now outcome.text
+writes-all name t end input link known linked h =
+    let all = subst (λ (o : Option (List ℕ)). IfSome o (λ bytes. Writes name t end input bytes))
+    linked (subst (λ (o : Option (List ℕ)). IfSome o (λ bytes. IfSome t.link
+    (λ other. Writes name t end bytes other))) known h) in
+    (all.0, all.1, all.2, all.3)
+
+-- a run that didn't fail wrote what the script and the link come to
+pub join-given : (name : List ℕ) (t : Traffic) (end : RunEnd) (input link : List ℕ)
+    → t.input ≡ Some input → t.link ≡ Some link → JoinLeaves name t end → IsUnfailed end
+    → (outcome : JoinOutcome) × JoinComesTo name input link outcome × (outcome.end ≡ end)
+    × Appends t.print_old t.print_now outcome.text
+join-given name t Done input link known linked h unfailed =
+    writes-all name t Done input link known linked h.1
+join-given name t (BadLine n) input link known linked h unfailed =
+    writes-all name t (BadLine n) input link known linked h
+join-given name t Long input link known linked h unfailed =
+    writes-all name t Long input link known linked h
+join-given name t Closed input link known linked h unfailed =
+    writes-all name t Closed input link known linked h
+join-given name t (BadMessage n) input link known linked h unfailed =
+    writes-all name t (BadMessage n) input link known linked h
+join-given name t ReadFault input link known linked h unfailed = absurd unfailed
+join-given name t WriteFault input link known linked h unfailed = absurd unfailed
+join-given name t LinkFault input link known linked h unfailed = absurd unfailed
+join-given name t Memory input link known linked h unfailed = absurd unfailed
+join-given name t (Truncated n) input link known linked h unfailed = absurd h
+join-given name t BadHeader input link known linked h unfailed = absurd h
+
+-- the source of the first of these links
+source-of : {R T : Type 0} → R → List (R × T) → R
+source-of rx [] = rx
+source-of rx (link ∷ links) = link.0
+
+-- the link that was handed out is the first of those to come
+next-of : {R T : Type 0} (links now : Option (Links R T)) (known : Links R T)
+    (link back : R × T) → links ≡ Some known
+    → WhereKnown links (λ a b. Returns link back a b) now
+    → (rest : List (R × T)) × (known.to_come ≡ link ∷ rest)
+next-of {R} {T} links None known link back e h =
+    absurd (subst (λ (o : Option (Links R T)). WhereKnown o (λ a b. Returns link back a b) None) e
+    h)
+next-of {R} {T} links (Some now) known link back e h =
+    let returns : Returns link back known now =
+    subst (λ (o : Option (Links R T)). WhereKnown o (λ a b. Returns link back a b) (Some now)) e h
+    in (now.to_come, returns.next)
+
+module _ {W R T : Type 0} (see : Wires W R T) (name : List ℕ) (e : Effects W) (end : RunEnd) where
+  abbrev pub LeavesLink : W → W → Type 0
+  LeavesLink wire now = RunLeaves see.left see.read_faults see.held see.write_faults name
+      (see.links wire) (see.links now) (see.faults wire) (see.faults now) (ends_of e.streams) end
+
+  join-matches : (wire now : W) → LeavesLink wire now → Matches e.streams end
+  join-matches wire now (inl (is, rose, same)) =
+      subst (Matches e.streams) (sym is) (same.input_faults, same.output_faults)
+  join-matches wire now (inr (inl (is, stays, same))) =
+      subst (Matches e.streams) (sym is) (same.input_faults, same.output_faults)
+  join-matches wire now (inr (inr (stays, over))) = of-streams _ _ end over.fault
+
+  join-whole : (wire now : W) → LeavesLink wire now → IsReadWhole end e.streams.left
+  join-whole wire now (inl (is, rose, same)) =
+      subst (λ (x : RunEnd). IsReadWhole x e.streams.left) (sym is) tt
+  join-whole wire now (inr (inl (is, stays, same))) =
+      subst (λ (x : RunEnd). IsReadWhole x e.streams.left) (sym is) tt
+  join-whole wire now (inr (inr (stays, over))) = script-whole name _ end over.leaves
+
+  -- there was a wire
+  pub has-wire : JoinsOn see name e end → e.old ≢ []
+  has-wire h = λ none. let x : [] ≡ h.wire ∷ h.others = sym none ∙ h.before in cc
+
+  -- what a run over the first link gave that didn't fail
+  first-given : (wire now first : W) (links : Links R T) (rx : R) (tx : T) (more : List (R × T))
+      (input link : List ℕ) → LeavesLink wire now → wire ≡ first → see.links first ≡ Some links
+      → links.to_come ≡ (rx, tx) ∷ more → see.left rx ≡ Some link
+      → e.streams.input ≡ Some input → IsUnfailed end
+      → (outcome : JoinOutcome) × JoinComesTo name input link outcome × (outcome.end ≡ end)
+      × Appends e.streams.old e.streams.new outcome.text
+  unfolding source-of
+  first-given wire now first links rx tx more input link (inl (is, rose, same)) one known next holds
+      told unfailed = absurd (subst IsUnfailed is unfailed)
+  first-given wire now first links rx tx more input link (inr (inl (is, stays, same))) one known
+      next holds told unfailed = absurd (subst IsUnfailed is unfailed)
+  first-given wire now first links rx tx more input link (inr (inr (stays, over))) one known next
+      holds told unfailed =
+      let handed = next-of (see.links wire) (see.links now) links (over.rx, over.tx)
+      (over.rx_now, over.tx_now) (ap see.links one ∙ known) over.returned in
+      let same : over.rx ≡ rx = ap (source-of over.rx) (sym handed.1 ∙ next) in
+      join-given name _ end input link told (ap see.left same ∙ holds) over.leaves unfailed
+
+  pub joins-given : JoinsOn see name e end → (input link : List ℕ) → GivesLink see e.old link
+      → e.streams.input ≡ Some input → IsUnfailed end
+      → (outcome : JoinOutcome) × JoinComesTo name input link outcome × (outcome.end ≡ end)
+      × Appends e.streams.old e.streams.new outcome.text
+  joins-given h input link gives told unfailed =
+      let heads : h.wire ∷ h.others ≡ gives.wire ∷ gives.others = sym h.before ∙ gives.first in
+      let same : h.wire ≡ gives.wire = cc in
+      first-given h.wire h.now gives.wire gives.links gives.rx gives.tx gives.more input link
+      h.leaves same gives.known gives.next gives.holds told unfailed
+
+-- ---- of a server
+
+flags-match : (s : Streams) (memory wire : Bool) → Untouched s → Matches s (server_end memory wire)
+flags-match s true wire same = (same.2, same.3)
+flags-match s false true same = (same.2, same.3)
+flags-match s false false same = (same.2, same.3)
+
+server-matches : {W R T : Type 0} (see : Wires W R T) (conns : Option ℕ) (e : Effects W)
+    (end : RunEnd) → Untouched e.streams → ServedOn see conns e end ⊎ NotServed e end
+    → Matches e.streams end
+server-matches see conns e end same (inl served) =
+    subst (Matches e.streams) (sym served.end_is)
+    (flags-match e.streams served.memory served.wire same)
+server-matches see conns e end same (inr not) =
+    subst (Matches e.streams) (sym not.end_is) (same.2, same.3)
+
+-- ---- of each kind
+
+module _ {W R T : Type 0} (see : Wires W R T) where
+  pub kind-matches : (command : CommandLine) (e : Effects W) (end : RunEnd)
+      → KindLeaves see command e end → Matches e.streams end
+  kind-matches (Local command) e end h = h.fault
+  kind-matches (Join addr name) e end h = join-matches see name e end h.wire h.now h.leaves
+  kind-matches (Listen addr workers conns service) e end h =
+      server-matches see conns e end h.1.untouched h.1.served
+
+  pub kind-whole : AreRuns → (command : CommandLine) (e : Effects W) (end : RunEnd)
+      → KindLeaves see command e end → Reads command → IsReadWhole end e.streams.left
+  kind-whole runs (Local command) e end h reads =
+      (runs command).whole e.streams.input e.streams.left e.streams.old e.streams.new end h.leaves
+      reads
+  kind-whole runs (Join addr name) e end h reads =
+      join-whole see name e end h.wire h.now h.leaves
+  kind-whole runs (Listen addr workers conns service) e end h reads = absurd reads
+
+  -- a command of which a run ended by a link has its wires
+  pub kind-links : {A : Type 0} → AreRuns → (words : List (String A)) (command : CommandLine)
+      (e : Effects W) → Asks words command → KindLeaves see command e LinkFault
+      → HasLinks words e.old
+  kind-links runs words (Local command) e asks h =
+      absurd ((runs command).alone e.streams.input e.streams.left e.streams.old e.streams.new
+      h.leaves)
+  kind-links runs words (Join addr name) e asks h =
+      inl ((addr, name, asks), has-wire see name e LinkFault h)
+  kind-links runs words (Listen addr workers conns service) e asks h = inr (
+    addr,
+    conns,
+    service,
+    subst (λ (n : ℕ). Asks words (Listen addr n conns service)) (sym h.0) asks,
+  )
+
+-- words that ask for as many workers as there are wires have their wires
+pub has-wires : {A W : Type 0} (words : List (String A)) (wires : List W) (addr : List ℕ)
+    (workers : ℕ) (conns : Option ℕ) (service : Service)
+    → Asks words (Listen addr workers conns service) → length wires ≡ workers
+    → HasWires words wires
+has-wires words wires addr workers conns service asks same = (
+  addr,
+  conns,
+  service,
+  subst (λ (n : ℕ). Asks words (Listen addr n conns service)) (sym same) asks,
+)
+
+-- ---- the wires as a vector
+
+-- the vector whose slice became that
+abbrev pub sliced : {W : Type 0} → List W → List W → ℕ → List W
+sliced old new n = take n (new ++ drop (length new) old)
+
+module _ {W R T : Type 0} (see : Wires W R T) (addr name : List ℕ) (s : Streams) (k : Kept) where
+  abbrev pub EndsLink : List W → List W → Ending → Type 0
+  EndsLink old new ending = EndsCommand see (Join addr name) (effects s old new k) ending
+
+  as-long : (old new : List W) (ending : Ending) → EndsLink old new ending
+      → length new ≡ length old
+  as-long old new Usage h = absurd h
+  as-long old new NoLink h = ap length h.1.stays.wires
+  as-long old new NoWords h = absurd h
+  as-long old new (Run end) h = ap length h.after ∙ sym (ap length h.before)
+
+  -- the same of the vector as of the slice
+  pub in-vector : (old mid new : List W) (n : ℕ) (ending : Ending) → mid ≡ old → n ≡ length old
+      → EndsLink mid new ending → EndsLink old (sliced old new n) ending
+  in-vector old mid new n ending same long h =
+      let last = as-long mid new ending h ∙ ap length same ∙ sym long in
+      subst (λ (news : List W). EndsLink old news ending)
+      (sym (take_at new (drop (length new) old) n last))
+      (subst (λ (olds : List W). EndsLink olds new ending) same h)
+
+-- an option keeps itself
+pub stays : (o : Option (List ℕ)) → Keeps o o
+stays None = tt
+stays (Some bytes) = refl

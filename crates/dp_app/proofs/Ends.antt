@@ -1,0 +1,428 @@
+-- The ways in which the program ends give the clauses of the top call.
+use Rattle.std.proofs.Common.{◌≡◌, ◌≢◌, ℕ, ◌<◌, ◌⊎◌, List, [], ◌∷◌, refl, sym, ap, ◌∙◌, subst}
+use Rattle.std.proofs.Common.{⊎_elim, inl, inr, arith, length}
+use Rattle.std.specs.Prelude.{Option, Some, None, IfSome, map, string_bytes}
+use Rattle.std.specs.declared.string.String.{String}
+use Rattle.std.specs.Io.KnownBytes.{Appends, IsAtEnd}
+use Rattle.dp_io.specs.Faults.{Rose}
+use Rattle.dp_joining.specs.Outcomes.{JoinComesTo, JoinOutcome}
+use Rattle.dp_lines.specs.declared.run_end.RunEnd.{RunEnd}
+use Rattle.dp_lines.specs.declared.run_end.RunEnd.TheVariants.{LinkFault, Memory}
+use Rattle.dp_lines.specs.RunEnds.{FaultMatchesEnd}
+use Rattle.dp_schedule.specs.declared.action.Action.{Action}
+use Rattle.dp_sim.specs.Headline.{Headline}
+use Rattle.dp_sim.specs.World.{world_after}
+use Rattle.dp_words.specs.CommandLines.{AsksFor}
+use Rattle.dp_words.specs.declared.command_line.CommandLine.{CommandLine}
+use Rattle.dp_words.specs.declared.command_line.CommandLine.TheVariants.{Local, Join, Listen}
+use Rattle.dp_words.specs.declared.command_line.LocalCommand.{LocalCommand}
+use Rattle.dp_words.specs.declared.command_line.Service.{Service}
+use Rattle.dp_app.specs.declared.ending.Ending.{Ending}
+use Rattle.dp_app.specs.declared.ending.Ending.TheVariants.{Usage, NoLink, NoWords, Run}
+use Rattle.dp_app.specs.Answer.{Answer, HasHeadline, IsGiven, Says, SaysNoLink, SaysUsage}
+use Rattle.dp_app.specs.Answer.{answer_of, line_of, no_link_answer, status_of, usage_answer}
+use Rattle.dp_app.specs.Commands.{AskAndLack, AskForLocal, Asks, HasLink, HasLinks, HasWires}
+use Rattle.dp_app.specs.Commands.{IsCommand, LacksWires}
+use Rattle.dp_app.specs.Due.{DueOf, GetsLink, IsDue}
+use Rattle.dp_app.specs.Endings.{Effects, IsUntouched, KeepsNothing, Untouched, Wires, code_of}
+use Rattle.dp_app.specs.Endings.{ending_line}
+use Rattle.dp_app.specs.Joins.{HasJoined}
+use Rattle.dp_app.specs.Kinds.{EndsCommand, EndsWords, KindLeaves, Reads}
+use Rattle.dp_app.specs.Runs.{IsUnfailed, run_of}
+use Rattle.dp_app.specs.Servers.{HasServed}
+use Rattle.dp_app.proofs.Answering.{Counted, Said, is-link-fault, is-unfailed, is-whole, not-one}
+use Rattle.dp_app.proofs.Answering.{IsOfBytes, not-thirteen, not-whole, read-rose, told}
+use Rattle.dp_app.proofs.Answering.{unfailed, write-rose}
+use Rattle.dp_app.proofs.ByKind.{AreRuns, has-wire, has-wires, joins-given, kind-links}
+use Rattle.dp_app.proofs.ByKind.{kind-matches, kind-whole}
+use Rattle.dp_app.proofs.LocalRuns.{appends_nothing}
+
+-- words ask for one thing
+abbrev pub OneCommand : Type 0
+OneCommand = (words : List (List ℕ)) (line other : CommandLine) → AsksFor words line
+    → AsksFor words other → line ≡ other
+
+-- a script and a link come to one outcome
+abbrev pub OneOutcome : Type 0
+OneOutcome = (name input link : List ℕ) (outcome other : JoinOutcome)
+    → JoinComesTo name input link outcome → JoinComesTo name input link other
+    → outcome ≡ other
+
+-- the headline, of an input whose bytes are known
+pub headline-of : ((actions : List Action) → Headline (world_after actions))
+    → (told : Option (List ℕ)) → IfSome told HasHeadline
+headline-of law None = tt
+headline-of law (Some bytes) = λ done after actions parts asked. law actions
+
+-- of an input whose bytes may be known
+for-known : {P : List ℕ → Type 0} (o : Option (List ℕ))
+    → ((bytes : List ℕ) → o ≡ Some bytes → P bytes) → IfSome o P
+for-known None each = tt
+for-known (Some bytes) each = each bytes refl
+
+module _ {A W R T : Type 0} (see : Wires W R T) (words : List (String A)) (e : Effects W) where
+  -- what the command that the words ask for leaves
+  pub words-end : (command : CommandLine) (ending : Ending) → Asks words command
+      → EndsCommand see command e ending → EndsWords see words e ending
+  words-end command Usage asks h = absurd h
+  words-end command NoLink asks h = (command, asks, h.0, h.1)
+  words-end command NoWords asks h = absurd h
+  words-end command (Run end) asks h = (command, asks, h)
+
+  pub counted : (ending : Ending) → EndsWords see words e ending → Counted e.streams ending
+  counted Usage h = (h.1.streams.2, h.1.streams.3)
+  counted NoLink h = (h.3.streams.2, h.3.streams.3)
+  counted NoWords h = (h.streams.2, h.streams.3)
+  counted (Run end) h = kind-matches see h.0 e end h.2
+
+  -- nothing was done, or a command was run for which the words ask
+  done : (ending : Ending) → EndsWords see words e ending
+      → IsUntouched e ⊎ ((command : CommandLine) × Asks words command
+      × ((end : RunEnd) × KindLeaves see command e end))
+  done Usage h = inl h.1
+  done NoLink h = inl h.3
+  done NoWords h = inl h
+  done (Run end) h = inr (h.0, h.1, (end, h.2))
+
+  -- so what holds where nothing was done, and after each run, holds
+  of-each : {P : Type 0} (ending : Ending) → EndsWords see words e ending → (IsUntouched e → P)
+      → ((command : CommandLine) (end : RunEnd) → Asks words command
+      → KindLeaves see command e end → P) → P
+  of-each ending h nothing run =
+      ⊎_elim nothing (λ ran. run ran.0 ran.2.0 ran.1 ran.2.1) (done ending h)
+
+  kind-untouched : ¬ AskForLocal words → ¬ HasLink words e.old → (command : CommandLine)
+      (end : RunEnd) → Asks words command → KindLeaves see command e end → Untouched e.streams
+  kind-untouched none never (Local command) end asks h = absurd (none (command, asks))
+  kind-untouched none never (Join addr name) end asks h =
+      absurd (never ((addr, name, asks), has-wire see name e end h))
+  kind-untouched none never (Listen addr workers conns service) end asks h = h.1.untouched
+
+  pub untouched : (ending : Ending) → EndsWords see words e ending → ¬ AskForLocal words
+      → ¬ HasLink words e.old → Untouched e.streams
+  untouched ending h none never =
+      of-each ending h (λ nothing. nothing.streams) (kind-untouched none never)
+
+  kind-nothing : ¬ HasWires words e.old → (command : CommandLine) (end : RunEnd)
+      → Asks words command → KindLeaves see command e end → KeepsNothing e.kept
+  kind-nothing never (Local command) end asks h = h.stays.nothing
+  kind-nothing never (Join addr name) end asks h = h.nothing
+  kind-nothing never (Listen addr workers conns service) end asks h =
+      absurd (never (has-wires words e.old addr workers conns service asks h.0))
+
+  pub nothing-kept : (ending : Ending) → EndsWords see words e ending → ¬ HasWires words e.old
+      → KeepsNothing e.kept
+  nothing-kept ending h never =
+      of-each ending h (λ nothing. nothing.stays.nothing) (kind-nothing never)
+
+  kind-stay : ¬ HasLinks words e.old → (command : CommandLine) (end : RunEnd)
+      → Asks words command → KindLeaves see command e end → e.new ≡ e.old
+  kind-stay never (Local command) end asks h = h.stays.wires
+  kind-stay never (Join addr name) end asks h =
+      absurd (never (inl ((addr, name, asks), has-wire see name e end h)))
+  kind-stay never (Listen addr workers conns service) end asks h =
+      absurd (never (inr (has-wires words e.old addr workers conns service asks h.0)))
+
+  pub wires-stay : (ending : Ending) → EndsWords see words e ending → ¬ HasLinks words e.old
+      → e.new ≡ e.old
+  wires-stay ending h never = of-each ending h (λ nothing. nothing.stays.wires) (kind-stay never)
+
+  -- ---- by what is said
+
+  module _ (dold dnew : Option (List ℕ)) (before now status : ℕ) where
+    abbrev pub Tells : Ending → Type 0
+    Tells ending = Said e.streams dold dnew before now status ending
+
+    pub usage : (ending : Ending) → EndsWords see words e ending → Tells ending → status ≡ 1
+        → ¬ IsCommand words
+    usage ending h (inr failed) is = absurd (omega (arith, failed.0, is))
+    usage Usage h (inl says) is = h.0
+    usage NoLink h (inl says) is = absurd (omega (arith, says.0, is))
+    usage NoWords h (inl says) is = absurd (omega (arith, says.0, is))
+    usage (Run end) h (inl says) is = absurd (not-one end (sym says.0 ∙ is))
+
+    pub lacks : (ending : Ending) → EndsWords see words e ending → Tells ending → status ≡ 13
+        → AskAndLack words e.old
+    lacks ending h (inr failed) is = absurd (omega (arith, failed.0, is))
+    lacks Usage h (inl says) is = absurd (omega (arith, says.0, is))
+    lacks NoLink h (inl says) is = (h.0, h.1, h.2)
+    lacks NoWords h (inl says) is = absurd (omega (arith, says.0, is))
+    lacks (Run end) h (inl says) is = absurd (not-thirteen end (sym says.0 ∙ is))
+
+    pub link-fault : AreRuns → (ending : Ending) → EndsWords see words e ending → Tells ending
+        → status ≡ 5 → HasLinks words e.old
+    link-fault runs ending h (inr failed) is = absurd (omega (arith, failed.0, is))
+    link-fault runs Usage h (inl says) is = absurd (omega (arith, says.0, is))
+    link-fault runs NoLink h (inl says) is = absurd (omega (arith, says.0, is))
+    link-fault runs NoWords h (inl says) is = absurd (omega (arith, says.0, is))
+    link-fault runs (Run end) h (inl says) is =
+        let same = is-link-fault end (sym says.0 ∙ is) in
+        kind-links see runs words h.0 e h.1
+        (subst (λ (x : RunEnd). KindLeaves see h.0 e x) same h.2)
+
+    pub fault-told : (ending : Ending) → EndsWords see words e ending → Tells ending
+        → e.streams.read < e.streams.read_now → (status ≡ 3) ⊎ ((status ≡ 4) × Rose before now)
+    fault-told ending h says = told e.streams dold dnew before now status ending (counted ending h)
+        says
+
+    pub uncounted : (ending : Ending) → EndsWords see words e ending → Tells ending
+        → IsOfBytes status → (e.streams.read_now ≡ e.streams.read)
+        × (e.streams.written_now ≡ e.streams.written)
+    uncounted ending h says = unfailed e.streams dold dnew before now status ending
+        (counted ending h) says
+
+    pub read-fault : (ending : Ending) → EndsWords see words e ending → Tells ending
+        → status ≡ 3 → Rose e.streams.read e.streams.read_now
+    read-fault ending h says = read-rose e.streams dold dnew before now status ending
+        (counted ending h) says
+
+    pub write-fault : (ending : Ending) → EndsWords see words e ending → Tells ending
+        → status ≡ 4 → Rose e.streams.written e.streams.written_now ⊎ Rose before now
+    write-fault ending h says = write-rose e.streams dold dnew before now status ending
+        (counted ending h) says
+
+    pub other-words : (ending : Ending) → EndsWords see words e ending → Tells ending
+        → ¬ IsCommand words
+        → SaysUsage dold dnew before now status ⊎ Says dold dnew before now status Memory
+    other-words Usage h says none = inl says
+    other-words NoLink h says none = absurd (none (h.0, h.1))
+    other-words NoWords h says none = inr says
+    other-words (Run end) h says none = absurd (none (h.0, h.1))
+
+    module _ (law : OneCommand) where
+      -- the command that was run is the one for which the words ask
+      same : (command other : CommandLine) → Asks words command → Asks words other
+          → command ≡ other
+      same command other asks again = law (map string_bytes words) command other asks again
+
+      no-run : (command : CommandLine) (end : RunEnd) → Asks words command
+          → KindLeaves see command e end → LacksWires command e.old → ⊥
+      no-run (Local command) end asks h none = none
+      no-run (Join addr name) end asks h none = has-wire see name e end h none
+      no-run (Listen addr workers conns service) end asks h none = none h.0
+
+      pub no-link : (ending : Ending) → EndsWords see words e ending → Tells ending
+          → (command : CommandLine) → Asks words command → LacksWires command e.old
+          → SaysNoLink dold dnew before now status ⊎ Says dold dnew before now status Memory
+      no-link Usage h says command asks none = absurd (h.0 (command, asks))
+      no-link NoLink h says command asks none = inl says
+      no-link NoWords h says command asks none = inr says
+      no-link (Run end) h says command asks none = absurd (no-run h.0 end h.1 h.2
+          (subst (λ (c : CommandLine). LacksWires c e.old) (same command h.0 asks h.1) none))
+
+      -- what a run of the command leaves for which the words ask
+      asked : (command : CommandLine) (end : RunEnd) → EndsWords see words e (Run end)
+          → Asks words command → KindLeaves see command e end
+      asked command end h asks = subst (λ (c : CommandLine). KindLeaves see c e end)
+          (same h.0 command h.1 asks) h.2
+
+      -- the wires for it aren't there
+      lacking : (command : CommandLine) → EndsWords see words e NoLink → Asks words command
+          → LacksWires command e.old
+      lacking command h asks =
+          subst (λ (c : CommandLine). LacksWires c e.old) (same h.0 command h.1 asks) h.2
+
+      pub ends-of : AreRuns → (ending : Ending) → EndsWords see words e ending → Tells ending
+          → (command : LocalCommand) → Asks words (Local command)
+          → (end : RunEnd)
+          × (run_of command).leaves e.streams.input e.streams.left e.streams.old e.streams.new end
+          × FaultMatchesEnd e.streams.read e.streams.read_now e.streams.written
+          e.streams.written_now end
+          × Says dold dnew before now status end
+      ends-of runs Usage h says command asks = absurd (h.0 (Local command, asks))
+      ends-of runs NoLink h says command asks = absurd (lacking (Local command) h asks)
+      ends-of runs NoWords h says command asks = (
+        Memory,
+        (runs command).begun e.streams.input e.streams.left e.streams.old e.streams.new
+            h.streams.1,
+        (h.streams.2, h.streams.3),
+        says,
+      )
+      ends-of runs (Run end) h says command asks =
+          let run = asked (Local command) end h asks in (end, run.leaves, run.fault, says)
+
+      pub joins-of : (ending : Ending) → EndsWords see words e ending → Tells ending
+          → (addr name : List ℕ) → Asks words (Join addr name) → e.old ≢ []
+          → HasJoined see name e dold dnew before now status
+      joins-of Usage h says addr name asks some = absurd (h.0 (Join addr name, asks))
+      joins-of NoLink h says addr name asks some =
+          absurd (some (lacking (Join addr name) h asks))
+      joins-of NoWords h says addr name asks some =
+          record { ending = NoWords; joins = inr (refl, h); says = says }
+      joins-of (Run end) h says addr name asks some = record {
+        ending = Run end;
+        joins = inl (end, refl, asked (Join addr name) end h asks);
+        says = says;
+      }
+
+      pub serves-of : (ending : Ending) → EndsWords see words e ending → Tells ending
+          → (addr : List ℕ) (conns : Option ℕ) (service : Service)
+          → Asks words (Listen addr (length e.old) conns service)
+          → HasServed see conns e dold dnew before now status
+      serves-of Usage h says addr conns service asks =
+          absurd (h.0 (Listen addr (length e.old) conns service, asks))
+      serves-of NoLink h says addr conns service asks =
+          absurd (lacking (Listen addr (length e.old) conns service) h asks refl)
+      serves-of NoWords h says addr conns service asks =
+          record { ending = NoWords; serves = inr (refl, h); says = says }
+      serves-of (Run end) h says addr conns service asks =
+          let run = asked (Listen addr (length e.old) conns service) end h asks in
+          record { ending = Run end; serves = inl (end, refl, run.1); says = says }
+
+      pub to-end : AreRuns → (ending : Ending) → EndsWords see words e ending → Tells ending
+          → (command : CommandLine) → Asks words command → Reads command
+          → (status ≡ 0) ⊎ (status ≡ 9) → IsAtEnd e.streams.left
+      to-end runs ending h (inr failed) command asks reads is =
+          absurd (not-whole status 4 failed.0 (λ x. omega (arith, x)) (λ x. omega (arith, x)) is)
+      to-end runs Usage h (inl says) command asks reads is = absurd (h.0 (command, asks))
+      to-end runs NoLink h (inl says) command asks reads is = absurd
+          (not-whole status 13 says.0 (λ x. omega (arith, x)) (λ x. omega (arith, x)) is)
+      to-end runs NoWords h (inl says) command asks reads is = absurd
+          (not-whole status 7 says.0 (λ x. omega (arith, x)) (λ x. omega (arith, x)) is)
+      to-end runs (Run end) h (inl says) command asks reads is =
+          is-whole end e.streams.left
+          (kind-whole see runs command e end (asked command end h asks) reads)
+          (subst (λ (n : ℕ). (n ≡ 0) ⊎ (n ≡ 9)) says.0 is)
+
+    -- ---- what is due is given
+
+    -- an answer is due and given
+    abbrev pub Given : List ℕ → Option (List ℕ) → Type 0
+    Given bytes link =
+        (answer : Answer) × IsDue words bytes link answer
+        × IsGiven answer status e.streams.old e.streams.new dold dnew
+
+    due-link : (command : CommandLine) (bytes : List ℕ) (link : Option (List ℕ))
+        → LacksWires command e.old → GetsLink see words e.old link
+        → DueOf command bytes link no_link_answer
+    due-link (Local command) bytes link none gets = absurd none
+    due-link (Join addr name) bytes None none gets = refl
+    due-link (Join addr name) bytes (Some link) none gets =
+        let x : [] ≡ gets.wire ∷ gets.others = sym none ∙ gets.first in absurd cc
+    due-link (Listen addr workers conns service) bytes link none gets = refl
+
+    -- nothing failed, and memory sufficed
+    pub record IsFair : Type 0 where
+      pub served : ¬ HasWires words e.old
+      pub read : ¬ Rose e.streams.read e.streams.read_now
+      pub written : ¬ Rose e.streams.written e.streams.written_now
+      pub diag : ¬ Rose before now
+      pub memory : status ≢ 7
+      pub joined : HasLink words e.old → status ≢ 5
+
+    fair-end : IsFair → (command : CommandLine) (end : RunEnd) → KindLeaves see command e end
+        → status ≡ status_of end → end ≢ LinkFault → IsUnfailed end
+    fair-end fair command end h is link =
+        is-unfailed e.streams end (kind-matches see command e end h) fair.read fair.written
+        (λ x. fair.memory (is ∙ x)) link
+
+    kind-given : AreRuns → IsFair → (bytes : List ℕ) → e.streams.input ≡ Some bytes
+        → (command : CommandLine) (link : Option (List ℕ)) (end : RunEnd) → Asks words command
+        → KindLeaves see command e end → GetsLink see words e.old link
+        → status ≡ status_of end → Appends dold dnew (line_of end) → Given bytes link
+    kind-given runs fair bytes known (Local command) link end asks h gets code line =
+        let law = runs command in
+        let alone : end ≢ LinkFault = λ is.
+        law.alone e.streams.input e.streams.left e.streams.old e.streams.new
+        (subst (λ (x : RunEnd). (run_of command).leaves e.streams.input e.streams.left
+        e.streams.old e.streams.new x) is h.leaves) in
+        let given = law.given bytes e.streams.left e.streams.old e.streams.new end
+        (subst (λ (o : Option (List ℕ)). (run_of command).leaves o e.streams.left
+        e.streams.old e.streams.new end) known h.leaves)
+        (fair-end fair (Local command) end h code alone) in (
+          answer_of end given.0,
+          inl (Local command, asks, given.1),
+          record { status = code; text = given.2; line = line },
+        )
+    kind-given runs fair bytes known (Join addr name) None end asks h gets code line =
+        absurd (gets ((addr, name, asks), has-wire see name e end h))
+    kind-given runs fair bytes known (Join addr name) (Some link) end asks h gets code line =
+        let has : HasLink words e.old = ((addr, name, asks), has-wire see name e end h) in
+        let linked : end ≢ LinkFault = λ is. fair.joined has (code ∙ ap status_of is) in
+        let given = joins-given see name e end h bytes link gets known
+        (fair-end fair (Join addr name) end h code linked) in (
+          answer_of given.0.end given.0.text,
+          inl (Join addr name, asks, (given.0, given.1, refl)),
+          record {
+            status = code ∙ ap status_of (sym given.2);
+            text = given.3;
+            line = subst (λ (x : RunEnd). Appends dold dnew (line_of x)) (sym given.2) line;
+          },
+        )
+    kind-given runs fair bytes known (Listen addr workers conns service) link end asks h gets code
+        line = absurd (fair.served (has-wires words e.old addr workers conns service asks h.0))
+
+    nothing-given : (bytes : List ℕ) (link : Option (List ℕ)) (answer : Answer)
+        → IsDue words bytes link answer → answer.text ≡ [] → IsUntouched e
+        → status ≡ answer.status → Appends dold dnew answer.line → Given bytes link
+    nothing-given bytes link answer due empty same code line = (
+      answer,
+      due,
+      record {
+        status = code;
+        text = subst (λ (text : List ℕ). Appends e.streams.old e.streams.new text) (sym empty)
+            (appends_nothing e.streams.old e.streams.new same.streams.1);
+        line = line;
+      },
+    )
+
+    ending-given : AreRuns → IsFair → (bytes : List ℕ) → e.streams.input ≡ Some bytes
+        → (link : Option (List ℕ)) (ending : Ending) → EndsWords see words e ending
+        → GetsLink see words e.old link → status ≡ code_of ending
+        → Appends dold dnew (ending_line ending) → Given bytes link
+    ending-given runs fair bytes known link Usage h gets code line =
+        nothing-given bytes link usage_answer (inr (h.0, refl)) refl h.1 code line
+    ending-given runs fair bytes known link NoLink h gets code line =
+        nothing-given bytes link no_link_answer
+        (inl (h.0, h.1, due-link h.0 bytes link h.2 gets)) refl h.3 code line
+    ending-given runs fair bytes known link NoWords h gets code line = absurd (fair.memory code)
+    ending-given runs fair bytes known link (Run end) h gets code line =
+        kind-given runs fair bytes known h.0 link end h.1 h.2 gets code line
+
+    pub complete : AreRuns → (ending : Ending) → EndsWords see words e ending → Tells ending
+        → IsFair → IfSome e.streams.input (λ bytes. (link : Option (List ℕ))
+        → GetsLink see words e.old link → Given bytes link)
+    complete runs ending h (inr failed) fair = absurd (fair.diag failed.1)
+    complete runs ending h (inl says) fair = for-known e.streams.input (λ bytes known link gets.
+        ending-given runs fair bytes known link ending h gets says.0 says.1)
+
+-- ---- what is due is one answer
+
+-- a command is due one answer
+one-of : AreRuns → OneOutcome → (command : CommandLine) (bytes : List ℕ)
+    (link : Option (List ℕ)) (a b : Answer)
+    → DueOf command bytes link a → DueOf command bytes link b → a ≡ b
+one-of runs joins (Local command) bytes link a b x y = (runs command).one bytes a b x y
+one-of runs joins (Join addr name) bytes None a b x y = x ∙ sym y
+one-of runs joins (Join addr name) bytes (Some link) a b x y =
+    x.2 ∙ ap (λ (o : JoinOutcome). answer_of o.end o.text)
+    (joins name bytes link x.0 y.0 x.1 y.1) ∙ sym y.2
+one-of runs joins (Listen addr workers conns service) bytes link a b x y = x ∙ sym y
+
+one-due : OneCommand → AreRuns → OneOutcome → {A : Type 0} (words : List (String A))
+    (bytes : List ℕ) (link : Option (List ℕ)) (a b : Answer)
+    → IsDue words bytes link a → IsDue words bytes link b → a ≡ b
+one-due law runs joins words bytes link a b (inl x) (inl y) =
+    one-of runs joins x.0 bytes link a b x.2
+    (subst (λ (c : CommandLine). DueOf c bytes link b)
+    (law (map string_bytes words) y.0 x.0 y.1 x.1) y.2)
+one-due law runs joins words bytes link a b (inl x) (inr y) = absurd (y.0 (x.0, x.1))
+one-due law runs joins words bytes link a b (inr x) (inl y) = absurd (x.0 (y.0, y.1))
+one-due law runs joins words bytes link a b (inr x) (inr y) = x.1 ∙ sym y.1
+
+-- what is due is given where what is given is due
+pub exact : OneCommand → AreRuns → OneOutcome → {A W R T : Type 0} (see : Wires W R T)
+    (words : List (String A)) (wires : List W) (told old new dold dnew : Option (List ℕ))
+    (status : ℕ)
+    → IfSome told (λ bytes. (link : Option (List ℕ)) → GetsLink see words wires link
+    → (answer : Answer) × IsDue words bytes link answer
+    × IsGiven answer status old new dold dnew)
+    → IfSome told (λ bytes. (link : Option (List ℕ)) → GetsLink see words wires link
+    → (answer : Answer) → IsDue words bytes link answer
+    → IsGiven answer status old new dold dnew)
+exact law runs joins see words wires None old new dold dnew status h = tt
+exact law runs joins see words wires (Some bytes) old new dold dnew status h =
+    λ link gets answer due.
+    let given = h link gets in
+    subst (λ (a : Answer). IsGiven a status old new dold dnew)
+    (one-due law runs joins words bytes link given.0 answer given.1 due) given.2

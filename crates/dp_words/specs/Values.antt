@@ -1,0 +1,20 @@
+-- The values of options.
+use Rattle.std.specs.Prelude.{◌≤◌, ℕ, Option, Some, None}
+use Rattle.clap.specs.Walk.{Text}
+use Rattle.dp_lines.specs.Numbers.{IsNumber}
+
+-- a number, where there is a word, is the one that the word is
+abbrev pub HasAt : Option Text → Option ℕ → Type 0
+HasAt None None = Unit {0}
+HasAt (Some word) (Some n) = IsNumber word n
+HasAt _ _ = ⊥
+
+-- the number of workers that there is: from 1 to 64
+abbrev pub HasWorkers : Option Text → ℕ → Type 0
+HasWorkers None n = ⊥
+HasWorkers (Some word) n = IsNumber word n × (1 ≤ n) × (n ≤ 64)
+
+-- the number of links is at least 1, where there is one
+abbrev pub IsConns : Option ℕ → Type 0
+IsConns None = Unit {0}
+IsConns (Some n) = 1 ≤ n
