@@ -1,27 +1,23 @@
 -- The acts of a history as they are kept, with one more.
 use Rattle.std.proofs.Common.{◌≡◌, ℕ, ◌+◌, ◌<◌, ◌≤◌, false, List, [], ◌∷◌, ◌++◌}
 use Rattle.std.proofs.Common.{length, take, map, Some, None, refl, ap, sym, ◌∙◌}
-use Rattle.std.proofs.Common.{arith, true}
+use Rattle.std.proofs.Common.{arith}
 use Rattle.std.specs.List.{fold}
-use Rattle.std.proofs.lemmas.Grind.{fold-append}
 use Rattle.std.proofs.lemmas.List.{take-append-le, length-map}
 use Rattle.dp_board.specs.declared.act.Act.{Act}
 use Rattle.dp_board.specs.declared.act.Act.TheVariants.{Point, Undo, Redo, Draw, Depth, Other}
 use Rattle.dp_board.specs.declared.act.UserAct.{UserAct}
 use Rattle.dp_board.specs.Strokes.{Strokes, concerned, strokes, moved, moved_by}
 use Rattle.dp_board.specs.Flags.{drawn_flags}
-use Rattle.dp_board.specs.Commands.{commands, command_of, drawn_commands}
 use Rattle.dp_board.specs.Joins.{joins}
 use Rattle.dp_board.specs.Replay.{replay}
 use Rattle.dp_board.specs.Moves.{is_draw, is_redo, flags_with}
 use Rattle.dp_board.specs.Table.{Table, joined_in, IsTableAfter}
 use Rattle.dp_rollback.specs.Kept.{kept_acts, kept_of, drawn_among, marked}
-use Rattle.dp_rollback.specs.Due.{ReplayGoesOn}
 use Rattle.dp_rollback.specs.Laws.{Laws}
 use Rattle.dp_rollback.specs.Moves.{mark_by, kept_in}
 use Rattle.dp_rollback.proofs.KeptLemmas.{length-kept_acts, kept_acts-push, map-kept_acts}
-use Rattle.dp_rollback.proofs.KeptLemmas.{length-flags_with, take-kept_acts, commands-push}
-use Rattle.dp_rollback.proofs.KeptLemmas.{command_of-is_draw}
+use Rattle.dp_rollback.proofs.KeptLemmas.{length-flags_with, take-kept_acts}
 use Rattle.dp_rollback.proofs.KeptLemmas.{drawn_among-kept_acts}
 
 -- an act of each
@@ -127,12 +123,3 @@ take-marked laws depth acts a table group n small is some before within =
     )))
     ∙ ap (take n) (sym (kept_of-moved laws depth acts a table group small is some))
     ∙ take-kept_of-moved laws depth acts a table group n small is some before within
-
--- the replay goes on with an act that moves no group
-pub replay_goes_on : (B Op : Type 0) → Laws Op → ReplayGoesOn B Op
-replay_goes_on B Op laws draw blank depth acts a none =
-    ap (λ flags. fold draw blank (commands (acts ++ a ∷ []) flags)) (laws.go_on depth acts a none)
-    ∙ ap (fold draw blank) (commands-push acts (drawn_flags depth acts) a (is_draw a.act)
-    (laws.flags depth acts)
-    ∙ ap (λ ops. drawn_commands depth acts ++ ops) (command_of-is_draw a.act))
-    ∙ fold-append draw blank (drawn_commands depth acts) (command_of a.act true)

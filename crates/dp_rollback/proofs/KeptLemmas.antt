@@ -1,8 +1,6 @@
 -- Acts with what they joined and their flags.
 use Rattle.std.proofs.Common.{◌≡◌, ℕ, Bool, true, false, List, [], ◌∷◌, ◌++◌}
-use Rattle.std.proofs.Common.{length, take, drop, map, refl, ap, arith, suc, zero, sym, ◌∙◌}
-use Rattle.std.proofs.Common.{append_assoc}
-use Rattle.std.proofs.lemmas.List.{append-nil}
+use Rattle.std.proofs.Common.{length, take, drop, map, refl, ap, arith, suc, zero}
 use Rattle.dp_board.specs.declared.act.Act.{Act}
 use Rattle.dp_board.specs.declared.act.Act.TheVariants.{Point, Undo, Redo, Draw, Depth, Other}
 use Rattle.dp_board.specs.declared.act.UserAct.{UserAct}
@@ -114,15 +112,3 @@ command_of-is_draw (Undo who) = refl
 command_of-is_draw (Redo who) = refl
 command_of-is_draw (Depth d) = refl
 command_of-is_draw Other = refl
-
--- the commands with one more act
-pub commands-push : {Op : Type 0} → (acts : List (UserAct Op)) (flags : List Bool)
-    (a : UserAct Op) (flag : Bool) → length flags ≡ length acts
-    → commands (acts ++ a ∷ []) (flags ++ flag ∷ [])
-    ≡ commands acts flags ++ command_of a.act flag
-commands-push [] [] a flag same = append-nil (command_of a.act flag)
-commands-push [] (f ∷ flags) a flag same = absurd (omega arith)
-commands-push (b ∷ acts) [] a flag same = absurd (omega arith)
-commands-push (b ∷ acts) (f ∷ flags) a flag same =
-    ap (λ ops. command_of b.act f ++ ops) (commands-push acts flags a flag (omega arith))
-    ∙ sym (append_assoc (command_of b.act f) (commands acts flags) (command_of a.act flag))

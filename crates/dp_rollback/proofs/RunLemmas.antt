@@ -223,7 +223,8 @@ CountsFew-from weight r mark kept draws draws' draws'' tiles tiles' tiles'' kept
     counts =
     subst (λ xs. CountsFew weight (commands_among xs) draws draws'' tiles tiles'') kept_is
     (subst (λ n. CountsFew weight (commands_among kept) n draws'' tiles tiles'') same
-    (subst (λ n. CountsFew weight (commands_among kept) draws' draws'' n tiles'') same_tiles counts))
+    (subst (λ n. CountsFew weight (commands_among kept) draws' draws'' n tiles'') same_tiles
+    counts))
 
 -- a savepoint falls due by the count of the acts that are kept
 pub due-by-kept : (position base kept oldest : ℕ) → position ≡ base + kept

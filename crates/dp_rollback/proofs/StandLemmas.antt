@@ -31,7 +31,8 @@ use Rattle.dp_rollback.specs.declared.kept.KeptAct.{KeptAct}
 use Rattle.dp_rollback.specs.declared.kept.Mark.{Mark}
 use Rattle.dp_rollback.specs.Kept.{kept_of, drawn_command, drawn_among, marked}
 use Rattle.dp_rollback.specs.Rollback.{PointSave, Rolled, Next, drawn_first, StandsFor, IsInOrder}
-use Rattle.dp_rollback.specs.Rollback.{let_go, grown, needless, put_on, FitsOn, save_place, points_of}
+use Rattle.dp_rollback.specs.Rollback.{let_go, grown, needless, put_on, FitsOn, save_place}
+use Rattle.dp_rollback.specs.Rollback.{points_of}
 use Rattle.dp_rollback.specs.Rollback.{board_saved, AreSaved, IsSpaced}
 use Rattle.dp_rollback.specs.Runs.{run_to, saved_anew, save_anew}
 use Rattle.dp_rollback.specs.Moves.{mark_by, kept_in, kept_from, IsRedrawn, IsDrawnLast, IsDrawnFor}
@@ -362,7 +363,8 @@ saved-moved : {B Op : Type 0} → Laws Op → (draw : B → Op → B) (blank : B
     → n ≤ length acts → old ≡ board_saved draw blank depth acts n
     → saved_anew draw (map (marked (mark_by a group)) (kept_from r (mark_by a group)))
     (save_place group) from n old ≡ board_saved draw blank depth (acts ++ a ∷ []) n
-saved-moved {B} {Op} laws draw blank depth acts a r group from old n sender st some is within saved =
+saved-moved {B} {Op} laws draw blank depth acts a r group from old n sender st some is within
+    saved =
     by_test (nat_lt (save_place group) (save_place n)) refl
   where
     later : List (UserAct Op)
@@ -414,7 +416,8 @@ StandsFor-redrawn laws draw blank depth acts a r group board last saves sender k
     let rest = map (marked mark) (kept_from r mark) in
     let whole = base-within draw blank depth acts r st order in
     let from = made.from in
-    let begin = begun laws draw blank depth acts a r group from sender st order some is made.begun in
+    let begin = begun laws draw blank depth acts a r group from sender st order some is
+    made.begun in
     let drawn : board ≡ replay draw blank depth later =
     made.finished.drawn
     ∙ drawn_rest draw blank r mark from (marked_of depth acts mark) begin
@@ -589,7 +592,8 @@ IsSpaced-next table a last saves base kept base' kept' is later begins count = r
 }
 
 -- savepoints that are made anew are of the same Points
-points-anew : {B Op : Type 0} → (draw : B → Op → B) (kept : List (KeptAct Op)) (start : ℕ) (from : B)
+points-anew : {B Op : Type 0} → (draw : B → Op → B) (kept : List (KeptAct Op)) (start : ℕ)
+    (from : B)
     (saves : List (PointSave B))
     → points_of (map (save_anew draw kept start from) saves) ≡ points_of saves
 points-anew draw kept start from [] = refl

@@ -1,7 +1,6 @@
 -- What an act that comes next may draw.
 use Rattle.std.specs.Prelude.{◌≡◌, ℕ, ◌+◌, ◌-◌, ◌≤◌, length, true, Option, Some, None, List, []}
-use Rattle.std.specs.Prelude.{◌∷◌, ◌++◌, drop}
-use Rattle.std.specs.List.{fold}
+use Rattle.std.specs.Prelude.{◌∷◌, drop}
 use Rattle.dp_board.specs.declared.act.Act.{Act}
 use Rattle.dp_board.specs.declared.act.Act.TheVariants.{Draw}
 use Rattle.dp_board.specs.declared.act.UserAct.{UserAct}
@@ -9,7 +8,6 @@ use Rattle.dp_board.specs.declared.act.Change.{Change}
 use Rattle.dp_board.specs.declared.act.Change.TheVariants.{Drew, Rebuilt, Nothing}
 use Rattle.dp_board.specs.Strokes.{moved_by}
 use Rattle.dp_board.specs.Commands.{command_of, all_commands}
-use Rattle.dp_board.specs.Replay.{replay}
 
 -- the commands that an act after others may draw, where it moves the group `moved`: its own, or
 -- those that come at most 64 acts before the Point of that group, or later
@@ -44,11 +42,3 @@ FewAreDue Op =
     (depth : ℕ) (acts : List (UserAct Op)) (a : UserAct Op) (group : ℕ)
     → moved_by depth acts a ≡ Some group
     → length (due_commands depth acts a) ≤ (length acts - group) + 64
-
--- with one more act, which moves no group, the replay has the command of the act drawn, where it is
--- one
-abbrev pub ReplayGoesOn : Type 0 → Type 0 → Type 0
-ReplayGoesOn B Op =
-    (draw : B → Op → B) (blank : B) (depth : ℕ) (acts : List (UserAct Op)) (a : UserAct Op)
-    → moved_by depth acts a ≡ None → replay draw blank depth (acts ++ a ∷ [])
-    ≡ fold draw (replay draw blank depth acts) (command_of a.act true)

@@ -4,3 +4,4 @@ pub mod Rollback
 pub mod Runs
 pub mod Moves
 pub mod Laws
+pub mod Replays

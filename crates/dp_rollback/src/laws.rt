@@ -1,7 +1,8 @@
 //! Laws of the definitions. The functions do nothing: their contracts are the laws.
 
-ghost use Rattle.dp_rollback.specs.Due.{OwnCommandIsDue, FewAreDue, ReplayGoesOn};
+ghost use Rattle.dp_rollback.specs.Due.{OwnCommandIsDue, FewAreDue};
 ghost use Rattle.dp_rollback.specs.Laws.{Laws};
+ghost use Rattle.dp_rollback.specs.Replays.{ReplayGoesOn};
 
 use dp_board::{each_act_has_a_flag, flags_go_on, groups_come_first, tables_follow};
 
@@ -12,7 +13,8 @@ pub fn few_are_due<Op>()
     ensures moved { FewAreDue Op }
 {}
 
-/// With one more act, which moves no group, the replay has the command of the act drawn.
+/// With one more act, which moves no group, the replay has the command of the act drawn, where it
+/// is one.
 pub fn replay_goes_on<B, Op>()
     ensures { ReplayGoesOn B Op }
 {

@@ -15,7 +15,7 @@ pub(crate) fn drop_first<T: Drop>(items: &mut Vec<T>, count: usize)
     items.drain(..count);
 }
 
-/// Lets go of the acts before the position `first`, where they are held from the position `base` on.
+/// Lets go of the acts before the position `first`, where they are held from `base` on.
 pub(crate) fn let_go<Op: Drop>(base: &mut usize, kept: &mut Vec<KeptAct<Op>>, first: usize)
     requires later { base.old ≤ first }
     requires within { first ≤ base.old + vec_len kept.old }

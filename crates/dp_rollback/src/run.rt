@@ -81,8 +81,8 @@ impl<B: Board> Run<B> {
         Ok(())
     }
 
-    /// The savepoint of a position, where it has come to that: `old`, where that comes no later than
-    /// the start.
+    /// The savepoint of a position, where it has come to that: `old`, where that comes no later
+    /// than the start.
     fn saved(&self, position: usize, old: &Arc<B>) -> Result<Arc<B>, AllocError>
         ensures { IfOk result (λ save. save.value
             ≡ (if nat_lt self.now.start (save_place position) then self.now.save
@@ -95,8 +95,8 @@ impl<B: Board> Run<B> {
         }
     }
 
-    /// The savepoints of points in order: as they were, or drawn anew where they come later than the
-    /// start.
+    /// The savepoints of points in order: as they were, or drawn anew where they come later than
+    /// the start.
     ///
     /// # Errors
     ///

@@ -1,4 +1,4 @@
-use Rattle.dp_rollback.proofs.HistoryLemmas.{replay_goes_on}
+use Rattle.dp_rollback.proofs.ReplayLemmas.{replay_goes_on}
 use Rattle.dp_rollback.proofs.laws.replay_goes_on.Goals as goal
 
 pub returns : goal.returns

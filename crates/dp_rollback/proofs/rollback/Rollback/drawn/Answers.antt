@@ -49,8 +49,8 @@ returns-clause-made g c =
       old_saves = old.saves.items;
       drawn = drawn;
       last_is = last;
-      saves_are = saves-made inside.table act old.last.value old.saves.items _ _ c.in_ok-save.save _ _
-          _ c.put_save.ensures c.depth_after.ensures c.self.invariant.0 c.reserve.ensures.items
+      saves_are = saves-made inside.table act old.last.value old.saves.items _ _ c.in_ok-save.save
+          _ _ _ c.put_save.ensures c.depth_after.ensures c.self.invariant.0 c.reserve.ensures.items
           c.in_ok-save.ensures c.position.ensures
           ∙ ap (λ o. saves_after o.table old.last.value act old.saves.items) c.self.view_is;
     }

@@ -1,4 +1,5 @@
-use Rattle.std.proofs.Common.{◌∷◌, ◌++◌, [], ap, ◌∙◌, arith, refl, min, ◌≡◌, ◌<◌, sym, subst, length}
+use Rattle.std.proofs.Common.{◌∷◌, ◌++◌, [], ap, ◌∙◌, arith, refl, min, ◌≡◌, ◌<◌, sym, subst}
+use Rattle.std.proofs.Common.{length}
 use Rattle.std.specs.List.{fold, All}
 use Rattle.std.specs.List.Sorted.{IsNonDecreasing}
 use Rattle.std.proofs.lemmas.List.Elements.{All-nil}
