@@ -1,5 +1,5 @@
-//! The tests of boards, rollbacks, forks and snapshots, in a crate of their own: so each crate of these is
-//! proved once, and not once more with its tests.
+//! The tests of boards, rollbacks, forks and snapshots, in a crate of their own: so each crate of
+//! these is proved once, and not once more with its tests.
 #![tactic(auto)]
 
 #[cfg(test)]

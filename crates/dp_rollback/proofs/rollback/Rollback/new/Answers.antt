@@ -1,7 +1,6 @@
-use Rattle.std.proofs.Common.{◌∷◌, ◌++◌, [], ap, ◌∙◌, arith, refl, min, ◌≡◌, ◌<◌, sym, subst}
+use Rattle.std.proofs.Common.{[], ap, ◌∙◌, arith, refl, min, ◌≡◌, ◌<◌, sym, subst}
 use Rattle.std.proofs.Common.{length}
 use Rattle.std.specs.List.{fold, All}
-use Rattle.std.specs.List.Sorted.{IsNonDecreasing}
 use Rattle.std.proofs.lemmas.List.Elements.{All-nil}
 use Rattle.dp_rollback.specs.Rollback.{points_of}
 use Rattle.dp_rollback.proofs.StandLemmas.{StandsFor-new}

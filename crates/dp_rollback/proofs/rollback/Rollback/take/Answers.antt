@@ -1,6 +1,6 @@
-use Rattle.std.proofs.Common.{arith, ◌≡◌, ◌∷◌, ◌++◌, []}
+use Rattle.std.proofs.Common.{arith}
 use Rattle.std.proofs.lemmas.Result.{IfOk-weaker}
-use Rattle.dp_rollback.proofs.ReadyLemmas.{act_by, added-stands, added-change, ready-due}
+use Rattle.dp_rollback.proofs.ReadyLemmas.{added-stands, added-change, ready-due}
 use Rattle.dp_rollback.proofs.rollback.Rollback.take.Goals as goal
 
 pub returns-clause-stands : goal.returns-clause-stands
