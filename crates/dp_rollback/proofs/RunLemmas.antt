@@ -1,7 +1,7 @@
 -- A board that is drawn anew, from a savepoint on.
 use Rattle.std.proofs.Common.{◌≡◌, ℕ, ◌+◌, ◌-◌, ◌<◌, ◌≤◌, Bool, true, false, List, [], ◌∷◌, ◌++◌}
 use Rattle.std.proofs.Common.{length, take, drop, map, get_or, ap, sym, ◌∙◌, arith, refl, subst}
-use Rattle.std.proofs.Common.{length-append}
+use Rattle.std.proofs.Common.{length-append, Some}
 use Rattle.std.specs.Prelude.{if◌then◌else◌, nat_lt, sum_by, slice_range, Option, unwrap_or}
 use Rattle.std.specs.Prelude.{◌%◌, ◌==◌, ◌≢◌}
 use Rattle.std.specs.Option.{option_to_list}
@@ -14,9 +14,11 @@ use Rattle.std.proofs.lemmas.List.Sums.{sum_by-append}
 use Rattle.dp_board.specs.Commands.{command_of}
 use Rattle.dp_board.specs.Counts.{CountsFew}
 use Rattle.dp_board.specs.declared.act.Act.{Act}
+use Rattle.dp_board.specs.declared.act.UserAct.{UserAct}
 use Rattle.dp_board.specs.Laws.{depth_in}
-use Rattle.dp_board.specs.Strokes.{last_few}
-use Rattle.dp_board.specs.Table.{Table}
+use Rattle.dp_board.specs.Strokes.{last_few, concerned, is_eligible}
+use Rattle.dp_board.specs.Table.{Table, moved_in, strokes_of}
+use Rattle.dp_board.proofs.StepLemmas.{moved-is}
 use Rattle.dp_rollback.specs.declared.kept.KeptAct.{KeptAct}
 use Rattle.dp_rollback.specs.declared.kept.Mark.{Mark}
 use Rattle.dp_rollback.specs.Kept.{marked, drawn_among, commands_among}
@@ -257,3 +259,8 @@ saves-made table act last old room new save depth window position new_is depth_i
     (depth_is ∙ ap (unwrap_or (depth_in act)) window_is)
     ∙ ap (λ xs. last_few few (xs ++ option_to_list save)) room_is
     ∙ ap (λ xs. last_few few (old ++ xs)) (save_is ∙ ap (λ n. save_of n last act) position_is)
+
+-- the group that an act moves is in reach
+pub moved_is_eligible : {Op : Type 0} → (table : Table) (a : UserAct Op) (group : ℕ)
+    → moved_in table a ≡ Some group → is_eligible table.window group ≡ true
+moved_is_eligible table a group is = (moved-is (strokes_of table (concerned a)) a.act group is).0

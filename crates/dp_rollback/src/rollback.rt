@@ -101,6 +101,7 @@ fn change_by_draw(drawn: bool) -> Change
 }
 
 /// The mark of an act, where it moves a group.
+#[tactic(auto, using(crate::proofs::RunLemmas::moved_is_eligible))]
 pub fn mark_of<Op>(table: &StrokeTable, act: &UserAct<Op>) -> Option<Mark>
     ensures value { result ≡ mark_in table.now act.now }
     ensures among { IfSome result (λ mark. is_eligible table.now.window mark.group ≡ true) }
