@@ -1,6 +1,6 @@
 -- What a status says of how the program ended.
 use Rattle.std.proofs.Common.{◌≡◌, ◌≢◌, ℕ, ◌<◌, ◌≤◌, ◌⊎◌, List, refl, sym, ◌∙◌, inl, inr, arith}
-use Rattle.std.proofs.Common.{⊎_elim}
+use Rattle.std.proofs.Common.{⊎_elim, lit≤}
 use Rattle.std.specs.Prelude.{Option}
 use Rattle.std.specs.Io.KnownBytes.{IsAtEnd}
 use Rattle.dp_io.specs.Faults.{Rose}
@@ -57,13 +57,9 @@ far status (inr (inr (inr (inl is)))) = inr (omega (arith, is))
 far status (inr (inr (inr (inr (inl is))))) = inr (omega (arith, is))
 far status (inr (inr (inr (inr (inr is))))) = inr (omega (arith, is))
 
-not-three : (status : ℕ) → IsOfBytes status → status ≡ 3 → ⊥
-not-three status h is =
-    ⊎_elim (λ low. omega (arith, low, is)) (λ high. omega (arith, high, is)) (far status h)
-
-not-four : (status : ℕ) → IsOfBytes status → status ≡ 4 → ⊥
-not-four status h is =
-    ⊎_elim (λ low. omega (arith, low, is)) (λ high. omega (arith, high, is)) (far status h)
+not-fault : (status n : ℕ) → 3 ≤ n → n ≤ 7 → IsOfBytes status → status ≡ n → ⊥
+not-fault status n low high h is = ⊎_elim (λ below. omega (arith, below, is, low))
+    (λ above. omega (arith, above, is, high)) (far status h)
 
 -- neither 0 nor 9
 pub not-whole : (status n : ℕ) → status ≡ n → (n ≡ 0 → ⊥) → (n ≡ 9 → ⊥)
@@ -100,13 +96,14 @@ module _ (s : Streams) (dold dnew : Option (List ℕ)) (before now status : ℕ)
 
   run-unfailed : (end : RunEnd) → Matches s end → IsOfBytes status → status ≡ status_of end
       → (s.read_now ≡ s.read) × (s.written_now ≡ s.written)
-  run-unfailed ReadFault counts h is = absurd (not-three status h is)
-  run-unfailed WriteFault counts h is = absurd (not-four status h is)
+  run-unfailed ReadFault counts h is = absurd (not-fault status 3 (lit≤ tt) (lit≤ tt) h is)
+  run-unfailed WriteFault counts h is = absurd (not-fault status 4 (lit≤ tt) (lit≤ tt) h is)
   run-unfailed _ counts h is = counts
 
   pub unfailed : (ending : Ending) → Counted s ending → Said ending → IsOfBytes status
       → (s.read_now ≡ s.read) × (s.written_now ≡ s.written)
-  unfailed ending counts (inr failed) h = absurd (not-four status h failed.0)
+  unfailed ending counts (inr failed) h =
+      absurd (not-fault status 4 (lit≤ tt) (lit≤ tt) h failed.0)
   unfailed (Run end) counts (inl says) h = run-unfailed end counts h says.0
   unfailed _ counts (inl says) h = counts
 

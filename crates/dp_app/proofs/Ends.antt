@@ -25,7 +25,8 @@ use Rattle.dp_app.specs.Commands.{AskAndLack, AskForLocal, Asks, HasLink, HasLin
 use Rattle.dp_app.specs.Commands.{IsCommand, LacksWires}
 use Rattle.dp_app.specs.Due.{DueOf, GetsLink, IsDue}
 use Rattle.dp_app.specs.Endings.{Effects, IsUntouched, KeepsNothing, Untouched, Wires, code_of}
-use Rattle.dp_app.specs.Endings.{ending_line}
+use Rattle.dp_app.specs.Endings.{StaysLocal, ending_line}
+use Rattle.dp_app.specs.Faults.{AskAndFailed}
 use Rattle.dp_app.specs.Joins.{HasJoined}
 use Rattle.dp_app.specs.Kinds.{EndsCommand, EndsWords, KindLeaves, Reads}
 use Rattle.dp_app.specs.Runs.{IsUnfailed, run_of}
@@ -33,7 +34,8 @@ use Rattle.dp_app.specs.Servers.{HasServed}
 use Rattle.dp_app.proofs.Answering.{Counted, Said, is-link-fault, is-unfailed, is-whole, not-one}
 use Rattle.dp_app.proofs.Answering.{IsOfBytes, not-thirteen, not-whole, read-rose, told}
 use Rattle.dp_app.proofs.Answering.{unfailed, write-rose}
-use Rattle.dp_app.proofs.ByKind.{AreRuns, has-wire, has-wires, joins-given, kind-links}
+use Rattle.dp_app.proofs.ByKind.{AreRuns, has-wire, has-wires, joins-given}
+use Rattle.dp_app.proofs.ByKind.{kind-failed}
 use Rattle.dp_app.proofs.ByKind.{kind-matches, kind-whole}
 use Rattle.dp_app.proofs.LocalRuns.{appends_nothing}
 
@@ -75,57 +77,38 @@ module _ {A W R T : Type 0} (see : Wires W R T) (words : List (String A)) (e : E
   counted NoWords h = (h.streams.2, h.streams.3)
   counted (Run end) h = kind-matches see h.0 e end h.2
 
-  -- nothing was done, or a command was run for which the words ask
-  done : (ending : Ending) → EndsWords see words e ending
-      → IsUntouched e ⊎ ((command : CommandLine) × Asks words command
-      × ((end : RunEnd) × KindLeaves see command e end))
-  done Usage h = inl h.1
-  done NoLink h = inl h.3
-  done NoWords h = inl h
-  done (Run end) h = inr (h.0, h.1, (end, h.2))
+  -- What holds where nothing was done, and after a run of each kind, holds.
+  module _ {P : Type 0} (nothing : IsUntouched e → P) (local : AskForLocal words → StaysLocal e → P)
+      (joins : HasLink words e.old → KeepsNothing e.kept → P)
+      (serves : HasWires words e.old → Untouched e.streams → P) where
+    of-run : (command : CommandLine) (end : RunEnd) → Asks words command
+        → KindLeaves see command e end → P
+    of-run (Local command) end asks h = local (command, asks) h.stays
+    of-run (Join addr name) end asks h =
+        joins ((addr, name, asks), has-wire see name e end h) h.nothing
+    of-run (Listen addr workers conns service) end asks h =
+        serves (has-wires words e.old addr workers conns service asks h.0) h.1.untouched
 
-  -- so what holds where nothing was done, and after each run, holds
-  of-each : {P : Type 0} (ending : Ending) → EndsWords see words e ending → (IsUntouched e → P)
-      → ((command : CommandLine) (end : RunEnd) → Asks words command
-      → KindLeaves see command e end → P) → P
-  of-each ending h nothing run =
-      ⊎_elim nothing (λ ran. run ran.0 ran.2.0 ran.1 ran.2.1) (done ending h)
-
-  kind-untouched : ¬ AskForLocal words → ¬ HasLink words e.old → (command : CommandLine)
-      (end : RunEnd) → Asks words command → KindLeaves see command e end → Untouched e.streams
-  kind-untouched none never (Local command) end asks h = absurd (none (command, asks))
-  kind-untouched none never (Join addr name) end asks h =
-      absurd (never ((addr, name, asks), has-wire see name e end h))
-  kind-untouched none never (Listen addr workers conns service) end asks h = h.1.untouched
+    of-each : (ending : Ending) → EndsWords see words e ending → P
+    of-each Usage h = nothing h.1
+    of-each NoLink h = nothing h.3
+    of-each NoWords h = nothing h
+    of-each (Run end) h = of-run h.0 end h.1 h.2
 
   pub untouched : (ending : Ending) → EndsWords see words e ending → ¬ AskForLocal words
       → ¬ HasLink words e.old → Untouched e.streams
-  untouched ending h none never =
-      of-each ending h (λ nothing. nothing.streams) (kind-untouched none never)
-
-  kind-nothing : ¬ HasWires words e.old → (command : CommandLine) (end : RunEnd)
-      → Asks words command → KindLeaves see command e end → KeepsNothing e.kept
-  kind-nothing never (Local command) end asks h = h.stays.nothing
-  kind-nothing never (Join addr name) end asks h = h.nothing
-  kind-nothing never (Listen addr workers conns service) end asks h =
-      absurd (never (has-wires words e.old addr workers conns service asks h.0))
+  untouched ending h none never = of-each (λ all. all.streams) (λ asks stays. absurd (none asks))
+      (λ has kept. absurd (never has)) (λ has same. same) ending h
 
   pub nothing-kept : (ending : Ending) → EndsWords see words e ending → ¬ HasWires words e.old
       → KeepsNothing e.kept
-  nothing-kept ending h never =
-      of-each ending h (λ nothing. nothing.stays.nothing) (kind-nothing never)
-
-  kind-stay : ¬ HasLinks words e.old → (command : CommandLine) (end : RunEnd)
-      → Asks words command → KindLeaves see command e end → e.new ≡ e.old
-  kind-stay never (Local command) end asks h = h.stays.wires
-  kind-stay never (Join addr name) end asks h =
-      absurd (never (inl ((addr, name, asks), has-wire see name e end h)))
-  kind-stay never (Listen addr workers conns service) end asks h =
-      absurd (never (inr (has-wires words e.old addr workers conns service asks h.0)))
+  nothing-kept ending h never = of-each (λ all. all.stays.nothing) (λ asks stays. stays.nothing)
+      (λ has kept. kept) (λ has same. absurd (never has)) ending h
 
   pub wires-stay : (ending : Ending) → EndsWords see words e ending → ¬ HasLinks words e.old
       → e.new ≡ e.old
-  wires-stay ending h never = of-each ending h (λ nothing. nothing.stays.wires) (kind-stay never)
+  wires-stay ending h never = of-each (λ all. all.stays.wires) (λ asks stays. stays.wires)
+      (λ has kept. absurd (never (inl has))) (λ has same. absurd (never (inr has))) ending h
 
   -- ---- by what is said
 
@@ -137,28 +120,24 @@ module _ {A W R T : Type 0} (see : Wires W R T) (words : List (String A)) (e : E
         → ¬ IsCommand words
     usage ending h (inr failed) is = absurd (omega (arith, failed.0, is))
     usage Usage h (inl says) is = h.0
-    usage NoLink h (inl says) is = absurd (omega (arith, says.0, is))
-    usage NoWords h (inl says) is = absurd (omega (arith, says.0, is))
     usage (Run end) h (inl says) is = absurd (not-one end (sym says.0 ∙ is))
+    usage _ h (inl says) is = absurd (omega (arith, says.0, is))
 
     pub lacks : (ending : Ending) → EndsWords see words e ending → Tells ending → status ≡ 13
         → AskAndLack words e.old
     lacks ending h (inr failed) is = absurd (omega (arith, failed.0, is))
-    lacks Usage h (inl says) is = absurd (omega (arith, says.0, is))
     lacks NoLink h (inl says) is = (h.0, h.1, h.2)
-    lacks NoWords h (inl says) is = absurd (omega (arith, says.0, is))
     lacks (Run end) h (inl says) is = absurd (not-thirteen end (sym says.0 ∙ is))
+    lacks _ h (inl says) is = absurd (omega (arith, says.0, is))
 
     pub link-fault : AreRuns → (ending : Ending) → EndsWords see words e ending → Tells ending
-        → status ≡ 5 → HasLinks words e.old
+        → status ≡ 5 → AskAndFailed see words e.old e.new
     link-fault runs ending h (inr failed) is = absurd (omega (arith, failed.0, is))
-    link-fault runs Usage h (inl says) is = absurd (omega (arith, says.0, is))
-    link-fault runs NoLink h (inl says) is = absurd (omega (arith, says.0, is))
-    link-fault runs NoWords h (inl says) is = absurd (omega (arith, says.0, is))
     link-fault runs (Run end) h (inl says) is =
         let same = is-link-fault end (sym says.0 ∙ is) in
-        kind-links see runs words h.0 e h.1
+        kind-failed see runs words h.0 e h.1
         (subst (λ (x : RunEnd). KindLeaves see h.0 e x) same h.2)
+    link-fault runs _ h (inl says) is = absurd (omega (arith, says.0, is))
 
     pub fault-told : (ending : Ending) → EndsWords see words e ending → Tells ending
         → e.streams.read < e.streams.read_now → (status ≡ 3) ⊎ ((status ≡ 4) × Rose before now)
@@ -210,17 +189,21 @@ module _ {A W R T : Type 0} (see : Wires W R T) (words : List (String A)) (e : E
       no-link (Run end) h says command asks none = absurd (no-run h.0 end h.1 h.2
           (subst (λ (c : CommandLine). LacksWires c e.old) (same command h.0 asks h.1) none))
 
-      -- what a run of the command leaves for which the words ask
-      asked : (command : CommandLine) (end : RunEnd) → EndsWords see words e (Run end)
-          → Asks words command → KindLeaves see command e end
-      asked command end h asks = subst (λ (c : CommandLine). KindLeaves see c e end)
-          (same h.0 command h.1 asks) h.2
-
-      -- the wires for it aren't there
-      lacking : (command : CommandLine) → EndsWords see words e NoLink → Asks words command
-          → LacksWires command e.old
-      lacking command h asks =
-          subst (λ (c : CommandLine). LacksWires c e.old) (same h.0 command h.1 asks) h.2
+      -- where the wires for it are there, it was run, or memory ran out before that
+      asked : (ending : Ending) → EndsWords see words e ending → (command : CommandLine)
+          → Asks words command → ¬ LacksWires command e.old
+          → ((end : RunEnd) × (ending ≡ Run end) × KindLeaves see command e end)
+          ⊎ ((ending ≡ NoWords) × IsUntouched e)
+      asked Usage h command asks has = absurd (h.0 (command, asks))
+      asked NoLink h command asks has = absurd (has
+          (subst (λ (c : CommandLine). LacksWires c e.old) (same h.0 command h.1 asks) h.2))
+      asked NoWords h command asks has = inr (refl, h)
+      asked (Run end) h command asks has = inl (
+        end,
+        refl,
+        subst
+            (λ (c : CommandLine). KindLeaves see c e end) (same h.0 command h.1 asks) h.2,
+      )
 
       pub ends-of : AreRuns → (ending : Ending) → EndsWords see words e ending → Tells ending
           → (command : LocalCommand) → Asks words (Local command)
@@ -229,29 +212,22 @@ module _ {A W R T : Type 0} (see : Wires W R T) (words : List (String A)) (e : E
           × FaultMatchesEnd e.streams.read e.streams.read_now e.streams.written
           e.streams.written_now end
           × Says dold dnew before now status end
-      ends-of runs Usage h says command asks = absurd (h.0 (Local command, asks))
-      ends-of runs NoLink h says command asks = absurd (lacking (Local command) h asks)
-      ends-of runs NoWords h says command asks = (
-        Memory,
-        (runs command).begun e.streams.input e.streams.left e.streams.old e.streams.new
-            h.streams.1,
-        (h.streams.2, h.streams.3),
-        says,
-      )
-      ends-of runs (Run end) h says command asks =
-          let run = asked (Local command) end h asks in (end, run.leaves, run.fault, says)
+      ends-of runs ending h says command asks = ⊎_elim
+          (λ run. (run.0, run.2.leaves, run.2.fault, subst Tells run.1 says))
+          (λ none. (
+            Memory,
+            (runs command).begun e.streams.input e.streams.left e.streams.old e.streams.new
+                none.1.streams.1,
+            (none.1.streams.2, none.1.streams.3),
+            subst Tells none.0 says,
+          )) (asked ending h (Local command) asks (λ lacks. lacks))
 
       pub joins-of : (ending : Ending) → EndsWords see words e ending → Tells ending
           → (addr name : List ℕ) → Asks words (Join addr name) → e.old ≢ []
           → HasJoined see name e dold dnew before now status
-      joins-of Usage h says addr name asks some = absurd (h.0 (Join addr name, asks))
-      joins-of NoLink h says addr name asks some =
-          absurd (some (lacking (Join addr name) h asks))
-      joins-of NoWords h says addr name asks some =
-          record { ending = NoWords; joins = inr (refl, h); says = says }
-      joins-of (Run end) h says addr name asks some = record {
-        ending = Run end;
-        joins = inl (end, refl, asked (Join addr name) end h asks);
+      joins-of ending h says addr name asks some = record {
+        ending = ending;
+        joins = asked ending h (Join addr name) asks some;
         says = says;
       }
 
@@ -259,15 +235,13 @@ module _ {A W R T : Type 0} (see : Wires W R T) (words : List (String A)) (e : E
           → (addr : List ℕ) (conns : Option ℕ) (service : Service)
           → Asks words (Listen addr (length e.old) conns service)
           → HasServed see conns e dold dnew before now status
-      serves-of Usage h says addr conns service asks =
-          absurd (h.0 (Listen addr (length e.old) conns service, asks))
-      serves-of NoLink h says addr conns service asks =
-          absurd (lacking (Listen addr (length e.old) conns service) h asks refl)
-      serves-of NoWords h says addr conns service asks =
-          record { ending = NoWords; serves = inr (refl, h); says = says }
-      serves-of (Run end) h says addr conns service asks =
-          let run = asked (Listen addr (length e.old) conns service) end h asks in
-          record { ending = Run end; serves = inl (end, refl, run.1); says = says }
+      serves-of ending h says addr conns service asks = record {
+        ending = ending;
+        serves = ⊎_elim (λ run. inl (run.0, run.1, run.2.1)) (λ none. inr none)
+            (asked ending h (Listen addr (length e.old) conns service) asks
+            (λ lacks. lacks refl));
+        says = says;
+      }
 
       pub to-end : AreRuns → (ending : Ending) → EndsWords see words e ending → Tells ending
           → (command : CommandLine) → Asks words command → Reads command
@@ -281,7 +255,8 @@ module _ {A W R T : Type 0} (see : Wires W R T) (words : List (String A)) (e : E
           (not-whole status 7 says.0 (λ x. omega (arith, x)) (λ x. omega (arith, x)) is)
       to-end runs (Run end) h (inl says) command asks reads is =
           is-whole end e.streams.left
-          (kind-whole see runs command e end (asked command end h asks) reads)
+          (kind-whole see runs command e end (subst (λ (c : CommandLine). KindLeaves see c e end)
+          (same h.0 command h.1 asks) h.2) reads)
           (subst (λ (n : ℕ). (n ≡ 0) ⊎ (n ≡ 9)) says.0 is)
 
     -- ---- what is due is given

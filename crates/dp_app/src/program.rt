@@ -16,6 +16,7 @@ ghost use Rattle.dp_app.specs.Commands.{AskAndLack, AskForLocal, Asks, HasLink, 
 ghost use Rattle.dp_app.specs.Commands.{IsCommand, IsWorld, LacksWires};
 ghost use Rattle.dp_app.specs.Due.{GetsLink, IsDue};
 ghost use Rattle.dp_app.specs.Endings.{KeepsNothing, effects, kept, streams, wire_seen};
+ghost use Rattle.dp_app.specs.Faults.{AskAndFailed};
 ghost use Rattle.dp_app.specs.Joins.{HasJoined};
 ghost use Rattle.dp_app.specs.Kinds.{Reads};
 ghost use Rattle.dp_app.specs.Runs.{run_of};
@@ -56,9 +57,9 @@ pub struct Outcome<W, K> {
 
 /// The program: its words after its name, its input, its output, where it says why it ended, and
 /// the wires on which it may dial or that hand out the links of a server (`wanted` of dp_words says
-/// which it needs). The keeper is handed back as it was: no command stores anything yet. The gate is
-/// passed by the workers of a server, outside the session's turn. The work on its canvas is counted.
-/// Nothing else is read or written.
+/// which it needs). The keeper comes back as it was: no command stores anything yet. The gate is
+/// passed by the workers of a server, outside the session's turn. The work on its canvas is
+/// counted. Nothing else is read or written.
 pub fn drawpile<
     R: Threads + Wait + Sync,
     I: Source,
@@ -166,7 +167,9 @@ pub fn drawpile<
     // stays where a command doesn't need it.
     ensures usage { result.status ≡ 1 → ¬ IsCommand words.now }
     ensures lacks { result.status ≡ 13 → AskAndLack words.now wires.items }
-    ensures link_fault { result.status ≡ 5 → HasLinks words.now wires.items }
+    ensures link_fault { result.status ≡ 5
+        → AskAndFailed (wire_seen W.links W.faults W.Rx.left W.Rx.faults W.Tx.held W.Tx.faults)
+        words.now wires.items result.wires.items }
     ensures untouched { ¬ AskForLocal words.now → ¬ HasLink words.now wires.items
         → Keeps (I.left input.old) (I.left input.new) × Keeps (O.held output.old)
         (O.held output.new) }
