@@ -42,6 +42,10 @@ AreRuns = (command : LocalCommand) → IsRun (run_of command)
 abbrev pub Matches : Streams → RunEnd → Type 0
 Matches s end = FaultMatchesEnd s.read s.read_now s.written s.written_now end
 
+-- what a run of the command leaves of the streams that ends so
+abbrev pub Leaves : LocalCommand → Streams → RunEnd → Type 0
+Leaves command s end = (run_of command).leaves s.input s.left s.old s.new end
+
 -- ---- over a link
 
 of-streams : (old now : Counts) (end : RunEnd) → FaultMatchesJoin old now end

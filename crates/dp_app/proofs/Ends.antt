@@ -1,5 +1,5 @@
 -- The ways in which the program ends give the clauses of the top call.
-use Rattle.std.proofs.Common.{◌≡◌, ◌≢◌, ℕ, ◌<◌, ◌⊎◌, List, [], ◌∷◌, refl, sym, ap, ◌∙◌, subst}
+use Rattle.std.proofs.Common.{◌≡◌, ◌≢◌, ℕ, ◌⊎◌, List, [], ◌∷◌, refl, sym, ap, ◌∙◌, subst}
 use Rattle.std.proofs.Common.{⊎_elim, inl, inr, arith, length}
 use Rattle.std.specs.Prelude.{Option, Some, None, IfSome, map, string_bytes}
 use Rattle.std.specs.declared.string.String.{String}
@@ -8,7 +8,6 @@ use Rattle.dp_io.specs.Faults.{Rose}
 use Rattle.dp_joining.specs.Outcomes.{JoinComesTo, JoinOutcome}
 use Rattle.dp_lines.specs.declared.run_end.RunEnd.{RunEnd}
 use Rattle.dp_lines.specs.declared.run_end.RunEnd.TheVariants.{LinkFault, Memory}
-use Rattle.dp_lines.specs.RunEnds.{FaultMatchesEnd}
 use Rattle.dp_schedule.specs.declared.action.Action.{Action}
 use Rattle.dp_sim.specs.Headline.{Headline}
 use Rattle.dp_sim.specs.World.{world_after}
@@ -32,10 +31,9 @@ use Rattle.dp_app.specs.Kinds.{EndsCommand, EndsWords, KindLeaves, Reads}
 use Rattle.dp_app.specs.Runs.{IsUnfailed, run_of}
 use Rattle.dp_app.specs.Servers.{HasServed}
 use Rattle.dp_app.proofs.Answering.{Counted, Said, is-link-fault, is-unfailed, is-whole, not-one}
-use Rattle.dp_app.proofs.Answering.{IsOfBytes, not-thirteen, not-whole, read-rose, told}
-use Rattle.dp_app.proofs.Answering.{unfailed, write-rose}
+use Rattle.dp_app.proofs.Answering.{not-thirteen, not-whole}
 use Rattle.dp_app.proofs.ByKind.{AreRuns, has-wire, has-wires, joins-given}
-use Rattle.dp_app.proofs.ByKind.{kind-failed}
+use Rattle.dp_app.proofs.ByKind.{Leaves, Matches, kind-failed}
 use Rattle.dp_app.proofs.ByKind.{kind-matches, kind-whole}
 use Rattle.dp_app.proofs.LocalRuns.{appends_nothing}
 
@@ -71,7 +69,8 @@ module _ {A W R T : Type 0} (see : Wires W R T) (words : List (String A)) (e : E
   words-end command NoWords asks h = absurd h
   words-end command (Run end) asks h = (command, asks, h)
 
-  pub counted : (ending : Ending) → EndsWords see words e ending → Counted e.streams ending
+  pub counted : (ending : Ending) → EndsWords see words e ending
+      → Counted e.streams.read e.streams.read_now e.streams.written e.streams.written_now ending
   counted Usage h = (h.1.streams.2, h.1.streams.3)
   counted NoLink h = (h.3.streams.2, h.3.streams.3)
   counted NoWords h = (h.streams.2, h.streams.3)
@@ -114,7 +113,7 @@ module _ {A W R T : Type 0} (see : Wires W R T) (words : List (String A)) (e : E
 
   module _ (dold dnew : Option (List ℕ)) (before now status : ℕ) where
     abbrev pub Tells : Ending → Type 0
-    Tells ending = Said e.streams dold dnew before now status ending
+    Tells ending = Said dold dnew before now status ending
 
     pub usage : (ending : Ending) → EndsWords see words e ending → Tells ending → status ≡ 1
         → ¬ IsCommand words
@@ -138,27 +137,6 @@ module _ {A W R T : Type 0} (see : Wires W R T) (words : List (String A)) (e : E
         kind-failed see runs words h.0 e h.1
         (subst (λ (x : RunEnd). KindLeaves see h.0 e x) same h.2)
     link-fault runs _ h (inl says) is = absurd (omega (arith, says.0, is))
-
-    pub fault-told : (ending : Ending) → EndsWords see words e ending → Tells ending
-        → e.streams.read < e.streams.read_now → (status ≡ 3) ⊎ ((status ≡ 4) × Rose before now)
-    fault-told ending h says = told e.streams dold dnew before now status ending (counted ending h)
-        says
-
-    pub uncounted : (ending : Ending) → EndsWords see words e ending → Tells ending
-        → IsOfBytes status → (e.streams.read_now ≡ e.streams.read)
-        × (e.streams.written_now ≡ e.streams.written)
-    uncounted ending h says = unfailed e.streams dold dnew before now status ending
-        (counted ending h) says
-
-    pub read-fault : (ending : Ending) → EndsWords see words e ending → Tells ending
-        → status ≡ 3 → Rose e.streams.read e.streams.read_now
-    read-fault ending h says = read-rose e.streams dold dnew before now status ending
-        (counted ending h) says
-
-    pub write-fault : (ending : Ending) → EndsWords see words e ending → Tells ending
-        → status ≡ 4 → Rose e.streams.written e.streams.written_now ⊎ Rose before now
-    write-fault ending h says = write-rose e.streams dold dnew before now status ending
-        (counted ending h) says
 
     pub other-words : (ending : Ending) → EndsWords see words e ending → Tells ending
         → ¬ IsCommand words
@@ -208,9 +186,7 @@ module _ {A W R T : Type 0} (see : Wires W R T) (words : List (String A)) (e : E
       pub ends-of : AreRuns → (ending : Ending) → EndsWords see words e ending → Tells ending
           → (command : LocalCommand) → Asks words (Local command)
           → (end : RunEnd)
-          × (run_of command).leaves e.streams.input e.streams.left e.streams.old e.streams.new end
-          × FaultMatchesEnd e.streams.read e.streams.read_now e.streams.written
-          e.streams.written_now end
+          × Leaves command e.streams end × Matches e.streams end
           × Says dold dnew before now status end
       ends-of runs ending h says command asks = ⊎_elim
           (λ run. (run.0, run.2.leaves, run.2.fault, subst Tells run.1 says))
@@ -291,42 +267,6 @@ module _ {A W R T : Type 0} (see : Wires W R T) (words : List (String A)) (e : E
         is-unfailed e.streams end (kind-matches see command e end h) fair.read fair.written
         (λ x. fair.memory (is ∙ x)) link
 
-    kind-given : AreRuns → IsFair → (bytes : List ℕ) → e.streams.input ≡ Some bytes
-        → (command : CommandLine) (link : Option (List ℕ)) (end : RunEnd) → Asks words command
-        → KindLeaves see command e end → GetsLink see words e.old link
-        → status ≡ status_of end → Appends dold dnew (line_of end) → Given bytes link
-    kind-given runs fair bytes known (Local command) link end asks h gets code line =
-        let law = runs command in
-        let alone : end ≢ LinkFault = λ is.
-        law.alone e.streams.input e.streams.left e.streams.old e.streams.new
-        (subst (λ (x : RunEnd). (run_of command).leaves e.streams.input e.streams.left
-        e.streams.old e.streams.new x) is h.leaves) in
-        let given = law.given bytes e.streams.left e.streams.old e.streams.new end
-        (subst (λ (o : Option (List ℕ)). (run_of command).leaves o e.streams.left
-        e.streams.old e.streams.new end) known h.leaves)
-        (fair-end fair (Local command) end h code alone) in (
-          answer_of end given.0,
-          inl (Local command, asks, given.1),
-          record { status = code; text = given.2; line = line },
-        )
-    kind-given runs fair bytes known (Join addr name) None end asks h gets code line =
-        absurd (gets ((addr, name, asks), has-wire see name e end h))
-    kind-given runs fair bytes known (Join addr name) (Some link) end asks h gets code line =
-        let has : HasLink words e.old = ((addr, name, asks), has-wire see name e end h) in
-        let linked : end ≢ LinkFault = λ is. fair.joined has (code ∙ ap status_of is) in
-        let given = joins-given see name e end h bytes link gets known
-        (fair-end fair (Join addr name) end h code linked) in (
-          answer_of given.0.end given.0.text,
-          inl (Join addr name, asks, (given.0, given.1, refl)),
-          record {
-            status = code ∙ ap status_of (sym given.2);
-            text = given.3;
-            line = subst (λ (x : RunEnd). Appends dold dnew (line_of x)) (sym given.2) line;
-          },
-        )
-    kind-given runs fair bytes known (Listen addr workers conns service) link end asks h gets code
-        line = absurd (fair.served (has-wires words e.old addr workers conns service asks h.0))
-
     nothing-given : (bytes : List ℕ) (link : Option (List ℕ)) (answer : Answer)
         → IsDue words bytes link answer → answer.text ≡ [] → IsUntouched e
         → status ≡ answer.status → Appends dold dnew answer.line → Given bytes link
@@ -341,18 +281,52 @@ module _ {A W R T : Type 0} (see : Wires W R T) (words : List (String A)) (e : E
       },
     )
 
-    ending-given : AreRuns → IsFair → (bytes : List ℕ) → e.streams.input ≡ Some bytes
-        → (link : Option (List ℕ)) (ending : Ending) → EndsWords see words e ending
-        → GetsLink see words e.old link → status ≡ code_of ending
-        → Appends dold dnew (ending_line ending) → Given bytes link
-    ending-given runs fair bytes known link Usage h gets code line =
-        nothing-given bytes link usage_answer (inr (h.0, refl)) refl h.1 code line
-    ending-given runs fair bytes known link NoLink h gets code line =
-        nothing-given bytes link no_link_answer
-        (inl (h.0, h.1, due-link h.0 bytes link h.2 gets)) refl h.3 code line
-    ending-given runs fair bytes known link NoWords h gets code line = absurd (fair.memory code)
-    ending-given runs fair bytes known link (Run end) h gets code line =
-        kind-given runs fair bytes known h.0 link end h.1 h.2 gets code line
+    module _ (runs : AreRuns) (fair : IsFair) (bytes : List ℕ) (known : e.streams.input ≡ Some bytes)
+      where
+        kind-given : (command : CommandLine) (link : Option (List ℕ)) (end : RunEnd)
+            → Asks words command → KindLeaves see command e end → GetsLink see words e.old link
+            → status ≡ status_of end → Appends dold dnew (line_of end) → Given bytes link
+        kind-given (Local command) link end asks h gets code line =
+            let law = runs command in
+            let alone : end ≢ LinkFault = λ is.
+            law.alone e.streams.input e.streams.left e.streams.old e.streams.new
+            (subst (Leaves command e.streams) is h.leaves) in
+            let given = law.given bytes e.streams.left e.streams.old e.streams.new end
+            (subst (λ (o : Option (List ℕ)). (run_of command).leaves o e.streams.left
+            e.streams.old e.streams.new end) known h.leaves)
+            (fair-end fair (Local command) end h code alone) in (
+              answer_of end given.0,
+              inl (Local command, asks, given.1),
+              record { status = code; text = given.2; line = line },
+            )
+        kind-given (Join addr name) None end asks h gets code line =
+            absurd (gets ((addr, name, asks), has-wire see name e end h))
+        kind-given (Join addr name) (Some link) end asks h gets code line =
+            let has : HasLink words e.old = ((addr, name, asks), has-wire see name e end h) in
+            let linked : end ≢ LinkFault = λ is. fair.joined has (code ∙ ap status_of is) in
+            let given = joins-given see name e end h bytes link gets known
+            (fair-end fair (Join addr name) end h code linked) in (
+              answer_of given.0.end given.0.text,
+              inl (Join addr name, asks, (given.0, given.1, refl)),
+              record {
+                status = code ∙ ap status_of (sym given.2);
+                text = given.3;
+                line = subst (λ (x : RunEnd). Appends dold dnew (line_of x)) (sym given.2) line;
+              },
+            )
+        kind-given (Listen addr workers conns service) link end asks h gets code line = absurd
+            (fair.served (has-wires words e.old addr workers conns service asks h.0))
+
+        ending-given : (link : Option (List ℕ)) (ending : Ending) → EndsWords see words e ending
+            → GetsLink see words e.old link → status ≡ code_of ending
+            → Appends dold dnew (ending_line ending) → Given bytes link
+        ending-given link Usage h gets code line =
+            nothing-given bytes link usage_answer (inr (h.0, refl)) refl h.1 code line
+        ending-given link NoLink h gets code line = nothing-given bytes link no_link_answer
+            (inl (h.0, h.1, due-link h.0 bytes link h.2 gets)) refl h.3 code line
+        ending-given link NoWords h gets code line = absurd (fair.memory code)
+        ending-given link (Run end) h gets code line =
+            kind-given h.0 link end h.1 h.2 gets code line
 
     pub complete : AreRuns → (ending : Ending) → EndsWords see words e ending → Tells ending
         → IsFair → IfSome e.streams.input (λ bytes. (link : Option (List ℕ))
