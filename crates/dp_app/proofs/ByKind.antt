@@ -1,33 +1,38 @@
 -- What holds of a run of each kind: on its streams alone, over a link, and of a server.
 use Rattle.std.proofs.Common.{◌≡◌, ◌≢◌, ℕ, ◌⊎◌, Bool, true, false, List, [], ◌∷◌, length}
-use Rattle.std.proofs.Common.{◌++◌, drop, refl, sym, ap, ◌∙◌, subst, inl, inr, take}
+use Rattle.std.proofs.Common.{◌++◌, drop, refl, sym, ap, ◌∙◌, subst, inl, inr, take, arith, map}
 use Rattle.std.proofs.lemmas.List.{take_at}
 use Rattle.std.specs.Prelude.{Option, Some, None, IfSome}
 use Rattle.std.specs.declared.string.String.{String}
 use Rattle.std.specs.Io.KnownBytes.{Appends, Keeps}
+use Rattle.dp_hall.specs.Names.{IsIn}
+use Rattle.dp_io.specs.Faults.{Rose}
 use Rattle.dp_joining.specs.Leaves.{Counts, FaultMatchesJoin, JoinLeaves, Traffic}
 use Rattle.dp_joining.specs.Leaves as leaves
 use Rattle.dp_joining.specs.Outcomes.{JoinComesTo, JoinOutcome}
-use Rattle.dp_joining.specs.Runs.{JoinsOver, Returns, RunLeaves}
+use Rattle.dp_joining.specs.Runs.{Returns, RunLeaves}
 use Rattle.dp_lines.specs.declared.run_end.RunEnd.{RunEnd}
-use Rattle.dp_lines.specs.declared.run_end.RunEnd.TheVariants.{Done, BadLine, ReadFault, WriteFault}
-use Rattle.dp_lines.specs.declared.run_end.RunEnd.TheVariants.{LinkFault, Memory, Long, Truncated}
-use Rattle.dp_lines.specs.declared.run_end.RunEnd.TheVariants.{BadMessage, BadHeader, Closed}
+use Rattle.dp_lines.specs.declared.run_end.RunEnd.TheVariants.{Done, ReadFault, WriteFault}
+use Rattle.dp_lines.specs.declared.run_end.RunEnd.TheVariants.{LinkFault, Memory, Truncated}
+use Rattle.dp_lines.specs.declared.run_end.RunEnd.TheVariants.{BadHeader}
 use Rattle.dp_lines.specs.RunEnds.{FaultMatchesEnd}
+use Rattle.dp_serve.specs.Serving.{Part}
 use Rattle.dp_wire.specs.Links.{Links, WhereKnown}
 use Rattle.dp_words.specs.declared.command_line.CommandLine.{CommandLine}
 use Rattle.dp_words.specs.declared.command_line.CommandLine.TheVariants.{Local, Join, Listen}
 use Rattle.dp_words.specs.declared.command_line.LocalCommand.{LocalCommand}
 use Rattle.dp_words.specs.declared.command_line.Service.{Service}
-use Rattle.dp_app.specs.Commands.{Asks, HasLink, HasLinks, HasWires}
+use Rattle.dp_app.specs.Answer.{status_of}
+use Rattle.dp_app.specs.Commands.{Asks, HasWires}
 use Rattle.dp_app.specs.Due.{GivesLink}
 use Rattle.dp_app.specs.declared.ending.Ending.{Ending}
 use Rattle.dp_app.specs.declared.ending.Ending.TheVariants.{NoLink, NoWords, Run, Usage}
 use Rattle.dp_app.specs.Endings.{Effects, Kept, Streams, Untouched, Wires, effects}
+use Rattle.dp_app.specs.Faults.{AskAndFailed, DialFailed, LinkFailed, WireFailed}
 use Rattle.dp_app.specs.Joins.{JoinsOn, ends_of}
 use Rattle.dp_app.specs.Kinds.{EndsCommand, KindLeaves, Reads}
 use Rattle.dp_app.specs.Runs.{IsReadWhole, IsRun, IsUnfailed, run_of}
-use Rattle.dp_app.specs.Servers.{NotServed, RunsServer, ServedOn, server_end}
+use Rattle.dp_app.specs.Servers.{NotServed, ServedOn, server_end}
 
 -- the laws on the commands that need no link
 abbrev pub AreRuns : Type 0
@@ -37,6 +42,10 @@ AreRuns = (command : LocalCommand) → IsRun (run_of command)
 abbrev pub Matches : Streams → RunEnd → Type 0
 Matches s end = FaultMatchesEnd s.read s.read_now s.written s.written_now end
 
+-- what a run of the command leaves of the streams that ends so
+abbrev pub Leaves : LocalCommand → Streams → RunEnd → Type 0
+Leaves command s end = (run_of command).leaves s.input s.left s.old s.new end
+
 -- ---- over a link
 
 of-streams : (old now : Counts) (end : RunEnd) → FaultMatchesJoin old now end
@@ -45,6 +54,11 @@ of-streams old now ReadFault b = (b.0, b.1.output)
 of-streams old now WriteFault b = (b.0, b.1)
 of-streams old now LinkFault b = (b.0, b.1)
 of-streams old now _ b = (b.0, b.1.output)
+
+link-rose : (old now : Counts) (end : RunEnd) → FaultMatchesJoin old now end → end ≡ LinkFault
+    → Rose old.sink now.sink ⊎ Rose old.source now.source
+link-rose old now LinkFault b by = b.2
+link-rose old now _ b by = absurd (omega (arith, ap status_of by))
 
 script-whole : (name : List ℕ) (t : Traffic) (end : RunEnd) → JoinLeaves name t end
     → IsReadWhole end t.left
@@ -68,27 +82,24 @@ writes-all name t end input link known linked h =
     (λ other. Writes name t end bytes other))) known h) in
     (all.0, all.1, all.2, all.3)
 
+all-written : (name : List ℕ) (t : Traffic) (end : RunEnd) → JoinLeaves name t end
+    → IsUnfailed end → leaves.WritesAll name t end
+all-written name t Done h unfailed = h.1
+all-written name t ReadFault h unfailed = absurd unfailed
+all-written name t WriteFault h unfailed = absurd unfailed
+all-written name t LinkFault h unfailed = absurd unfailed
+all-written name t Memory h unfailed = absurd unfailed
+all-written name t (Truncated n) h unfailed = absurd h
+all-written name t BadHeader h unfailed = absurd h
+all-written name t _ h unfailed = h
+
 -- a run that didn't fail wrote what the script and the link come to
-pub join-given : (name : List ℕ) (t : Traffic) (end : RunEnd) (input link : List ℕ)
+join-given : (name : List ℕ) (t : Traffic) (end : RunEnd) (input link : List ℕ)
     → t.input ≡ Some input → t.link ≡ Some link → JoinLeaves name t end → IsUnfailed end
     → (outcome : JoinOutcome) × JoinComesTo name input link outcome × (outcome.end ≡ end)
     × Appends t.print_old t.print_now outcome.text
-join-given name t Done input link known linked h unfailed =
-    writes-all name t Done input link known linked h.1
-join-given name t (BadLine n) input link known linked h unfailed =
-    writes-all name t (BadLine n) input link known linked h
-join-given name t Long input link known linked h unfailed =
-    writes-all name t Long input link known linked h
-join-given name t Closed input link known linked h unfailed =
-    writes-all name t Closed input link known linked h
-join-given name t (BadMessage n) input link known linked h unfailed =
-    writes-all name t (BadMessage n) input link known linked h
-join-given name t ReadFault input link known linked h unfailed = absurd unfailed
-join-given name t WriteFault input link known linked h unfailed = absurd unfailed
-join-given name t LinkFault input link known linked h unfailed = absurd unfailed
-join-given name t Memory input link known linked h unfailed = absurd unfailed
-join-given name t (Truncated n) input link known linked h unfailed = absurd h
-join-given name t BadHeader input link known linked h unfailed = absurd h
+join-given name t end input link known linked h unfailed =
+    writes-all name t end input link known linked (all-written name t end h unfailed)
 
 -- the source of the first of these links
 source-of : {R T : Type 0} → R → List (R × T) → R
@@ -160,6 +171,31 @@ module _ {W R T : Type 0} (see : Wires W R T) (name : List ℕ) (e : Effects W) 
       first-given h.wire h.now gives.wire gives.links gives.rx gives.tx gives.more input link
       h.leaves same gives.known gives.next gives.holds told unfailed
 
+  -- a run that ended by its link dialled in vain, or the link failed
+  link-failed : (wire now : W) → LeavesLink wire now → end ≡ LinkFault
+      → Rose (see.faults wire) (see.faults now) ⊎ LinkFailed see wire now
+  link-failed wire now (inl (is, rose, same)) by = inl rose
+  link-failed wire now (inr (inl (is, stays, same))) by =
+      absurd (omega (arith, ap status_of (sym is ∙ by)))
+  link-failed wire now (inr (inr (stays, over))) by = inr (record {
+    rx = over.rx;
+    tx = over.tx;
+    rx_now = over.rx_now;
+    tx_now = over.tx_now;
+    returned = over.returned;
+    rose = link-rose _ _ end over.fault by;
+  })
+
+  pub dial-failed : JoinsOn see name e end → end ≡ LinkFault → DialFailed see e.old e.new
+  dial-failed h by = record {
+    wire = h.wire;
+    now = h.now;
+    others = h.others;
+    before = h.before;
+    after = h.after;
+    failed = link-failed h.wire h.now h.leaves by;
+  }
+
 -- ---- of a server
 
 flags-match : (s : Streams) (memory wire : Bool) → Untouched s → Matches s (server_end memory wire)
@@ -175,6 +211,41 @@ server-matches see conns e end same (inl served) =
     (flags-match e.streams served.memory served.wire same)
 server-matches see conns e end same (inr not) =
     subst (Matches e.streams) (sym not.end_is) (same.2, same.3)
+
+module _ {W R T : Type 0} (see : Wires W R T) where
+  part-failed : (parts : List (Part W R T)) (part : Part W R T) → IsIn part parts
+      → Rose (see.faults part.wire) (see.faults part.now)
+      → WireFailed see (map (λ p. p.wire) parts) (map (λ p. p.now) parts)
+  part-failed [] part among rose = absurd among
+  part-failed (first ∷ parts) part (inl same) rose =
+      inl (subst (λ (p : Part W R T). Rose (see.faults p.wire) (see.faults p.now)) same rose)
+  part-failed (first ∷ parts) part (inr among) rose = inr (part-failed parts part among rose)
+
+  flag-raised : (memory wire : Bool) → LinkFault ≡ server_end memory wire → wire ≡ true
+  flag-raised true wire by = absurd (omega (arith, ap status_of by))
+  flag-raised false true by = refl
+  flag-raised false false by = absurd (omega (arith, ap status_of by))
+
+  server-failed : (conns : Option ℕ) (e : Effects W)
+      → ServedOn see conns e LinkFault ⊎ NotServed e LinkFault → WireFailed see e.old e.new
+  server-failed conns e (inl served) =
+      let part = served.serves.wire (flag-raised served.memory served.wire served.end_is) in
+      subst (λ (old : List W). WireFailed see old e.new) served.serves.before
+      (subst (λ (new : List W). WireFailed see (map (λ p. p.wire) served.serves.parts) new)
+      served.serves.after (part-failed served.serves.parts part.0 part.1 part.2.0))
+  server-failed conns e (inr not) = absurd (omega (arith, ap status_of not.end_is))
+
+-- words that ask for as many workers as there are wires have their wires
+pub has-wires : {A W : Type 0} (words : List (String A)) (wires : List W) (addr : List ℕ)
+    (workers : ℕ) (conns : Option ℕ) (service : Service)
+    → Asks words (Listen addr workers conns service) → length wires ≡ workers
+    → HasWires words wires
+has-wires words wires addr workers conns service asks same = (
+  addr,
+  conns,
+  service,
+  subst (λ (n : ℕ). Asks words (Listen addr n conns service)) (sym same) asks,
+)
 
 -- ---- of each kind
 
@@ -195,33 +266,21 @@ module _ {W R T : Type 0} (see : Wires W R T) where
       join-whole see name e end h.wire h.now h.leaves
   kind-whole runs (Listen addr workers conns service) e end h reads = absurd reads
 
-  -- a command of which a run ended by a link has its wires
-  pub kind-links : {A : Type 0} → AreRuns → (words : List (String A)) (command : CommandLine)
+  -- where a run ended by a link, the link failed, or a wire
+  pub kind-failed : {A : Type 0} → AreRuns → (words : List (String A)) (command : CommandLine)
       (e : Effects W) → Asks words command → KindLeaves see command e LinkFault
-      → HasLinks words e.old
-  kind-links runs words (Local command) e asks h =
+      → AskAndFailed see words e.old e.new
+  kind-failed runs words (Local command) e asks h =
       absurd ((runs command).alone e.streams.input e.streams.left e.streams.old e.streams.new
       h.leaves)
-  kind-links runs words (Join addr name) e asks h =
-      inl ((addr, name, asks), has-wire see name e LinkFault h)
-  kind-links runs words (Listen addr workers conns service) e asks h = inr (
-    addr,
-    conns,
-    service,
-    subst (λ (n : ℕ). Asks words (Listen addr n conns service)) (sym h.0) asks,
+  kind-failed runs words (Join addr name) e asks h = inl (
+    ((addr, name, asks), has-wire see name e LinkFault h),
+    dial-failed see name e LinkFault h refl,
   )
-
--- words that ask for as many workers as there are wires have their wires
-pub has-wires : {A W : Type 0} (words : List (String A)) (wires : List W) (addr : List ℕ)
-    (workers : ℕ) (conns : Option ℕ) (service : Service)
-    → Asks words (Listen addr workers conns service) → length wires ≡ workers
-    → HasWires words wires
-has-wires words wires addr workers conns service asks same = (
-  addr,
-  conns,
-  service,
-  subst (λ (n : ℕ). Asks words (Listen addr n conns service)) (sym same) asks,
-)
+  kind-failed runs words (Listen addr workers conns service) e asks h = inr (
+    has-wires words e.old addr workers conns service asks h.0,
+    server-failed see conns e h.1.served,
+  )
 
 -- ---- the wires as a vector
 

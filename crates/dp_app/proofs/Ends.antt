@@ -1,5 +1,5 @@
 -- The ways in which the program ends give the clauses of the top call.
-use Rattle.std.proofs.Common.{◌≡◌, ◌≢◌, ℕ, ◌<◌, ◌⊎◌, List, [], ◌∷◌, refl, sym, ap, ◌∙◌, subst}
+use Rattle.std.proofs.Common.{◌≡◌, ◌≢◌, ℕ, ◌⊎◌, List, [], ◌∷◌, refl, sym, ap, ◌∙◌, subst}
 use Rattle.std.proofs.Common.{⊎_elim, inl, inr, arith, length}
 use Rattle.std.specs.Prelude.{Option, Some, None, IfSome, map, string_bytes}
 use Rattle.std.specs.declared.string.String.{String}
@@ -8,7 +8,6 @@ use Rattle.dp_io.specs.Faults.{Rose}
 use Rattle.dp_joining.specs.Outcomes.{JoinComesTo, JoinOutcome}
 use Rattle.dp_lines.specs.declared.run_end.RunEnd.{RunEnd}
 use Rattle.dp_lines.specs.declared.run_end.RunEnd.TheVariants.{LinkFault, Memory}
-use Rattle.dp_lines.specs.RunEnds.{FaultMatchesEnd}
 use Rattle.dp_schedule.specs.declared.action.Action.{Action}
 use Rattle.dp_sim.specs.Headline.{Headline}
 use Rattle.dp_sim.specs.World.{world_after}
@@ -25,15 +24,16 @@ use Rattle.dp_app.specs.Commands.{AskAndLack, AskForLocal, Asks, HasLink, HasLin
 use Rattle.dp_app.specs.Commands.{IsCommand, LacksWires}
 use Rattle.dp_app.specs.Due.{DueOf, GetsLink, IsDue}
 use Rattle.dp_app.specs.Endings.{Effects, IsUntouched, KeepsNothing, Untouched, Wires, code_of}
-use Rattle.dp_app.specs.Endings.{ending_line}
+use Rattle.dp_app.specs.Endings.{StaysLocal, ending_line}
+use Rattle.dp_app.specs.Faults.{AskAndFailed}
 use Rattle.dp_app.specs.Joins.{HasJoined}
 use Rattle.dp_app.specs.Kinds.{EndsCommand, EndsWords, KindLeaves, Reads}
 use Rattle.dp_app.specs.Runs.{IsUnfailed, run_of}
 use Rattle.dp_app.specs.Servers.{HasServed}
 use Rattle.dp_app.proofs.Answering.{Counted, Said, is-link-fault, is-unfailed, is-whole, not-one}
-use Rattle.dp_app.proofs.Answering.{IsOfBytes, not-thirteen, not-whole, read-rose, told}
-use Rattle.dp_app.proofs.Answering.{unfailed, write-rose}
-use Rattle.dp_app.proofs.ByKind.{AreRuns, has-wire, has-wires, joins-given, kind-links}
+use Rattle.dp_app.proofs.Answering.{not-thirteen, not-whole}
+use Rattle.dp_app.proofs.ByKind.{AreRuns, has-wire, has-wires, joins-given}
+use Rattle.dp_app.proofs.ByKind.{Leaves, Matches, kind-failed}
 use Rattle.dp_app.proofs.ByKind.{kind-matches, kind-whole}
 use Rattle.dp_app.proofs.LocalRuns.{appends_nothing}
 
@@ -69,117 +69,74 @@ module _ {A W R T : Type 0} (see : Wires W R T) (words : List (String A)) (e : E
   words-end command NoWords asks h = absurd h
   words-end command (Run end) asks h = (command, asks, h)
 
-  pub counted : (ending : Ending) → EndsWords see words e ending → Counted e.streams ending
+  pub counted : (ending : Ending) → EndsWords see words e ending
+      → Counted e.streams.read e.streams.read_now e.streams.written e.streams.written_now ending
   counted Usage h = (h.1.streams.2, h.1.streams.3)
   counted NoLink h = (h.3.streams.2, h.3.streams.3)
   counted NoWords h = (h.streams.2, h.streams.3)
   counted (Run end) h = kind-matches see h.0 e end h.2
 
-  -- nothing was done, or a command was run for which the words ask
-  done : (ending : Ending) → EndsWords see words e ending
-      → IsUntouched e ⊎ ((command : CommandLine) × Asks words command
-      × ((end : RunEnd) × KindLeaves see command e end))
-  done Usage h = inl h.1
-  done NoLink h = inl h.3
-  done NoWords h = inl h
-  done (Run end) h = inr (h.0, h.1, (end, h.2))
+  -- What holds where nothing was done, and after a run of each kind, holds.
+  module _ {P : Type 0} (nothing : IsUntouched e → P) (local : AskForLocal words → StaysLocal e → P)
+      (joins : HasLink words e.old → KeepsNothing e.kept → P)
+      (serves : HasWires words e.old → Untouched e.streams → P) where
+    of-run : (command : CommandLine) (end : RunEnd) → Asks words command
+        → KindLeaves see command e end → P
+    of-run (Local command) end asks h = local (command, asks) h.stays
+    of-run (Join addr name) end asks h =
+        joins ((addr, name, asks), has-wire see name e end h) h.nothing
+    of-run (Listen addr workers conns service) end asks h =
+        serves (has-wires words e.old addr workers conns service asks h.0) h.1.untouched
 
-  -- so what holds where nothing was done, and after each run, holds
-  of-each : {P : Type 0} (ending : Ending) → EndsWords see words e ending → (IsUntouched e → P)
-      → ((command : CommandLine) (end : RunEnd) → Asks words command
-      → KindLeaves see command e end → P) → P
-  of-each ending h nothing run =
-      ⊎_elim nothing (λ ran. run ran.0 ran.2.0 ran.1 ran.2.1) (done ending h)
-
-  kind-untouched : ¬ AskForLocal words → ¬ HasLink words e.old → (command : CommandLine)
-      (end : RunEnd) → Asks words command → KindLeaves see command e end → Untouched e.streams
-  kind-untouched none never (Local command) end asks h = absurd (none (command, asks))
-  kind-untouched none never (Join addr name) end asks h =
-      absurd (never ((addr, name, asks), has-wire see name e end h))
-  kind-untouched none never (Listen addr workers conns service) end asks h = h.1.untouched
+    of-each : (ending : Ending) → EndsWords see words e ending → P
+    of-each Usage h = nothing h.1
+    of-each NoLink h = nothing h.3
+    of-each NoWords h = nothing h
+    of-each (Run end) h = of-run h.0 end h.1 h.2
 
   pub untouched : (ending : Ending) → EndsWords see words e ending → ¬ AskForLocal words
       → ¬ HasLink words e.old → Untouched e.streams
-  untouched ending h none never =
-      of-each ending h (λ nothing. nothing.streams) (kind-untouched none never)
-
-  kind-nothing : ¬ HasWires words e.old → (command : CommandLine) (end : RunEnd)
-      → Asks words command → KindLeaves see command e end → KeepsNothing e.kept
-  kind-nothing never (Local command) end asks h = h.stays.nothing
-  kind-nothing never (Join addr name) end asks h = h.nothing
-  kind-nothing never (Listen addr workers conns service) end asks h =
-      absurd (never (has-wires words e.old addr workers conns service asks h.0))
+  untouched ending h none never = of-each (λ all. all.streams) (λ asks stays. absurd (none asks))
+      (λ has kept. absurd (never has)) (λ has same. same) ending h
 
   pub nothing-kept : (ending : Ending) → EndsWords see words e ending → ¬ HasWires words e.old
       → KeepsNothing e.kept
-  nothing-kept ending h never =
-      of-each ending h (λ nothing. nothing.stays.nothing) (kind-nothing never)
-
-  kind-stay : ¬ HasLinks words e.old → (command : CommandLine) (end : RunEnd)
-      → Asks words command → KindLeaves see command e end → e.new ≡ e.old
-  kind-stay never (Local command) end asks h = h.stays.wires
-  kind-stay never (Join addr name) end asks h =
-      absurd (never (inl ((addr, name, asks), has-wire see name e end h)))
-  kind-stay never (Listen addr workers conns service) end asks h =
-      absurd (never (inr (has-wires words e.old addr workers conns service asks h.0)))
+  nothing-kept ending h never = of-each (λ all. all.stays.nothing) (λ asks stays. stays.nothing)
+      (λ has kept. kept) (λ has same. absurd (never has)) ending h
 
   pub wires-stay : (ending : Ending) → EndsWords see words e ending → ¬ HasLinks words e.old
       → e.new ≡ e.old
-  wires-stay ending h never = of-each ending h (λ nothing. nothing.stays.wires) (kind-stay never)
+  wires-stay ending h never = of-each (λ all. all.stays.wires) (λ asks stays. stays.wires)
+      (λ has kept. absurd (never (inl has))) (λ has same. absurd (never (inr has))) ending h
 
   -- ---- by what is said
 
   module _ (dold dnew : Option (List ℕ)) (before now status : ℕ) where
     abbrev pub Tells : Ending → Type 0
-    Tells ending = Said e.streams dold dnew before now status ending
+    Tells ending = Said dold dnew before now status ending
 
     pub usage : (ending : Ending) → EndsWords see words e ending → Tells ending → status ≡ 1
         → ¬ IsCommand words
     usage ending h (inr failed) is = absurd (omega (arith, failed.0, is))
     usage Usage h (inl says) is = h.0
-    usage NoLink h (inl says) is = absurd (omega (arith, says.0, is))
-    usage NoWords h (inl says) is = absurd (omega (arith, says.0, is))
     usage (Run end) h (inl says) is = absurd (not-one end (sym says.0 ∙ is))
+    usage _ h (inl says) is = absurd (omega (arith, says.0, is))
 
     pub lacks : (ending : Ending) → EndsWords see words e ending → Tells ending → status ≡ 13
         → AskAndLack words e.old
     lacks ending h (inr failed) is = absurd (omega (arith, failed.0, is))
-    lacks Usage h (inl says) is = absurd (omega (arith, says.0, is))
     lacks NoLink h (inl says) is = (h.0, h.1, h.2)
-    lacks NoWords h (inl says) is = absurd (omega (arith, says.0, is))
     lacks (Run end) h (inl says) is = absurd (not-thirteen end (sym says.0 ∙ is))
+    lacks _ h (inl says) is = absurd (omega (arith, says.0, is))
 
     pub link-fault : AreRuns → (ending : Ending) → EndsWords see words e ending → Tells ending
-        → status ≡ 5 → HasLinks words e.old
+        → status ≡ 5 → AskAndFailed see words e.old e.new
     link-fault runs ending h (inr failed) is = absurd (omega (arith, failed.0, is))
-    link-fault runs Usage h (inl says) is = absurd (omega (arith, says.0, is))
-    link-fault runs NoLink h (inl says) is = absurd (omega (arith, says.0, is))
-    link-fault runs NoWords h (inl says) is = absurd (omega (arith, says.0, is))
     link-fault runs (Run end) h (inl says) is =
         let same = is-link-fault end (sym says.0 ∙ is) in
-        kind-links see runs words h.0 e h.1
+        kind-failed see runs words h.0 e h.1
         (subst (λ (x : RunEnd). KindLeaves see h.0 e x) same h.2)
-
-    pub fault-told : (ending : Ending) → EndsWords see words e ending → Tells ending
-        → e.streams.read < e.streams.read_now → (status ≡ 3) ⊎ ((status ≡ 4) × Rose before now)
-    fault-told ending h says = told e.streams dold dnew before now status ending (counted ending h)
-        says
-
-    pub uncounted : (ending : Ending) → EndsWords see words e ending → Tells ending
-        → IsOfBytes status → (e.streams.read_now ≡ e.streams.read)
-        × (e.streams.written_now ≡ e.streams.written)
-    uncounted ending h says = unfailed e.streams dold dnew before now status ending
-        (counted ending h) says
-
-    pub read-fault : (ending : Ending) → EndsWords see words e ending → Tells ending
-        → status ≡ 3 → Rose e.streams.read e.streams.read_now
-    read-fault ending h says = read-rose e.streams dold dnew before now status ending
-        (counted ending h) says
-
-    pub write-fault : (ending : Ending) → EndsWords see words e ending → Tells ending
-        → status ≡ 4 → Rose e.streams.written e.streams.written_now ⊎ Rose before now
-    write-fault ending h says = write-rose e.streams dold dnew before now status ending
-        (counted ending h) says
+    link-fault runs _ h (inl says) is = absurd (omega (arith, says.0, is))
 
     pub other-words : (ending : Ending) → EndsWords see words e ending → Tells ending
         → ¬ IsCommand words
@@ -210,48 +167,43 @@ module _ {A W R T : Type 0} (see : Wires W R T) (words : List (String A)) (e : E
       no-link (Run end) h says command asks none = absurd (no-run h.0 end h.1 h.2
           (subst (λ (c : CommandLine). LacksWires c e.old) (same command h.0 asks h.1) none))
 
-      -- what a run of the command leaves for which the words ask
-      asked : (command : CommandLine) (end : RunEnd) → EndsWords see words e (Run end)
-          → Asks words command → KindLeaves see command e end
-      asked command end h asks = subst (λ (c : CommandLine). KindLeaves see c e end)
-          (same h.0 command h.1 asks) h.2
-
-      -- the wires for it aren't there
-      lacking : (command : CommandLine) → EndsWords see words e NoLink → Asks words command
-          → LacksWires command e.old
-      lacking command h asks =
-          subst (λ (c : CommandLine). LacksWires c e.old) (same h.0 command h.1 asks) h.2
+      -- where the wires for it are there, it was run, or memory ran out before that
+      asked : (ending : Ending) → EndsWords see words e ending → (command : CommandLine)
+          → Asks words command → ¬ LacksWires command e.old
+          → ((end : RunEnd) × (ending ≡ Run end) × KindLeaves see command e end)
+          ⊎ ((ending ≡ NoWords) × IsUntouched e)
+      asked Usage h command asks has = absurd (h.0 (command, asks))
+      asked NoLink h command asks has = absurd (has
+          (subst (λ (c : CommandLine). LacksWires c e.old) (same h.0 command h.1 asks) h.2))
+      asked NoWords h command asks has = inr (refl, h)
+      asked (Run end) h command asks has = inl (
+        end,
+        refl,
+        subst
+            (λ (c : CommandLine). KindLeaves see c e end) (same h.0 command h.1 asks) h.2,
+      )
 
       pub ends-of : AreRuns → (ending : Ending) → EndsWords see words e ending → Tells ending
           → (command : LocalCommand) → Asks words (Local command)
           → (end : RunEnd)
-          × (run_of command).leaves e.streams.input e.streams.left e.streams.old e.streams.new end
-          × FaultMatchesEnd e.streams.read e.streams.read_now e.streams.written
-          e.streams.written_now end
+          × Leaves command e.streams end × Matches e.streams end
           × Says dold dnew before now status end
-      ends-of runs Usage h says command asks = absurd (h.0 (Local command, asks))
-      ends-of runs NoLink h says command asks = absurd (lacking (Local command) h asks)
-      ends-of runs NoWords h says command asks = (
-        Memory,
-        (runs command).begun e.streams.input e.streams.left e.streams.old e.streams.new
-            h.streams.1,
-        (h.streams.2, h.streams.3),
-        says,
-      )
-      ends-of runs (Run end) h says command asks =
-          let run = asked (Local command) end h asks in (end, run.leaves, run.fault, says)
+      ends-of runs ending h says command asks = ⊎_elim
+          (λ run. (run.0, run.2.leaves, run.2.fault, subst Tells run.1 says))
+          (λ none. (
+            Memory,
+            (runs command).begun e.streams.input e.streams.left e.streams.old e.streams.new
+                none.1.streams.1,
+            (none.1.streams.2, none.1.streams.3),
+            subst Tells none.0 says,
+          )) (asked ending h (Local command) asks (λ lacks. lacks))
 
       pub joins-of : (ending : Ending) → EndsWords see words e ending → Tells ending
           → (addr name : List ℕ) → Asks words (Join addr name) → e.old ≢ []
           → HasJoined see name e dold dnew before now status
-      joins-of Usage h says addr name asks some = absurd (h.0 (Join addr name, asks))
-      joins-of NoLink h says addr name asks some =
-          absurd (some (lacking (Join addr name) h asks))
-      joins-of NoWords h says addr name asks some =
-          record { ending = NoWords; joins = inr (refl, h); says = says }
-      joins-of (Run end) h says addr name asks some = record {
-        ending = Run end;
-        joins = inl (end, refl, asked (Join addr name) end h asks);
+      joins-of ending h says addr name asks some = record {
+        ending = ending;
+        joins = asked ending h (Join addr name) asks some;
         says = says;
       }
 
@@ -259,15 +211,13 @@ module _ {A W R T : Type 0} (see : Wires W R T) (words : List (String A)) (e : E
           → (addr : List ℕ) (conns : Option ℕ) (service : Service)
           → Asks words (Listen addr (length e.old) conns service)
           → HasServed see conns e dold dnew before now status
-      serves-of Usage h says addr conns service asks =
-          absurd (h.0 (Listen addr (length e.old) conns service, asks))
-      serves-of NoLink h says addr conns service asks =
-          absurd (lacking (Listen addr (length e.old) conns service) h asks refl)
-      serves-of NoWords h says addr conns service asks =
-          record { ending = NoWords; serves = inr (refl, h); says = says }
-      serves-of (Run end) h says addr conns service asks =
-          let run = asked (Listen addr (length e.old) conns service) end h asks in
-          record { ending = Run end; serves = inl (end, refl, run.1); says = says }
+      serves-of ending h says addr conns service asks = record {
+        ending = ending;
+        serves = ⊎_elim (λ run. inl (run.0, run.1, run.2.1)) (λ none. inr none)
+            (asked ending h (Listen addr (length e.old) conns service) asks
+            (λ lacks. lacks refl));
+        says = says;
+      }
 
       pub to-end : AreRuns → (ending : Ending) → EndsWords see words e ending → Tells ending
           → (command : CommandLine) → Asks words command → Reads command
@@ -281,7 +231,8 @@ module _ {A W R T : Type 0} (see : Wires W R T) (words : List (String A)) (e : E
           (not-whole status 7 says.0 (λ x. omega (arith, x)) (λ x. omega (arith, x)) is)
       to-end runs (Run end) h (inl says) command asks reads is =
           is-whole end e.streams.left
-          (kind-whole see runs command e end (asked command end h asks) reads)
+          (kind-whole see runs command e end (subst (λ (c : CommandLine). KindLeaves see c e end)
+          (same h.0 command h.1 asks) h.2) reads)
           (subst (λ (n : ℕ). (n ≡ 0) ⊎ (n ≡ 9)) says.0 is)
 
     -- ---- what is due is given
@@ -316,42 +267,6 @@ module _ {A W R T : Type 0} (see : Wires W R T) (words : List (String A)) (e : E
         is-unfailed e.streams end (kind-matches see command e end h) fair.read fair.written
         (λ x. fair.memory (is ∙ x)) link
 
-    kind-given : AreRuns → IsFair → (bytes : List ℕ) → e.streams.input ≡ Some bytes
-        → (command : CommandLine) (link : Option (List ℕ)) (end : RunEnd) → Asks words command
-        → KindLeaves see command e end → GetsLink see words e.old link
-        → status ≡ status_of end → Appends dold dnew (line_of end) → Given bytes link
-    kind-given runs fair bytes known (Local command) link end asks h gets code line =
-        let law = runs command in
-        let alone : end ≢ LinkFault = λ is.
-        law.alone e.streams.input e.streams.left e.streams.old e.streams.new
-        (subst (λ (x : RunEnd). (run_of command).leaves e.streams.input e.streams.left
-        e.streams.old e.streams.new x) is h.leaves) in
-        let given = law.given bytes e.streams.left e.streams.old e.streams.new end
-        (subst (λ (o : Option (List ℕ)). (run_of command).leaves o e.streams.left
-        e.streams.old e.streams.new end) known h.leaves)
-        (fair-end fair (Local command) end h code alone) in (
-          answer_of end given.0,
-          inl (Local command, asks, given.1),
-          record { status = code; text = given.2; line = line },
-        )
-    kind-given runs fair bytes known (Join addr name) None end asks h gets code line =
-        absurd (gets ((addr, name, asks), has-wire see name e end h))
-    kind-given runs fair bytes known (Join addr name) (Some link) end asks h gets code line =
-        let has : HasLink words e.old = ((addr, name, asks), has-wire see name e end h) in
-        let linked : end ≢ LinkFault = λ is. fair.joined has (code ∙ ap status_of is) in
-        let given = joins-given see name e end h bytes link gets known
-        (fair-end fair (Join addr name) end h code linked) in (
-          answer_of given.0.end given.0.text,
-          inl (Join addr name, asks, (given.0, given.1, refl)),
-          record {
-            status = code ∙ ap status_of (sym given.2);
-            text = given.3;
-            line = subst (λ (x : RunEnd). Appends dold dnew (line_of x)) (sym given.2) line;
-          },
-        )
-    kind-given runs fair bytes known (Listen addr workers conns service) link end asks h gets code
-        line = absurd (fair.served (has-wires words e.old addr workers conns service asks h.0))
-
     nothing-given : (bytes : List ℕ) (link : Option (List ℕ)) (answer : Answer)
         → IsDue words bytes link answer → answer.text ≡ [] → IsUntouched e
         → status ≡ answer.status → Appends dold dnew answer.line → Given bytes link
@@ -366,18 +281,52 @@ module _ {A W R T : Type 0} (see : Wires W R T) (words : List (String A)) (e : E
       },
     )
 
-    ending-given : AreRuns → IsFair → (bytes : List ℕ) → e.streams.input ≡ Some bytes
-        → (link : Option (List ℕ)) (ending : Ending) → EndsWords see words e ending
-        → GetsLink see words e.old link → status ≡ code_of ending
-        → Appends dold dnew (ending_line ending) → Given bytes link
-    ending-given runs fair bytes known link Usage h gets code line =
-        nothing-given bytes link usage_answer (inr (h.0, refl)) refl h.1 code line
-    ending-given runs fair bytes known link NoLink h gets code line =
-        nothing-given bytes link no_link_answer
-        (inl (h.0, h.1, due-link h.0 bytes link h.2 gets)) refl h.3 code line
-    ending-given runs fair bytes known link NoWords h gets code line = absurd (fair.memory code)
-    ending-given runs fair bytes known link (Run end) h gets code line =
-        kind-given runs fair bytes known h.0 link end h.1 h.2 gets code line
+    module _ (runs : AreRuns) (fair : IsFair) (bytes : List ℕ) (known : e.streams.input ≡ Some bytes)
+      where
+        kind-given : (command : CommandLine) (link : Option (List ℕ)) (end : RunEnd)
+            → Asks words command → KindLeaves see command e end → GetsLink see words e.old link
+            → status ≡ status_of end → Appends dold dnew (line_of end) → Given bytes link
+        kind-given (Local command) link end asks h gets code line =
+            let law = runs command in
+            let alone : end ≢ LinkFault = λ is.
+            law.alone e.streams.input e.streams.left e.streams.old e.streams.new
+            (subst (Leaves command e.streams) is h.leaves) in
+            let given = law.given bytes e.streams.left e.streams.old e.streams.new end
+            (subst (λ (o : Option (List ℕ)). (run_of command).leaves o e.streams.left
+            e.streams.old e.streams.new end) known h.leaves)
+            (fair-end fair (Local command) end h code alone) in (
+              answer_of end given.0,
+              inl (Local command, asks, given.1),
+              record { status = code; text = given.2; line = line },
+            )
+        kind-given (Join addr name) None end asks h gets code line =
+            absurd (gets ((addr, name, asks), has-wire see name e end h))
+        kind-given (Join addr name) (Some link) end asks h gets code line =
+            let has : HasLink words e.old = ((addr, name, asks), has-wire see name e end h) in
+            let linked : end ≢ LinkFault = λ is. fair.joined has (code ∙ ap status_of is) in
+            let given = joins-given see name e end h bytes link gets known
+            (fair-end fair (Join addr name) end h code linked) in (
+              answer_of given.0.end given.0.text,
+              inl (Join addr name, asks, (given.0, given.1, refl)),
+              record {
+                status = code ∙ ap status_of (sym given.2);
+                text = given.3;
+                line = subst (λ (x : RunEnd). Appends dold dnew (line_of x)) (sym given.2) line;
+              },
+            )
+        kind-given (Listen addr workers conns service) link end asks h gets code line = absurd
+            (fair.served (has-wires words e.old addr workers conns service asks h.0))
+
+        ending-given : (link : Option (List ℕ)) (ending : Ending) → EndsWords see words e ending
+            → GetsLink see words e.old link → status ≡ code_of ending
+            → Appends dold dnew (ending_line ending) → Given bytes link
+        ending-given link Usage h gets code line =
+            nothing-given bytes link usage_answer (inr (h.0, refl)) refl h.1 code line
+        ending-given link NoLink h gets code line = nothing-given bytes link no_link_answer
+            (inl (h.0, h.1, due-link h.0 bytes link h.2 gets)) refl h.3 code line
+        ending-given link NoWords h gets code line = absurd (fair.memory code)
+        ending-given link (Run end) h gets code line =
+            kind-given h.0 link end h.1 h.2 gets code line
 
     pub complete : AreRuns → (ending : Ending) → EndsWords see words e ending → Tells ending
         → IsFair → IfSome e.streams.input (λ bytes. (link : Option (List ℕ))

@@ -1,5 +1,5 @@
 -- What a run of the program leaves, by what its command needs.
-use Rattle.std.specs.Prelude.{◌≡◌, ℕ, List, Option, length, ⊤}
+use Rattle.std.specs.Prelude.{◌≡◌, List, length, ⊤}
 use Rattle.std.specs.declared.string.String.{String}
 use Rattle.dp_lines.specs.declared.run_end.RunEnd.{RunEnd}
 use Rattle.dp_lines.specs.RunEnds.{FaultMatchesEnd}

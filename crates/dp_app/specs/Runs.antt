@@ -1,5 +1,5 @@
 -- The commands that work on the input and the output alone.
-use Rattle.std.specs.Prelude.{◌≡◌, ℕ, ◌⊎◌, List, Option, Some, ⊤}
+use Rattle.std.specs.Prelude.{◌≡◌, ℕ, List, Option, Some, ⊤}
 use Rattle.std.specs.Io.KnownBytes.{Appends, IsAtEnd, Keeps}
 use Rattle.dp_lines.specs.declared.line.Line.{Line}
 use Rattle.dp_lines.specs.declared.run_end.RunEnd.{RunEnd}
@@ -18,7 +18,7 @@ use Rattle.dp_words.specs.declared.command_line.LocalCommand.{LocalCommand}
 use Rattle.dp_words.specs.declared.command_line.LocalCommand.TheVariants.{Replay, World, Play}
 use Rattle.dp_world.specs.RunEnds.{WorldLeaves}
 use Rattle.dp_world.specs.Schedule.{WorldComesTo}
-use Rattle.dp_app.specs.Answer.{Answer, answer_of, line_of, status_of}
+use Rattle.dp_app.specs.Answer.{Answer, answer_of}
 
 -- A command on an input and an output: the answer that an input of these bytes is due, what a run
 -- leaves that ends so, and whether it reads its input to the end.

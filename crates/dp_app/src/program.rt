@@ -16,6 +16,7 @@ ghost use Rattle.dp_app.specs.Commands.{AskAndLack, AskForLocal, Asks, HasLink, 
 ghost use Rattle.dp_app.specs.Commands.{IsCommand, IsWorld, LacksWires};
 ghost use Rattle.dp_app.specs.Due.{GetsLink, IsDue};
 ghost use Rattle.dp_app.specs.Endings.{KeepsNothing, effects, kept, streams, wire_seen};
+ghost use Rattle.dp_app.specs.Faults.{AskAndFailed};
 ghost use Rattle.dp_app.specs.Joins.{HasJoined};
 ghost use Rattle.dp_app.specs.Kinds.{Reads};
 ghost use Rattle.dp_app.specs.Runs.{run_of};
@@ -39,11 +40,13 @@ use std::thread::Threads;
 
 /// What the program ends with.
 #[derive(Drop)]
-pub struct Outcome<W> {
+pub struct Outcome<W, K> {
     /// The exit status. The table: docs/protocol.md, "Statuses".
     pub status: u8,
     /// The wires that it was given.
     pub wires: Vec<W>,
+    /// The keeper that it was given.
+    pub keeper: K,
     /// The events that a server kept, in order. Like the next two it is empty for other commands.
     pub journal: Journal,
     /// The closings that a server refused.
@@ -54,14 +57,16 @@ pub struct Outcome<W> {
 
 /// The program: its words after its name, its input, its output, where it says why it ended, and
 /// the wires on which it may dial or that hand out the links of a server (`wanted` of dp_words says
-/// which it needs). The gate is passed by the workers of a server, outside the session's turn. The
-/// work on its canvas is counted. Nothing else is read or written.
+/// which it needs). The keeper comes back as it was: no command stores anything yet. The gate is
+/// passed by the workers of a server, outside the session's turn. The work on its canvas is
+/// counted. Nothing else is read or written.
 pub fn drawpile<
     R: Threads + Wait + Sync,
     I: Source,
     O: Sink,
     E: Sink,
     W: Wire + Send,
+    K,
     G: Gate,
     D: Ledger,
     T: Ledger,
@@ -73,10 +78,11 @@ pub fn drawpile<
     output: &mut O,
     diag: &mut E,
     wires: Vec<W>,
+    keeper: K,
     gate: &G,
     draws: &mut Steps<D>,
     tiles: &mut Steps<T>,
-) -> Outcome<W>
+) -> Outcome<W, K>
     // Words that are no command are refused, and so is a command that needs links where the wires
     // for them aren't there. Reading the words can run out of memory.
     ensures other_words { ¬ IsCommand words.now
@@ -161,7 +167,9 @@ pub fn drawpile<
     // stays where a command doesn't need it.
     ensures usage { result.status ≡ 1 → ¬ IsCommand words.now }
     ensures lacks { result.status ≡ 13 → AskAndLack words.now wires.items }
-    ensures link_fault { result.status ≡ 5 → HasLinks words.now wires.items }
+    ensures link_fault { result.status ≡ 5
+        → AskAndFailed (wire_seen W.links W.faults W.Rx.left W.Rx.faults W.Tx.held W.Tx.faults)
+        words.now wires.items result.wires.items }
     ensures untouched { ¬ AskForLocal words.now → ¬ HasLink words.now wires.items
         → Keeps (I.left input.old) (I.left input.new) × Keeps (O.held output.old)
         (O.held output.new) }
@@ -170,6 +178,7 @@ pub fn drawpile<
     ensures nothing_kept { ¬ HasWires words.now wires.items
         → KeepsNothing (kept result.journal result.shut result.reports) }
     ensures wires_stay { ¬ HasLinks words.now wires.items → result.wires.items ≡ wires.items }
+    ensures keeper_stays { result.keeper ≡ keeper }
     ensures to_end { (command : CommandLine) → Asks words.now command → Reads command
         → (result.status ≡ 0) ⊎ (result.status ≡ 9)
         → IsAtEnd (I.left input.new) }
@@ -203,6 +212,7 @@ pub fn drawpile<
     Outcome {
         status,
         wires,
+        keeper,
         journal,
         shut,
         reports,

@@ -115,7 +115,7 @@ fn wires_of(rt: &impl Abort, alloc: Global, row: &Row) -> Vec<MemWire> {
 }
 
 /// Looks at the reports of links, and at their connections where the gate held nobody.
-fn check_ends(rt: &impl Abort, left: &Outcome<MemWire>, row: &Row) {
+fn check_ends(rt: &impl Abort, left: &Outcome<MemWire, ()>, row: &Row) {
     assert_eq!(rt; left.reports.len(), row.ends.len());
     for (k, (worker, link, conn, up, down)) in row.ends.iter().enumerate() {
         let report = left.reports.get(k).expect(rt, "a report");

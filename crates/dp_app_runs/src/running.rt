@@ -94,7 +94,7 @@ pub fn outcome_of<R: Threads + Wait + Sync, I: Source, O: Sink, E: Sink>(
     output: &mut O,
     diag: &mut E,
     wires: Vec<MemWire>,
-) -> Outcome<MemWire> {
+) -> Outcome<MemWire, ()> {
     gated(rt, alloc, words, input, output, diag, wires, &OpenGate)
 }
 
@@ -108,7 +108,7 @@ pub fn gated<R: Threads + Wait + Sync, I: Source, O: Sink, E: Sink, G: Gate>(
     diag: &mut E,
     wires: Vec<MemWire>,
     gate: &G,
-) -> Outcome<MemWire> {
+) -> Outcome<MemWire, ()> {
     counted::<_, _, _, _, _, Brand, Brand>(
         rt,
         alloc,
@@ -135,13 +135,23 @@ fn counted<R: Threads + Wait + Sync, I: Source, O: Sink, E: Sink, G: Gate, D: Le
     gate: &G,
     draws: Blank,
     tiles: Blank,
-) -> Outcome<MemWire>
+) -> Outcome<MemWire, ()>
     requires draws { (draws.name ≡ D.name) × (draws.parts ≡ D.parts) × (0 < draws.parts) }
     requires tiles { (tiles.name ≡ T.name) × (tiles.parts ≡ T.parts) × (0 < tiles.parts) }
 {
     let mut draws = Steps::<D>::new(draws);
     let mut tiles = Steps::<T>::new(tiles);
     drawpile(
-        rt, alloc, words, input, output, diag, wires, gate, &mut draws, &mut tiles,
+        rt,
+        alloc,
+        words,
+        input,
+        output,
+        diag,
+        wires,
+        (),
+        gate,
+        &mut draws,
+        &mut tiles,
     )
 }

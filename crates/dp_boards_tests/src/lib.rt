@@ -1,7 +1,9 @@
-//! The tests of boards, rollbacks and snapshots, in a crate of their own: so each crate of these is
-//! proved once, and not once more with its tests.
+//! The tests of boards, rollbacks, forks and snapshots, in a crate of their own: so each crate of
+//! these is proved once, and not once more with its tests.
 #![tactic(auto)]
 
+#[cfg(test)]
+mod forks;
 #[cfg(test)]
 mod rollbacks;
 #[cfg(test)]

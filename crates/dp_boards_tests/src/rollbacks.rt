@@ -214,6 +214,38 @@ fn check_memory<D: Ledger, T: Ledger>(
     assert!(rt; most < 500, "{most} acts");
 }
 
+/// One point, and some thousand commands after it: three savepoints at most are held, and the point
+/// is undone and brought back.
+fn check_saves<D: Ledger, T: Ledger>(
+    rt: &impl Abort,
+    alloc: Global,
+    draws: &mut Steps<D>,
+    tiles: &mut Steps<T>,
+) {
+    let blank = NumberBoard::new(alloc, NUMBERS).expect(rt, "memory");
+    let rollback = Rollback::new(alloc, blank, 30, draws, tiles);
+    let mut rollback = rollback.expect(rt, "memory");
+    let mut script = String::new(alloc);
+    script.push_str("D2 D1 P1").expect(rt, "memory");
+    for _ in 0..1500 {
+        script.push_str(" D1").expect(rt, "memory");
+    }
+    script.push_str(" U1 R1 D1 U1").expect(rt, "memory");
+    let mut acts = Vec::new(alloc);
+    for (place, word) in script.as_str().split_whitespace().enumerate() {
+        let act = act_of(rt, word, place);
+        take(&mut rollback, &act, draws, tiles).expect(rt, "memory");
+        acts.push(act).expect(rt, "memory");
+        assert!(rt; rollback.saves() <= 3, "{} savepoints", rollback.saves());
+    }
+    let (numbers, wanted) = (
+        numbers_of(rt, rollback.board()),
+        replayed(rt, alloc, 30, &acts),
+    );
+    assert!(rt; numbers == wanted);
+    assert_eq!(rt; numbers[1], 2);
+}
+
 /// Has a board trail some two thousand acts, many more than it holds, and compares at the end.
 fn check_trailing<D: Ledger, T: Ledger>(
     rt: &impl Abort,
@@ -238,8 +270,8 @@ fn check_trailing<D: Ledger, T: Ledger>(
     assert!(rt; numbers == wanted, "at {depth}");
 }
 
-/// Checks scripts, two hundred groups of a command, and boards that trail, with counters over these
-/// blanks.
+/// Checks scripts, savepoints, two hundred groups of a command, and boards that trail, with counters
+/// over these blanks.
 fn check_all<D: Ledger, T: Ledger>(
     rt: &impl Abort,
     alloc: Global,
@@ -257,6 +289,7 @@ fn check_all<D: Ledger, T: Ledger>(
         let row = (*depth, *script, Some(*changes));
         check_script(rt, alloc, row, &mut draws, &mut tiles);
     }
+    check_saves(rt, alloc, &mut draws, &mut tiles);
     let script = script_of(rt, alloc, 200, Some(1));
     for depth in [30, 3] {
         let row = (depth, script.as_str(), None);

@@ -1,5 +1,5 @@
 -- What an act may draw, and what it does to the board.
-use Rattle.std.proofs.Common.{◌≡◌, ℕ, ◌+◌, ◌-◌, ◌*◌, ◌<◌, ◌≤◌, Bool, true, false, List, []}
+use Rattle.std.proofs.Common.{◌≡◌, ℕ, ◌+◌, ◌-◌, ◌<◌, ◌≤◌, Bool, true, false, List, []}
 use Rattle.std.proofs.Common.{◌∷◌, ◌++◌, length, take, drop, Option, Some, None, refl, ap, sym, ◌∙◌}
 use Rattle.std.proofs.Common.{arith, length-append, get_or, subst}
 use Rattle.std.specs.Prelude.{sum_by, if◌then◌else◌, is_some}
@@ -16,13 +16,13 @@ use Rattle.dp_board.specs.Flags.{drawn_flags}
 use Rattle.dp_board.specs.Joins.{joins}
 use Rattle.dp_board.specs.Commands.{command_of, all_commands}
 use Rattle.dp_board.specs.Moves.{is_draw}
-use Rattle.dp_board.specs.Table.{moved_in}
+use Rattle.dp_board.specs.Table.{moved_in, oldest_in}
 use Rattle.dp_rollback.specs.declared.kept.KeptAct.{KeptAct}
 use Rattle.dp_rollback.specs.Kept.{kept_of, commands_among}
 use Rattle.dp_rollback.specs.Due.{due_by, due_commands, change_by, change_of}
 use Rattle.dp_rollback.specs.Due.{OwnCommandIsDue, FewAreDue}
-use Rattle.dp_rollback.specs.Rollback.{Rolled, StandsFor}
-use Rattle.dp_rollback.specs.Moves.{mark_by, mark_in, save_before, kept_from, due_in}
+use Rattle.dp_rollback.specs.Rollback.{Rolled, StandsFor, save_place}
+use Rattle.dp_rollback.specs.Moves.{mark_by, mark_in, kept_from, due_in}
 use Rattle.dp_rollback.proofs.KeptLemmas.{commands_among-drop}
 use Rattle.dp_rollback.specs.Laws.{Laws}
 
@@ -83,24 +83,25 @@ due_by-some s acts Other group is = refl
 from_save : {B Op : Type 0} → Laws Op → (draw : B → Op → B) (blank : B) (depth : ℕ)
     (acts : List (UserAct Op)) (a : UserAct Op) (r : Rolled B Op) (weight : Op → ℕ) (o : Option ℕ)
     → StandsFor draw blank depth acts r → moved_by depth acts a ≡ o
-    → ForSome (option_map (mark_by a) o) (λ mark. r.base ≤ mark.group)
+    → r.base ≡ save_place (oldest_in r.table)
+    → ForSome (option_map (mark_by a) o) (λ mark. oldest_in r.table ≤ mark.group)
     → IsFewer weight (due_in r a.act (option_map (mark_by a) o)) (due_by acts a.act o)
-from_save laws draw blank depth acts a r weight None st is reach =
+from_save laws draw blank depth acts a r weight None st is begins reach =
     IsFewer-same weight (command_of a.act true) (due_by acts a.act None) (due_by-none acts a.act)
-from_save laws draw blank depth acts a r weight (Some group) st is reach =
+from_save laws draw blank depth acts a r weight (Some group) st is begins reach =
     let mark = mark_by a group in
-    let save = save_before r mark in
+    let place = save_place group in
     let from : ℕ = group - 64 in
-    let more : ℕ = r.base + 64 * save - from in
-    let at : from + more ≡ r.base + 64 * save = omega (arith, reach mark refl) in
-    let mine : commands_among (kept_from r save) ≡ all_commands (drop more (drop from acts)) =
-    ap (λ kept. commands_among (drop (64 * save) kept)) st.kept
-    ∙ ap commands_among (drop-drop (64 * save) r.base (kept_of depth acts))
-    ∙ commands_among-drop (r.base + 64 * save) acts (joins depth acts) (drawn_flags depth acts)
-    (laws.joins depth acts) (laws.flags depth acts)
-    ∙ ap (λ n. all_commands (drop n acts)) (sym at)
+    let more : ℕ = place - from in
+    let at : r.base + (place - r.base) ≡ from + more = omega (arith, begins, reach mark refl) in
+    let mine : commands_among (kept_from r mark) ≡ all_commands (drop more (drop from acts)) =
+    ap (λ kept. commands_among (drop (place - r.base) kept)) st.kept
+    ∙ ap commands_among (drop-drop (place - r.base) r.base (kept_of depth acts))
+    ∙ commands_among-drop (r.base + (place - r.base)) acts (joins depth acts)
+    (drawn_flags depth acts) (laws.joins depth acts) (laws.flags depth acts)
+    ∙ ap (λ n. all_commands (drop n acts)) at
     ∙ ap all_commands (sym (drop-drop more from acts)) in
-    subst (λ due. IsFewer weight (commands_among (kept_from r save)) due)
+    subst (λ due. IsFewer weight (commands_among (kept_from r mark)) due)
     (due_by-some (strokes depth (concerned a) acts) acts a.act group is)
     (subst (λ ops. IsFewer weight ops (all_commands (drop from acts))) (sym mine)
     (IsFewer-drop weight more (drop from acts)))
@@ -108,13 +109,15 @@ from_save laws draw blank depth acts a r weight (Some group) st is reach =
 -- what is drawn for an act is due
 pub due_in-due : {B Op : Type 0} → Laws Op → (draw : B → Op → B) (a : UserAct Op)
     (r : Rolled B Op) (weight : Op → ℕ) → concerned a < 256
-    → ForSome (mark_in r.table a) (λ mark. r.base ≤ mark.group)
+    → r.base ≡ save_place (oldest_in r.table)
+    → ForSome (mark_in r.table a) (λ mark. oldest_in r.table ≤ mark.group)
     → (blank : B) (depth : ℕ) (acts : List (UserAct Op)) → StandsFor draw blank depth acts r
     → IsFewer weight (due_in r a.act (mark_in r.table a)) (due_commands depth acts a)
-due_in-due laws draw a r weight known reach blank depth acts st =
+due_in-due laws draw a r weight known begins reach blank depth acts st =
     let same = laws.moved depth acts a r.table known st.table in
     subst (λ o. IsFewer weight (due_in r a.act (mark_in r.table a)) (due_by acts a.act o)) same
-    (from_save laws draw blank depth acts a r weight (moved_in r.table a) st (sym same) reach)
+    (from_save laws draw blank depth acts a r weight (moved_in r.table a) st (sym same) begins
+    reach)
 
 -- the change, by what was made
 change_by-made : {Op : Type 0} → (a : UserAct Op) (act : Act Op) (o : Option ℕ)

@@ -1,7 +1,7 @@
 pub mod KeptLemmas
 pub mod HistoryLemmas
 pub mod StandLemmas
+pub mod RunLemmas
 pub mod DueLemmas
-pub mod RedrawLemmas
 pub mod ReadyLemmas
 pub mod ReplayLemmas

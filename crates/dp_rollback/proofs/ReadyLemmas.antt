@@ -1,6 +1,6 @@
 -- What is made ready for an act.
 use Rattle.std.proofs.Common.{◌≡◌, ℕ, List, [], ◌∷◌, ◌++◌, ap, sym, ◌∙◌}
-use Rattle.std.proofs.Common.{subst, refl, ◌+◌, ◌*◌, ◌%◌, ◌<◌, ◌≤◌, None, Some, length, true, drop}
+use Rattle.std.proofs.Common.{subst, refl, ◌+◌, ◌%◌, ◌<◌, ◌≤◌, None, Some, true, drop}
 use Rattle.std.specs.Prelude.{◌≢◌}
 use Rattle.std.specs.List.{fold}
 use Rattle.std.proofs.lemmas.Bool.{ne_eqb}
@@ -17,9 +17,9 @@ use Rattle.dp_rollback.specs.Due.{due_commands, change_of}
 use Rattle.dp_rollback.specs.Rollback.{Rolled, Next, StandsFor, put_on, change_in, grown, needless}
 use Rattle.dp_rollback.specs.Rollback.{IsInOrder}
 use Rattle.dp_rollback.specs.Moves.{mark_in, due_in, IsKnown, IsNext, IsDrawnFor, next_here}
-use Rattle.dp_rollback.specs.Moves.{HasAdded, kept_in}
+use Rattle.dp_rollback.specs.Moves.{HasAdded, kept_in, saves_after}
 use Rattle.dp_rollback.specs.Laws.{Laws}
-use Rattle.dp_rollback.proofs.StandLemmas.{StandsFor-put_on, StandsFor-spare, whole_stays}
+use Rattle.dp_rollback.proofs.StandLemmas.{StandsFor-put_on, StandsFor-spare}
 use Rattle.dp_rollback.proofs.DueLemmas.{IsFewer, due_in-due, change-made}
 
 -- an act of a sender
@@ -71,12 +71,13 @@ pub ready-due : {B Op : Type 0} → Laws Op → (draw : B → Op → B) (old now
 ready-due laws draw old now user copy act weight same copied known blank depth acts st =
     subst (λ b. IsFewer weight (due_in now copy (mark_in now.table (act_by user copy)))
     (due_commands depth acts (act_by user b))) copied
-    (due_in-due laws draw (act_by user copy) now weight known.known known.reach blank depth acts
+    (due_in-due laws draw (act_by user copy) now weight known.known known.order.begins known.reach
+    blank depth acts
     (stands-now draw old now same blank depth acts st))
 
 -- what an act makes of it that moves no group, where no savepoint falls due
 pub IsNext-here : {B Op : Type 0} → (draw : B → Op → B) (r : Rolled B Op) (a : UserAct Op)
-    → mark_in r.table a ≡ None → (length r.kept + 1) % 64 ≢ 0
+    → mark_in r.table a ≡ None → (r.table.position + 1) % 64 ≢ 0
     → oldest_in r.table ≤ oldest_in (table_with (next_strokes r.table a) r.table)
     → IsNext draw r a (next_here draw r a)
 IsNext-here {B} draw r a none part later =
@@ -86,37 +87,40 @@ IsNext-here {B} draw r a none part later =
       mark = sym none;
       strokes = refl;
       made = record {
-        first = [];
-        drawn = subst (λ m. IsDrawnFor draw r a.act m board [] (length r.saves)) (sym none)
-            (record { stay = refl; drawn = refl; saved = refl });
-        saved = sym (ap (λ b. if b then board ∷ [] else [])
-            (ne_eqb ((length r.kept + 1) % 64) 0 part));
+        old_last = r.last;
+        old_saves = r.saves;
+        drawn = subst (λ m. IsDrawnFor draw r a.act m board r.last r.saves) (sym none)
+            (record { drawn = refl; last_stays = refl; saves_stay = refl });
+        last_is = sym (ap (λ b. if b then board else r.last)
+            (ne_eqb ((r.table.position + 1) % 64) 0 part));
+        saves_are = refl;
       };
       later = later;
     }
 
 -- in place it goes on to what the act makes of it
 pub put-here : {B Op : Type 0} → (draw : B → Op → B) (old : Rolled B Op) (a : UserAct Op)
-    (new : Rolled B Op) (n : ℕ) → new.board ≡ fold draw old.board (command_of a.act true)
+    (new : Rolled B Op) → new.board ≡ fold draw old.board (command_of a.act true)
     → new.table ≡ table_with (next_strokes old.table a) old.table
-    → n ≡ needless (grown (next_here draw old a) old) → new.base ≡ old.base + 64 * n
-    → new.kept ≡ drop (64 * n) (old.kept ++ kept_in old.table a ∷ [])
-    → new.saves ≡ drop n old.saves
+    → new.base ≡ old.base + needless (grown (next_here draw old a) old)
+    → new.kept ≡ drop (needless (grown (next_here draw old a) old))
+    (old.kept ++ kept_in old.table a ∷ []) → new.last ≡ old.last
+    → new.saves ≡ saves_after old.table old.last a.act old.saves
     → new ≡ record (put_on (next_here draw old a) old) { spare = new.spare }
-put-here {B} {Op} draw old a new n board table count base kept saves =
-    let next = next_here draw old a in
-    let goal : Rolled B Op = record (put_on next old) { spare = new.spare } in
-    let gone = needless (grown next old) in
+put-here {B} {Op} draw old a new board table base kept last saves =
+    let goal : Rolled B Op = record (put_on (next_here draw old a) old) { spare = new.spare } in
     ap (λ x. record new { board = x }) board
-    ∙ ap (λ x. record goal { table = x; base = new.base; kept = new.kept; saves = new.saves })
-    table
-    ∙ ap (λ x. record goal { base = x; kept = new.kept; saves = new.saves })
-    (base ∙ ap (λ m. old.base + 64 * m) count)
-    ∙ ap (λ x. record goal { kept = x; saves = new.saves })
-    (kept ∙ ap (λ m. drop (64 * m) (old.kept ++ kept_in old.table a ∷ [])) count)
-    ∙ ap (λ x. record goal { saves = x })
-    (saves ∙ ap (λ m. drop m old.saves) count
-    ∙ ap (drop gone) (sym (whole_stays old.saves)))
+    ∙ ap (λ x. record goal {
+      table = x;
+      base = new.base;
+      kept = new.kept;
+      last = new.last;
+      saves = new.saves;
+    }) table
+    ∙ ap (λ x. record goal { base = x; kept = new.kept; last = new.last; saves = new.saves }) base
+    ∙ ap (λ x. record goal { kept = x; last = new.last; saves = new.saves }) kept
+    ∙ ap (λ x. record goal { last = x; saves = new.saves }) last
+    ∙ ap (λ x. record goal { saves = x }) saves
 
 -- an act that moves no group is known
 pub IsKnown-unmoved : {B Op : Type 0} → (r : Rolled B Op) (a : UserAct Op) → a.user < 256

@@ -1,37 +1,47 @@
 -- What stands for a history goes on to stand for it with one more act.
-use Rattle.std.proofs.Common.{◌≡◌, ℕ, ◌+◌, ◌-◌, ◌*◌, ◌/◌, ◌%◌, ◌<◌, ◌≤◌, ◌==◌, Bool, true, false}
+use Rattle.std.proofs.Common.{◌≡◌, ℕ, ◌+◌, ◌-◌, ◌%◌, ◌<◌, ◌≤◌, ◌==◌, Bool, true, false}
 use Rattle.std.proofs.Common.{List, [], ◌∷◌, ◌++◌, length, take, drop, map, get_or, Option, Some}
 use Rattle.std.proofs.Common.{None, refl, ap, sym, ◌∙◌, arith, subst, length-append, inl, inr}
-use Rattle.std.proofs.Common.{append_assoc, suc, zero, eq-eqb}
-use Rattle.std.specs.Prelude.{if◌then◌else◌}
-use Rattle.std.specs.List.{fold}
+use Rattle.std.proofs.Common.{eq-eqb}
+use Rattle.std.specs.Prelude.{if◌then◌else◌, nat_lt, unwrap_or}
+use Rattle.std.specs.List.{fold, All, Contains}
+use Rattle.std.specs.List.Sorted.{IsNonDecreasing}
 use Rattle.std.specs.Option.{ForSome, option_map}
-use Rattle.std.proofs.lemmas.Bool.{eqb-true, cases_lt}
+use Rattle.std.proofs.lemmas.Bool.{eqb-true, cases_lt, ltb-true, ltb-false}
 use Rattle.std.proofs.lemmas.List.{append-nil, take-append-le, drop-append-le, drop-drop, drop-map}
-use Rattle.std.proofs.lemmas.List.{take_all, take-append-drop, drop-take, take-take, get_or-drop}
-use Rattle.std.proofs.lemmas.List.{get_or-take, get_or_append_left, get_or-append_right}
-use Rattle.std.proofs.lemmas.List.{length-drop, length-take, length-map, nil_from_length}
+use Rattle.std.proofs.lemmas.List.{take_all, take-append-drop, drop-take, take-take, get_or-map}
+use Rattle.std.proofs.lemmas.List.{length-map, map-append}
+use Rattle.std.proofs.lemmas.List.Elements.{All-nil, All-cons, All-append, All-drop, All-map}
+use Rattle.std.proofs.lemmas.List.Elements.{All-contains}
+use Rattle.std.proofs.lemmas.List.Sorted.{IsNonDecreasingBy-drop}
 use Rattle.std.proofs.lemmas.List.Concat.{flat_map-append}
 use Rattle.std.proofs.lemmas.Grind.{fold-append}
 use Rattle.dp_board.specs.declared.act.Act.{Act}
+use Rattle.dp_board.specs.declared.act.Act.TheVariants.{Point, Undo, Redo, Draw, Depth, Other}
 use Rattle.dp_board.specs.declared.act.UserAct.{UserAct}
-use Rattle.dp_board.specs.Strokes.{concerned, moved_by}
+use Rattle.dp_board.specs.Strokes.{Window, concerned, strokes, moved_by, last_few, window_after}
 use Rattle.dp_board.specs.Commands.{command_of}
+use Rattle.dp_board.specs.Laws.{depth_in}
 use Rattle.dp_board.specs.Replay.{replay}
-use Rattle.dp_board.specs.Table.{Table, IsTableAfter, next_strokes, moved_in}
+use Rattle.dp_board.specs.Table.{Table, IsTableAfter, next_strokes, moved_in, oldest_in}
+use Rattle.dp_board.specs.Table.{table_with}
+use Rattle.dp_board.proofs.RisingLemmas.{rising-push}
+use Rattle.dp_board.proofs.TableSteps.{window_after-before}
 use Rattle.dp_rollback.specs.declared.kept.KeptAct.{KeptAct}
 use Rattle.dp_rollback.specs.declared.kept.Mark.{Mark}
 use Rattle.dp_rollback.specs.Kept.{kept_of, drawn_command, drawn_among, marked}
-use Rattle.dp_rollback.specs.Rollback.{Rolled, Next, drawn_first, StandsFor, IsInOrder, let_go}
-use Rattle.dp_rollback.specs.Rollback.{grown, needless, put_on, FitsOn}
-use Rattle.dp_rollback.specs.Moves.{mark_by, kept_in, save_before, kept_from, IsRedrawn}
-use Rattle.dp_rollback.specs.Moves.{IsDrawnLast, IsDrawnFor, IsKnown, IsNext, saved_after, mark_in}
+use Rattle.dp_rollback.specs.Rollback.{PointSave, Rolled, Next, drawn_first, StandsFor, IsInOrder}
+use Rattle.dp_rollback.specs.Rollback.{let_go, grown, needless, put_on, FitsOn, save_place}
+use Rattle.dp_rollback.specs.Rollback.{points_of}
+use Rattle.dp_rollback.specs.Rollback.{board_saved, AreSaved, IsSpaced}
+use Rattle.dp_rollback.specs.Runs.{run_to, saved_anew, save_anew}
+use Rattle.dp_rollback.specs.Moves.{mark_by, kept_in, kept_from, IsRedrawn, IsDrawnLast, IsDrawnFor}
+use Rattle.dp_rollback.specs.Moves.{IsKnown, IsNext, last_after, save_of, saves_after, mark_in}
 use Rattle.dp_rollback.specs.Laws.{Laws}
 use Rattle.dp_rollback.proofs.KeptLemmas.{command_of-is_draw, command_of-false}
 use Rattle.dp_rollback.proofs.HistoryLemmas.{length-kept_of, replay-kept_of, moved-no_draw}
 use Rattle.dp_rollback.proofs.HistoryLemmas.{kept_of-unmoved, kept_of-moved, take-kept_of-moved}
 use Rattle.dp_rollback.proofs.HistoryLemmas.{take-kept_of-unmoved, take-marked}
-use Rattle.dp_board.specs.Strokes.{strokes}
 
 -- commands of two parts are drawn in turn
 pub fold-drawn : {B Op : Type 0} → (draw : B → Op → B) (b : B) (xs ys : List (KeptAct Op))
@@ -41,48 +51,17 @@ fold-drawn draw b xs ys =
     ap (fold draw b) (flat_map-append drawn_command xs ys)
     ∙ fold-append draw b (drawn_among xs) (drawn_among ys)
 
--- without the first savepoints it stands for the same acts
+-- without the first acts it stands for the same history
 pub StandsFor-let_go : {B Op : Type 0} → (draw : B → Op → B) (blank : B) (depth : ℕ)
     (acts : List (UserAct Op)) (r : Rolled B Op) (count : ℕ) → StandsFor draw blank depth acts r
     → StandsFor draw blank depth acts (let_go count r)
 StandsFor-let_go draw blank depth acts r count st = record {
   table = st.table;
-  kept = ap (drop (64 * count)) st.kept ∙ drop-drop (64 * count) r.base (kept_of depth acts);
+  kept = ap (drop count) st.kept ∙ drop-drop count r.base (kept_of depth acts);
   board = st.board;
-  saves = λ place none within.
-      get_or-drop count r.saves place none
-      ∙ st.saves (count + place) none (omega (arith, length-drop count r.saves))
-      ∙ ap (λ n. fold draw blank (drawn_first depth acts n)) (omega arith);
+  last = st.last;
+  saves = st.saves;
 }
-
--- the savepoint after the acts, where there is one, comes last
-last_save : {B : Type 0} → (xs : List B) (count : ℕ) (board : B) (place : ℕ) (none : B)
-    → length xs ≤ place → place < length (xs ++ saved_after count board)
-    → (place ≡ length xs) × (count % 64 ≡ 0)
-    × (get_or (xs ++ saved_after count board) place none ≡ board)
-last_save xs count board place none past within = by_test (count % 64 == 0) refl
-  where
-    by_test : (b : Bool) → (count % 64 == 0) ≡ b → (place ≡ length xs) × (count % 64 ≡ 0)
-        × (get_or (xs ++ saved_after count board) place none ≡ board)
-    by_test true is =
-        let saved : saved_after count board ≡ board ∷ [] =
-        ap (λ b. if b then board ∷ [] else []) is in
-        let at : place ≡ length xs = omega (
-          arith,
-          ap length saved,
-          length-append xs (saved_after count board),
-        ) in
-        let first : place - place ≡ 0 = omega arith in (
-          at,
-          eqb-true (count % 64) 0 is,
-          ap (λ ys. get_or (xs ++ ys) place none) saved
-              ∙ get_or-append_right xs (board ∷ []) place place none (sym at) (omega arith)
-              ∙ ap (λ n. get_or (board ∷ []) n none) first,
-        )
-    by_test false is =
-        let saved : saved_after count board ≡ [] =
-        ap (λ b. if b then board ∷ [] else []) is in
-        absurd (omega (arith, ap length saved, length-append xs (saved_after count board)))
 
 -- what is kept, with one more act
 pub kept-push : {Op : Type 0} → (base : ℕ) (kept all : List (KeptAct Op)) (k : KeptAct Op)
@@ -96,65 +75,148 @@ base-within : {B Op : Type 0} → (draw : B → Op → B) (blank : B) (depth : �
     → r.base + length r.kept ≡ length acts
 base-within draw blank depth acts r st order = sym order.up_to_end ∙ st.table.position
 
--- a savepoint after all acts, by its place
-last_place : (base kept place : ℕ) → place ≡ kept / 64 + 1 → (kept + 1) % 64 ≡ 0
-    → base + 64 * place ≡ base + kept + 1
-last_place base kept place at whole = omega arith
+-- what is not 0 is more
+above_none : (n : ℕ) → (n == 0) ≡ false → 0 < n
+above_none n is = elim (cases_lt 0 n) [
+  | inl some ↦ some
+  | inr none ↦ let wrong : true ≡ false = sym (eq-eqb n 0 (omega arith)) ∙ is in cc
+]
 
--- the savepoints after an act that moves no group
-saves-drawn : {B Op : Type 0} → Laws Op → (draw : B → Op → B) (blank : B) (depth : ℕ)
-    (acts : List (UserAct Op)) (a : UserAct Op) (r : Rolled B Op) (board : B) → a.user < 256
-    → StandsFor draw blank depth acts r → IsInOrder r → moved_by depth acts a ≡ None
-    → board ≡ replay draw blank depth (acts ++ a ∷ []) → (place : ℕ) (none : B)
-    → place < length (r.saves ++ saved_after (length r.kept + 1) board)
-    → get_or (r.saves ++ saved_after (length r.kept + 1) board) place none
-    ≡ fold draw blank (drawn_first depth (acts ++ a ∷ []) (r.base + 64 * place))
-saves-drawn laws draw blank depth acts a r board sender st order unmoved drawn place none within =
-    let later = acts ++ a ∷ [] in
-    let whole = base-within draw blank depth acts r st order in
-    elim (cases_lt place (length r.saves)) [
-      | inl before ↦
-          get_or_append_left r.saves (saved_after (length r.kept + 1) board) none place before
-          ∙ st.saves place none before
-          ∙ ap (λ kept. fold draw blank (drawn_among kept)) (sym (take-kept_of-unmoved laws depth
-          acts a r.table (r.base + 64 * place) sender st.table unmoved
-          (omega (arith, whole, order.saved))))
-      | inr past ↦
-          let last = last_save r.saves (length r.kept + 1) board place none past within in
-          let end = last_place r.base (length r.kept) place (last.0 ∙ order.saved) last.1 in
-          last.2 ∙ drawn ∙ replay-kept_of laws draw blank depth later
-          ∙ ap (λ kept. fold draw blank (drawn_among kept)) (sym (take_all (r.base + 64 * place)
-          (kept_of depth later) (omega (
-            arith,
-            end,
-            whole,
-            length-kept_of laws depth later,
-            length-append acts (a ∷ []),
-          ))))
-    ]
+-- a savepoint is as it was after an act that moves no group
+saved-unmoved : {B Op : Type 0} → Laws Op → (draw : B → Op → B) (blank : B) (depth : ℕ)
+    (acts : List (UserAct Op)) (a : UserAct Op) (table : Table) (n : ℕ) → a.user < 256
+    → IsTableAfter depth acts table → moved_by depth acts a ≡ None → n ≤ length acts
+    → board_saved draw blank depth acts n ≡ board_saved draw blank depth (acts ++ a ∷ []) n
+saved-unmoved laws draw blank depth acts a table n sender is none within =
+    ap (λ kept. fold draw blank (drawn_among kept)) (sym (take-kept_of-unmoved laws depth acts a
+    table (save_place n) sender is none (omega (arith, within))))
+
+-- at a place of a savepoint all acts are drawn
+saved-whole : {B Op : Type 0} → Laws Op → (draw : B → Op → B) (blank : B) (depth : ℕ)
+    (acts : List (UserAct Op)) → length acts % 64 ≡ 0
+    → replay draw blank depth acts ≡ board_saved draw blank depth acts (length acts)
+saved-whole laws draw blank depth acts whole =
+    replay-kept_of laws draw blank depth acts
+    ∙ ap (λ kept. fold draw blank (drawn_among kept)) (sym (take_all (save_place (length acts))
+    (kept_of depth acts) (omega (arith, whole, length-kept_of laws depth acts))))
+
+-- the last savepoint after an act
+last-next : {B Op : Type 0} → Laws Op → (draw : B → Op → B) (blank : B) (depth : ℕ)
+    (acts : List (UserAct Op)) (a : UserAct Op) (board last : B) (position : ℕ)
+    → position ≡ length acts → board ≡ replay draw blank depth (acts ++ a ∷ [])
+    → last ≡ board_saved draw blank depth (acts ++ a ∷ []) position
+    → last_after (position + 1) board last
+    ≡ board_saved draw blank depth (acts ++ a ∷ []) (length (acts ++ a ∷ []))
+last-next {B} {Op} laws draw blank depth acts a board last position here drawn saved =
+    by_test ((position + 1) % 64 == 0) refl
+  where
+    later : List (UserAct Op)
+    later = acts ++ a ∷ []
+
+    by_test : (b : Bool) → ((position + 1) % 64 == 0) ≡ b
+        → last_after (position + 1) board last ≡ board_saved draw blank depth later (length later)
+    by_test true is =
+        let whole : length later % 64 ≡ 0 =
+        ap (λ n. n % 64) (length-append acts (a ∷ []) ∙ ap (λ n. n + 1) (sym here))
+        ∙ eqb-true ((position + 1) % 64) 0 is in
+        ap (λ b. if b then board else last) is ∙ drawn ∙ saved-whole laws draw blank depth later
+        whole
+    by_test false is =
+        let part = above_none ((position + 1) % 64) is in
+        let same : save_place position ≡ save_place (length later) =
+        omega (arith, part, here, length-append acts (a ∷ [])) in
+        ap (λ b. if b then board else last) is ∙ saved
+        ∙ ap (λ n. fold draw blank (drawn_first depth later n)) same
+
+-- each board is that before the last 64th act at or before its Point
+abbrev SavedIn : {B Op : Type 0}
+    → (B → Op → B) → B → ℕ → List (UserAct Op) → PointSave B → Type 0
+SavedIn draw blank depth acts save = save.board ≡ board_saved draw blank depth acts save.point
+
+-- the savepoint of an act, where it is a Point
+save_of-in : {B Op : Type 0} → (draw : B → Op → B) (blank : B) (depth : ℕ)
+    (acts : List (UserAct Op)) (position : ℕ) (last : B) (act : Act Op)
+    → last ≡ board_saved draw blank depth acts position
+    → All (SavedIn draw blank depth acts) (save_of position last act)
+save_of-in draw blank depth acts position last Point saved =
+    All-cons (SavedIn draw blank depth acts) (record { point = position; board = last }) [] saved
+    (All-nil (SavedIn draw blank depth acts))
+save_of-in draw blank depth acts position last (Undo who) saved =
+    All-nil (SavedIn draw blank depth acts)
+save_of-in draw blank depth acts position last (Redo who) saved =
+    All-nil (SavedIn draw blank depth acts)
+save_of-in draw blank depth acts position last (Draw op) saved =
+    All-nil (SavedIn draw blank depth acts)
+save_of-in draw blank depth acts position last (Depth d) saved =
+    All-nil (SavedIn draw blank depth acts)
+save_of-in draw blank depth acts position last Other saved =
+    All-nil (SavedIn draw blank depth acts)
+
+-- the savepoints after an act
+saves-next : {B Op : Type 0} → (draw : B → Op → B) (blank : B) (depth : ℕ)
+    (acts : List (UserAct Op)) (table : Table) (last : B) (act : Act Op)
+    (saves : List (PointSave B)) → All (SavedIn draw blank depth acts) saves
+    → last ≡ board_saved draw blank depth acts table.position
+    → All (SavedIn draw blank depth acts) (saves_after table last act saves)
+saves-next draw blank depth acts table last act saves all saved =
+    let more = saves ++ save_of table.position last act in
+    All-drop (SavedIn draw blank depth acts)
+    (length more - unwrap_or (depth_in act) table.window.depth) more
+    (All-append (SavedIn draw blank depth acts) saves (save_of table.position last act) all
+    (save_of-in draw blank depth acts table.position last act saved))
+
+-- a Point that has a savepoint came before the position
+point-before : {B : Type 0} → (saves : List (PointSave B)) (n k : ℕ) (d : PointSave B)
+    → All (λ point. point < n) (points_of saves) → k < length saves
+    → (get_or saves k d).point < n
+point-before saves n k d before within =
+    omega (
+      arith,
+      get_or-map (λ save. save.point) saves k d d.point within,
+      before k d.point (omega (arith, within, length-map saves (λ save. save.point))),
+    )
+
+-- the savepoints after an act that moves no group are as they were
+saves-unmoved : {B Op : Type 0} → Laws Op → (draw : B → Op → B) (blank : B) (depth : ℕ)
+    (acts : List (UserAct Op)) (a : UserAct Op) (table : Table) (saves : List (PointSave B))
+    → a.user < 256 → IsTableAfter depth acts table → moved_by depth acts a ≡ None
+    → All (λ point. point < table.position) (points_of saves)
+    → All (SavedIn draw blank depth acts) saves
+    → All (SavedIn draw blank depth (acts ++ a ∷ [])) saves
+saves-unmoved laws draw blank depth acts a table saves sender is none before all = λ k d within.
+    all k d within
+    ∙ saved-unmoved laws draw blank depth acts a table (get_or saves k d).point sender is none
+    (omega (arith, point-before saves table.position k d before within, is.position))
+
+-- the Points that have savepoints came before the position
+before-of : {B Op : Type 0} → (r : Rolled B Op) → IsInOrder r
+    → All (λ point. point < r.table.position) (points_of r.saves)
+before-of r order =
+    subst (All (λ point. point < r.table.position)) (sym order.saved.same) order.saved.before
 
 -- an act that moves no group
 pub StandsFor-drawn : {B Op : Type 0} → Laws Op → (draw : B → Op → B) (blank : B) (depth : ℕ)
-    (acts : List (UserAct Op)) (a : UserAct Op) (r : Rolled B Op) (board : B) (first saves : List B)
-    (stays : ℕ) → a.user < 256 → concerned a < 256 → StandsFor draw blank depth acts r
-    → IsInOrder r → moved_by depth acts a ≡ None → IsDrawnLast draw r a.act board first stays
-    → saves ≡ first ++ saved_after (length r.kept + 1) board
+    (acts : List (UserAct Op)) (a : UserAct Op) (r : Rolled B Op) (board last : B)
+    (saves : List (PointSave B)) → a.user < 256 → concerned a < 256
+    → StandsFor draw blank depth acts r → IsInOrder r → moved_by depth acts a ≡ None
+    → IsDrawnLast draw r a.act board last saves
     → StandsFor draw blank depth (acts ++ a ∷ []) (grown (record {
       act = kept_in r.table a;
       mark = None;
-      stays = stays;
       strokes = next_strokes r.table a;
       board = board;
-      saves = saves;
+      last = last_after (r.table.position + 1) board last;
+      saves = saves_after r.table last a.act saves;
     }) r)
-StandsFor-drawn laws draw blank depth acts a r board first saves stays sender known st order
-    unmoved made saved =
+StandsFor-drawn laws draw blank depth acts a r board last saves sender known st order unmoved
+    made =
     let all = kept_of depth acts in
     let k = kept_in r.table a in
+    let later = acts ++ a ∷ [] in
     let count = length-kept_of laws depth acts in
     let whole = base-within draw blank depth acts r st order in
     let more = kept_of-unmoved laws depth acts a r.table sender st.table unmoved in
-    let drawn : board ≡ replay draw blank depth (acts ++ a ∷ []) =
+    let drawn : board ≡ replay draw blank depth later =
     made.drawn
     ∙ ap (λ ops. fold draw r.board ops) (sym (command_of-is_draw a.act)
     ∙ sym (append-nil (drawn_command k)))
@@ -162,22 +224,23 @@ StandsFor-drawn laws draw blank depth acts a r board first saves stays sender kn
     ∙ replay-kept_of laws draw blank depth acts)
     ∙ sym (fold-drawn draw blank all (k ∷ []))
     ∙ ap (λ kept. fold draw blank (drawn_among kept)) (sym more)
-    ∙ sym (replay-kept_of laws draw blank depth (acts ++ a ∷ [])) in
-    let stay : take stays r.saves ++ saves
-    ≡ r.saves ++ saved_after (length r.kept + 1) board =
-    ap (λ n. take n r.saves ++ saves) made.stay
-    ∙ ap (λ xs. xs ++ saves) (take_all (length r.saves) r.saves (omega arith))
-    ∙ ap (λ ys. r.saves ++ ys) (saved
-    ∙ ap (λ xs. xs ++ saved_after (length r.kept + 1) board) made.saved) in
+    ∙ sym (replay-kept_of laws draw blank depth later) in
+    let saved : last ≡ board_saved draw blank depth later r.table.position =
+    made.last_stays ∙ st.last
+    ∙ ap (board_saved draw blank depth acts) (sym st.table.position)
+    ∙ saved-unmoved laws draw blank depth acts a r.table r.table.position sender st.table unmoved
+    (omega (arith, st.table.position)) in
     record {
       table = laws.next depth acts a r.table known st.table;
       kept = kept-push r.base r.kept all k st.kept (omega (arith, count, whole))
           ∙ ap (drop r.base) (sym more);
       board = drawn;
-      saves = λ place none within.
-          ap (λ xs. get_or xs place none) stay
-          ∙ saves-drawn laws draw blank depth acts a r board sender st order unmoved drawn place
-          none (subst (λ xs. place < length xs) stay within);
+      last = last-next laws draw blank depth acts a board last r.table.position st.table.position
+          drawn saved;
+      saves = saves-next draw blank depth later r.table last a.act saves
+          (subst (All (SavedIn draw blank depth later)) (sym made.saves_stay)
+          (saves-unmoved laws draw blank depth acts a r.table r.saves sender st.table unmoved
+          (before-of r order) st.saves)) saved;
     }
 
 -- a part and what comes after it make a longer part
@@ -188,30 +251,20 @@ take-more m n xs =
     ∙ ap (λ ys. ys ++ drop m (take (m + n) xs)) (sym (take-take m (m + n) xs (omega arith)))
     ∙ take-append-drop m (take (m + n) xs)
 
--- where a group that moves has its savepoint
+-- a group that moves is in reach
 pub record IsBefore {B Op : Type 0} (r : Rolled B Op) (mark : Mark) : Type 0 where
-  pub reach : r.base ≤ mark.group
-  pub before : mark.group < r.base + length r.kept
+  pub reach : oldest_in r.table ≤ mark.group
+  pub before : mark.group < r.table.position
 
 -- the place in the history of the savepoint that a move goes back to
-abbrev place_of : {B Op : Type 0} → Rolled B Op → Mark → ℕ
-place_of r mark = r.base + 64 * save_before r mark
-
-place_of-le : {B Op : Type 0} → (r : Rolled B Op) (mark : Mark) → IsBefore r mark
-    → place_of r mark ≤ mark.group
-place_of-le r mark is = omega (arith, is.reach, is.before)
-
-save_before-lt : {B Op : Type 0} → (r : Rolled B Op) (mark : Mark) → IsBefore r mark
-    → IsInOrder r → save_before r mark < length r.saves
-save_before-lt r mark is order = omega (arith, is.reach, is.before, order.saved)
+abbrev place_of : Mark → ℕ
+place_of mark = save_place mark.group
 
 -- what a redraw begins with, and what it draws
 record IsBegun {B Op : Type 0} (draw : B → Op → B) (blank : B) (r : Rolled B Op) (mark : Mark)
-    (all : List (KeptAct Op)) : Type 0 where
-  pub start : (none : B) → get_or r.saves (save_before r mark) none
-      ≡ fold draw blank (drawn_among (take (place_of r mark) all))
-  pub rest : map (marked mark) (kept_from r (save_before r mark))
-      ≡ drop (place_of r mark) all
+    (from : B) (all : List (KeptAct Op)) : Type 0 where
+  pub start : from ≡ fold draw blank (drawn_among (take (place_of mark) all))
+  pub rest : map (marked mark) (kept_from r mark) ≡ drop (place_of mark) all
 
 -- the acts of a history with the flags of a mark
 abbrev marked_of : {Op : Type 0} → ℕ → List (UserAct Op) → Mark → List (KeptAct Op)
@@ -219,55 +272,55 @@ marked_of depth acts mark = map (marked mark) (kept_of depth acts)
 
 -- up to the savepoint they are as they were
 begun : {B Op : Type 0} → Laws Op → (draw : B → Op → B) (blank : B) (depth : ℕ)
-    (acts : List (UserAct Op)) (a : UserAct Op) (r : Rolled B Op) (group : ℕ) → a.user < 256
-    → StandsFor draw blank depth acts r → IsInOrder r → moved_by depth acts a ≡ Some group
-    → IsBefore r (mark_by a group)
-    → IsBegun draw blank r (mark_by a group) (marked_of depth acts (mark_by a group))
-begun laws draw blank depth acts a r group sender st order some is =
+    (acts : List (UserAct Op)) (a : UserAct Op) (r : Rolled B Op) (group : ℕ) (from : B)
+    → a.user < 256 → StandsFor draw blank depth acts r → IsInOrder r
+    → moved_by depth acts a ≡ Some group → IsBefore r (mark_by a group)
+    → Contains r.saves (record { point = group; board = from })
+    → IsBegun draw blank r (mark_by a group) from (marked_of depth acts (mark_by a group))
+begun laws draw blank depth acts a r group from sender st order some is among =
     let mark = mark_by a group in
-    let p = place_of r mark in
+    let p = place_of mark in
     let all = kept_of depth acts in
-    let le = place_of-le r mark is in
-    let whole = base-within draw blank depth acts r st order in
     let same : take p (map (marked mark) all) ≡ take p all =
-    take-marked laws depth acts a r.table group p sender st.table some (omega (arith, le))
-    (omega (arith, le, is.before, whole)) in
+    take-marked laws depth acts a r.table group p sender st.table some (omega arith)
+    (omega (arith, is.before, st.table.position)) in
+    let at : r.base + (p - r.base) ≡ p = omega (arith, order.begins, is.reach) in
+    let saved : from ≡ board_saved draw blank depth acts group =
+    All-contains (SavedIn draw blank depth acts) r.saves (record { point = group; board = from })
+    st.saves among in
     record {
-      start = λ none. st.saves (save_before r mark) none (save_before-lt r mark is order)
-          ∙ ap (λ kept. fold draw blank (drawn_among kept)) (sym same);
-      rest = ap (λ kept. map (marked mark) (drop (64 * save_before r mark) kept)) st.kept
-          ∙ ap (map (marked mark)) (drop-drop (64 * save_before r mark) r.base all)
+      start = saved ∙ ap (λ kept. fold draw blank (drawn_among kept)) (sym same);
+      rest = ap (λ kept. map (marked mark) (drop (p - r.base) kept)) st.kept
+          ∙ ap (map (marked mark)) (drop-drop (p - r.base) r.base all
+          ∙ ap (λ n. drop n all) at)
           ∙ sym (drop-map (marked mark) p all);
     }
 
 -- a part that is drawn from the savepoint on
 drawn_part : {B Op : Type 0} → (draw : B → Op → B) (blank : B) (r : Rolled B Op) (mark : Mark)
-    (all : List (KeptAct Op)) (none : B) (count : ℕ) → IsBegun draw blank r mark all
-    → fold draw (get_or r.saves (save_before r mark) none)
-    (drawn_among (take count (map (marked mark) (kept_from r (save_before r mark)))))
-    ≡ fold draw blank (drawn_among (take (place_of r mark + count) all))
-drawn_part draw blank r mark all none count is =
-    ap (λ b. fold draw b (drawn_among (take count (map (marked mark)
-    (kept_from r (save_before r mark)))))) (is.start none)
-    ∙ ap (λ kept. fold draw (fold draw blank (drawn_among (take (place_of r mark) all)))
+    (from : B) (all : List (KeptAct Op)) (count : ℕ) → IsBegun draw blank r mark from all
+    → fold draw from (drawn_among (take count (map (marked mark) (kept_from r mark))))
+    ≡ fold draw blank (drawn_among (take (place_of mark + count) all))
+drawn_part draw blank r mark from all count is =
+    let rest = map (marked mark) (kept_from r mark) in
+    ap (λ b. fold draw b (drawn_among (take count rest))) is.start
+    ∙ ap (λ kept. fold draw (fold draw blank (drawn_among (take (place_of mark) all)))
     (drawn_among (take count kept))) is.rest
-    ∙ sym (fold-drawn draw blank (take (place_of r mark) all)
-    (take count (drop (place_of r mark) all)))
-    ∙ ap (λ kept. fold draw blank (drawn_among kept)) (take-more (place_of r mark) count all)
+    ∙ sym (fold-drawn draw blank (take (place_of mark) all) (take count (drop (place_of mark) all)))
+    ∙ ap (λ kept. fold draw blank (drawn_among kept)) (take-more (place_of mark) count all)
 
 -- all that is drawn from the savepoint on
 drawn_rest : {B Op : Type 0} → (draw : B → Op → B) (blank : B) (r : Rolled B Op) (mark : Mark)
-    (all : List (KeptAct Op)) (none : B) → IsBegun draw blank r mark all
-    → fold draw (get_or r.saves (save_before r mark) none)
-    (drawn_among (map (marked mark) (kept_from r (save_before r mark))))
+    (from : B) (all : List (KeptAct Op)) → IsBegun draw blank r mark from all
+    → fold draw from (drawn_among (map (marked mark) (kept_from r mark)))
     ≡ fold draw blank (drawn_among all)
-drawn_rest draw blank r mark all none is =
-    ap (λ b. fold draw b (drawn_among (map (marked mark)
-    (kept_from r (save_before r mark))))) (is.start none)
-    ∙ ap (λ kept. fold draw (fold draw blank (drawn_among (take (place_of r mark) all)))
+drawn_rest draw blank r mark from all is =
+    let rest = map (marked mark) (kept_from r mark) in
+    ap (λ b. fold draw b (drawn_among rest)) is.start
+    ∙ ap (λ kept. fold draw (fold draw blank (drawn_among (take (place_of mark) all)))
     (drawn_among kept)) is.rest
-    ∙ sym (fold-drawn draw blank (take (place_of r mark) all) (drop (place_of r mark) all))
-    ∙ ap (λ kept. fold draw blank (drawn_among kept)) (take-append-drop (place_of r mark) all)
+    ∙ sym (fold-drawn draw blank (take (place_of mark) all) (drop (place_of mark) all))
+    ∙ ap (λ kept. fold draw blank (drawn_among kept)) (take-append-drop (place_of mark) all)
 
 -- the history with an act that moves a group has the commands of the acts with their new flags
 drawn_moved : {B Op : Type 0} → Laws Op → (draw : B → Op → B) (blank : B) (depth : ℕ)
@@ -302,117 +355,88 @@ first_moved laws draw blank depth acts a table group n sender is some within =
     (take-append-le n (map (marked mark) all) (kept_in table a ∷ [])
     (omega (arith, within, length-kept_of laws depth acts, length-map all (marked mark))))
 
--- a savepoint that the redraw made, by its place
-made_place : (base kept save place made : ℕ) → save ≤ kept / 64 → made ≡ (kept - 64 * save) / 64
-    → save + 1 ≤ place → place < save + 1 + made
-    → (base + 64 * save + 64 * (place - (save + 1) + 1) ≡ base + 64 * place)
-    × (base + 64 * place ≤ base + kept)
-made_place base kept save place made within count from before = (omega arith, omega arith)
+-- a savepoint after an act that moves a group
+saved-moved : {B Op : Type 0} → Laws Op → (draw : B → Op → B) (blank : B) (depth : ℕ)
+    (acts : List (UserAct Op)) (a : UserAct Op) (r : Rolled B Op) (group : ℕ) (from old : B) (n : ℕ)
+    → a.user < 256 → StandsFor draw blank depth acts r → moved_by depth acts a ≡ Some group
+    → IsBegun draw blank r (mark_by a group) from (marked_of depth acts (mark_by a group))
+    → n ≤ length acts → old ≡ board_saved draw blank depth acts n
+    → saved_anew draw (map (marked (mark_by a group)) (kept_from r (mark_by a group)))
+    (save_place group) from n old ≡ board_saved draw blank depth (acts ++ a ∷ []) n
+saved-moved {B} {Op} laws draw blank depth acts a r group from old n sender st some is within
+    saved =
+    by_test (nat_lt (save_place group) (save_place n)) refl
+  where
+    later : List (UserAct Op)
+    later = acts ++ a ∷ []
 
--- the last savepoint after a redraw, by its place
-end_place : (base kept save place made : ℕ) → save ≤ kept / 64 → made ≡ (kept - 64 * save) / 64
-    → place ≡ save + 1 + made → (kept + 1) % 64 ≡ 0 → base + 64 * place ≡ base + kept + 1
-end_place base kept save place made within count at whole = omega arith
+    rest : List (KeptAct Op)
+    rest = map (marked (mark_by a group)) (kept_from r (mark_by a group))
 
--- the savepoints after an act that moves a group
-saves-redrawn : {B Op : Type 0} → Laws Op → (draw : B → Op → B) (blank : B) (depth : ℕ)
-    (acts : List (UserAct Op)) (a : UserAct Op) (r : Rolled B Op) (group : ℕ) (board : B)
-    (first : List B) (stays : ℕ) → a.user < 256
-    → StandsFor draw blank depth acts r → IsInOrder r → moved_by depth acts a ≡ Some group
-    → IsBefore r (mark_by a group) → IsRedrawn draw r (mark_by a group) board first stays
-    → board ≡ replay draw blank depth (acts ++ a ∷ []) → (place : ℕ) (none : B)
-    → place < length ((take stays r.saves ++ first) ++ saved_after (length r.kept + 1) board)
-    → get_or ((take stays r.saves ++ first) ++ saved_after (length r.kept + 1) board) place none
-    ≡ fold draw blank (drawn_first depth (acts ++ a ∷ []) (r.base + 64 * place))
-saves-redrawn laws draw blank depth acts a r group board first stays sender st order some is made
-    drawn place none within =
-    let mark = mark_by a group in
-    let save = save_before r mark in
-    let later = acts ++ a ∷ [] in
-    let old = take stays r.saves in
-    let end = saved_after (length r.kept + 1) board in
-    let whole = base-within draw blank depth acts r st order in
-    let inside = save_before-lt r mark is order in
-    let le = place_of-le r mark is in
-    let small : save ≤ length r.kept / 64 = omega (arith, inside, order.saved) in
-    let rest : length (kept_from r save) ≡ length r.kept - 64 * save =
-    length-drop (64 * save) r.kept in
-    let count : length first ≡ (length r.kept - 64 * save) / 64 =
-    made.count ∙ ap (λ n. n / 64) rest in
-    let stay : length old ≡ save + 1 = omega (arith, length-take stays r.saves, made.stay, inside)
-    in
-    let both = length-append old first in
-    elim (cases_lt place (length old)) [
-      | inl before ↦
-          let at : place < length r.saves = omega (arith, before, stay, inside) in
-          get_or_append_left (old ++ first) end none place (omega (arith, both))
-          ∙ get_or_append_left old first none place before
-          ∙ get_or-take stays r.saves place none (omega (arith, before, stay, made.stay))
-          ∙ st.saves place none at
-          ∙ ap (λ kept. fold draw blank (drawn_among kept)) (sym (take-kept_of-moved laws depth
-          acts a r.table group (r.base + 64 * place) sender st.table some
-          (omega (arith, before, stay, le)) (omega (arith, before, stay, le, is.before, whole))))
-      | inr past ↦ elim (cases_lt place (length (old ++ first))) [
-        | inl middle ↦
-            let j : ℕ = place - (save + 1) in
-            let places = made_place r.base (length r.kept) save place (length first) small count
-            (omega (arith, past, stay)) (omega (arith, middle, both, stay)) in
-            get_or_append_left (old ++ first) end none place middle
-            ∙ get_or-append_right old first (save + 1) place none stay
-            (omega (arith, past, stay))
-            ∙ made.saved j none (omega (arith, middle, both, stay))
-            ∙ drawn_part draw blank r mark (marked_of depth acts mark) none (64 * (j + 1))
-            (begun laws draw blank depth acts a r group sender st order some is)
-            ∙ ap (λ n. fold draw blank (drawn_among (take n (marked_of depth acts mark))))
-            places.0
-            ∙ sym (first_moved laws draw blank depth acts a r.table group (r.base + 64 * place)
-            sender st.table some (omega (arith, places.1, whole)))
-        | inr last_one ↦
-            let last = last_save (old ++ first) (length r.kept + 1) board place none last_one
-            within in
-            let at = end_place r.base (length r.kept) save place (length first) small count
-            (omega (arith, last.0, both, stay)) last.1 in
-            last.2 ∙ drawn ∙ replay-kept_of laws draw blank depth later
-            ∙ ap (λ kept. fold draw blank (drawn_among kept)) (sym (take_all
-            (r.base + 64 * place) (kept_of depth later) (omega (
-              arith,
-              at,
-              whole,
-              length-kept_of laws depth later,
-              length-append acts (a ∷ []),
-            ))))
-      ]
-    ]
+    by_test : (b : Bool) → nat_lt (save_place group) (save_place n) ≡ b
+        → saved_anew draw rest (save_place group) from n old ≡ board_saved draw blank depth later n
+    by_test true is_later =
+        let mark = mark_by a group in
+        let all = marked_of depth acts mark in
+        let lt = ltb-true (save_place group) (save_place n) is_later in
+        let at : save_place group + (save_place n - save_place group) ≡ save_place n =
+        omega (arith, lt) in
+        ap (λ b. if b then run_to draw rest (save_place group) from n else old) is_later
+        ∙ drawn_part draw blank r mark from all (save_place n - save_place group) is
+        ∙ ap (λ m. fold draw blank (drawn_among (take m all))) at
+        ∙ sym (first_moved laws draw blank depth acts a r.table group (save_place n) sender st.table
+        some (omega (arith, within)))
+    by_test false is_later =
+        let le = ltb-false (save_place group) (save_place n) is_later in
+        ap (λ b. if b then run_to draw rest (save_place group) from n else old) is_later
+        ∙ saved
+        ∙ ap (λ kept. fold draw blank (drawn_among kept)) (sym (take-kept_of-moved laws depth acts a
+        r.table group (save_place n) sender st.table some (omega (arith, le))
+        (omega (arith, within))))
 
 -- an act that moves a group
 pub StandsFor-redrawn : {B Op : Type 0} → Laws Op → (draw : B → Op → B) (blank : B) (depth : ℕ)
-    (acts : List (UserAct Op)) (a : UserAct Op) (r : Rolled B Op) (group : ℕ) (board : B)
-    (first saves : List B) (stays : ℕ) → a.user < 256 → concerned a < 256
+    (acts : List (UserAct Op)) (a : UserAct Op) (r : Rolled B Op) (group : ℕ) (board last : B)
+    (saves : List (PointSave B)) → a.user < 256 → concerned a < 256
     → StandsFor draw blank depth acts r → IsInOrder r → moved_by depth acts a ≡ Some group
-    → IsBefore r (mark_by a group) → IsRedrawn draw r (mark_by a group) board first stays
-    → saves ≡ first ++ saved_after (length r.kept + 1) board
+    → IsBefore r (mark_by a group) → IsRedrawn draw r (mark_by a group) board last saves
     → StandsFor draw blank depth (acts ++ a ∷ []) (grown (record {
       act = kept_in r.table a;
       mark = Some (mark_by a group);
-      stays = stays;
       strokes = next_strokes r.table a;
       board = board;
-      saves = saves;
+      last = last_after (r.table.position + 1) board last;
+      saves = saves_after r.table last a.act saves;
     }) r)
-StandsFor-redrawn laws draw blank depth acts a r group board first saves stays sender known st
-    order some is made saved =
+StandsFor-redrawn laws draw blank depth acts a r group board last saves sender known st order some
+    is made =
     let mark = mark_by a group in
     let all = kept_of depth acts in
+    let later = acts ++ a ∷ [] in
+    let rest = map (marked mark) (kept_from r mark) in
     let whole = base-within draw blank depth acts r st order in
-    let drawn : board ≡ replay draw blank depth (acts ++ a ∷ []) =
-    made.drawn board
-    ∙ drawn_rest draw blank r mark (marked_of depth acts mark) board
-    (begun laws draw blank depth acts a r group sender st order some is)
+    let from = made.from in
+    let begin = begun laws draw blank depth acts a r group from sender st order some is
+    made.begun in
+    let drawn : board ≡ replay draw blank depth later =
+    made.finished.drawn
+    ∙ drawn_rest draw blank r mark from (marked_of depth acts mark) begin
     ∙ sym (drawn_moved laws draw blank depth acts a r.table group sender st.table some) in
-    let stay : take stays r.saves ++ saves
-    ≡ (take stays r.saves ++ first) ++ saved_after (length r.kept + 1) board =
-    ap (λ ys. take stays r.saves ++ ys) saved
-    ∙ sym (append_assoc (take stays r.saves) first (saved_after (length r.kept + 1) board)) in
+    let saved : last ≡ board_saved draw blank depth later r.table.position =
+    made.finished.last_is
+    ∙ saved-moved laws draw blank depth acts a r group from r.last r.table.position sender st some
+    begin (omega (arith, st.table.position))
+    (st.last ∙ ap (board_saved draw blank depth acts) (sym st.table.position)) in
+    let anew : All (SavedIn draw blank depth later)
+    (map (save_anew draw rest (save_place group) from) r.saves) =
+    All-map (SavedIn draw blank depth later) (save_anew draw rest (save_place group) from) r.saves
+    (λ k d within. saved-moved laws draw blank depth acts a r group from (get_or r.saves k d).board
+    (get_or r.saves k d).point sender st some begin
+    (omega (
+      arith,
+      st.table.position,
+      point-before r.saves r.table.position k d (before-of r order) within,
+    )) (st.saves k d within)) in
     record {
       table = laws.next depth acts a r.table known st.table;
       kept = kept-push r.base (map (marked mark) r.kept) (map (marked mark) all)
@@ -422,40 +446,35 @@ StandsFor-redrawn laws draw blank depth acts a r group board first saves stays s
           ∙ ap (drop r.base) (sym (kept_of-moved laws depth acts a r.table group sender st.table
           some));
       board = drawn;
-      saves = λ place none within.
-          ap (λ xs. get_or xs place none) stay
-          ∙ saves-redrawn laws draw blank depth acts a r group board first stays sender st order
-          some is made drawn place none (subst (λ xs. place < length xs) stay within);
+      last = last-next laws draw blank depth acts a board last r.table.position st.table.position
+          drawn saved;
+      saves = saves-next draw blank depth later r.table last a.act saves
+          (subst (All (SavedIn draw blank depth later)) (sym made.finished.saves_are) anew) saved;
     }
 
 -- what is drawn for an act, where it moves a group or not
 drawn_for : {B Op : Type 0} → Laws Op → (draw : B → Op → B) (blank : B) (depth : ℕ)
-    (acts : List (UserAct Op)) (a : UserAct Op) (r : Rolled B Op) (o : Option ℕ) (board : B)
-    (first saves : List B) (stays : ℕ) → a.user < 256 → concerned a < 256
+    (acts : List (UserAct Op)) (a : UserAct Op) (r : Rolled B Op) (o : Option ℕ) (board last : B)
+    (saves : List (PointSave B)) → a.user < 256 → concerned a < 256
     → StandsFor draw blank depth acts r → IsInOrder r → moved_by depth acts a ≡ o
-    → ForSome (option_map (mark_by a) o) (λ mark. r.base ≤ mark.group)
+    → ForSome (option_map (mark_by a) o) (λ mark. oldest_in r.table ≤ mark.group)
     → ForSome (option_map (mark_by a) o) (λ mark. mark.group < r.table.position)
-    → IsDrawnFor draw r a.act (option_map (mark_by a) o) board first stays
-    → saves ≡ first ++ saved_after (length r.kept + 1) board
+    → IsDrawnFor draw r a.act (option_map (mark_by a) o) board last saves
     → StandsFor draw blank depth (acts ++ a ∷ []) (grown (record {
       act = kept_in r.table a;
       mark = option_map (mark_by a) o;
-      stays = stays;
       strokes = next_strokes r.table a;
       board = board;
-      saves = saves;
+      last = last_after (r.table.position + 1) board last;
+      saves = saves_after r.table last a.act saves;
     }) r)
-drawn_for laws draw blank depth acts a r None board first saves stays sender known st order is
-    reach before made saved =
-    StandsFor-drawn laws draw blank depth acts a r board first saves stays sender known st order
-    is made saved
-drawn_for laws draw blank depth acts a r (Some group) board first saves stays sender known st order
-    is reach before made saved =
-    StandsFor-redrawn laws draw blank depth acts a r group board first saves stays sender known st
-    order is (record {
-      reach = reach (mark_by a group) refl;
-      before = omega (arith, before (mark_by a group) refl, order.up_to_end);
-    }) made saved
+drawn_for laws draw blank depth acts a r None board last saves sender known st order is reach before
+    made =
+    StandsFor-drawn laws draw blank depth acts a r board last saves sender known st order is made
+drawn_for laws draw blank depth acts a r (Some group) board last saves sender known st order is
+    reach before made =
+    StandsFor-redrawn laws draw blank depth acts a r group board last saves sender known st order is
+    (record { reach = reach (mark_by a group) refl; before = before (mark_by a group) refl }) made
 
 -- what an act makes of what stands for a history stands for it with the act
 pub StandsFor-put_on : {B Op : Type 0} → Laws Op → (draw : B → Op → B) (r : Rolled B Op)
@@ -466,116 +485,165 @@ StandsFor-put_on {B} {Op} laws draw r a next known is blank depth acts st =
     let made : Next B Op = record {
       act = kept_in r.table a;
       mark = mark_in r.table a;
-      stays = next.stays;
       strokes = next_strokes r.table a;
       board = next.board;
-      saves = next.saves;
+      last = last_after (r.table.position + 1) next.board is.made.old_last;
+      saves = saves_after r.table is.made.old_last a.act is.made.old_saves;
     } in
     let same : made ≡ next =
     ap (λ k. record made { act = k }) (sym is.act)
-    ∙ ap (λ m. record next { mark = m; strokes = next_strokes r.table a }) (sym is.mark)
-    ∙ ap (λ s. record next { strokes = s }) (sym is.strokes) in
+    ∙ ap (λ m. record made { act = next.act; mark = m }) (sym is.mark)
+    ∙ ap (λ s. record made { act = next.act; mark = next.mark; strokes = s }) (sym is.strokes)
+    ∙ ap (λ b. record next { last = b; saves = made.saves }) (sym is.made.last_is)
+    ∙ ap (λ xs. record next { saves = xs }) (sym is.made.saves_are) in
     subst (λ n. StandsFor draw blank depth (acts ++ a ∷ []) (put_on n r)) same
     (StandsFor-let_go draw blank depth (acts ++ a ∷ []) (grown made r) (needless (grown made r))
-    (drawn_for laws draw blank depth acts a r (moved_in r.table a) next.board is.made.first
-    next.saves next.stays known.sender known.known st known.order
+    (drawn_for laws draw blank depth acts a r (moved_in r.table a) next.board is.made.old_last
+    is.made.old_saves known.sender known.known st known.order
     (sym (laws.moved depth acts a r.table known.known st.table)) known.reach known.before
-    is.made.drawn is.made.saved))
+    is.made.drawn))
 
--- what is not 0 is more
-above_none : (n : ℕ) → (n == 0) ≡ false → 0 < n
-above_none n is = elim (cases_lt 0 n) [
-  | inl some ↦ some
-  | inr none ↦ let wrong : true ≡ false = sym (eq-eqb n 0 (omega arith)) ∙ is in cc
-]
+-- the last of some, mapped
+last_few-map : {X Y : Type 0} → (f : X → Y) (n : ℕ) (xs : List X)
+    → map f (last_few n xs) ≡ last_few n (map f xs)
+last_few-map f n xs =
+    sym (drop-map f (length xs - n) xs)
+    ∙ ap (λ m. drop (m - n) (map f xs)) (sym (length-map xs f))
 
--- how many savepoints there are after an act
-count-saved_after : {B : Type 0} → (kept : ℕ) (board : B)
-    → kept / 64 + length (saved_after (kept + 1) board) ≡ (kept + 1) / 64
-count-saved_after kept board = by_test ((kept + 1) % 64 == 0) refl
+-- the Points that have savepoints after an act
+points-next : {B Op : Type 0} → (table : Table) (act : Act Op) (last : B)
+    (saves : List (PointSave B)) → points_of saves ≡ table.window.points
+    → points_of (saves_after table last act saves)
+    ≡ (window_after table.position act table.window).points
+points-next {B} {Op} table act last saves same =
+    last_few-map (λ save. save.point) (unwrap_or (depth_in act) table.window.depth)
+    (saves ++ save_of table.position last act)
+    ∙ ap (last_few (unwrap_or (depth_in act) table.window.depth))
+    (map-append (λ save. save.point) saves (save_of table.position last act)
+    ∙ ap (λ ps. ps ++ points_of (save_of table.position last act)) same)
+    ∙ by_act act
   where
-    by_test : (b : Bool) → ((kept + 1) % 64 == 0) ≡ b
-        → kept / 64 + length (saved_after (kept + 1) board) ≡ (kept + 1) / 64
-    by_test true is =
-        let saved : saved_after (kept + 1) board ≡ board ∷ [] =
-        ap (λ b. if b then board ∷ [] else []) is in
-        omega (arith, ap length saved, eqb-true ((kept + 1) % 64) 0 is)
-    by_test false is =
-        let saved : saved_after (kept + 1) board ≡ [] =
-        ap (λ b. if b then board ∷ [] else []) is in
-        omega (arith, ap length saved, above_none ((kept + 1) % 64) is)
+    none : (n : ℕ) → last_few n (table.window.points ++ []) ≡ last_few n table.window.points
+    none n = ap (last_few n) (append-nil table.window.points)
 
--- what is drawn for an act fits, where the act moves a group or not
-made-fits : {B Op : Type 0} → (draw : B → Op → B) (r : Rolled B Op) (act : Act Op)
-    (o : Option Mark) (board : B) (first saves : List B) (stays : ℕ) → IsInOrder r
-    → ForSome o (λ mark. r.base ≤ mark.group) → ForSome o (λ mark. mark.group < r.table.position)
-    → IsDrawnFor draw r act o board first stays
-    → saves ≡ first ++ saved_after (length r.kept + 1) board
-    → (stays ≤ length r.saves) × (stays + length saves ≡ (length r.kept + 1) / 64 + 1)
-made-fits draw r act None board first saves stays order reach before made saved =
-    let count = count-saved_after (length r.kept) board in
-    let split = length-append first (saved_after (length r.kept + 1) board) in
-    let all = ap length saved in (
-      omega (arith, made.stay),
-      omega (arith, made.stay, order.saved, ap length made.saved, count, split, all),
-    )
-made-fits draw r act (Some mark) board first saves stays order reach before made saved =
-    let count = count-saved_after (length r.kept) board in
-    let split = length-append first (saved_after (length r.kept + 1) board) in
-    let all = ap length saved in
-    let is : IsBefore r mark = record {
-      reach = reach mark refl;
-      before = omega (arith, before mark refl, order.up_to_end);
-    } in
-    let inside = save_before-lt r mark is order in
-    let rest : length (kept_from r (save_before r mark))
-    ≡ length r.kept - 64 * save_before r mark = length-drop (64 * save_before r mark) r.kept in
-    let some : length first ≡ (length r.kept - 64 * save_before r mark) / 64 =
-    made.count ∙ ap (λ n. n / 64) rest in (
-      omega (arith, made.stay, inside),
-      omega (arith, made.stay, order.saved, some, count, split, all, inside),
-    )
+    by_act : (a : Act Op) → last_few (unwrap_or (depth_in a) table.window.depth)
+        (table.window.points ++ points_of (save_of table.position last a))
+        ≡ (window_after table.position a table.window).points
+    by_act Point = refl
+    by_act (Undo who) = none table.window.depth
+    by_act (Redo who) = none table.window.depth
+    by_act (Draw op) = none table.window.depth
+    by_act (Depth d) = none d
+    by_act Other = none table.window.depth
+
+-- the Points in reach stay in order
+rising-next : {Op : Type 0} → (position : ℕ) (act : Act Op) (w : Window) → IsNonDecreasing w.points
+    → All (λ point. point < position) w.points
+    → IsNonDecreasing (window_after position act w).points
+rising-next position Point w rising before =
+    IsNonDecreasingBy-drop (λ p. p) (length (w.points ++ position ∷ []) - w.depth)
+    (w.points ++ position ∷ []) (rising-push w.points position rising before)
+rising-next position (Undo who) w rising before =
+    IsNonDecreasingBy-drop (λ p. p) (length w.points - w.depth) w.points rising
+rising-next position (Redo who) w rising before =
+    IsNonDecreasingBy-drop (λ p. p) (length w.points - w.depth) w.points rising
+rising-next position (Draw op) w rising before =
+    IsNonDecreasingBy-drop (λ p. p) (length w.points - w.depth) w.points rising
+rising-next position (Depth d) w rising before =
+    IsNonDecreasingBy-drop (λ p. p) (length w.points - d) w.points rising
+rising-next position Other w rising before =
+    IsNonDecreasingBy-drop (λ p. p) (length w.points - w.depth) w.points rising
+
+-- each Point in reach has its savepoint after an act
+pub AreSaved-next : {B Op : Type 0} → (table : Table) (act : Act Op) (last : B)
+    (saves : List (PointSave B)) → AreSaved table.position table.window.points (points_of saves)
+    → AreSaved (table.position + 1) (window_after table.position act table.window).points
+    (points_of (saves_after table last act saves))
+AreSaved-next table act last saves saved = record {
+  same = points-next table act last saves saved.same;
+  rising = rising-next table.position act table.window saved.rising saved.before;
+  before = window_after-before table.position act table.window saved.before;
+}
+
+-- how many Points may be in reach after an act
+pub depth-next : {Op : Type 0} → (position : ℕ) (act : Act Op) (w : Window)
+    → unwrap_or (depth_in act) w.depth ≡ (window_after position act w).depth
+depth-next position Point w = refl
+depth-next position (Undo who) w = refl
+depth-next position (Redo who) w = refl
+depth-next position (Draw op) w = refl
+depth-next position (Depth d) w = refl
+depth-next position Other w = refl
+
+-- the positions after an act that comes next, where the acts before the first that an act may need
+-- are let go
+pub IsSpaced-next : {B Op : Type 0} → (table : Table) (a : UserAct Op) (last : B)
+    (saves : List (PointSave B)) (base kept base' kept' : ℕ)
+    → IsSpaced table base kept (points_of saves)
+    → oldest_in table ≤ oldest_in (table_with (next_strokes table a) table)
+    → base' ≡ base + (save_place (oldest_in (table_with (next_strokes table a) table)) - base)
+    → base' + kept' ≡ base + kept + 1
+    → IsSpaced (table_with (next_strokes table a) table) base' kept'
+    (points_of (saves_after table last a.act saves))
+IsSpaced-next table a last saves base kept base' kept' is later begins count = record {
+  up_to_end = omega (arith, is.up_to_end, count);
+  begins = omega (arith, is.begins, later, begins);
+  saved = AreSaved-next table a.act last saves is.saved;
+}
+
+-- savepoints that are made anew are of the same Points
+points-anew : {B Op : Type 0} → (draw : B → Op → B) (kept : List (KeptAct Op)) (start : ℕ)
+    (from : B)
+    (saves : List (PointSave B))
+    → points_of (map (save_anew draw kept start from) saves) ≡ points_of saves
+points-anew draw kept start from [] = refl
+points-anew draw kept start from (save ∷ saves) =
+    ap (λ ps. save.point ∷ ps) (points-anew draw kept start from saves)
+
+-- the savepoints that an act leaves are of the same Points, where it moves a group or not
+points-drawn : {B Op : Type 0} → (draw : B → Op → B) (r : Rolled B Op) (act : Act Op)
+    (o : Option Mark) (board last : B) (saves : List (PointSave B))
+    → IsDrawnFor draw r act o board last saves → points_of saves ≡ points_of r.saves
+points-drawn draw r act None board last saves made = ap points_of made.saves_stay
+points-drawn draw r act (Some mark) board last saves made =
+    ap points_of made.finished.saves_are
+    ∙ points-anew draw (map (marked mark) (kept_from r mark)) (save_place mark.group) made.from
+    r.saves
 
 -- what an act makes of it fits it, where there is room
 pub FitsOn-made : {B Op : Type 0} → (draw : B → Op → B) (r : Rolled B Op) (a : UserAct Op)
     (next : Next B Op) → IsKnown r a → IsNext draw r a next → 1 ≤ r.spare → FitsOn next r
 FitsOn-made draw r a next known is room =
-    let fits = made-fits draw r a.act (mark_in r.table a) next.board is.made.first next.saves
-    next.stays known.order known.reach known.before is.made.drawn is.made.saved in
+    let made = is.made in
+    let same = points-drawn draw r a.act (mark_in r.table a) next.board made.old_last made.old_saves
+    made.drawn in
+    let saved : AreSaved (r.table.position + 1)
+    (window_after r.table.position a.act r.table.window).points (points_of next.saves) =
+    subst (λ saves. AreSaved (r.table.position + 1)
+    (window_after r.table.position a.act r.table.window).points (points_of saves))
+    (sym made.saves_are)
+    (AreSaved-next r.table a.act made.old_last made.old_saves
+    (subst (AreSaved r.table.position r.table.window.points) (sym same) known.order.saved)) in
     record {
       room = room;
       follows = ap (λ s. s.position) is.strokes;
-      stay = fits.0;
-      saved = fits.1;
-      enough = omega (arith, is.later, known.order.enough);
+      enough = omega (arith, is.later, known.order.begins);
+      saved = subst (λ s. AreSaved s.position s.window.points (points_of next.saves))
+          (sym is.strokes) saved;
     }
-
--- all savepoints stay, and no more come
-pub whole_stays : {X : Type 0} → (xs : List X) → take (length xs) xs ++ [] ≡ xs
-whole_stays xs = append-nil (take (length xs) xs) ∙ take_all (length xs) xs (omega arith)
 
 -- what has no act yet stands for the history without acts
 pub StandsFor-new : {B Op : Type 0} → (draw : B → Op → B) (blank : B) (depth : ℕ)
     (r : Rolled B Op) → IsTableAfter {Op = Op} depth [] r.table → r.base ≡ 0 → r.kept ≡ []
-    → r.board ≡ blank → r.saves ≡ blank ∷ [] → StandsFor draw blank depth [] r
-StandsFor-new {B} {Op} draw blank depth r table base kept board saves = record {
+    → r.board ≡ blank → r.last ≡ blank → r.saves ≡ [] → StandsFor draw blank depth [] r
+StandsFor-new {B} {Op} draw blank depth r table base kept board last saves = record {
   table = table;
   kept = kept ∙ sym (ap (λ n. drop n (kept_of {Op = Op} depth [])) base);
   board = board;
-  saves = λ place none within.
-      ap (λ xs. get_or xs place none) saves
-      ∙ first place none (subst (λ xs. place < length xs) saves within)
-      ∙ sym (ap (λ kept. fold draw blank (drawn_among kept)) (nothing (r.base + 64 * place)));
+  last = last;
+  saves = subst (All (SavedIn {Op = Op} draw blank depth [])) (sym saves)
+      (All-nil (SavedIn {Op = Op} draw blank depth []));
 }
-  where
-    first : (place : ℕ) (none : B) → place < length (blank ∷ [])
-        → get_or (blank ∷ []) place none ≡ blank
-    first zero none within = refl
-    first (suc place) none within = absurd (omega arith)
-
-    nothing : (n : ℕ) → take n (kept_of {Op = Op} depth []) ≡ []
-    nothing n = nil_from_length (take n (kept_of {Op = Op} depth []))
-        (omega (arith, length-take n (kept_of {Op = Op} depth [])))
 
 -- room for more acts changes nothing of what it stands for
 pub StandsFor-spare : {B Op : Type 0} → (draw : B → Op → B) (blank : B) (depth : ℕ)
@@ -585,6 +653,7 @@ StandsFor-spare draw blank depth acts r spare st = record {
   table = st.table;
   kept = st.kept;
   board = st.board;
+  last = st.last;
   saves = st.saves;
 }
 
@@ -597,5 +666,6 @@ StandsFor-put_spare draw blank depth acts next r spare st = record {
   table = st.table;
   kept = st.kept;
   board = st.board;
+  last = st.last;
   saves = st.saves;
 }

@@ -1,21 +1,25 @@
 -- What is drawn for one more act.
-use Rattle.std.specs.Prelude.{◌≡◌, ℕ, ◌+◌, ◌-◌, ◌*◌, ◌/◌, ◌%◌, ◌<◌, ◌≤◌, ◌==◌, true, Option, Some}
+use Rattle.std.specs.Prelude.{◌≡◌, ℕ, ◌+◌, ◌-◌, ◌%◌, ◌<◌, ◌≤◌, ◌==◌, true, Option, Some}
 use Rattle.std.specs.Prelude.{None}
-use Rattle.std.specs.Prelude.{List, [], ◌∷◌, ◌++◌, length, take, drop, map, slice_index_or}
-use Rattle.std.specs.Prelude.{if◌then◌else◌}
+use Rattle.std.specs.Prelude.{List, [], ◌∷◌, ◌++◌, drop, map}
+use Rattle.std.specs.Prelude.{if◌then◌else◌, unwrap_or}
 use Rattle.std.specs.Option.{option_map, ForSome}
-use Rattle.std.specs.List.{fold}
+use Rattle.std.specs.List.{fold, Contains}
 use Rattle.dp_board.specs.declared.act.Act.{Act}
 use Rattle.dp_board.specs.declared.act.UserAct.{UserAct}
 use Rattle.dp_board.specs.declared.act.Change.{Change}
-use Rattle.dp_board.specs.Strokes.{concerned}
+use Rattle.dp_board.specs.declared.act.Act.TheVariants.{Point}
+use Rattle.dp_board.specs.Strokes.{concerned, last_few}
+use Rattle.dp_board.specs.Laws.{depth_in}
 use Rattle.dp_board.specs.Commands.{command_of}
 use Rattle.dp_board.specs.Moves.{is_redo, is_draw}
 use Rattle.dp_board.specs.Table.{Table, moved_in, joined_in, next_strokes, oldest_in, table_with}
 use Rattle.dp_rollback.specs.declared.kept.KeptAct.{KeptAct}
 use Rattle.dp_rollback.specs.declared.kept.Mark.{Mark}
-use Rattle.dp_rollback.specs.Kept.{marked, drawn_among, commands_among}
-use Rattle.dp_rollback.specs.Rollback.{Rolled, Next, IsInOrder, put_on, change_in}
+use Rattle.dp_rollback.specs.Kept.{marked, commands_among}
+use Rattle.dp_rollback.specs.Rollback.{PointSave, Rolled, Next, IsInOrder, put_on, change_in}
+use Rattle.dp_rollback.specs.Rollback.{save_place}
+use Rattle.dp_rollback.specs.Runs.{IsFinished}
 
 -- the mark of an act that moves the group
 abbrev pub mark_by : {Op : Type 0} → UserAct Op → ℕ → Mark
@@ -29,61 +33,68 @@ mark_in table a = option_map (mark_by a) (moved_in table a)
 abbrev pub kept_in : {Op : Type 0} → Table → UserAct Op → KeptAct Op
 kept_in table a = record { act = a; join = joined_in table a; drawn = is_draw a.act }
 
--- the last savepoint at or before the Point of a group that moves
-abbrev pub save_before : {B Op : Type 0} → Rolled B Op → Mark → ℕ
-save_before r mark = (mark.group - r.base) / 64
+-- the acts from the savepoint of a mark on
+abbrev pub kept_from : {B Op : Type 0} → Rolled B Op → Mark → List (KeptAct Op)
+kept_from r mark = drop (save_place mark.group - r.base) r.kept
 
--- the acts from a savepoint on
-abbrev pub kept_from : {B Op : Type 0} → Rolled B Op → ℕ → List (KeptAct Op)
-kept_from r place = drop (64 * place) r.kept
-
--- the board and the savepoints after a savepoint are those that the acts from there on give, with
--- the flags of the mark, and the savepoints up to that one stay
+-- the board and the savepoints after that of the group are those that the acts from there on give,
+-- with the flags of the mark
 pub record IsRedrawn {B Op : Type 0} (draw : B → Op → B) (r : Rolled B Op) (mark : Mark)
-    (board : B) (saves : List B) (stays : ℕ) : Type 0 where
-  pub stay : stays ≡ save_before r mark + 1
-  pub drawn : (none : B) → board ≡ fold draw (slice_index_or r.saves (save_before r mark) none)
-      (drawn_among (map (marked mark) (kept_from r (save_before r mark))))
-  pub count : length saves ≡ length (kept_from r (save_before r mark)) / 64
-  pub saved : (place : ℕ) (none : B) → place < length saves → slice_index_or saves place none
-      ≡ fold draw (slice_index_or r.saves (save_before r mark) none) (drawn_among
-      (take (64 * (place + 1)) (map (marked mark) (kept_from r (save_before r mark)))))
+    (board last : B) (saves : List (PointSave B)) : Type 0 where
+  pub from : B
+  pub begun : Contains r.saves (record { point = mark.group; board = from })
+  pub finished : IsFinished draw (map (marked mark) (kept_from r mark)) from
+      (save_place mark.group) r.table.position r.last r.saves board last saves
 
 -- the board has the command of an act, where it is one, and all savepoints stay
 pub record IsDrawnLast {B Op : Type 0} (draw : B → Op → B) (r : Rolled B Op) (act : Act Op)
-    (board : B) (saves : List B) (stays : ℕ) : Type 0 where
-  pub stay : stays ≡ length r.saves
+    (board last : B) (saves : List (PointSave B)) : Type 0 where
   pub drawn : board ≡ fold draw r.board (command_of act true)
-  pub saved : saves ≡ []
+  pub last_stays : last ≡ r.last
+  pub saves_stay : saves ≡ r.saves
 
 -- what is drawn for an act: all anew from a savepoint on, where it moves a group
 abbrev pub IsDrawnFor : {B Op : Type 0}
-    → (B → Op → B) → Rolled B Op → Act Op → Option Mark → B → List B → ℕ → Type 0
-IsDrawnFor draw r act None board saves stays = IsDrawnLast draw r act board saves stays
-IsDrawnFor draw r act (Some mark) board saves stays = IsRedrawn draw r mark board saves stays
+    → (B → Op → B) → Rolled B Op → Act Op → Option Mark → B → B → List (PointSave B) → Type 0
+IsDrawnFor draw r act None board last saves = IsDrawnLast draw r act board last saves
+IsDrawnFor draw r act (Some mark) board last saves = IsRedrawn draw r mark board last saves
 
--- the board after as many acts, where that is a savepoint
-abbrev pub saved_after : {B : Type 0} → ℕ → B → List B
-saved_after count board = if count % 64 == 0 then board ∷ [] else []
+-- the last savepoint after as many acts
+abbrev pub last_after : {B : Type 0} → ℕ → B → B → B
+last_after count board last = if count % 64 == 0 then board else last
 
--- what is drawn for an act, with the savepoint after it
+-- the savepoint of an act at a position, where it is a Point
+abbrev pub save_of : {B Op : Type 0} → ℕ → B → Act Op → List (PointSave B)
+save_of position last Point = (record { point = position; board = last }) ∷ []
+save_of position last act = []
+
+-- the savepoints after an act at a position: those of the last Points alone
+abbrev pub saves_after : {B Op : Type 0}
+    → Table → B → Act Op → List (PointSave B) → List (PointSave B)
+saves_after table last act saves =
+    last_few (unwrap_or (depth_in act) table.window.depth)
+    (saves ++ save_of table.position last act)
+
+-- what is drawn for an act, with the savepoints after it
 pub record IsMade {B Op : Type 0} (draw : B → Op → B) (r : Rolled B Op) (act : Act Op)
-    (mark : Option Mark) (board : B) (saves : List B) (stays : ℕ) : Type 0 where
-  pub first : List B
-  pub drawn : IsDrawnFor draw r act mark board first stays
-  pub saved : saves ≡ first ++ saved_after (length r.kept + 1) board
+    (mark : Option Mark) (board last : B) (saves : List (PointSave B)) : Type 0 where
+  pub old_last : B
+  pub old_saves : List (PointSave B)
+  pub drawn : IsDrawnFor draw r act mark board old_last old_saves
+  pub last_is : last ≡ last_after (r.table.position + 1) board old_last
+  pub saves_are : saves ≡ saves_after r.table old_last act old_saves
 
 -- the commands that may be drawn for an act
 abbrev pub due_in : {B Op : Type 0} → Rolled B Op → Act Op → Option Mark → List Op
 due_in r act None = command_of act true
-due_in r act (Some mark) = commands_among (kept_from r (save_before r mark))
+due_in r act (Some mark) = commands_among (kept_from r mark)
 
--- an act of users that there are comes next, and a group that it moves is among what is held
+-- an act of users that there are comes next, and a group that it moves is in reach
 pub record IsKnown {B Op : Type 0} (r : Rolled B Op) (a : UserAct Op) : Type 0 where
   pub sender : a.user < 256
   pub known : concerned a < 256
   pub order : IsInOrder r
-  pub reach : ForSome (mark_in r.table a) (λ mark. r.base ≤ mark.group)
+  pub reach : ForSome (mark_in r.table a) (λ mark. oldest_in r.table ≤ mark.group)
   pub before : ForSome (mark_in r.table a) (λ mark. mark.group < r.table.position)
 
 -- what an act makes of it
@@ -92,7 +103,7 @@ pub record IsNext {B Op : Type 0} (draw : B → Op → B) (r : Rolled B Op) (a :
   pub act : next.act ≡ kept_in r.table a
   pub mark : next.mark ≡ mark_in r.table a
   pub strokes : next.strokes ≡ next_strokes r.table a
-  pub made : IsMade draw r a.act (mark_in r.table a) next.board next.saves next.stays
+  pub made : IsMade draw r a.act (mark_in r.table a) next.board next.last next.saves
   pub later : oldest_in r.table ≤ oldest_in (table_with next.strokes r.table)
 
 -- what an act makes of it that moves no group, where no savepoint falls due: it has the command of
@@ -101,10 +112,10 @@ abbrev pub next_here : {B Op : Type 0} → (B → Op → B) → Rolled B Op → 
 next_here draw r a = record {
   act = kept_in r.table a;
   mark = None;
-  stays = length r.saves;
   strokes = next_strokes r.table a;
   board = fold draw r.board (command_of a.act true);
-  saves = [];
+  last = r.last;
+  saves = saves_after r.table r.last a.act r.saves;
 }
 
 -- it went on by an act, which did so to the board

@@ -1,8 +1,9 @@
 -- A board that goes on act by act, and back to savepoints.
 use Rattle.std.specs.Prelude.{◌≡◌, ℕ, ◌+◌, ◌-◌, ◌*◌, ◌/◌, ◌<◌, ◌≤◌, Option}
-use Rattle.std.specs.Prelude.{List, [], ◌∷◌, ◌++◌, length, take, drop, slice_index_or}
+use Rattle.std.specs.Prelude.{List, [], ◌∷◌, ◌++◌, length, take, drop, map}
 use Rattle.std.specs.Prelude.{if◌then◌else◌, is_some}
-use Rattle.std.specs.List.{fold}
+use Rattle.std.specs.List.{fold, All}
+use Rattle.std.specs.List.Sorted.{IsNonDecreasing}
 use Rattle.dp_board.specs.declared.act.UserAct.{UserAct}
 use Rattle.dp_board.specs.declared.act.Change.{Change}
 use Rattle.dp_board.specs.declared.act.Change.TheVariants.{Drew, Rebuilt, Nothing}
@@ -12,29 +13,49 @@ use Rattle.dp_rollback.specs.declared.kept.KeptAct.{KeptAct}
 use Rattle.dp_rollback.specs.declared.kept.Mark.{Mark}
 use Rattle.dp_rollback.specs.Kept.{kept_of, drawn_among, marked_all}
 
--- a board, the strokes of all users, the last acts, from the position `base` on, and savepoints:
--- the board before each 64th of these acts. There is room for `spare` more acts
+-- the last 64th place at or before a position
+abbrev pub save_place : ℕ → ℕ
+save_place position = 64 * (position / 64)
+
+-- the savepoint of a Point in reach: the board before the 64th act at or before it
+pub record PointSave (B : Type 0) : Type 0 where
+  pub point : ℕ
+  pub board : B
+
+-- the Points that savepoints are of
+abbrev pub points_of : {B : Type 0} → List (PointSave B) → List ℕ
+points_of saves = map (λ save. save.point) saves
+
+-- a board, the strokes of all users, the last acts, from the position `base` on, the last
+-- savepoint, and those of the Points in reach. There is room for `spare` more acts
 pub record Rolled (B Op : Type 0) : Type 0 where
   pub board : B
   pub table : Table
   pub base : ℕ
   pub kept : List (KeptAct Op)
-  pub saves : List B
+  pub last : B
+  pub saves : List (PointSave B)
   pub spare : ℕ
 
--- what an act makes of it: the act itself, the mark where it moves a group, how many of the first
--- savepoints stay, the strokes, the board, and the savepoints after those that stay
+-- what an act makes of it: the act itself, the mark where it moves a group, the strokes, the board,
+-- and the savepoints
 pub record Next (B Op : Type 0) : Type 0 where
   pub act : KeptAct Op
   pub mark : Option Mark
-  pub stays : ℕ
   pub strokes : NextStrokes
   pub board : B
-  pub saves : List B
+  pub last : B
+  pub saves : List (PointSave B)
 
 -- the commands that are drawn among the first `count` acts of a history
 abbrev pub drawn_first : {Op : Type 0} → ℕ → List (UserAct Op) → ℕ → List Op
 drawn_first depth acts count = drawn_among (take count (kept_of depth acts))
+
+-- the board before the last 64th act at or before a position of a history
+abbrev pub board_saved : {B Op : Type 0}
+    → (B → Op → B) → B → ℕ → List (UserAct Op) → ℕ → B
+board_saved draw blank depth acts position =
+    fold draw blank (drawn_first depth acts (save_place position))
 
 -- it stands for the acts of a history, from the board `blank` on
 pub record StandsFor {B Op : Type 0} (draw : B → Op → B) (blank : B) (depth : ℕ)
@@ -42,56 +63,58 @@ pub record StandsFor {B Op : Type 0} (draw : B → Op → B) (blank : B) (depth 
   pub table : IsTableAfter depth acts r.table
   pub kept : r.kept ≡ drop r.base (kept_of depth acts)
   pub board : r.board ≡ replay draw blank depth acts
-  pub saves : (place : ℕ) (none : B) → place < length r.saves → slice_index_or r.saves place none
-      ≡ fold draw blank (drawn_first depth acts (r.base + 64 * place))
+  pub last : r.last ≡ board_saved draw blank depth acts (length acts)
+  pub saves : All (λ save. save.board ≡ board_saved draw blank depth acts save.point) r.saves
 
--- the positions: acts are kept up to the end, with a savepoint before each 64th, and neither more
--- nor fewer than an act may need which moves a group in reach
-pub record IsSpaced (position oldest base kept saves : ℕ) : Type 0 where
-  pub up_to_end : position ≡ base + kept
-  pub saved : saves ≡ kept / 64 + 1
-  pub enough : base ≤ oldest
-  pub few : oldest < base + 64
+-- each Point in reach has its savepoint, in order, and there are no more; all came before the
+-- position
+pub record AreSaved (position : ℕ) (points saved : List ℕ) : Type 0 where
+  pub same : saved ≡ points
+  pub rising : IsNonDecreasing points
+  pub before : All (λ point. point < position) points
+
+-- acts are kept up to the end, from the 64th act at or before the oldest Point in reach on, and
+-- the savepoints are those of the Points in reach
+pub record IsSpaced (table : Table) (base kept : ℕ) (points : List ℕ) : Type 0 where
+  pub up_to_end : table.position ≡ base + kept
+  pub begins : base ≡ save_place (oldest_in table)
+  pub saved : AreSaved table.position table.window.points points
 
 -- the same of its value
 abbrev pub IsInOrder : {B Op : Type 0} → Rolled B Op → Type 0
-IsInOrder r = IsSpaced r.table.position (oldest_in r.table) r.base (length r.kept)
-    (length r.saves)
+IsInOrder r = IsSpaced r.table r.base (length r.kept) (points_of r.saves)
 
--- without the first `count` savepoints and the acts up to the next
+-- without the first `count` acts
 abbrev pub let_go : {B Op : Type 0} → ℕ → Rolled B Op → Rolled B Op
-let_go count r = record r {
-  base = r.base + 64 * count;
-  kept = drop (64 * count) r.kept;
-  saves = drop count r.saves;
-}
+let_go count r = record r { base = r.base + count; kept = drop count r.kept }
 
--- with what an act makes of it, and all that it had
+-- with what an act makes of it, and all acts that it had
 abbrev pub grown : {B Op : Type 0} → Next B Op → Rolled B Op → Rolled B Op
 grown next r = record {
   board = next.board;
   table = table_with next.strokes r.table;
   base = r.base;
   kept = marked_all next.mark r.kept ++ next.act ∷ [];
-  saves = take next.stays r.saves ++ next.saves;
+  last = next.last;
+  saves = next.saves;
   spare = r.spare;
 }
 
--- how many savepoints come before the last that an act may need
+-- how many acts come before the first that an act may need
 abbrev pub needless : {B Op : Type 0} → Rolled B Op → ℕ
-needless r = (oldest_in r.table - r.base) / 64
+needless r = save_place (oldest_in r.table) - r.base
 
--- with what an act makes of it, and without what no act may need any more
+-- with what an act makes of it, and without the acts that no act may need any more
 abbrev pub put_on : {B Op : Type 0} → Next B Op → Rolled B Op → Rolled B Op
 put_on next r = let_go (needless (grown next r)) (grown next r)
 
--- what an act makes of it fits it: it has room for it, and the act is the next
+-- what an act makes of it fits it: it has room for it, the act is the next, and each Point in reach
+-- after it has its savepoint
 pub record FitsOn {B Op : Type 0} (next : Next B Op) (r : Rolled B Op) : Type 0 where
   pub room : 1 ≤ r.spare
   pub follows : next.strokes.position ≡ r.table.position + 1
-  pub stay : next.stays ≤ length r.saves
-  pub saved : next.stays + length next.saves ≡ (length r.kept + 1) / 64 + 1
   pub enough : r.base ≤ oldest_in (table_with next.strokes r.table)
+  pub saved : AreSaved next.strokes.position next.strokes.window.points (points_of next.saves)
 
 -- what an act did to the board, by what it made
 abbrev pub change_in : {B Op : Type 0} → Next B Op → Change

@@ -11,6 +11,8 @@ mod ready;
 mod redraw;
 mod rollback;
 mod room;
+mod run;
+mod saves;
 
 pub use kept::{KeptAct, Mark, mark_all};
 pub use laws::{few_are_due, replay_goes_on, stroke_laws};

@@ -4,21 +4,25 @@ ghost use Rattle.std.specs.Prelude.{◌≡◌};
 ghost use Rattle.dp_rollback.specs.Rollback.{change_in};
 
 use crate::kept::{KeptAct, Mark};
+use crate::saves::Save;
 use dp_board::{Board, Change, NextStrokes};
 use std::marker::Model;
+use std::sync::Arc;
 
 /// What an act makes of a rollback, with all the memory that it takes.
 #[derive(Drop)]
 pub struct Ready<B: Board> {
     pub(crate) act: KeptAct<B::Op>,
     pub(crate) mark: Option<Mark>,
-    pub(crate) stays: usize,
     pub(crate) strokes: NextStrokes,
+    pub(crate) depth: usize,
     pub(crate) board: B,
-    pub(crate) saves: Vec<B>,
+    pub(crate) last: Arc<B>,
+    pub(crate) saves: Vec<Save<B>>,
 }
 
 impl<B: Board> Model for Ready<B> {
+    ghost use Rattle.std.specs.Prelude.{◌≡◌};
     ghost use Rattle.dp_rollback.specs.Rollback.{Next};
 
     ghost Value = { Next B B.Op };
@@ -26,11 +30,13 @@ impl<B: Board> Model for Ready<B> {
     ghost view = { λ r. record {
       act = r.act;
       mark = r.mark;
-      stays = r.stays;
       strokes = r.strokes;
       board = r.board;
+      last = r.last.value;
       saves = r.saves.items;
     } };
+
+    ghost invariant = { λ r. r.depth ≡ r.strokes.window.depth };
 }
 
 impl<B: Board> Ready<B> {

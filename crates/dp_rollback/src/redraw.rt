@@ -1,19 +1,16 @@
 //! How acts are drawn from a savepoint on.
 
-ghost use Rattle.std.specs.Prelude.{◌≡◌, ℕ, ◌+◌, ◌*◌, ◌/◌, ◌<◌, ◌≤◌, true, length, map, take};
-ghost use Rattle.std.specs.Prelude.{slice_index_or, IfOk, OnOk, OnErr};
-ghost use Rattle.std.specs.List.{fold, sum_by};
+ghost use Rattle.std.specs.Prelude.{◌≡◌, true, map, OnOk, OnErr};
+ghost use Rattle.std.specs.List.{fold};
 ghost use Rattle.dp_board.specs.Commands.{command_of};
-ghost use Rattle.dp_rollback.specs.Kept.{marked, drawn_command, drawn_among, commands_among};
+ghost use Rattle.dp_board.specs.Counts.{CountsFew};
+ghost use Rattle.dp_rollback.specs.Kept.{marked, drawn_among, commands_among};
 
 use crate::kept::{KeptAct, Mark};
 use dp_board::{Act, Board};
 use dp_steps::Steps;
-use std::alloc::{AllocError, Global};
+use std::alloc::AllocError;
 use std::sync::ledger::Ledger;
-
-/// How many acts come between two savepoints.
-pub(crate) const SPACING: usize = 64;
 
 /// Draws the command of an act, where it is one and is to be drawn.
 ///
@@ -29,10 +26,8 @@ pub fn draw_act<B: Board, D: Ledger, T: Ledger>(
 ) -> Result<(), AllocError>
     ensures board { OnOk result (board.new ≡ fold B.drawn board.old (command_of act.now drawn)) }
     ensures err { OnErr result (board.new ≡ board.old) }
-    ensures draws_rise { draws.old ≤ draws.new }
-    ensures few_draws { draws.new ≤ draws.old + length (command_of act.now true) }
-    ensures tiles_rise { tiles.old ≤ tiles.new }
-    ensures few_tiles { tiles.new ≤ tiles.old + sum_by B.weight (command_of act.now true) }
+    ensures counts { CountsFew B.weight (command_of act.now true) draws.old draws.new tiles.old
+        tiles.new }
 {
     match act {
         Act::Draw(op) if drawn => board.draw(op, draws, tiles),
@@ -40,38 +35,26 @@ pub fn draw_act<B: Board, D: Ledger, T: Ledger>(
     }
 }
 
-/// Draws acts on the board, with the flags that a move gives them, and saves the board after each
-/// 64th of them.
+/// Draws acts on the board, with the flags that a move gives them.
 ///
 /// # Errors
 ///
 /// Some of the commands were drawn.
 pub(crate) fn redraw<B: Board, D: Ledger, T: Ledger>(
-    alloc: Global,
     board: &mut B,
     kept: &[KeptAct<B::Op>],
     mark: Mark,
     draws: &mut Steps<D>,
     tiles: &mut Steps<T>,
-) -> Result<Vec<B>, AllocError>
+) -> Result<(), AllocError>
     ensures board { OnOk result
         (board.new ≡ fold B.drawn board.old (drawn_among (map (marked mark) kept.now))) }
-    ensures count { IfOk result (λ saves. length saves.items ≡ length kept.now / 64) }
-    ensures saves { IfOk result (λ saves. (place : ℕ) (none : B) → place < length saves.items
-        → slice_index_or saves.items place none ≡ fold B.drawn board.old
-        (drawn_among (take (64 * (place + 1)) (map (marked mark) kept.now)))) }
-    ensures draws_rise { draws.old ≤ draws.new }
-    ensures few_draws { draws.new ≤ draws.old + length (commands_among kept.now) }
-    ensures tiles_rise { tiles.old ≤ tiles.new }
-    ensures few_tiles { tiles.new ≤ tiles.old + sum_by B.weight (commands_among kept.now) }
+    ensures counts { CountsFew B.weight (commands_among kept.now) draws.old draws.new tiles.old
+        tiles.new }
 {
-    let mut saves = Vec::new(alloc);
-    for (i, kept) in kept.iter().enumerate() {
-        let drawn = mark.flag(kept.join, kept.drawn);
-        draw_act(board, &kept.act.act, drawn, draws, tiles)?;
-        if (i + 1) % SPACING == 0 {
-            saves.push(board.share(draws, tiles)?)?;
-        }
+    for next in kept {
+        let drawn = mark.flag(next.join, next.drawn);
+        draw_act(board, &next.act.act, drawn, draws, tiles)?;
     }
-    Ok(saves)
+    Ok(())
 }

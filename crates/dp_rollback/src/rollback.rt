@@ -1,53 +1,60 @@
 //! A board that goes on act by act, and back to savepoints.
 
-ghost use Rattle.std.specs.Prelude.{◌≡◌, ◌≢◌, ℕ, ◌+◌, ◌-◌, ◌*◌, ◌/◌, ◌%◌, ◌<◌, ◌≤◌, List, []};
+ghost use Rattle.std.specs.Prelude.{◌≡◌, ◌≢◌, ℕ, ◌+◌, ◌-◌, ◌%◌, ◌<◌, ◌≤◌, List, []};
 ghost use Rattle.std.specs.Prelude.{◌∷◌, ◌++◌};
-ghost use Rattle.std.specs.Prelude.{true, Some, length, drop, take, map, slice_index_or};
+ghost use Rattle.std.specs.Prelude.{true, length};
 ghost use Rattle.std.specs.Prelude.{IfOk, OnOk, OnErr, IfSome, IsTrue, None, if◌then◌else◌};
 ghost use Rattle.std.specs.Option.{ForSome};
-ghost use Rattle.std.specs.List.{fold, sum_by};
+ghost use Rattle.std.specs.List.{sum_by};
 ghost use Rattle.dp_board.specs.declared.act.UserAct.{UserAct as UserActOf};
 ghost use Rattle.dp_board.specs.Replay.{replay};
 ghost use Rattle.dp_board.specs.declared.act.Change.TheVariants.{Drew, Nothing};
 ghost use Rattle.dp_board.specs.Table.{oldest_in};
 ghost use Rattle.dp_board.specs.Moves.{is_draw};
-ghost use Rattle.dp_board.specs.Strokes.{concerned};
+ghost use Rattle.dp_board.specs.Strokes.{concerned, is_eligible};
 ghost use Rattle.dp_board.specs.Commands.{command_of};
-ghost use Rattle.dp_rollback.specs.Kept.{marked, drawn_among, commands_among};
+ghost use Rattle.dp_board.specs.Counts.{CountsFew};
+ghost use Rattle.dp_rollback.specs.Kept.{commands_among};
 ghost use Rattle.dp_rollback.specs.Due.{due_commands, change_of};
 ghost use Rattle.dp_rollback.specs.Rollback.{StandsFor, IsInOrder, FitsOn, put_on, change_in};
-ghost use Rattle.dp_rollback.specs.Moves.{mark_in, save_before, kept_from, due_in};
+ghost use Rattle.dp_rollback.specs.Moves.{mark_in, kept_from, due_in};
 ghost use Rattle.dp_rollback.specs.Moves.{HasAdded};
 ghost use Rattle.dp_rollback.specs.Moves.{IsRedrawn, IsDrawnLast, IsMade, IsKnown, IsNext};
 
 use crate::kept::{KeptAct, Mark};
 use crate::laws::stroke_laws;
 use crate::ready::Ready;
-use crate::redraw::{SPACING, draw_act, redraw};
-use crate::room::{add_act, drop_first, replace_last};
+use crate::redraw::draw_act;
+use crate::room::{add_act, let_go};
+use crate::run::Run;
+use crate::saves::{
+    SPACING, Save, copy_saves, depth_after, put_save, save_at, save_of, save_place,
+};
 use dp_board::{Act, Board, Change, StrokeTable, UserAct, concerned, tables_follow};
 use dp_steps::Steps;
 use std::alloc::{AllocError, Global};
 use std::marker::Model;
+use std::sync::Arc;
 use std::sync::ledger::Ledger;
 
 /// A board, drawn on act by act, that can go back: it holds the acts that an undo or a redo may
-/// still need, with a savepoint before each 64th.
+/// still need, with a savepoint for each point in reach, and the last one.
 #[derive(Drop)]
 pub struct Rollback<B: Board> {
     board: B,
     table: StrokeTable,
+    depth: usize,
     base: usize,
     kept: Vec<KeptAct<B::Op>>,
-    saves: Vec<B>,
+    last: Arc<B>,
+    saves: Vec<Save<B>>,
     alloc: Global,
 }
 
 impl<B: Board> Model for Rollback<B> {
-    ghost use Rattle.std.specs.Prelude.{◌-◌, min};
+    ghost use Rattle.std.specs.Prelude.{◌≡◌, ◌-◌, min};
     ghost use Rattle.std.specs.Vec.{vec_len, vec_capacity};
-    ghost use Rattle.dp_board.specs.Table.{oldest_in};
-    ghost use Rattle.dp_rollback.specs.Rollback.{Rolled, IsSpaced};
+    ghost use Rattle.dp_rollback.specs.Rollback.{Rolled, IsSpaced, points_of};
 
     ghost Value = { Rolled B B.Op };
 
@@ -56,12 +63,13 @@ impl<B: Board> Model for Rollback<B> {
       table = r.table;
       base = r.base;
       kept = r.kept.items;
+      last = r.last.value;
       saves = r.saves.items;
       spare = min (vec_capacity r.kept - vec_len r.kept) (vec_capacity r.saves - vec_len r.saves);
     } };
 
-    ghost invariant = { λ r.
-        IsSpaced r.table.position (oldest_in r.table) r.base (vec_len r.kept) (vec_len r.saves) };
+    ghost invariant = { λ r. (r.depth ≡ r.table.window.depth)
+        × IsSpaced r.table r.base (vec_len r.kept) (points_of r.saves.items) };
 }
 
 /// An equal act.
@@ -93,8 +101,10 @@ fn change_by_draw(drawn: bool) -> Change
 }
 
 /// The mark of an act, where it moves a group.
+#[tactic(auto, using(crate::proofs::RunLemmas::moved_is_eligible))]
 pub fn mark_of<Op>(table: &StrokeTable, act: &UserAct<Op>) -> Option<Mark>
     ensures value { result ≡ mark_in table.now act.now }
+    ensures among { IfSome result (λ mark. is_eligible table.now.window mark.group ≡ true) }
     ensures reach { IfSome result (λ mark. oldest_in table.now ≤ mark.group) }
     ensures before { IfSome result (λ mark. mark.group < table.now.position) }
 {
@@ -106,12 +116,12 @@ pub fn mark_of<Op>(table: &StrokeTable, act: &UserAct<Op>) -> Option<Mark>
     })
 }
 
-/// What is drawn for an act: the board, the savepoints after those that stay, and how many stay.
+/// What is drawn for an act: the board and the savepoints.
 #[derive(Drop)]
 struct Drawn<B> {
     board: B,
-    saves: Vec<B>,
-    stays: usize,
+    last: Arc<B>,
+    saves: Vec<Save<B>>,
 }
 
 impl<B: Board> Rollback<B> {
@@ -129,14 +139,15 @@ impl<B: Board> Rollback<B> {
     {
         tables_follow::<B::Op>();
         let table = StrokeTable::new(alloc, depth)?;
-        let mut saves = Vec::new(alloc);
-        saves.push(blank.share(draws, tiles)?)?;
+        let last = Arc::new(alloc, blank.share(draws, tiles)?)?;
         Ok(Rollback {
             board: blank,
             table,
+            depth: depth as usize,
             base: 0,
             kept: Vec::new(alloc),
-            saves,
+            last,
+            saves: Vec::new(alloc),
             alloc,
         })
     }
@@ -158,6 +169,16 @@ impl<B: Board> Rollback<B> {
     {
         let _ = &self.base;
         self.kept.len()
+    }
+
+    /// How many boards are held as savepoints at most: one for each point in reach, and the last.
+    /// Points without 64 acts between them share one.
+    pub fn saves(&self) -> usize
+        ensures value { result ≡ length self.now.saves + 1 }
+        ensures few { result ≤ length self.now.table.window.points + 2 }
+    {
+        let _ = &self.base;
+        self.saves.len() + 1
     }
 
     /// Adds an act to those that the board stands for.
@@ -212,12 +233,8 @@ impl<B: Board> Rollback<B> {
         ensures known { IsKnown self.old act }
         ensures added { IfOk result (λ change. HasAdded B.drawn self.old act change self.new) }
         ensures err { OnErr result (self.new ≡ self.old) }
-        ensures draws_rise { draws.old ≤ draws.new }
-        ensures few_draws { draws.new ≤ draws.old
-            + length (due_in self.old act.act (mark_in self.old.table act)) }
-        ensures tiles_rise { tiles.old ≤ tiles.new }
-        ensures few_tiles { tiles.new ≤ tiles.old
-            + sum_by B.weight (due_in self.old act.act (mark_in self.old.table act)) }
+        ensures counts { CountsFew B.weight (due_in self.old act.act (mark_in self.old.table act))
+            draws.old draws.new tiles.old tiles.new }
     {
         if self.is_plain(&act) {
             return self.draw_here(act, draws, tiles);
@@ -231,7 +248,7 @@ impl<B: Board> Rollback<B> {
     /// Whether an act that comes next moves no group, and no savepoint falls due after it.
     fn is_plain(&self, act: &UserAct<B::Op>) -> bool
         ensures unmoved { IsTrue result → mark_in self.now.table act.now ≡ None }
-        ensures unsaved { IsTrue result → (length self.now.kept + 1) % 64 ≢ 0 }
+        ensures unsaved { IsTrue result → (self.now.table.position + 1) % 64 ≢ 0 }
         ensures order { IsInOrder self.now }
     {
         let _ = &self.base;
@@ -251,26 +268,26 @@ impl<B: Board> Rollback<B> {
     ) -> Result<Change, AllocError>
         requires room { 1 ≤ self.old.spare }
         requires unmoved { mark_in self.old.table act ≡ None }
-        requires unsaved { (length self.old.kept + 1) % 64 ≢ 0 }
+        requires unsaved { (self.old.table.position + 1) % 64 ≢ 0 }
         ensures sender { act.user < 256 }
         ensures known { concerned act < 256 }
         ensures added { IfOk result (λ change. HasAdded B.drawn self.old act change self.new) }
         ensures err { OnErr result (self.new ≡ self.old) }
-        ensures draws_rise { draws.old ≤ draws.new }
-        ensures few_draws { draws.new ≤ draws.old + length (command_of act.act true) }
-        ensures tiles_rise { tiles.old ≤ tiles.new }
-        ensures few_tiles { tiles.new ≤ tiles.old + sum_by B.weight (command_of act.act true) }
+        ensures counts { CountsFew B.weight (command_of act.act true) draws.old draws.new tiles.old
+            tiles.new }
     {
         let join = self.table.join_of(&act);
-        let strokes = self.table.next(self.alloc, &act)?;
         let drawn = is_draw(&act.act);
+        let save = save_of(self.table.position(), &self.last, &act.act)?;
+        let strokes = self.table.next(self.alloc, &act)?;
         draw_act(&mut self.board, &act.act, true, draws, tiles)?;
+        let depth = depth_after(self.depth, &act.act);
+        self.depth = depth;
+        put_save(&mut self.saves, save, depth);
         self.table.put(strokes);
         self.kept.push_reserved(KeptAct { act, join, drawn });
-        let gone = (self.table.oldest() - self.base) / SPACING;
-        drop_first(&mut self.kept, SPACING * gone);
-        drop_first(&mut self.saves, gone);
-        self.base += SPACING * gone;
+        let first = save_place(self.table.oldest());
+        let_go(&mut self.base, &mut self.kept, first);
         Ok(change_by_draw(drawn))
     }
 
@@ -326,28 +343,22 @@ impl<B: Board> Rollback<B> {
     ) -> Result<Ready<B>, AllocError>
         ensures known { IsKnown self.now act }
         ensures next { IfOk result (IsNext B.drawn self.now act) }
-        ensures draws_rise { draws.old ≤ draws.new }
-        ensures few_draws { draws.new ≤ draws.old
-            + length (due_in self.now act.act (mark_in self.now.table act)) }
-        ensures tiles_rise { tiles.old ≤ tiles.new }
-        ensures few_tiles { tiles.new ≤ tiles.old
-            + sum_by B.weight (due_in self.now act.act (mark_in self.now.table act)) }
+        ensures counts { CountsFew B.weight (due_in self.now act.act (mark_in self.now.table act))
+            draws.old draws.new tiles.old tiles.new }
     {
         let join = self.table.join_of(&act);
         let mark = mark_of(&self.table, &act);
         let strokes = self.table.next(self.alloc, &act)?;
         let drawn = is_draw(&act.act);
-        let Drawn {
-            board,
-            saves,
-            stays,
-        } = self.drawn(&act.act, mark, draws, tiles)?;
+        let depth = depth_after(self.depth, &act.act);
+        let Drawn { board, last, saves } = self.drawn(&act.act, mark, draws, tiles)?;
         Ok(Ready {
             act: KeptAct { act, join, drawn },
             mark,
-            stays,
             strokes,
+            depth,
             board,
+            last,
             saves,
         })
     }
@@ -381,33 +392,32 @@ impl<B: Board> Rollback<B> {
         draws: &mut Steps<D>,
         tiles: &mut Steps<T>,
     ) -> Result<Drawn<B>, AllocError>
-        requires reach { ForSome mark (λ mark. self.now.base ≤ mark.group) }
+        requires among { ForSome mark
+            (λ mark. is_eligible self.now.table.window mark.group ≡ true) }
+        requires reach { ForSome mark (λ mark. oldest_in self.now.table ≤ mark.group) }
         requires before { ForSome mark (λ mark. mark.group < self.now.table.position) }
         ensures made { IfOk result (λ drawn. IsMade B.drawn self.now act.now mark
-            drawn.board drawn.saves.items drawn.stays) }
-        ensures draws_rise { draws.old ≤ draws.new }
-        ensures few_draws { draws.new ≤ draws.old + length (due_in self.now act.now mark) }
-        ensures tiles_rise { tiles.old ≤ tiles.new }
-        ensures few_tiles { tiles.new
-            ≤ tiles.old + sum_by B.weight (due_in self.now act.now mark) }
+            drawn.board drawn.last.value drawn.saves.items) }
+        ensures counts { CountsFew B.weight (due_in self.now act.now mark) draws.old draws.new
+            tiles.old tiles.new }
     {
         let Drawn {
             board,
+            last,
             mut saves,
-            stays,
         } = match mark {
             None => self.drawn_last(act, draws, tiles)?,
             Some(mark) => self.redrawn(mark, draws, tiles)?,
         };
-        if (self.kept.len() + 1) % SPACING == 0 {
-            let save = board.share(draws, tiles)?;
-            saves.push(save)?;
-        }
-        Ok(Drawn {
-            board,
-            saves,
-            stays,
-        })
+        let save = save_of(self.table.position(), &last, act)?;
+        saves.reserve(1)?;
+        put_save(&mut saves, save, depth_after(self.depth, act));
+        let last = if (self.kept.len() + 1) % SPACING == 0 {
+            Arc::new(self.alloc, board.share(draws, tiles)?)?
+        } else {
+            last
+        };
+        Ok(Drawn { board, last, saves })
     }
 
     /// The board with the command of an act, where it is one.
@@ -418,48 +428,57 @@ impl<B: Board> Rollback<B> {
         tiles: &mut Steps<T>,
     ) -> Result<Drawn<B>, AllocError>
         ensures made { IfOk result (λ drawn. IsDrawnLast B.drawn self.now act.now
-            drawn.board drawn.saves.items drawn.stays) }
-        ensures draws_rise { draws.old ≤ draws.new }
-        ensures few_draws { draws.new ≤ draws.old + length (command_of act.now true) }
-        ensures tiles_rise { tiles.old ≤ tiles.new }
-        ensures few_tiles { tiles.new ≤ tiles.old + sum_by B.weight (command_of act.now true) }
+            drawn.board drawn.last.value drawn.saves.items) }
+        ensures counts { CountsFew B.weight (command_of act.now true) draws.old draws.new tiles.old
+            tiles.new }
     {
         let mut board = self.board.share(draws, tiles)?;
         draw_act(&mut board, act, true, draws, tiles)?;
         Ok(Drawn {
             board,
-            saves: Vec::new(self.alloc),
-            stays: self.saves.len(),
+            last: self.last.clone()?,
+            saves: copy_saves(self.alloc, &self.saves)?,
         })
     }
 
-    /// The board drawn anew from the last savepoint at or before the group of the mark.
+    /// The board drawn anew from the savepoint of the group of the mark.
     fn redrawn<D: Ledger, T: Ledger>(
         &self,
         mark: Mark,
         draws: &mut Steps<D>,
         tiles: &mut Steps<T>,
     ) -> Result<Drawn<B>, AllocError>
-        requires reach { self.now.base ≤ mark.group }
+        requires among { is_eligible self.now.table.window mark.group ≡ true }
+        requires reach { oldest_in self.now.table ≤ mark.group }
         requires before { mark.group < self.now.table.position }
         ensures made { IfOk result (λ drawn. IsRedrawn B.drawn self.now mark
-            drawn.board drawn.saves.items drawn.stays) }
-        ensures draws_rise { draws.old ≤ draws.new }
-        ensures few_draws { draws.new ≤ draws.old
-            + length (commands_among (kept_from self.now (save_before self.now mark))) }
-        ensures tiles_rise { tiles.old ≤ tiles.new }
-        ensures few_tiles { tiles.new ≤ tiles.old + sum_by B.weight
-            (commands_among (kept_from self.now (save_before self.now mark))) }
+            drawn.board drawn.last.value drawn.saves.items) }
+        ensures counts { CountsFew B.weight (commands_among (kept_from self.now mark)) draws.old
+            draws.new tiles.old tiles.new }
     {
-        let place = (mark.group - self.base) / SPACING;
-        let mut board = self.saves[place].share(draws, tiles)?;
-        let kept = &self.kept[SPACING * place..];
-        let saves = redraw(self.alloc, &mut board, kept, mark, draws, tiles)?;
-        Ok(Drawn {
-            board,
-            saves,
-            stays: place + 1,
-        })
+        let Some(from) = save_at(&self.saves, mark.group) else {
+            unreachable!()
+        };
+        let start = save_place(mark.group);
+        let run = Run {
+            start,
+            at: start,
+            board: from.board.share(draws, tiles)?,
+            save: from.board.clone()?,
+        };
+        let kept = &self.kept[start - self.base..];
+        let position = self.table.position();
+        let (board, last, saves) = run.finish(
+            self.alloc,
+            kept,
+            mark,
+            position,
+            &self.last,
+            &self.saves,
+            draws,
+            tiles,
+        )?;
+        Ok(Drawn { board, last, saves })
     }
 
     /// Adds the act that was made ready. It takes no memory.
@@ -481,19 +500,20 @@ impl<B: Board> Rollback<B> {
         let Ready {
             act,
             mark,
-            stays,
             strokes,
+            depth,
             board,
+            last,
             saves,
         } = ready;
         add_act(&mut self.kept, mark, act);
-        replace_last(&mut self.saves, stays, saves);
         self.table.put(strokes);
+        self.depth = depth;
         self.board = board;
-        let needless = (self.table.oldest() - self.base) / SPACING;
-        drop_first(&mut self.kept, SPACING * needless);
-        drop_first(&mut self.saves, needless);
-        self.base += SPACING * needless;
+        self.last = last;
+        self.saves = saves;
+        let first = save_place(self.table.oldest());
+        let_go(&mut self.base, &mut self.kept, first);
     }
 
     /// How many more acts there is room for.

@@ -1,6 +1,6 @@
 //! Lists that grow in room that was made before, and lists without their first elements.
 
-ghost use Rattle.std.specs.Prelude.{◌≡◌, ◌+◌, ◌<◌, ◌≤◌, ◌∷◌, ◌++◌, [], take, drop};
+ghost use Rattle.std.specs.Prelude.{◌≡◌, ◌+◌, ◌-◌, ◌<◌, ◌≤◌, ◌∷◌, ◌++◌, [], drop};
 ghost use Rattle.std.specs.Vec.{vec_len, vec_capacity};
 ghost use Rattle.dp_rollback.specs.Kept.{marked_all};
 
@@ -15,15 +15,17 @@ pub(crate) fn drop_first<T: Drop>(items: &mut Vec<T>, count: usize)
     items.drain(..count);
 }
 
-/// The first `count` elements, and more after them. It takes no memory.
-pub(crate) fn replace_last<T: Drop>(items: &mut Vec<T>, count: usize, mut more: Vec<T>)
-    requires within { count ≤ vec_len items.old }
-    requires room { count + vec_len more ≤ vec_capacity items.old }
-    ensures items { items.new.items ≡ take count items.old.items ++ more.items }
-    ensures len { vec_len items.new ≡ count + vec_len more }
+/// Lets go of the acts before the position `first`, where they are held from `base` on.
+pub(crate) fn let_go<Op: Drop>(base: &mut usize, kept: &mut Vec<KeptAct<Op>>, first: usize)
+    requires later { base.old ≤ first }
+    requires within { first ≤ base.old + vec_len kept.old }
+    ensures base { base.new ≡ base.old + (first - base.old) }
+    ensures items { kept.new.items ≡ drop (first - base.old) kept.old.items }
+    ensures len { base.new + vec_len kept.new ≡ base.old + vec_len kept.old }
 {
-    items.truncate(count);
-    let _room = items.append(&mut more);
+    let count = first - *base;
+    drop_first(kept, count);
+    *base += count;
 }
 
 /// Gives the acts of a group that moves their new flag, and adds an act. It takes no memory.

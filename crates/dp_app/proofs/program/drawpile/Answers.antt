@@ -1,7 +1,7 @@
+use Rattle.dp_app.proofs.Answering.{read-rose, told, unfailed, write-rose}
 use Rattle.dp_app.proofs.Ends.{complete, ends-of, exact, headline-of, joins-of, lacks}
 use Rattle.dp_app.proofs.Ends.{link-fault, no-link, nothing-kept, other-words, serves-of, to-end}
-use Rattle.dp_app.proofs.Ends.{fault-told, read-fault, uncounted, untouched, usage, wires-stay}
-use Rattle.dp_app.proofs.Ends.{write-fault}
+use Rattle.dp_app.proofs.Ends.{counted, untouched, usage, wires-stay}
 use Rattle.dp_app.proofs.program.drawpile.Goals as goal
 
 pub returns-clause-other_words : goal.returns-clause-other_words
@@ -90,21 +90,17 @@ returns-clause-to_end g c =
     c.local_commands_are_runs.ensures _ c.run_words-ending.ensures.ends c.say-status.ensures.says
 
 pub returns-clause-fault_told : goal.returns-clause-fault_told
-returns-clause-fault_told g c =
-    λ command. fault-told _ c.args.words.now _ _ _ _ _ _ _
-    c.run_words-ending.ensures.ends c.say-status.ensures.says
+returns-clause-fault_told g c = λ command. told _ _ _ _ _ _ _ _ _ _
+    (counted _ c.args.words.now _ _ c.run_words-ending.ensures.ends) c.say-status.ensures.says
 
 pub returns-clause-unfailed : goal.returns-clause-unfailed
-returns-clause-unfailed g c =
-    λ command. uncounted _ c.args.words.now _ _ _ _ _ _ _
-    c.run_words-ending.ensures.ends c.say-status.ensures.says
+returns-clause-unfailed g c = λ command. unfailed _ _ _ _ _ _ _ _ _ _
+    (counted _ c.args.words.now _ _ c.run_words-ending.ensures.ends) c.say-status.ensures.says
 
 pub returns-clause-read_fault : goal.returns-clause-read_fault
-returns-clause-read_fault g c =
-    read-fault _ c.args.words.now _ _ _ _ _ _ _
-    c.run_words-ending.ensures.ends c.say-status.ensures.says
+returns-clause-read_fault g c = read-rose _ _ _ _ _ _ _ _ _ _
+    (counted _ c.args.words.now _ _ c.run_words-ending.ensures.ends) c.say-status.ensures.says
 
 pub returns-clause-write_fault : goal.returns-clause-write_fault
-returns-clause-write_fault g c =
-    write-fault _ c.args.words.now _ _ _ _ _ _ _
-    c.run_words-ending.ensures.ends c.say-status.ensures.says
+returns-clause-write_fault g c = write-rose _ _ _ _ _ _ _ _ _ _
+    (counted _ c.args.words.now _ _ c.run_words-ending.ensures.ends) c.say-status.ensures.says

@@ -18,13 +18,13 @@ loop-next-preserved g c =
     record {
       board = board-next g.B.Board.drawn c.args.board.now c.loop-next.board c.draw_act.new.board
           kept i k c.loop-next-test.true c.next-item.is drew.board was.board;
-      draws_rise = omega (arith, was.draws_rise, drew.draws_rise);
+      draws_rise = omega (arith, was.draws_rise, drew.counts.draws_rise);
       few_draws = omega (
         arith,
         was.few_draws,
-        drew.few_draws,
+        drew.counts.few_draws,
         ap length left,
         length-append own rest,
       );
-      tiles_rise = omega (arith, was.tiles_rise, drew.tiles_rise);
+      tiles_rise = omega (arith, was.tiles_rise, drew.counts.tiles_rise);
     }

@@ -1,5 +1,5 @@
-use Rattle.std.proofs.Common.{◌+◌, ◌≤◌, length, subst, sym}
-use Rattle.std.specs.Prelude.{sum_by}
+use Rattle.std.proofs.Common.{subst, sym}
+use Rattle.dp_board.specs.Counts.{CountsFew}
 use Rattle.dp_rollback.specs.Moves.{due_in}
 use Rattle.dp_rollback.proofs.ReadyLemmas.{IsKnown-unmoved}
 use Rattle.dp_rollback.proofs.StandLemmas.{FitsOn-made}
@@ -10,17 +10,11 @@ returns-then-is_plain-clause-known g c =
     IsKnown-unmoved c.args.self.now c.args.act c.draw_here.ensures.sender c.draw_here.ensures.known
     c.is_plain.ensures.order (c.is_plain.ensures.unmoved c.if-is_plain.true)
 
-pub returns-then-is_plain-clause-few_draws : goal.returns-then-is_plain-clause-few_draws
-returns-then-is_plain-clause-few_draws g c =
-    subst (λ m. c.draw_here.new.draws
-    ≤ c.args.draws.now + length (due_in c.args.self.now c.args.act.act m))
-    (sym (c.is_plain.ensures.unmoved c.if-is_plain.true)) c.draw_here.ensures.few_draws
-
-pub returns-then-is_plain-clause-few_tiles : goal.returns-then-is_plain-clause-few_tiles
-returns-then-is_plain-clause-few_tiles g c =
-    subst (λ m. c.draw_here.new.tiles
-    ≤ c.args.tiles.now + sum_by g.B.Board.weight (due_in c.args.self.now c.args.act.act m))
-    (sym (c.is_plain.ensures.unmoved c.if-is_plain.true)) c.draw_here.ensures.few_tiles
+pub returns-then-is_plain-clause-counts : goal.returns-then-is_plain-clause-counts
+returns-then-is_plain-clause-counts g c =
+    subst (λ m. CountsFew g.B.Board.weight (due_in c.args.self.now c.args.act.act m)
+    c.args.draws.now c.draw_here.new.draws c.args.tiles.now c.draw_here.new.tiles)
+    (sym (c.is_plain.ensures.unmoved c.if-is_plain.true)) c.draw_here.ensures.counts
 
 pub settle-requires : goal.settle-requires
 settle-requires g c =

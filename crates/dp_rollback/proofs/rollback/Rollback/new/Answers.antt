@@ -1,5 +1,8 @@
-use Rattle.std.proofs.Common.{◌∷◌, ◌++◌, [], ap, ◌∙◌, arith, refl, min, ◌≡◌}
-use Rattle.std.specs.List.{fold}
+use Rattle.std.proofs.Common.{[], ap, ◌∙◌, arith, refl, min, ◌≡◌, ◌<◌, sym, subst}
+use Rattle.std.proofs.Common.{length}
+use Rattle.std.specs.List.{fold, All}
+use Rattle.std.proofs.lemmas.List.Elements.{All-nil}
+use Rattle.dp_rollback.specs.Rollback.{points_of}
 use Rattle.dp_rollback.proofs.StandLemmas.{StandsFor-new}
 use Rattle.dp_rollback.proofs.rollback.Rollback.new.Goals as goal
 
@@ -10,25 +13,23 @@ invariant_of-result g c =
     let start : table.position ≡ 0 = ap (λ s. s.position) none in
     let points : table.window.points ≡ [] = ap (λ s. s.window.points) none in
     let oldest : fold min table.position table.window.points ≡ table.position =
-    ap (fold min table.position) points in
-    record {
-      up_to_end = omega (arith, start, c.new-2.ensures.len);
-      saved = omega (
-        arith,
-        c.new-2.ensures.len,
-        c.in_ok-push.ensures.len,
-        c.new-saves.ensures.len,
-      );
-      enough = omega arith;
-      few = omega (arith, start, oldest);
-    }
+    ap (fold min table.position) points in (
+      sym (ap (λ s. s.window.depth) none),
+      record {
+        up_to_end = omega (arith, start, c.new-3.ensures.len);
+        begins = omega (arith, start, oldest);
+        saved = record {
+          same = ap points_of c.new-4.ensures.items ∙ sym points;
+          rising = λ i j d le within. absurd (omega (arith, ap length points, within));
+          before = subst (All (λ point. point < table.position)) (sym points)
+              (All-nil (λ point. point < table.position));
+        };
+      },
+    )
 
 pub returns-clause-stands : goal.returns-clause-stands
 returns-clause-stands g c =
-    let saved : c.push.new.self.items ≡ c.args.blank ∷ [] =
-    c.in_ok-push.ensures.items
-    ∙ ap (λ xs. xs ++ c.in_ok-share.field-0 ∷ []) c.new-saves.ensures.items
-    ∙ ap (λ b. b ∷ []) c.in_ok-share.ensures.same in
     StandsFor-new g.B.Board.drawn c.args.blank c.args.depth _
     (c.tables_follow.ensures.first c.args.depth c.in_ok-table.table c.in_ok-table.ensures.count
-    c.in_ok-table.ensures.empty) refl c.new-2.ensures.items refl saved
+    c.in_ok-table.ensures.empty) refl c.new-3.ensures.items refl
+    (c.in_ok-last.ensures.ok ∙ c.in_ok-share.ensures.same) c.new-4.ensures.items

@@ -28,7 +28,7 @@ pub returns-clause-few_draws : goal.returns-clause-few_draws
 returns-clause-few_draws g c = λ blank depth acts st.
     omega (
       arith,
-      c.made.ensures.few_draws,
+      c.made.ensures.counts.few_draws,
       (ready-due c.stroke_laws.ensures g.B.Board.drawn
           c.args.self.now c.make_room.new.self c.args.user c.in_ok-copy_act.field-0 c.args.act.now
           g.B.Board.weight c.in_ok-make_room.ensures.same c.in_ok-copy_act.ensures
@@ -39,7 +39,7 @@ pub returns-clause-few_tiles : goal.returns-clause-few_tiles
 returns-clause-few_tiles g c = λ blank depth acts st.
     omega (
       arith,
-      c.made.ensures.few_tiles,
+      c.made.ensures.counts.few_tiles,
       (ready-due c.stroke_laws.ensures g.B.Board.drawn
           c.args.self.now c.make_room.new.self c.args.user c.in_ok-copy_act.field-0 c.args.act.now
           g.B.Board.weight c.in_ok-make_room.ensures.same c.in_ok-copy_act.ensures

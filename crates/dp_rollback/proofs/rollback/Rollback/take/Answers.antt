@@ -1,6 +1,6 @@
 use Rattle.std.proofs.Common.{arith}
 use Rattle.std.proofs.lemmas.Result.{IfOk-weaker}
-use Rattle.dp_rollback.proofs.ReadyLemmas.{act_by, added-stands, added-change, ready-due}
+use Rattle.dp_rollback.proofs.ReadyLemmas.{added-stands, added-change, ready-due}
 use Rattle.dp_rollback.proofs.rollback.Rollback.take.Goals as goal
 
 pub returns-clause-stands : goal.returns-clause-stands
@@ -21,7 +21,7 @@ pub returns-clause-few_draws : goal.returns-clause-few_draws
 returns-clause-few_draws g c = λ blank depth acts st.
     omega (
       arith,
-      c.add.ensures.few_draws,
+      c.add.ensures.counts.few_draws,
       (ready-due c.stroke_laws.ensures g.B.Board.drawn
           c.args.self.now c.make_room.new.self c.args.user c.in_ok-copy_act.field-0 c.args.act.now
           g.B.Board.weight c.in_ok-make_room.ensures.same c.in_ok-copy_act.ensures
@@ -32,7 +32,7 @@ pub returns-clause-few_tiles : goal.returns-clause-few_tiles
 returns-clause-few_tiles g c = λ blank depth acts st.
     omega (
       arith,
-      c.add.ensures.few_tiles,
+      c.add.ensures.counts.few_tiles,
       (ready-due c.stroke_laws.ensures g.B.Board.drawn
           c.args.self.now c.make_room.new.self c.args.user c.in_ok-copy_act.field-0 c.args.act.now
           g.B.Board.weight c.in_ok-make_room.ensures.same c.in_ok-copy_act.ensures

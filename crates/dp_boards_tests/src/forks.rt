@@ -1,0 +1,285 @@
+//! Forks of a row of numbers beside the plain rule.
+
+ghost use Rattle.std.specs.Prelude.{◌≡◌, ◌<◌};
+
+use dp_board::{Act, Change, NumberBoard, SetNumber, UserAct, drawn_flags};
+use dp_fork::{Fork, Own};
+use dp_rollback::Rollback;
+use dp_steps::Steps;
+use std::alloc::{AllocError, Global};
+use std::collections::VecDeque;
+use std::marker::Brand;
+use std::process::Abort;
+use std::sync::ledger::{Blank, Ledger};
+
+/// How many numbers the row has.
+const NUMBERS: usize = 8;
+
+/// The context id of the painter whose fork it is.
+const SELF: u8 = 1;
+
+/// What a script's word does: whose the act is, what it does, and its digit and place.
+#[derive(Clone, Copy)]
+struct Word {
+    user: u8,
+    kind: u8,
+    digit: u8,
+    place: usize,
+}
+
+impl Word {
+    /// The act: P a point, D a command that sets the number at the digit, U an undo and R a redo of
+    /// the user's own groups, O another.
+    fn act(self) -> Act<SetNumber> {
+        match self.kind {
+            b'P' => Act::Point,
+            b'D' => Act::Draw(SetNumber {
+                place: usize::from(self.digit % 8),
+                value: (self.place as u64).saturating_add(1),
+            }),
+            b'U' => Act::Undo { who: self.user },
+            b'R' => Act::Redo { who: self.user },
+            _ => Act::Other,
+        }
+    }
+}
+
+/// A client: the confirmed board, the fork, the acts that were taken, and the words that were said
+/// and aren't answered.
+#[derive(Drop)]
+struct Painter {
+    confirmed: Rollback<NumberBoard>,
+    fork: Fork<NumberBoard>,
+    taken: Vec<UserAct<SetNumber>>,
+    said: VecDeque<Word>,
+}
+
+/// Sets a number, where there is one.
+fn set(numbers: &mut [u64; NUMBERS], op: &SetNumber) {
+    if op.place < NUMBERS {
+        numbers[op.place] = op.value;
+    }
+}
+
+/// The numbers by the plain rule: the commands of the acts taken that are drawn, and then those of
+/// the words said.
+fn wanted(rt: &impl Abort, alloc: Global, painter: &Painter) -> [u64; NUMBERS] {
+    let mut numbers = [0; NUMBERS];
+    let flags = drawn_flags(alloc, 30, &painter.taken).expect(rt, "memory");
+    for (act, drawn) in painter.taken.iter().zip(flags.as_slice()) {
+        if let Act::Draw(op) = &act.act
+            && *drawn
+        {
+            set(&mut numbers, op);
+        }
+    }
+    numbers
+}
+
+/// The numbers with the commands of the words said.
+fn with_said(mut numbers: [u64; NUMBERS], said: &VecDeque<Word>) -> [u64; NUMBERS] {
+    for word in said {
+        if let Act::Draw(op) = word.act() {
+            set(&mut numbers, &op);
+        }
+    }
+    numbers
+}
+
+/// The numbers of a board.
+fn numbers_of(rt: &impl Abort, board: &NumberBoard) -> [u64; NUMBERS] {
+    let mut numbers = [0; NUMBERS];
+    for place in 0..NUMBERS {
+        numbers[place] = board.get(place).expect(rt, "a number");
+    }
+    numbers
+}
+
+/// Says a word, and once more where memory was refused.
+fn say<D: Ledger, T: Ledger>(
+    painter: &mut Painter,
+    word: Word,
+    draws: &mut Steps<D>,
+    tiles: &mut Steps<T>,
+) -> Result<(), AllocError> {
+    let board = painter.confirmed.board();
+    match painter.fork.say(board, word.act(), draws, tiles) {
+        Ok(()) => Ok(()),
+        Err(_) => painter.fork.say(board, word.act(), draws, tiles),
+    }
+}
+
+/// Goes on with the confirmed board, and once more where memory was refused.
+fn take<D: Ledger, T: Ledger>(
+    painter: &mut Painter,
+    word: Word,
+    draws: &mut Steps<D>,
+    tiles: &mut Steps<T>,
+) -> Result<Change, AllocError> {
+    match painter.confirmed.take(word.user, &word.act(), draws, tiles) {
+        Ok(change) => Ok(change),
+        Err(_) => painter.confirmed.take(word.user, &word.act(), draws, tiles),
+    }
+}
+
+/// Goes on with the fork, and once more where memory was refused. Where it is quiet, by its call
+/// that takes no memory, if that is asked.
+fn answer<D: Ledger, T: Ledger>(
+    painter: &mut Painter,
+    (word, own, change): (Word, Own, Change),
+    by_answer: bool,
+    draws: &mut Steps<D>,
+    tiles: &mut Steps<T>,
+) -> Result<(), AllocError> {
+    let act = word.act();
+    if by_answer && painter.fork.is_quiet(&act, own) {
+        painter.fork.answer(own);
+        return Ok(());
+    }
+    let board = painter.confirmed.board();
+    match painter.fork.settle(board, &act, change, own, draws, tiles) {
+        Ok(()) => Ok(()),
+        Err(_) => painter.fork.settle(board, &act, change, own, draws, tiles),
+    }
+}
+
+/// Takes a word that was sent, as this to the fork.
+fn receive<D: Ledger, T: Ledger>(
+    rt: &impl Abort,
+    painter: &mut Painter,
+    (word, own): (Word, Own),
+    by_answer: bool,
+    draws: &mut Steps<D>,
+    tiles: &mut Steps<T>,
+) {
+    let change = take(painter, word, draws, tiles).expect(rt, "memory");
+    let answered = answer(painter, (word, own, change), by_answer, draws, tiles);
+    answered.expect(rt, "memory");
+    let act = UserAct {
+        user: word.user,
+        act: word.act(),
+    };
+    painter.taken.push(act).expect(rt, "memory");
+    match own {
+        Own::Stranger => {}
+        Own::Echo | Own::Dropped => {
+            let _answered = painter.said.pop_front();
+        }
+        Own::Lost => painter.said.clear(),
+    }
+}
+
+/// A step by a word of three letters: what comes (s is said, t a stranger's, e an echo, d stands in
+/// place of the first that was said, l has all lost), what it does, and a digit.
+fn step<D: Ledger, T: Ledger>(
+    rt: &impl Abort,
+    painter: &mut Painter,
+    (letters, place): (&str, usize),
+    by_answer: bool,
+    draws: &mut Steps<D>,
+    tiles: &mut Steps<T>,
+) {
+    let [how, kind, digit] = letters.as_bytes() else {
+        panic!(rt; "{letters} has not three letters");
+    };
+    let (how, kind, digit) = (*how, *kind, *digit);
+    let own_word = Word {
+        user: SELF,
+        kind,
+        digit,
+        place,
+    };
+    let other = Word {
+        user: 2,
+        kind,
+        digit,
+        place,
+    };
+    match how {
+        b's' => {
+            say(painter, own_word, draws, tiles).expect(rt, "memory");
+            painter.said.push_back(own_word).expect(rt, "memory");
+        }
+        b'e' => {
+            let first = painter.said.front().copied().expect(rt, "a word said");
+            receive(rt, painter, (first, Own::Echo), by_answer, draws, tiles);
+        }
+        b'd' => receive(rt, painter, (other, Own::Dropped), by_answer, draws, tiles),
+        b'l' => receive(rt, painter, (other, Own::Lost), by_answer, draws, tiles),
+        _ => receive(rt, painter, (other, Own::Stranger), by_answer, draws, tiles),
+    }
+}
+
+/// Runs a script, and compares what is seen with the plain rule after each word.
+fn check_script<D: Ledger, T: Ledger>(
+    rt: &impl Abort,
+    alloc: Global,
+    (script, by_answer): (&str, bool),
+    draws: &mut Steps<D>,
+    tiles: &mut Steps<T>,
+) {
+    let blank = NumberBoard::new(alloc, NUMBERS).expect(rt, "memory");
+    let confirmed = Rollback::new(alloc, blank, 30, draws, tiles).expect(rt, "memory");
+    let mut painter = Painter {
+        confirmed,
+        fork: Fork::new(alloc),
+        taken: Vec::new(alloc),
+        said: VecDeque::new(alloc),
+    };
+    for (place, letters) in script.split_whitespace().enumerate() {
+        step(rt, &mut painter, (letters, place), by_answer, draws, tiles);
+        assert_eq!(rt;
+            painter.fork.pending_len(),
+            painter.said.len(),
+            "{letters} in {script}"
+        );
+        let view = painter.fork.view(painter.confirmed.board());
+        let numbers = with_said(wanted(rt, alloc, &painter), &painter.said);
+        assert!(rt;
+            numbers_of(rt, view) == numbers,
+            "after {letters} in {script}"
+        );
+    }
+}
+
+/// Scripts: echoes, strangers that meet the fork or don't, undo on both sides, words that were not
+/// permitted, and a fork that is lost.
+static SCRIPTS: [&str; 12] = [
+    "",
+    "sD1 eD1",
+    "sP0 sD1 tD2 eP0 eD1",
+    "sP0 sD1 tD1 eP0 eD1",
+    "sD1 sD1 sD2 eD1 tD1 eD1 tD2 eD2",
+    "tP0 tD1 tD2 sD1 tU0 eD1 tR0",
+    "sP0 sD3 eP0 eD3 sU0 tD3 eU0 sR0 tD4 eR0",
+    "sP0 sD3 sU0 eP0 eD3 eU0 sR0 eR0",
+    "sD1 sD2 dO0 eD2",
+    "sD1 sD2 dD2 eD2 sO0 sD4 dO0 tD4",
+    "sD1 sD2 sP0 lO0 tD1 sD1 eD1",
+    "tP0 tD1 sD2 sD1 lD1 tU0 sD3 tR0 eD3",
+];
+
+/// Runs each script both ways, with counters over these blanks.
+fn check_all<D: Ledger, T: Ledger>(
+    rt: &impl Abort,
+    alloc: Global,
+    draw_blank: Blank,
+    tile_blank: Blank,
+)
+    requires draws { (draw_blank.name ≡ D.name) × (draw_blank.parts ≡ D.parts)
+        × (0 < draw_blank.parts) }
+    requires tiles { (tile_blank.name ≡ T.name) × (tile_blank.parts ≡ T.parts)
+        × (0 < tile_blank.parts) }
+{
+    let mut draws = Steps::<D>::new(draw_blank);
+    let mut tiles = Steps::<T>::new(tile_blank);
+    for script in &SCRIPTS {
+        check_script(rt, alloc, (*script, false), &mut draws, &mut tiles);
+        check_script(rt, alloc, (*script, true), &mut draws, &mut tiles);
+    }
+}
+
+#[test]
+fn scripts_of_two_painters(rt: HostRuntime) {
+    check_all::<Brand, Brand>(&rt, rt.alloc(), Blank::new(1), Blank::new(1));
+}

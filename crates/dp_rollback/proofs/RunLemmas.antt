@@ -1,0 +1,266 @@
+-- A board that is drawn anew, from a savepoint on.
+use Rattle.std.proofs.Common.{◌≡◌, ℕ, ◌+◌, ◌-◌, ◌<◌, ◌≤◌, Bool, true, false, List, [], ◌∷◌, ◌++◌}
+use Rattle.std.proofs.Common.{length, take, drop, map, get_or, ap, sym, ◌∙◌, arith, refl, subst}
+use Rattle.std.proofs.Common.{length-append, Some}
+use Rattle.std.specs.Prelude.{if◌then◌else◌, nat_lt, sum_by, slice_range, Option, unwrap_or}
+use Rattle.std.specs.Prelude.{◌%◌, ◌==◌, ◌≢◌}
+use Rattle.std.specs.Option.{option_to_list}
+use Rattle.std.specs.List.{fold, Contains}
+use Rattle.std.proofs.lemmas.Bool.{ltb-true, ne_eqb}
+use Rattle.std.proofs.lemmas.List.{take-append-drop, drop-drop, drop-map, take_more, map-append}
+use Rattle.std.proofs.lemmas.List.{take-map, length-map, take_all, length-drop}
+use Rattle.std.proofs.lemmas.List.Concat.{flat_map-append}
+use Rattle.std.proofs.lemmas.List.Sums.{sum_by-append}
+use Rattle.dp_board.specs.Commands.{command_of}
+use Rattle.dp_board.specs.Counts.{CountsFew}
+use Rattle.dp_board.specs.declared.act.Act.{Act}
+use Rattle.dp_board.specs.declared.act.UserAct.{UserAct}
+use Rattle.dp_board.specs.Laws.{depth_in}
+use Rattle.dp_board.specs.Strokes.{last_few, concerned, is_eligible}
+use Rattle.dp_board.specs.Table.{Table, moved_in, strokes_of}
+use Rattle.dp_board.proofs.StepLemmas.{moved-is}
+use Rattle.dp_rollback.specs.declared.kept.KeptAct.{KeptAct}
+use Rattle.dp_rollback.specs.declared.kept.Mark.{Mark}
+use Rattle.dp_rollback.specs.Kept.{marked, drawn_among, commands_among}
+use Rattle.dp_rollback.specs.Rollback.{PointSave, Rolled, save_place}
+use Rattle.dp_rollback.specs.Moves.{IsRedrawn, kept_from, last_after, save_of, saves_after}
+use Rattle.dp_rollback.specs.Runs.{Running, IsRun, IsFinished, LeavesFew, run_to, saved_anew}
+use Rattle.dp_rollback.specs.Runs.{save_anew}
+use Rattle.dp_rollback.proofs.StandLemmas.{fold-drawn, take-more}
+
+-- it goes on to a later place
+pub IsRun-more : {B Op : Type 0} → (draw : B → Op → B) (kept : List (KeptAct Op)) (mark : Mark)
+    (old new : Running B) → old.start ≤ old.at → old.at ≤ new.at → new.start ≡ old.start
+    → new.at - old.start ≤ length kept
+    → new.board ≡ fold draw old.board (drawn_among (map (marked mark)
+    (slice_range kept (old.at - old.start) (new.at - old.start)))) → new.save ≡ new.board
+    → (from : B) → IsRun draw (map (marked mark) kept) from old
+    → IsRun draw (map (marked mark) kept) from new
+IsRun-more draw kept mark old new begun later start inside made saved from is =
+    let all = map (marked mark) kept in
+    let a : ℕ = old.at - old.start in
+    let n : ℕ = new.at - old.start - (old.at - old.start) in
+    let at : a + n ≡ new.at - new.start = omega (arith, begun, later, start) in
+    let part : map (marked mark) (take n (drop a kept)) ≡ take n (drop a all) =
+    sym (take-map (marked mark) n (drop a kept))
+    ∙ ap (take n) (sym (drop-map (marked mark) a kept)) in
+    record {
+      begun = omega (arith, begun, later, start);
+      within = omega (arith, inside, start, length-map kept (marked mark));
+      board = made
+          ∙ ap (λ xs. fold draw old.board (drawn_among xs)) part
+          ∙ ap (λ b. fold draw b (drawn_among (take n (drop a all)))) is.board
+          ∙ sym (fold-drawn draw from (take a all) (take n (drop a all)))
+          ∙ ap (λ xs. fold draw from (drawn_among xs)) (take-more a n all)
+          ∙ ap (λ m. fold draw from (drawn_among (take m all))) at;
+      save = saved;
+    }
+
+-- what is left to draw at a place is what is drawn up to a later one, and what is left there
+pub left-split : {Op : Type 0} → (kept : List (KeptAct Op)) (a b : ℕ) → a ≤ b
+    → commands_among (drop a kept)
+    ≡ commands_among (slice_range kept a b) ++ commands_among (drop b kept)
+left-split kept a b le =
+    let n : ℕ = b - a in
+    let at : a + n ≡ b = omega (arith, le) in
+    sym (ap commands_among (take-append-drop n (drop a kept)))
+    ∙ flat_map-append (λ k. command_of k.act.act true) (take n (drop a kept))
+    (drop n (drop a kept))
+    ∙ ap (λ xs. commands_among (take n (drop a kept)) ++ commands_among xs)
+    (drop-drop n a kept ∙ ap (λ m. drop m kept) at)
+
+-- a part of them is drawn
+pub LeavesFew-more : {Op : Type 0} → (weight : Op → ℕ) (kept : List (KeptAct Op))
+    (a b draws draws' tiles tiles' : ℕ) → a ≤ b
+    → draws' ≤ draws + length (commands_among (slice_range kept a b))
+    → tiles' ≤ tiles + sum_by weight (commands_among (slice_range kept a b))
+    → LeavesFew weight kept a b draws draws' tiles tiles'
+LeavesFew-more weight kept a b draws draws' tiles tiles' le few few_tiles =
+    let split = left-split kept a b le in
+    let part = commands_among (slice_range kept a b) in
+    let rest = commands_among (drop b kept) in
+    record {
+      few_draws = omega (arith, few, ap length split, length-append part rest);
+      few_tiles = omega (
+        arith,
+        few_tiles,
+        ap (sum_by weight) split,
+        sum_by-append weight part rest,
+      );
+    }
+
+-- the part is no more than what was left
+pub part-few : {Op : Type 0} → (weight : Op → ℕ) (kept : List (KeptAct Op)) (a b : ℕ) → a ≤ b
+    → (length (commands_among (slice_range kept a b)) ≤ length (commands_among (drop a kept)))
+    × (sum_by weight (commands_among (slice_range kept a b))
+    ≤ sum_by weight (commands_among (drop a kept)))
+part-few weight kept a b le =
+    let split = left-split kept a b le in
+    let part = commands_among (slice_range kept a b) in
+    let rest = commands_among (drop b kept) in (
+      omega (arith, ap length split, length-append part rest),
+      omega (arith, ap (sum_by weight) split, sum_by-append weight part rest),
+    )
+
+-- what is drawn of that part was left
+pub CountsFew-part : {Op : Type 0} → (weight : Op → ℕ) (kept : List (KeptAct Op)) (a b : ℕ)
+    (draws draws' draws'' tiles tiles' tiles'' : ℕ) → a ≤ b
+    → CountsFew weight (commands_among (slice_range kept a b)) draws draws' tiles tiles'
+    → draws'' ≡ draws' → tiles'' ≡ tiles'
+    → CountsFew weight (commands_among (drop a kept)) draws draws'' tiles tiles''
+CountsFew-part weight kept a b draws draws' draws'' tiles tiles' tiles'' le counts same same_tiles =
+    let few = part-few weight kept a b le in
+    record {
+      draws_rise = omega (arith, counts.draws_rise, same);
+      few_draws = omega (arith, counts.few_draws, same, few.0);
+      tiles_rise = omega (arith, counts.tiles_rise, same_tiles);
+      few_tiles = omega (arith, counts.few_tiles, same_tiles, few.1);
+    }
+
+-- the savepoint of a position, where it has come to that
+pub saved-run : {B Op : Type 0} → (draw : B → Op → B) (kept : List (KeptAct Op)) (from old : B)
+    (run : Running B) (n : ℕ) → IsRun draw kept from run
+    → (run.start < save_place n → run.at ≡ save_place n)
+    → (if nat_lt run.start (save_place n) then run.save else old)
+    ≡ saved_anew draw kept run.start from n old
+saved-run draw kept from old run n is at = by_test (nat_lt run.start (save_place n)) refl
+  where
+    by_test : (b : Bool) → nat_lt run.start (save_place n) ≡ b
+        → (if nat_lt run.start (save_place n) then run.save else old)
+        ≡ saved_anew draw kept run.start from n old
+    by_test true later =
+        ap (λ b. if b then run.save else old) later
+        ∙ is.save ∙ is.board
+        ∙ ap (λ m. fold draw from (drawn_among (take (m - run.start) kept)))
+        (at (ltb-true run.start (save_place n) later))
+        ∙ sym (ap (λ b. if b then run_to draw kept run.start from n else old) later)
+    by_test false later =
+        ap (λ b. if b then run.save else old) later
+        ∙ sym (ap (λ b. if b then run_to draw kept run.start from n else old) later)
+
+-- one more savepoint
+pub saves-more : {B Op : Type 0} → (draw : B → Op → B) (kept : List (KeptAct Op)) (start : ℕ)
+    (from : B) (olds news : List (PointSave B)) (i : ℕ) (old : PointSave B) (board : B)
+    → i < length olds → old ≡ get_or olds i old
+    → news ≡ map (save_anew draw kept start from) (take i olds)
+    → board ≡ saved_anew draw kept start from old.point old.board
+    → news ++ (record { point = old.point; board = board }) ∷ []
+    ≡ map (save_anew draw kept start from) (take (i + 1) olds)
+saves-more draw kept start from olds news i old board within is so_far made =
+    let f = save_anew draw kept start from in
+    ap (λ xs. xs ++ (record { point = old.point; board = board }) ∷ []) so_far
+    ∙ ap (λ b. map f (take i olds) ++ (record { point = old.point; board = b }) ∷ []) made
+    ∙ ap (λ s. map f (take i olds) ++ f s ∷ []) is
+    ∙ sym (map-append f (take i olds) (get_or olds i old ∷ []))
+    ∙ ap (map f) (sym (take_more olds i old within))
+
+-- with the acts that are left, all are drawn
+pub run-rest : {B Op : Type 0} → (draw : B → Op → B) (kept : List (KeptAct Op)) (mark : Mark)
+    (from : B) (run : Running B) → IsRun draw (map (marked mark) kept) from run
+    → fold draw run.board (drawn_among (map (marked mark) (drop (run.at - run.start) kept)))
+    ≡ fold draw from (drawn_among (map (marked mark) kept))
+run-rest draw kept mark from run is =
+    let all = map (marked mark) kept in
+    let a : ℕ = run.at - run.start in
+    ap (λ xs. fold draw run.board (drawn_among xs)) (sym (drop-map (marked mark) a kept))
+    ∙ ap (λ b. fold draw b (drawn_among (drop a all))) is.board
+    ∙ sym (fold-drawn draw from (take a all) (drop a all))
+    ∙ ap (λ xs. fold draw from (drawn_among xs)) (take-append-drop a all)
+
+-- a slice from a place on is the list without the elements before it
+pub slice-from : {A : Type 0} → (xs ys : List A) (a b : ℕ) → xs ≡ ys → a ≡ b
+    → take (length xs - a) (drop a xs) ≡ drop b ys
+slice-from xs ys a b same at =
+    take_all (length xs - a) (drop a xs) (omega (arith, length-drop a xs))
+    ∙ ap (drop a) same ∙ ap (λ n. drop n ys) at
+
+-- at its start it has drawn nothing
+pub IsRun-begins : {B Op : Type 0} → (draw : B → Op → B) (kept : List (KeptAct Op)) (from : B)
+    (run : Running B) → run.at ≡ run.start → run.board ≡ from → run.save ≡ from
+    → IsRun draw kept from run
+IsRun-begins draw kept from run begun board save =
+    let none : 0 ≡ run.at - run.start = omega (arith, begun) in
+    record {
+      begun = omega (arith, begun);
+      within = omega (arith, begun);
+      board = board ∙ ap (λ n. fold draw from (drawn_among (take n kept))) none;
+      save = save ∙ sym board;
+    }
+
+-- all drawn anew from the savepoint of the group on
+pub IsRedrawn-run : {B Op : Type 0} → (draw : B → Op → B) (r : Rolled B Op) (mark : Mark)
+    (kept : List (KeptAct Op)) (save : PointSave B) (start position : ℕ) (old_last : B)
+    (old_saves : List (PointSave B)) (board last : B) (saves : List (PointSave B))
+    → kept ≡ kept_from r mark → start ≡ save_place mark.group → position ≡ r.table.position
+    → old_last ≡ r.last → old_saves ≡ r.saves → Contains r.saves save → save.point ≡ mark.group
+    → IsFinished draw (map (marked mark) kept) save.board start position old_last old_saves board
+    last saves
+    → IsRedrawn draw r mark board last saves
+IsRedrawn-run draw r mark kept save start position old_last old_saves board last saves kept_is
+    start_is position_is last_is saves_are begun point finished =
+    let from = save.board in
+    record {
+      from = from;
+      begun = subst (λ p. Contains r.saves (record { point = p; board = from })) point begun;
+      finished =
+          subst (λ xs. IsFinished draw (map (marked mark) xs) from (save_place mark.group)
+          r.table.position r.last r.saves board last saves) kept_is
+          (subst (λ n. IsFinished draw (map (marked mark) kept) from n r.table.position r.last
+          r.saves board last saves) start_is
+          (subst (λ n. IsFinished draw (map (marked mark) kept) from start n r.last r.saves board
+          last saves) position_is
+          (subst (λ b. IsFinished draw (map (marked mark) kept) from start position b r.saves board
+          last saves) last_is
+          (subst (λ xs. IsFinished draw (map (marked mark) kept) from start position old_last xs
+          board last saves) saves_are finished))));
+    }
+
+-- the counters were as they are at the entry before the acts from the savepoint on were drawn
+pub CountsFew-from : {B Op : Type 0} → (weight : Op → ℕ) (r : Rolled B Op) (mark : Mark)
+    (kept : List (KeptAct Op)) (draws draws' draws'' tiles tiles' tiles'' : ℕ)
+    → kept ≡ kept_from r mark → draws' ≡ draws → tiles' ≡ tiles
+    → CountsFew weight (commands_among kept) draws' draws'' tiles' tiles''
+    → CountsFew weight (commands_among (kept_from r mark)) draws draws'' tiles tiles''
+CountsFew-from weight r mark kept draws draws' draws'' tiles tiles' tiles'' kept_is same same_tiles
+    counts =
+    subst (λ xs. CountsFew weight (commands_among xs) draws draws'' tiles tiles'') kept_is
+    (subst (λ n. CountsFew weight (commands_among kept) n draws'' tiles tiles'') same
+    (subst (λ n. CountsFew weight (commands_among kept) draws' draws'' n tiles'') same_tiles
+    counts))
+
+-- a savepoint falls due by the count of the acts that are kept
+pub due-by-kept : (position base kept oldest : ℕ) → position ≡ base + kept
+    → base ≡ save_place oldest → (position + 1) % 64 ≡ (kept + 1) % 64
+due-by-kept position base kept oldest up_to_end begins = omega (arith, up_to_end, begins)
+
+-- the last savepoint, where one falls due
+pub last-due : {B : Type 0} → (count : ℕ) (board last : B) → count % 64 ≡ 0
+    → board ≡ last_after count board last
+last-due count board last due = sym (ap (λ n. if n == 0 then board else last) due)
+
+-- the last savepoint, where none falls due
+pub last-stays : {B : Type 0} → (count : ℕ) (board last : B) → count % 64 ≢ 0
+    → last ≡ last_after count board last
+last-stays count board last stays =
+    sym (ap (λ b. if b then board else last) (ne_eqb (count % 64) 0 stays))
+
+-- the savepoints after an act, where those of the last Points are kept
+pub saves-made : {B Op : Type 0} → (table : Table) (act : Act Op) (last : B)
+    (old room new : List (PointSave B)) (save : Option (PointSave B)) (depth window position : ℕ)
+    → new ≡ last_few depth (room ++ option_to_list save)
+    → depth ≡ unwrap_or (depth_in act) window → window ≡ table.window.depth → room ≡ old
+    → option_to_list save ≡ save_of position last act → position ≡ table.position
+    → new ≡ saves_after table last act old
+saves-made table act last old room new save depth window position new_is depth_is window_is room_is
+    save_is position_is =
+    let few : ℕ = unwrap_or (depth_in act) table.window.depth in
+    new_is
+    ∙ ap (λ n. last_few n (room ++ option_to_list save))
+    (depth_is ∙ ap (unwrap_or (depth_in act)) window_is)
+    ∙ ap (λ xs. last_few few (xs ++ option_to_list save)) room_is
+    ∙ ap (λ xs. last_few few (old ++ xs)) (save_is ∙ ap (λ n. save_of n last act) position_is)
+
+-- the group that an act moves is in reach
+pub moved_is_eligible : {Op : Type 0} → (table : Table) (a : UserAct Op) (group : ℕ)
+    → moved_in table a ≡ Some group → is_eligible table.window group ≡ true
+moved_is_eligible table a group is = (moved-is (strokes_of table (concerned a)) a.act group is).0
