@@ -7,7 +7,7 @@ work=$(mktemp -d)
 trap 'rm -rf "$work"' EXIT
 git -C "$top" archive HEAD | tar -x -C "$work"
 mkdir -p "$work/crates/feeds/src"
-printf 'feeds: dp_epochs dp_events dp_frame dp_hall dp_io dp_keeper dp_link dp_session dp_wire\n' >>"$work/crates.txt"
+printf 'feeds: dp_epochs dp_epochs dp_frame dp_hall dp_io dp_keeper dp_link dp_session dp_wire\n' >>"$work/crates.txt"
 cd "$work/crates/feeds"
 cat >src/main.rt <<'RT'
 //! Times the feed of a link.
@@ -19,7 +19,7 @@ ghost use Rattle.dp_hall.specs.Laws.{Continues};
 ghost use Rattle.dp_epochs.specs.Laws.{ShutBefore};
 ghost use Rattle.dp_link.specs.Acts.{Act};
 
-use dp_events::{Event, Reply};
+use dp_epochs::{Event, Reply};
 use dp_frame::Splitter;
 use dp_hall::{Hall, HallError, Seat, calls_add_up, seats_come_back};
 use dp_io::{MemSink, MemSource};

@@ -1,8 +1,8 @@
 -- The ways in which the program ends, and what becomes of its streams, wires and logs.
 use Rattle.std.specs.Prelude.{◌≡◌, ℕ, List, [], Option}
 use Rattle.std.specs.Io.KnownBytes.{Keeps}
-use Rattle.dp_events.specs.declared.event.Event.{Event}
-use Rattle.dp_events.specs.declared.event.ShutAt.{ShutAt}
+use Rattle.dp_epochs.specs.declared.event.Event.{Event}
+use Rattle.dp_epochs.specs.declared.event.ShutAt.{ShutAt}
 use Rattle.dp_serve.specs.Serving.{Seen}
 use Rattle.dp_wire.specs.Links.{Links}
 use Rattle.dp_worker.specs.declared.report.LinkReport.{LinkReport}

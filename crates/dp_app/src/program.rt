@@ -25,7 +25,7 @@ ghost use Rattle.dp_app.specs.Servers.{HasServed};
 use crate::diagnostics::say;
 use crate::laws::local_commands_are_runs;
 use crate::running::{Ran, run_words};
-use dp_events::{Journal, Shut};
+use dp_epochs::{Journal, Shut};
 use dp_io::{Sink, Source};
 use dp_joining::one_outcome;
 use dp_serve::Reports;

@@ -11,7 +11,7 @@ ghost use Rattle.dp_app.specs.Runs.{run_of};
 
 use crate::ending::Ending;
 use crate::server::run_server;
-use dp_events::{Journal, Shut};
+use dp_epochs::{Journal, Shut};
 use dp_io::{Sink, Source};
 use dp_joining::run_join;
 use dp_lines::RunEnd;

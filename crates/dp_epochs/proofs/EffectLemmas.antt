@@ -17,16 +17,16 @@ use Rattle.dp_acl.specs.Permitted.{permitted}
 use Rattle.dp_acl.specs.Opening.{opening}
 use Rattle.dp_lists.specs.Numbered.{numbered}
 use Rattle.dp_lists.proofs.Numbered.{number-found, numbered-other, numbered-same, numbered-old}
-use Rattle.dp_events.specs.declared.connection.Connection.{Connection}
-use Rattle.dp_events.specs.declared.connection.Ending.TheVariants as ending
-use Rattle.dp_events.specs.declared.decision.Decision.{Decision}
-use Rattle.dp_events.specs.declared.decision.Decision.TheVariants as decision
-use Rattle.dp_events.specs.declared.event.Event.{Event}
-use Rattle.dp_events.specs.declared.event.Event.TheVariants as event
-use Rattle.dp_events.specs.declared.event.Reply.{Reply}
-use Rattle.dp_events.specs.declared.event.Reply.TheVariants as reply
+use Rattle.dp_epochs.specs.declared.connection.Connection.{Connection}
+use Rattle.dp_epochs.specs.declared.connection.Ending.TheVariants as ending
+use Rattle.dp_epochs.specs.declared.decision.Decision.{Decision}
+use Rattle.dp_epochs.specs.declared.decision.Decision.TheVariants as decision
+use Rattle.dp_epochs.specs.declared.event.Event.{Event}
+use Rattle.dp_epochs.specs.declared.event.Event.TheVariants as event
+use Rattle.dp_epochs.specs.declared.event.Reply.{Reply}
+use Rattle.dp_epochs.specs.declared.event.Reply.TheVariants as reply
 use Rattle.dp_epochs.specs.State.{State, acted, stays, noted, after_event, epoch_of, here, entry_of}
-use Rattle.dp_events.specs.Connections.{is_open}
+use Rattle.dp_epochs.specs.Connections.{is_open}
 use Rattle.dp_epochs.specs.State.{history_of, connection_of, open_connection, where_open}
 use Rattle.dp_epochs.specs.State.{has_acknowledged, is_name, free_id, opened_as, owner_on_join}
 use Rattle.dp_epochs.specs.State.{new_connection, left, next_owner, owner_on_leave, closed_by}

@@ -9,16 +9,16 @@ use Rattle.dp_messages.specs.declared.message.Msg.TheVariants as msg
 use Rattle.dp_messages.specs.declared.message.Entry.{Entry}
 use Rattle.dp_acl.specs.Rights.{is_operator}
 use Rattle.dp_acl.specs.Permitted.{permitted}
-use Rattle.dp_events.specs.declared.connection.Connection.{Connection}
-use Rattle.dp_events.specs.declared.connection.Ending.TheVariants as ending
-use Rattle.dp_events.specs.declared.decision.Decision.{Decision}
-use Rattle.dp_events.specs.declared.decision.Decision.TheVariants as decision
-use Rattle.dp_events.specs.declared.event.Event.{Event}
-use Rattle.dp_events.specs.declared.event.Event.TheVariants as event
-use Rattle.dp_events.specs.declared.event.Reply.{Reply}
-use Rattle.dp_events.specs.declared.event.Reply.TheVariants as reply
+use Rattle.dp_epochs.specs.declared.connection.Connection.{Connection}
+use Rattle.dp_epochs.specs.declared.connection.Ending.TheVariants as ending
+use Rattle.dp_epochs.specs.declared.decision.Decision.{Decision}
+use Rattle.dp_epochs.specs.declared.decision.Decision.TheVariants as decision
+use Rattle.dp_epochs.specs.declared.event.Event.{Event}
+use Rattle.dp_epochs.specs.declared.event.Event.TheVariants as event
+use Rattle.dp_epochs.specs.declared.event.Reply.{Reply}
+use Rattle.dp_epochs.specs.declared.event.Reply.TheVariants as reply
 use Rattle.dp_epochs.specs.State.{State, Stream, Acted, epoch_of, here, entry_of, filtered_entry}
-use Rattle.dp_events.specs.Connections.{is_open}
+use Rattle.dp_epochs.specs.Connections.{is_open}
 use Rattle.dp_epochs.specs.State.{connection_of, open_connection, has_acknowledged}
 use Rattle.dp_epochs.specs.State.{is_name, free_id, new_connection, next_owner, owner_on_join}
 use Rattle.dp_epochs.specs.State.{left, owner_on_leave, stream_without, decided, acted}

@@ -1,3 +1,5 @@
+pub mod Connections
+pub mod Rows
 pub mod State
 pub mod Effects
 pub mod Past

@@ -7,12 +7,12 @@ use Rattle.std.specs.declared.alloc.AllocError.{AllocError}
 use Rattle.dp_io.specs.Faults.{Rose}
 use Rattle.dp_keeper.specs.declared.row.Row.{Row}
 use Rattle.dp_keeper.specs.Store.{with_row}
-use Rattle.dp_events.specs.declared.event.Event.{Event}
-use Rattle.dp_events.specs.declared.event.Event.TheVariants as event
-use Rattle.dp_events.specs.declared.event.Reply.{Reply}
-use Rattle.dp_events.specs.declared.event.Reply.TheVariants.{Ended, StoreFault}
-use Rattle.dp_events.specs.declared.event.ShutAt.{ShutAt}
-use Rattle.dp_events.specs.Rows.{row_of, has_room}
+use Rattle.dp_epochs.specs.declared.event.Event.{Event}
+use Rattle.dp_epochs.specs.declared.event.Event.TheVariants as event
+use Rattle.dp_epochs.specs.declared.event.Reply.{Reply}
+use Rattle.dp_epochs.specs.declared.event.Reply.TheVariants.{Ended, StoreFault}
+use Rattle.dp_epochs.specs.declared.event.ShutAt.{ShutAt}
+use Rattle.dp_epochs.specs.Rows.{row_of, has_room}
 use Rattle.dp_epochs.specs.State.{State, first_state, acted, after_event, after_shut}
 use Rattle.dp_epochs.specs.State.{connection_of}
 

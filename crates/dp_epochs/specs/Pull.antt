@@ -3,14 +3,14 @@ use Rattle.std.specs.Prelude.{ℕ, ◌+◌, ◌==◌, max, nat_lt, if◌then◌e
 use Rattle.std.specs.Prelude.{List, take, drop}
 use Rattle.std.specs.List.{list_any}
 use Rattle.dp_messages.specs.declared.message.Entry.{Entry}
-use Rattle.dp_events.specs.declared.connection.Place.{Place}
-use Rattle.dp_events.specs.declared.connection.Ending.{Ending}
-use Rattle.dp_events.specs.declared.connection.Ending.TheVariants as ending
-use Rattle.dp_events.specs.declared.connection.Connection.{Connection}
-use Rattle.dp_events.specs.declared.event.Query.{Query}
-use Rattle.dp_events.specs.declared.event.Query.TheVariants.{Pull}
-use Rattle.dp_events.specs.declared.event.Answer.{Answer}
-use Rattle.dp_events.specs.declared.event.Answer.TheVariants.{Entries, Gone}
+use Rattle.dp_epochs.specs.declared.connection.Place.{Place}
+use Rattle.dp_epochs.specs.declared.connection.Ending.{Ending}
+use Rattle.dp_epochs.specs.declared.connection.Ending.TheVariants as ending
+use Rattle.dp_epochs.specs.declared.connection.Connection.{Connection}
+use Rattle.dp_epochs.specs.declared.event.Query.{Query}
+use Rattle.dp_epochs.specs.declared.event.Query.TheVariants.{Pull}
+use Rattle.dp_epochs.specs.declared.event.Answer.{Answer}
+use Rattle.dp_epochs.specs.declared.event.Answer.TheVariants.{Entries, Gone}
 use Rattle.dp_epochs.specs.State.{State, epoch_of, connection_of}
 use Rattle.dp_epochs.specs.Past.{Past, state_of}
 

@@ -17,16 +17,16 @@ use Rattle.dp_messages.specs.Messages.{kind_of, payload_of}
 use Rattle.dp_lists.specs.Numbered.{numbered}
 use Rattle.dp_acl.specs.Rights.{is_operator}
 use Rattle.dp_acl.specs.Permitted.{permitted}
-use Rattle.dp_events.specs.declared.event.Event.{Event}
-use Rattle.dp_events.specs.declared.event.Event.TheVariants as event
-use Rattle.dp_events.specs.declared.event.Reply.{Reply}
-use Rattle.dp_events.specs.declared.event.Reply.TheVariants as reply
-use Rattle.dp_events.specs.declared.connection.Place.{Place}
-use Rattle.dp_events.specs.declared.connection.Ending.TheVariants as ending
-use Rattle.dp_events.specs.declared.connection.Connection.{Connection}
-use Rattle.dp_events.specs.Connections.{is_open}
-use Rattle.dp_events.specs.declared.decision.Decision.{Decision}
-use Rattle.dp_events.specs.declared.decision.Decision.TheVariants as decision
+use Rattle.dp_epochs.specs.declared.event.Event.{Event}
+use Rattle.dp_epochs.specs.declared.event.Event.TheVariants as event
+use Rattle.dp_epochs.specs.declared.event.Reply.{Reply}
+use Rattle.dp_epochs.specs.declared.event.Reply.TheVariants as reply
+use Rattle.dp_epochs.specs.declared.connection.Place.{Place}
+use Rattle.dp_epochs.specs.declared.connection.Ending.TheVariants as ending
+use Rattle.dp_epochs.specs.declared.connection.Connection.{Connection}
+use Rattle.dp_epochs.specs.Connections.{is_open}
+use Rattle.dp_epochs.specs.declared.decision.Decision.{Decision}
+use Rattle.dp_epochs.specs.declared.decision.Decision.TheVariants as decision
 use Rattle.dp_acl.specs.Opening.{server_entry, part_limit, opening}
 
 -- A reset that is being sent: the connection that sends it, the commands so far, and the place of

@@ -14,7 +14,7 @@ use Rattle.dp_messages.specs.declared.message.Entry.{Entry}
 use Rattle.dp_acl.specs.Laws.{CommandsChangeNoRight}
 use Rattle.dp_acl.specs.Opening.{opening, command_entry, last_join, server_entry}
 use Rattle.dp_acl.specs.Table.{StandsFor}
-use Rattle.dp_events.specs.declared.event.Event.{Event}
+use Rattle.dp_epochs.specs.declared.event.Event.{Event}
 use Rattle.dp_history.specs.declared.opening.Opening.{Opening}
 use Rattle.dp_epochs.specs.State.{stays, here, entry_of, is_name, user_ids}
 use Rattle.dp_history.specs.Users.{mark}

@@ -9,8 +9,8 @@ use Rattle.dp_msg_meta.specs.declared.message.Meta.TheVariants.{Join}
 use Rattle.dp_messages.specs.declared.message.Msg.{Msg}
 use Rattle.dp_messages.specs.declared.message.Msg.TheVariants as msg
 use Rattle.dp_messages.specs.declared.message.Entry.{Entry}
-use Rattle.dp_events.specs.declared.event.Event.{Event}
-use Rattle.dp_events.specs.declared.event.Event.TheVariants.{Open, Say}
+use Rattle.dp_epochs.specs.declared.event.Event.{Event}
+use Rattle.dp_epochs.specs.declared.event.Event.TheVariants.{Open, Say}
 use Rattle.dp_history.specs.declared.item.HistoryItem.{HistoryItem}
 use Rattle.dp_history.specs.declared.item.HistoryItem.TheVariants.{Said, Joined, Command}
 use Rattle.dp_history.specs.declared.item.HistoryItem.TheVariants.{Server}

@@ -2,7 +2,7 @@
 use Rattle.std.specs.Prelude.{◌≡◌, List, map, All}
 use Rattle.dp_messages.specs.declared.message.Entry.{Entry}
 use Rattle.dp_acl.specs.Table.{StandsFor}
-use Rattle.dp_events.specs.declared.event.Event.{Event}
+use Rattle.dp_epochs.specs.declared.event.Event.{Event}
 use Rattle.dp_history.specs.declared.opening.Opening.{Opening}
 use Rattle.dp_history.specs.Items.{entry_in, IsIn}
 

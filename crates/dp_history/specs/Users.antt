@@ -3,7 +3,7 @@ use Rattle.std.specs.Prelude.{◌≡◌, ℕ, ◌-◌, ◌≤◌, ◌&&◌, Bool
 use Rattle.std.specs.Prelude.{None, Some, is_some, List, slice_get, slice_index_or, not}
 use Rattle.std.specs.List.{find, list_any}
 use Rattle.dp_messages.specs.declared.message.Entry.{Entry}
-use Rattle.dp_events.specs.declared.event.Event.{Event}
+use Rattle.dp_epochs.specs.declared.event.Event.{Event}
 use Rattle.dp_acl.specs.Opening.{last_join}
 use Rattle.dp_epochs.specs.State.{user_ids}
 use Rattle.dp_history.specs.Items.{join_of}

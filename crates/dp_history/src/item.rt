@@ -10,7 +10,7 @@ ghost use Rattle.dp_history.specs.Frames.{AreFramesOf, AreWritten};
 ghost use Rattle.dp_history.specs.Items.{entry_in, IsIn, IsSay, join_of, message_of, part_of};
 
 use crate::log::FrameLog;
-use dp_events::{Entries, Event};
+use dp_epochs::{Entries, Event};
 use dp_messages::{Entry, Msg, put_entry};
 use dp_msg_meta::{Meta, Text};
 use std::alloc::{AllocError, Global};

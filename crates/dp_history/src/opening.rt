@@ -5,7 +5,7 @@ ghost use Rattle.std.specs.Prelude.{All};
 ghost use Rattle.std.specs.Prelude.{IfOk, OnOk, slice_get, slice_index_or};
 ghost use Rattle.std.specs.List.{filter, filter_map};
 ghost use Rattle.dp_messages.specs.declared.message.Entry.{Entry as Piece};
-ghost use Rattle.dp_events.specs.declared.event.Event.{Event as Kept};
+ghost use Rattle.dp_epochs.specs.declared.event.Event.{Event as Kept};
 ghost use Rattle.dp_acl.specs.Opening.{server_entry, command_entry, last_join};
 ghost use Rattle.dp_epochs.specs.State.{user_ids};
 ghost use Rattle.dp_history.specs.Users.{mark, AreJoined};
@@ -14,7 +14,7 @@ ghost use Rattle.dp_history.specs.Openings.{Holds};
 
 use crate::item::{HistoryItem, entry};
 use dp_acl::{Rights, commands_change_no_right};
-use dp_events::Event;
+use dp_epochs::Event;
 use dp_messages::{Entry, Msg};
 use dp_msg_meta::Meta;
 use std::alloc::{AllocError, Global};

@@ -18,7 +18,7 @@ use Rattle.dp_messages.specs.declared.message.Msg.{Msg}
 use Rattle.dp_messages.specs.declared.message.Entry.{Entry}
 use Rattle.dp_messages.specs.Messages.{Spells}
 use Rattle.dp_messages.specs.Properties.{is_disconnect}
-use Rattle.dp_events.specs.declared.event.Event.TheVariants.{Say, Close}
+use Rattle.dp_epochs.specs.declared.event.Event.TheVariants.{Say, Close}
 use Rattle.dp_link.specs.declared.ends.UpEnd.{UpEnd}
 use Rattle.dp_link.specs.declared.ends.UpEnd.TheVariants as up
 use Rattle.dp_link.specs.declared.pieces.PieceEnd.TheVariants as piece

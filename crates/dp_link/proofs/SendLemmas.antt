@@ -10,9 +10,9 @@ use Rattle.dp_hall.specs.Logs.{IsLegal, left_by}
 use Rattle.dp_hall.specs.Names.{IsIn}
 use Rattle.dp_hall.specs.Calls.{IsSound}
 use Rattle.dp_hall.specs.Laws.{Continues}
-use Rattle.dp_events.specs.declared.event.Query.TheVariants.{Pull}
-use Rattle.dp_events.specs.declared.event.Answer.TheVariants.{Entries, Gone}
-use Rattle.dp_events.specs.declared.event.Answer.{Answer}
+use Rattle.dp_epochs.specs.declared.event.Query.TheVariants.{Pull}
+use Rattle.dp_epochs.specs.declared.event.Answer.TheVariants.{Entries, Gone}
+use Rattle.dp_epochs.specs.declared.event.Answer.{Answer}
 use Rattle.dp_epochs.specs.State.{State}
 use Rattle.dp_epochs.specs.Past.{Past, Step, state_of}
 use Rattle.dp_epochs.specs.Pull.{answered}

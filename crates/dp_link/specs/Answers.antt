@@ -3,8 +3,8 @@ use Rattle.std.specs.Prelude.{ℕ, Option, None, Some, ⊤}
 use Rattle.dp_messages.specs.declared.message.Entry.{Entry}
 use Rattle.dp_messages.specs.declared.message.Msg.TheVariants as msg
 use Rattle.dp_msg_meta.specs.declared.message.Control.TheVariants.{Welcome, Disconnect}
-use Rattle.dp_events.specs.declared.event.Reply.{Reply}
-use Rattle.dp_events.specs.declared.event.Reply.TheVariants as reply
+use Rattle.dp_epochs.specs.declared.event.Reply.{Reply}
+use Rattle.dp_epochs.specs.declared.event.Reply.TheVariants as reply
 use Rattle.dp_link.specs.declared.ends.Greeting.{Greeting}
 
 -- the Welcome of a greeting

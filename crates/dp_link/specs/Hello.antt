@@ -13,8 +13,8 @@ use Rattle.dp_messages.specs.Messages.{entry_bytes}
 use Rattle.dp_messages.specs.declared.message.Msg.{Msg}
 use Rattle.dp_messages.specs.declared.message.Msg.TheVariants as msg
 use Rattle.dp_msg_meta.specs.declared.message.Control.TheVariants.{Hello}
-use Rattle.dp_events.specs.declared.event.Event.TheVariants.{Open, Close}
-use Rattle.dp_events.specs.declared.event.Reply.{Reply}
+use Rattle.dp_epochs.specs.declared.event.Event.TheVariants.{Open, Close}
+use Rattle.dp_epochs.specs.declared.event.Reply.{Reply}
 use Rattle.dp_link.specs.declared.ends.Greeting.{Greeting}
 use Rattle.dp_link.specs.declared.ends.GreetEnd.{GreetEnd}
 use Rattle.dp_link.specs.declared.ends.GreetEnd.TheVariants as greet

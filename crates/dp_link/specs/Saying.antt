@@ -10,9 +10,9 @@ use Rattle.dp_hall.specs.Laws.{Continues}
 use Rattle.dp_messages.specs.declared.message.Msg.{Msg}
 use Rattle.dp_messages.specs.Messages.{Spells}
 use Rattle.dp_messages.specs.Properties.{is_disconnect}
-use Rattle.dp_events.specs.declared.event.Event.TheVariants.{Say, Close}
-use Rattle.dp_events.specs.declared.event.Reply.{Reply}
-use Rattle.dp_events.specs.declared.event.Reply.TheVariants as reply
+use Rattle.dp_epochs.specs.declared.event.Event.TheVariants.{Say, Close}
+use Rattle.dp_epochs.specs.declared.event.Reply.{Reply}
+use Rattle.dp_epochs.specs.declared.event.Reply.TheVariants as reply
 use Rattle.dp_link.specs.declared.ends.UpEnd.{UpEnd}
 use Rattle.dp_link.specs.declared.ends.UpEnd.TheVariants as up
 use Rattle.dp_link.specs.Acts.{SeatView, IsAct, ActsOnce}

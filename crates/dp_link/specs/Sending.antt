@@ -7,7 +7,7 @@ use Rattle.dp_io.specs.Streams.{GrowsByPrefix}
 use Rattle.dp_messages.specs.declared.message.Entry.{Entry}
 use Rattle.dp_history.specs.Frames.{frames_of}
 use Rattle.dp_hall.specs.Logs.{left_by}
-use Rattle.dp_events.specs.declared.event.Query.TheVariants.{Pull}
+use Rattle.dp_epochs.specs.declared.event.Query.TheVariants.{Pull}
 use Rattle.dp_epochs.specs.Past.{Past, state_of}
 use Rattle.dp_epochs.specs.Pull.{answered}
 use Rattle.dp_tables.specs.Pages.{IsPage}

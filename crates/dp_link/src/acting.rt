@@ -4,7 +4,7 @@ ghost use Rattle.dp_hall.specs.Calls.{IsOf};
 ghost use Rattle.dp_epochs.specs.Past.{Past, Step};
 ghost use Rattle.dp_link.specs.Acts.{ActsOnce};
 
-use dp_events::{Event, Reply};
+use dp_epochs::{Event, Reply};
 use dp_hall::{Hall, Seat, calls_add_up};
 use dp_keeper::Keeper;
 use dp_session::Session;

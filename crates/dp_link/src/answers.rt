@@ -9,7 +9,7 @@ ghost use Rattle.dp_messages.specs.Messages.{entry_bytes};
 ghost use Rattle.dp_link.specs.Answers.{welcome, goodbye, reason_of};
 
 use crate::Greeting;
-use dp_events::Reply;
+use dp_epochs::Reply;
 use dp_io::{Failed, Sink, put_all};
 
 /// The bytes of a Welcome's frame: its length, its kind, the context 0, the version 1, the user,

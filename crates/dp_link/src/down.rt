@@ -5,7 +5,7 @@ ghost use Rattle.std.specs.declared.option.Option.{Option};
 ghost use Rattle.dp_messages.specs.declared.message.Entry.{Entry as Piece};
 ghost use Rattle.dp_history.specs.Frames.{frames_of};
 ghost use Rattle.dp_hall.specs.Calls.{IsOf, Asks, IsSound};
-ghost use Rattle.dp_events.specs.declared.event.Query.TheVariants.{Pull};
+ghost use Rattle.dp_epochs.specs.declared.event.Query.TheVariants.{Pull};
 ghost use Rattle.dp_epochs.specs.Past.{Step};
 ghost use Rattle.dp_epochs.specs.Pull.{answered};
 ghost use Rattle.dp_tables.specs.Pages.{IsPage};
@@ -18,7 +18,7 @@ ghost use Rattle.dp_link.specs.Sending.{session_of};
 
 use crate::pages::{Asked, Cursor};
 use crate::{DownEnd, Greeting};
-use dp_events::{Event, Reply};
+use dp_epochs::{Event, Reply};
 use dp_hall::{Hall, Seat, calls_add_up, seats_are_sound};
 use dp_io::{Failed, Sink, put_all};
 use dp_keeper::Keeper;

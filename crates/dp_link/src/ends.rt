@@ -1,6 +1,6 @@
 //! How the calls of a link end.
 
-use dp_events::Reply;
+use dp_epochs::Reply;
 
 /// Who has joined over a link.
 #[derive(Clone, Copy, Debug, PartialEq, Eq)]

@@ -16,7 +16,7 @@ use crate::answers::{put_goodbye, put_welcome, reason_of};
 use crate::messages::{BadFrame, take_message};
 use crate::pieces::{PieceEnd, read_piece};
 use crate::{GreetEnd, Greeting};
-use dp_events::{Event, Reply};
+use dp_epochs::{Event, Reply};
 use dp_frame::Octets;
 use dp_hall::{Hall, Seat, calls_add_up};
 use dp_io::{Failed, Sink, Source};

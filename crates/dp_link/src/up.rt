@@ -14,7 +14,7 @@ use crate::UpEnd;
 use crate::acting::{act_once, act_silently};
 use crate::messages::{BadFrame, take_message};
 use crate::pieces::{PieceEnd, read_piece};
-use dp_events::{Event, Reply};
+use dp_epochs::{Event, Reply};
 use dp_hall::{Hall, Seat, calls_add_up};
 use dp_io::Source;
 use dp_keeper::Keeper;

@@ -6,7 +6,7 @@ ghost use Rattle.dp_hall.specs.Laws.{Continues};
 ghost use Rattle.dp_epochs.specs.Laws.{ShutBefore};
 ghost use Rattle.dp_session_laws.specs.Logs.{LogEntry};
 
-use dp_events::{Event, Journal, Reply, Shut};
+use dp_epochs::{Event, Journal, Reply, Shut};
 use dp_hall::{Hall, HallError, Seat, calls_add_up, seats_come_back};
 use dp_io::{Sink, Source};
 use dp_keeper::Keeper;

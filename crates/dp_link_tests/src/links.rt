@@ -1,7 +1,7 @@
 //! Links whose bytes come in pieces, and whose reads and writes fail.
 
 use crate::link::{LinkEnd, run_link};
-use dp_events::Reply;
+use dp_epochs::Reply;
 use dp_io::{MemSink, MemSource};
 use dp_keeper::{Keeper, MemKeeper, Rows, SureKeeper};
 use dp_link::{DownEnd, GreetEnd, UpEnd};

@@ -1,7 +1,7 @@
 -- The jobs of workers: how they are made, and what becomes of them.
 use Rattle.std.specs.Prelude.{◌≡◌, ℕ, ◌+◌, false, true, List, [], ◌∷◌, Option, None, Some, ⊤}
 use Rattle.dp_hall.specs.Calls.{HallValue, SeatValue, IsOf, SplitsInto}
-use Rattle.dp_events.specs.declared.event.Event.{Event}
+use Rattle.dp_epochs.specs.declared.event.Event.{Event}
 use Rattle.dp_epochs.specs.Past.{Past}
 use Rattle.dp_link.specs.Acts.{SeatView}
 use Rattle.dp_session_laws.specs.Logs.{ReplyOrMemory}

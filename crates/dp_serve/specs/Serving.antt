@@ -7,8 +7,8 @@ use Rattle.dp_keeper.specs.declared.row.Row.{Row}
 use Rattle.dp_wire.specs.Links.{Links, WhereKnown}
 use Rattle.dp_hall.specs.Logs.{left_by, entries_by}
 use Rattle.dp_hall.specs.Names.{IsIn, AreDistinct}
-use Rattle.dp_events.specs.declared.event.Event.{Event}
-use Rattle.dp_events.specs.declared.event.ShutAt.{ShutAt}
+use Rattle.dp_epochs.specs.declared.event.Event.{Event}
+use Rattle.dp_epochs.specs.declared.event.ShutAt.{ShutAt}
 use Rattle.dp_epochs.specs.Past.{Past}
 use Rattle.dp_session_laws.specs.Logs.{LogEntry, IsSessionLog}
 use Rattle.dp_session_laws.specs.Journals.{kept_events}

@@ -13,7 +13,7 @@ ghost use Rattle.dp_serve.specs.Reports.{all_reports};
 use crate::Reports;
 use crate::gather::{Flags, gather};
 use crate::jobs::{Job, make_jobs, run_jobs};
-use dp_events::{Journal, Shut};
+use dp_epochs::{Journal, Shut};
 use dp_hall::{Hall, HallError, Seat};
 use dp_keeper::Keeper;
 use dp_session::Session;

@@ -6,9 +6,9 @@ use Rattle.dp_hall.specs.declared.view.Entry.{Entry}
 use Rattle.dp_hall.specs.Logs.{is_same_name, entries_by}
 use Rattle.dp_hall.specs.Names.{IsIn, AreDistinct}
 use Rattle.dp_hall.proofs.ListLemmas.{same_self, same_is, is_not, distinct_both}
-use Rattle.dp_events.specs.declared.event.Event.{Event}
-use Rattle.dp_events.specs.declared.event.Reply.{Reply}
-use Rattle.dp_events.specs.declared.event.Reply.TheVariants as reply
+use Rattle.dp_epochs.specs.declared.event.Event.{Event}
+use Rattle.dp_epochs.specs.declared.event.Reply.{Reply}
+use Rattle.dp_epochs.specs.declared.event.Reply.TheVariants as reply
 use Rattle.dp_session_laws.specs.Logs.{ReplyOrMemory, LogEntry}
 use Rattle.dp_session_laws.specs.Journals.{is_kept, kept_events, kept_reply, kept_replies}
 use Rattle.dp_serve_laws.specs.Acts.{is_of, is_about, acts_about, events_about}

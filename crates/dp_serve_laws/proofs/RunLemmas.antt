@@ -6,9 +6,9 @@ use Rattle.dp_hall.specs.Names.{IsIn}
 use Rattle.dp_hall.proofs.ListLemmas.{in_left, in_more, is_not}
 use Rattle.dp_messages.specs.declared.message.Msg.{Msg}
 use Rattle.dp_split.specs.Stream.{Stream}
-use Rattle.dp_events.specs.declared.event.Event.TheVariants.{Open, Say, Close}
-use Rattle.dp_events.specs.declared.event.Reply.{Reply}
-use Rattle.dp_events.specs.declared.event.Reply.TheVariants as reply
+use Rattle.dp_epochs.specs.declared.event.Event.TheVariants.{Open, Say, Close}
+use Rattle.dp_epochs.specs.declared.event.Reply.{Reply}
+use Rattle.dp_epochs.specs.declared.event.Reply.TheVariants as reply
 use Rattle.dp_epochs.specs.Past.{Past}
 use Rattle.dp_session_laws.specs.Logs.{ReplyOrMemory, LogEntry}
 use Rattle.dp_session_laws.specs.Closings.{given_by, given_out}

@@ -1,9 +1,9 @@
 -- Which acts of a log, and which events of a journal, are of a connection.
 use Rattle.std.specs.Prelude.{ℕ, Bool, false, ◌==◌, if◌then◌else◌, List, [], ◌∷◌, Ok, filter}
-use Rattle.dp_events.specs.declared.event.Event.{Event}
-use Rattle.dp_events.specs.declared.event.Event.TheVariants.{Open, Say, Close}
-use Rattle.dp_events.specs.declared.event.Reply.{Reply}
-use Rattle.dp_events.specs.declared.event.Reply.TheVariants.{Opened}
+use Rattle.dp_epochs.specs.declared.event.Event.{Event}
+use Rattle.dp_epochs.specs.declared.event.Event.TheVariants.{Open, Say, Close}
+use Rattle.dp_epochs.specs.declared.event.Reply.{Reply}
+use Rattle.dp_epochs.specs.declared.event.Reply.TheVariants.{Opened}
 use Rattle.dp_session_laws.specs.Logs.{ReplyOrMemory, LogEntry}
 
 -- An event of which that came is of the connection: it is a Say or a Close that names it, or the

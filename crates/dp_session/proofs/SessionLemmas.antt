@@ -9,11 +9,11 @@ use Rattle.dp_keeper.specs.declared.row.Row.{Row}
 use Rattle.dp_keeper.specs.declared.keeper.KeepError.{KeepError}
 use Rattle.dp_keeper.specs.declared.keeper.KeepError.TheVariants.{Failed, Memory}
 use Rattle.dp_keeper.specs.Store.{with_row, Puts, Counts}
-use Rattle.dp_events.specs.declared.event.Event.{Event}
-use Rattle.dp_events.specs.declared.event.Event.TheVariants as event
-use Rattle.dp_events.specs.declared.event.Reply.{Reply}
-use Rattle.dp_events.specs.declared.event.Reply.TheVariants.{Ended, StoreFault}
-use Rattle.dp_events.specs.Rows.{has_room}
+use Rattle.dp_epochs.specs.declared.event.Event.{Event}
+use Rattle.dp_epochs.specs.declared.event.Event.TheVariants as event
+use Rattle.dp_epochs.specs.declared.event.Reply.{Reply}
+use Rattle.dp_epochs.specs.declared.event.Reply.TheVariants.{Ended, StoreFault}
+use Rattle.dp_epochs.specs.Rows.{has_room}
 use Rattle.dp_epochs.specs.Past.{Past, quiet_with, quieted, Accepts, FailsFirst, Refuses}
 use Rattle.dp_epochs.specs.Past.{Serves}
 use Rattle.dp_tables.specs.declared.plan.Ready.{Ready}

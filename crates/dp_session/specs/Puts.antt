@@ -3,8 +3,8 @@ use Rattle.std.specs.Prelude.{◌≡◌, ℕ, Option, Result, Ok, Err, List, [],
 use Rattle.dp_keeper.specs.declared.row.Row.{Row}
 use Rattle.dp_keeper.specs.declared.keeper.KeepError.{KeepError}
 use Rattle.dp_keeper.specs.declared.keeper.KeepError.TheVariants.{Failed, Memory}
-use Rattle.dp_events.specs.declared.event.Event.{Event}
-use Rattle.dp_events.specs.declared.event.Reply.{Reply}
+use Rattle.dp_epochs.specs.declared.event.Event.{Event}
+use Rattle.dp_epochs.specs.declared.event.Reply.{Reply}
 use Rattle.dp_epochs.specs.State.{acted}
 use Rattle.dp_epochs.specs.Past.{Past, shut_with}
 use Rattle.dp_tables.specs.SessionLog.{SessionLog, state_in}

@@ -5,12 +5,12 @@ ghost use Rattle.dp_keeper.specs.Store.{Puts, Counts};
 ghost use Rattle.dp_epochs.specs.Past.{Refuses, Serves, Step, state_of};
 ghost use Rattle.dp_epochs.specs.Pull.{answered};
 ghost use Rattle.dp_epochs.specs.State.{next_open};
-ghost use Rattle.dp_events.specs.declared.event.Query.TheVariants.{Pull};
+ghost use Rattle.dp_epochs.specs.declared.event.Query.TheVariants.{Pull};
 ghost use Rattle.dp_tables.specs.Pages.{IsBounded, IsPage};
 ghost use Rattle.dp_tables.specs.Plans.{IsReady};
 ghost use Rattle.dp_session.specs.Puts.{IsPut};
 
-use dp_events::{Answer, Event, Journal, Query, Reply, Shut};
+use dp_epochs::{Answer, Event, Journal, Query, Reply, Shut};
 use dp_keeper::{KeepError, Keeper};
 use dp_machine::Machine;
 use dp_tables::{Page, Ready, Tables};

@@ -4,7 +4,7 @@ ghost use Rattle.std.specs.Prelude.{◌≡◌, None, IfOk, OnOk, OnErr};
 ghost use Rattle.dp_epochs.specs.Past.{quieted, sure_answer, sure_step};
 
 use crate::session::Session;
-use dp_events::{Event, Reply};
+use dp_epochs::{Event, Reply};
 use dp_keeper::{Keeper, SureKeeper};
 use dp_machine::Machine;
 use std::alloc::AllocError;

@@ -13,17 +13,17 @@ use Rattle.dp_lists.specs.Numbered.{numbered}
 use Rattle.dp_lists.proofs.Numbered.{number-found, numbered-other, numbered-same, numbered-old}
 use Rattle.dp_hall.specs.Logs.{left_by}
 use Rattle.dp_messages.specs.declared.message.Entry.{Entry}
-use Rattle.dp_events.specs.Connections.{is_open, is_ended}
-use Rattle.dp_events.specs.declared.connection.Place.{Place}
-use Rattle.dp_events.specs.declared.connection.Ending.{Ending}
-use Rattle.dp_events.specs.declared.connection.Ending.TheVariants as ending
-use Rattle.dp_events.specs.declared.connection.Connection.{Connection}
-use Rattle.dp_events.specs.declared.event.Event.{Event}
-use Rattle.dp_events.specs.declared.event.Event.TheVariants as event
-use Rattle.dp_events.specs.declared.event.Reply.{Reply}
-use Rattle.dp_events.specs.declared.event.Reply.TheVariants.{Ended}
-use Rattle.dp_events.specs.declared.event.ShutAt.{ShutAt}
-use Rattle.dp_events.specs.Rows.{has_room}
+use Rattle.dp_epochs.specs.Connections.{is_open, is_ended}
+use Rattle.dp_epochs.specs.declared.connection.Place.{Place}
+use Rattle.dp_epochs.specs.declared.connection.Ending.{Ending}
+use Rattle.dp_epochs.specs.declared.connection.Ending.TheVariants as ending
+use Rattle.dp_epochs.specs.declared.connection.Connection.{Connection}
+use Rattle.dp_epochs.specs.declared.event.Event.{Event}
+use Rattle.dp_epochs.specs.declared.event.Event.TheVariants as event
+use Rattle.dp_epochs.specs.declared.event.Reply.{Reply}
+use Rattle.dp_epochs.specs.declared.event.Reply.TheVariants.{Ended}
+use Rattle.dp_epochs.specs.declared.event.ShutAt.{ShutAt}
+use Rattle.dp_epochs.specs.Rows.{has_room}
 use Rattle.dp_epochs.specs.State.{State, epoch_of, here, history_of, connection_of, open_connection}
 use Rattle.dp_epochs.specs.State.{where_open, with_connection, new_connection, noted}
 use Rattle.dp_epochs.specs.State.{after_event}

@@ -7,11 +7,11 @@ use Rattle.std.specs.Prelude.{MatchBool}
 use Rattle.dp_io.specs.Faults.{Rose}
 use Rattle.dp_hall.specs.Logs.{left_by}
 use Rattle.dp_hall.specs.Names.{IsIn}
-use Rattle.dp_events.specs.declared.event.Event.{Event}
-use Rattle.dp_events.specs.declared.event.Event.TheVariants as event
-use Rattle.dp_events.specs.declared.event.Reply.{Reply}
-use Rattle.dp_events.specs.declared.event.Reply.TheVariants as reply
-use Rattle.dp_events.specs.Rows.{has_room}
+use Rattle.dp_epochs.specs.declared.event.Event.{Event}
+use Rattle.dp_epochs.specs.declared.event.Event.TheVariants as event
+use Rattle.dp_epochs.specs.declared.event.Reply.{Reply}
+use Rattle.dp_epochs.specs.declared.event.Reply.TheVariants as reply
+use Rattle.dp_epochs.specs.Rows.{has_room}
 use Rattle.dp_epochs.specs.State.{State, acted}
 use Rattle.dp_epochs.specs.Effects.{Effect, Nothing, TakesUp, Placed, Filtered, Joined, Left}
 use Rattle.dp_epochs.specs.Effects.{Began, Added, Dropped, Reopened}

@@ -11,13 +11,13 @@ use Rattle.std.proofs.lemmas.Bool.{eqb-true, eqb-false, ltb-true, cases_Bool}
 use Rattle.std.proofs.lemmas.List.{take-append-drop, length-take}
 use mathlib.Core.List.{IsPrefix}
 use Rattle.dp_messages.specs.declared.message.Entry.{Entry}
-use Rattle.dp_events.specs.declared.connection.Place.{Place}
-use Rattle.dp_events.specs.declared.connection.Ending.{Ending}
-use Rattle.dp_events.specs.declared.connection.Ending.TheVariants as ending
-use Rattle.dp_events.specs.declared.connection.Connection.{Connection}
-use Rattle.dp_events.specs.declared.event.Query.TheVariants.{Pull}
-use Rattle.dp_events.specs.declared.event.Answer.{Answer}
-use Rattle.dp_events.specs.declared.event.Answer.TheVariants.{Entries, Gone}
+use Rattle.dp_epochs.specs.declared.connection.Place.{Place}
+use Rattle.dp_epochs.specs.declared.connection.Ending.{Ending}
+use Rattle.dp_epochs.specs.declared.connection.Ending.TheVariants as ending
+use Rattle.dp_epochs.specs.declared.connection.Connection.{Connection}
+use Rattle.dp_epochs.specs.declared.event.Query.TheVariants.{Pull}
+use Rattle.dp_epochs.specs.declared.event.Answer.{Answer}
+use Rattle.dp_epochs.specs.declared.event.Answer.TheVariants.{Entries, Gone}
 use Rattle.dp_epochs.specs.State.{State, epoch_of, history_of, connection_of}
 use Rattle.dp_epochs.specs.Past.{Past, state_of}
 use Rattle.dp_epochs.specs.Pull.{page, pulled_from, pulled_by_left, pulled_by_open, pulled_by}

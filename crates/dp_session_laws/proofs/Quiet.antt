@@ -13,11 +13,11 @@ use Rattle.std.proofs.lemmas.Option.{slice_get_within}
 use mathlib.Core.List.{IsPrefix}
 use Rattle.dp_lists.proofs.Numbered.{number-found}
 use Rattle.dp_hall.specs.Logs.{left_by}
-use Rattle.dp_events.specs.declared.connection.Ending.{Ending}
-use Rattle.dp_events.specs.declared.connection.Ending.TheVariants as ending
-use Rattle.dp_events.specs.declared.connection.Connection.{Connection}
-use Rattle.dp_events.specs.declared.event.Event.{Event}
-use Rattle.dp_events.specs.declared.event.Event.TheVariants as event
+use Rattle.dp_epochs.specs.declared.connection.Ending.{Ending}
+use Rattle.dp_epochs.specs.declared.connection.Ending.TheVariants as ending
+use Rattle.dp_epochs.specs.declared.connection.Connection.{Connection}
+use Rattle.dp_epochs.specs.declared.event.Event.{Event}
+use Rattle.dp_epochs.specs.declared.event.Event.TheVariants as event
 use Rattle.dp_epochs.specs.State.{State, epoch_of, connection_of}
 use Rattle.dp_epochs.specs.Past.{Past, quiet_with, quieted, state_of}
 use Rattle.dp_epochs.specs.Laws.{ShutBefore}

@@ -3,11 +3,11 @@ use Rattle.std.specs.Prelude.{◌≡◌, ◌⊎◌, ℕ, ◌<◌, List, [], ◌�
 use Rattle.std.specs.Prelude.{Ok, Err, ⊤, alloc_error}
 use Rattle.std.specs.List.{flat_map}
 use Rattle.dp_hall.specs.Names.{IsIn}
-use Rattle.dp_events.specs.declared.event.Event.{Event}
-use Rattle.dp_events.specs.declared.event.Event.TheVariants.{Close}
-use Rattle.dp_events.specs.declared.event.Reply.TheVariants.{Opened, Ended, StoreFault}
-use Rattle.dp_events.specs.declared.event.ShutAt.{ShutAt}
-use Rattle.dp_events.specs.Rows.{has_room}
+use Rattle.dp_epochs.specs.declared.event.Event.{Event}
+use Rattle.dp_epochs.specs.declared.event.Event.TheVariants.{Close}
+use Rattle.dp_epochs.specs.declared.event.Reply.TheVariants.{Opened, Ended, StoreFault}
+use Rattle.dp_epochs.specs.declared.event.ShutAt.{ShutAt}
+use Rattle.dp_epochs.specs.Rows.{has_room}
 use Rattle.dp_epochs.specs.Past.{Past, shut_with}
 use Rattle.dp_session_laws.specs.Logs.{ReplyOrMemory, LogEntry}
 use Rattle.dp_session_laws.specs.Journals.{HasBroken}

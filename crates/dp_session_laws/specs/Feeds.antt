@@ -4,9 +4,9 @@ use Rattle.std.specs.Prelude.{None, Some, ⊤, Contains}
 use Rattle.std.specs.List.{AllByRecursion, flat_map}
 use mathlib.Core.List.{IsPrefix}
 use Rattle.dp_messages.specs.declared.message.Entry.{Entry}
-use Rattle.dp_events.specs.declared.connection.Ending.{Ending}
-use Rattle.dp_events.specs.declared.connection.Ending.TheVariants as ending
-use Rattle.dp_events.specs.declared.connection.Connection.{Connection}
+use Rattle.dp_epochs.specs.declared.connection.Ending.{Ending}
+use Rattle.dp_epochs.specs.declared.connection.Ending.TheVariants as ending
+use Rattle.dp_epochs.specs.declared.connection.Connection.{Connection}
 use Rattle.dp_epochs.specs.State.{State, epoch_of, history_of, connection_of}
 use Rattle.dp_epochs.specs.Past.{Past, state_of}
 

@@ -5,8 +5,8 @@ ghost use Rattle.std.specs.Prelude.{Contains};
 ghost use mathlib.Core.List.{IsPrefix};
 ghost use Rattle.dp_messages.specs.declared.message.Entry.{Entry};
 ghost use Rattle.dp_hall.specs.Logs.{left_by};
-ghost use Rattle.dp_events.specs.declared.event.Query.TheVariants.{Pull};
-ghost use Rattle.dp_events.specs.declared.event.Answer.TheVariants.{Entries, Gone};
+ghost use Rattle.dp_epochs.specs.declared.event.Query.TheVariants.{Pull};
+ghost use Rattle.dp_epochs.specs.declared.event.Answer.TheVariants.{Entries, Gone};
 ghost use Rattle.dp_epochs.specs.State.{State};
 ghost use Rattle.dp_epochs.specs.Past.{Past, state_of};
 ghost use Rattle.dp_epochs.specs.Pull.{answered};
@@ -17,9 +17,9 @@ ghost use Rattle.dp_session_laws.specs.Journals.{kept_events, kept_replies, HasB
 ghost use Rattle.dp_session_laws.specs.Closings.{given_out, Rise, refused_closes, IsShutFor};
 ghost use Rattle.dp_session_laws.specs.Closings.{HasFailedClose};
 ghost use Rattle.dp_hall.specs.Names.{IsIn, AreDistinct};
-ghost use Rattle.dp_events.specs.declared.event.ShutAt.{ShutAt};
-ghost use Rattle.dp_events.specs.Rows.{has_room};
-ghost use Rattle.dp_events.specs.declared.event.Reply.TheVariants.{Ended, StoreFault};
+ghost use Rattle.dp_epochs.specs.declared.event.ShutAt.{ShutAt};
+ghost use Rattle.dp_epochs.specs.Rows.{has_room};
+ghost use Rattle.dp_epochs.specs.declared.event.Reply.TheVariants.{Ended, StoreFault};
 ghost use Rattle.dp_session_laws.specs.Feeds.{Segment, IsFeed, IsGone, PullsOn};
 
 use dp_epochs::{events_have_effects, histories_grow, steps_lead_on};

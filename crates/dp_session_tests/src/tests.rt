@@ -2,7 +2,7 @@
 
 ghost use Rattle.std.specs.Prelude.{None};
 
-use dp_events::{Answer, Event, Query, Reply, ShutAt};
+use dp_epochs::{Answer, Event, Query, Reply, ShutAt};
 use dp_frame::Octets;
 use dp_keeper::{KeepError, Keeper, MemKeeper, Row, Rows, SureKeeper};
 use dp_machine::Machine;

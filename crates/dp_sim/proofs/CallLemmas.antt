@@ -5,13 +5,13 @@ use Rattle.std.proofs.Common.{OnOk}
 use Rattle.std.proofs.Common.{refl, sym, ap, subst, ◌∙◌}
 use Rattle.std.specs.List.{list_any, slice_get}
 use Rattle.dp_messages.specs.declared.message.Entry.{Entry}
-use Rattle.dp_events.specs.declared.connection.Connection.{Connection}
-use Rattle.dp_events.specs.declared.connection.Ending.{Ending}
-use Rattle.dp_events.specs.declared.connection.Ending.TheVariants as ending
-use Rattle.dp_events.specs.declared.event.Answer.{Answer}
-use Rattle.dp_events.specs.declared.event.Answer.TheVariants.{Entries, Gone}
-use Rattle.dp_events.specs.declared.event.Query.TheVariants.{Pull}
-use Rattle.dp_events.specs.Connections.{is_ended}
+use Rattle.dp_epochs.specs.declared.connection.Connection.{Connection}
+use Rattle.dp_epochs.specs.declared.connection.Ending.{Ending}
+use Rattle.dp_epochs.specs.declared.connection.Ending.TheVariants as ending
+use Rattle.dp_epochs.specs.declared.event.Answer.{Answer}
+use Rattle.dp_epochs.specs.declared.event.Answer.TheVariants.{Entries, Gone}
+use Rattle.dp_epochs.specs.declared.event.Query.TheVariants.{Pull}
+use Rattle.dp_epochs.specs.Connections.{is_ended}
 use Rattle.dp_epochs.specs.State.{State, epoch_of, where_open, connection_of}
 use Rattle.dp_epochs.specs.Past.{Past, state_of}
 use Rattle.dp_epochs.specs.Pull.{page, pulled_from, pulled_by, pulled_where, answered}

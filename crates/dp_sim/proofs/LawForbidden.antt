@@ -14,9 +14,9 @@ use Rattle.dp_replay.specs.Replay.{replay, user_act_of, undo_depth}
 use Rattle.dp_acl.specs.Laws.{ForbiddenChangesNoRight}
 use Rattle.dp_acl.specs.Laws as acl
 use Rattle.dp_acl.specs.Permitted.{permitted}
-use Rattle.dp_events.specs.declared.event.Event.{Event}
-use Rattle.dp_events.specs.declared.event.Event.TheVariants as event
-use Rattle.dp_events.specs.declared.event.Reply.TheVariants as reply
+use Rattle.dp_epochs.specs.declared.event.Event.{Event}
+use Rattle.dp_epochs.specs.declared.event.Event.TheVariants as event
+use Rattle.dp_epochs.specs.declared.event.Reply.TheVariants as reply
 use Rattle.dp_epochs.specs.State.{State}
 use Rattle.dp_epochs.specs.Effects.{Effect, Nothing, Filtered, Dropped}
 use Rattle.dp_epochs.specs.Effects.{live_after, answer_of, IsStill, IsEffect, EventsHaveEffects}

@@ -8,20 +8,20 @@ use Rattle.std.specs.Prelude.{slice_set, slice_index_or}
 use Rattle.std.proofs.Math.ListN.{length-set}
 use Rattle.std.proofs.lemmas.Bool.{cond_both, cases_eq}
 use Rattle.dp_messages.specs.declared.message.Msg.{Msg}
-use Rattle.dp_events.specs.declared.connection.Connection.{Connection}
-use Rattle.dp_events.specs.declared.connection.Ending.TheVariants as ending
-use Rattle.dp_events.specs.declared.event.Event.{Event}
-use Rattle.dp_events.specs.declared.event.Event.TheVariants as event
-use Rattle.dp_events.specs.declared.event.Reply.{Reply}
-use Rattle.dp_events.specs.declared.event.Reply.TheVariants as reply
-use Rattle.dp_events.specs.declared.event.ShutAt.{ShutAt}
-use Rattle.dp_events.specs.Connections.{is_open}
+use Rattle.dp_epochs.specs.declared.connection.Connection.{Connection}
+use Rattle.dp_epochs.specs.declared.connection.Ending.TheVariants as ending
+use Rattle.dp_epochs.specs.declared.event.Event.{Event}
+use Rattle.dp_epochs.specs.declared.event.Event.TheVariants as event
+use Rattle.dp_epochs.specs.declared.event.Reply.{Reply}
+use Rattle.dp_epochs.specs.declared.event.Reply.TheVariants as reply
+use Rattle.dp_epochs.specs.declared.event.ShutAt.{ShutAt}
+use Rattle.dp_epochs.specs.Connections.{is_open}
 use Rattle.dp_epochs.specs.State.{State, after_event, after_shut, epoch_of, here, history_of}
 use Rattle.dp_epochs.specs.State.{open_in, open_connection, with_connection, new_connection}
 use Rattle.dp_epochs.specs.Effects.{Effect, Nothing, TakesUp, Joined, Left}
 use Rattle.dp_epochs.specs.Effects.{connections_after, answer_of, IsStill, IsEffect}
 use Rattle.dp_epochs.specs.Effects.{EventsHaveEffects}
-use Rattle.dp_events.specs.Rows.{has_room}
+use Rattle.dp_epochs.specs.Rows.{has_room}
 use Rattle.dp_epochs.specs.Past.{Past, state_after, state_of, kept, refused, answer_to, sure_step}
 use Rattle.dp_epochs.specs.Past.{sure_answer}
 use Rattle.dp_epochs.specs.Laws.{Continues, AreHistories, ShutBefore, shut_by}

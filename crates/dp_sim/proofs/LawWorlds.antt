@@ -17,11 +17,11 @@ use Rattle.dp_messages.specs.declared.message.Msg.{Msg}
 use Rattle.dp_messages.specs.declared.message.Entry.{Entry}
 use Rattle.dp_messages.specs.Properties.{command_of, is_disconnect, marked}
 use Rattle.dp_client.specs.Client as client
-use Rattle.dp_events.specs.declared.event.Event.{Event}
-use Rattle.dp_events.specs.declared.event.Event.TheVariants as event
-use Rattle.dp_events.specs.declared.event.Reply.{Reply}
-use Rattle.dp_events.specs.declared.event.Reply.TheVariants as reply
-use Rattle.dp_events.specs.Rows.{event_limit, row_bytes, byte_limit, row_of, has_room}
+use Rattle.dp_epochs.specs.declared.event.Event.{Event}
+use Rattle.dp_epochs.specs.declared.event.Event.TheVariants as event
+use Rattle.dp_epochs.specs.declared.event.Reply.{Reply}
+use Rattle.dp_epochs.specs.declared.event.Reply.TheVariants as reply
+use Rattle.dp_epochs.specs.Rows.{event_limit, row_bytes, byte_limit, row_of, has_room}
 use Rattle.dp_epochs.specs.State.{State, epoch_of, history_of}
 use Rattle.dp_epochs.specs.Past.{Past, state_of, kept, refused, sure_step, sure_answer}
 use Rattle.dp_epochs.specs.Laws.{IsHistory, ShutBefore}

@@ -8,9 +8,9 @@ use Rattle.dp_messages.specs.declared.message.Entry.{Entry}
 use Rattle.dp_messages.specs.Properties.{is_disconnect}
 use Rattle.dp_client.specs.Client as client
 use Rattle.dp_client.specs.declared.client.Taken.{Taken}
-use Rattle.dp_events.specs.declared.event.Event.TheVariants as event
-use Rattle.dp_events.specs.declared.event.Reply.{Reply}
-use Rattle.dp_events.specs.declared.event.Reply.TheVariants as reply
+use Rattle.dp_epochs.specs.declared.event.Event.TheVariants as event
+use Rattle.dp_epochs.specs.declared.event.Reply.{Reply}
+use Rattle.dp_epochs.specs.declared.event.Reply.TheVariants as reply
 use Rattle.dp_epochs.specs.State.{epoch_of}
 use Rattle.dp_epochs.specs.Past.{Past, state_of, sure_answer, sure_step}
 use Rattle.dp_schedule.specs.declared.action.Instruction.{Instruction}

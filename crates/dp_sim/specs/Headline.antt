@@ -8,8 +8,8 @@ use Rattle.dp_messages.specs.Properties.{command_of}
 use Rattle.dp_client.specs.Client as client
 use Rattle.dp_acl.specs.Permitted.{permitted}
 use Rattle.dp_messages.specs.declared.message.Msg.{Msg}
-use Rattle.dp_events.specs.declared.event.Event.TheVariants.{Say}
-use Rattle.dp_events.specs.declared.event.Reply.TheVariants.{Filtered}
+use Rattle.dp_epochs.specs.declared.event.Event.TheVariants.{Say}
+use Rattle.dp_epochs.specs.declared.event.Reply.TheVariants.{Filtered}
 use Rattle.dp_epochs.specs.State.{State, acted, history_of}
 use Rattle.dp_epochs.specs.Past.{state_of}
 use Rattle.dp_epochs.specs.Laws.{ArePermitted}

@@ -2,7 +2,7 @@
 use Rattle.std.specs.Prelude.{◌≡◌, ℕ, ◌<◌, ◌≤◌, Bool, true, false, is_some, MatchBool, IfSome}
 use Rattle.std.specs.Prelude.{None, [], length, take, ⊤}
 use Rattle.dp_messages.specs.Messages.{kind_of}
-use Rattle.dp_events.specs.Rows.{event_limit}
+use Rattle.dp_epochs.specs.Rows.{event_limit}
 use Rattle.dp_epochs.specs.State.{State, open_connection, epoch_of, history_of}
 use Rattle.dp_epochs.specs.Past.{state_of}
 use Rattle.dp_epochs.specs.Laws.{ShutBefore}

@@ -4,7 +4,7 @@ use Rattle.std.specs.Option.{option_map_or}
 use Rattle.dp_showing.specs.declared.showing.Shown.{Shown}
 use Rattle.dp_showing.specs.declared.showing.Shown.TheVariants as shown
 use Rattle.dp_showing.specs.Showing.{shown_text}
-use Rattle.dp_events.specs.declared.event.Event.TheVariants.{Open}
+use Rattle.dp_epochs.specs.declared.event.Event.TheVariants.{Open}
 use Rattle.dp_epochs.specs.Past.{sure_answer}
 use Rattle.dp_schedule.specs.declared.action.CanvasKind.{CanvasKind}
 use Rattle.dp_schedule.specs.declared.action.CanvasKind.TheVariants.{View, Confirmed}

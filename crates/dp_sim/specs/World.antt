@@ -5,9 +5,9 @@ use Rattle.std.specs.List.{fold}
 use Rattle.std.specs.Option.{option_map_or}
 use Rattle.dp_lists.specs.Numbered.{numbered}
 use Rattle.dp_client.specs.Client as client
-use Rattle.dp_events.specs.declared.event.Event.TheVariants.{Open}
-use Rattle.dp_events.specs.declared.event.Reply.{Reply}
-use Rattle.dp_events.specs.declared.event.Reply.TheVariants as reply
+use Rattle.dp_epochs.specs.declared.event.Event.TheVariants.{Open}
+use Rattle.dp_epochs.specs.declared.event.Reply.{Reply}
+use Rattle.dp_epochs.specs.declared.event.Reply.TheVariants as reply
 use Rattle.dp_epochs.specs.Past.{Past, sure_answer, sure_step}
 use Rattle.dp_schedule.specs.declared.action.Instruction.{Instruction}
 use Rattle.dp_schedule.specs.declared.action.Action.{Action}

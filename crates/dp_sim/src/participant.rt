@@ -6,7 +6,7 @@ ghost use Rattle.dp_msg_meta.specs.declared.message.Control.TheVariants.{Disconn
 ghost use Rattle.dp_messages.specs.declared.message.Msg.TheVariants as msg;
 ghost use Rattle.dp_messages.specs.Messages.{kind_of};
 ghost use Rattle.dp_client.specs.Client.{said, taken_of};
-ghost use Rattle.dp_events.specs.declared.event.Event.TheVariants as event;
+ghost use Rattle.dp_epochs.specs.declared.event.Event.TheVariants as event;
 ghost use Rattle.dp_epochs.specs.Past.{sure_answer, sure_step};
 ghost use Rattle.dp_schedule.specs.declared.report_line.ReportLine.TheVariants as report;
 ghost use Rattle.dp_sim.specs.declared.participant.LinkState.TheVariants as link;
@@ -32,7 +32,7 @@ ghost use Rattle.dp_sim.specs.Calls.{exchange, took_entry, CanTake, CanAct};
 
 use crate::reply_line::{cut_line, left_line, said_line};
 use dp_client::Client;
-use dp_events::{Answer, Entries, Event, Query, Reply};
+use dp_epochs::{Answer, Entries, Event, Query, Reply};
 use dp_keeper::SureKeeper;
 use dp_machine::Machine;
 use dp_messages::{Entry, Msg};

@@ -3,7 +3,7 @@
 ghost use Rattle.std.specs.Prelude.{◌≡◌};
 ghost use Rattle.dp_sim.specs.Exchanges.{said_line, left_line, cut_line};
 
-use dp_events::Reply;
+use dp_epochs::Reply;
 use dp_schedule::ReportLine;
 
 /// What the report says of the answer to a message.

@@ -2,7 +2,7 @@
 
 ghost use Rattle.std.specs.Prelude.{◌≡◌, is_some, IsSome, IfSome, IfOk, OnOk};
 ghost use Rattle.dp_schedule.specs.declared.action.Action.TheVariants.{Join, Act};
-ghost use Rattle.dp_events.specs.declared.event.Event.TheVariants.{Open};
+ghost use Rattle.dp_epochs.specs.declared.event.Event.TheVariants.{Open};
 ghost use Rattle.dp_epochs.specs.Past.{sure_answer};
 ghost use Rattle.dp_sim.specs.World.{first_world, after, participant_of, join_line, acted_line};
 ghost use Rattle.dp_sim.specs.World.{length_of};
@@ -11,8 +11,7 @@ ghost use Rattle.dp_sim.specs.Invariant.{IsWorld, IsSayable};
 use crate::laws::worlds_stay_worlds;
 use crate::participant::{Participant, serve};
 use dp_client::Client;
-use dp_epochs::histories_are_short;
-use dp_events::{Event, Reply};
+use dp_epochs::{Event, Reply, histories_are_short};
 use dp_frame::Octets;
 use dp_keeper::{Rows, SureKeeper};
 use dp_schedule::{Instruction, ReportLine};

@@ -25,10 +25,10 @@ use Rattle.dp_client.specs.Client as client
 use Rattle.dp_client.specs.Client.{Took, is_first_mark, last_before, is_own_answer}
 use Rattle.dp_client.specs.Client.{may_answer, answered, own_of, fork_after}
 use Rattle.dp_fork.specs.declared.own.Own.TheVariants.{Stranger, Echo, Dropped, Lost}
-use Rattle.dp_events.specs.declared.connection.Connection.{Connection}
-use Rattle.dp_events.specs.declared.event.Event.TheVariants as event
-use Rattle.dp_events.specs.declared.event.Reply.{Reply}
-use Rattle.dp_events.specs.declared.event.Reply.TheVariants as reply
+use Rattle.dp_epochs.specs.declared.connection.Connection.{Connection}
+use Rattle.dp_epochs.specs.declared.event.Event.TheVariants as event
+use Rattle.dp_epochs.specs.declared.event.Reply.{Reply}
+use Rattle.dp_epochs.specs.declared.event.Reply.TheVariants as reply
 use Rattle.dp_epochs.specs.State.{State, open_connection, has_acknowledged, epoch_of, history_of}
 use Rattle.dp_epochs.specs.Past.{state_of, sure_answer}
 use Rattle.dp_epochs.specs.Laws.{HasNoMark, IsHistory, AreHistories, ShutBefore}

@@ -23,18 +23,18 @@ use Rattle.dp_messages.specs.Properties.{carried_by}
 use Rattle.dp_messages.specs.Equality.{same_message}
 use Rattle.dp_acl.specs.Permitted.{permitted}
 use Rattle.dp_acl.specs.Opening.{server_entry, carried_entries, opening}
-use Rattle.dp_events.specs.declared.connection.Connection.{Connection}
-use Rattle.dp_events.specs.declared.connection.Ending.TheVariants as ending
-use Rattle.dp_events.specs.declared.decision.Decision.{Decision}
-use Rattle.dp_events.specs.declared.decision.Decision.TheVariants as decision
-use Rattle.dp_events.specs.declared.event.Event.{Event}
-use Rattle.dp_events.specs.declared.event.Event.TheVariants as event
-use Rattle.dp_events.specs.declared.event.Reply.{Reply}
-use Rattle.dp_events.specs.declared.event.Reply.TheVariants as reply
+use Rattle.dp_epochs.specs.declared.connection.Connection.{Connection}
+use Rattle.dp_epochs.specs.declared.connection.Ending.TheVariants as ending
+use Rattle.dp_epochs.specs.declared.decision.Decision.{Decision}
+use Rattle.dp_epochs.specs.declared.decision.Decision.TheVariants as decision
+use Rattle.dp_epochs.specs.declared.event.Event.{Event}
+use Rattle.dp_epochs.specs.declared.event.Event.TheVariants as event
+use Rattle.dp_epochs.specs.declared.event.Reply.{Reply}
+use Rattle.dp_epochs.specs.declared.event.Reply.TheVariants as reply
 use Rattle.dp_epochs.specs.State.{State, first_state, acted, stays, noted, after_event, epoch_of}
 use Rattle.dp_epochs.specs.State.{here, entry_of, filtered_entry, epoch_opened, present_users}
 use Rattle.dp_epochs.specs.State.{is_present, user_ids, free_id, new_connection, next_owner}
-use Rattle.dp_events.specs.Connections.{is_open}
+use Rattle.dp_epochs.specs.Connections.{is_open}
 use Rattle.dp_epochs.specs.State.{where_open, open_in, open_connection, has_acknowledged}
 use Rattle.dp_epochs.specs.State.{judged, heard, decided, acted_by, says_by, fits_reset}
 use Rattle.dp_epochs.specs.State.{part_decided, may_begin, reset_of, sent_commands}
@@ -42,7 +42,7 @@ use Rattle.dp_epochs.specs.Effects.{Effect, Nothing, TakesUp, Placed, Filtered, 
 use Rattle.dp_epochs.specs.Effects.{Dropped, Reopened, made, entries_of, ended_after, live_after}
 use Rattle.dp_epochs.specs.Effects.{connections_after, answer_of, IsStill, IsSaid}
 use Rattle.dp_epochs.specs.Effects.{IsEffect, EventsHaveEffects}
-use Rattle.dp_events.specs.Rows.{has_room}
+use Rattle.dp_epochs.specs.Rows.{has_room}
 use Rattle.dp_epochs.specs.Past.{Past, state_of, kept, refused, answer_to, sure_step, sure_answer}
 use Rattle.dp_epochs.specs.Laws.{ShutBefore, AreHistories}
 use Rattle.dp_lists.specs.Numbered.{numbered}

@@ -13,10 +13,10 @@ use Rattle.dp_messages.specs.Equality.{same_message}
 use Rattle.dp_client.specs.Client as client
 use Rattle.dp_client.specs.Client.{Step, Said, Took, after_step, after_steps, last_before, own_of}
 use Rattle.dp_fork.specs.declared.own.Own.TheVariants.{Lost}
-use Rattle.dp_events.specs.declared.event.Event.{Event}
-use Rattle.dp_events.specs.declared.event.Event.TheVariants as event
-use Rattle.dp_events.specs.declared.event.Reply.{Reply}
-use Rattle.dp_events.specs.declared.event.Reply.TheVariants as reply
+use Rattle.dp_epochs.specs.declared.event.Event.{Event}
+use Rattle.dp_epochs.specs.declared.event.Event.TheVariants as event
+use Rattle.dp_epochs.specs.declared.event.Reply.{Reply}
+use Rattle.dp_epochs.specs.declared.event.Reply.TheVariants as reply
 use Rattle.dp_epochs.specs.State.{open_connection, after_event}
 use Rattle.dp_epochs.specs.Past.{Past, state_of, kept, sure_step, sure_answer}
 use Rattle.dp_epochs.specs.Effects.{EventsHaveEffects}

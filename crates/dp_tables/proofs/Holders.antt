@@ -10,10 +10,10 @@ use Rattle.std.proofs.lemmas.Bool.{cases_eq, eq-eqb, ne_eqb, lt-ltb, ltb-false}
 use Rattle.std.proofs.lemmas.List.{get_or-set_same, get_or-set_other}
 use Rattle.std.proofs.lemmas.List.Sums.{sum_by_push, sum_by-set, sum_by-cons}
 use Rattle.std.proofs.lemmas.Option.{slice_get_within, get_or_from_slice_get}
-use Rattle.dp_events.specs.declared.connection.Connection.{Connection}
+use Rattle.dp_epochs.specs.declared.connection.Connection.{Connection}
 use Rattle.dp_tables.specs.declared.plan.Change.{Change}
 use Rattle.dp_tables.specs.declared.plan.Change.TheVariants.{Stays, Adds, Becomes}
-use Rattle.dp_events.specs.Connections.{is_open}
+use Rattle.dp_epochs.specs.Connections.{is_open}
 use Rattle.dp_history.specs.Users.{mark}
 use Rattle.dp_tables.specs.Tables.{is_holder, MarksHolders}
 use Rattle.dp_tables.specs.Plans.{changed, marks_after, IsChange}

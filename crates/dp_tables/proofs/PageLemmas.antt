@@ -6,7 +6,7 @@ use Rattle.std.specs.List.{slice_get}
 use Rattle.std.proofs.lemmas.List.{drop-take, take-append-le, length-take-le, length-drop}
 use Rattle.std.proofs.lemmas.List.{take-take}
 use Rattle.dp_messages.specs.declared.message.Entry.{Entry}
-use Rattle.dp_events.specs.declared.event.Event.{Event}
+use Rattle.dp_epochs.specs.declared.event.Event.{Event}
 use Rattle.dp_epochs.specs.Pull.{page}
 use Rattle.dp_history.specs.Frames.{Frames, AreFramesOf, frames_of}
 use Rattle.dp_history.specs.declared.item.HistoryItem.{HistoryItem}

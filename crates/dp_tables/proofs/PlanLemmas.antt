@@ -18,23 +18,23 @@ use Rattle.dp_lists.proofs.Numbered.{number-found}
 use Rattle.dp_acl.specs.Laws.{OperatorsStay}
 use Rattle.dp_acl.specs.Opening.{opening}
 use Rattle.dp_acl.specs.Table.{StandsFor}
-use Rattle.dp_events.specs.declared.connection.Place.{Place}
-use Rattle.dp_events.specs.declared.connection.Ending.TheVariants as ending
-use Rattle.dp_events.specs.declared.connection.Connection.{Connection}
-use Rattle.dp_events.specs.declared.event.Event.{Event}
-use Rattle.dp_events.specs.declared.event.Event.TheVariants as event
-use Rattle.dp_events.specs.declared.event.Reply.{Reply}
-use Rattle.dp_events.specs.declared.event.Reply.TheVariants as reply
+use Rattle.dp_epochs.specs.declared.connection.Place.{Place}
+use Rattle.dp_epochs.specs.declared.connection.Ending.TheVariants as ending
+use Rattle.dp_epochs.specs.declared.connection.Connection.{Connection}
+use Rattle.dp_epochs.specs.declared.event.Event.{Event}
+use Rattle.dp_epochs.specs.declared.event.Event.TheVariants as event
+use Rattle.dp_epochs.specs.declared.event.Reply.{Reply}
+use Rattle.dp_epochs.specs.declared.event.Reply.TheVariants as reply
 use Rattle.dp_history.specs.declared.opening.Opening.{Opening}
 use Rattle.dp_tables.specs.declared.plan.Change.TheVariants.{Stays, Becomes}
 use Rattle.dp_tables.specs.declared.plan.Plan.{Plan}
 use Rattle.dp_tables.specs.declared.plan.StreamChange.TheVariants as stream
-use Rattle.dp_events.specs.declared.decision.Decision.{Decision}
-use Rattle.dp_events.specs.declared.decision.Decision.TheVariants as decision
+use Rattle.dp_epochs.specs.declared.decision.Decision.{Decision}
+use Rattle.dp_epochs.specs.declared.decision.Decision.TheVariants as decision
 use Rattle.dp_epochs.specs.State.{State, acted, stays, here, epoch_of, entry_of, is_name}
 use Rattle.dp_epochs.specs.State.{first_stream, with_part, sent_commands}
 use Rattle.dp_epochs.specs.Effects.{PartsFit}
-use Rattle.dp_events.specs.Connections.{is_open}
+use Rattle.dp_epochs.specs.Connections.{is_open}
 use Rattle.dp_epochs.specs.State.{is_present, free_id, user_ids, opened_as}
 use Rattle.dp_epochs.specs.State.{connection_in, where_open, open_in, with_connection, left}
 use Rattle.dp_epochs.specs.State.{closed_by, owner_on_join, owner_on_leave, next_owner}

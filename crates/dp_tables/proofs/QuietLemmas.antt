@@ -12,7 +12,7 @@ use Rattle.std.proofs.Math.Bool.{and-false}
 use Rattle.std.proofs.Math.ListN.{length-set}
 use Rattle.std.proofs.Math.Seq.{get_or-append_seam}
 use Rattle.std.proofs.lemmas.Grind.{get_or-set_at}
-use Rattle.dp_events.specs.declared.connection.Connection.{Connection}
+use Rattle.dp_epochs.specs.declared.connection.Connection.{Connection}
 use Rattle.dp_tables.specs.declared.plan.Change.{Change}
 use Rattle.dp_tables.specs.declared.plan.Change.TheVariants.{Stays, Adds, Becomes}
 use Rattle.dp_epochs.specs.State.{State}

@@ -9,10 +9,10 @@ use Rattle.std.proofs.lemmas.List.{take-map, drop-map}
 use Rattle.dp_lists.proofs.Options.{cases_option}
 use Rattle.dp_lists.proofs.Numbered.{number-found}
 use Rattle.dp_messages.specs.declared.message.Entry.{Entry}
-use Rattle.dp_events.specs.declared.connection.Connection.{Connection}
-use Rattle.dp_events.specs.declared.event.Event.{Event}
+use Rattle.dp_epochs.specs.declared.connection.Connection.{Connection}
+use Rattle.dp_epochs.specs.declared.event.Event.{Event}
 use Rattle.dp_history.specs.declared.item.HistoryItem.{HistoryItem}
-use Rattle.dp_events.specs.Connections.{is_open}
+use Rattle.dp_epochs.specs.Connections.{is_open}
 use Rattle.dp_epochs.specs.State.{open_in, where_open, connection_in}
 use Rattle.dp_history.specs.Items.{entry_in}
 

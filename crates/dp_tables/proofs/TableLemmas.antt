@@ -26,9 +26,9 @@ use Rattle.dp_acl.specs.LookBack.{lists}
 use Rattle.dp_acl.specs.Table.{Kept, StandsFor}
 use Rattle.dp_acl.specs.Opening.{server_entry, command_entry, last_join, part_limit}
 use Rattle.dp_acl.specs.Opening.{opening_limit}
-use Rattle.dp_events.specs.declared.connection.Connection.{Connection}
-use Rattle.dp_events.specs.declared.event.Event.{Event}
-use Rattle.dp_events.specs.declared.event.Event.TheVariants as event
+use Rattle.dp_epochs.specs.declared.connection.Connection.{Connection}
+use Rattle.dp_epochs.specs.declared.event.Event.{Event}
+use Rattle.dp_epochs.specs.declared.event.Event.TheVariants as event
 use Rattle.dp_history.specs.declared.item.HistoryItem.{HistoryItem}
 use Rattle.dp_history.specs.declared.item.HistoryItem.TheVariants as item
 use Rattle.dp_tables.specs.declared.plan.Change.{Change}
@@ -38,14 +38,14 @@ use Rattle.dp_tables.specs.declared.plan.Placing.TheVariants.{Said, Server, Open
 use Rattle.dp_tables.specs.declared.plan.StreamChange.{StreamChange}
 use Rattle.dp_tables.specs.declared.plan.StreamChange.TheVariants as stream
 use Rattle.dp_tables.specs.declared.plan.Plan.{Plan}
-use Rattle.dp_events.specs.Connections.{is_open}
+use Rattle.dp_epochs.specs.Connections.{is_open}
 use Rattle.dp_epochs.specs.State.{State, Stream, first_state, is_present, present_users, is_name}
 use Rattle.dp_epochs.specs.State.{free_id, entry_of, epoch_of, after_shut, after_event, acted}
 use Rattle.dp_epochs.specs.State.{first_stream, with_part, part_bytes, reset_byte_limit}
 use Rattle.dp_epochs.specs.State.{history_of}
-use Rattle.dp_events.specs.declared.event.ShutAt.{ShutAt}
+use Rattle.dp_epochs.specs.declared.event.ShutAt.{ShutAt}
 use Rattle.dp_tables.specs.declared.tables.Tables.TheInside.{Inside}
-use Rattle.dp_events.specs.Rows.{row_of, row_bytes, event_limit, byte_limit, has_room}
+use Rattle.dp_epochs.specs.Rows.{row_of, row_bytes, event_limit, byte_limit, has_room}
 use Rattle.dp_epochs.specs.Past.{Past, state_after, state_of, kept, refused}
 use Rattle.dp_epochs.specs.Laws.{ShutBefore, shut_by}
 use Rattle.dp_history.specs.Frames.{Frames, AreFramesOf, AreWritten}

@@ -1,7 +1,7 @@
 -- What the tables of a session are to the ledger that contracts see.
 use Rattle.std.specs.Prelude.{◌≡◌, ◌+◌, ◌≤◌, ◌&&◌, Bool, nat_lt, nat_le, length, All, vec_len}
 use Rattle.std.specs.Prelude.{vec_capacity}
-use Rattle.dp_events.specs.Rows.{row_bytes, event_limit, byte_limit}
+use Rattle.dp_epochs.specs.Rows.{row_bytes, event_limit, byte_limit}
 use Rattle.dp_tables.specs.declared.tables.Tables.TheInside.{Inside}
 use Rattle.dp_history.specs.Frames.{AreWritten}
 use Rattle.dp_tables.specs.SessionLog.{SessionLog, state_in}

@@ -1,8 +1,8 @@
 -- What a connection is to get of the history, and as which frames.
 use Rattle.std.specs.Prelude.{◌≡◌, ◌≤◌, ℕ, List, ◌++◌, length, take, Option, None, Some}
 use Rattle.dp_messages.specs.declared.message.Entry.{Entry}
-use Rattle.dp_events.specs.declared.event.Answer.{Answer}
-use Rattle.dp_events.specs.declared.event.Answer.TheVariants.{Entries, Gone}
+use Rattle.dp_epochs.specs.declared.event.Answer.{Answer}
+use Rattle.dp_epochs.specs.declared.event.Answer.TheVariants.{Entries, Gone}
 use Rattle.dp_epochs.specs.Pull.{page}
 use Rattle.dp_tables.specs.declared.pages.Due.{Due}
 use Rattle.dp_tables.specs.declared.pages.Page.{Page}

@@ -8,13 +8,13 @@ use Rattle.dp_msg_meta.specs.declared.message.Meta.TheVariants.{Join, Leave}
 use Rattle.dp_messages.specs.declared.message.Msg.{Msg}
 use Rattle.dp_messages.specs.declared.message.Msg.TheVariants as msg
 use Rattle.dp_messages.specs.declared.message.Entry.{Entry}
-use Rattle.dp_events.specs.declared.connection.Place.{Place}
-use Rattle.dp_events.specs.declared.connection.Connection.{Connection}
-use Rattle.dp_events.specs.declared.connection.Ending.TheVariants as ending
-use Rattle.dp_events.specs.declared.event.Event.{Event}
-use Rattle.dp_events.specs.declared.event.Event.TheVariants as event
-use Rattle.dp_events.specs.declared.event.Reply.{Reply}
-use Rattle.dp_events.specs.declared.event.Reply.TheVariants as reply
+use Rattle.dp_epochs.specs.declared.connection.Place.{Place}
+use Rattle.dp_epochs.specs.declared.connection.Connection.{Connection}
+use Rattle.dp_epochs.specs.declared.connection.Ending.TheVariants as ending
+use Rattle.dp_epochs.specs.declared.event.Event.{Event}
+use Rattle.dp_epochs.specs.declared.event.Event.TheVariants as event
+use Rattle.dp_epochs.specs.declared.event.Reply.{Reply}
+use Rattle.dp_epochs.specs.declared.event.Reply.TheVariants as reply
 use Rattle.dp_history.specs.declared.item.HistoryItem.{HistoryItem}
 use Rattle.dp_history.specs.declared.item.HistoryItem.TheVariants as item
 use Rattle.dp_tables.specs.declared.plan.Change.{Change}
@@ -26,8 +26,8 @@ use Rattle.dp_tables.specs.declared.plan.StreamChange.TheVariants as stream
 use Rattle.dp_history.specs.declared.opening.Opening.{Opening}
 use Rattle.dp_tables.specs.declared.plan.Plan.{Plan}
 use Rattle.dp_tables.specs.declared.plan.Ready.{Ready}
-use Rattle.dp_events.specs.Rows.{row_of, has_room}
-use Rattle.dp_events.specs.Connections.{is_open}
+use Rattle.dp_epochs.specs.Rows.{row_of, has_room}
+use Rattle.dp_epochs.specs.Connections.{is_open}
 use Rattle.dp_acl.specs.Table.{StandsFor}
 use Rattle.dp_epochs.specs.State.{State, Stream, entry_of, filtered_entry, acted}
 use Rattle.dp_epochs.specs.State.{first_stream, with_part, is_name, free_id}

@@ -1,7 +1,7 @@
 -- What contracts see of the tables of a session.
 use Rattle.std.specs.Prelude.{ℕ, Bool, List}
-use Rattle.dp_events.specs.declared.event.Event.{Event}
-use Rattle.dp_events.specs.declared.event.ShutAt.{ShutAt}
+use Rattle.dp_epochs.specs.declared.event.Event.{Event}
+use Rattle.dp_epochs.specs.declared.event.ShutAt.{ShutAt}
 use Rattle.dp_epochs.specs.State.{State}
 use Rattle.dp_epochs.specs.Past.{state_after}
 

@@ -6,12 +6,12 @@ use Rattle.std.specs.Prelude.{count_by, All}
 use Rattle.std.specs.List.{filter, range_with_len, sum_by}
 use Rattle.std.specs.Option.{option_map}
 use Rattle.dp_acl.specs.Table.{Kept, StandsFor}
-use Rattle.dp_events.specs.declared.connection.Connection.{Connection}
-use Rattle.dp_events.specs.declared.event.Event.{Event}
-use Rattle.dp_events.specs.declared.event.Event.TheVariants.{Open}
+use Rattle.dp_epochs.specs.declared.connection.Connection.{Connection}
+use Rattle.dp_epochs.specs.declared.event.Event.{Event}
+use Rattle.dp_epochs.specs.declared.event.Event.TheVariants.{Open}
 use Rattle.dp_history.specs.declared.item.HistoryItem.{HistoryItem}
 use Rattle.dp_acl.specs.Opening.{part_limit}
-use Rattle.dp_events.specs.Connections.{is_open}
+use Rattle.dp_epochs.specs.Connections.{is_open}
 use Rattle.dp_epochs.specs.State.{State, Stream, epoch_of, part_bytes}
 use Rattle.dp_epochs.specs.State.{reset_byte_limit}
 use Rattle.dp_history.specs.Items.{entry_in, IsIn, IsPart, commands_in}

@@ -33,8 +33,9 @@ ghost use Rattle.dp_tables.specs.Plans.{shut_change, IsChange, IsReady};
 use crate::plan::{Change, Placing, Plan, Ready, StreamChange};
 use crate::tables::{Tables, open_connection};
 use dp_acl::Rights;
-use dp_epochs::{epochs_are_few, joins_stay, steps_lead_on};
-use dp_events::{Connection, Ending, Event, Reply, ShutAt};
+use dp_epochs::{
+    Connection, Ending, Event, Reply, ShutAt, epochs_are_few, joins_stay, steps_lead_on,
+};
 use dp_history::{FrameLog, HistoryItem};
 use dp_messages::Entry;
 

@@ -37,7 +37,7 @@ ghost use Rattle.dp_history.specs.Items.{entry_in, IsIn, IsSay, join_of, message
 ghost use Rattle.dp_history.specs.Users.{mark};
 
 use crate::tables::Tables;
-use dp_events::{Answer, Ending, Entries, Event, Place};
+use dp_epochs::{Answer, Ending, Entries, Event, Place};
 use dp_history::{copies, put_item, write_all};
 use dp_lists::{prefix_of, rest_of};
 use dp_messages::{Entry, Msg, put_entry};

@@ -1,6 +1,6 @@
 //! What is ready to be kept of an event.
 
-use dp_events::{Connection, Event, Reply};
+use dp_epochs::{Connection, Event, Reply};
 use dp_history::Opening;
 use dp_keeper::Row;
 use dp_messages::Entry;

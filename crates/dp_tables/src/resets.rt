@@ -24,8 +24,7 @@ ghost use Rattle.dp_history.specs.Openings.{Holds};
 
 use crate::plan::StreamChange;
 use crate::tables::Tables;
-use dp_epochs::{epochs_are_few, openings, present_users_rise};
-use dp_events::{Connection, Decision};
+use dp_epochs::{Connection, Decision, epochs_are_few, openings, present_users_rise};
 use dp_history::{Opening, present_ids};
 use dp_messages::{Entry, Msg};
 use dp_msg_draw::Draw;

@@ -23,14 +23,13 @@ ghost use Rattle.std.specs.Prelude.{
 ghost use Rattle.dp_messages.specs.declared.message.Entry.{Entry as Piece};
 ghost use Rattle.dp_acl.specs.Table.{StandsFor};
 ghost use Rattle.dp_acl.specs.Permitted.{permitted};
-ghost use Rattle.dp_events.specs.Rows.{row_bytes, event_limit, byte_limit};
+ghost use Rattle.dp_epochs.specs.Rows.{row_bytes, event_limit, byte_limit};
 ghost use Rattle.dp_epochs.specs.State.{connection_in, connection_of, open_in, open_connection};
 ghost use Rattle.dp_epochs.specs.State.{next_open, here};
 ghost use Rattle.dp_tables.specs.SessionLog.{state_in};
 
 use dp_acl::Rights;
-use dp_epochs::histories_are_short;
-use dp_events::{Connection, Ending, Event, Place, ShutAt};
+use dp_epochs::{Connection, Ending, Event, Place, ShutAt, histories_are_short};
 use dp_history::{FrameLog, HistoryItem};
 use dp_messages::{Entry, Msg};
 use dp_msg_meta::Meta;

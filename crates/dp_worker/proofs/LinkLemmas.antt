@@ -13,7 +13,7 @@ use Rattle.dp_epochs.specs.Laws.{ShutBefore}
 use Rattle.dp_session_laws.specs.Growing.{GrowsInto}
 use Rattle.dp_session_laws.specs.Logs.{IsSessionLog}
 use Rattle.dp_session_laws.specs.Feeds.{Segment, IsFeed, IsGone}
-use Rattle.dp_events.specs.declared.event.Event.TheVariants.{Close}
+use Rattle.dp_epochs.specs.declared.event.Event.TheVariants.{Close}
 use Rattle.dp_link.specs.declared.ends.Greeting.{Greeting}
 use Rattle.dp_link.specs.declared.ends.GreetEnd.{GreetEnd}
 use Rattle.dp_link.specs.declared.ends.GreetEnd.TheVariants as greet

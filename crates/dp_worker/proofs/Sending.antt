@@ -1,10 +1,10 @@
 -- What threads share of a session's hall, and what they hand to each other.
 use denote.RattleType.{RattleType}
 use denote.Param.Send.{IsSend, IsSync}
-use Rattle.dp_events.specs.contracts.event.Answer as Answer
-use Rattle.dp_events.specs.contracts.event.Event as Event
-use Rattle.dp_events.specs.contracts.event.Query as Query
-use Rattle.dp_events.specs.contracts.event.Reply as Reply
+use Rattle.dp_epochs.specs.contracts.event.Answer as Answer
+use Rattle.dp_epochs.specs.contracts.event.Event as Event
+use Rattle.dp_epochs.specs.contracts.event.Query as Query
+use Rattle.dp_epochs.specs.contracts.event.Reply as Reply
 use Rattle.dp_hall.proofs.Sending.{seat_send, hall_sync}
 use Rattle.dp_hall.specs.contracts.hall.Hall as Hall
 use Rattle.dp_hall.specs.contracts.seat.Seat as Seat

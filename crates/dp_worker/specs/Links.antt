@@ -5,8 +5,8 @@ use Rattle.std.specs.List.{list_any}
 use Rattle.std.specs.Io.KnownBytes.{Appends, Consumes, IsAtEnd}
 use Rattle.dp_split.specs.Stream.{Stream}
 use Rattle.dp_messages.specs.Messages.{entry_bytes}
-use Rattle.dp_events.specs.declared.event.Event.TheVariants.{Open}
-use Rattle.dp_events.specs.declared.event.Reply.TheVariants.{StoreFault}
+use Rattle.dp_epochs.specs.declared.event.Event.TheVariants.{Open}
+use Rattle.dp_epochs.specs.declared.event.Reply.TheVariants.{StoreFault}
 use Rattle.dp_epochs.specs.Past.{Past}
 use Rattle.dp_link.specs.declared.ends.Greeting.{Greeting}
 use Rattle.dp_link.specs.declared.ends.GreetEnd.{GreetEnd}

@@ -2,7 +2,7 @@
 use Rattle.std.specs.Prelude.{◌≡◌, ℕ, Bool, true, false, List, [], Option, None, Some}
 use Rattle.std.specs.Io.KnownBytes.{IsAtEnd}
 use Rattle.dp_split.specs.Stream.{Stream}
-use Rattle.dp_events.specs.declared.event.Reply.TheVariants.{StoreFault}
+use Rattle.dp_epochs.specs.declared.event.Reply.TheVariants.{StoreFault}
 use Rattle.dp_hall.specs.Calls.{JoinsInto}
 use Rattle.dp_hall.specs.Laws.{Continues}
 use Rattle.dp_epochs.specs.Past.{Past}

@@ -15,7 +15,7 @@ ghost use Rattle.dp_worker.specs.Serving.{Serves, Talks, is_store_end, is_last_f
 ghost use Rattle.dp_worker.specs.Serving.{is_last_store_fault};
 
 use crate::pumps::{Pumped, run_pumps};
-use dp_events::{Event, Reply};
+use dp_epochs::{Event, Reply};
 use dp_hall::{Hall, Seat, calls_add_up, seats_are_sound, seats_come_back, seats_rejoin};
 use dp_io::{Sink, Source};
 use dp_keeper::Keeper;

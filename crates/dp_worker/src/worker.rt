@@ -11,7 +11,7 @@ ghost use Rattle.dp_worker.specs.Works.{Works, ServedSoFar, ServesNext, most_lin
 
 use crate::LinkReport;
 use crate::link::{LinkEnd, ServedLink, serve_link};
-use dp_events::{Event, Reply};
+use dp_epochs::{Event, Reply};
 use dp_hall::{Hall, Seat, calls_add_up, seats_are_sound, seats_come_back};
 use dp_keeper::Keeper;
 use dp_session::Session;

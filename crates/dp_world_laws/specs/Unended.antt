@@ -3,7 +3,7 @@ use Rattle.std.specs.Prelude.{◌≢◌, List}
 use Rattle.std.specs.List.{All}
 use Rattle.dp_lines.specs.declared.line.Line.{Line}
 use Rattle.dp_schedule.specs.declared.action.Action.{Action}
-use Rattle.dp_events.specs.declared.event.Reply.TheVariants.{Ended}
+use Rattle.dp_epochs.specs.declared.event.Reply.TheVariants.{Ended}
 use Rattle.dp_sim.specs.Report.{along}
 use Rattle.dp_sim.specs.World.{first_world}
 use Rattle.dp_sim_laws.specs.Tally.{replies}

@@ -1,6 +1,6 @@
 use Rattle.std.proofs.Common.{◌≡◌, sym, subst, false, Ok, Some}
-use Rattle.dp_events.specs.declared.event.Event.TheVariants.{Open}
-use Rattle.dp_events.specs.declared.event.Reply.{Reply}
+use Rattle.dp_epochs.specs.declared.event.Event.TheVariants.{Open}
+use Rattle.dp_epochs.specs.declared.event.Reply.{Reply}
 use Rattle.dp_link.specs.declared.ends.Greeting.{Greeting}
 use Rattle.dp_link.specs.Acts.{ActsOnce, last_outcome}
 use Rattle.dp_link.specs.Hello.{Answers}

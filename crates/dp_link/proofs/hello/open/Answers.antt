@@ -1,6 +1,6 @@
 use Rattle.std.proofs.Common.{Ok, Err, false, List, ℕ}
 use Rattle.std.specs.Prelude.{IfOk}
-use Rattle.dp_events.specs.declared.event.Event.TheVariants.{Open}
+use Rattle.dp_epochs.specs.declared.event.Event.TheVariants.{Open}
 use Rattle.dp_epochs.specs.Past.{Past, Step}
 use Rattle.dp_session_laws.specs.Logs.{ReplyOrMemory}
 use Rattle.dp_link.specs.Answers.{OpensWith}

@@ -1,6 +1,6 @@
 use Rattle.std.proofs.Common.{◌≡◌, Some, sym, ap, ◌∙◌}
 use Rattle.dp_hall.specs.Logs.{left_by}
-use Rattle.dp_events.specs.declared.connection.Connection.{Connection}
+use Rattle.dp_epochs.specs.declared.connection.Connection.{Connection}
 use Rattle.dp_session_laws.proofs.Growth.{EpochLaws}
 use Rattle.dp_session_laws.proofs.Openings.{begins-in}
 use Rattle.dp_session_laws.proofs.Pulls.{pulls-gone}

@@ -1,7 +1,7 @@
 use Rattle.std.proofs.Common.{[], ◌∷◌, subst}
 use Rattle.dp_hall.specs.Calls.{SeatValue}
-use Rattle.dp_events.specs.declared.event.Event.{Event}
-use Rattle.dp_events.specs.declared.event.Event.TheVariants.{Close}
+use Rattle.dp_epochs.specs.declared.event.Event.{Event}
+use Rattle.dp_epochs.specs.declared.event.Event.TheVariants.{Close}
 use Rattle.dp_epochs.specs.Past.{Past}
 use Rattle.dp_link.specs.Acts.{ActsOnce}
 use Rattle.dp_session_laws.specs.Logs.{ReplyOrMemory}

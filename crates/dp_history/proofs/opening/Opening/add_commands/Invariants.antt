@@ -1,6 +1,6 @@
 use Rattle.std.proofs.Common.{◌++◌, List, map, take, All}
 use Rattle.dp_messages.specs.declared.message.Entry.{Entry}
-use Rattle.dp_events.specs.declared.event.Event.{Event}
+use Rattle.dp_epochs.specs.declared.event.Event.{Event}
 use Rattle.dp_acl.specs.Opening.{command_entry}
 use Rattle.dp_history.specs.Openings.{Holds}
 use Rattle.dp_history.specs.Items.{IsPart, commands_in}

@@ -1,6 +1,6 @@
 use Rattle.std.proofs.Common.{◌++◌, List, map, take}
 use Rattle.dp_messages.specs.declared.message.Entry.{Entry}
-use Rattle.dp_events.specs.declared.event.Event.{Event}
+use Rattle.dp_epochs.specs.declared.event.Event.{Event}
 use Rattle.dp_acl.specs.Opening.{server_entry}
 use Rattle.dp_history.specs.Openings.{Holds}
 use Rattle.dp_history.proofs.opening.Opening.add_metas.Given as goal

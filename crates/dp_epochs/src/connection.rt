@@ -1,7 +1,7 @@
 //! Connections.
 
 ghost use Rattle.std.specs.Prelude.{◌≡◌};
-ghost use Rattle.dp_events.specs.Connections.{is_open};
+ghost use Rattle.dp_epochs.specs.Connections.{is_open};
 
 /// A place in the history of an epoch.
 #[derive(Clone, Copy, Debug, PartialEq, Eq)]

@@ -1,7 +1,7 @@
 //! The row of an event.
 
 ghost use Rattle.std.specs.Prelude.{◌≡◌, IfOk};
-ghost use Rattle.dp_events.specs.Rows.{row_of};
+ghost use Rattle.dp_epochs.specs.Rows.{row_of};
 
 use crate::event::Event;
 use dp_messages::put_payload;

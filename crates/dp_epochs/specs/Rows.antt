@@ -4,8 +4,8 @@ use Rattle.std.specs.Prelude.{List, ◌++◌, length}
 use Rattle.std.specs.List.{sum_by}
 use Rattle.dp_fields.specs.Fields.{one_byte, four_bytes, flag_byte}
 use Rattle.dp_messages.specs.Messages.{kind_of, payload_of}
-use Rattle.dp_events.specs.declared.event.Event.{Event}
-use Rattle.dp_events.specs.declared.event.Event.TheVariants.{Open, Say, Close}
+use Rattle.dp_epochs.specs.declared.event.Event.{Event}
+use Rattle.dp_epochs.specs.declared.event.Event.TheVariants.{Open, Say, Close}
 
 -- The bytes of the row that is written for an event: 0, the flag and the name of an Open; 1, the
 -- connection, the kind and the payload of a Say; 2 and the connection of a Close.

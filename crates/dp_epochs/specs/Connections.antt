@@ -1,8 +1,8 @@
 -- Whether a connection is open.
 use Rattle.std.specs.Prelude.{Bool, true, false, not}
-use Rattle.dp_events.specs.declared.connection.Ending.{Ending}
-use Rattle.dp_events.specs.declared.connection.Ending.TheVariants as ending
-use Rattle.dp_events.specs.declared.connection.Connection.{Connection}
+use Rattle.dp_epochs.specs.declared.connection.Ending.{Ending}
+use Rattle.dp_epochs.specs.declared.connection.Ending.TheVariants as ending
+use Rattle.dp_epochs.specs.declared.connection.Connection.{Connection}
 
 -- a connection that ended so has ended
 abbrev pub is_ended : Ending → Bool
