@@ -3,11 +3,7 @@
 #![tactic(auto)]
 
 #[cfg(test)]
-mod command_lines;
-#[cfg(test)]
 mod frames;
-#[cfg(test)]
-mod lines;
 #[cfg(test)]
 mod links;
 #[cfg(test)]

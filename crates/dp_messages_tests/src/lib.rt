@@ -2,6 +2,4 @@
 #![tactic(auto)]
 
 #[cfg(test)]
-mod drawing;
-#[cfg(test)]
 mod messages;

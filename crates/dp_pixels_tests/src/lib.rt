@@ -1,4 +1,4 @@
-//! The tests of blending and of commands on pixels.
+//! The tests of drawing messages, of blending and of commands on pixels.
 #![tactic(auto)]
 
 #[cfg(test)]
@@ -7,3 +7,5 @@ mod blending;
 mod colors;
 #[cfg(test)]
 mod commands;
+#[cfg(test)]
+mod drawing;
