@@ -1,10 +1,7 @@
 //! Runs of a row with each call of an object failing in turn.
 
-use crate::answer::Answer;
-use crate::fails::{Fail, Object};
-use crate::printing::{put_numbered, put_parts, put_text};
-use crate::row::Row;
 use crate::running::answer_to;
+use dp_row_texts::{Answer, Fail, Object, Row, put_numbered, put_parts, put_text};
 use std::alloc::{AllocError, Global};
 use std::sync::Wait;
 use std::thread::Threads;

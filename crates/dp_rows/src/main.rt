@@ -20,22 +20,13 @@
 //! end. What a length of pieces gives otherwise than the first one follows after `differs`.
 #![tactic(auto)]
 
-mod answer;
 mod each;
-mod fails;
-mod names;
-mod printing;
-mod reading;
-mod row;
 mod running;
-mod source;
 
 use crate::each::put_each;
-use crate::printing::put_answer;
-use crate::reading::{Rows, read_rows};
-use crate::row::Row;
 use crate::running::answer_to;
 use dp_io::{StdSink, put_all};
+use dp_row_texts::{Row, Rows, put_answer, put_bad_row, put_numbered, put_parts, read_rows};
 use std::alloc::{AllocError, Global};
 use std::io::read_to_string;
 use std::process::ExitCode;
@@ -59,7 +50,7 @@ fn main(rt: HostRuntime) -> ExitCode {
 fn run<R: Threads + Wait + Sync>(rt: &R, alloc: Global, text: &str, out: &mut Vec<u8>) -> u8 {
     let done = match read_rows(alloc, text) {
         Ok(Rows::Read(rows)) => put_rows(rt, alloc, &rows, out).map(|()| 0),
-        Ok(Rows::Bad(line)) => printing::put_bad_row(line, out).map(|()| 2),
+        Ok(Rows::Bad(line)) => put_bad_row(line, out).map(|()| 2),
         Err(error) => Err(error),
     };
     done.unwrap_or(7)
@@ -87,12 +78,12 @@ fn put_row<R: Threads + Wait + Sync>(
 ) -> Result<(), AllocError> {
     let first = row.pieces.first().copied().unwrap_or(1);
     let answer = answer_to(rt, alloc, row, first, None)?;
-    printing::put_parts(&[b"> ", row.head.as_bytes(), b"\n"], out)?;
+    put_parts(&[b"> ", row.head.as_bytes(), b"\n"], out)?;
     put_answer(&answer, out)?;
     for piece in row.pieces.iter().skip(1) {
         let again = answer_to(rt, alloc, row, *piece, None)?;
         if !again.same(&answer) {
-            printing::put_numbered(b"differs in pieces of ", *piece, b"\n", out)?;
+            put_numbered(b"differs in pieces of ", *piece, b"\n", out)?;
             put_answer(&again, out)?;
         }
     }

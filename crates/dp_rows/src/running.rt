@@ -2,13 +2,10 @@
 
 ghost use Rattle.std.specs.Prelude.{◌≤◌};
 
-use crate::answer::Answer;
-use crate::fails::{Fail, Object};
-use crate::row::Row;
-use crate::source::RowSource;
 use dp_app_runs::outcome_of;
 use dp_io::{MemSink, MemSource};
 use dp_lines::put_hex;
+use dp_row_texts::{Answer, Fail, Object, Row, RowSource};
 use dp_wire::MemWire;
 use std::alloc::{AllocError, Global};
 use std::sync::Wait;
