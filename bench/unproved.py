@@ -2,6 +2,8 @@
 """Builds the program without a proof, to measure a change before it is proved.
 
 usage: bench/unproved.py PROGRAM     writes the program; it takes some two minutes
+       bench/unproved.py PROGRAM FOLDER WORD ..     the same of another crate's program, in this
+                                     folder, which is tried with these words
 
 `rt try` lowers the crates to a module for LLVM, in which it checks what a proof would show, and
 compiles that for speed of building. This script keeps the module, takes the checks out, puts in the
@@ -43,7 +45,7 @@ def link_all(source, target, but):
             (target / it.name).symlink_to(it)
 
 
-def module_of(work):
+def module_of(work, crate, tried_with):
     """Has `rt try` make the module, by a kit whose clang keeps it, and gives clang's flags."""
     kit = work / "kit"
     link_all(KIT, kit, {"bin", "toolchain"})
@@ -55,9 +57,9 @@ def module_of(work):
     clang = kit / "toolchain/bin/clang"
     clang.write_text(KEEPS.format(work=work, clang=KIT / "toolchain/bin/clang"))
     clang.chmod(0o755)
-    words = [sys.executable, kit / "bin/rt", "try", "--", "replay"]
+    words = [sys.executable, kit / "bin/rt", "try", "--", *tried_with]
     how = {"stdin": subprocess.DEVNULL, "capture_output": True, "text": True}
-    tried = subprocess.run(words, cwd=TOP / "crates/drawpile", **how)
+    tried = subprocess.run(words, cwd=crate, **how)
     if not (work / "flags").exists():
         sys.exit("no module was made:\n" + tried.stdout + tried.stderr)
     left_out = {"-O0", "-Werror", "-fsanitize=address"}
@@ -113,12 +115,13 @@ def without_checks(lines, found):
 
 
 def main():
-    if len(sys.argv) != 2:
+    if len(sys.argv) < 2:
         sys.exit(__doc__)
+    crate, *tried_with = sys.argv[2:] or [TOP / "crates/drawpile", "replay"]
     clang = KIT / "toolchain/bin/clang"
     with tempfile.TemporaryDirectory() as folder:
         work = Path(folder)
-        flags = module_of(work)
+        flags = module_of(work, crate, tried_with)
         text, whole = work / "module.ll", work / "whole.ll"
         reads = [clang, "-x", "ir", work / "module.bc", "-S", "-emit-llvm", "-Xclang"]
         reads += ["-disable-llvm-passes", "-Wno-everything", "-o", text]

@@ -219,7 +219,7 @@ fn check_script<D: Ledger, T: Ledger>(
     tiles: &mut Steps<T>,
 ) {
     let blank = NumberBoard::new(alloc, NUMBERS).expect(rt, "memory");
-    let confirmed = Rollback::new(alloc, blank, 30, draws, tiles).expect(rt, "memory");
+    let confirmed = Rollback::new(alloc, blank, 30).expect(rt, "memory");
     let mut painter = Painter {
         confirmed,
         fork: Fork::new(alloc),

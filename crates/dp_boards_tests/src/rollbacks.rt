@@ -99,8 +99,7 @@ fn check_script<D: Ledger, T: Ledger>(
     tiles: &mut Steps<T>,
 ) {
     let blank = NumberBoard::new(alloc, NUMBERS).expect(rt, "memory");
-    let rollback = Rollback::new(alloc, blank, depth, draws, tiles);
-    let mut rollback = rollback.expect(rt, "memory");
+    let mut rollback = Rollback::new(alloc, blank, depth).expect(rt, "memory");
     let mut acts = Vec::new(alloc);
     for (k, word) in script.split_whitespace().enumerate() {
         let act = act_of(rt, word, k);
@@ -191,8 +190,7 @@ fn check_memory<D: Ledger, T: Ledger>(
     let mut draws = Steps::<D>::new(draw_blank);
     let mut tiles = Steps::<T>::new(tile_blank);
     let blank = NumberBoard::new(alloc, NUMBERS).expect(rt, "memory");
-    let rollback = Rollback::new(alloc, blank, 30, &mut draws, &mut tiles);
-    let mut rollback = rollback.expect(rt, "memory");
+    let mut rollback = Rollback::new(alloc, blank, 30).expect(rt, "memory");
     let script = script_of(rt, alloc, 60, Some(8));
     let mut most = 0;
     let mut count: usize = 0;
@@ -214,8 +212,8 @@ fn check_memory<D: Ledger, T: Ledger>(
     assert!(rt; most < 500, "{most} acts");
 }
 
-/// One point, and some thousand commands after it: three savepoints at most are held, and the point
-/// is undone and brought back.
+/// One point, and some thousand commands after it: two savepoints at most are held, and the point is
+/// undone and brought back.
 fn check_saves<D: Ledger, T: Ledger>(
     rt: &impl Abort,
     alloc: Global,
@@ -223,8 +221,7 @@ fn check_saves<D: Ledger, T: Ledger>(
     tiles: &mut Steps<T>,
 ) {
     let blank = NumberBoard::new(alloc, NUMBERS).expect(rt, "memory");
-    let rollback = Rollback::new(alloc, blank, 30, draws, tiles);
-    let mut rollback = rollback.expect(rt, "memory");
+    let mut rollback = Rollback::new(alloc, blank, 30).expect(rt, "memory");
     let mut script = String::new(alloc);
     script.push_str("D2 D1 P1").expect(rt, "memory");
     for _ in 0..1500 {
@@ -236,7 +233,7 @@ fn check_saves<D: Ledger, T: Ledger>(
         let act = act_of(rt, word, place);
         take(&mut rollback, &act, draws, tiles).expect(rt, "memory");
         acts.push(act).expect(rt, "memory");
-        assert!(rt; rollback.saves() <= 3, "{} savepoints", rollback.saves());
+        assert!(rt; rollback.saves() <= 2, "{} savepoints", rollback.saves());
     }
     let (numbers, wanted) = (
         numbers_of(rt, rollback.board()),

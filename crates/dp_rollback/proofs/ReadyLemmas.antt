@@ -1,9 +1,7 @@
 -- What is made ready for an act.
 use Rattle.std.proofs.Common.{◌≡◌, ℕ, List, [], ◌∷◌, ◌++◌, ap, sym, ◌∙◌}
-use Rattle.std.proofs.Common.{subst, refl, ◌+◌, ◌%◌, ◌<◌, ◌≤◌, None, Some, true, drop}
-use Rattle.std.specs.Prelude.{◌≢◌}
+use Rattle.std.proofs.Common.{subst, refl, ◌+◌, ◌<◌, ◌≤◌, None, Some, true, drop, arith}
 use Rattle.std.specs.List.{fold}
-use Rattle.std.proofs.lemmas.Bool.{ne_eqb}
 use Rattle.dp_board.specs.Commands.{command_of}
 use Rattle.dp_board.specs.Strokes.{concerned}
 use Rattle.dp_board.specs.Table.{oldest_in, next_strokes, table_with}
@@ -13,14 +11,15 @@ use Rattle.dp_board.specs.declared.act.UserAct.{UserAct}
 use Rattle.dp_board.specs.declared.act.Change.{Change}
 use Rattle.dp_board.specs.declared.act.Change.TheVariants.{Drew, Rebuilt, Nothing}
 use Rattle.dp_board.specs.Moves.{is_draw}
-use Rattle.dp_rollback.specs.Due.{due_commands, change_of}
+use Rattle.dp_board.specs.Counts.{CountsFew}
+use Rattle.dp_rollback.specs.Due.{due_commands, change_of, CountsDue}
 use Rattle.dp_rollback.specs.Rollback.{Rolled, Next, StandsFor, put_on, change_in, grown, needless}
 use Rattle.dp_rollback.specs.Rollback.{IsInOrder}
 use Rattle.dp_rollback.specs.Moves.{mark_in, due_in, IsKnown, IsNext, IsDrawnFor, next_here}
 use Rattle.dp_rollback.specs.Moves.{HasAdded, kept_in, saves_after}
 use Rattle.dp_rollback.specs.Laws.{Laws}
 use Rattle.dp_rollback.proofs.StandLemmas.{StandsFor-put_on, StandsFor-spare}
-use Rattle.dp_rollback.proofs.DueLemmas.{IsFewer, due_in-due, change-made}
+use Rattle.dp_rollback.proofs.DueLemmas.{due_in-due, change-made}
 
 -- an act of a sender
 abbrev pub act_by : {Op : Type 0} → ℕ → Act Op → UserAct Op
@@ -62,37 +61,54 @@ ready-change laws draw old now user copy act same copied known next made blank d
     ∙ ap (λ b. change_of depth acts (act_by user b)) copied
 
 -- what was drawn for it is due
-pub ready-due : {B Op : Type 0} → Laws Op → (draw : B → Op → B) (old now : Rolled B Op)
-    (user : ℕ) (copy act : Act Op) (weight : Op → ℕ) → now ≡ record old { spare = now.spare }
-    → copy ≡ act → IsKnown now (act_by user copy)
-    → (blank : B) (depth : ℕ) (acts : List (UserAct Op)) → StandsFor draw blank depth acts old
-    → IsFewer weight (due_in now copy (mark_in now.table (act_by user copy)))
-    (due_commands depth acts (act_by user act))
-ready-due laws draw old now user copy act weight same copied known blank depth acts st =
-    subst (λ b. IsFewer weight (due_in now copy (mark_in now.table (act_by user copy)))
-    (due_commands depth acts (act_by user b))) copied
-    (due_in-due laws draw (act_by user copy) now weight known.known known.order.begins known.reach
-    blank depth acts
-    (stands-now draw old now same blank depth acts st))
+pub counts-due : {B Op : Type 0} → Laws Op → (draw : B → Op → B) (weight : Op → ℕ)
+    (old now : Rolled B Op) (user : ℕ) (copy act : Act Op) (draws draws' tiles tiles' : ℕ)
+    → now ≡ record old { spare = now.spare } → copy ≡ act → IsKnown now (act_by user copy)
+    → CountsFew weight (due_in now copy (mark_in now.table (act_by user copy))) draws draws' tiles
+    tiles'
+    → CountsDue draw weight old (act_by user act) draws draws' tiles tiles'
+counts-due laws draw weight old now user copy act draws draws' tiles tiles' same copied known
+    counts =
+    record {
+      draws_rise = counts.draws_rise;
+      tiles_rise = counts.tiles_rise;
+      due = λ blank depth acts st.
+          subst (λ ops. CountsFew weight ops draws draws' tiles tiles')
+          (due_in-due laws draw (act_by user copy) now known.known known.order.begins known.reach
+          blank depth acts (stands-now draw old now same blank depth acts st)
+          ∙ ap (λ b. due_commands depth acts (act_by user b)) copied) counts;
+    }
 
--- what an act makes of it that moves no group, where no savepoint falls due
+-- nothing was drawn
+pub counts-none : {B Op : Type 0} → (draw : B → Op → B) (weight : Op → ℕ) (old : Rolled B Op)
+    (a : UserAct Op) (draws draws' tiles tiles' : ℕ) → draws' ≡ draws → tiles' ≡ tiles
+    → CountsDue draw weight old a draws draws' tiles tiles'
+counts-none draw weight old a draws draws' tiles tiles' same same_tiles = record {
+  draws_rise = omega (arith, same);
+  tiles_rise = omega (arith, same_tiles);
+  due = λ blank depth acts st. record {
+    draws_rise = omega (arith, same);
+    few_draws = omega (arith, same);
+    tiles_rise = omega (arith, same_tiles);
+    few_tiles = omega (arith, same_tiles);
+  };
+}
+
+-- what an act makes of it that moves no group
 pub IsNext-here : {B Op : Type 0} → (draw : B → Op → B) (r : Rolled B Op) (a : UserAct Op)
-    → mark_in r.table a ≡ None → (r.table.position + 1) % 64 ≢ 0
+    → mark_in r.table a ≡ None
     → oldest_in r.table ≤ oldest_in (table_with (next_strokes r.table a) r.table)
     → IsNext draw r a (next_here draw r a)
-IsNext-here {B} draw r a none part later =
+IsNext-here {B} draw r a none later =
     let board : B = fold draw r.board (command_of a.act true) in
     record {
       act = refl;
       mark = sym none;
       strokes = refl;
       made = record {
-        old_last = r.last;
         old_saves = r.saves;
-        drawn = subst (λ m. IsDrawnFor draw r a.act m board r.last r.saves) (sym none)
-            (record { drawn = refl; last_stays = refl; saves_stay = refl });
-        last_is = sym (ap (λ b. if b then board else r.last)
-            (ne_eqb ((r.table.position + 1) % 64) 0 part));
+        drawn = subst (λ m. IsDrawnFor draw r a.act m board r.saves) (sym none)
+            (record { drawn = refl; saves_stay = refl });
         saves_are = refl;
       };
       later = later;
@@ -104,22 +120,20 @@ pub put-here : {B Op : Type 0} → (draw : B → Op → B) (old : Rolled B Op) (
     → new.table ≡ table_with (next_strokes old.table a) old.table
     → new.base ≡ old.base + needless (grown (next_here draw old a) old)
     → new.kept ≡ drop (needless (grown (next_here draw old a) old))
-    (old.kept ++ kept_in old.table a ∷ []) → new.last ≡ old.last
-    → new.saves ≡ saves_after old.table old.last a.act old.saves
+    (old.kept ++ kept_in old.table a ∷ [])
+    → new.saves ≡ saves_after old.table old.board a.act old.saves
     → new ≡ record (put_on (next_here draw old a) old) { spare = new.spare }
-put-here {B} {Op} draw old a new board table base kept last saves =
+put-here {B} {Op} draw old a new board table base kept saves =
     let goal : Rolled B Op = record (put_on (next_here draw old a) old) { spare = new.spare } in
     ap (λ x. record new { board = x }) board
     ∙ ap (λ x. record goal {
       table = x;
       base = new.base;
       kept = new.kept;
-      last = new.last;
       saves = new.saves;
     }) table
-    ∙ ap (λ x. record goal { base = x; kept = new.kept; last = new.last; saves = new.saves }) base
-    ∙ ap (λ x. record goal { kept = x; last = new.last; saves = new.saves }) kept
-    ∙ ap (λ x. record goal { last = x; saves = new.saves }) last
+    ∙ ap (λ x. record goal { base = x; kept = new.kept; saves = new.saves }) base
+    ∙ ap (λ x. record goal { kept = x; saves = new.saves }) kept
     ∙ ap (λ x. record goal { saves = x }) saves
 
 -- an act that moves no group is known

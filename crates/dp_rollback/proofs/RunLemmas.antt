@@ -3,10 +3,9 @@ use Rattle.std.proofs.Common.{◌≡◌, ℕ, ◌+◌, ◌-◌, ◌<◌, ◌≤�
 use Rattle.std.proofs.Common.{length, take, drop, map, get_or, ap, sym, ◌∙◌, arith, refl, subst}
 use Rattle.std.proofs.Common.{length-append, Some}
 use Rattle.std.specs.Prelude.{if◌then◌else◌, nat_lt, sum_by, slice_range, Option, unwrap_or}
-use Rattle.std.specs.Prelude.{◌%◌, ◌==◌, ◌≢◌}
 use Rattle.std.specs.Option.{option_to_list}
 use Rattle.std.specs.List.{fold, Contains}
-use Rattle.std.proofs.lemmas.Bool.{ltb-true, ne_eqb}
+use Rattle.std.proofs.lemmas.Bool.{ltb-true}
 use Rattle.std.proofs.lemmas.List.{take-append-drop, drop-drop, drop-map, take_more, map-append}
 use Rattle.std.proofs.lemmas.List.{take-map, length-map, take_all, length-drop}
 use Rattle.std.proofs.lemmas.List.Concat.{flat_map-append}
@@ -22,8 +21,8 @@ use Rattle.dp_board.proofs.StepLemmas.{moved-is}
 use Rattle.dp_rollback.specs.declared.kept.KeptAct.{KeptAct}
 use Rattle.dp_rollback.specs.declared.kept.Mark.{Mark}
 use Rattle.dp_rollback.specs.Kept.{marked, drawn_among, commands_among}
-use Rattle.dp_rollback.specs.Rollback.{PointSave, Rolled, save_place}
-use Rattle.dp_rollback.specs.Moves.{IsRedrawn, kept_from, last_after, save_of, saves_after}
+use Rattle.dp_rollback.specs.Rollback.{PointSave, Rolled}
+use Rattle.dp_rollback.specs.Moves.{IsRedrawn, kept_from, save_of, saves_after}
 use Rattle.dp_rollback.specs.Runs.{Running, IsRun, IsFinished, LeavesFew, run_to, saved_anew}
 use Rattle.dp_rollback.specs.Runs.{save_anew}
 use Rattle.dp_rollback.proofs.StandLemmas.{fold-drawn, take-more}
@@ -33,10 +32,10 @@ pub IsRun-more : {B Op : Type 0} → (draw : B → Op → B) (kept : List (KeptA
     (old new : Running B) → old.start ≤ old.at → old.at ≤ new.at → new.start ≡ old.start
     → new.at - old.start ≤ length kept
     → new.board ≡ fold draw old.board (drawn_among (map (marked mark)
-    (slice_range kept (old.at - old.start) (new.at - old.start)))) → new.save ≡ new.board
+    (slice_range kept (old.at - old.start) (new.at - old.start))))
     → (from : B) → IsRun draw (map (marked mark) kept) from old
     → IsRun draw (map (marked mark) kept) from new
-IsRun-more draw kept mark old new begun later start inside made saved from is =
+IsRun-more draw kept mark old new begun later start inside made from is =
     let all = map (marked mark) kept in
     let a : ℕ = old.at - old.start in
     let n : ℕ = new.at - old.start - (old.at - old.start) in
@@ -53,7 +52,6 @@ IsRun-more draw kept mark old new begun later start inside made saved from is =
           ∙ sym (fold-drawn draw from (take a all) (take n (drop a all)))
           ∙ ap (λ xs. fold draw from (drawn_among xs)) (take-more a n all)
           ∙ ap (λ m. fold draw from (drawn_among (take m all))) at;
-      save = saved;
     }
 
 -- what is left to draw at a place is what is drawn up to a later one, and what is left there
@@ -117,25 +115,23 @@ CountsFew-part weight kept a b draws draws' draws'' tiles tiles' tiles'' le coun
       few_tiles = omega (arith, counts.few_tiles, same_tiles, few.1);
     }
 
--- the savepoint of a position, where it has come to that
+-- the savepoint of a Point, where it has come to that
 pub saved-run : {B Op : Type 0} → (draw : B → Op → B) (kept : List (KeptAct Op)) (from old : B)
-    (run : Running B) (n : ℕ) → IsRun draw kept from run
-    → (run.start < save_place n → run.at ≡ save_place n)
-    → (if nat_lt run.start (save_place n) then run.save else old)
-    ≡ saved_anew draw kept run.start from n old
-saved-run draw kept from old run n is at = by_test (nat_lt run.start (save_place n)) refl
+    (run : Running B) (n : ℕ) → IsRun draw kept from run → (run.start < n → run.at ≡ n)
+    → (if nat_lt run.start n then run.board else old) ≡ saved_anew draw kept run.start from n old
+saved-run draw kept from old run n is at = by_test (nat_lt run.start n) refl
   where
-    by_test : (b : Bool) → nat_lt run.start (save_place n) ≡ b
-        → (if nat_lt run.start (save_place n) then run.save else old)
+    by_test : (b : Bool) → nat_lt run.start n ≡ b
+        → (if nat_lt run.start n then run.board else old)
         ≡ saved_anew draw kept run.start from n old
     by_test true later =
-        ap (λ b. if b then run.save else old) later
-        ∙ is.save ∙ is.board
+        ap (λ b. if b then run.board else old) later
+        ∙ is.board
         ∙ ap (λ m. fold draw from (drawn_among (take (m - run.start) kept)))
-        (at (ltb-true run.start (save_place n) later))
+        (at (ltb-true run.start n later))
         ∙ sym (ap (λ b. if b then run_to draw kept run.start from n else old) later)
     by_test false later =
-        ap (λ b. if b then run.save else old) later
+        ap (λ b. if b then run.board else old) later
         ∙ sym (ap (λ b. if b then run_to draw kept run.start from n else old) later)
 
 -- one more savepoint
@@ -176,43 +172,32 @@ slice-from xs ys a b same at =
 
 -- at its start it has drawn nothing
 pub IsRun-begins : {B Op : Type 0} → (draw : B → Op → B) (kept : List (KeptAct Op)) (from : B)
-    (run : Running B) → run.at ≡ run.start → run.board ≡ from → run.save ≡ from
-    → IsRun draw kept from run
-IsRun-begins draw kept from run begun board save =
+    (run : Running B) → run.at ≡ run.start → run.board ≡ from → IsRun draw kept from run
+IsRun-begins draw kept from run begun board =
     let none : 0 ≡ run.at - run.start = omega (arith, begun) in
     record {
       begun = omega (arith, begun);
       within = omega (arith, begun);
       board = board ∙ ap (λ n. fold draw from (drawn_among (take n kept))) none;
-      save = save ∙ sym board;
     }
 
 -- all drawn anew from the savepoint of the group on
 pub IsRedrawn-run : {B Op : Type 0} → (draw : B → Op → B) (r : Rolled B Op) (mark : Mark)
-    (kept : List (KeptAct Op)) (save : PointSave B) (start position : ℕ) (old_last : B)
-    (old_saves : List (PointSave B)) (board last : B) (saves : List (PointSave B))
-    → kept ≡ kept_from r mark → start ≡ save_place mark.group → position ≡ r.table.position
-    → old_last ≡ r.last → old_saves ≡ r.saves → Contains r.saves save → save.point ≡ mark.group
-    → IsFinished draw (map (marked mark) kept) save.board start position old_last old_saves board
-    last saves
-    → IsRedrawn draw r mark board last saves
-IsRedrawn-run draw r mark kept save start position old_last old_saves board last saves kept_is
-    start_is position_is last_is saves_are begun point finished =
+    (kept : List (KeptAct Op)) (save : PointSave B) (old_saves : List (PointSave B)) (board : B)
+    (saves : List (PointSave B)) → kept ≡ kept_from r mark → old_saves ≡ r.saves
+    → Contains r.saves save → save.point ≡ mark.group
+    → IsFinished draw (map (marked mark) kept) save.board mark.group old_saves board saves
+    → IsRedrawn draw r mark board saves
+IsRedrawn-run draw r mark kept save old_saves board saves kept_is saves_are begun point finished =
     let from = save.board in
     record {
       from = from;
       begun = subst (λ p. Contains r.saves (record { point = p; board = from })) point begun;
       finished =
-          subst (λ xs. IsFinished draw (map (marked mark) xs) from (save_place mark.group)
-          r.table.position r.last r.saves board last saves) kept_is
-          (subst (λ n. IsFinished draw (map (marked mark) kept) from n r.table.position r.last
-          r.saves board last saves) start_is
-          (subst (λ n. IsFinished draw (map (marked mark) kept) from start n r.last r.saves board
-          last saves) position_is
-          (subst (λ b. IsFinished draw (map (marked mark) kept) from start position b r.saves board
-          last saves) last_is
-          (subst (λ xs. IsFinished draw (map (marked mark) kept) from start position old_last xs
-          board last saves) saves_are finished))));
+          subst (λ xs. IsFinished draw (map (marked mark) xs) from mark.group r.saves board saves)
+          kept_is
+          (subst (λ xs. IsFinished draw (map (marked mark) kept) from mark.group xs board saves)
+          saves_are finished);
     }
 
 -- the counters were as they are at the entry before the acts from the savepoint on were drawn
@@ -228,37 +213,21 @@ CountsFew-from weight r mark kept draws draws' draws'' tiles tiles' tiles'' kept
     (subst (λ n. CountsFew weight (commands_among kept) draws' draws'' n tiles'') same_tiles
     counts))
 
--- a savepoint falls due by the count of the acts that are kept
-pub due-by-kept : (position base kept oldest : ℕ) → position ≡ base + kept
-    → base ≡ save_place oldest → (position + 1) % 64 ≡ (kept + 1) % 64
-due-by-kept position base kept oldest up_to_end begins = omega (arith, up_to_end, begins)
-
--- the last savepoint, where one falls due
-pub last-due : {B : Type 0} → (count : ℕ) (board last : B) → count % 64 ≡ 0
-    → board ≡ last_after count board last
-last-due count board last due = sym (ap (λ n. if n == 0 then board else last) due)
-
--- the last savepoint, where none falls due
-pub last-stays : {B : Type 0} → (count : ℕ) (board last : B) → count % 64 ≢ 0
-    → last ≡ last_after count board last
-last-stays count board last stays =
-    sym (ap (λ b. if b then board else last) (ne_eqb (count % 64) 0 stays))
-
 -- the savepoints after an act, where those of the last Points are kept
-pub saves-made : {B Op : Type 0} → (table : Table) (act : Act Op) (last : B)
-    (old room new : List (PointSave B)) (save : Option (PointSave B)) (depth window position : ℕ)
+pub saves-made : {B Op : Type 0} → (table : Table) (act : Act Op) (board : B)
+    (old room new : List (PointSave B)) (save : Option (PointSave B)) (depth window : ℕ)
     → new ≡ last_few depth (room ++ option_to_list save)
     → depth ≡ unwrap_or (depth_in act) window → window ≡ table.window.depth → room ≡ old
-    → option_to_list save ≡ save_of position last act → position ≡ table.position
-    → new ≡ saves_after table last act old
-saves-made table act last old room new save depth window position new_is depth_is window_is room_is
-    save_is position_is =
+    → option_to_list save ≡ save_of table.position board act
+    → new ≡ saves_after table board act old
+saves-made table act board old room new save depth window new_is depth_is window_is room_is save_is
+    =
     let few : ℕ = unwrap_or (depth_in act) table.window.depth in
     new_is
     ∙ ap (λ n. last_few n (room ++ option_to_list save))
     (depth_is ∙ ap (unwrap_or (depth_in act)) window_is)
     ∙ ap (λ xs. last_few few (xs ++ option_to_list save)) room_is
-    ∙ ap (λ xs. last_few few (old ++ xs)) (save_is ∙ ap (λ n. save_of n last act) position_is)
+    ∙ ap (λ xs. last_few few (old ++ xs)) save_is
 
 -- the group that an act moves is in reach
 pub moved_is_eligible : {Op : Type 0} → (table : Table) (a : UserAct Op) (group : ℕ)

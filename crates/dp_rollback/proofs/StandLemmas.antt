@@ -1,13 +1,12 @@
 -- What stands for a history goes on to stand for it with one more act.
-use Rattle.std.proofs.Common.{◌≡◌, ℕ, ◌+◌, ◌-◌, ◌%◌, ◌<◌, ◌≤◌, ◌==◌, Bool, true, false}
+use Rattle.std.proofs.Common.{◌≡◌, ℕ, ◌+◌, ◌-◌, ◌<◌, ◌≤◌, Bool, true, false}
 use Rattle.std.proofs.Common.{List, [], ◌∷◌, ◌++◌, length, take, drop, map, get_or, Option, Some}
-use Rattle.std.proofs.Common.{None, refl, ap, sym, ◌∙◌, arith, subst, length-append, inl, inr}
-use Rattle.std.proofs.Common.{eq-eqb}
+use Rattle.std.proofs.Common.{None, refl, ap, sym, ◌∙◌, arith, subst}
 use Rattle.std.specs.Prelude.{if◌then◌else◌, nat_lt, unwrap_or}
 use Rattle.std.specs.List.{fold, All, Contains}
 use Rattle.std.specs.List.Sorted.{IsNonDecreasing}
 use Rattle.std.specs.Option.{ForSome, option_map}
-use Rattle.std.proofs.lemmas.Bool.{eqb-true, cases_lt, ltb-true, ltb-false}
+use Rattle.std.proofs.lemmas.Bool.{ltb-true, ltb-false}
 use Rattle.std.proofs.lemmas.List.{append-nil, take-append-le, drop-append-le, drop-drop, drop-map}
 use Rattle.std.proofs.lemmas.List.{take_all, take-append-drop, drop-take, take-take, get_or-map}
 use Rattle.std.proofs.lemmas.List.{length-map, map-append}
@@ -19,7 +18,8 @@ use Rattle.std.proofs.lemmas.Grind.{fold-append}
 use Rattle.dp_board.specs.declared.act.Act.{Act}
 use Rattle.dp_board.specs.declared.act.Act.TheVariants.{Point, Undo, Redo, Draw, Depth, Other}
 use Rattle.dp_board.specs.declared.act.UserAct.{UserAct}
-use Rattle.dp_board.specs.Strokes.{Window, concerned, strokes, moved_by, last_few, window_after}
+use Rattle.dp_board.specs.Strokes.{Window, Strokes, concerned, strokes, moved, moved_by, last_few}
+use Rattle.dp_board.specs.Strokes.{window_after}
 use Rattle.dp_board.specs.Commands.{command_of}
 use Rattle.dp_board.specs.Laws.{depth_in}
 use Rattle.dp_board.specs.Replay.{replay}
@@ -31,12 +31,12 @@ use Rattle.dp_rollback.specs.declared.kept.KeptAct.{KeptAct}
 use Rattle.dp_rollback.specs.declared.kept.Mark.{Mark}
 use Rattle.dp_rollback.specs.Kept.{kept_of, drawn_command, drawn_among, marked}
 use Rattle.dp_rollback.specs.Rollback.{PointSave, Rolled, Next, drawn_first, StandsFor, IsInOrder}
-use Rattle.dp_rollback.specs.Rollback.{let_go, grown, needless, put_on, FitsOn, save_place}
+use Rattle.dp_rollback.specs.Rollback.{let_go, grown, needless, put_on, FitsOn}
 use Rattle.dp_rollback.specs.Rollback.{points_of}
-use Rattle.dp_rollback.specs.Rollback.{board_saved, AreSaved, IsSpaced}
+use Rattle.dp_rollback.specs.Rollback.{board_at, AreSaved, KeepsReach}
 use Rattle.dp_rollback.specs.Runs.{run_to, saved_anew, save_anew}
 use Rattle.dp_rollback.specs.Moves.{mark_by, kept_in, kept_from, IsRedrawn, IsDrawnLast, IsDrawnFor}
-use Rattle.dp_rollback.specs.Moves.{IsKnown, IsNext, last_after, save_of, saves_after, mark_in}
+use Rattle.dp_rollback.specs.Moves.{IsKnown, IsNext, save_of, saves_after, mark_in}
 use Rattle.dp_rollback.specs.Laws.{Laws}
 use Rattle.dp_rollback.proofs.KeptLemmas.{command_of-is_draw, command_of-false}
 use Rattle.dp_rollback.proofs.HistoryLemmas.{length-kept_of, replay-kept_of, moved-no_draw}
@@ -59,7 +59,6 @@ StandsFor-let_go draw blank depth acts r count st = record {
   table = st.table;
   kept = ap (drop count) st.kept ∙ drop-drop count r.base (kept_of depth acts);
   board = st.board;
-  last = st.last;
   saves = st.saves;
 }
 
@@ -75,95 +74,76 @@ base-within : {B Op : Type 0} → (draw : B → Op → B) (blank : B) (depth : �
     → r.base + length r.kept ≡ length acts
 base-within draw blank depth acts r st order = sym order.up_to_end ∙ st.table.position
 
--- what is not 0 is more
-above_none : (n : ℕ) → (n == 0) ≡ false → 0 < n
-above_none n is = elim (cases_lt 0 n) [
-  | inl some ↦ some
-  | inr none ↦ let wrong : true ≡ false = sym (eq-eqb n 0 (omega arith)) ∙ is in cc
-]
-
 -- a savepoint is as it was after an act that moves no group
 saved-unmoved : {B Op : Type 0} → Laws Op → (draw : B → Op → B) (blank : B) (depth : ℕ)
     (acts : List (UserAct Op)) (a : UserAct Op) (table : Table) (n : ℕ) → a.user < 256
     → IsTableAfter depth acts table → moved_by depth acts a ≡ None → n ≤ length acts
-    → board_saved draw blank depth acts n ≡ board_saved draw blank depth (acts ++ a ∷ []) n
+    → board_at draw blank depth acts n ≡ board_at draw blank depth (acts ++ a ∷ []) n
 saved-unmoved laws draw blank depth acts a table n sender is none within =
     ap (λ kept. fold draw blank (drawn_among kept)) (sym (take-kept_of-unmoved laws depth acts a
-    table (save_place n) sender is none (omega (arith, within))))
+    table n sender is none within))
 
--- at a place of a savepoint all acts are drawn
+-- at the end all acts are drawn
 saved-whole : {B Op : Type 0} → Laws Op → (draw : B → Op → B) (blank : B) (depth : ℕ)
-    (acts : List (UserAct Op)) → length acts % 64 ≡ 0
-    → replay draw blank depth acts ≡ board_saved draw blank depth acts (length acts)
-saved-whole laws draw blank depth acts whole =
+    (acts : List (UserAct Op))
+    → replay draw blank depth acts ≡ board_at draw blank depth acts (length acts)
+saved-whole laws draw blank depth acts =
     replay-kept_of laws draw blank depth acts
-    ∙ ap (λ kept. fold draw blank (drawn_among kept)) (sym (take_all (save_place (length acts))
-    (kept_of depth acts) (omega (arith, whole, length-kept_of laws depth acts))))
+    ∙ ap (λ kept. fold draw blank (drawn_among kept)) (sym (take_all (length acts)
+    (kept_of depth acts) (omega (arith, length-kept_of laws depth acts))))
 
--- the last savepoint after an act
-last-next : {B Op : Type 0} → Laws Op → (draw : B → Op → B) (blank : B) (depth : ℕ)
-    (acts : List (UserAct Op)) (a : UserAct Op) (board last : B) (position : ℕ)
-    → position ≡ length acts → board ≡ replay draw blank depth (acts ++ a ∷ [])
-    → last ≡ board_saved draw blank depth (acts ++ a ∷ []) position
-    → last_after (position + 1) board last
-    ≡ board_saved draw blank depth (acts ++ a ∷ []) (length (acts ++ a ∷ []))
-last-next {B} {Op} laws draw blank depth acts a board last position here drawn saved =
-    by_test ((position + 1) % 64 == 0) refl
-  where
-    later : List (UserAct Op)
-    later = acts ++ a ∷ []
-
-    by_test : (b : Bool) → ((position + 1) % 64 == 0) ≡ b
-        → last_after (position + 1) board last ≡ board_saved draw blank depth later (length later)
-    by_test true is =
-        let whole : length later % 64 ≡ 0 =
-        ap (λ n. n % 64) (length-append acts (a ∷ []) ∙ ap (λ n. n + 1) (sym here))
-        ∙ eqb-true ((position + 1) % 64) 0 is in
-        ap (λ b. if b then board else last) is ∙ drawn ∙ saved-whole laws draw blank depth later
-        whole
-    by_test false is =
-        let part = above_none ((position + 1) % 64) is in
-        let same : save_place position ≡ save_place (length later) =
-        omega (arith, part, here, length-append acts (a ∷ [])) in
-        ap (λ b. if b then board else last) is ∙ saved
-        ∙ ap (λ n. fold draw blank (drawn_first depth later n)) same
-
--- each board is that before the last 64th act at or before its Point
+-- each board is that at its Point
 abbrev SavedIn : {B Op : Type 0}
     → (B → Op → B) → B → ℕ → List (UserAct Op) → PointSave B → Type 0
-SavedIn draw blank depth acts save = save.board ≡ board_saved draw blank depth acts save.point
+SavedIn draw blank depth acts save = save.board ≡ board_at draw blank depth acts save.point
 
 -- the savepoint of an act, where it is a Point
 save_of-in : {B Op : Type 0} → (draw : B → Op → B) (blank : B) (depth : ℕ)
-    (acts : List (UserAct Op)) (position : ℕ) (last : B) (act : Act Op)
-    → last ≡ board_saved draw blank depth acts position
-    → All (SavedIn draw blank depth acts) (save_of position last act)
-save_of-in draw blank depth acts position last Point saved =
-    All-cons (SavedIn draw blank depth acts) (record { point = position; board = last }) [] saved
+    (acts : List (UserAct Op)) (position : ℕ) (board : B) (act : Act Op)
+    → board ≡ board_at draw blank depth acts position
+    → All (SavedIn draw blank depth acts) (save_of position board act)
+save_of-in draw blank depth acts position board Point saved =
+    All-cons (SavedIn draw blank depth acts) (record { point = position; board = board }) [] saved
     (All-nil (SavedIn draw blank depth acts))
-save_of-in draw blank depth acts position last (Undo who) saved =
+save_of-in draw blank depth acts position board (Undo who) saved =
     All-nil (SavedIn draw blank depth acts)
-save_of-in draw blank depth acts position last (Redo who) saved =
+save_of-in draw blank depth acts position board (Redo who) saved =
     All-nil (SavedIn draw blank depth acts)
-save_of-in draw blank depth acts position last (Draw op) saved =
+save_of-in draw blank depth acts position board (Draw op) saved =
     All-nil (SavedIn draw blank depth acts)
-save_of-in draw blank depth acts position last (Depth d) saved =
+save_of-in draw blank depth acts position board (Depth d) saved =
     All-nil (SavedIn draw blank depth acts)
-save_of-in draw blank depth acts position last Other saved =
+save_of-in draw blank depth acts position board Other saved =
+    All-nil (SavedIn draw blank depth acts)
+
+-- an act that moves a group is no Point
+save_of-moved : {B Op : Type 0} → (s : Strokes) (draw : B → Op → B) (blank : B) (depth : ℕ)
+    (acts : List (UserAct Op)) (position : ℕ) (board : B) (act : Act Op) (group : ℕ)
+    → moved s act ≡ Some group → All (SavedIn draw blank depth acts) (save_of position board act)
+save_of-moved s draw blank depth acts position board Point group is =
+    let wrong : None ≡ Some group = is in cc
+save_of-moved s draw blank depth acts position board (Undo who) group is =
+    All-nil (SavedIn draw blank depth acts)
+save_of-moved s draw blank depth acts position board (Redo who) group is =
+    All-nil (SavedIn draw blank depth acts)
+save_of-moved s draw blank depth acts position board (Draw op) group is =
+    All-nil (SavedIn draw blank depth acts)
+save_of-moved s draw blank depth acts position board (Depth d) group is =
+    All-nil (SavedIn draw blank depth acts)
+save_of-moved s draw blank depth acts position board Other group is =
     All-nil (SavedIn draw blank depth acts)
 
 -- the savepoints after an act
 saves-next : {B Op : Type 0} → (draw : B → Op → B) (blank : B) (depth : ℕ)
-    (acts : List (UserAct Op)) (table : Table) (last : B) (act : Act Op)
+    (acts : List (UserAct Op)) (table : Table) (board : B) (act : Act Op)
     (saves : List (PointSave B)) → All (SavedIn draw blank depth acts) saves
-    → last ≡ board_saved draw blank depth acts table.position
-    → All (SavedIn draw blank depth acts) (saves_after table last act saves)
-saves-next draw blank depth acts table last act saves all saved =
-    let more = saves ++ save_of table.position last act in
+    → All (SavedIn draw blank depth acts) (save_of table.position board act)
+    → All (SavedIn draw blank depth acts) (saves_after table board act saves)
+saves-next draw blank depth acts table board act saves all saved =
+    let more = saves ++ save_of table.position board act in
     All-drop (SavedIn draw blank depth acts)
     (length more - unwrap_or (depth_in act) table.window.depth) more
-    (All-append (SavedIn draw blank depth acts) saves (save_of table.position last act) all
-    (save_of-in draw blank depth acts table.position last act saved))
+    (All-append (SavedIn draw blank depth acts) saves (save_of table.position board act) all saved)
 
 -- a Point that has a savepoint came before the position
 point-before : {B : Type 0} → (saves : List (PointSave B)) (n k : ℕ) (d : PointSave B)
@@ -196,20 +176,18 @@ before-of r order =
 
 -- an act that moves no group
 pub StandsFor-drawn : {B Op : Type 0} → Laws Op → (draw : B → Op → B) (blank : B) (depth : ℕ)
-    (acts : List (UserAct Op)) (a : UserAct Op) (r : Rolled B Op) (board last : B)
+    (acts : List (UserAct Op)) (a : UserAct Op) (r : Rolled B Op) (board : B)
     (saves : List (PointSave B)) → a.user < 256 → concerned a < 256
     → StandsFor draw blank depth acts r → IsInOrder r → moved_by depth acts a ≡ None
-    → IsDrawnLast draw r a.act board last saves
+    → IsDrawnLast draw r a.act board saves
     → StandsFor draw blank depth (acts ++ a ∷ []) (grown (record {
       act = kept_in r.table a;
       mark = None;
       strokes = next_strokes r.table a;
       board = board;
-      last = last_after (r.table.position + 1) board last;
-      saves = saves_after r.table last a.act saves;
+      saves = saves_after r.table r.board a.act saves;
     }) r)
-StandsFor-drawn laws draw blank depth acts a r board last saves sender known st order unmoved
-    made =
+StandsFor-drawn laws draw blank depth acts a r board saves sender known st order unmoved made =
     let all = kept_of depth acts in
     let k = kept_in r.table a in
     let later = acts ++ a ∷ [] in
@@ -225,9 +203,10 @@ StandsFor-drawn laws draw blank depth acts a r board last saves sender known st 
     ∙ sym (fold-drawn draw blank all (k ∷ []))
     ∙ ap (λ kept. fold draw blank (drawn_among kept)) (sym more)
     ∙ sym (replay-kept_of laws draw blank depth later) in
-    let saved : last ≡ board_saved draw blank depth later r.table.position =
-    made.last_stays ∙ st.last
-    ∙ ap (board_saved draw blank depth acts) (sym st.table.position)
+    let saved : r.board ≡ board_at draw blank depth later r.table.position =
+    st.board
+    ∙ saved-whole laws draw blank depth acts
+    ∙ ap (board_at draw blank depth acts) (sym st.table.position)
     ∙ saved-unmoved laws draw blank depth acts a r.table r.table.position sender st.table unmoved
     (omega (arith, st.table.position)) in
     record {
@@ -235,12 +214,11 @@ StandsFor-drawn laws draw blank depth acts a r board last saves sender known st 
       kept = kept-push r.base r.kept all k st.kept (omega (arith, count, whole))
           ∙ ap (drop r.base) (sym more);
       board = drawn;
-      last = last-next laws draw blank depth acts a board last r.table.position st.table.position
-          drawn saved;
-      saves = saves-next draw blank depth later r.table last a.act saves
+      saves = saves-next draw blank depth later r.table r.board a.act saves
           (subst (All (SavedIn draw blank depth later)) (sym made.saves_stay)
           (saves-unmoved laws draw blank depth acts a r.table r.saves sender st.table unmoved
-          (before-of r order) st.saves)) saved;
+          (before-of r order) st.saves))
+          (save_of-in draw blank depth later r.table.position r.board a.act saved);
     }
 
 -- a part and what comes after it make a longer part
@@ -256,15 +234,11 @@ pub record IsBefore {B Op : Type 0} (r : Rolled B Op) (mark : Mark) : Type 0 whe
   pub reach : oldest_in r.table ≤ mark.group
   pub before : mark.group < r.table.position
 
--- the place in the history of the savepoint that a move goes back to
-abbrev place_of : Mark → ℕ
-place_of mark = save_place mark.group
-
 -- what a redraw begins with, and what it draws
 record IsBegun {B Op : Type 0} (draw : B → Op → B) (blank : B) (r : Rolled B Op) (mark : Mark)
     (from : B) (all : List (KeptAct Op)) : Type 0 where
-  pub start : from ≡ fold draw blank (drawn_among (take (place_of mark) all))
-  pub rest : map (marked mark) (kept_from r mark) ≡ drop (place_of mark) all
+  pub start : from ≡ fold draw blank (drawn_among (take (mark.group) all))
+  pub rest : map (marked mark) (kept_from r mark) ≡ drop (mark.group) all
 
 -- the acts of a history with the flags of a mark
 abbrev marked_of : {Op : Type 0} → ℕ → List (UserAct Op) → Mark → List (KeptAct Op)
@@ -279,35 +253,34 @@ begun : {B Op : Type 0} → Laws Op → (draw : B → Op → B) (blank : B) (dep
     → IsBegun draw blank r (mark_by a group) from (marked_of depth acts (mark_by a group))
 begun laws draw blank depth acts a r group from sender st order some is among =
     let mark = mark_by a group in
-    let p = place_of mark in
     let all = kept_of depth acts in
-    let same : take p (map (marked mark) all) ≡ take p all =
-    take-marked laws depth acts a r.table group p sender st.table some (omega arith)
+    let same : take group (map (marked mark) all) ≡ take group all =
+    take-marked laws depth acts a r.table group group sender st.table some (omega arith)
     (omega (arith, is.before, st.table.position)) in
-    let at : r.base + (p - r.base) ≡ p = omega (arith, order.begins, is.reach) in
-    let saved : from ≡ board_saved draw blank depth acts group =
+    let at : r.base + (group - r.base) ≡ group = omega (arith, order.begins, is.reach) in
+    let saved : from ≡ board_at draw blank depth acts group =
     All-contains (SavedIn draw blank depth acts) r.saves (record { point = group; board = from })
     st.saves among in
     record {
       start = saved ∙ ap (λ kept. fold draw blank (drawn_among kept)) (sym same);
-      rest = ap (λ kept. map (marked mark) (drop (p - r.base) kept)) st.kept
-          ∙ ap (map (marked mark)) (drop-drop (p - r.base) r.base all
+      rest = ap (λ kept. map (marked mark) (drop (group - r.base) kept)) st.kept
+          ∙ ap (map (marked mark)) (drop-drop (group - r.base) r.base all
           ∙ ap (λ n. drop n all) at)
-          ∙ sym (drop-map (marked mark) p all);
+          ∙ sym (drop-map (marked mark) group all);
     }
 
 -- a part that is drawn from the savepoint on
 drawn_part : {B Op : Type 0} → (draw : B → Op → B) (blank : B) (r : Rolled B Op) (mark : Mark)
     (from : B) (all : List (KeptAct Op)) (count : ℕ) → IsBegun draw blank r mark from all
     → fold draw from (drawn_among (take count (map (marked mark) (kept_from r mark))))
-    ≡ fold draw blank (drawn_among (take (place_of mark + count) all))
+    ≡ fold draw blank (drawn_among (take (mark.group + count) all))
 drawn_part draw blank r mark from all count is =
     let rest = map (marked mark) (kept_from r mark) in
     ap (λ b. fold draw b (drawn_among (take count rest))) is.start
-    ∙ ap (λ kept. fold draw (fold draw blank (drawn_among (take (place_of mark) all)))
+    ∙ ap (λ kept. fold draw (fold draw blank (drawn_among (take (mark.group) all)))
     (drawn_among (take count kept))) is.rest
-    ∙ sym (fold-drawn draw blank (take (place_of mark) all) (take count (drop (place_of mark) all)))
-    ∙ ap (λ kept. fold draw blank (drawn_among kept)) (take-more (place_of mark) count all)
+    ∙ sym (fold-drawn draw blank (take (mark.group) all) (take count (drop (mark.group) all)))
+    ∙ ap (λ kept. fold draw blank (drawn_among kept)) (take-more (mark.group) count all)
 
 -- all that is drawn from the savepoint on
 drawn_rest : {B Op : Type 0} → (draw : B → Op → B) (blank : B) (r : Rolled B Op) (mark : Mark)
@@ -317,10 +290,10 @@ drawn_rest : {B Op : Type 0} → (draw : B → Op → B) (blank : B) (r : Rolled
 drawn_rest draw blank r mark from all is =
     let rest = map (marked mark) (kept_from r mark) in
     ap (λ b. fold draw b (drawn_among rest)) is.start
-    ∙ ap (λ kept. fold draw (fold draw blank (drawn_among (take (place_of mark) all)))
+    ∙ ap (λ kept. fold draw (fold draw blank (drawn_among (take (mark.group) all)))
     (drawn_among kept)) is.rest
-    ∙ sym (fold-drawn draw blank (take (place_of mark) all) (drop (place_of mark) all))
-    ∙ ap (λ kept. fold draw blank (drawn_among kept)) (take-append-drop (place_of mark) all)
+    ∙ sym (fold-drawn draw blank (take (mark.group) all) (drop (mark.group) all))
+    ∙ ap (λ kept. fold draw blank (drawn_among kept)) (take-append-drop (mark.group) all)
 
 -- the history with an act that moves a group has the commands of the acts with their new flags
 drawn_moved : {B Op : Type 0} → Laws Op → (draw : B → Op → B) (blank : B) (depth : ℕ)
@@ -360,12 +333,12 @@ saved-moved : {B Op : Type 0} → Laws Op → (draw : B → Op → B) (blank : B
     (acts : List (UserAct Op)) (a : UserAct Op) (r : Rolled B Op) (group : ℕ) (from old : B) (n : ℕ)
     → a.user < 256 → StandsFor draw blank depth acts r → moved_by depth acts a ≡ Some group
     → IsBegun draw blank r (mark_by a group) from (marked_of depth acts (mark_by a group))
-    → n ≤ length acts → old ≡ board_saved draw blank depth acts n
-    → saved_anew draw (map (marked (mark_by a group)) (kept_from r (mark_by a group)))
-    (save_place group) from n old ≡ board_saved draw blank depth (acts ++ a ∷ []) n
+    → n ≤ length acts → old ≡ board_at draw blank depth acts n
+    → saved_anew draw (map (marked (mark_by a group)) (kept_from r (mark_by a group))) group from n
+    old ≡ board_at draw blank depth (acts ++ a ∷ []) n
 saved-moved {B} {Op} laws draw blank depth acts a r group from old n sender st some is within
     saved =
-    by_test (nat_lt (save_place group) (save_place n)) refl
+    by_test (nat_lt group n) refl
   where
     later : List (UserAct Op)
     later = acts ++ a ∷ []
@@ -373,43 +346,39 @@ saved-moved {B} {Op} laws draw blank depth acts a r group from old n sender st s
     rest : List (KeptAct Op)
     rest = map (marked (mark_by a group)) (kept_from r (mark_by a group))
 
-    by_test : (b : Bool) → nat_lt (save_place group) (save_place n) ≡ b
-        → saved_anew draw rest (save_place group) from n old ≡ board_saved draw blank depth later n
+    by_test : (b : Bool) → nat_lt group n ≡ b
+        → saved_anew draw rest group from n old ≡ board_at draw blank depth later n
     by_test true is_later =
         let mark = mark_by a group in
         let all = marked_of depth acts mark in
-        let lt = ltb-true (save_place group) (save_place n) is_later in
-        let at : save_place group + (save_place n - save_place group) ≡ save_place n =
-        omega (arith, lt) in
-        ap (λ b. if b then run_to draw rest (save_place group) from n else old) is_later
-        ∙ drawn_part draw blank r mark from all (save_place n - save_place group) is
+        let lt = ltb-true group n is_later in
+        let at : group + (n - group) ≡ n = omega (arith, lt) in
+        ap (λ b. if b then run_to draw rest group from n else old) is_later
+        ∙ drawn_part draw blank r mark from all (n - group) is
         ∙ ap (λ m. fold draw blank (drawn_among (take m all))) at
-        ∙ sym (first_moved laws draw blank depth acts a r.table group (save_place n) sender st.table
-        some (omega (arith, within)))
+        ∙ sym (first_moved laws draw blank depth acts a r.table group n sender st.table some within)
     by_test false is_later =
-        let le = ltb-false (save_place group) (save_place n) is_later in
-        ap (λ b. if b then run_to draw rest (save_place group) from n else old) is_later
+        let le = ltb-false group n is_later in
+        ap (λ b. if b then run_to draw rest group from n else old) is_later
         ∙ saved
         ∙ ap (λ kept. fold draw blank (drawn_among kept)) (sym (take-kept_of-moved laws depth acts a
-        r.table group (save_place n) sender st.table some (omega (arith, le))
-        (omega (arith, within))))
+        r.table group n sender st.table some (omega (arith, le)) within))
 
 -- an act that moves a group
 pub StandsFor-redrawn : {B Op : Type 0} → Laws Op → (draw : B → Op → B) (blank : B) (depth : ℕ)
-    (acts : List (UserAct Op)) (a : UserAct Op) (r : Rolled B Op) (group : ℕ) (board last : B)
+    (acts : List (UserAct Op)) (a : UserAct Op) (r : Rolled B Op) (group : ℕ) (board : B)
     (saves : List (PointSave B)) → a.user < 256 → concerned a < 256
     → StandsFor draw blank depth acts r → IsInOrder r → moved_by depth acts a ≡ Some group
-    → IsBefore r (mark_by a group) → IsRedrawn draw r (mark_by a group) board last saves
+    → IsBefore r (mark_by a group) → IsRedrawn draw r (mark_by a group) board saves
     → StandsFor draw blank depth (acts ++ a ∷ []) (grown (record {
       act = kept_in r.table a;
       mark = Some (mark_by a group);
       strokes = next_strokes r.table a;
       board = board;
-      last = last_after (r.table.position + 1) board last;
-      saves = saves_after r.table last a.act saves;
+      saves = saves_after r.table r.board a.act saves;
     }) r)
-StandsFor-redrawn laws draw blank depth acts a r group board last saves sender known st order some
-    is made =
+StandsFor-redrawn laws draw blank depth acts a r group board saves sender known st order some is
+    made =
     let mark = mark_by a group in
     let all = kept_of depth acts in
     let later = acts ++ a ∷ [] in
@@ -422,14 +391,9 @@ StandsFor-redrawn laws draw blank depth acts a r group board last saves sender k
     made.finished.drawn
     ∙ drawn_rest draw blank r mark from (marked_of depth acts mark) begin
     ∙ sym (drawn_moved laws draw blank depth acts a r.table group sender st.table some) in
-    let saved : last ≡ board_saved draw blank depth later r.table.position =
-    made.finished.last_is
-    ∙ saved-moved laws draw blank depth acts a r group from r.last r.table.position sender st some
-    begin (omega (arith, st.table.position))
-    (st.last ∙ ap (board_saved draw blank depth acts) (sym st.table.position)) in
     let anew : All (SavedIn draw blank depth later)
-    (map (save_anew draw rest (save_place group) from) r.saves) =
-    All-map (SavedIn draw blank depth later) (save_anew draw rest (save_place group) from) r.saves
+    (map (save_anew draw rest group from) r.saves) =
+    All-map (SavedIn draw blank depth later) (save_anew draw rest group from) r.saves
     (λ k d within. saved-moved laws draw blank depth acts a r group from (get_or r.saves k d).board
     (get_or r.saves k d).point sender st some begin
     (omega (
@@ -446,34 +410,33 @@ StandsFor-redrawn laws draw blank depth acts a r group board last saves sender k
           ∙ ap (drop r.base) (sym (kept_of-moved laws depth acts a r.table group sender st.table
           some));
       board = drawn;
-      last = last-next laws draw blank depth acts a board last r.table.position st.table.position
-          drawn saved;
-      saves = saves-next draw blank depth later r.table last a.act saves
-          (subst (All (SavedIn draw blank depth later)) (sym made.finished.saves_are) anew) saved;
+      saves = saves-next draw blank depth later r.table r.board a.act saves
+          (subst (All (SavedIn draw blank depth later)) (sym made.finished.saves_are) anew)
+          (save_of-moved (strokes depth (concerned a) acts) draw blank depth later r.table.position
+          r.board a.act group some);
     }
 
 -- what is drawn for an act, where it moves a group or not
 drawn_for : {B Op : Type 0} → Laws Op → (draw : B → Op → B) (blank : B) (depth : ℕ)
-    (acts : List (UserAct Op)) (a : UserAct Op) (r : Rolled B Op) (o : Option ℕ) (board last : B)
+    (acts : List (UserAct Op)) (a : UserAct Op) (r : Rolled B Op) (o : Option ℕ) (board : B)
     (saves : List (PointSave B)) → a.user < 256 → concerned a < 256
     → StandsFor draw blank depth acts r → IsInOrder r → moved_by depth acts a ≡ o
     → ForSome (option_map (mark_by a) o) (λ mark. oldest_in r.table ≤ mark.group)
     → ForSome (option_map (mark_by a) o) (λ mark. mark.group < r.table.position)
-    → IsDrawnFor draw r a.act (option_map (mark_by a) o) board last saves
+    → IsDrawnFor draw r a.act (option_map (mark_by a) o) board saves
     → StandsFor draw blank depth (acts ++ a ∷ []) (grown (record {
       act = kept_in r.table a;
       mark = option_map (mark_by a) o;
       strokes = next_strokes r.table a;
       board = board;
-      last = last_after (r.table.position + 1) board last;
-      saves = saves_after r.table last a.act saves;
+      saves = saves_after r.table r.board a.act saves;
     }) r)
-drawn_for laws draw blank depth acts a r None board last saves sender known st order is reach before
+drawn_for laws draw blank depth acts a r None board saves sender known st order is reach before
     made =
-    StandsFor-drawn laws draw blank depth acts a r board last saves sender known st order is made
-drawn_for laws draw blank depth acts a r (Some group) board last saves sender known st order is
-    reach before made =
-    StandsFor-redrawn laws draw blank depth acts a r group board last saves sender known st order is
+    StandsFor-drawn laws draw blank depth acts a r board saves sender known st order is made
+drawn_for laws draw blank depth acts a r (Some group) board saves sender known st order is reach
+    before made =
+    StandsFor-redrawn laws draw blank depth acts a r group board saves sender known st order is
     (record { reach = reach (mark_by a group) refl; before = before (mark_by a group) refl }) made
 
 -- what an act makes of what stands for a history stands for it with the act
@@ -487,19 +450,17 @@ StandsFor-put_on {B} {Op} laws draw r a next known is blank depth acts st =
       mark = mark_in r.table a;
       strokes = next_strokes r.table a;
       board = next.board;
-      last = last_after (r.table.position + 1) next.board is.made.old_last;
-      saves = saves_after r.table is.made.old_last a.act is.made.old_saves;
+      saves = saves_after r.table r.board a.act is.made.old_saves;
     } in
     let same : made ≡ next =
     ap (λ k. record made { act = k }) (sym is.act)
     ∙ ap (λ m. record made { act = next.act; mark = m }) (sym is.mark)
     ∙ ap (λ s. record made { act = next.act; mark = next.mark; strokes = s }) (sym is.strokes)
-    ∙ ap (λ b. record next { last = b; saves = made.saves }) (sym is.made.last_is)
     ∙ ap (λ xs. record next { saves = xs }) (sym is.made.saves_are) in
     subst (λ n. StandsFor draw blank depth (acts ++ a ∷ []) (put_on n r)) same
     (StandsFor-let_go draw blank depth (acts ++ a ∷ []) (grown made r) (needless (grown made r))
-    (drawn_for laws draw blank depth acts a r (moved_in r.table a) next.board is.made.old_last
-    is.made.old_saves known.sender known.known st known.order
+    (drawn_for laws draw blank depth acts a r (moved_in r.table a) next.board is.made.old_saves
+    known.sender known.known st known.order
     (sym (laws.moved depth acts a r.table known.known st.table)) known.reach known.before
     is.made.drawn))
 
@@ -511,23 +472,23 @@ last_few-map f n xs =
     ∙ ap (λ m. drop (m - n) (map f xs)) (sym (length-map xs f))
 
 -- the Points that have savepoints after an act
-points-next : {B Op : Type 0} → (table : Table) (act : Act Op) (last : B)
+points-next : {B Op : Type 0} → (table : Table) (act : Act Op) (board : B)
     (saves : List (PointSave B)) → points_of saves ≡ table.window.points
-    → points_of (saves_after table last act saves)
+    → points_of (saves_after table board act saves)
     ≡ (window_after table.position act table.window).points
-points-next {B} {Op} table act last saves same =
+points-next {B} {Op} table act board saves same =
     last_few-map (λ save. save.point) (unwrap_or (depth_in act) table.window.depth)
-    (saves ++ save_of table.position last act)
+    (saves ++ save_of table.position board act)
     ∙ ap (last_few (unwrap_or (depth_in act) table.window.depth))
-    (map-append (λ save. save.point) saves (save_of table.position last act)
-    ∙ ap (λ ps. ps ++ points_of (save_of table.position last act)) same)
+    (map-append (λ save. save.point) saves (save_of table.position board act)
+    ∙ ap (λ ps. ps ++ points_of (save_of table.position board act)) same)
     ∙ by_act act
   where
     none : (n : ℕ) → last_few n (table.window.points ++ []) ≡ last_few n table.window.points
     none n = ap (last_few n) (append-nil table.window.points)
 
     by_act : (a : Act Op) → last_few (unwrap_or (depth_in a) table.window.depth)
-        (table.window.points ++ points_of (save_of table.position last a))
+        (table.window.points ++ points_of (save_of table.position board a))
         ≡ (window_after table.position a table.window).points
     by_act Point = refl
     by_act (Undo who) = none table.window.depth
@@ -555,12 +516,12 @@ rising-next position Other w rising before =
     IsNonDecreasingBy-drop (λ p. p) (length w.points - w.depth) w.points rising
 
 -- each Point in reach has its savepoint after an act
-pub AreSaved-next : {B Op : Type 0} → (table : Table) (act : Act Op) (last : B)
+pub AreSaved-next : {B Op : Type 0} → (table : Table) (act : Act Op) (board : B)
     (saves : List (PointSave B)) → AreSaved table.position table.window.points (points_of saves)
     → AreSaved (table.position + 1) (window_after table.position act table.window).points
-    (points_of (saves_after table last act saves))
-AreSaved-next table act last saves saved = record {
-  same = points-next table act last saves saved.same;
+    (points_of (saves_after table board act saves))
+AreSaved-next table act board saves saved = record {
+  same = points-next table act board saves saved.same;
   rising = rising-next table.position act table.window saved.rising saved.before;
   before = window_after-before table.position act table.window saved.before;
 }
@@ -577,18 +538,18 @@ depth-next position Other w = refl
 
 -- the positions after an act that comes next, where the acts before the first that an act may need
 -- are let go
-pub IsSpaced-next : {B Op : Type 0} → (table : Table) (a : UserAct Op) (last : B)
+pub KeepsReach-next : {B Op : Type 0} → (table : Table) (a : UserAct Op) (board : B)
     (saves : List (PointSave B)) (base kept base' kept' : ℕ)
-    → IsSpaced table base kept (points_of saves)
+    → KeepsReach table base kept (points_of saves)
     → oldest_in table ≤ oldest_in (table_with (next_strokes table a) table)
-    → base' ≡ base + (save_place (oldest_in (table_with (next_strokes table a) table)) - base)
+    → base' ≡ base + (oldest_in (table_with (next_strokes table a) table) - base)
     → base' + kept' ≡ base + kept + 1
-    → IsSpaced (table_with (next_strokes table a) table) base' kept'
-    (points_of (saves_after table last a.act saves))
-IsSpaced-next table a last saves base kept base' kept' is later begins count = record {
+    → KeepsReach (table_with (next_strokes table a) table) base' kept'
+    (points_of (saves_after table board a.act saves))
+KeepsReach-next table a board saves base kept base' kept' is later begins count = record {
   up_to_end = omega (arith, is.up_to_end, count);
   begins = omega (arith, is.begins, later, begins);
-  saved = AreSaved-next table a.act last saves is.saved;
+  saved = AreSaved-next table a.act board saves is.saved;
 }
 
 -- savepoints that are made anew are of the same Points
@@ -602,27 +563,26 @@ points-anew draw kept start from (save ∷ saves) =
 
 -- the savepoints that an act leaves are of the same Points, where it moves a group or not
 points-drawn : {B Op : Type 0} → (draw : B → Op → B) (r : Rolled B Op) (act : Act Op)
-    (o : Option Mark) (board last : B) (saves : List (PointSave B))
-    → IsDrawnFor draw r act o board last saves → points_of saves ≡ points_of r.saves
-points-drawn draw r act None board last saves made = ap points_of made.saves_stay
-points-drawn draw r act (Some mark) board last saves made =
+    (o : Option Mark) (board : B) (saves : List (PointSave B))
+    → IsDrawnFor draw r act o board saves → points_of saves ≡ points_of r.saves
+points-drawn draw r act None board saves made = ap points_of made.saves_stay
+points-drawn draw r act (Some mark) board saves made =
     ap points_of made.finished.saves_are
-    ∙ points-anew draw (map (marked mark) (kept_from r mark)) (save_place mark.group) made.from
-    r.saves
+    ∙ points-anew draw (map (marked mark) (kept_from r mark)) mark.group made.from r.saves
 
 -- what an act makes of it fits it, where there is room
 pub FitsOn-made : {B Op : Type 0} → (draw : B → Op → B) (r : Rolled B Op) (a : UserAct Op)
     (next : Next B Op) → IsKnown r a → IsNext draw r a next → 1 ≤ r.spare → FitsOn next r
 FitsOn-made draw r a next known is room =
     let made = is.made in
-    let same = points-drawn draw r a.act (mark_in r.table a) next.board made.old_last made.old_saves
-    made.drawn in
+    let same = points-drawn draw r a.act (mark_in r.table a) next.board made.old_saves made.drawn
+    in
     let saved : AreSaved (r.table.position + 1)
     (window_after r.table.position a.act r.table.window).points (points_of next.saves) =
     subst (λ saves. AreSaved (r.table.position + 1)
     (window_after r.table.position a.act r.table.window).points (points_of saves))
     (sym made.saves_are)
-    (AreSaved-next r.table a.act made.old_last made.old_saves
+    (AreSaved-next r.table a.act r.board made.old_saves
     (subst (AreSaved r.table.position r.table.window.points) (sym same) known.order.saved)) in
     record {
       room = room;
@@ -635,12 +595,11 @@ FitsOn-made draw r a next known is room =
 -- what has no act yet stands for the history without acts
 pub StandsFor-new : {B Op : Type 0} → (draw : B → Op → B) (blank : B) (depth : ℕ)
     (r : Rolled B Op) → IsTableAfter {Op = Op} depth [] r.table → r.base ≡ 0 → r.kept ≡ []
-    → r.board ≡ blank → r.last ≡ blank → r.saves ≡ [] → StandsFor draw blank depth [] r
-StandsFor-new {B} {Op} draw blank depth r table base kept board last saves = record {
+    → r.board ≡ blank → r.saves ≡ [] → StandsFor draw blank depth [] r
+StandsFor-new {B} {Op} draw blank depth r table base kept board saves = record {
   table = table;
   kept = kept ∙ sym (ap (λ n. drop n (kept_of {Op = Op} depth [])) base);
   board = board;
-  last = last;
   saves = subst (All (SavedIn {Op = Op} draw blank depth [])) (sym saves)
       (All-nil (SavedIn {Op = Op} draw blank depth []));
 }
@@ -653,7 +612,6 @@ StandsFor-spare draw blank depth acts r spare st = record {
   table = st.table;
   kept = st.kept;
   board = st.board;
-  last = st.last;
   saves = st.saves;
 }
 
@@ -666,6 +624,5 @@ StandsFor-put_spare draw blank depth acts next r spare st = record {
   table = st.table;
   kept = st.kept;
   board = st.board;
-  last = st.last;
   saves = st.saves;
 }

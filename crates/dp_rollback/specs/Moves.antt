@@ -1,8 +1,6 @@
 -- What is drawn for one more act.
-use Rattle.std.specs.Prelude.{◌≡◌, ℕ, ◌+◌, ◌-◌, ◌%◌, ◌<◌, ◌≤◌, ◌==◌, true, Option, Some}
-use Rattle.std.specs.Prelude.{None}
-use Rattle.std.specs.Prelude.{List, [], ◌∷◌, ◌++◌, drop, map}
-use Rattle.std.specs.Prelude.{if◌then◌else◌, unwrap_or}
+use Rattle.std.specs.Prelude.{◌≡◌, ℕ, ◌-◌, ◌<◌, ◌≤◌, true, Option, Some, None}
+use Rattle.std.specs.Prelude.{List, [], ◌∷◌, ◌++◌, drop, map, unwrap_or}
 use Rattle.std.specs.Option.{option_map, ForSome}
 use Rattle.std.specs.List.{fold, Contains}
 use Rattle.dp_board.specs.declared.act.Act.{Act}
@@ -18,7 +16,6 @@ use Rattle.dp_rollback.specs.declared.kept.KeptAct.{KeptAct}
 use Rattle.dp_rollback.specs.declared.kept.Mark.{Mark}
 use Rattle.dp_rollback.specs.Kept.{marked, commands_among}
 use Rattle.dp_rollback.specs.Rollback.{PointSave, Rolled, Next, IsInOrder, put_on, change_in}
-use Rattle.dp_rollback.specs.Rollback.{save_place}
 use Rattle.dp_rollback.specs.Runs.{IsFinished}
 
 -- the mark of an act that moves the group
@@ -33,56 +30,49 @@ mark_in table a = option_map (mark_by a) (moved_in table a)
 abbrev pub kept_in : {Op : Type 0} → Table → UserAct Op → KeptAct Op
 kept_in table a = record { act = a; join = joined_in table a; drawn = is_draw a.act }
 
--- the acts from the savepoint of a mark on
+-- the acts from the Point of the group of a mark on
 abbrev pub kept_from : {B Op : Type 0} → Rolled B Op → Mark → List (KeptAct Op)
-kept_from r mark = drop (save_place mark.group - r.base) r.kept
+kept_from r mark = drop (mark.group - r.base) r.kept
 
 -- the board and the savepoints after that of the group are those that the acts from there on give,
 -- with the flags of the mark
 pub record IsRedrawn {B Op : Type 0} (draw : B → Op → B) (r : Rolled B Op) (mark : Mark)
-    (board last : B) (saves : List (PointSave B)) : Type 0 where
+    (board : B) (saves : List (PointSave B)) : Type 0 where
   pub from : B
   pub begun : Contains r.saves (record { point = mark.group; board = from })
-  pub finished : IsFinished draw (map (marked mark) (kept_from r mark)) from
-      (save_place mark.group) r.table.position r.last r.saves board last saves
+  pub finished : IsFinished draw (map (marked mark) (kept_from r mark)) from mark.group r.saves
+      board saves
 
 -- the board has the command of an act, where it is one, and all savepoints stay
 pub record IsDrawnLast {B Op : Type 0} (draw : B → Op → B) (r : Rolled B Op) (act : Act Op)
-    (board last : B) (saves : List (PointSave B)) : Type 0 where
+    (board : B) (saves : List (PointSave B)) : Type 0 where
   pub drawn : board ≡ fold draw r.board (command_of act true)
-  pub last_stays : last ≡ r.last
   pub saves_stay : saves ≡ r.saves
 
 -- what is drawn for an act: all anew from a savepoint on, where it moves a group
 abbrev pub IsDrawnFor : {B Op : Type 0}
-    → (B → Op → B) → Rolled B Op → Act Op → Option Mark → B → B → List (PointSave B) → Type 0
-IsDrawnFor draw r act None board last saves = IsDrawnLast draw r act board last saves
-IsDrawnFor draw r act (Some mark) board last saves = IsRedrawn draw r mark board last saves
+    → (B → Op → B) → Rolled B Op → Act Op → Option Mark → B → List (PointSave B) → Type 0
+IsDrawnFor draw r act None board saves = IsDrawnLast draw r act board saves
+IsDrawnFor draw r act (Some mark) board saves = IsRedrawn draw r mark board saves
 
--- the last savepoint after as many acts
-abbrev pub last_after : {B : Type 0} → ℕ → B → B → B
-last_after count board last = if count % 64 == 0 then board else last
-
--- the savepoint of an act at a position, where it is a Point
+-- the savepoint of an act at a position, where it is a Point that comes on this board
 abbrev pub save_of : {B Op : Type 0} → ℕ → B → Act Op → List (PointSave B)
-save_of position last Point = (record { point = position; board = last }) ∷ []
-save_of position last act = []
+save_of position board Point = (record { point = position; board = board }) ∷ []
+save_of position board act = []
 
--- the savepoints after an act at a position: those of the last Points alone
+-- the savepoints after an act that comes on this board: those of the last Points alone
 abbrev pub saves_after : {B Op : Type 0}
     → Table → B → Act Op → List (PointSave B) → List (PointSave B)
-saves_after table last act saves =
+saves_after table board act saves =
     last_few (unwrap_or (depth_in act) table.window.depth)
-    (saves ++ save_of table.position last act)
+    (saves ++ save_of table.position board act)
 
 -- what is drawn for an act, with the savepoints after it
 pub record IsMade {B Op : Type 0} (draw : B → Op → B) (r : Rolled B Op) (act : Act Op)
-    (mark : Option Mark) (board last : B) (saves : List (PointSave B)) : Type 0 where
-  pub old_last : B
+    (mark : Option Mark) (board : B) (saves : List (PointSave B)) : Type 0 where
   pub old_saves : List (PointSave B)
-  pub drawn : IsDrawnFor draw r act mark board old_last old_saves
-  pub last_is : last ≡ last_after (r.table.position + 1) board old_last
-  pub saves_are : saves ≡ saves_after r.table old_last act old_saves
+  pub drawn : IsDrawnFor draw r act mark board old_saves
+  pub saves_are : saves ≡ saves_after r.table r.board act old_saves
 
 -- the commands that may be drawn for an act
 abbrev pub due_in : {B Op : Type 0} → Rolled B Op → Act Op → Option Mark → List Op
@@ -103,19 +93,17 @@ pub record IsNext {B Op : Type 0} (draw : B → Op → B) (r : Rolled B Op) (a :
   pub act : next.act ≡ kept_in r.table a
   pub mark : next.mark ≡ mark_in r.table a
   pub strokes : next.strokes ≡ next_strokes r.table a
-  pub made : IsMade draw r a.act (mark_in r.table a) next.board next.last next.saves
+  pub made : IsMade draw r a.act (mark_in r.table a) next.board next.saves
   pub later : oldest_in r.table ≤ oldest_in (table_with next.strokes r.table)
 
--- what an act makes of it that moves no group, where no savepoint falls due: it has the command of
--- the act, where it is one
+-- what an act makes of it that moves no group: it has the command of the act, where it is one
 abbrev pub next_here : {B Op : Type 0} → (B → Op → B) → Rolled B Op → UserAct Op → Next B Op
 next_here draw r a = record {
   act = kept_in r.table a;
   mark = None;
   strokes = next_strokes r.table a;
   board = fold draw r.board (command_of a.act true);
-  last = r.last;
-  saves = saves_after r.table r.last a.act r.saves;
+  saves = saves_after r.table r.board a.act r.saves;
 }
 
 -- it went on by an act, which did so to the board

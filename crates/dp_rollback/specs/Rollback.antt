@@ -1,5 +1,5 @@
 -- A board that goes on act by act, and back to savepoints.
-use Rattle.std.specs.Prelude.{◌≡◌, ℕ, ◌+◌, ◌-◌, ◌*◌, ◌/◌, ◌<◌, ◌≤◌, Option}
+use Rattle.std.specs.Prelude.{◌≡◌, ℕ, ◌+◌, ◌-◌, ◌<◌, ◌≤◌, Option}
 use Rattle.std.specs.Prelude.{List, [], ◌∷◌, ◌++◌, length, take, drop, map}
 use Rattle.std.specs.Prelude.{if◌then◌else◌, is_some}
 use Rattle.std.specs.List.{fold, All}
@@ -13,11 +13,7 @@ use Rattle.dp_rollback.specs.declared.kept.KeptAct.{KeptAct}
 use Rattle.dp_rollback.specs.declared.kept.Mark.{Mark}
 use Rattle.dp_rollback.specs.Kept.{kept_of, drawn_among, marked_all}
 
--- the last 64th place at or before a position
-abbrev pub save_place : ℕ → ℕ
-save_place position = 64 * (position / 64)
-
--- the savepoint of a Point in reach: the board before the 64th act at or before it
+-- the savepoint of a Point in reach: the board at it
 pub record PointSave (B : Type 0) : Type 0 where
   pub point : ℕ
   pub board : B
@@ -26,14 +22,13 @@ pub record PointSave (B : Type 0) : Type 0 where
 abbrev pub points_of : {B : Type 0} → List (PointSave B) → List ℕ
 points_of saves = map (λ save. save.point) saves
 
--- a board, the strokes of all users, the last acts, from the position `base` on, the last
--- savepoint, and those of the Points in reach. There is room for `spare` more acts
+-- a board, the strokes of all users, the last acts, from the position `base` on, and the savepoints
+-- of the Points in reach. There is room for `spare` more acts
 pub record Rolled (B Op : Type 0) : Type 0 where
   pub board : B
   pub table : Table
   pub base : ℕ
   pub kept : List (KeptAct Op)
-  pub last : B
   pub saves : List (PointSave B)
   pub spare : ℕ
 
@@ -44,18 +39,16 @@ pub record Next (B Op : Type 0) : Type 0 where
   pub mark : Option Mark
   pub strokes : NextStrokes
   pub board : B
-  pub last : B
   pub saves : List (PointSave B)
 
 -- the commands that are drawn among the first `count` acts of a history
 abbrev pub drawn_first : {Op : Type 0} → ℕ → List (UserAct Op) → ℕ → List Op
 drawn_first depth acts count = drawn_among (take count (kept_of depth acts))
 
--- the board before the last 64th act at or before a position of a history
-abbrev pub board_saved : {B Op : Type 0}
-    → (B → Op → B) → B → ℕ → List (UserAct Op) → ℕ → B
-board_saved draw blank depth acts position =
-    fold draw blank (drawn_first depth acts (save_place position))
+-- the board at a position of a history: the commands before it are drawn that are drawn in the
+-- whole history
+abbrev pub board_at : {B Op : Type 0} → (B → Op → B) → B → ℕ → List (UserAct Op) → ℕ → B
+board_at draw blank depth acts position = fold draw blank (drawn_first depth acts position)
 
 -- it stands for the acts of a history, from the board `blank` on
 pub record StandsFor {B Op : Type 0} (draw : B → Op → B) (blank : B) (depth : ℕ)
@@ -63,8 +56,7 @@ pub record StandsFor {B Op : Type 0} (draw : B → Op → B) (blank : B) (depth 
   pub table : IsTableAfter depth acts r.table
   pub kept : r.kept ≡ drop r.base (kept_of depth acts)
   pub board : r.board ≡ replay draw blank depth acts
-  pub last : r.last ≡ board_saved draw blank depth acts (length acts)
-  pub saves : All (λ save. save.board ≡ board_saved draw blank depth acts save.point) r.saves
+  pub saves : All (λ save. save.board ≡ board_at draw blank depth acts save.point) r.saves
 
 -- each Point in reach has its savepoint, in order, and there are no more; all came before the
 -- position
@@ -73,16 +65,16 @@ pub record AreSaved (position : ℕ) (points saved : List ℕ) : Type 0 where
   pub rising : IsNonDecreasing points
   pub before : All (λ point. point < position) points
 
--- acts are kept up to the end, from the 64th act at or before the oldest Point in reach on, and
--- the savepoints are those of the Points in reach
-pub record IsSpaced (table : Table) (base kept : ℕ) (points : List ℕ) : Type 0 where
+-- acts are kept up to the end, from the oldest Point in reach on, and the savepoints are those of
+-- the Points in reach
+pub record KeepsReach (table : Table) (base kept : ℕ) (points : List ℕ) : Type 0 where
   pub up_to_end : table.position ≡ base + kept
-  pub begins : base ≡ save_place (oldest_in table)
+  pub begins : base ≡ oldest_in table
   pub saved : AreSaved table.position table.window.points points
 
 -- the same of its value
 abbrev pub IsInOrder : {B Op : Type 0} → Rolled B Op → Type 0
-IsInOrder r = IsSpaced r.table r.base (length r.kept) (points_of r.saves)
+IsInOrder r = KeepsReach r.table r.base (length r.kept) (points_of r.saves)
 
 -- without the first `count` acts
 abbrev pub let_go : {B Op : Type 0} → ℕ → Rolled B Op → Rolled B Op
@@ -95,14 +87,13 @@ grown next r = record {
   table = table_with next.strokes r.table;
   base = r.base;
   kept = marked_all next.mark r.kept ++ next.act ∷ [];
-  last = next.last;
   saves = next.saves;
   spare = r.spare;
 }
 
 -- how many acts come before the first that an act may need
 abbrev pub needless : {B Op : Type 0} → Rolled B Op → ℕ
-needless r = save_place (oldest_in r.table) - r.base
+needless r = oldest_in r.table - r.base
 
 -- with what an act makes of it, and without the acts that no act may need any more
 abbrev pub put_on : {B Op : Type 0} → Next B Op → Rolled B Op → Rolled B Op

@@ -7,7 +7,7 @@ ghost use Rattle.dp_rollback.specs.Replays.{ReplayGoesOn};
 use dp_board::{each_act_has_a_flag, flags_go_on, groups_come_first, tables_follow};
 
 /// An act that moves no group may draw its own command alone. One that moves a group draws at most
-/// 64 more commands than there are acts after the point of that group.
+/// as many commands as there are acts from the point of that group on.
 pub fn few_are_due<Op>()
     ensures unmoved { OwnCommandIsDue Op }
     ensures moved { FewAreDue Op }

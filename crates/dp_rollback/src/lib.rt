@@ -1,8 +1,8 @@
 //! A board that is drawn on act by act, with undo and redo.
 //!
 //! After each act a `Rollback` is the replay of all of them. An act that moves a group goes back to
-//! the last savepoint before the group, and draws from there. What no act can undo any more is let
-//! go.
+//! the board as it was saved at the group's point, and draws from there. What no act can undo any
+//! more is let go.
 #![tactic(auto)]
 
 mod kept;

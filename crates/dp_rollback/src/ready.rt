@@ -7,7 +7,6 @@ use crate::kept::{KeptAct, Mark};
 use crate::saves::Save;
 use dp_board::{Board, Change, NextStrokes};
 use std::marker::Model;
-use std::sync::Arc;
 
 /// What an act makes of a rollback, with all the memory that it takes.
 #[derive(Drop)]
@@ -17,7 +16,6 @@ pub struct Ready<B: Board> {
     pub(crate) strokes: NextStrokes,
     pub(crate) depth: usize,
     pub(crate) board: B,
-    pub(crate) last: Arc<B>,
     pub(crate) saves: Vec<Save<B>>,
 }
 
@@ -32,7 +30,6 @@ impl<B: Board> Model for Ready<B> {
       mark = r.mark;
       strokes = r.strokes;
       board = r.board;
-      last = r.last.value;
       saves = r.saves.items;
     } };
 

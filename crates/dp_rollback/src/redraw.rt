@@ -2,6 +2,7 @@
 
 ghost use Rattle.std.specs.Prelude.{◌≡◌, true, map, OnOk, OnErr};
 ghost use Rattle.std.specs.List.{fold};
+ghost use Rattle.std.specs.Option.{ForSome};
 ghost use Rattle.dp_board.specs.Commands.{command_of};
 ghost use Rattle.dp_board.specs.Counts.{CountsFew};
 ghost use Rattle.dp_rollback.specs.Kept.{marked, drawn_among, commands_among};
@@ -10,6 +11,7 @@ use crate::kept::{KeptAct, Mark};
 use dp_board::{Act, Board};
 use dp_steps::Steps;
 use std::alloc::AllocError;
+use std::sync::Arc;
 use std::sync::ledger::Ledger;
 
 /// Draws the command of an act, where it is one and is to be drawn.
@@ -31,6 +33,36 @@ pub fn draw_act<B: Board, D: Ledger, T: Ledger>(
 {
     match act {
         Act::Draw(op) if drawn => board.draw(op, draws, tiles),
+        _ => Ok(()),
+    }
+}
+
+/// Draws the command of an act that comes next, where it is one. The board is then no more what it
+/// was saved as last.
+///
+/// # Errors
+///
+/// The board is as it was.
+pub(crate) fn draw_next<B: Board, D: Ledger, T: Ledger>(
+    board: &mut B,
+    last: &mut Option<Arc<B>>,
+    act: &Act<B::Op>,
+    draws: &mut Steps<D>,
+    tiles: &mut Steps<T>,
+) -> Result<(), AllocError>
+    requires { ForSome last.old (λ save. save.value ≡ board.old) }
+    ensures board { OnOk result (board.new ≡ fold B.drawn board.old (command_of act.now true)) }
+    ensures last { ForSome last.new (λ save. save.value ≡ board.new) }
+    ensures err { OnErr result (board.new ≡ board.old) }
+    ensures counts { CountsFew B.weight (command_of act.now true) draws.old draws.new tiles.old
+        tiles.new }
+{
+    match act {
+        Act::Draw(op) => {
+            board.draw(op, draws, tiles)?;
+            *last = None;
+            Ok(())
+        }
         _ => Ok(()),
     }
 }

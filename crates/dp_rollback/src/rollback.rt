@@ -1,11 +1,10 @@
 //! A board that goes on act by act, and back to savepoints.
 
-ghost use Rattle.std.specs.Prelude.{◌≡◌, ◌≢◌, ℕ, ◌+◌, ◌-◌, ◌%◌, ◌<◌, ◌≤◌, List, []};
+ghost use Rattle.std.specs.Prelude.{◌≡◌, ℕ, ◌+◌, ◌-◌, ◌<◌, ◌≤◌, List, []};
 ghost use Rattle.std.specs.Prelude.{◌∷◌, ◌++◌};
 ghost use Rattle.std.specs.Prelude.{true, length};
 ghost use Rattle.std.specs.Prelude.{IfOk, OnOk, OnErr, IfSome, IsTrue, None, if◌then◌else◌};
-ghost use Rattle.std.specs.Option.{ForSome};
-ghost use Rattle.std.specs.List.{sum_by};
+ghost use Rattle.std.specs.Option.{ForSome, option_to_list};
 ghost use Rattle.dp_board.specs.declared.act.UserAct.{UserAct as UserActOf};
 ghost use Rattle.dp_board.specs.Replay.{replay};
 ghost use Rattle.dp_board.specs.declared.act.Change.TheVariants.{Drew, Nothing};
@@ -15,21 +14,19 @@ ghost use Rattle.dp_board.specs.Strokes.{concerned, is_eligible};
 ghost use Rattle.dp_board.specs.Commands.{command_of};
 ghost use Rattle.dp_board.specs.Counts.{CountsFew};
 ghost use Rattle.dp_rollback.specs.Kept.{commands_among};
-ghost use Rattle.dp_rollback.specs.Due.{due_commands, change_of};
+ghost use Rattle.dp_rollback.specs.Due.{CountsDue, change_of};
 ghost use Rattle.dp_rollback.specs.Rollback.{StandsFor, IsInOrder, FitsOn, put_on, change_in};
-ghost use Rattle.dp_rollback.specs.Moves.{mark_in, kept_from, due_in};
+ghost use Rattle.dp_rollback.specs.Moves.{mark_in, kept_from, due_in, save_of};
 ghost use Rattle.dp_rollback.specs.Moves.{HasAdded};
 ghost use Rattle.dp_rollback.specs.Moves.{IsRedrawn, IsDrawnLast, IsMade, IsKnown, IsNext};
 
 use crate::kept::{KeptAct, Mark};
 use crate::laws::stroke_laws;
 use crate::ready::Ready;
-use crate::redraw::draw_act;
+use crate::redraw::{draw_act, draw_next};
 use crate::room::{add_act, let_go};
 use crate::run::Run;
-use crate::saves::{
-    SPACING, Save, copy_saves, depth_after, put_save, save_at, save_of, save_place,
-};
+use crate::saves::{Save, copy_saves, depth_after, note_save, put_save, save_at, save_of};
 use dp_board::{Act, Board, Change, StrokeTable, UserAct, concerned, tables_follow};
 use dp_steps::Steps;
 use std::alloc::{AllocError, Global};
@@ -38,7 +35,8 @@ use std::sync::Arc;
 use std::sync::ledger::Ledger;
 
 /// A board, drawn on act by act, that can go back: it holds the acts that an undo or a redo may
-/// still need, with a savepoint for each point in reach, and the last one.
+/// still need, with a savepoint for each point in reach. While nothing is drawn after a point, its
+/// savepoint is at hand as the last one, for the next point.
 #[derive(Drop)]
 pub struct Rollback<B: Board> {
     board: B,
@@ -46,7 +44,7 @@ pub struct Rollback<B: Board> {
     depth: usize,
     base: usize,
     kept: Vec<KeptAct<B::Op>>,
-    last: Arc<B>,
+    last: Option<Arc<B>>,
     saves: Vec<Save<B>>,
     alloc: Global,
 }
@@ -54,7 +52,8 @@ pub struct Rollback<B: Board> {
 impl<B: Board> Model for Rollback<B> {
     ghost use Rattle.std.specs.Prelude.{◌≡◌, ◌-◌, min};
     ghost use Rattle.std.specs.Vec.{vec_len, vec_capacity};
-    ghost use Rattle.dp_rollback.specs.Rollback.{Rolled, IsSpaced, points_of};
+    ghost use Rattle.std.specs.Option.{ForSome};
+    ghost use Rattle.dp_rollback.specs.Rollback.{Rolled, KeepsReach, points_of};
 
     ghost Value = { Rolled B B.Op };
 
@@ -63,13 +62,13 @@ impl<B: Board> Model for Rollback<B> {
       table = r.table;
       base = r.base;
       kept = r.kept.items;
-      last = r.last.value;
       saves = r.saves.items;
       spare = min (vec_capacity r.kept - vec_len r.kept) (vec_capacity r.saves - vec_len r.saves);
     } };
 
     ghost invariant = { λ r. (r.depth ≡ r.table.window.depth)
-        × IsSpaced r.table r.base (vec_len r.kept) (points_of r.saves.items) };
+        × (ForSome r.last (λ save. save.value ≡ r.board))
+        × KeepsReach r.table r.base (vec_len r.kept) (points_of r.saves.items) };
 }
 
 /// An equal act.
@@ -120,33 +119,23 @@ pub fn mark_of<Op>(table: &StrokeTable, act: &UserAct<Op>) -> Option<Mark>
 #[derive(Drop)]
 struct Drawn<B> {
     board: B,
-    last: Arc<B>,
     saves: Vec<Save<B>>,
 }
 
 impl<B: Board> Rollback<B> {
     /// A board on which nothing was drawn yet, where undo and redo reach the last `depth` points.
-    pub fn new<D: Ledger, T: Ledger>(
-        alloc: Global,
-        blank: B,
-        depth: u32,
-        draws: &mut Steps<D>,
-        tiles: &mut Steps<T>,
-    ) -> Result<Self, AllocError>
-        ensures stands { IfOk result (StandsFor B.drawn blank depth []) }
-        ensures no_draw { draws.new ≡ draws.old }
-        ensures no_tile { tiles.new ≡ tiles.old }
+    pub fn new(alloc: Global, blank: B, depth: u32) -> Result<Self, AllocError>
+        ensures { IfOk result (StandsFor B.drawn blank depth []) }
     {
         tables_follow::<B::Op>();
         let table = StrokeTable::new(alloc, depth)?;
-        let last = Arc::new(alloc, blank.share(draws, tiles)?)?;
         Ok(Rollback {
             board: blank,
             table,
             depth: depth as usize,
             base: 0,
             kept: Vec::new(alloc),
-            last,
+            last: None,
             saves: Vec::new(alloc),
             alloc,
         })
@@ -162,20 +151,21 @@ impl<B: Board> Rollback<B> {
         &self.board
     }
 
-    /// How many acts are held, in case an undo or a redo comes to need them.
+    /// How many acts are held, in case an undo or a redo comes to need them: those from the oldest
+    /// point in reach on.
     pub fn kept(&self) -> usize
         ensures value { result ≡ length self.now.kept }
-        ensures few { result < (self.now.table.position - oldest_in self.now.table) + 64 }
+        ensures few { result ≡ self.now.table.position - oldest_in self.now.table }
     {
         let _ = &self.base;
         self.kept.len()
     }
 
-    /// How many boards are held as savepoints at most: one for each point in reach, and the last.
-    /// Points without 64 acts between them share one.
+    /// How many boards are held as savepoints at most: one for each point in reach, and the last
+    /// one. Points with no draw between them share one.
     pub fn saves(&self) -> usize
         ensures value { result ≡ length self.now.saves + 1 }
-        ensures few { result ≤ length self.now.table.window.points + 2 }
+        ensures few { result ≡ length self.now.table.window.points + 1 }
     {
         let _ = &self.base;
         self.saves.len() + 1
@@ -204,14 +194,8 @@ impl<B: Board> Rollback<B> {
         ensures still { OnErr result ((blank : B) (depth : ℕ) (acts : List (UserActOf B.Op))
             → StandsFor B.drawn blank depth acts self.old
             → StandsFor B.drawn blank depth acts self.new) }
-        ensures draws_rise { draws.old ≤ draws.new }
-        ensures few_draws { (blank : B) (depth : ℕ) (acts : List (UserActOf B.Op))
-            → StandsFor B.drawn blank depth acts self.old → draws.new ≤ draws.old
-            + length (due_commands depth acts (record { user = user; act = act.now })) }
-        ensures tiles_rise { tiles.old ≤ tiles.new }
-        ensures few_tiles { (blank : B) (depth : ℕ) (acts : List (UserActOf B.Op))
-            → StandsFor B.drawn blank depth acts self.old → tiles.new ≤ tiles.old
-            + sum_by B.weight (due_commands depth acts (record { user = user; act = act.now })) }
+        ensures counts { CountsDue B.drawn B.weight self.old
+            (record { user = user; act = act.now }) draws.old draws.new tiles.old tiles.new }
     {
         stroke_laws::<B::Op>();
         let act = UserAct {
@@ -245,21 +229,16 @@ impl<B: Board> Rollback<B> {
         Ok(change)
     }
 
-    /// Whether an act that comes next moves no group, and no savepoint falls due after it.
+    /// Whether an act that comes next moves no group.
     fn is_plain(&self, act: &UserAct<B::Op>) -> bool
         ensures unmoved { IsTrue result → mark_in self.now.table act.now ≡ None }
-        ensures unsaved { IsTrue result → (self.now.table.position + 1) % 64 ≢ 0 }
         ensures order { IsInOrder self.now }
     {
         let _ = &self.base;
-        match mark_of(&self.table, act) {
-            Some(_) => false,
-            None => (self.kept.len() + 1) % SPACING != 0,
-        }
+        mark_of(&self.table, act).is_none()
     }
 
-    /// Adds an act that moves no group, where no savepoint falls due. The board itself is drawn on,
-    /// after all memory was got.
+    /// Adds an act that moves no group. The board itself is drawn on, after all memory was got.
     fn draw_here<D: Ledger, T: Ledger>(
         &mut self,
         act: UserAct<B::Op>,
@@ -268,7 +247,6 @@ impl<B: Board> Rollback<B> {
     ) -> Result<Change, AllocError>
         requires room { 1 ≤ self.old.spare }
         requires unmoved { mark_in self.old.table act ≡ None }
-        requires unsaved { (self.old.table.position + 1) % 64 ≢ 0 }
         ensures sender { act.user < 256 }
         ensures known { concerned act < 256 }
         ensures added { IfOk result (λ change. HasAdded B.drawn self.old act change self.new) }
@@ -278,15 +256,16 @@ impl<B: Board> Rollback<B> {
     {
         let join = self.table.join_of(&act);
         let drawn = is_draw(&act.act);
-        let save = save_of(self.table.position(), &self.last, &act.act)?;
+        let save = self.saved_for(&act.act, draws, tiles)?;
+        note_save(&mut self.last, &save)?;
         let strokes = self.table.next(self.alloc, &act)?;
-        draw_act(&mut self.board, &act.act, true, draws, tiles)?;
+        draw_next(&mut self.board, &mut self.last, &act.act, draws, tiles)?;
         let depth = depth_after(self.depth, &act.act);
         self.depth = depth;
         put_save(&mut self.saves, save, depth);
         self.table.put(strokes);
         self.kept.push_reserved(KeptAct { act, join, drawn });
-        let first = save_place(self.table.oldest());
+        let first = self.table.oldest();
         let_go(&mut self.base, &mut self.kept, first);
         Ok(change_by_draw(drawn))
     }
@@ -316,14 +295,8 @@ impl<B: Board> Rollback<B> {
         ensures change { IfOk result (λ ready. (blank : B) (depth : ℕ)
             (acts : List (UserActOf B.Op)) → StandsFor B.drawn blank depth acts self.old
             → change_in ready ≡ change_of depth acts (record { user = user; act = act.now })) }
-        ensures draws_rise { draws.old ≤ draws.new }
-        ensures few_draws { (blank : B) (depth : ℕ) (acts : List (UserActOf B.Op))
-            → StandsFor B.drawn blank depth acts self.old → draws.new ≤ draws.old
-            + length (due_commands depth acts (record { user = user; act = act.now })) }
-        ensures tiles_rise { tiles.old ≤ tiles.new }
-        ensures few_tiles { (blank : B) (depth : ℕ) (acts : List (UserActOf B.Op))
-            → StandsFor B.drawn blank depth acts self.old → tiles.new ≤ tiles.old
-            + sum_by B.weight (due_commands depth acts (record { user = user; act = act.now })) }
+        ensures counts { CountsDue B.drawn B.weight self.old
+            (record { user = user; act = act.now }) draws.old draws.new tiles.old tiles.new }
     {
         stroke_laws::<B::Op>();
         let act = UserAct {
@@ -351,14 +324,13 @@ impl<B: Board> Rollback<B> {
         let strokes = self.table.next(self.alloc, &act)?;
         let drawn = is_draw(&act.act);
         let depth = depth_after(self.depth, &act.act);
-        let Drawn { board, last, saves } = self.drawn(&act.act, mark, draws, tiles)?;
+        let Drawn { board, saves } = self.drawn(&act.act, mark, draws, tiles)?;
         Ok(Ready {
             act: KeptAct { act, join, drawn },
             mark,
             strokes,
             depth,
             board,
-            last,
             saves,
         })
     }
@@ -397,27 +369,44 @@ impl<B: Board> Rollback<B> {
         requires reach { ForSome mark (λ mark. oldest_in self.now.table ≤ mark.group) }
         requires before { ForSome mark (λ mark. mark.group < self.now.table.position) }
         ensures made { IfOk result (λ drawn. IsMade B.drawn self.now act.now mark
-            drawn.board drawn.last.value drawn.saves.items) }
+            drawn.board drawn.saves.items) }
         ensures counts { CountsFew B.weight (due_in self.now act.now mark) draws.old draws.new
             tiles.old tiles.new }
     {
-        let Drawn {
-            board,
-            last,
-            mut saves,
-        } = match mark {
+        let Drawn { board, mut saves } = match mark {
             None => self.drawn_last(act, draws, tiles)?,
             Some(mark) => self.redrawn(mark, draws, tiles)?,
         };
-        let save = save_of(self.table.position(), &last, act)?;
+        let save = self.saved_for(act, draws, tiles)?;
         saves.reserve(1)?;
         put_save(&mut saves, save, depth_after(self.depth, act));
-        let last = if (self.kept.len() + 1) % SPACING == 0 {
-            Arc::new(self.alloc, board.share(draws, tiles)?)?
-        } else {
-            last
-        };
-        Ok(Drawn { board, last, saves })
+        Ok(Drawn { board, saves })
+    }
+
+    /// The savepoint of an act that comes next, where it is a point.
+    fn saved_for<D: Ledger, T: Ledger>(
+        &self,
+        act: &Act<B::Op>,
+        draws: &mut Steps<D>,
+        tiles: &mut Steps<T>,
+    ) -> Result<Option<Save<B>>, AllocError>
+        ensures saved { IfOk result (λ save. option_to_list save
+            ≡ save_of self.now.table.position self.now.board act.now) }
+        ensures board { IfOk result (λ made. ForSome made
+            (λ save. save.board ≡ self.now.board)) }
+        ensures no_draw { draws.new ≡ draws.old }
+        ensures no_tile { tiles.new ≡ tiles.old }
+    {
+        let position = self.table.position();
+        save_of(
+            self.alloc,
+            position,
+            &self.board,
+            &self.last,
+            act,
+            draws,
+            tiles,
+        )
     }
 
     /// The board with the command of an act, where it is one.
@@ -428,7 +417,7 @@ impl<B: Board> Rollback<B> {
         tiles: &mut Steps<T>,
     ) -> Result<Drawn<B>, AllocError>
         ensures made { IfOk result (λ drawn. IsDrawnLast B.drawn self.now act.now
-            drawn.board drawn.last.value drawn.saves.items) }
+            drawn.board drawn.saves.items) }
         ensures counts { CountsFew B.weight (command_of act.now true) draws.old draws.new tiles.old
             tiles.new }
     {
@@ -436,7 +425,6 @@ impl<B: Board> Rollback<B> {
         draw_act(&mut board, act, true, draws, tiles)?;
         Ok(Drawn {
             board,
-            last: self.last.clone()?,
             saves: copy_saves(self.alloc, &self.saves)?,
         })
     }
@@ -452,33 +440,21 @@ impl<B: Board> Rollback<B> {
         requires reach { oldest_in self.now.table ≤ mark.group }
         requires before { mark.group < self.now.table.position }
         ensures made { IfOk result (λ drawn. IsRedrawn B.drawn self.now mark
-            drawn.board drawn.last.value drawn.saves.items) }
+            drawn.board drawn.saves.items) }
         ensures counts { CountsFew B.weight (commands_among (kept_from self.now mark)) draws.old
             draws.new tiles.old tiles.new }
     {
         let Some(from) = save_at(&self.saves, mark.group) else {
             unreachable!()
         };
-        let start = save_place(mark.group);
         let run = Run {
-            start,
-            at: start,
+            start: mark.group,
+            at: mark.group,
             board: from.board.share(draws, tiles)?,
-            save: from.board.clone()?,
         };
-        let kept = &self.kept[start - self.base..];
-        let position = self.table.position();
-        let (board, last, saves) = run.finish(
-            self.alloc,
-            kept,
-            mark,
-            position,
-            &self.last,
-            &self.saves,
-            draws,
-            tiles,
-        )?;
-        Ok(Drawn { board, last, saves })
+        let kept = &self.kept[mark.group - self.base..];
+        let (board, saves) = run.finish(self.alloc, kept, mark, &self.saves, draws, tiles)?;
+        Ok(Drawn { board, saves })
     }
 
     /// Adds the act that was made ready. It takes no memory.
@@ -503,16 +479,15 @@ impl<B: Board> Rollback<B> {
             strokes,
             depth,
             board,
-            last,
             saves,
         } = ready;
         add_act(&mut self.kept, mark, act);
         self.table.put(strokes);
         self.depth = depth;
         self.board = board;
-        self.last = last;
+        self.last = None;
         self.saves = saves;
-        let first = save_place(self.table.oldest());
+        let first = self.table.oldest();
         let_go(&mut self.base, &mut self.kept, first);
     }
 

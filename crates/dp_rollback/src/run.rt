@@ -6,12 +6,12 @@ ghost use Rattle.std.specs.List.{All};
 ghost use Rattle.std.specs.List.Sorted.{IsNonDecreasing};
 ghost use Rattle.dp_board.specs.Counts.{CountsFew};
 ghost use Rattle.dp_rollback.specs.Kept.{marked, commands_among};
-ghost use Rattle.dp_rollback.specs.Rollback.{save_place, points_of};
+ghost use Rattle.dp_rollback.specs.Rollback.{points_of};
 ghost use Rattle.dp_rollback.specs.Runs.{IsRun, IsFinished, LeavesFew, save_anew};
 
 use crate::kept::{KeptAct, Mark};
 use crate::redraw::redraw;
-use crate::saves::{Save, save_place};
+use crate::saves::Save;
 use dp_board::Board;
 use dp_steps::Steps;
 use std::alloc::{AllocError, Global};
@@ -19,13 +19,12 @@ use std::marker::Model;
 use std::sync::Arc;
 use std::sync::ledger::Ledger;
 
-/// A board that is drawn anew: where it began, where it is, and its last savepoint.
+/// A board that is drawn anew: where it began, and where it is.
 #[derive(Drop)]
 pub(crate) struct Run<B> {
     pub start: usize,
     pub at: usize,
     pub board: B,
-    pub save: Arc<B>,
 }
 
 impl<B> Model for Run<B> {
@@ -37,19 +36,17 @@ impl<B> Model for Run<B> {
       start = r.start;
       at = r.at;
       board = r.board;
-      save = r.save.value;
     } };
 }
 
 impl<B: Board> Run<B> {
-    /// Draws on to the savepoint of a position, and makes it, where it comes later.
+    /// Draws on to a position, where that comes later.
     ///
     /// # Errors
     ///
     /// Some of the commands were drawn.
     fn go_to<D: Ledger, T: Ledger>(
         &mut self,
-        alloc: Global,
         kept: &[KeptAct<B::Op>],
         mark: Mark,
         position: usize,
@@ -58,9 +55,9 @@ impl<B: Board> Run<B> {
     ) -> Result<(), AllocError>
         requires begun { self.old.start ≤ self.old.at }
         requires inside { self.old.at - self.old.start ≤ length kept.now }
-        requires within { save_place position - self.old.start ≤ length kept.now }
+        requires within { position - self.old.start ≤ length kept.now }
         ensures start { self.new.start ≡ self.old.start }
-        ensures at { OnOk result (self.new.at ≡ max self.old.at (save_place position)) }
+        ensures at { OnOk result (self.new.at ≡ max self.old.at position) }
         ensures run { OnOk result ((from : B)
             → IsRun B.drawn (map (marked mark) kept.now) from self.old
             → IsRun B.drawn (map (marked mark) kept.now) from self.new) }
@@ -70,26 +67,32 @@ impl<B: Board> Run<B> {
         ensures left { OnOk result (LeavesFew B.weight kept.now (self.old.at - self.old.start)
             (self.new.at - self.new.start) draws.old draws.new tiles.old tiles.new) }
     {
-        let place = save_place(position);
-        if place <= self.at {
+        if position <= self.at {
             return Ok(());
         }
-        let more = &kept[self.at - self.start..place - self.start];
+        let more = &kept[self.at - self.start..position - self.start];
         redraw(&mut self.board, more, mark, draws, tiles)?;
-        self.save = Arc::new(alloc, self.board.share(draws, tiles)?)?;
-        self.at = place;
+        self.at = position;
         Ok(())
     }
 
-    /// The savepoint of a position, where it has come to that: `old`, where that comes no later
+    /// The savepoint of a point, where it has come to that: `old`, where the point comes no later
     /// than the start.
-    fn saved(&self, position: usize, old: &Arc<B>) -> Result<Arc<B>, AllocError>
-        ensures { IfOk result (λ save. save.value
-            ≡ (if nat_lt self.now.start (save_place position) then self.now.save
-            else old.now.value)) }
+    fn saved<D: Ledger, T: Ledger>(
+        &self,
+        alloc: Global,
+        point: usize,
+        old: &Arc<B>,
+        draws: &mut Steps<D>,
+        tiles: &mut Steps<T>,
+    ) -> Result<Arc<B>, AllocError>
+        ensures saved { IfOk result (λ save. save.value
+            ≡ (if nat_lt self.now.start point then self.now.board else old.now.value)) }
+        ensures no_draw { draws.new ≡ draws.old }
+        ensures no_tile { tiles.new ≡ tiles.old }
     {
-        if self.start < save_place(position) {
-            self.save.clone()
+        if self.start < point {
+            Ok(Arc::new(alloc, self.board.share(draws, tiles)?)?)
         } else {
             old.clone()
         }
@@ -112,14 +115,11 @@ impl<B: Board> Run<B> {
     ) -> Result<Vec<Save<B>>, AllocError>
         requires begun { self.old.at ≡ self.old.start }
         requires rising { IsNonDecreasing (points_of old.now) }
-        requires within { All (λ point. save_place point - self.old.start ≤ length kept.now)
+        requires within { All (λ point. point - self.old.start ≤ length kept.now)
             (points_of old.now) }
         ensures start { self.new.start ≡ self.old.start }
         ensures begun { OnOk result (self.new.start ≤ self.new.at) }
         ensures inside { OnOk result (self.new.at - self.new.start ≤ length kept.now) }
-        ensures at { OnOk result ((position : ℕ) → All (λ point. point ≤ position)
-            (points_of old.now) → self.old.start ≤ save_place position
-            → self.new.at ≤ save_place position) }
         ensures run { OnOk result ((from : B)
             → IsRun B.drawn (map (marked mark) kept.now) from self.old
             → IsRun B.drawn (map (marked mark) kept.now) from self.new) }
@@ -133,8 +133,8 @@ impl<B: Board> Run<B> {
     {
         let mut saves = Vec::with_capacity(alloc, old.len())?;
         for save in old {
-            self.go_to(alloc, kept, mark, save.point, draws, tiles)?;
-            let board = self.saved(save.point, &save.board)?;
+            self.go_to(kept, mark, save.point, draws, tiles)?;
+            let board = self.saved(alloc, save.point, &save.board, draws, tiles)?;
             saves.push(Save {
                 point: save.point,
                 board,
@@ -143,8 +143,8 @@ impl<B: Board> Run<B> {
         Ok(saves)
     }
 
-    /// The board with all acts, the last savepoint, which is that of a position, and the savepoints
-    /// of the points before it.
+    /// The board with all acts, and the savepoints of points in order: as they were, or drawn anew
+    /// where they come later than the start.
     ///
     /// # Errors
     ///
@@ -154,29 +154,24 @@ impl<B: Board> Run<B> {
         alloc: Global,
         kept: &[KeptAct<B::Op>],
         mark: Mark,
-        position: usize,
-        last: &Arc<B>,
         saves: &[Save<B>],
         draws: &mut Steps<D>,
         tiles: &mut Steps<T>,
-    ) -> Result<(B, Arc<B>, Vec<Save<B>>), AllocError>
+    ) -> Result<(B, Vec<Save<B>>), AllocError>
         requires begun { self.at ≡ self.start }
         requires rising { IsNonDecreasing (points_of saves.now) }
-        requires before { All (λ point. point < position) (points_of saves.now) }
-        requires first { self.start ≤ save_place position }
-        requires within { save_place position - self.start ≤ length kept.now }
+        requires within { All (λ point. point - self.start ≤ length kept.now)
+            (points_of saves.now) }
         ensures redrawn { IfOk result (λ made. (from : B)
             → IsRun B.drawn (map (marked mark) kept.now) from self
-            → IsFinished B.drawn (map (marked mark) kept.now) from self.start position
-            last.now.value saves.now made.0 made.1.value made.2.items) }
+            → IsFinished B.drawn (map (marked mark) kept.now) from self.start saves.now made.0
+            made.1.items) }
         ensures counts { CountsFew B.weight (commands_among kept.now) draws.old draws.new
             tiles.old tiles.new }
     {
         let saves = self.saves(alloc, kept, mark, saves, draws, tiles)?;
-        self.go_to(alloc, kept, mark, position, draws, tiles)?;
-        let last = self.saved(position, last)?;
         let more = &kept[self.at - self.start..];
         redraw(&mut self.board, more, mark, draws, tiles)?;
-        Ok((self.board, last, saves))
+        Ok((self.board, saves))
     }
 }

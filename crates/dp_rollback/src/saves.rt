@@ -1,26 +1,24 @@
 //! Savepoints of the points in reach.
 
-ghost use Rattle.std.specs.Prelude.{◌≡◌, ◌++◌, ◌<◌, ◌≤◌, IfOk, IfSome, unwrap_or, length, map};
+ghost use Rattle.std.specs.Prelude.{◌≡◌, ◌++◌, ◌<◌, IfOk, IfSome, unwrap_or};
 ghost use Rattle.std.specs.Prelude.{is_some};
-ghost use Rattle.std.specs.Option.{option_to_list};
+ghost use Rattle.std.specs.Option.{ForSome, option_to_list};
 ghost use Rattle.std.specs.Vec.{vec_len, vec_capacity};
 ghost use Rattle.std.specs.List.{Contains};
 ghost use Rattle.dp_board.specs.Laws.{depth_in};
 ghost use Rattle.dp_board.specs.Strokes.{last_few, is_among};
-ghost use Rattle.dp_rollback.specs.Rollback.{save_place, points_of};
+ghost use Rattle.dp_rollback.specs.Rollback.{points_of};
 ghost use Rattle.dp_rollback.specs.Moves.{save_of};
 
 use crate::room::drop_first;
-use dp_board::Act;
+use dp_board::{Act, Board};
+use dp_steps::Steps;
 use std::alloc::{AllocError, Global};
 use std::marker::Model;
 use std::sync::Arc;
+use std::sync::ledger::Ledger;
 
-/// How many acts come between two places where savepoints may be.
-pub(crate) const SPACING: usize = 64;
-
-/// The savepoint of a point: the board before the last 64th act at or before it. Points between the
-/// same two places share one board.
+/// The savepoint of a point: the board at it. Points with no draw between them share one board.
 #[derive(Drop)]
 pub(crate) struct Save<B> {
     pub point: usize,
@@ -33,13 +31,6 @@ impl<B> Model for Save<B> {
     ghost Value = { PointSave B };
 
     ghost view = { λ save. record { point = save.point; board = save.board.value } };
-}
-
-/// The last place of a savepoint at or before a position.
-pub(crate) fn save_place(position: usize) -> usize
-    ensures { result ≡ save_place position }
-{
-    SPACING * (position / SPACING)
 }
 
 /// The same savepoints once more.
@@ -59,21 +50,64 @@ pub(crate) fn copy_saves<B: Drop>(
     Ok(copies)
 }
 
+/// A board as it is now: what it was saved as last, where it has not changed since.
+fn save_board<B: Board, D: Ledger, T: Ledger>(
+    alloc: Global,
+    board: &B,
+    last: &Option<Arc<B>>,
+    draws: &mut Steps<D>,
+    tiles: &mut Steps<T>,
+) -> Result<Arc<B>, AllocError>
+    requires { ForSome last.now (λ save. save.value ≡ board.now) }
+    ensures saved { IfOk result (λ save. save.value ≡ board.now) }
+    ensures no_draw { draws.new ≡ draws.old }
+    ensures no_tile { tiles.new ≡ tiles.old }
+{
+    match last {
+        Some(save) => save.clone(),
+        None => Ok(Arc::new(alloc, board.share(draws, tiles)?)?),
+    }
+}
+
 /// The savepoint of an act that comes next, where it is a point.
-pub(crate) fn save_of<B: Drop, Op>(
+pub(crate) fn save_of<B: Board, D: Ledger, T: Ledger>(
+    alloc: Global,
     position: usize,
-    last: &Arc<B>,
-    act: &Act<Op>,
+    board: &B,
+    last: &Option<Arc<B>>,
+    act: &Act<B::Op>,
+    draws: &mut Steps<D>,
+    tiles: &mut Steps<T>,
 ) -> Result<Option<Save<B>>, AllocError>
-    ensures { IfOk result (λ save. option_to_list save ≡ save_of position last.now.value act.now) }
+    requires { ForSome last.now (λ save. save.value ≡ board.now) }
+    ensures saved { IfOk result
+        (λ save. option_to_list save ≡ save_of position board.now act.now) }
+    ensures board { IfOk result (λ made. ForSome made (λ save. save.board ≡ board.now)) }
+    ensures no_draw { draws.new ≡ draws.old }
+    ensures no_tile { tiles.new ≡ tiles.old }
 {
     Ok(match act {
         Act::Point => Some(Save {
             point: position,
-            board: last.clone()?,
+            board: save_board(alloc, board, last, draws, tiles)?,
         }),
         _ => None,
     })
+}
+
+/// Goes on with the board of a savepoint as the last one that was saved, where there is one.
+pub(crate) fn note_save<B: Drop>(
+    last: &mut Option<Arc<B>>,
+    save: &Option<Save<B>>,
+) -> Result<(), AllocError>
+    ensures { (board : B) → ForSome save.now (λ made. made.board ≡ board)
+        → ForSome last.old (λ saved. saved.value ≡ board)
+        → ForSome last.new (λ saved. saved.value ≡ board) }
+{
+    if let Some(save) = save {
+        *last = Some(save.board.clone()?);
+    }
+    Ok(())
 }
 
 /// How many points are in reach at most after an act.

@@ -1,5 +1,5 @@
 use Rattle.std.proofs.Common.{[], ap, ◌∙◌, arith, refl, min, ◌≡◌, ◌<◌, sym, subst}
-use Rattle.std.proofs.Common.{length}
+use Rattle.std.proofs.Common.{length, None, Some}
 use Rattle.std.specs.List.{fold, All}
 use Rattle.std.proofs.lemmas.List.Elements.{All-nil}
 use Rattle.dp_rollback.specs.Rollback.{points_of}
@@ -15,11 +15,12 @@ invariant_of-result g c =
     let oldest : fold min table.position table.window.points ≡ table.position =
     ap (fold min table.position) points in (
       sym (ap (λ s. s.window.depth) none),
+      λ save some. let wrong : None ≡ Some save = some in cc,
       record {
-        up_to_end = omega (arith, start, c.new-3.ensures.len);
+        up_to_end = omega (arith, start, c.new-2.ensures.len);
         begins = omega (arith, start, oldest);
         saved = record {
-          same = ap points_of c.new-4.ensures.items ∙ sym points;
+          same = ap points_of c.new-3.ensures.items ∙ sym points;
           rising = λ i j d le within. absurd (omega (arith, ap length points, within));
           before = subst (All (λ point. point < table.position)) (sym points)
               (All-nil (λ point. point < table.position));
@@ -27,9 +28,8 @@ invariant_of-result g c =
       },
     )
 
-pub returns-clause-stands : goal.returns-clause-stands
-returns-clause-stands g c =
+pub returns : goal.returns
+returns g c =
     StandsFor-new g.B.Board.drawn c.args.blank c.args.depth _
     (c.tables_follow.ensures.first c.args.depth c.in_ok-table.table c.in_ok-table.ensures.count
-    c.in_ok-table.ensures.empty) refl c.new-3.ensures.items refl
-    (c.in_ok-last.ensures.ok ∙ c.in_ok-share.ensures.same) c.new-4.ensures.items
+    c.in_ok-table.ensures.empty) refl c.new-2.ensures.items refl c.new-3.ensures.items

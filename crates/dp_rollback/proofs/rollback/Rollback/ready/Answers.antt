@@ -1,7 +1,6 @@
-use Rattle.std.proofs.Common.{arith}
 use Rattle.std.proofs.lemmas.Result.{IfOk-weaker}
 use Rattle.dp_rollback.proofs.StandLemmas.{FitsOn-made}
-use Rattle.dp_rollback.proofs.ReadyLemmas.{act_by, ready-stands, ready-change, ready-due}
+use Rattle.dp_rollback.proofs.ReadyLemmas.{act_by, ready-stands, ready-change, counts-due}
 use Rattle.dp_rollback.proofs.rollback.Rollback.ready.Goals as goal
 
 pub returns-clause-fits : goal.returns-clause-fits
@@ -24,24 +23,9 @@ returns-clause-change g c =
     c.in_ok-make_room.ensures.same c.in_ok-copy_act.ensures c.made.ensures.known next is)
     c.made.ensures.next
 
-pub returns-clause-few_draws : goal.returns-clause-few_draws
-returns-clause-few_draws g c = λ blank depth acts st.
-    omega (
-      arith,
-      c.made.ensures.counts.few_draws,
-      (ready-due c.stroke_laws.ensures g.B.Board.drawn
-          c.args.self.now c.make_room.new.self c.args.user c.in_ok-copy_act.field-0 c.args.act.now
-          g.B.Board.weight c.in_ok-make_room.ensures.same c.in_ok-copy_act.ensures
-          c.made.ensures.known blank depth acts st).count,
-    )
-
-pub returns-clause-few_tiles : goal.returns-clause-few_tiles
-returns-clause-few_tiles g c = λ blank depth acts st.
-    omega (
-      arith,
-      c.made.ensures.counts.few_tiles,
-      (ready-due c.stroke_laws.ensures g.B.Board.drawn
-          c.args.self.now c.make_room.new.self c.args.user c.in_ok-copy_act.field-0 c.args.act.now
-          g.B.Board.weight c.in_ok-make_room.ensures.same c.in_ok-copy_act.ensures
-          c.made.ensures.known blank depth acts st).weighs,
-    )
+pub returns-clause-counts : goal.returns-clause-counts
+returns-clause-counts g c =
+    counts-due c.stroke_laws.ensures g.B.Board.drawn g.B.Board.weight c.args.self.now
+    c.make_room.new.self c.args.user c.in_ok-copy_act.field-0 c.args.act.now _ _ _ _
+    c.in_ok-make_room.ensures.same c.in_ok-copy_act.ensures c.made.ensures.known
+    c.made.ensures.counts

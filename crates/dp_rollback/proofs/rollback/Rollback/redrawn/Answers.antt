@@ -2,7 +2,7 @@ use Rattle.std.proofs.Common.{◌≡◌, ◌-◌, ◌∙◌, ap, drop, refl, sub
 use Rattle.std.specs.Prelude.{is_some}
 use Rattle.std.specs.List.{Contains}
 use Rattle.dp_board.specs.Strokes.{is_among}
-use Rattle.dp_rollback.specs.Rollback.{save_place, points_of}
+use Rattle.dp_rollback.specs.Rollback.{points_of}
 use Rattle.dp_rollback.proofs.RunLemmas.{slice-from, IsRun-begins, IsRedrawn-run, CountsFew-from}
 use Rattle.dp_rollback.proofs.rollback.Rollback.redrawn.Goals as goal
 
@@ -11,18 +11,12 @@ returns-clause-made g c =
     let inside = c.self.inside in
     let r = c.args.self.now in
     let mark = c.args.mark in
-    let kept_is = slice-from c.deref-3.result.now inside.kept.items
-    (c.save_place-start.result - inside.base) (save_place mark.group - inside.base)
-    c.deref-3.ensures.value (ap (λ n. n - inside.base) c.save_place-start.ensures)
-    ∙ ap (λ o. drop (save_place mark.group - o.base) o.kept) c.self.view_is in
-    let from_is = ap (λ s. s.board) c.from.view_is in
+    let kept_is = slice-from c.deref-3.result.now inside.kept.items (mark.group - inside.base)
+    (mark.group - inside.base) c.deref-3.ensures.value refl
+    ∙ ap (λ o. drop (mark.group - o.base) o.kept) c.self.view_is in
     let run = IsRun-begins g.B.Board.drawn _ c.in-Some.from.now.board _ refl
-    (c.in_ok-share.ensures.same ∙ c.deref-2.ensures ∙ from_is)
-    (c.in_ok-clone.ensures.cases ∙ from_is) in
-    IsRedrawn-run g.B.Board.drawn r mark _ c.in-Some.from.now _ _ _ _ _ _ _ kept_is
-    c.save_place-start.ensures
-    (c.position-position.ensures ∙ ap (λ o. o.table.position) c.self.view_is)
-    (ap (λ o. o.last) c.self.view_is)
+    (c.in_ok-share.ensures.same ∙ c.deref-2.ensures ∙ ap (λ s. s.board) c.from.view_is) in
+    IsRedrawn-run g.B.Board.drawn r mark _ c.in-Some.from.now _ _ _ kept_is
     (c.deref-4.ensures.value ∙ ap (λ o. o.saves) c.self.view_is)
     (subst (λ xs. Contains xs c.in-Some.from.now)
     (c.deref.ensures.value ∙ ap (λ o. o.saves) c.self.view_is) c.in-Some.ensures.found.1)
@@ -34,10 +28,9 @@ returns-clause-counts g c =
     let inside = c.self.inside in
     let r = c.args.self.now in
     let mark = c.args.mark in
-    let kept_is = slice-from c.deref-3.result.now inside.kept.items
-    (c.save_place-start.result - inside.base) (save_place mark.group - inside.base)
-    c.deref-3.ensures.value (ap (λ n. n - inside.base) c.save_place-start.ensures)
-    ∙ ap (λ o. drop (save_place mark.group - o.base) o.kept) c.self.view_is in
+    let kept_is = slice-from c.deref-3.result.now inside.kept.items (mark.group - inside.base)
+    (mark.group - inside.base) c.deref-3.ensures.value refl
+    ∙ ap (λ o. drop (mark.group - o.base) o.kept) c.self.view_is in
     CountsFew-from g.B.Board.weight r mark _ c.args.draws.now _ _ c.args.tiles.now _ _ kept_is
     c.share.ensures.no_draw c.share.ensures.no_tile c.finish.ensures.counts
 
@@ -46,7 +39,7 @@ unreachable-requires g c =
     let group = c.args.mark.group in
     let wrong : false ≡ true = sym (ap is_some c.in_default.is) ∙ c.save_at.ensures.among
     ∙ ap (λ xs. is_among (points_of xs) group) c.deref.ensures.value
-    ∙ ap (λ xs. is_among xs group) c.self.invariant.1.saved.same
+    ∙ ap (λ xs. is_among xs group) c.self.invariant.2.saved.same
     ∙ ap (λ o. is_among o.table.window.points group) c.self.view_is
     ∙ c.requires.among in
     cc

@@ -10,68 +10,43 @@ use Rattle.dp_rollback.proofs.run.Run.go_to.Goals as goal
 pub returns-in_err-redraw-clause-counts : goal.returns-in_err-redraw-clause-counts
 returns-in_err-redraw-clause-counts g c =
     let run = c.self.inside in
-    let place = c.save_place-place.result in
+    let position = c.args.position in
     subst (λ r. CountsFew g.B.Board.weight
     (commands_among (drop (r.at - r.start) c.args.kept.now)) c.args.draws.now
     c.redraw.new.draws c.args.tiles.now c.redraw.new.tiles) c.self.view_is
-    (CountsFew-part g.B.Board.weight c.args.kept.now (run.at - run.start) (place - run.start) _ _ _
-    _ _ _ (omega (arith, c.if-place-self.false)) c.redraw.ensures.counts refl refl)
-
-pub returns-in_err-share-clause-counts : goal.returns-in_err-share-clause-counts
-returns-in_err-share-clause-counts g c =
-    let run = c.self.inside in
-    let place = c.save_place-place.result in
-    subst (λ r. CountsFew g.B.Board.weight
-    (commands_among (drop (r.at - r.start) c.args.kept.now)) c.args.draws.now
-    c.share.new.draws c.args.tiles.now c.share.new.tiles) c.self.view_is
-    (CountsFew-part g.B.Board.weight c.args.kept.now (run.at - run.start) (place - run.start) _ _ _
-    _ _ _ (omega (arith, c.if-place-self.false)) c.redraw.ensures.counts c.share.ensures.no_draw
-    c.share.ensures.no_tile)
-
-pub returns-in_err-self-inside-clause-counts : goal.returns-in_err-self-inside-clause-counts
-returns-in_err-self-inside-clause-counts g c =
-    let run = c.self.inside in
-    let place = c.save_place-place.result in
-    subst (λ r. CountsFew g.B.Board.weight
-    (commands_among (drop (r.at - r.start) c.args.kept.now)) c.args.draws.now
-    c.share.new.draws c.args.tiles.now c.share.new.tiles) c.self.view_is
-    (CountsFew-part g.B.Board.weight c.args.kept.now (run.at - run.start) (place - run.start) _ _ _
-    _ _ _ (omega (arith, c.if-place-self.false)) c.redraw.ensures.counts c.share.ensures.no_draw
-    c.share.ensures.no_tile)
+    (CountsFew-part g.B.Board.weight c.args.kept.now (run.at - run.start) (position - run.start) _ _
+    _ _ _ _ (omega (arith, c.if-position-self.false)) c.redraw.ensures.counts refl refl)
 
 pub returns-clause-counts : goal.returns-clause-counts
 returns-clause-counts g c =
     let run = c.self.inside in
-    let place = c.save_place-place.result in
+    let position = c.args.position in
     subst (λ r. CountsFew g.B.Board.weight
     (commands_among (drop (r.at - r.start) c.args.kept.now)) c.args.draws.now
-    c.share.new.draws c.args.tiles.now c.share.new.tiles) c.self.view_is
-    (CountsFew-part g.B.Board.weight c.args.kept.now (run.at - run.start) (place - run.start) _ _ _
-    _ _ _ (omega (arith, c.if-place-self.false)) c.redraw.ensures.counts c.share.ensures.no_draw
-    c.share.ensures.no_tile)
+    c.redraw.new.draws c.args.tiles.now c.redraw.new.tiles) c.self.view_is
+    (CountsFew-part g.B.Board.weight c.args.kept.now (run.at - run.start) (position - run.start) _ _
+    _ _ _ _ (omega (arith, c.if-position-self.false)) c.redraw.ensures.counts refl refl)
 
 pub returns-clause-run : goal.returns-clause-run
 returns-clause-run g c = λ from is.
     let draw = g.B.Board.drawn in
     let run = c.self.inside in
-    let place = c.save_place-place.result in
+    let position = c.args.position in
     let start = ap (λ r. r.start) c.self.view_is in
     let at = ap (λ r. r.at) c.self.view_is in
     IsRun-more draw c.args.kept.now c.args.mark c.args.self.now _ c.requires.begun
-    (omega (arith, c.if-place-self.false, at)) start
-    (omega (arith, c.save_place-place.ensures, c.requires.within))
+    (omega (arith, c.if-position-self.false, at)) start
+    (omega (arith, c.requires.within))
     (c.in_ok-redraw.ensures.board
     ∙ ap (λ r. fold draw r.board (drawn_among (map (marked c.args.mark)
-    (slice_range c.args.kept.now (r.at - r.start) (place - r.start))))) c.self.view_is)
-    (c.in_ok-self-inside.ensures.ok ∙ c.in_ok-share.ensures.same) from is
+    (slice_range c.args.kept.now (r.at - r.start) (position - r.start))))) c.self.view_is) from is
 
 pub returns-clause-left : goal.returns-clause-left
 returns-clause-left g c =
     let run = c.self.inside in
-    let place = c.save_place-place.result in
-    subst (λ r. LeavesFew g.B.Board.weight c.args.kept.now (r.at - r.start) (place - run.start)
-    c.args.draws.now c.share.new.draws c.args.tiles.now c.share.new.tiles) c.self.view_is
-    (LeavesFew-more g.B.Board.weight c.args.kept.now (run.at - run.start) (place - run.start) _ _ _
-    _ (omega (arith, c.if-place-self.false))
-    (omega (arith, c.redraw.ensures.counts.few_draws, c.share.ensures.no_draw))
-    (omega (arith, c.redraw.ensures.counts.few_tiles, c.share.ensures.no_tile)))
+    let position = c.args.position in
+    subst (λ r. LeavesFew g.B.Board.weight c.args.kept.now (r.at - r.start) (position - run.start)
+    c.args.draws.now c.redraw.new.draws c.args.tiles.now c.redraw.new.tiles) c.self.view_is
+    (LeavesFew-more g.B.Board.weight c.args.kept.now (run.at - run.start) (position - run.start) _ _
+    _ _ (omega (arith, c.if-position-self.false)) c.redraw.ensures.counts.few_draws
+    c.redraw.ensures.counts.few_tiles)

@@ -32,6 +32,7 @@ loop-save-preserved g c =
     let was = c.loop-save.invariant in
     let went = c.in_ok-go_to.ensures in
     let new = c.go_to.new.self in
+    let shared = c.saved.ensures in
     let first = c.args.self.now.start in
     let inside = c.loop-save-test.true in
     let many = length-map olds (λ s. s.point) in
@@ -53,14 +54,6 @@ loop-save-preserved g c =
         was.next j d (omega (arith, later)) in_list,
         c.requires.rising i j d (omega (arith, later)) (omega (arith, in_list, many)),
       );
-      at = λ position above le. omega (
-        arith,
-        went.at,
-        point,
-        at,
-        was.at position above le,
-        above i k.point (omega (arith, inside, many)),
-      );
       run = λ from is. went.run from (was.run from is);
       saves = λ from is.
           c.in_ok-push.ensures.items
@@ -68,16 +61,16 @@ loop-save-preserved g c =
           ++ (record { point = p; board = c.in_ok-board.board.value }) ∷ []) point
           ∙ saves-more draw all first from olds c.loop-save.saves.items i k
           c.in_ok-board.board.value inside c.save-item.is (was.saves from is)
-          (c.in_ok-board.ensures
+          (c.in_ok-board.ensures.saved
           ∙ saved-run draw all from save.board.value new save.point
           (went.run from (was.run from is))
           (λ later. omega (arith, later, went.at, went.start, was.start, point, at, near))
           ∙ ap (λ n. saved_anew draw all n from save.point save.board.value) start
           ∙ ap (λ s. saved_anew draw all first from s.point s.board) c.save.view_is);
-      draws_rise = omega (arith, was.draws_rise, went.counts.draws_rise);
-      few_draws = omega (arith, was.few_draws, went.left.few_draws);
-      tiles_rise = omega (arith, was.tiles_rise, went.counts.tiles_rise);
-      few_tiles = omega (arith, was.few_tiles, went.left.few_tiles);
+      draws_rise = omega (arith, was.draws_rise, went.counts.draws_rise, shared.no_draw);
+      few_draws = omega (arith, was.few_draws, went.left.few_draws, shared.no_draw);
+      tiles_rise = omega (arith, was.tiles_rise, went.counts.tiles_rise, shared.no_tile);
+      few_tiles = omega (arith, was.few_tiles, went.left.few_tiles, shared.no_tile);
     }
 
 pub returns-clause-saves : goal.returns-clause-saves

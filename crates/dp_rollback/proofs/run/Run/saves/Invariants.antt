@@ -1,7 +1,7 @@
 use Rattle.std.proofs.Common.{◌≡◌, ℕ, ◌+◌, ◌-◌, ◌<◌, ◌≤◌, length, map, take, drop, max, get_or}
-use Rattle.std.specs.List.{All, sum_by}
+use Rattle.std.specs.List.{sum_by}
 use Rattle.dp_rollback.specs.Kept.{marked, commands_among}
-use Rattle.dp_rollback.specs.Rollback.{save_place, points_of}
+use Rattle.dp_rollback.specs.Rollback.{points_of}
 use Rattle.dp_rollback.specs.Runs.{IsRun, save_anew}
 use Rattle.dp_rollback.proofs.run.Run.saves.Given as goal
 
@@ -12,9 +12,7 @@ invariant-loop-save g l = record {
   begun : l.self.start ≤ l.self.at;
   inside : l.self.at - l.self.start ≤ length l.kept;
   next : (j d : ℕ) → l.save-index ≤ j → j < length l.old
-      → l.self.at ≤ max l.fn.self.start (save_place (get_or (points_of l.old) j d));
-  at : (position : ℕ) → All (λ point. point ≤ position) (points_of l.old)
-      → l.fn.self.start ≤ save_place position → l.self.at ≤ save_place position;
+      → l.self.at ≤ max l.fn.self.start (get_or (points_of l.old) j d);
   run : (from : g.row.B.Denot)
       → IsRun g.B.Board.drawn (map (marked l.mark) l.kept) from l.fn.self
       → IsRun g.B.Board.drawn (map (marked l.mark) l.kept) from l.self;
