@@ -1,13 +1,11 @@
 -- What a status says of how the program ended.
-use Rattle.std.proofs.Common.{◌≡◌, ◌≢◌, ℕ, ◌<◌, ◌≤◌, ◌⊎◌, List, refl, sym, ◌∙◌, inl, inr, arith}
-use Rattle.std.proofs.Common.{⊎_elim, lit≤}
+use Rattle.std.proofs.Common.{◌≡◌, ◌≢◌, ℕ, ◌<◌, ◌⊎◌, List, refl, sym, subst, inl, inr, arith}
 use Rattle.std.specs.Prelude.{Option}
 use Rattle.std.specs.Io.KnownBytes.{IsAtEnd}
 use Rattle.dp_io.specs.Faults.{Rose}
 use Rattle.dp_lines.specs.declared.run_end.RunEnd.{RunEnd}
 use Rattle.dp_lines.specs.declared.run_end.RunEnd.TheVariants.{Done, ReadFault, WriteFault}
 use Rattle.dp_lines.specs.declared.run_end.RunEnd.TheVariants.{LinkFault, Memory, Truncated}
-use Rattle.dp_lines.specs.RunEnds.{FaultMatchesEnd}
 use Rattle.dp_app.specs.declared.ending.Ending.{Ending}
 use Rattle.dp_app.specs.declared.ending.Ending.TheVariants.{Run}
 use Rattle.dp_app.specs.Answer.{SaysLine, status_of}
@@ -17,13 +15,9 @@ use Rattle.dp_app.proofs.ByKind.{Matches}
 
 -- ---- statuses of runs
 
-pub not-one : (end : RunEnd) → status_of end ≡ 1 → ⊥
-not-one Done e = omega (arith, e)
-not-one _ e = omega (arith, e)
-
-pub not-thirteen : (end : RunEnd) → status_of end ≡ 13 → ⊥
-not-thirteen Done e = omega (arith, e)
-not-thirteen _ e = omega (arith, e)
+pub not-refused : (end : RunEnd) → (status_of end ≢ 1) × (status_of end ≢ 13)
+not-refused Done = (λ e. omega (arith, e), λ e. omega (arith, e))
+not-refused _ = (λ e. omega (arith, e), λ e. omega (arith, e))
 
 pub is-link-fault : (end : RunEnd) → status_of end ≡ 5 → end ≡ LinkFault
 is-link-fault LinkFault e = refl
@@ -33,8 +27,7 @@ pub is-whole : (end : RunEnd) (left : Option (List ℕ)) → IsReadWhole end lef
     → (status_of end ≡ 0) ⊎ (status_of end ≡ 9) → IsAtEnd left
 is-whole Done left whole e = whole
 is-whole (Truncated n) left whole e = whole
-is-whole _ left whole (inl e) = absurd (omega (arith, e))
-is-whole _ left whole (inr e) = absurd (omega (arith, e))
+is-whole _ left whole e = absurd (grind (arith, e))
 
 pub is-unfailed : (s : Streams) (end : RunEnd) → Matches s end → ¬ Rose s.read s.read_now
     → ¬ Rose s.written s.written_now → status_of end ≢ 7 → end ≢ LinkFault → IsUnfailed end
@@ -49,24 +42,8 @@ abbrev pub IsOfBytes : ℕ → Type 0
 IsOfBytes status =
     (status ≡ 0) ⊎ (status ≡ 2) ⊎ (status ≡ 8) ⊎ (status ≡ 9) ⊎ (status ≡ 10) ⊎ (status ≡ 12)
 
--- which is far from those of faults
-far : (status : ℕ) → IsOfBytes status → (status ≤ 2) ⊎ (8 ≤ status)
-far status (inl is) = inl (omega (arith, is))
-far status (inr (inl is)) = inl (omega (arith, is))
-far status (inr (inr (inl is))) = inr (omega (arith, is))
-far status (inr (inr (inr (inl is)))) = inr (omega (arith, is))
-far status (inr (inr (inr (inr (inl is))))) = inr (omega (arith, is))
-far status (inr (inr (inr (inr (inr is))))) = inr (omega (arith, is))
-
-not-fault : (status n : ℕ) → 3 ≤ n → n ≤ 7 → IsOfBytes status → status ≡ n → ⊥
-not-fault status n low high h is = ⊎_elim (λ below. omega (arith, below, is, low))
-    (λ above. omega (arith, above, is, high)) (far status h)
-
--- neither 0 nor 9
-pub not-whole : (status n : ℕ) → status ≡ n → (n ≡ 0 → ⊥) → (n ≡ 9 → ⊥)
-    → (status ≡ 0) ⊎ (status ≡ 9) → ⊥
-not-whole status n is some never (inl e) = some (sym is ∙ e)
-not-whole status n is some never (inr e) = never (sym is ∙ e)
+not-fault : (status : ℕ) → IsOfBytes status → (status ≢ 3) × (status ≢ 4)
+not-fault status h = (λ e. grind (arith, h, e), λ e. grind (arith, h, e))
 
 -- ---- counts
 
@@ -76,64 +53,59 @@ Said dold dnew before now status ending =
     SaysLine (code_of ending) (ending_line ending) dold dnew before now status
 
 -- what the counts of the input and the output do where the program ends so
-abbrev pub Counted : ℕ → ℕ → ℕ → ℕ → Ending → Type 0
-Counted read read_now written written_now (Run end) =
-    FaultMatchesEnd read read_now written written_now end
-Counted read read_now written written_now _ = (read_now ≡ read) × (written_now ≡ written)
+abbrev pub Counted : Streams → Ending → Type 0
+Counted s (Run end) = Matches s end
+Counted s _ = (s.read_now ≡ s.read) × (s.written_now ≡ s.written)
 
-module _ (read read_now written written_now : ℕ) (dold dnew : Option (List ℕ))
-    (before now status : ℕ) where
-  abbrev Matched : RunEnd → Type 0
-  Matched end = FaultMatchesEnd read read_now written written_now end
+module _ (s : Streams) where
+  -- what a status says of the counts where diag didn't fail: 3, 4, or another
+  abbrev pub Tells : ℕ → Type 0
+  Tells status =
+      ((status ≡ 3) × Rose s.read s.read_now)
+      ⊎ ((status ≡ 4) × (s.read_now ≡ s.read) × Rose s.written s.written_now)
+      ⊎ ((status ≢ 3) × (status ≢ 4) × (s.read_now ≡ s.read) × (s.written_now ≡ s.written))
 
-  abbrev Counts : Ending → Type 0
-  Counts ending = Counted read read_now written written_now ending
+  tells-run : (end : RunEnd) → Matches s end → Tells (status_of end)
+  tells-run ReadFault counts = inl (refl, counts.0)
+  tells-run WriteFault counts = inr (inl (refl, counts.0, counts.1))
+  tells-run _ counts = inr (inr (λ e. omega (arith, e), λ e. omega (arith, e), counts.0, counts.1))
 
-  abbrev Tells : Ending → Type 0
-  Tells ending = Said dold dnew before now status ending
+  tells-ending : (ending : Ending) → Counted s ending → Tells (code_of ending)
+  tells-ending (Run end) counts = tells-run end counts
+  tells-ending _ counts =
+      inr (inr (λ e. omega (arith, e), λ e. omega (arith, e), counts.0, counts.1))
 
-  -- the status of a fault that was counted
-  run-told : (end : RunEnd) → Matched end → read < read_now → status ≡ status_of end
-      → status ≡ 3
-  run-told ReadFault counts rose is = is
-  run-told WriteFault counts rose is = absurd (omega (arith, counts.0, rose))
-  run-told _ counts rose is = absurd (omega (arith, counts.0, rose))
+module _ (s : Streams) (before now status : ℕ) where
+  -- the same, or that diag failed
+  abbrev pub TellsAll : Type 0
+  TellsAll = ((status ≡ 4) × Rose before now) ⊎ Tells s status
 
-  pub told : (ending : Ending) → Counts ending → Tells ending → read < read_now
-      → (status ≡ 3) ⊎ ((status ≡ 4) × Rose before now)
-  told ending counts (inr failed) rose = inr (failed.0, failed.1)
-  told (Run end) counts (inl says) rose = inl (run-told end counts rose says.0)
-  told _ counts (inl says) rose = absurd (omega (arith, counts.0, rose))
+  pub tells-all : (dold dnew : Option (List ℕ)) (ending : Ending) → Counted s ending
+      → Said dold dnew before now status ending → TellsAll
+  tells-all dold dnew ending counts (inr failed) = inl (failed.0, failed.1)
+  tells-all dold dnew ending counts (inl says) =
+      inr (subst (Tells s) (sym says.0) (tells-ending s ending counts))
 
-  run-unfailed : (end : RunEnd) → Matched end → IsOfBytes status → status ≡ status_of end
-      → (read_now ≡ read) × (written_now ≡ written)
-  run-unfailed ReadFault counts h is = absurd (not-fault status 3 (lit≤ tt) (lit≤ tt) h is)
-  run-unfailed WriteFault counts h is = absurd (not-fault status 4 (lit≤ tt) (lit≤ tt) h is)
-  run-unfailed _ counts h is = counts
+  pub told : TellsAll → s.read < s.read_now → (status ≡ 3) ⊎ ((status ≡ 4) × Rose before now)
+  told (inl failed) rose = inr failed
+  told (inr (inl read)) rose = inl read.0
+  told (inr (inr (inl written))) rose = absurd (omega (arith, written.1, rose))
+  told (inr (inr (inr none))) rose = absurd (omega (arith, none.2, rose))
 
-  pub unfailed : (ending : Ending) → Counts ending → Tells ending → IsOfBytes status
-      → (read_now ≡ read) × (written_now ≡ written)
-  unfailed ending counts (inr failed) h =
-      absurd (not-fault status 4 (lit≤ tt) (lit≤ tt) h failed.0)
-  unfailed (Run end) counts (inl says) h = run-unfailed end counts h says.0
-  unfailed _ counts (inl says) h = counts
+  pub unfailed : TellsAll → IsOfBytes status → (s.read_now ≡ s.read) × (s.written_now ≡ s.written)
+  unfailed (inl failed) h = absurd ((not-fault status h).1 failed.0)
+  unfailed (inr (inl read)) h = absurd ((not-fault status h).0 read.0)
+  unfailed (inr (inr (inl written))) h = absurd ((not-fault status h).1 written.0)
+  unfailed (inr (inr (inr none))) h = (none.2, none.3)
 
-  run-read : (end : RunEnd) → Matched end → status_of end ≡ 3 → Rose read read_now
-  run-read ReadFault counts is = counts.0
-  run-read _ counts is = absurd (omega (arith, is))
+  pub read-rose : TellsAll → status ≡ 3 → Rose s.read s.read_now
+  read-rose (inl failed) is = absurd (omega (arith, failed.0, is))
+  read-rose (inr (inl read)) is = read.1
+  read-rose (inr (inr (inl written))) is = absurd (omega (arith, written.0, is))
+  read-rose (inr (inr (inr none))) is = absurd (none.0 is)
 
-  pub read-rose : (ending : Ending) → Counts ending → Tells ending → status ≡ 3
-      → Rose read read_now
-  read-rose ending counts (inr failed) is = absurd (omega (arith, failed.0, is))
-  read-rose (Run end) counts (inl says) is = run-read end counts (sym says.0 ∙ is)
-  read-rose _ counts (inl says) is = absurd (omega (arith, says.0, is))
-
-  run-written : (end : RunEnd) → Matched end → status_of end ≡ 4 → Rose written written_now
-  run-written WriteFault counts is = counts.1
-  run-written _ counts is = absurd (omega (arith, is))
-
-  pub write-rose : (ending : Ending) → Counts ending → Tells ending → status ≡ 4
-      → Rose written written_now ⊎ Rose before now
-  write-rose ending counts (inr failed) is = inr failed.1
-  write-rose (Run end) counts (inl says) is = inl (run-written end counts (sym says.0 ∙ is))
-  write-rose _ counts (inl says) is = absurd (omega (arith, says.0, is))
+  pub write-rose : TellsAll → status ≡ 4 → Rose s.written s.written_now ⊎ Rose before now
+  write-rose (inl failed) is = inr failed.1
+  write-rose (inr (inl read)) is = absurd (omega (arith, read.0, is))
+  write-rose (inr (inr (inl written))) is = inl written.2
+  write-rose (inr (inr (inr none))) is = absurd (none.1 is)

@@ -1,23 +1,20 @@
 -- What holds of a run of each kind: on its streams alone, over a link, and of a server.
-use Rattle.std.proofs.Common.{◌≡◌, ◌≢◌, ℕ, ◌⊎◌, Bool, true, false, List, [], ◌∷◌, length}
-use Rattle.std.proofs.Common.{◌++◌, drop, refl, sym, ap, ◌∙◌, subst, inl, inr, take, arith, map}
+use Rattle.std.proofs.Common.{◌≡◌, ◌≢◌, ℕ, ◌⊎◌, Bool, true, false, List, [], ◌∷◌, length, ◌++◌}
+use Rattle.std.proofs.Common.{drop, refl, sym, ap, ◌∙◌, subst, inl, inr, take, arith, map}
 use Rattle.std.proofs.lemmas.List.{take_at}
-use Rattle.std.specs.Prelude.{Option, Some, None, IfSome}
+use Rattle.std.specs.Prelude.{Option, Some}
 use Rattle.std.specs.declared.string.String.{String}
-use Rattle.std.specs.Io.KnownBytes.{Appends, Keeps}
+use Rattle.std.specs.Io.KnownBytes.{Appends}
 use Rattle.dp_hall.specs.Names.{IsIn}
 use Rattle.dp_io.specs.Faults.{Rose}
-use Rattle.dp_joining.specs.Leaves.{Counts, FaultMatchesJoin, JoinLeaves, Traffic}
-use Rattle.dp_joining.specs.Leaves as leaves
+use Rattle.dp_joining.proofs.RunGiven.{of_streams, run_given}
+use Rattle.dp_joining.specs.Leaves.{JoinLeaves, Traffic}
 use Rattle.dp_joining.specs.Outcomes.{JoinComesTo, JoinOutcome}
-use Rattle.dp_joining.specs.Runs.{Returns, RunLeaves}
+use Rattle.dp_joining.specs.Runs.{RunLeaves}
 use Rattle.dp_lines.specs.declared.run_end.RunEnd.{RunEnd}
-use Rattle.dp_lines.specs.declared.run_end.RunEnd.TheVariants.{Done, ReadFault, WriteFault}
-use Rattle.dp_lines.specs.declared.run_end.RunEnd.TheVariants.{LinkFault, Memory, Truncated}
-use Rattle.dp_lines.specs.declared.run_end.RunEnd.TheVariants.{BadHeader}
+use Rattle.dp_lines.specs.declared.run_end.RunEnd.TheVariants.{Done, LinkFault, Truncated}
 use Rattle.dp_lines.specs.RunEnds.{FaultMatchesEnd}
 use Rattle.dp_serve.specs.Serving.{Part}
-use Rattle.dp_wire.specs.Links.{Links, WhereKnown}
 use Rattle.dp_words.specs.declared.command_line.CommandLine.{CommandLine}
 use Rattle.dp_words.specs.declared.command_line.CommandLine.TheVariants.{Local, Join, Listen}
 use Rattle.dp_words.specs.declared.command_line.LocalCommand.{LocalCommand}
@@ -48,118 +45,32 @@ Leaves command s end = (run_of command).leaves s.input s.left s.old s.new end
 
 -- ---- over a link
 
-of-streams : (old now : Counts) (end : RunEnd) → FaultMatchesJoin old now end
-    → FaultMatchesEnd old.input now.input old.output now.output end
-of-streams old now ReadFault b = (b.0, b.1.output)
-of-streams old now WriteFault b = (b.0, b.1)
-of-streams old now LinkFault b = (b.0, b.1)
-of-streams old now _ b = (b.0, b.1.output)
-
-link-rose : (old now : Counts) (end : RunEnd) → FaultMatchesJoin old now end → end ≡ LinkFault
-    → Rose old.sink now.sink ⊎ Rose old.source now.source
-link-rose old now LinkFault b by = b.2
-link-rose old now _ b by = absurd (omega (arith, ap status_of by))
-
 script-whole : (name : List ℕ) (t : Traffic) (end : RunEnd) → JoinLeaves name t end
     → IsReadWhole end t.left
 script-whole name t Done h = h.0
 script-whole name t (Truncated n) h = absurd h
 script-whole name t _ h = tt
 
--- what a script and a link come to was written
-abbrev pub Writes : List ℕ → Traffic → RunEnd → List ℕ → List ℕ → Type 0
-Writes name t end input link =
-    (outcome : JoinOutcome) × JoinComesTo name input link outcome × (outcome.end ≡ end)
-    × Appends t.print_old t.print_now outcome.text × Appends t.sent_old t.sent_now outcome.written
-
-writes-all : (name : List ℕ) (t : Traffic) (end : RunEnd) (input link : List ℕ)
-    → t.input ≡ Some input → t.link ≡ Some link → leaves.WritesAll name t end
-    → (outcome : JoinOutcome) × JoinComesTo name input link outcome × (outcome.end ≡ end)
-    × Appends t.print_old t.print_now outcome.text
-writes-all name t end input link known linked h =
-    let all = subst (λ (o : Option (List ℕ)). IfSome o (λ bytes. Writes name t end input bytes))
-    linked (subst (λ (o : Option (List ℕ)). IfSome o (λ bytes. IfSome t.link
-    (λ other. Writes name t end bytes other))) known h) in
-    (all.0, all.1, all.2, all.3)
-
-all-written : (name : List ℕ) (t : Traffic) (end : RunEnd) → JoinLeaves name t end
-    → IsUnfailed end → leaves.WritesAll name t end
-all-written name t Done h unfailed = h.1
-all-written name t ReadFault h unfailed = absurd unfailed
-all-written name t WriteFault h unfailed = absurd unfailed
-all-written name t LinkFault h unfailed = absurd unfailed
-all-written name t Memory h unfailed = absurd unfailed
-all-written name t (Truncated n) h unfailed = absurd h
-all-written name t BadHeader h unfailed = absurd h
-all-written name t _ h unfailed = h
-
--- a run that didn't fail wrote what the script and the link come to
-join-given : (name : List ℕ) (t : Traffic) (end : RunEnd) (input link : List ℕ)
-    → t.input ≡ Some input → t.link ≡ Some link → JoinLeaves name t end → IsUnfailed end
-    → (outcome : JoinOutcome) × JoinComesTo name input link outcome × (outcome.end ≡ end)
-    × Appends t.print_old t.print_now outcome.text
-join-given name t end input link known linked h unfailed =
-    writes-all name t end input link known linked (all-written name t end h unfailed)
-
--- the source of the first of these links
-source-of : {R T : Type 0} → R → List (R × T) → R
-source-of rx [] = rx
-source-of rx (link ∷ links) = link.0
-
--- the link that was handed out is the first of those to come
-next-of : {R T : Type 0} (links now : Option (Links R T)) (known : Links R T)
-    (link back : R × T) → links ≡ Some known
-    → WhereKnown links (λ a b. Returns link back a b) now
-    → (rest : List (R × T)) × (known.to_come ≡ link ∷ rest)
-next-of {R} {T} links None known link back e h =
-    absurd (subst (λ (o : Option (Links R T)). WhereKnown o (λ a b. Returns link back a b) None) e
-    h)
-next-of {R} {T} links (Some now) known link back e h =
-    let returns : Returns link back known now =
-    subst (λ (o : Option (Links R T)). WhereKnown o (λ a b. Returns link back a b) (Some now)) e h
-    in (now.to_come, returns.next)
-
 module _ {W R T : Type 0} (see : Wires W R T) (name : List ℕ) (e : Effects W) (end : RunEnd) where
   abbrev pub LeavesLink : W → W → Type 0
   LeavesLink wire now = RunLeaves see.left see.read_faults see.held see.write_faults name
       (see.links wire) (see.links now) (see.faults wire) (see.faults now) (ends_of e.streams) end
 
-  join-matches : (wire now : W) → LeavesLink wire now → Matches e.streams end
-  join-matches wire now (inl (is, rose, same)) =
-      subst (Matches e.streams) (sym is) (same.input_faults, same.output_faults)
-  join-matches wire now (inr (inl (is, stays, same))) =
-      subst (Matches e.streams) (sym is) (same.input_faults, same.output_faults)
-  join-matches wire now (inr (inr (stays, over))) = of-streams _ _ end over.fault
+  -- what a run that ends so says of the counts, and of what is left
+  abbrev Tells : RunEnd → Type 0
+  Tells x = Matches e.streams x × IsReadWhole x e.streams.left
 
-  join-whole : (wire now : W) → LeavesLink wire now → IsReadWhole end e.streams.left
-  join-whole wire now (inl (is, rose, same)) =
-      subst (λ (x : RunEnd). IsReadWhole x e.streams.left) (sym is) tt
-  join-whole wire now (inr (inl (is, stays, same))) =
-      subst (λ (x : RunEnd). IsReadWhole x e.streams.left) (sym is) tt
-  join-whole wire now (inr (inr (stays, over))) = script-whole name _ end over.leaves
+  join-tells : (wire now : W) → LeavesLink wire now → Tells end
+  join-tells wire now (inl (is, rose, same)) =
+      subst Tells (sym is) ((same.input_faults, same.output_faults), tt)
+  join-tells wire now (inr (inl (is, stays, same))) =
+      subst Tells (sym is) ((same.input_faults, same.output_faults), tt)
+  join-tells wire now (inr (inr (stays, over))) =
+      (of_streams _ _ end over.fault, script-whole name _ end over.leaves)
 
   -- there was a wire
   pub has-wire : JoinsOn see name e end → e.old ≢ []
   has-wire h = λ none. let x : [] ≡ h.wire ∷ h.others = sym none ∙ h.before in cc
-
-  -- what a run over the first link gave that didn't fail
-  first-given : (wire now first : W) (links : Links R T) (rx : R) (tx : T) (more : List (R × T))
-      (input link : List ℕ) → LeavesLink wire now → wire ≡ first → see.links first ≡ Some links
-      → links.to_come ≡ (rx, tx) ∷ more → see.left rx ≡ Some link
-      → e.streams.input ≡ Some input → IsUnfailed end
-      → (outcome : JoinOutcome) × JoinComesTo name input link outcome × (outcome.end ≡ end)
-      × Appends e.streams.old e.streams.new outcome.text
-  unfolding source-of
-  first-given wire now first links rx tx more input link (inl (is, rose, same)) one known next holds
-      told unfailed = absurd (subst IsUnfailed is unfailed)
-  first-given wire now first links rx tx more input link (inr (inl (is, stays, same))) one known
-      next holds told unfailed = absurd (subst IsUnfailed is unfailed)
-  first-given wire now first links rx tx more input link (inr (inr (stays, over))) one known next
-      holds told unfailed =
-      let handed = next-of (see.links wire) (see.links now) links (over.rx, over.tx)
-      (over.rx_now, over.tx_now) (ap see.links one ∙ known) over.returned in
-      let same : over.rx ≡ rx = ap (source-of over.rx) (sym handed.1 ∙ next) in
-      join-given name _ end input link told (ap see.left same ∙ holds) over.leaves unfailed
 
   pub joins-given : JoinsOn see name e end → (input link : List ℕ) → GivesLink see e.old link
       → e.streams.input ≡ Some input → IsUnfailed end
@@ -168,32 +79,34 @@ module _ {W R T : Type 0} (see : Wires W R T) (name : List ℕ) (e : Effects W) 
   joins-given h input link gives told unfailed =
       let heads : h.wire ∷ h.others ≡ gives.wire ∷ gives.others = sym h.before ∙ gives.first in
       let same : h.wire ≡ gives.wire = cc in
-      first-given h.wire h.now gives.wire gives.links gives.rx gives.tx gives.more input link
-      h.leaves same gives.known gives.next gives.holds told unfailed
+      run_given IsUnfailed (λ x. x) (λ x. x) (λ x. x) (λ x. x) see.left see.read_faults see.held
+      see.write_faults name (see.links h.wire) (see.links h.now) (see.faults h.wire)
+      (see.faults h.now) (ends_of e.streams) end h.leaves unfailed gives.links gives.rx gives.tx
+      gives.more input link (ap see.links same ∙ gives.known) gives.next gives.holds told
 
-  -- a run that ended by its link dialled in vain, or the link failed
-  link-failed : (wire now : W) → LeavesLink wire now → end ≡ LinkFault
+-- a run that ended by its link dialled in vain, or the link failed
+module _ {W R T : Type 0} (see : Wires W R T) (name : List ℕ) (e : Effects W) where
+  link-failed : (wire now : W) → LeavesLink see name e LinkFault wire now
       → Rose (see.faults wire) (see.faults now) ⊎ LinkFailed see wire now
-  link-failed wire now (inl (is, rose, same)) by = inl rose
-  link-failed wire now (inr (inl (is, stays, same))) by =
-      absurd (omega (arith, ap status_of (sym is ∙ by)))
-  link-failed wire now (inr (inr (stays, over))) by = inr (record {
+  link-failed wire now (inl (is, rose, same)) = inl rose
+  link-failed wire now (inr (inl (is, stays, same))) = absurd (omega (arith, ap status_of is))
+  link-failed wire now (inr (inr (stays, over))) = inr (record {
     rx = over.rx;
     tx = over.tx;
     rx_now = over.rx_now;
     tx_now = over.tx_now;
     returned = over.returned;
-    rose = link-rose _ _ end over.fault by;
+    rose = over.fault.2;
   })
 
-  pub dial-failed : JoinsOn see name e end → end ≡ LinkFault → DialFailed see e.old e.new
-  dial-failed h by = record {
+  pub dial-failed : JoinsOn see name e LinkFault → DialFailed see e.old e.new
+  dial-failed h = record {
     wire = h.wire;
     now = h.now;
     others = h.others;
     before = h.before;
     after = h.after;
-    failed = link-failed h.wire h.now h.leaves by;
+    failed = link-failed h.wire h.now h.leaves;
   }
 
 -- ---- of a server
@@ -253,7 +166,7 @@ module _ {W R T : Type 0} (see : Wires W R T) where
   pub kind-matches : (command : CommandLine) (e : Effects W) (end : RunEnd)
       → KindLeaves see command e end → Matches e.streams end
   kind-matches (Local command) e end h = h.fault
-  kind-matches (Join addr name) e end h = join-matches see name e end h.wire h.now h.leaves
+  kind-matches (Join addr name) e end h = (join-tells see name e end h.wire h.now h.leaves).0
   kind-matches (Listen addr workers conns service) e end h =
       server-matches see conns e end h.1.untouched h.1.served
 
@@ -263,7 +176,7 @@ module _ {W R T : Type 0} (see : Wires W R T) where
       (runs command).whole e.streams.input e.streams.left e.streams.old e.streams.new end h.leaves
       reads
   kind-whole runs (Join addr name) e end h reads =
-      join-whole see name e end h.wire h.now h.leaves
+      (join-tells see name e end h.wire h.now h.leaves).1
   kind-whole runs (Listen addr workers conns service) e end h reads = absurd reads
 
   -- where a run ended by a link, the link failed, or a wire
@@ -275,7 +188,7 @@ module _ {W R T : Type 0} (see : Wires W R T) where
       h.leaves)
   kind-failed runs words (Join addr name) e asks h = inl (
     ((addr, name, asks), has-wire see name e LinkFault h),
-    dial-failed see name e LinkFault h refl,
+    dial-failed see name e h,
   )
   kind-failed runs words (Listen addr workers conns service) e asks h = inr (
     has-wires words e.old addr workers conns service asks h.0,
@@ -307,8 +220,3 @@ module _ {W R T : Type 0} (see : Wires W R T) (addr name : List ℕ) (s : Stream
       subst (λ (news : List W). EndsLink old news ending)
       (sym (take_at new (drop (length new) old) n last))
       (subst (λ (olds : List W). EndsLink olds new ending) same h)
-
--- an option keeps itself
-pub stays : (o : Option (List ℕ)) → Keeps o o
-stays None = tt
-stays (Some bytes) = refl

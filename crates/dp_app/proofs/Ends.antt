@@ -1,6 +1,6 @@
 -- The ways in which the program ends give the clauses of the top call.
-use Rattle.std.proofs.Common.{◌≡◌, ◌≢◌, ℕ, ◌⊎◌, List, [], ◌∷◌, refl, sym, ap, ◌∙◌, subst}
-use Rattle.std.proofs.Common.{⊎_elim, inl, inr, arith, length}
+use Rattle.std.proofs.Common.{◌≡◌, ◌≢◌, ℕ, ◌⊎◌, List, [], ◌∷◌, refl, sym, ap, ◌∙◌, subst, ⊎_elim}
+use Rattle.std.proofs.Common.{inl, inr, arith, length}
 use Rattle.std.specs.Prelude.{Option, Some, None, IfSome, map, string_bytes}
 use Rattle.std.specs.declared.string.String.{String}
 use Rattle.std.specs.Io.KnownBytes.{Appends, IsAtEnd}
@@ -8,9 +8,6 @@ use Rattle.dp_io.specs.Faults.{Rose}
 use Rattle.dp_joining.specs.Outcomes.{JoinComesTo, JoinOutcome}
 use Rattle.dp_lines.specs.declared.run_end.RunEnd.{RunEnd}
 use Rattle.dp_lines.specs.declared.run_end.RunEnd.TheVariants.{LinkFault, Memory}
-use Rattle.dp_schedule.specs.declared.action.Action.{Action}
-use Rattle.dp_sim.specs.Headline.{Headline}
-use Rattle.dp_sim.specs.World.{world_after}
 use Rattle.dp_words.specs.CommandLines.{AsksFor}
 use Rattle.dp_words.specs.declared.command_line.CommandLine.{CommandLine}
 use Rattle.dp_words.specs.declared.command_line.CommandLine.TheVariants.{Local, Join, Listen}
@@ -18,8 +15,9 @@ use Rattle.dp_words.specs.declared.command_line.LocalCommand.{LocalCommand}
 use Rattle.dp_words.specs.declared.command_line.Service.{Service}
 use Rattle.dp_app.specs.declared.ending.Ending.{Ending}
 use Rattle.dp_app.specs.declared.ending.Ending.TheVariants.{Usage, NoLink, NoWords, Run}
-use Rattle.dp_app.specs.Answer.{Answer, HasHeadline, IsGiven, Says, SaysNoLink, SaysUsage}
-use Rattle.dp_app.specs.Answer.{answer_of, line_of, no_link_answer, status_of, usage_answer}
+use Rattle.dp_world.specs.RunEnds.{GrowsByDue, WorldLeaves}
+use Rattle.dp_app.specs.Answer.{Answer, IsGiven, Says, SaysNoLink, SaysUsage, answer_of, line_of}
+use Rattle.dp_app.specs.Answer.{no_link_answer, status_of, usage_answer}
 use Rattle.dp_app.specs.Commands.{AskAndLack, AskForLocal, Asks, HasLink, HasLinks, HasWires}
 use Rattle.dp_app.specs.Commands.{IsCommand, LacksWires}
 use Rattle.dp_app.specs.Due.{DueOf, GetsLink, IsDue}
@@ -30,12 +28,11 @@ use Rattle.dp_app.specs.Joins.{HasJoined}
 use Rattle.dp_app.specs.Kinds.{EndsCommand, EndsWords, KindLeaves, Reads}
 use Rattle.dp_app.specs.Runs.{IsUnfailed, run_of}
 use Rattle.dp_app.specs.Servers.{HasServed}
-use Rattle.dp_app.proofs.Answering.{Counted, Said, is-link-fault, is-unfailed, is-whole, not-one}
-use Rattle.dp_app.proofs.Answering.{not-thirteen, not-whole}
-use Rattle.dp_app.proofs.ByKind.{AreRuns, has-wire, has-wires, joins-given}
-use Rattle.dp_app.proofs.ByKind.{Leaves, Matches, kind-failed}
-use Rattle.dp_app.proofs.ByKind.{kind-matches, kind-whole}
-use Rattle.dp_app.proofs.LocalRuns.{appends_nothing}
+use Rattle.dp_app.proofs.Answering.{Counted, Said, is-link-fault, is-unfailed, is-whole}
+use Rattle.dp_app.proofs.Answering.{not-refused}
+use Rattle.dp_app.proofs.ByKind.{AreRuns, has-wire, has-wires, joins-given, Leaves, Matches}
+use Rattle.dp_app.proofs.ByKind.{kind-failed, kind-matches, kind-whole}
+use Rattle.dp_viewer.proofs.Given.{appends_nothing}
 
 -- words ask for one thing
 abbrev pub OneCommand : Type 0
@@ -48,14 +45,16 @@ OneOutcome = (name input link : List ℕ) (outcome other : JoinOutcome)
     → JoinComesTo name input link outcome → JoinComesTo name input link other
     → outcome ≡ other
 
--- the headline, of an input whose bytes are known
-pub headline-of : ((actions : List Action) → Headline (world_after actions))
-    → (told : Option (List ℕ)) → IfSome told HasHeadline
-headline-of law None = tt
-headline-of law (Some bytes) = λ done after actions parts asked. law actions
+-- what a run of `world` leaves, of an input whose bytes are known
+pub due-of : ((bytes : List ℕ) (left old now : Option (List ℕ)) (end : RunEnd)
+    → WorldLeaves (Some bytes) left old now end → GrowsByDue bytes old now)
+    → (told left old now : Option (List ℕ)) (end : RunEnd) → WorldLeaves told left old now end
+    → IfSome told (λ bytes. GrowsByDue bytes old now)
+due-of law None left old now end leaves = tt
+due-of law (Some bytes) left old now end leaves = law bytes left old now end leaves
 
 -- of an input whose bytes may be known
-for-known : {P : List ℕ → Type 0} (o : Option (List ℕ))
+pub for-known : {P : List ℕ → Type 0} (o : Option (List ℕ))
     → ((bytes : List ℕ) → o ≡ Some bytes → P bytes) → IfSome o P
 for-known None each = tt
 for-known (Some bytes) each = each bytes refl
@@ -70,7 +69,7 @@ module _ {A W R T : Type 0} (see : Wires W R T) (words : List (String A)) (e : E
   words-end command (Run end) asks h = (command, asks, h)
 
   pub counted : (ending : Ending) → EndsWords see words e ending
-      → Counted e.streams.read e.streams.read_now e.streams.written e.streams.written_now ending
+      → Counted e.streams ending
   counted Usage h = (h.1.streams.2, h.1.streams.3)
   counted NoLink h = (h.3.streams.2, h.3.streams.3)
   counted NoWords h = (h.streams.2, h.streams.3)
@@ -119,14 +118,14 @@ module _ {A W R T : Type 0} (see : Wires W R T) (words : List (String A)) (e : E
         → ¬ IsCommand words
     usage ending h (inr failed) is = absurd (omega (arith, failed.0, is))
     usage Usage h (inl says) is = h.0
-    usage (Run end) h (inl says) is = absurd (not-one end (sym says.0 ∙ is))
+    usage (Run end) h (inl says) is = absurd ((not-refused end).0 (sym says.0 ∙ is))
     usage _ h (inl says) is = absurd (omega (arith, says.0, is))
 
     pub lacks : (ending : Ending) → EndsWords see words e ending → Tells ending → status ≡ 13
         → AskAndLack words e.old
     lacks ending h (inr failed) is = absurd (omega (arith, failed.0, is))
     lacks NoLink h (inl says) is = (h.0, h.1, h.2)
-    lacks (Run end) h (inl says) is = absurd (not-thirteen end (sym says.0 ∙ is))
+    lacks (Run end) h (inl says) is = absurd ((not-refused end).1 (sym says.0 ∙ is))
     lacks _ h (inl says) is = absurd (omega (arith, says.0, is))
 
     pub link-fault : AreRuns → (ending : Ending) → EndsWords see words e ending → Tells ending
@@ -222,18 +221,14 @@ module _ {A W R T : Type 0} (see : Wires W R T) (words : List (String A)) (e : E
       pub to-end : AreRuns → (ending : Ending) → EndsWords see words e ending → Tells ending
           → (command : CommandLine) → Asks words command → Reads command
           → (status ≡ 0) ⊎ (status ≡ 9) → IsAtEnd e.streams.left
-      to-end runs ending h (inr failed) command asks reads is =
-          absurd (not-whole status 4 failed.0 (λ x. omega (arith, x)) (λ x. omega (arith, x)) is)
+      to-end runs ending h (inr failed) command asks reads is = absurd (grind (arith, failed.0, is))
       to-end runs Usage h (inl says) command asks reads is = absurd (h.0 (command, asks))
-      to-end runs NoLink h (inl says) command asks reads is = absurd
-          (not-whole status 13 says.0 (λ x. omega (arith, x)) (λ x. omega (arith, x)) is)
-      to-end runs NoWords h (inl says) command asks reads is = absurd
-          (not-whole status 7 says.0 (λ x. omega (arith, x)) (λ x. omega (arith, x)) is)
       to-end runs (Run end) h (inl says) command asks reads is =
           is-whole end e.streams.left
           (kind-whole see runs command e end (subst (λ (c : CommandLine). KindLeaves see c e end)
           (same h.0 command h.1 asks) h.2) reads)
           (subst (λ (n : ℕ). (n ≡ 0) ⊎ (n ≡ 9)) says.0 is)
+      to-end runs _ h (inl says) command asks reads is = absurd (grind (arith, says.0, is))
 
     -- ---- what is due is given
 
@@ -257,7 +252,6 @@ module _ {A W R T : Type 0} (see : Wires W R T) (words : List (String A)) (e : E
       pub served : ¬ HasWires words e.old
       pub read : ¬ Rose e.streams.read e.streams.read_now
       pub written : ¬ Rose e.streams.written e.streams.written_now
-      pub diag : ¬ Rose before now
       pub memory : status ≢ 7
       pub joined : HasLink words e.old → status ≢ 5
 
@@ -281,59 +275,69 @@ module _ {A W R T : Type 0} (see : Wires W R T) (words : List (String A)) (e : E
       },
     )
 
-    module _ (runs : AreRuns) (fair : IsFair) (bytes : List ℕ) (known : e.streams.input ≡ Some bytes)
-      where
-        kind-given : (command : CommandLine) (link : Option (List ℕ)) (end : RunEnd)
-            → Asks words command → KindLeaves see command e end → GetsLink see words e.old link
-            → status ≡ status_of end → Appends dold dnew (line_of end) → Given bytes link
-        kind-given (Local command) link end asks h gets code line =
-            let law = runs command in
-            let alone : end ≢ LinkFault = λ is.
-            law.alone e.streams.input e.streams.left e.streams.old e.streams.new
-            (subst (Leaves command e.streams) is h.leaves) in
-            let given = law.given bytes e.streams.left e.streams.old e.streams.new end
-            (subst (λ (o : Option (List ℕ)). (run_of command).leaves o e.streams.left
-            e.streams.old e.streams.new end) known h.leaves)
-            (fair-end fair (Local command) end h code alone) in (
-              answer_of end given.0,
-              inl (Local command, asks, given.1),
-              record { status = code; text = given.2; line = line },
-            )
-        kind-given (Join addr name) None end asks h gets code line =
-            absurd (gets ((addr, name, asks), has-wire see name e end h))
-        kind-given (Join addr name) (Some link) end asks h gets code line =
-            let has : HasLink words e.old = ((addr, name, asks), has-wire see name e end h) in
-            let linked : end ≢ LinkFault = λ is. fair.joined has (code ∙ ap status_of is) in
-            let given = joins-given see name e end h bytes link gets known
-            (fair-end fair (Join addr name) end h code linked) in (
-              answer_of given.0.end given.0.text,
-              inl (Join addr name, asks, (given.0, given.1, refl)),
-              record {
-                status = code ∙ ap status_of (sym given.2);
-                text = given.3;
-                line = subst (λ (x : RunEnd). Appends dold dnew (line_of x)) (sym given.2) line;
-              },
-            )
-        kind-given (Listen addr workers conns service) link end asks h gets code line = absurd
-            (fair.served (has-wires words e.old addr workers conns service asks h.0))
+    module _ (runs : AreRuns) (fair : IsFair) (bytes : List ℕ)
+        (known : e.streams.input ≡ Some bytes) where
+      kind-given : (command : CommandLine) (link : Option (List ℕ)) (end : RunEnd)
+          → Asks words command → KindLeaves see command e end → GetsLink see words e.old link
+          → status ≡ status_of end → Appends dold dnew (line_of end) → Given bytes link
+      kind-given (Local command) link end asks h gets code line =
+          let law = runs command in
+          let alone : end ≢ LinkFault = λ is.
+          law.alone e.streams.input e.streams.left e.streams.old e.streams.new
+          (subst (Leaves command e.streams) is h.leaves) in
+          let given = law.given bytes e.streams.left e.streams.old e.streams.new end
+          (subst (λ (o : Option (List ℕ)). (run_of command).leaves o e.streams.left
+          e.streams.old e.streams.new end) known h.leaves)
+          (fair-end fair (Local command) end h code alone) in (
+            answer_of end given.0,
+            inl (Local command, asks, given.1),
+            record { status = code; text = given.2; line = line },
+          )
+      kind-given (Join addr name) None end asks h gets code line =
+          absurd (gets ((addr, name, asks), has-wire see name e end h))
+      kind-given (Join addr name) (Some link) end asks h gets code line =
+          let has : HasLink words e.old = ((addr, name, asks), has-wire see name e end h) in
+          let linked : end ≢ LinkFault = λ is. fair.joined has (code ∙ ap status_of is) in
+          let given = joins-given see name e end h bytes link gets known
+          (fair-end fair (Join addr name) end h code linked) in (
+            answer_of given.0.end given.0.text,
+            inl (Join addr name, asks, (given.0, given.1, refl)),
+            record {
+              status = code ∙ ap status_of (sym given.2);
+              text = given.3;
+              line = subst (λ (x : RunEnd). Appends dold dnew (line_of x)) (sym given.2) line;
+            },
+          )
+      kind-given (Listen addr workers conns service) link end asks h gets code line = absurd
+          (fair.served (has-wires words e.old addr workers conns service asks h.0))
 
-        ending-given : (link : Option (List ℕ)) (ending : Ending) → EndsWords see words e ending
-            → GetsLink see words e.old link → status ≡ code_of ending
-            → Appends dold dnew (ending_line ending) → Given bytes link
-        ending-given link Usage h gets code line =
-            nothing-given bytes link usage_answer (inr (h.0, refl)) refl h.1 code line
-        ending-given link NoLink h gets code line = nothing-given bytes link no_link_answer
-            (inl (h.0, h.1, due-link h.0 bytes link h.2 gets)) refl h.3 code line
-        ending-given link NoWords h gets code line = absurd (fair.memory code)
-        ending-given link (Run end) h gets code line =
-            kind-given h.0 link end h.1 h.2 gets code line
+      ending-given : (link : Option (List ℕ)) (ending : Ending) → EndsWords see words e ending
+          → GetsLink see words e.old link → status ≡ code_of ending
+          → Appends dold dnew (ending_line ending) → Given bytes link
+      ending-given link Usage h gets code line =
+          nothing-given bytes link usage_answer (inr (h.0, refl)) refl h.1 code line
+      ending-given link NoLink h gets code line = nothing-given bytes link no_link_answer
+          (inl (h.0, h.1, due-link h.0 bytes link h.2 gets)) refl h.3 code line
+      ending-given link NoWords h gets code line = absurd (fair.memory code)
+      ending-given link (Run end) h gets code line =
+          kind-given h.0 link end h.1 h.2 gets code line
 
     pub complete : AreRuns → (ending : Ending) → EndsWords see words e ending → Tells ending
-        → IsFair → IfSome e.streams.input (λ bytes. (link : Option (List ℕ))
+        → ¬ HasWires words e.old → ¬ Rose e.streams.read e.streams.read_now
+        → ¬ Rose e.streams.written e.streams.written_now → ¬ Rose before now → status ≢ 7
+        → (HasLink words e.old → status ≢ 5)
+        → IfSome e.streams.input (λ bytes. (link : Option (List ℕ))
         → GetsLink see words e.old link → Given bytes link)
-    complete runs ending h (inr failed) fair = absurd (fair.diag failed.1)
-    complete runs ending h (inl says) fair = for-known e.streams.input (λ bytes known link gets.
-        ending-given runs fair bytes known link ending h gets says.0 says.1)
+    complete runs ending h (inr failed) never read written diag memory joined =
+        absurd (diag failed.1)
+    complete runs ending h (inl says) never read written diag memory joined =
+        for-known e.streams.input (λ bytes known link gets. ending-given runs (record {
+          served = never;
+          read = read;
+          written = written;
+          memory = memory;
+          joined = joined;
+        }) bytes known link ending h gets says.0 says.1)
 
 -- ---- what is due is one answer
 

@@ -8,7 +8,6 @@ use Rattle.dp_lines.specs.declared.run_end.RunEnd.TheVariants.{LinkFault}
 use Rattle.dp_lines.specs.declared.run_end.RunEnd.TheVariants.{Memory, Long, Truncated, BadMessage}
 use Rattle.dp_lines.specs.declared.run_end.RunEnd.TheVariants.{Closed, BadHeader}
 use Rattle.dp_lines.specs.Ends.{LinesEnd}
-use Rattle.dp_lines.specs.Ends as ends
 use Rattle.dp_messages.specs.declared.message.Entry.{Entry}
 use Rattle.dp_schedule.specs.declared.action.Action.{Action}
 use Rattle.dp_sim.specs.Report.{report}
@@ -16,7 +15,7 @@ use Rattle.dp_viewer.specs.Pictures.{PictureLeaves, picture_text}
 use Rattle.dp_viewer.specs.Ways.{Way, play_way, replay_way}
 use Rattle.dp_words.specs.declared.command_line.LocalCommand.{LocalCommand}
 use Rattle.dp_words.specs.declared.command_line.LocalCommand.TheVariants.{Replay, World, Play}
-use Rattle.dp_world.specs.RunEnds.{WorldLeaves}
+use Rattle.dp_world.specs.RunEnds.{WorldLeaves, lines_end_of}
 use Rattle.dp_world.specs.Schedule.{WorldComesTo}
 use Rattle.dp_app.specs.Answer.{Answer, answer_of}
 
@@ -82,18 +81,12 @@ picture_run way = record {
 
 -- ---- schedules
 
--- how a run of a schedule ends whose input comes to this end
-abbrev pub run_end_of : LinesEnd → RunEnd
-run_end_of ends.AllDone = Done
-run_end_of (ends.BadLine n) = BadLine n
-run_end_of ends.TooLong = Long
-
 -- the command that writes the report of a schedule
 abbrev pub world_run : Run
 world_run = record {
   due = λ bytes answer. (done : List Line) × (actions : List Action) × (end : LinesEnd)
       × WorldComesTo bytes done actions end
-      × (answer ≡ answer_of (run_end_of end) (report actions));
+      × (answer ≡ answer_of (lines_end_of end) (report actions));
   leaves = WorldLeaves;
   reads = ⊤;
 }

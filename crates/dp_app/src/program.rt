@@ -11,7 +11,9 @@ ghost use Rattle.dp_words.specs.declared.command_line.CommandLine.TheVariants.{L
 ghost use Rattle.dp_words.specs.declared.command_line.LocalCommand.{LocalCommand};
 ghost use Rattle.dp_words.specs.declared.command_line.Service.{Service};
 ghost use Rattle.dp_lines.specs.RunEnds.{FaultMatchesEnd};
-ghost use Rattle.dp_app.specs.Answer.{Answer, HasHeadline, IsGiven, Says, SaysNoLink, SaysUsage};
+ghost use Rattle.dp_world.specs.RunEnds.{GrowsByDue};
+ghost use Rattle.dp_app.specs.Answer.{Answer, HasHeadline, HasPlainForks, IsGiven, Says};
+ghost use Rattle.dp_app.specs.Answer.{SaysNoLink, SaysUsage};
 ghost use Rattle.dp_app.specs.Commands.{AskAndLack, AskForLocal, Asks, HasLink, HasLinks, HasWires};
 ghost use Rattle.dp_app.specs.Commands.{IsCommand, IsWorld, LacksWires};
 ghost use Rattle.dp_app.specs.Due.{GetsLink, IsDue};
@@ -33,6 +35,8 @@ use dp_sim::headline;
 use dp_steps::Steps;
 use dp_wire::{Gate, Wire};
 use dp_words::one_command_line;
+use dp_world::reports_are_due;
+use dp_world_laws::forks_of_lines_are_plain;
 use std::alloc::Global;
 use std::sync::Wait;
 use std::sync::ledger::Ledger;
@@ -134,8 +138,15 @@ pub fn drawpile<
     // And whatever the input comes to: after its first lines, however many, each client has taken a
     // prefix of the history of its epoch, its confirmed canvas is that prefix replayed, its view
     // the same with its unanswered sends drawn, and a message that is not permitted changes
-    // nothing and stands in no history.
+    // nothing and stands in no history. Its unanswered sends are its last ones, as long as no event
+    // was answered Ended.
     ensures headline { IsWorld words.now → IfSome (I.left input.old) HasHeadline }
+    ensures forks { IsWorld words.now → IfSome (I.left input.old) HasPlainForks }
+
+    // However `world` ended, what it wrote is a prefix of the report that its input is due. It
+    // can't be that an input is due none.
+    ensures due { IsWorld words.now → IfSome (I.left input.old) (λ bytes.
+        GrowsByDue bytes (O.held output.old) (O.held output.new)) }
 
     // Where nothing failed and memory sufficed, an answer is given that the words, the input's
     // bytes and those of the link of `join` are due, and they are due no other. (What `serve` does
@@ -201,6 +212,8 @@ pub fn drawpile<
     local_commands_are_runs();
     one_outcome();
     headline();
+    forks_of_lines_are_plain();
+    reports_are_due();
     let Ran {
         ending,
         wires,

@@ -10,3 +10,4 @@ pub mod Starting
 pub mod Prefixes
 pub mod Unique
 pub mod OneOutcome
+pub mod RunGiven

@@ -2,3 +2,4 @@ pub mod Inputs
 pub mod Recordings
 pub mod Replaying
 pub mod Showing
+pub mod Given

@@ -4,6 +4,7 @@ use Rattle.std.proofs.Common.{◌∙◌, subst, append_assoc, arith}
 use Rattle.std.specs.Prelude.{Option, Some, None, IfSome}
 use Rattle.std.proofs.lemmas.List.{nil_from_length}
 use Rattle.std.proofs.KnownBytes.{Appends-nil}
+use Rattle.std.specs.Io.KnownBytes.{Appends}
 use Rattle.dp_flat.specs.declared.picture.PictureEnd.{PictureEnd}
 use Rattle.dp_flat.specs.declared.picture.PictureEnd.TheVariants as picture
 use Rattle.dp_lines.specs.declared.line.Line.{Line}
@@ -40,15 +41,19 @@ nothing_done world held faults start first = record {
 }
 
 -- memory is refused before the first line
-pub refused_leaves : AreSteps IsStep [] → (input left old : Option (List ℕ))
-    → WorldLeaves input left old old run.Memory
-refused_leaves none None left old = tt
-refused_leaves none (Some bytes) left old = record {
+pub nothing_leaves : AreSteps IsStep [] → (input left old now : Option (List ℕ))
+    → Appends old now [] → WorldLeaves input left old now run.Memory
+nothing_leaves none None left old now same = tt
+nothing_leaves none (Some bytes) left old now same = record {
   begun = [];
   after = seen lines_limit bytes;
   parts = refl;
-  has = record { actions = []; asked = tt; steps = none; text = (0, omega arith, Appends-nil old) };
+  has = record { actions = []; asked = tt; steps = none; text = (0, omega arith, same) };
 }
+
+pub refused_leaves : AreSteps IsStep [] → (input left old : Option (List ℕ))
+    → WorldLeaves input left old old run.Memory
+refused_leaves none input left old = nothing_leaves none input left old old (Appends-nil old)
 
 -- the report of the lines that the input comes to
 whole_of : {M O D T : Type 0} {world : M → World} {held : O → Option (List ℕ)} {faults : O → ℕ}

@@ -4,3 +4,4 @@ pub mod Shown
 pub mod Prefixes
 pub mod Progress
 pub mod Leaving
+pub mod Due

@@ -31,6 +31,12 @@ run_end_of script.Memory = Memory
 run_end_of (script.Ended picture.Failed) = WriteFault
 run_end_of (script.Ended picture.Memory) = Memory
 
+-- how a run ends whose input comes to this end
+abbrev pub lines_end_of : LinesEnd → RunEnd
+lines_end_of ends.AllDone = Done
+lines_end_of (ends.BadLine n) = BadLine n
+lines_end_of ends.TooLong = Long
+
 -- the output grew by the report of an input whose bytes are known, which comes to this end
 abbrev pub ReportsWhole : Option (List ℕ) → Option (List ℕ) → Option (List ℕ) → LinesEnd → Type 0
 ReportsWhole input old new end =
@@ -56,6 +62,13 @@ pub record HasBegunOf (lines : List Line) (old now : Option (List ℕ)) : Type 0
 abbrev pub ReportsPart : Option (List ℕ) → Option (List ℕ) → Option (List ℕ) → Type 0
 ReportsPart input old new =
     IfSome input (λ bytes. HasBegunOf (seen lines_limit bytes) old new)
+
+-- The output grew by a prefix of the report that an input of these bytes is due. It can't be that
+-- it is due none, and it is due one at most.
+abbrev pub GrowsByDue : List ℕ → Option (List ℕ) → Option (List ℕ) → Type 0
+GrowsByDue bytes old now =
+    ¬ ((done : List Line) (actions : List Action) (end : LinesEnd)
+    → WorldComesTo bytes done actions end → ¬ GrowsByPrefix old now (report actions))
 
 -- What was taken of an input whose bytes are known holds no cause to end, but for the last bytes of
 -- it, at most a piece of 4096.

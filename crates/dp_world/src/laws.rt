@@ -1,20 +1,18 @@
 //! Laws of schedules in bytes, each the contract of a function that does nothing but call others.
 
-ghost use Rattle.std.specs.Prelude.{◌≡◌, ℕ, List};
+ghost use Rattle.std.specs.Prelude.{◌≡◌, ℕ, List, Some};
 ghost use Rattle.std.specs.declared.option.Option.{Option};
 ghost use Rattle.std.specs.List.{All};
-ghost use Rattle.dp_io.specs.Streams.{GrowsByPrefix};
 ghost use Rattle.dp_lines.specs.declared.line.Line.{Line};
-ghost use Rattle.dp_lines.specs.Ends.{LinesEnd, seen};
+ghost use Rattle.dp_lines.specs.declared.run_end.RunEnd.{RunEnd};
+ghost use Rattle.dp_lines.specs.Ends.{LinesEnd};
 ghost use Rattle.dp_schedule.specs.declared.action.Action.{Action};
 ghost use Rattle.dp_sim.specs.Invariant.{SaysNoControl};
-ghost use Rattle.dp_sim.specs.Report.{report};
-ghost use Rattle.dp_world.specs.RunEnds.{HasBegunOf};
+ghost use Rattle.dp_world.specs.RunEnds.{GrowsByDue, WorldLeaves};
 ghost use Rattle.dp_world.specs.Schedule.{AskFor, WorldComesTo};
-ghost use Rattle.dp_script.specs.Limits.{lines_limit};
 
 use crate::line_run::WorldRun;
-use dp_lines::one_end;
+use dp_lines::{further_step, one_end, whole_lines};
 use dp_schedule::one_action;
 
 /// An input comes to at most one end, with one list of lines that are done and one of what they ask
@@ -32,14 +30,23 @@ pub fn one_schedule()
     one_action();
 }
 
-/// A prefix of the report of lines that were begun is one of the report that the input is due.
-pub fn begun_lines_are_due()
-    ensures { (bytes : List ℕ) (old now : Option (List ℕ)) (done : List Line)
-        (actions : List Action) (end : LinesEnd)
-        → HasBegunOf (seen lines_limit bytes) old now → WorldComesTo bytes done actions end
-        → GrowsByPrefix old now (report actions) }
+/// It can't be that an input comes to no end.
+pub fn every_schedule()
+    ensures { (bytes : List ℕ)
+        → ¬ ((done : List Line) (actions : List Action) (end : LinesEnd)
+        → ¬ WorldComesTo bytes done actions end) }
 {
+    further_step::<WorldRun>();
+}
+
+/// However a run ends, the output grew by a prefix of the report that the input is due.
+pub fn reports_are_due()
+    ensures { (bytes : List ℕ) (left old now : Option (List ℕ)) (end : RunEnd)
+        → WorldLeaves (Some bytes) left old now end → GrowsByDue bytes old now }
+{
+    further_step::<WorldRun>();
     one_action();
+    whole_lines();
 }
 
 /// Lines ask for no control message: they can't be said.

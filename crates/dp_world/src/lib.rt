@@ -7,5 +7,5 @@ mod laws;
 mod line_run;
 mod run;
 
-pub use laws::{begun_lines_are_due, lines_say_no_control, one_schedule};
+pub use laws::{every_schedule, lines_say_no_control, one_schedule, reports_are_due};
 pub use run::run_world;

@@ -1,15 +1,14 @@
 //! Laws of the worlds of lines, each the contract of a function that does nothing but call others.
 #![tactic(auto)]
 
-ghost use Rattle.std.specs.Prelude.{◌≡◌, ◌≢◌, ◌≤◌, ℕ, List, length, drop, IfSome};
+ghost use Rattle.std.specs.Prelude.{◌≢◌, ℕ, List, IfSome};
 ghost use Rattle.dp_client.specs.Client.{own_of};
 ghost use Rattle.dp_fork.specs.declared.own.Own.TheVariants.{Lost};
 ghost use Rattle.dp_lines.specs.declared.line.Line.{Line};
 ghost use Rattle.dp_schedule.specs.declared.action.Action.{Action};
 ghost use Rattle.dp_sim.specs.World.{world_after, participant_of};
-ghost use Rattle.dp_sim_laws.specs.OwnSteps.{own_steps, next_of};
-ghost use Rattle.dp_sim_laws.specs.Tally.{tally_of};
-ghost use Rattle.dp_world_laws.specs.Unended.{AskUnended};
+ghost use Rattle.dp_sim_laws.specs.OwnSteps.{next_of};
+ghost use Rattle.dp_world_laws.specs.Unended.{AskUnended, HasPlainFork};
 
 use dp_sim_laws::{forks_are_plain, no_fork_is_lost};
 use dp_world::lines_say_no_control;
@@ -17,16 +16,8 @@ use dp_world::lines_say_no_control;
 /// After lines in which no event was answered Ended, a client's fork is its sends without the first
 /// n, n the number of own answers that it has taken.
 pub fn forks_of_lines_are_plain()
-    ensures few { (lines : List Line) (actions : List Action) (number : ℕ)
-        → AskUnended lines actions
-        → IfSome (participant_of (world_after actions) number) (λ participant.
-        let tally = tally_of participant.state (own_steps number actions) in
-        tally.answers ≤ length tally.sends) }
-    ensures fork { (lines : List Line) (actions : List Action) (number : ℕ)
-        → AskUnended lines actions
-        → IfSome (participant_of (world_after actions) number) (λ participant.
-        let tally = tally_of participant.state (own_steps number actions) in
-        participant.state.fork ≡ drop tally.answers tally.sends) }
+    ensures { (lines : List Line) (actions : List Action) (number : ℕ)
+        → AskUnended lines actions → HasPlainFork actions number }
 {
     forks_are_plain();
     lines_say_no_control();

@@ -1,106 +1,57 @@
-use Rattle.dp_app.proofs.Answering.{read-rose, told, unfailed, write-rose}
-use Rattle.dp_app.proofs.Ends.{complete, ends-of, exact, headline-of, joins-of, lacks}
-use Rattle.dp_app.proofs.Ends.{link-fault, no-link, nothing-kept, other-words, serves-of, to-end}
-use Rattle.dp_app.proofs.Ends.{counted, untouched, usage, wires-stay}
+-- Each clause, of how the words ended and of what was said.
+use Rattle.std.proofs.Common.{rules}
+use Rattle.dp_words.specs.declared.command_line.LocalCommand.TheVariants.{World}
+use Rattle.dp_app.specs.Endings.{streams}
+use Rattle.dp_app.proofs.Answering.{read-rose, tells-all, told, unfailed, write-rose}
+use Rattle.dp_app.proofs.Ends.{complete, counted, due-of, ends-of, exact, for-known, joins-of}
+use Rattle.dp_app.proofs.Ends.{lacks, link-fault, no-link, nothing-kept, other-words, serves-of}
+use Rattle.dp_app.proofs.Ends.{to-end, untouched, usage, wires-stay}
 use Rattle.dp_app.proofs.program.drawpile.Goals as goal
 
-pub returns-clause-other_words : goal.returns-clause-other_words
-returns-clause-other_words g c =
-    other-words _ c.args.words.now _ _ _ _ _ _ _ c.run_words-ending.ensures.ends
-    c.say-status.ensures.says
-
-pub returns-clause-no_link : goal.returns-clause-no_link
-returns-clause-no_link g c =
-    no-link _ c.args.words.now _ _ _ _ _ _ c.one_command_line.ensures _
-    c.run_words-ending.ensures.ends c.say-status.ensures.says
-
-pub returns-clause-ends : goal.returns-clause-ends
-returns-clause-ends g c =
-    ends-of _ c.args.words.now _ _ _ _ _ _ c.one_command_line.ensures
-    c.local_commands_are_runs.ensures _ c.run_words-ending.ensures.ends c.say-status.ensures.says
-
-pub returns-clause-joins : goal.returns-clause-joins
-returns-clause-joins g c =
-    joins-of _ c.args.words.now _ _ _ _ _ _ c.one_command_line.ensures _
-    c.run_words-ending.ensures.ends c.say-status.ensures.says
-
-pub returns-clause-serves : goal.returns-clause-serves
-returns-clause-serves g c =
-    serves-of _ c.args.words.now _ _ _ _ _ _ c.one_command_line.ensures _
-    c.run_words-ending.ensures.ends c.say-status.ensures.says
-
-pub returns-clause-headline : goal.returns-clause-headline
-returns-clause-headline g c =
-    λ world. headline-of c.headline.ensures (g.I.Source.left c.args.input.now)
-
-pub returns-clause-complete : goal.returns-clause-complete
-returns-clause-complete g c =
-    λ never read write diag memory joined. complete _ c.args.words.now _ _ _ _ _ _
-    c.local_commands_are_runs.ensures _ c.run_words-ending.ensures.ends c.say-status.ensures.says
+pub returns : goal.returns
+returns g c =
+    let words = c.args.words.now in
+    let one = c.one_command_line.ensures in
+    let runs = c.local_commands_are_runs.ensures in
+    let ends = c.run_words-ending.ensures.ends in
+    let says = c.say-status.ensures.says in
+    let both = streams g.I.Source.left g.I.Source.faults g.O.Sink.held g.O.Sink.faults
+    c.args.input.now c.run_words-ending.new.input c.args.output.now c.run_words-ending.new.output in
+    let tells = tells-all both _ _ _ _ _ _ (counted _ words _ _ ends) says in
+    let told-of = g.I.Source.left c.args.input.now in
+    let given = complete _ words _ _ _ _ _ _ runs _ ends says in
     record {
-      served = never;
-      read = read;
-      written = write;
-      diag = diag;
-      memory = memory;
-      joined = joined;
+      other_words = other-words _ words _ _ _ _ _ _ _ ends says;
+      no_link = no-link _ words _ _ _ _ _ _ one _ ends says;
+      ends = ends-of _ words _ _ _ _ _ _ one runs _ ends says;
+      joins = joins-of _ words _ _ _ _ _ _ one _ ends says;
+      serves = serves-of _ words _ _ _ _ _ _ one _ ends says;
+      headline = λ world. for-known told-of (λ bytes known done after actions parts asked.
+          c.headline.ensures actions);
+      forks = λ world. for-known told-of (λ bytes known done after actions number parts unended.
+          c.forks_of_lines_are_plain.ensures done actions number unended);
+      due = λ world.
+          let run = ends-of _ words _ _ _ _ _ _ one runs _ ends says World world in
+          due-of c.reports_are_due.ensures told-of _ _ _ run.0 run.1;
+      complete = given;
+      exact = λ never read write diag memory joined. exact one runs c.one_outcome.ensures _ words _
+          told-of _ _ _ _ _ (given never read write diag memory joined);
+      usage = usage _ words _ _ _ _ _ _ _ ends says;
+      lacks = lacks _ words _ _ _ _ _ _ _ ends says;
+      link_fault = link-fault _ words _ _ _ _ _ _ runs _ ends says;
+      untouched = λ none never.
+          let same = untouched _ words _ _ ends none never in (same.0, same.1);
+      uncounted = λ none never.
+          let same = untouched _ words _ _ ends none never in (same.2, same.3);
+      nothing_kept = nothing-kept _ words _ _ ends;
+      wires_stay = wires-stay _ words _ _ ends;
+      keeper_stays = search rules;
+      to_end = to-end _ words _ _ _ _ _ _ one runs _ ends says;
+      fault_told = λ command. told both _ _ _ tells;
+      unfailed = λ command. unfailed both _ _ _ tells;
+      read_fault = read-rose both _ _ _ tells;
+      write_fault = write-rose both _ _ _ tells;
+      input_later = c.run_words-ending.ensures.input_later;
+      output_later = c.run_words-ending.ensures.output_later;
+      diag_later = c.say-status.ensures.later;
     }
-
-pub returns-clause-exact : goal.returns-clause-exact
-returns-clause-exact g c =
-    λ never read write diag memory joined. exact c.one_command_line.ensures
-    c.local_commands_are_runs.ensures
-    c.one_outcome.ensures _ c.args.words.now _ (g.I.Source.left c.args.input.now) _ _ _ _ _
-    (returns-clause-complete g c never read write diag memory joined)
-
-pub returns-clause-usage : goal.returns-clause-usage
-returns-clause-usage g c =
-    usage _ c.args.words.now _ _ _ _ _ _ _ c.run_words-ending.ensures.ends c.say-status.ensures.says
-
-pub returns-clause-lacks : goal.returns-clause-lacks
-returns-clause-lacks g c =
-    lacks _ c.args.words.now _ _ _ _ _ _ _ c.run_words-ending.ensures.ends c.say-status.ensures.says
-
-pub returns-clause-link_fault : goal.returns-clause-link_fault
-returns-clause-link_fault g c =
-    link-fault _ c.args.words.now _ _ _ _ _ _ c.local_commands_are_runs.ensures _
-    c.run_words-ending.ensures.ends c.say-status.ensures.says
-
-pub returns-clause-untouched : goal.returns-clause-untouched
-returns-clause-untouched g c =
-    λ none never. let same = untouched _ c.args.words.now _ _ c.run_words-ending.ensures.ends none
-    never in (same.0, same.1)
-
-pub returns-clause-uncounted : goal.returns-clause-uncounted
-returns-clause-uncounted g c =
-    λ none never. let same = untouched _ c.args.words.now _ _ c.run_words-ending.ensures.ends none
-    never in (same.2, same.3)
-
-pub returns-clause-nothing_kept : goal.returns-clause-nothing_kept
-returns-clause-nothing_kept g c =
-    nothing-kept _ c.args.words.now _ _ c.run_words-ending.ensures.ends
-
-pub returns-clause-wires_stay : goal.returns-clause-wires_stay
-returns-clause-wires_stay g c =
-    wires-stay _ c.args.words.now _ _ c.run_words-ending.ensures.ends
-
-pub returns-clause-to_end : goal.returns-clause-to_end
-returns-clause-to_end g c =
-    to-end _ c.args.words.now _ _ _ _ _ _ c.one_command_line.ensures
-    c.local_commands_are_runs.ensures _ c.run_words-ending.ensures.ends c.say-status.ensures.says
-
-pub returns-clause-fault_told : goal.returns-clause-fault_told
-returns-clause-fault_told g c = λ command. told _ _ _ _ _ _ _ _ _ _
-    (counted _ c.args.words.now _ _ c.run_words-ending.ensures.ends) c.say-status.ensures.says
-
-pub returns-clause-unfailed : goal.returns-clause-unfailed
-returns-clause-unfailed g c = λ command. unfailed _ _ _ _ _ _ _ _ _ _
-    (counted _ c.args.words.now _ _ c.run_words-ending.ensures.ends) c.say-status.ensures.says
-
-pub returns-clause-read_fault : goal.returns-clause-read_fault
-returns-clause-read_fault g c = read-rose _ _ _ _ _ _ _ _ _ _
-    (counted _ c.args.words.now _ _ c.run_words-ending.ensures.ends) c.say-status.ensures.says
-
-pub returns-clause-write_fault : goal.returns-clause-write_fault
-returns-clause-write_fault g c = write-rose _ _ _ _ _ _ _ _ _ _
-    (counted _ c.args.words.now _ _ c.run_words-ending.ensures.ends) c.say-status.ensures.says

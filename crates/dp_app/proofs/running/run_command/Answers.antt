@@ -1,6 +1,6 @@
 -- The command is the one that was matched.
 use Rattle.std.proofs.Common.{refl}
-use Rattle.dp_app.proofs.ByKind.{stays}
+use Rattle.std.proofs.KnownBytes.{Keeps-refl}
 use Rattle.dp_app.proofs.running.run_command.Goals as goal
 
 pub returns-in-Join-clause-ends : goal.returns-in-Join-clause-ends
@@ -8,4 +8,5 @@ returns-in-Join-clause-ends g c = rw c.in-Join.is (c.run_link.ensures.ends c.in-
 
 pub returns-in-Listen-clause-ends : goal.returns-in-Listen-clause-ends
 returns-in-Listen-clause-ends g c = rw c.in-Listen.is
-    (c.run_server.ensures c.in-Listen.addr c.in-Listen.service _ (stays _, stays _, refl, refl))
+    (c.run_server.ensures c.in-Listen.addr c.in-Listen.service _
+    (Keeps-refl _, Keeps-refl _, refl, refl))
