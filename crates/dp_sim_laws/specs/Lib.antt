@@ -1,2 +1,3 @@
 pub mod OwnSteps
 pub mod Tally
+pub mod Spelled
