@@ -1,6 +1,7 @@
 -- In a session in which what is said has a spelling, so has each entry of each epoch.
 use Rattle.std.proofs.Common.{◌≡◌, ℕ, zero, suc, ◌+◌, ◌^◌, ◌<◌, ◌≤◌, ◌==◌, Bool, true, false}
-use Rattle.std.proofs.Common.{nat_lt, not, ◌&&◌, if◌then◌else◌, List, [], ◌∷◌, ◌++◌, length, map, fold}
+use Rattle.std.proofs.Common.{nat_lt, not, ◌&&◌, if◌then◌else◌, List, [], ◌∷◌, ◌++◌, length}
+use Rattle.std.proofs.Common.{map, fold}
 use Rattle.std.proofs.Common.{Option, None, Some, refl, sym, ap, subst, ◌∙◌, ⊎_elim, arith}
 use Rattle.std.specs.Prelude.{All, nat_le, slice_index_or}
 use Rattle.std.specs.List.{find, filter, list_any, sum_by, range_with_len}
@@ -37,7 +38,8 @@ use Rattle.dp_epochs.specs.State.{State, Stream, first_state, noted, after_event
 use Rattle.dp_epochs.specs.State.{epoch_of, history_of, entry_of, filtered_entry, is_name}
 use Rattle.dp_epochs.specs.State.{user_ids, is_present, free_id, owner_on_join, owner_on_leave}
 use Rattle.dp_epochs.specs.State.{next_owner, left, stream_without, sent_commands, part_bytes}
-use Rattle.dp_epochs.specs.State.{reset_byte_limit, reset_of, commands_by, present_users, open_connection, with_connection}
+use Rattle.dp_epochs.specs.State.{reset_byte_limit, reset_of, commands_by, present_users}
+use Rattle.dp_epochs.specs.State.{open_connection, with_connection}
 use Rattle.dp_epochs.specs.Effects.{Effect, Nothing, TakesUp, Placed, Filtered, Joined, Left}
 use Rattle.dp_epochs.specs.Effects.{Began, Added, Dropped, Reopened, made, entries_of, ended_after}
 use Rattle.dp_epochs.specs.Effects.{live_after, stream_after, IsEffect, EventsHaveEffects}
@@ -46,7 +48,7 @@ use Rattle.dp_epochs.specs.Past.{Past, LogItem, Journalled, RefusedClose, shut_a
 use Rattle.dp_epochs.specs.Past.{after_item, state_of}
 use Rattle.dp_epochs.proofs.OpeningLemmas.{opening-short, present-few, present-rise}
 use Rattle.dp_lists.proofs.Options.{option_both}
-use Rattle.dp_sim_laws.specs.Spelled.{AreSpelled, IsSpelledEvent}
+use Rattle.dp_sim_laws.specs.Spelled.{AreSpelledEntries, IsSpelledEvent}
 use Rattle.dp_sim_laws.proofs.Openings.{opening-spelled}
 
 -- ---- single entries
@@ -97,7 +99,7 @@ among-users p k found = found-user p 1 254 k (omega arith) (omega arith) found
 
 -- the entry that makes a user operator, if it is one
 owner-spelled : (o : Option ℕ) → ((user : ℕ) → o ≡ Some user → IsUser user)
-    → AreSpelled (next_owner o)
+    → AreSpelledEntries (next_owner o)
 owner-spelled None is = All-nil (λ (e : Entry). HasSpelling e.msg)
 owner-spelled (Some user) is =
     let h = is user refl in
@@ -114,7 +116,7 @@ if-not : {X : Type 0} (b : Bool) (o : Option X) (x : X) → (if b then None else
 if-not true o x is = cc
 if-not false o x is = is
 
-one-spelled : (user : ℕ) (m : Msg) → HasSpelling m → AreSpelled (entry_of user m ∷ [])
+one-spelled : (user : ℕ) (m : Msg) → HasSpelling m → AreSpelledEntries (entry_of user m ∷ [])
 one-spelled user m spelled =
     All-cons (λ (e : Entry). HasSpelling e.msg) (entry_of user m) [] spelled
     (All-nil (λ (e : Entry). HasSpelling e.msg))
@@ -123,8 +125,7 @@ name-spelled : (registered : Bool) (name : List ℕ) → is_name name ≡ true
     → HasSpelling (msg.Meta (meta.Join registered name))
 name-spelled registered name named =
     let two = and_parts (nat_le 1 (length name) && nat_le (length name) 32) (is_utf8 name) named in
-    let sides = and_parts (nat_le 1 (length name)) (nat_le (length name) 32) two.0 in
-    (
+    let sides = and_parts (nat_le 1 (length name)) (nat_le (length name) 32) two.0 in (
       IsUtf8-from_is_utf8 name two.1,
       (leb-true 1 (length name) sides.0, leb-true (length name) 32 sides.1),
     )
@@ -132,7 +133,7 @@ name-spelled registered name named =
 -- ---- what an event places
 
 entries-spelled : (s : State) (e : Event) (effect : Effect) → IsEffect s e effect
-    → IsSpelledEvent e → AreSpelled (entries_of effect)
+    → IsSpelledEvent e → AreSpelledEntries (entries_of effect)
 entries-spelled s e (Placed conn c m) cause spelled =
     one-spelled c.user m (subst IsSpelledEvent cause.0.came spelled)
 entries-spelled s e (Filtered conn c m) cause spelled =
@@ -162,8 +163,8 @@ entries-spelled s e effect cause spelled = All-nil (λ (e : Entry). HasSpelling 
 -- What is true of a state after so many events: the entries of its histories have a spelling, and
 -- so have the commands of the reset that is being sent, which aren't too many.
 pub record IsSpelledState (n : ℕ) (s : State) : Type 0 where
-  pub ended : All AreSpelled s.ended
-  pub live : AreSpelled s.live
+  pub ended : All AreSpelledEntries s.ended
+  pub live : AreSpelledEntries s.live
   pub epochs : epoch_of s ≤ n
   pub few : length (sent_commands s.stream) ≤ part_limit
   pub commands : All DrawHasSpelling (sent_commands s.stream)
@@ -190,8 +191,7 @@ stream-spelled s e (Added conn c before command) cause spelled h =
     let sent : IsSpelledStream (Some before) = subst IsSpelledStream cause.1 h in
     let may : HasSpelling (msg.Part command) = subst IsSpelledEvent cause.0.said.came spelled in
     let room = and_parts (nat_lt (length before.commands) part_limit)
-    (nat_le (sum_by part_bytes before.commands + part_bytes command) reset_byte_limit) cause.3 in
-    (
+    (nat_le (sum_by part_bytes before.commands + part_bytes command) reset_byte_limit) cause.3 in (
       omega (
         arith,
         length-append before.commands (command ∷ []),
@@ -219,13 +219,12 @@ sent-those s conn c commands is =
 module _ (order : SpelledIdsAreInOrder) where
   effect-histories : (n : ℕ) (s : State) (e : Event) (effect : Effect) → IsEffect s e effect
       → IsSpelledEvent e → n < event_limit → IsSpelledState n s
-      → All AreSpelled (ended_after s effect) × AreSpelled (live_after s effect)
+      → All AreSpelledEntries (ended_after s effect) × AreSpelledEntries (live_after s effect)
   effect-histories n s e (Reopened conn c commands) cause spelled below h =
       let same = sent-those s conn c commands cause.1 in
       let present = present_users s in
-      let few : length commands ≤ part_limit = omega (arith, h.few, ap length (sym same)) in
-      (
-        All-push AreSpelled s.ended s.live h.ended h.live,
+      let few : length commands ≤ part_limit = omega (arith, h.few, ap length (sym same)) in (
+        All-push AreSpelledEntries s.ended s.live h.ended h.live,
         opening-spelled order s.live h.live (epoch_of s + 1) present commands
             (omega (arith, below, h.epochs))
             (omega (
@@ -308,7 +307,7 @@ module _ (order : SpelledIdsAreInOrder) where
 
     first-spelled : IsSpelledState 0 first_state
     first-spelled = record {
-      ended = All-nil AreSpelled;
+      ended = All-nil AreSpelledEntries;
       live = one-spelled 0 (msg.Meta (meta.ResetMark 0 0)) (omega arith, omega arith);
       epochs = omega arith;
       few = omega arith;
@@ -317,14 +316,15 @@ module _ (order : SpelledIdsAreInOrder) where
 
     -- the entries of each epoch have a spelling
     pub history-spelled : (past : Past) (epoch : ℕ) → All IsSpelledEvent past.journal
-        → length past.journal ≤ event_limit → AreSpelled (history_of (state_of past) epoch)
+        → length past.journal ≤ event_limit → AreSpelledEntries (history_of (state_of past) epoch)
     history-spelled past epoch each few =
         let s = state_of past in
         let h = run-spelled 0 first_state past.journal past.shut each (omega (arith, few))
         first-spelled in
         let hs = s.ended ++ s.live ∷ [] in
-        let all = All-push AreSpelled s.ended s.live h.ended h.live in
+        let all = All-push AreSpelledEntries s.ended s.live h.ended h.live in
         ⊎_elim (λ (within : epoch < length hs). all epoch [] within)
-        (λ (past_it : length hs ≤ epoch). subst AreSpelled (sym (get_or_past hs epoch [] past_it))
+        (λ (past_it : length hs ≤ epoch).
+        subst AreSpelledEntries (sym (get_or_past hs epoch [] past_it))
         (All-nil (λ (e : Entry). HasSpelling e.msg)))
         (cases_lt epoch (length hs))

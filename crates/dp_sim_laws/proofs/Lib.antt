@@ -8,3 +8,6 @@ pub mod Openings
 pub mod Histories
 pub mod Walks
 pub mod Speaking
+pub mod Streams
+pub mod TakenUp
+pub mod Shown

@@ -25,10 +25,11 @@ use Rattle.dp_acl.specs.LookBack.{numbers_below, is_join_of}
 use Rattle.dp_acl.specs.Rights.{is_operator, is_trusted, is_lock_listed, are_all_locked, tiers_of}
 use Rattle.dp_acl.specs.Rights.{first_tiers, depth_of, rule_of}
 use Rattle.dp_acl.specs.Carried.{carried, carried_owners, carried_trusted, carried_locks}
-use Rattle.dp_acl.specs.Carried.{carried_tiers, carried_depth, carried_rules, carried_rule, acl_with}
+use Rattle.dp_acl.specs.Carried.{carried_tiers, carried_depth, carried_rules, carried_rule}
+use Rattle.dp_acl.specs.Carried.{acl_with}
 use Rattle.dp_acl.specs.Laws.{SpelledIdsAreInOrder}
 use Rattle.dp_acl.specs.Opening.{server_entry, command_entry, last_join, opening, carried_entries}
-use Rattle.dp_sim_laws.specs.Spelled.{AreSpelled}
+use Rattle.dp_sim_laws.specs.Spelled.{AreSpelledEntries}
 
 -- ---- lists
 
@@ -94,7 +95,7 @@ abbrev Says : {X : Type 0} → (Msg → Option X) → (X → Type 0) → Type 0
 Says {X = X} said P = (m : Msg) → HasSpelling m → IfSome (said m) P
 
 last-spelled : {X : Type 0} (said : Msg → Option X) (P : X → Type 0) → Says said P
-    → (history : List Entry) → AreSpelled history → IfSome (last_said said history) P
+    → (history : List Entry) → AreSpelledEntries history → IfSome (last_said said history) P
 last-spelled said P says history each =
     let all = filter_map (λ (entry : Entry). said entry.msg) history in
     get-all P all (length all - 1)
@@ -137,7 +138,8 @@ tiers-first = (
   omega arith,
 )
 
-module _ (order : SpelledIdsAreInOrder) (history : List Entry) (each : AreSpelled history) where
+module _ (order : SpelledIdsAreInOrder) (history : List Entry)
+    (each : AreSpelledEntries history) where
   rule-spelled : (layer : ℕ) → layer < 65536
       → IfSome (carried_rule history layer) MetaHasSpelling
   rule-spelled layer within =
@@ -190,7 +192,7 @@ module _ (order : SpelledIdsAreInOrder) (history : List Entry) (each : AreSpelle
       (last-spelled feature_tiers AreTiers tiers-said history each) tiers-first)
       (All-append P depth rules depths-spelled rules-spelled))))
 
-  joins-spelled : (present : List ℕ) → AreSpelled (filter_map (last_join history) present)
+  joins-spelled : (present : List ℕ) → AreSpelledEntries (filter_map (last_join history) present)
   joins-spelled present =
       kept-all (λ (e : Entry). HasSpelling e.msg) (last_join history) present (λ k d within.
       let user = slice_index_or present k d in
@@ -201,7 +203,7 @@ module _ (order : SpelledIdsAreInOrder) (history : List Entry) (each : AreSpelle
   -- the opening has a spelling
   pub opening-spelled : (epoch : ℕ) (present : List ℕ) (commands : List Draw) → epoch < 2 ^ 32
       → length (opening epoch history present commands []) ≤ 2 ^ 32 → RiseFrom 1 present
-      → All DrawHasSpelling commands → AreSpelled (opening epoch history present commands [])
+      → All DrawHasSpelling commands → AreSpelledEntries (opening epoch history present commands [])
   opening-spelled epoch present commands small short rise drawn =
       let P : Entry → Type 0 = λ e. HasSpelling e.msg in
       let joins = filter_map (last_join history) present in

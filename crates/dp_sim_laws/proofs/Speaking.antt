@@ -1,5 +1,6 @@
 -- In a world whose clients say what has a spelling, all that comes to the session has one.
-use Rattle.std.proofs.Common.{◌≡◌, ℕ, zero, suc, ◌+◌, ◌^◌, ◌<◌, ◌≤◌, ◌==◌, Bool, true, false, if◌then◌else◌}
+use Rattle.std.proofs.Common.{◌≡◌, ℕ, zero, suc, ◌+◌, ◌^◌, ◌<◌, ◌≤◌, ◌==◌, Bool, true, false}
+use Rattle.std.proofs.Common.{if◌then◌else◌}
 use Rattle.std.proofs.Common.{List, [], ◌∷◌, ◌++◌, length, map, fold, take, Option, None, Some}
 use Rattle.std.proofs.Common.{refl, sym, ap, subst, ◌∙◌, ⊎_elim, arith}
 use Rattle.std.specs.Prelude.{All, IfSome}
@@ -44,7 +45,7 @@ use Rattle.dp_lists.specs.Numbered.{numbered}
 use Rattle.dp_lists.proofs.Options.{at_some, option_either}
 use Rattle.dp_lists.proofs.Numbered.{number-found, numbered-other, numbered-same, numbered-either}
 use Rattle.dp_sim_laws.specs.OwnSteps.{exchange_of}
-use Rattle.dp_sim_laws.specs.Spelled.{AreSpelled, IsSpelledEvent, IsSpelledSay, SaysSpelled}
+use Rattle.dp_sim_laws.specs.Spelled.{AreSpelledEntries, IsSpelledEvent, IsSpelledSay, SaysSpelled}
 use Rattle.dp_sim_laws.proofs.Walks.{MayAct, action-keeps}
 
 -- each message has a spelling
@@ -63,7 +64,7 @@ pub record Speaking : Type 0 where
   pub stays : (w : World) (action : Action) → IsWorld w → IsWorld (after w action)
   pub before : (past : Past) (e : Event) → ShutBefore past → ShutBefore (sure_step past e)
   pub histories : (past : Past) (epoch : ℕ) → All IsSpelledEvent past.journal
-      → length past.journal ≤ event_limit → AreSpelled (history_of (state_of past) epoch)
+      → length past.journal ≤ event_limit → AreSpelledEntries (history_of (state_of past) epoch)
   pub snapshots : (entries : List Entry) → All (λ e. HasSpelling e.msg) entries
       → All IsSpelled (snapshot (replay entries))
 
@@ -103,7 +104,7 @@ ack-at (Some epoch) c small =
     (λ first. All-nil HasSpelling)
     (λ later. All-cons HasSpelling (msg.Control (Ack epoch)) [] small (All-nil HasSpelling))
 
-get-spelled : (entries : List Entry) (i : ℕ) (entry : Entry) → AreSpelled entries
+get-spelled : (entries : List Entry) (i : ℕ) (entry : Entry) → AreSpelledEntries entries
     → slice_get entries i ≡ Some entry → HasSpelling entry.msg
 get-spelled [] i entry each is = cc
 get-spelled (x ∷ xs) zero entry each is =
@@ -122,7 +123,8 @@ module _ (laws : Speaking) (t : Exchange) (number : ℕ) (few : length t.past.jo
       let s = state_of t.past in
       let at = if t.participant.state.epoch == epoch_of s
       then length t.participant.state.taken else 0 in
-      let live = subst AreSpelled (live-is s) (laws.histories t.past (epoch_of s) journal few) in
+      let live = subst AreSpelledEntries (live-is s)
+      (laws.histories t.past (epoch_of s) journal few) in
       let spelled = get-spelled s.live at entry live there in
       All-append HasSpelling t.participant.uplink
       (acks (client.taken_of t.participant.state entry).ack) sent
@@ -137,10 +139,10 @@ module _ (laws : Speaking) (t : Exchange) (number : ℕ) (few : length t.past.jo
       (λ no. All-tail HasSpelling m rest (subst AreSent is sent))
 
   -- what the client has taken has a spelling
-  pub taken-spelled : AreSpelled t.participant.state.taken
+  pub taken-spelled : AreSpelledEntries t.participant.state.taken
   taken-spelled =
       let history = history_of (state_of t.past) t.participant.state.epoch in
-      subst AreSpelled (sym hp.prefix)
+      subst AreSpelledEntries (sym hp.prefix)
       (All-take (λ (e : Entry). HasSpelling e.msg) (length t.participant.state.taken) history
       (laws.histories t.past t.participant.state.epoch journal few))
 
@@ -205,9 +207,11 @@ module _ (laws : Speaking) (w : World) (world : IsWorld w) (h : Speaks w) where
   may-act : (action : Action) → MayAct (λ past. All IsSpelledEvent past.journal) IsSpelledEvent
       laws.before journal-step w action
   may-act (Join name registered) = tt
-  may-act (Act client instruction) = λ p found.
-      (All-weaker HasSpelling (λ m. IsSpelledEvent (event.Say p.conn m)) (λ m is. is) p.uplink
-      (h.uplinks client p found), tt)
+  may-act (Act client instruction) = λ p found. (
+    All-weaker HasSpelling (λ m. IsSpelledEvent (event.Say p.conn m)) (λ m is. is) p.uplink
+        (h.uplinks client p found),
+    tt,
+  )
   may-act (Show client kind) = tt
 
   uplinks-after : (action : Action) → SaysSpelled action → (number : ℕ) (p : Participant)

@@ -11,8 +11,8 @@ use Rattle.dp_schedule.specs.declared.action.Action.{Action}
 use Rattle.dp_schedule.specs.declared.action.Action.TheVariants.{Act}
 
 -- each message of the entries has a spelling
-abbrev pub AreSpelled : List Entry → Type 0
-AreSpelled entries = All (λ entry. HasSpelling entry.msg) entries
+abbrev pub AreSpelledEntries : List Entry → Type 0
+AreSpelledEntries entries = All (λ entry. HasSpelling entry.msg) entries
 
 -- the message that came by the event has one, if one did
 abbrev pub IsSpelledEvent : Event → Type 0

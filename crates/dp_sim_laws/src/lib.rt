@@ -5,5 +5,5 @@ mod laws;
 
 pub use laws::{
     clients_go_by_their_steps, forks_are_plain, histories_are_spelled, no_fork_is_lost,
-    schedules_are_spelled,
+    resets_show_the_senders_canvas, schedules_are_spelled,
 };

@@ -2,7 +2,8 @@
 use Rattle.std.proofs.Common.{◌≡◌, ◌==◌, ℕ, zero, suc, ◌+◌, ◌*◌, ◌^◌, ◌<◌, ◌≤◌, Bool, true, false}
 use Rattle.std.proofs.Common.{not, List, [], ◌∷◌, ◌++◌, length, map, Option, None, Some, refl, ap}
 use Rattle.std.proofs.Common.{sym, subst, ◌∙◌, arith}
-use Rattle.std.specs.Prelude.{ℤ, pos, ◌+ℤ◌, ◌&&◌, All, IfSome, unwrap_or, if◌then◌else◌, slice_index_or}
+use Rattle.std.specs.Prelude.{ℤ, pos, ◌+ℤ◌, ◌&&◌, All, IfSome, unwrap_or, if◌then◌else◌}
+use Rattle.std.specs.Prelude.{slice_index_or}
 use Rattle.std.specs.List.{filter, fold, flat_map, range_with_len, list_all}
 use Rattle.std.specs.Option.{option_map, option_map_or}
 use Rattle.std.proofs.lemmas.Int.{ints}
@@ -147,7 +148,8 @@ module _ (board : Board) (h : IsSpelledBoard board) where
             (λ _. fits)) board.rows h.rows);
       }
 
-  resized_spelled : (top right bottom left : ℤ) → IsSpelledBoard (resized board top right bottom left)
+  resized_spelled : (top right bottom left : ℤ)
+      → IsSpelledBoard (resized board top right bottom left)
   resized_spelled top right bottom left =
       let w : ℤ = pos board.width +ℤ left +ℤ right in
       let h' : ℤ = pos board.height +ℤ top +ℤ bottom in
@@ -157,8 +159,11 @@ module _ (board : Board) (h : IsSpelledBoard board) where
       IsSpelledBoard
       (λ _. record {
         background = h.background;
-        rows = All-map FitsHere (λ row. record { layer = row.layer; content = option_map change
-            row.content }) board.rows h.rows;
+        rows = All-map FitsHere (λ row. record {
+          layer = row.layer;
+          content = option_map change
+              row.content;
+        }) board.rows h.rows;
       })
       (λ _. h)
 
