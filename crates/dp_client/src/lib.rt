@@ -6,6 +6,8 @@
 
 mod answers;
 mod client;
+mod laws;
 
 pub use client::{Client, Taken};
 pub use dp_fork::Own;
+pub use laws::entries_are_taken;

@@ -8,6 +8,7 @@ use Rattle.std.specs.Prelude.{slice_set, slice_index_or}
 use Rattle.std.proofs.Math.ListN.{length-set}
 use Rattle.std.proofs.lemmas.Bool.{cond_both, cases_eq}
 use Rattle.dp_messages.specs.declared.message.Msg.{Msg}
+use Rattle.dp_client.specs.Taking.{EntriesAreTaken}
 use Rattle.dp_epochs.specs.declared.connection.Connection.{Connection}
 use Rattle.dp_epochs.specs.declared.connection.Ending.TheVariants as ending
 use Rattle.dp_epochs.specs.declared.event.Event.{Event}
@@ -220,6 +221,7 @@ pub record Leading : Type 0 where
       (history_of (state_after (journal ++ e ∷ []) shut) epoch)
   pub epochs : (s : State) (e : Event) → epoch_of s ≤ epoch_of (after_event s e)
   pub marked : (past : Past) → AreHistories (state_of past)
+  pub taking : EntriesAreTaken
 
 grows-kept : Leading → (past : Past) (e : Event) → ShutBefore past
     → Grows (state_of past) (state_of (kept past e))

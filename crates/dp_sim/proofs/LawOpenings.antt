@@ -220,3 +220,14 @@ pub opening-shows : PrefixesWithoutPoints Draw → (epoch : ℕ) (history : List
 opening-shows law epoch history present list =
     ap replay (sym (append-nil (opening epoch history present list [])))
     ∙ openings_go_on law epoch history present list [] []
+
+-- the depth in force after it is that of the history before
+pub opening-depth : (epoch : ℕ) (history : List Entry) (present : List ℕ) (list : List Draw)
+    → depth_in_force (opening epoch history present list []) ≡ depth_in_force history
+opening-depth epoch history present list =
+    let joins = filter_map (last_join history) present in
+    let first = joins ++ map server_entry (carried history present) ++ map command_entry list in
+    ap (λ entries. depth_in_force (server_entry (ResetMark epoch (length entries)) ∷ entries))
+    (append-nil first)
+    ∙ depth-opening undo_depth history joins present list
+    (joins-none joins (joins-joined history present))

@@ -17,6 +17,7 @@ use Rattle.dp_messages.specs.declared.message.Msg.{Msg}
 use Rattle.dp_messages.specs.declared.message.Entry.{Entry}
 use Rattle.dp_messages.specs.Properties.{command_of, is_disconnect, marked}
 use Rattle.dp_client.specs.Client as client
+use Rattle.dp_client.specs.Taking.{EntriesAreTaken, Takes}
 use Rattle.dp_epochs.specs.declared.event.Event.{Event}
 use Rattle.dp_epochs.specs.declared.event.Event.TheVariants as event
 use Rattle.dp_epochs.specs.declared.event.Reply.{Reply}
@@ -42,7 +43,7 @@ use Rattle.dp_lists.specs.Numbered.{numbered}
 use Rattle.dp_lists.proofs.Options.{option_both, at_some, if_some}
 use Rattle.dp_lists.proofs.Numbered.{number-found, numbered-other, numbered-same, numbered-either}
 use Rattle.dp_lists.proofs.Numbered.{take_one}
-use Rattle.dp_sim.proofs.OpenConnections.{live-is, mark-first, mark-none}
+use Rattle.dp_sim.proofs.OpenConnections.{live-is, mark-first, mark-next}
 use Rattle.dp_sim.proofs.LawLemmas.{Grows, Keeps, OthersStay, IsOpen, keeps-all, keeps-fewer}
 use Rattle.dp_sim.proofs.LawLemmas.{keeps-both}
 use Rattle.dp_sim.proofs.LawLemmas.{Joins, Leading, keeps-say, keeps-close, joins-open}
@@ -140,10 +141,6 @@ participant-made s number participant fork uplink now running h = record {
 
 -- ---- taking
 
-last-false : (a b : Bool) → b ≡ false → (a && b) ≡ false
-last-false true b is = is
-last-false false b is = refl
-
 -- the client has taken a prefix of the history of its epoch
 record HasTaken (s : State) (c : client.State) : Type 0 where
   pub began : c.joined_epoch ≤ c.epoch
@@ -152,61 +149,31 @@ record HasTaken (s : State) (c : client.State) : Type 0 where
   pub prefix : c.taken ≡ take (length c.taken) (history_of s c.epoch)
   pub entered : c.joined_epoch < c.epoch → 0 < length c.taken
 
-module _ (s : State) (c : client.State) (entry : Entry) (h : HasTaken s c)
-    (history : IsHistory (epoch_of s) s.live) where
-  -- the mark of the live epoch, for a client of this epoch that has taken nothing
-  took-first : c.epoch ≡ epoch_of s → length c.taken ≡ 0 → slice_get s.live 0 ≡ Some entry
-      → HasTaken s (client.took c entry)
-  took-first here none there =
-      let mark : marked entry.msg ≡ Some c.epoch =
-      mark-first (epoch_of s) s.live entry history there ∙ ap (λ n. Some n) (sym here) in
-      let joined : c.joined_epoch ≡ c.epoch =
-      ⊎_elim (λ (less : c.joined_epoch < c.epoch). absurd (omega (arith, h.entered less, none)))
-      (λ (more : c.epoch ≤ c.joined_epoch). omega (arith, more, h.began))
-      (cases_lt c.joined_epoch c.epoch) in
-      let first : client.is_first_mark c c.epoch ≡ true =
-      and_from (length c.taken == 0) (c.epoch == c.joined_epoch) (eq-eqb (length c.taken) 0 none)
-      (eq-eqb c.epoch c.joined_epoch (sym joined)) in
-      let one : client.State = record c { taken = entry ∷ [] } in
-      let other : client.State = record c { taken = entry ∷ []; fork = [] } in
-      let is : client.took c entry ≡ one =
-      ap (λ m. client.took_at m c entry) mark ∙ ap (λ b. if b then one else other) first in
-      let at : slice_get (history_of s c.epoch) 0 ≡ Some entry =
-      ap (λ xs. slice_get xs 0) (ap (history_of s) here ∙ live-is s) ∙ there in
-      subst (HasTaken s) (sym is) (record {
-        began = h.began;
-        known = h.known;
-        few = slice_get_within (history_of s c.epoch) 0 entry at;
-        prefix = sym (take_one (history_of s c.epoch) 0 entry at);
-        entered = λ later. omega arith;
-      })
+module _ (taking : EntriesAreTaken) (s : State) (c : client.State) (entry : Entry)
+    (h : HasTaken s c) (history : IsHistory (epoch_of s) s.live) where
+  takes : Takes c entry
+  takes = taking c entry (record { began = h.began; entered = h.entered })
 
-  -- an entry after others of the live epoch
-  took-next : (k : ℕ) → c.epoch ≡ epoch_of s → length c.taken ≡ suc k
-      → slice_get s.live (suc k) ≡ Some entry → HasTaken s (client.took c entry)
-  took-next k here some there =
-      let mark : marked entry.msg ≡ None = mark-none (epoch_of s) s.live k entry history there in
-      let at : slice_get (history_of s c.epoch) (suc k) ≡ Some entry =
-      ap (λ xs. slice_get xs (suc k)) (ap (history_of s) here ∙ live-is s) ∙ there in
-      let within : suc k < length (history_of s c.epoch) =
-      slice_get_within (history_of s c.epoch) (suc k) entry at in
-      let longer : length (c.taken ++ entry ∷ []) ≡ suc (suc k) = omega
-      (arith, length-append c.taken (entry ∷ []), some) in
-      let more : client.State =
-      record c {
-        taken = c.taken ++ entry ∷ [];
-        fork = client.fork_after (client.own_of c entry)
-            c.fork;
-      } in
-      let is : client.took c entry ≡ more = ap (λ m. client.took_at m c entry) mark in
-      subst (HasTaken s) (sym is) (record {
+  -- the entry after those that are taken of the live epoch
+  took-here : c.epoch ≡ epoch_of s → slice_get s.live (length c.taken) ≡ Some entry
+      → HasTaken s (client.took c entry)
+  took-here here there =
+      let all = history_of s c.epoch in
+      let of : IsHistory c.epoch s.live = subst (λ k. IsHistory k s.live) (sym here) history in
+      let new = takes.here (mark-next c.epoch s.live c.taken entry of there) in
+      let at : slice_get all (length c.taken) ≡ Some entry =
+      ap (λ xs. slice_get xs (length c.taken)) (ap (history_of s) here ∙ live-is s) ∙ there in
+      let within : length c.taken < length all =
+      slice_get_within all (length c.taken) entry at in
+      let longer : length (c.taken ++ entry ∷ []) ≡ suc (length c.taken) =
+      omega (arith, length-append c.taken (entry ∷ [])) in
+      subst (HasTaken s) (sym new.took) (record {
         began = h.began;
         known = h.known;
         few = omega (arith, longer, within);
-        prefix = ap (λ xs. xs ++ entry ∷ []) (h.prefix
-            ∙ ap (λ n. take n (history_of s c.epoch)) some)
-            ∙ sym (take_one (history_of s c.epoch) (suc k) entry at)
-            ∙ ap (λ n. take n (history_of s c.epoch)) (sym longer);
+        prefix = ap (λ xs. xs ++ entry ∷ []) h.prefix
+            ∙ sym (take_one all (length c.taken) entry at)
+            ∙ ap (λ n. take n all) (sym longer);
         entered = λ later. omega (arith, longer);
       })
 
@@ -214,18 +181,11 @@ module _ (s : State) (c : client.State) (entry : Entry) (h : HasTaken s c)
   took-later : c.epoch < epoch_of s → slice_get s.live 0 ≡ Some entry
       → HasTaken s (client.took c entry)
   took-later before there =
-      let mark : marked entry.msg ≡ Some (epoch_of s) =
-      mark-first (epoch_of s) s.live entry history there in
-      let other : client.is_first_mark c (epoch_of s) ≡ false =
-      last-false (length c.taken == 0) (epoch_of s == c.joined_epoch)
-      (ne_eqb (epoch_of s) c.joined_epoch (λ same. omega (arith, same, before, h.began))) in
-      let one : client.State = record c { taken = entry ∷ [] } in
-      let new : client.State = record c { epoch = epoch_of s; taken = entry ∷ []; fork = [] } in
-      let is : client.took c entry ≡ new =
-      ap (λ m. client.took_at m c entry) mark ∙ ap (λ b. if b then one else new) other in
+      let new = takes.later (epoch_of s) before
+      (mark-first (epoch_of s) s.live entry history there) in
       let at : slice_get (history_of s (epoch_of s)) 0 ≡ Some entry =
       ap (λ xs. slice_get xs 0) (live-is s) ∙ there in
-      subst (HasTaken s) (sym is) (record {
+      subst (HasTaken s) (sym new.took) (record {
         began = omega (arith, h.began, before);
         known = omega arith;
         few = slice_get_within (history_of s (epoch_of s)) 0 entry at;
@@ -233,18 +193,12 @@ module _ (s : State) (c : client.State) (entry : Entry) (h : HasTaken s c)
         entered = λ later. omega arith;
       })
 
-  -- the entry after those that are taken
-  took-here : (n : ℕ) → c.epoch ≡ epoch_of s → length c.taken ≡ n
-      → slice_get s.live n ≡ Some entry → HasTaken s (client.took c entry)
-  took-here zero here is there = took-first here is there
-  took-here (suc k) here is there = took-next k here is there
-
   -- the entry that comes next
   took-taken : slice_get s.live (if c.epoch == epoch_of s then length c.taken else 0) ≡ Some entry
       → HasTaken s (client.took c entry)
   took-taken there =
       ⊎_elim (λ (here : c.epoch ≡ epoch_of s).
-      took-here (length c.taken) here refl
+      took-here here
       (sym (ap (λ b. slice_get s.live (if b then length c.taken else 0))
       (eq-eqb c.epoch (epoch_of s) here)) ∙ there))
       (λ (ne : c.epoch ≡ epoch_of s → ⊥).
@@ -340,7 +294,7 @@ next-exchanged laws number t (Some entry) h hp there =
     } in
     let history : IsHistory (epoch_of s) s.live =
     subst (IsHistory (epoch_of s)) (live-is s) (laws.marked t.past (epoch_of s) (omega arith)) in
-    let new = took-taken s c entry has history there in
+    let new = took-taken laws.taking s c entry has history there in
     exchanged-participant number t (took_next t (Some entry)).participant h (record {
       conn = hp.conn;
       running = hp.running;

@@ -8,6 +8,7 @@ use Rattle.std.proofs.lemmas.Bool.{cases_Bool}
 use Rattle.dp_lists.specs.Numbered.{numbered}
 use Rattle.dp_messages.specs.Properties.{marked}
 use Rattle.dp_messages.specs.declared.message.Entry.{Entry}
+use Rattle.dp_client.specs.Taking.{mark_due}
 use Rattle.dp_epochs.specs.declared.connection.Connection.{Connection}
 use Rattle.dp_epochs.specs.Connections.{is_open}
 use Rattle.dp_epochs.specs.State.{State, connection_in, where_open, open_in, epoch_of, history_of}
@@ -68,7 +69,13 @@ mark-first epoch (y ∷ live) x h is =
     let same : y ≡ x = cc in subst (λ z. marked z.msg ≡ Some epoch) same h.0
 
 -- and no other entry is a mark
-pub mark-none : (epoch : ℕ) (live : List Entry) (i : ℕ) (x : Entry) → IsHistory epoch live
+mark-none : (epoch : ℕ) (live : List Entry) (i : ℕ) (x : Entry) → IsHistory epoch live
     → slice_get live (suc i) ≡ Some x → marked x.msg ≡ None
 mark-none epoch [] i x h is = absurd h
 mark-none epoch (y ∷ live) i x h is = unmarked-at live i x h.1 is
+
+-- so the entry after those taken is the mark that is due
+pub mark-next : (epoch : ℕ) (live taken : List Entry) (x : Entry) → IsHistory epoch live
+    → slice_get live (length taken) ≡ Some x → marked x.msg ≡ mark_due epoch taken
+mark-next epoch live [] x h is = mark-first epoch live x h is
+mark-next epoch live (y ∷ ys) x h is = mark-none epoch live (length ys) x h is

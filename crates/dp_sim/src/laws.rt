@@ -15,6 +15,7 @@ ghost use Rattle.dp_epochs.specs.State.{State};
 
 use dp_acl::forbidden_changes_no_right;
 use dp_board::{others_do_not_count, prefixes_without_points};
+use dp_client::entries_are_taken;
 use dp_epochs::{
     epochs_rise, events_have_effects, histories_are_marked, histories_are_permitted,
     histories_grow, steps_lead_on,
@@ -32,6 +33,7 @@ pub fn worlds_stay_worlds()
     histories_grow();
     epochs_rise();
     histories_are_marked();
+    entries_are_taken();
 }
 
 /// In every state of a session a message that is answered Filtered changes no canvas and no right,

@@ -24,6 +24,7 @@ use Rattle.dp_messages.specs.Equality.{same_message}
 use Rattle.dp_client.specs.Client as client
 use Rattle.dp_client.specs.Client.{Took, is_first_mark, last_before, is_own_answer}
 use Rattle.dp_client.specs.Client.{may_answer, answered, own_of, fork_after}
+use Rattle.dp_client.specs.Taking.{IsUnderway, with_entry, with_mark}
 use Rattle.dp_fork.specs.declared.own.Own.TheVariants.{Stranger, Echo, Dropped, Lost}
 use Rattle.dp_epochs.specs.declared.connection.Connection.{Connection}
 use Rattle.dp_epochs.specs.declared.event.Event.TheVariants as event
@@ -40,6 +41,7 @@ use Rattle.dp_sim.specs.declared.participant.LinkState.TheVariants.{Connected, L
 use Rattle.dp_sim.specs.Exchanges.{Participant, Exchange, is_gone, disconnected, heard, uplink_sent}
 use Rattle.dp_sim.specs.Exchanges.{next_entry, acks, took_next, done, exchanged}
 use Rattle.dp_sim.specs.Invariant.{IsParticipant, IsSayable, is_closed}
+use Rattle.dp_sim.proofs.OpenConnections.{live-is, mark-first, mark-next}
 use Rattle.dp_sim_laws.specs.OwnSteps.{steps_of_instruction, steps_of_exchange}
 use Rattle.dp_sim_laws.specs.Tally.{Tally, no_sends, tally_step, tally_from, up_replies}
 use Rattle.dp_sim_laws.specs.Tally.{instruction_replies, exchange_replies}
@@ -247,36 +249,10 @@ exchange-passes laws t instruction before people goes = by_gone
 
 -- ---- histories
 
-unmarked-at : (xs : List Entry) (i : ℕ) (x : Entry) → HasNoMark xs → slice_get xs i ≡ Some x
-    → marked x.msg ≡ None
-unmarked-at [] i x h is = cc
-unmarked-at (y ∷ xs) zero x h is = let same : y ≡ x = cc in subst (λ z. marked z.msg ≡ None) same
-    h.0
-unmarked-at (y ∷ xs) (suc i) x h is = unmarked-at xs i x h.1 is
-
-live-is : (s : State) → history_of s (epoch_of s) ≡ s.live
-live-is s = last_item s.ended s.live
-  where
-    last_item : (hs : List (List Entry)) (h : List Entry)
-        → slice_index_or (hs ++ h ∷ []) (length hs) [] ≡ h
-    last_item [] h = refl
-    last_item (x ∷ hs) h = last_item hs h
-
 -- the live history is that of the live epoch, so it begins with its mark and has no other
 live-history : (s : State) → AreHistories s → IsHistory (epoch_of s) s.live
 live-history s marked =
     subst (IsHistory (epoch_of s)) (live-is s) (marked (epoch_of s) (omega arith))
-
-mark-first : (epoch : ℕ) (live : List Entry) (x : Entry) → IsHistory epoch live
-    → slice_get live 0 ≡ Some x → marked x.msg ≡ Some epoch
-mark-first epoch [] x h is = absurd h
-mark-first epoch (y ∷ live) x h is =
-    let same : y ≡ x = cc in subst (λ z. marked z.msg ≡ Some epoch) same h.0
-
-mark-none : (epoch : ℕ) (live : List Entry) (i : ℕ) (x : Entry) → IsHistory epoch live
-    → slice_get live (suc i) ≡ Some x → marked x.msg ≡ None
-mark-none epoch [] i x h is = absurd h
-mark-none epoch (y ∷ live) i x h is = unmarked-at live i x h.1 is
 
 -- the next entry, by whether the client is of the live epoch
 next-here : (s : State) (c : client.State) (o : Option Entry) → c.epoch ≡ epoch_of s
@@ -294,111 +270,6 @@ next-lagging s c o less is =
     (ne_eqb c.epoch (epoch_of s) (λ same. omega (arith, same, less)))) ∙ is
 
 -- ---- taking
-
--- the client with one more entry
-abbrev more_of : client.State → Entry → client.State
-more_of c entry = record c {
-  taken = c.taken ++ entry ∷ [];
-  fork = fork_after (own_of c entry)
-      c.fork;
-}
-
--- the client that has taken the mark of a later epoch
-abbrev opened_of : client.State → ℕ → Entry → client.State
-opened_of c epoch entry = record c { epoch = epoch; taken = entry ∷ []; fork = [] }
-
--- what is known of a client's epoch
-record IsOf (c : client.State) : Type 0 where
-  began : c.joined_epoch ≤ c.epoch
-  entered : c.joined_epoch < c.epoch → 0 < length c.taken
-
-first-joined : (c : client.State) → IsOf c → c.taken ≡ [] → c.joined_epoch ≡ c.epoch
-first-joined c h none =
-    ⊎_elim (λ (less : c.joined_epoch < c.epoch).
-    absurd (omega (arith, h.entered less, ap length none)))
-    (λ (more : c.epoch ≤ c.joined_epoch). omega (arith, more, h.began))
-    (cases_lt c.joined_epoch c.epoch)
-
--- one more entry leaves where own answers stand
-base-stays : (c : client.State) (entry : Entry) → IsOf c
-    → last_before (more_of c entry) ≡ last_before c
-base-stays c entry h = by_taken c.taken refl
-  where
-    by_taken : (taken : List Entry) → c.taken ≡ taken
-        → (if c.epoch == c.joined_epoch then c.joined_at else carried_in (c.taken ++ entry ∷ []))
-        ≡ (if c.epoch == c.joined_epoch then c.joined_at else carried_in c.taken)
-    by_taken [] is =
-        let same : (c.epoch == c.joined_epoch) ≡ true =
-        eq-eqb c.epoch c.joined_epoch (sym (first-joined c h is)) in
-        ap (λ b. if b then c.joined_at else carried_in (c.taken ++ entry ∷ [])) same
-        ∙ sym (ap (λ b. if b then c.joined_at else carried_in c.taken) same)
-    by_taken (x ∷ xs) is =
-        ap (λ ys. if c.epoch == c.joined_epoch then c.joined_at
-        else carried_in (ys ++ entry ∷ [])) is
-        ∙ sym (ap (λ ys. if c.epoch == c.joined_epoch then c.joined_at else carried_in ys) is)
-
-took-first : (c : client.State) (entry : Entry) → IsOf c → c.taken ≡ []
-    → marked entry.msg ≡ Some c.epoch
-    → (client.took c entry ≡ more_of c entry) × ((client.taken_of c entry).ack ≡ None)
-took-first c entry h none mark =
-    let empty : length c.taken ≡ 0 = ap length none in
-    let first : is_first_mark c c.epoch ≡ true =
-    and_from (length c.taken == 0) (c.epoch == c.joined_epoch) (eq-eqb (length c.taken) 0 empty)
-    (eq-eqb c.epoch c.joined_epoch (sym (first-joined c h none))) in
-    let strange : is_own_answer c entry ≡ false =
-    last_false (entry.user == c.user) (may_answer entry.msg)
-    (nat_lt (last_before c) (length c.taken))
-    (le-ltb (last_before c) (length c.taken) (omega (arith, empty))) in
-    let one : client.State = record c { taken = entry ∷ [] } in
-    let other : client.State = record c { taken = entry ∷ []; fork = [] } in
-    let is : client.took c entry ≡ one =
-    ap (λ m. client.took_at m c entry) mark ∙ ap (λ b. if b then one else other) first in
-    let more : more_of c entry ≡ one =
-    ap (λ b. record c {
-      taken = c.taken ++ entry ∷ [];
-      fork = fork_after (if b then answered c.fork entry.msg else Stranger) c.fork;
-    }) strange
-    ∙ ap (λ taken. record c { taken = taken ++ entry ∷ [] }) none in (
-      is ∙ sym more,
-      ap (λ m. (client.taken_at m c).ack) mark
-          ∙ ap (λ b. if b then None else Some c.epoch) first,
-    )
-
--- the next entry of the client's epoch
-took-is : (live : List Entry) (c : client.State) (entry : Entry) → IsHistory c.epoch live → IsOf c
-    → slice_get live (length c.taken) ≡ Some entry
-    → (client.took c entry ≡ more_of c entry) × ((client.taken_of c entry).ack ≡ None)
-took-is live c entry history h there = by_taken c.taken refl
-  where
-    by_taken : (taken : List Entry) → c.taken ≡ taken → (client.took c entry ≡ more_of c entry)
-        × ((client.taken_of c entry).ack ≡ None)
-    by_taken [] is =
-        took-first c entry h is
-        (mark-first c.epoch live entry history
-        (subst (λ xs. slice_get live (length xs) ≡ Some entry) is there))
-    by_taken (x ∷ xs) is =
-        let mark = mark-none c.epoch live (length xs) entry history
-        (subst (λ ys. slice_get live (length ys) ≡ Some entry) is there) in
-        (ap (λ m. client.took_at m c entry) mark, ap (λ m. (client.taken_at m c).ack) mark)
-
--- the mark of a later epoch
-took-later : (c : client.State) (epoch : ℕ) (entry : Entry) → IsOf c → c.epoch < epoch
-    → marked entry.msg ≡ Some epoch
-    → (client.took c entry ≡ opened_of c epoch entry)
-    × ((client.taken_of c entry).ack ≡ Some epoch)
-took-later c epoch entry h less mark =
-    let other : is_first_mark c epoch ≡ false =
-    second_false (length c.taken == 0) (epoch == c.joined_epoch)
-    (ne_eqb epoch c.joined_epoch (λ same. omega (arith, same, less, h.began))) in
-    let one : client.State = record c { taken = entry ∷ [] } in (
-      ap (λ m. client.took_at m c entry) mark
-          ∙ ap (λ b. if b then one else opened_of c epoch entry) other,
-      ap (λ m. (client.taken_at m c).ack) mark ∙ ap (λ b. if b then None else Some epoch) other,
-    )
-  where
-    second_false : (a b : Bool) → b ≡ false → (a && b) ≡ false
-    second_false true b is = is
-    second_false false b is = refl
 
 -- the answer to the first send of a fork
 own-first : Leading → (fork : List Msg) (m send : Msg) (rest : List Msg) → fork ≡ send ∷ rest
@@ -456,13 +327,13 @@ participant_if b p entry = record p {
 }
 
 here-took : (epoch : ℕ) (live : List Entry) (ready : Bool) (p : Participant) (t : Tally)
-    (entry : Entry) (b : Bool) → IsOf p.state → is_own_answer p.state entry ≡ b
+    (entry : Entry) (b : Bool) → last_before (with_entry p.state entry) ≡ last_before p.state
+    → is_own_answer p.state entry ≡ b
     → IsHere epoch live ready p t
     → IsHere epoch live ready (participant_if b p entry) (tally_if b t)
-here-took epoch live ready p t entry b of own h =
+here-took epoch live ready p t entry b stays own h =
     let c = p.state in
     let at = last_before c in
-    let stays : last_before (participant_if b p entry).state ≡ at = base-stays c entry of in
     let push = answers-push c.user at c.taken entry b own in
     record {
       base = omega (arith, stays, h.base);
@@ -485,17 +356,18 @@ here-took epoch live ready p t entry b of own h =
     counted false ms is = is ∙ sym (ap length (append-nil ms))
 
 live-took : (s : State) (number : ℕ) (p : Participant) (t : Tally) (entry : Entry) (b : Bool)
-    → IsOf p.state → p.state.epoch ≡ epoch_of s → is_own_answer p.state entry ≡ b
-    → Live s number p t → Live s number (participant_if b p entry) (tally_if b t)
-live-took s number p t entry b of at own h = record {
+    → last_before (with_entry p.state entry) ≡ last_before p.state → p.state.epoch ≡ epoch_of s
+    → is_own_answer p.state entry ≡ b → Live s number p t
+    → Live s number (participant_if b p entry) (tally_if b t)
+live-took s number p t entry b stays at own h = record {
   connection = h.connection;
   found = h.found;
   user = h.user;
   known = h.known;
   stands = subst (AllByRecursion (MayStand p.state.epoch)) (sym (append-nil p.uplink)) h.stands;
   endless = λ on. subst HasNoEnd (sym (append-nil p.uplink)) (h.endless on);
-  here = λ same. here-took (epoch_of s) s.live (has_acknowledged s h.connection) p t entry b of own
-      (h.here at);
+  here = λ same. here-took (epoch_of s) s.live (has_acknowledged s h.connection) p t entry b stays
+      own (h.here at);
   lags = λ less. absurd (omega (arith, less, at));
 }
 
@@ -508,12 +380,13 @@ fork-first fork m send rest is own =
     (λ (echo : answered fork m ≡ Echo). ap (λ o. fork_after o fork) echo ∙ ap (drop 1) is) own
 
 holds-own : Leading → (s : State) (number : ℕ) (p : Participant) (t : Tally) (entry : Entry)
-    (b : Bool) → IsOf p.state → p.state.taken ≡ take (length p.state.taken) s.live
+    (b : Bool) → last_before (with_entry p.state entry) ≡ last_before p.state
+    → p.state.taken ≡ take (length p.state.taken) s.live
     → is_closed p.link ≡ false → p.state.epoch ≡ epoch_of s
     → slice_get s.live (length p.state.taken) ≡ Some entry
     → is_own_answer p.state entry ≡ b → Holds s number p t
     → Holds s number (participant_if b p entry) (tally_if b t)
-holds-own laws s number p t entry true of prefix up at there own h =
+holds-own laws s number p t entry true stays prefix up at there own h =
     let live = h.live up in
     let first = next-first (epoch_of s) s.live (has_acknowledged s live.connection) p t entry prefix
     (live.here at) there own in
@@ -524,20 +397,21 @@ holds-own laws s number p t entry true of prefix up at there own h =
       fork = fork-first p.state.fork entry.msg first.send first.rest fork
           (own-first laws p.state.fork entry.msg first.send first.rest fork first.answers)
           ∙ sym rest.1 ∙ ap (λ n. drop n t.sends) (sym (add-one t.answers));
-      live = λ still. live-took s number p t entry true of at own live;
+      live = λ still. live-took s number p t entry true stays at own live;
     }
-holds-own laws s number p t entry false of prefix up at there own h =
+holds-own laws s number p t entry false stays prefix up at there own h =
     record {
       few = h.few;
       fork = h.fork;
-      live = λ still. live-took s number p t entry false of at own (h.live up);
+      live = λ still. live-took s number p t entry false stays at own (h.live up);
     }
 
 -- the client that takes an entry, and acknowledges this
 abbrev took_with : Participant → client.State → Option ℕ → Participant
 took_with p c ack = record p { state = c; uplink = p.uplink ++ acks ack }
 
-is-of : (s : State) (number : ℕ) (p : Participant) → IsParticipant s number p → IsOf p.state
+is-of : (s : State) (number : ℕ) (p : Participant) → IsParticipant s number p
+    → IsUnderway p.state
 is-of s number p hp = record { began = hp.began; entered = hp.entered }
 
 -- what a client of the live epoch has taken is a prefix of the live history
@@ -556,28 +430,29 @@ holds-took-here : Leading → (s : State) (number : ℕ) (p : Participant) (t : 
 holds-took-here laws s number p t entry marked hp up at there h =
     let c = p.state in
     let history = subst (λ n. IsHistory n s.live) (sym at) (live-history s marked) in
-    let of = is-of s number p hp in
-    let is = took-is s.live c entry history of there in
+    let is = (laws.taking c entry (is-of s number p hp)).here
+    (mark-next c.epoch s.live c.taken entry history there) in
     let Goal : Option ℕ → client.State → Type 0 =
     λ ack d. Holds s number (took_with p d ack)
     (if is_some ack then no_sends else tally_if (is_own_answer c entry) t) in
-    subst (λ ack. Goal ack (client.took c entry)) (sym is.1)
-    (subst (Goal None) (sym is.0) (holds-own laws s number p t entry (is_own_answer c entry) of
+    subst (λ ack. Goal ack (client.took c entry)) (sym is.ack)
+    (subst (Goal None) (sym is.took)
+    (holds-own laws s number p t entry (is_own_answer c entry) is.stays
     (prefix-here s number p hp at) up at there refl h))
 
 -- the mark of the live epoch, which is new to the client
 here-opened : (s : State) (connection : Connection) (p : Participant) (entry : Entry)
-    → IsOf p.state → p.state.epoch < epoch_of s → slice_get s.live 0 ≡ Some entry
+    → IsUnderway p.state → p.state.epoch < epoch_of s → slice_get s.live 0 ≡ Some entry
     → AllByRecursion (MayStand p.state.epoch) p.uplink
     → (p.link ≡ Connected → HasNoEnd p.uplink)
     → IsLagging s.live (has_acknowledged s connection) p
     → IsHere (epoch_of s) s.live (has_acknowledged s connection)
-    (took_with p (opened_of p.state (epoch_of s) entry) (Some (epoch_of s))) no_sends
+    (took_with p (with_mark p.state (epoch_of s) entry) (Some (epoch_of s))) no_sends
 here-opened s connection p entry of less there stands endless h =
     let c = p.state in
     let e = epoch_of s in
     let ready = has_acknowledged s connection in
-    let d = opened_of c e entry in
+    let d = with_mark c e entry in
     let base : last_before d ≡ carried_in s.live =
     ap (λ b. if b then c.joined_at else carried_in (entry ∷ []))
     (ne_eqb e c.joined_epoch (λ same. omega (arith, same, less, of.began)))
@@ -599,22 +474,22 @@ here-opened s connection p entry of less there stands endless h =
     carried-first (y ∷ live) x is = let same : y ≡ x = cc in
         sym (ap (λ z. carried_by z.msg) same)
 
-holds-took-later : (s : State) (number : ℕ) (p : Participant) (t : Tally) (entry : Entry)
+holds-took-later : Leading → (s : State) (number : ℕ) (p : Participant) (t : Tally) (entry : Entry)
     → AreHistories s → IsParticipant s number p → is_closed p.link ≡ false
     → p.state.epoch < epoch_of s → slice_get s.live 0 ≡ Some entry → Holds s number p t
     → Holds s number (took_with p (client.took p.state entry) (client.taken_of p.state entry).ack)
     (tally_step p.state t (Took entry))
-holds-took-later s number p t entry marked hp up less there h =
+holds-took-later laws s number p t entry marked hp up less there h =
     let c = p.state in
     let e = epoch_of s in
     let of = is-of s number p hp in
     let mark = mark-first e s.live entry (live-history s marked) there in
-    let is = took-later c e entry of less mark in
+    let is = (laws.taking c entry of).later e less mark in
     let Goal : Option ℕ → client.State → Type 0 =
     λ ack d. Holds s number (took_with p d ack)
     (if is_some ack then no_sends else tally_if (is_own_answer c entry) t) in
     let live = h.live up in
-    let new : Goal (Some e) (opened_of c e entry) =
+    let new : Goal (Some e) (with_mark c e entry) =
     record {
       few = omega arith;
       fork = refl;
@@ -632,8 +507,8 @@ holds-took-later s number p t entry marked hp up less there h =
         lags = λ below. absurd (omega (arith, below));
       };
     } in
-    subst (λ ack. Goal ack (client.took c entry)) (sym is.1)
-    (subst (Goal (Some e)) (sym is.0) new)
+    subst (λ ack. Goal ack (client.took c entry)) (sym is.ack)
+    (subst (Goal (Some e)) (sym is.took) new)
 
 holds-next : Leading → (number : ℕ) (t : Exchange) (tally : Tally) (o : Option Entry)
     → IsParticipant (state_of t.past) number t.participant → is_closed t.participant.link ≡ false
@@ -650,7 +525,7 @@ holds-next laws number t tally (Some entry) hp up there h =
     (next-here s p.state (Some entry) at there) h)
     (λ (ne : p.state.epoch ≡ epoch_of s → ⊥).
     let less : p.state.epoch < epoch_of s = omega (arith, ne, hp.known) in
-    holds-took-later s number p tally entry marked hp up less
+    holds-took-later laws s number p tally entry marked hp up less
     (next-lagging s p.state (Some entry) less there) h)
     (cases_eq p.state.epoch (epoch_of s))
 
@@ -676,129 +551,118 @@ not-gone Connected d h = refl
 not-gone Leaving d h = refl
 not-gone Closed d h = cc
 
-here-said : (epoch : ℕ) (live : List Entry) (ready : Bool) (p : Participant) (t : Tally) (m : Msg)
-    → p.link ≡ Connected → is_send m ≡ true → is_disconnect m ≡ false
-    → IsHere epoch live ready p t
-    → IsHere epoch live ready
-    (record p { state = client.said p.state m; uplink = p.uplink ++ m ∷ [] })
-    (record t { sends = t.sends ++ m ∷ [] })
-here-said epoch live ready p t m on send goes h = record {
-  base = h.base;
-  sent = h.sent;
-  sends = ap (λ ms. ms ++ m ∷ []) h.sends
-      ∙ append_assoc h.sent (due epoch ready p.uplink) (m ∷ [])
-      ∙ ap (λ ms. h.sent ++ ms) (sym (due-push epoch ready p.uplink m (h.more on) send goes));
-  answered = h.answered;
-  taken = h.taken;
-  more = λ still. hears-push epoch ready p.uplink m (h.more on) goes;
+-- ---- what joins the uplink
+
+-- the client whose uplink more joins, with another fork and link
+abbrev queued_of : Participant → List Msg → List Msg → LinkState → Participant
+queued_of p fork more link = record p {
+  state = record p.state { fork = fork };
+  uplink = p.uplink ++ more;
+  link = link;
 }
+
+-- these may join the uplink of a connected client, and of them those are sends to be answered
+record MayQueue (p : Participant) (more sends : List Msg) (link : LinkState) : Type 0 where
+  stands : AllByRecursion (MayStand p.state.epoch) more
+  endless : link ≡ Connected → HasNoEnd more
+  dues : (epoch : ℕ) (ready : Bool) → hears_more epoch ready p.uplink ≡ true
+      → due epoch ready (p.uplink ++ more) ≡ due epoch ready p.uplink ++ sends
+  hears : (epoch : ℕ) (ready : Bool) → link ≡ Connected → hears_more epoch ready p.uplink ≡ true
+      → hears_more epoch ready (p.uplink ++ more) ≡ true
+
+module _ (s : State) (number : ℕ) (p : Participant) (t : Tally) (fork more sends : List Msg)
+    (link : LinkState) (on : p.link ≡ Connected) (may : MayQueue p more sends link) where
+  -- the tally with those sends
+  abbrev sent_tally : Tally
+  sent_tally = record t { sends = t.sends ++ sends }
+
+  here-queued : (epoch : ℕ) (live : List Entry) (ready : Bool) → IsHere epoch live ready p t
+      → IsHere epoch live ready (queued_of p fork more link) sent_tally
+  here-queued epoch live ready h = record {
+    base = h.base;
+    sent = h.sent;
+    sends = ap (λ ms. ms ++ sends) h.sends
+        ∙ append_assoc h.sent (due epoch ready p.uplink) sends
+        ∙ ap (λ ms. h.sent ++ ms) (sym (may.dues epoch ready (h.more on)));
+    answered = h.answered;
+    taken = h.taken;
+    more = λ still. may.hears epoch ready still (h.more on);
+  }
+
+  holds-queued : fork ≡ p.state.fork ++ sends → Holds s number p t
+      → Holds s number (queued_of p fork more link) sent_tally
+  holds-queued now h = record {
+    few = omega (arith, h.few, length-append t.sends sends);
+    fork = now ∙ ap (λ ms. ms ++ sends) h.fork
+        ∙ sym (drop-append-le t.answers t.sends sends h.few);
+    live = λ up.
+        let l = h.live (ap is_closed on) in
+        record {
+          connection = l.connection;
+          found = l.found;
+          user = l.user;
+          known = l.known;
+          stands = all-both (MayStand p.state.epoch) p.uplink more l.stands may.stands;
+          endless = λ still. all-both (λ m. is_disconnect m ≡ false) p.uplink more (l.endless on)
+              (may.endless still);
+          here = λ at. here-queued (epoch_of s) s.live (has_acknowledged s l.connection)
+              (l.here at);
+          lags = λ less. let b = l.lags less in record { late = b.late; unheard = b.unheard };
+        };
+  }
+
+-- where none of them is to be answered
+holds-waiting : (s : State) (number : ℕ) (p : Participant) (t : Tally) (more : List Msg)
+    (link : LinkState) → p.link ≡ Connected → MayQueue p more [] link → Holds s number p t
+    → Holds s number (record p { uplink = p.uplink ++ more; link = link }) t
+holds-waiting s number p t more link on may h =
+    subst (λ sends. Holds s number (queued_of p p.state.fork more link)
+    (record t { sends = sends })) (append-nil t.sends)
+    (holds-queued s number p t p.state.fork more [] link on may (sym (append-nil p.state.fork)) h)
 
 holds-said : (s : State) (number : ℕ) (p : Participant) (t : Tally) (m : Msg) → p.link ≡ Connected
     → 32 ≤ kind_of m
     → Holds s number p t
     → Holds s number (record p { state = client.said p.state m; uplink = p.uplink ++ m ∷ [] })
     (record t { sends = t.sends ++ m ∷ [] })
-holds-said s number p t m on high h = record {
-  few = omega (arith, h.few, length-append t.sends (m ∷ []));
-  fork = ap (λ fork. fork ++ m ∷ []) h.fork ∙ sym (drop-append-le t.answers t.sends (m ∷ []) h.few);
-  live = λ up.
-      let l = h.live up in
-      let send = high-send p.state.epoch m high in
-      record {
-        connection = l.connection;
-        found = l.found;
-        user = l.user;
-        known = l.known;
-        stands = all-push (MayStand p.state.epoch) p.uplink m l.stands send.0;
-        endless = λ still. all-push (λ n. is_disconnect n ≡ false) p.uplink m (l.endless on) send.2;
-        here = λ at. here-said (epoch_of s) s.live (has_acknowledged s l.connection) p t m on send.1
-            send.2 (l.here at);
-        lags = λ less. let b = l.lags less in record { late = b.late; unheard = b.unheard };
-      };
-}
-
--- the client that resets
-abbrev resetting_of : Participant → List Draw → Participant
-resetting_of p commands = record p { uplink = p.uplink ++ reset_messages commands }
-
-here-reset : (epoch : ℕ) (live : List Entry) (ready : Bool) (p : Participant) (t : Tally)
-    (commands : List Draw) → p.link ≡ Connected → IsHere epoch live ready p t
-    → IsHere epoch live ready (resetting_of p commands) t
-here-reset epoch live ready p t commands on h =
-    let all = reset-messages commands in
-    record {
-      base = h.base;
-      sent = h.sent;
-      sends = h.sends ∙ ap (λ ms. h.sent ++ ms)
-          (sym (due-reset epoch ready p.uplink (reset_messages commands) all));
-      answered = h.answered;
-      taken = h.taken;
-      more = λ still. hears-reset epoch ready p.uplink (reset_messages commands) all (h.more on);
-    }
+holds-said s number p t m on high h =
+    let send = high-send p.state.epoch m high in
+    holds-queued s number p t (p.state.fork ++ m ∷ []) (m ∷ []) (m ∷ []) p.link on (record {
+      stands = (send.0, tt);
+      endless = λ still. (send.2, tt);
+      dues = λ epoch ready hears. due-push epoch ready p.uplink m hears send.1 send.2;
+      hears = λ epoch ready still hears. hears-push epoch ready p.uplink m hears send.2;
+    }) refl h
 
 holds-reset : (s : State) (number : ℕ) (p : Participant) (t : Tally) (commands : List Draw)
-    → p.link ≡ Connected → Holds s number p t → Holds s number (resetting_of p commands) t
-holds-reset s number p t commands on h = record {
-  few = h.few;
-  fork = h.fork;
-  live = λ up.
-      let l = h.live up in
-      let more = reset_messages commands in
-      let all = reset-messages commands in
-      record {
-        connection = l.connection;
-        found = l.found;
-        user = l.user;
-        known = l.known;
-        stands = all-both (MayStand p.state.epoch) p.uplink more l.stands
-            (all-reset (MayStand p.state.epoch) more (λ m of. of.stands p.state.epoch) all);
-        endless = λ still. all-both (λ m. is_disconnect m ≡ false) p.uplink more (l.endless on)
-            (all-reset (λ m. is_disconnect m ≡ false) more (λ m of. of.endless) all);
-        here = λ at. here-reset (epoch_of s) s.live (has_acknowledged s l.connection) p t commands
-            on (l.here at);
-        lags = λ less. let b = l.lags less in record { late = b.late; unheard = b.unheard };
-      };
-}
-
--- the client that leaves
-abbrev leaving_of : Participant → Participant
-leaving_of p = record p {
-  uplink = p.uplink ++ msg.Control (Disconnect 0) ∷ [];
-  link = Leaving;
-}
-
-here-leaving : (epoch : ℕ) (live : List Entry) (ready : Bool) (p : Participant) (t : Tally)
-    → IsHere epoch live ready p t → IsHere epoch live ready (leaving_of p) t
-here-leaving epoch live ready p t h = record {
-  base = h.base;
-  sent = h.sent;
-  sends = h.sends ∙ ap (λ ms. h.sent ++ ms)
-      (sym (due-end epoch ready p.uplink (msg.Control (Disconnect 0)) refl));
-  answered = h.answered;
-  taken = h.taken;
-  more = λ on. let not_so : Leaving ≡ Connected = on in cc;
-}
+    → p.link ≡ Connected → Holds s number p t
+    → Holds s number (record p { uplink = p.uplink ++ reset_messages commands }) t
+holds-reset s number p t commands on h =
+    let more = reset_messages commands in
+    let all = reset-messages commands in
+    holds-waiting s number p t more p.link on (record {
+      stands = all-reset (MayStand p.state.epoch) more (λ m of. of.stands p.state.epoch) all;
+      endless = λ still. all-reset (λ m. is_disconnect m ≡ false) more (λ m of. of.endless) all;
+      dues = λ epoch ready hears. due-reset epoch ready p.uplink more all
+          ∙ sym (append-nil (due epoch ready p.uplink));
+      hears = λ epoch ready still hears. hears-reset epoch ready p.uplink more all hears;
+    }) h
 
 holds-leaving : (s : State) (number : ℕ) (p : Participant) (t : Tally) → p.link ≡ Connected
-    → Holds s number p t → Holds s number (leaving_of p) t
-holds-leaving s number p t on h = record {
-  few = h.few;
-  fork = h.fork;
-  live = λ up.
-      let l = h.live (ap is_closed on) in
-      record {
-        connection = l.connection;
-        found = l.found;
-        user = l.user;
-        known = l.known;
-        stands = all-push (MayStand p.state.epoch) p.uplink (msg.Control (Disconnect 0)) l.stands
-            tt;
-        endless = λ still. let not_so : Leaving ≡ Connected = still in cc;
-        here = λ at. here-leaving (epoch_of s) s.live (has_acknowledged s l.connection) p t
-            (l.here at);
-        lags = λ less. let b = l.lags less in record { late = b.late; unheard = b.unheard };
-      };
-}
+    → Holds s number p t
+    → Holds s number (record p {
+      uplink = p.uplink ++ msg.Control (Disconnect 0) ∷ [];
+      link = Leaving;
+    }) t
+holds-leaving s number p t on h =
+    let leave = msg.Control (Disconnect 0) in
+    holds-waiting s number p t (leave ∷ []) Leaving on (record {
+      stands = (tt, tt);
+      endless = λ still. let not_so : Leaving ≡ Connected = still in cc;
+      dues = λ epoch ready hears. due-end epoch ready p.uplink leave refl
+          ∙ sym (append-nil (due epoch ready p.uplink));
+      hears = λ epoch ready still hears. let not_so : Leaving ≡ Connected = still in cc;
+    }) h
 
 -- a client that is closed
 holds-closed : (s u : State) (number : ℕ) (p : Participant) (t : Tally) (uplink : List Msg)

@@ -11,6 +11,7 @@ use Rattle.std.specs.Option.{option_map_or}
 use Rattle.std.proofs.lemmas.Bool.{cases_eq, cases_Bool, cond_both, eq-eqb, eqb-true, or_parts}
 use Rattle.std.proofs.lemmas.Bool.{and_parts, le-leb, not-true, false≢true}
 use Rattle.dp_client.specs.Client.{may_answer}
+use Rattle.dp_client.specs.Taking.{EntriesAreTaken}
 use Rattle.dp_messages.specs.Properties.{carried_in}
 use Rattle.dp_msg_draw.specs.declared.draw.Draw.{Draw}
 use Rattle.dp_msg_meta.specs.declared.message.Control.TheVariants as control
@@ -858,6 +859,7 @@ pub record Leading : Type 0 where
   pub effects : EventsHaveEffects
   pub marked : (past : Past) → AreHistories (state_of past)
   pub same : (m : Msg) → same_message m m ≡ true
+  pub taking : EntriesAreTaken
 
 -- the event was not answered Ended
 abbrev pub NotEnded : Past → Event → Type 0

@@ -12,6 +12,7 @@ use Rattle.dp_messages.specs.declared.message.Entry.{Entry}
 use Rattle.dp_messages.specs.Equality.{same_message}
 use Rattle.dp_client.specs.Client as client
 use Rattle.dp_client.specs.Client.{Step, Said, Took, after_step, after_steps, last_before, own_of}
+use Rattle.dp_client.specs.Taking.{EntriesAreTaken}
 use Rattle.dp_fork.specs.declared.own.Own.TheVariants.{Lost}
 use Rattle.dp_epochs.specs.declared.event.Event.{Event}
 use Rattle.dp_epochs.specs.declared.event.Event.TheVariants as event
@@ -267,15 +268,17 @@ pub staying : ((past : Past) (e : Event) → ShutBefore past
     → state_of (kept past e) ≡ after_event (state_of past) e)
     → ((past : Past) (e : Event) → ShutBefore past → ShutBefore (sure_step past e))
     → EventsHaveEffects → ((past : Past) → AreHistories (state_of past))
-    → ((m n : Msg) → IsTrue (same_message m n) ↔ (m ≡ n)) → IsWorld first_world
+    → ((m n : Msg) → IsTrue (same_message m n) ↔ (m ≡ n)) → EntriesAreTaken
+    → IsWorld first_world
     → ((w : World) (action : Action) → IsWorld w → IsWorld (after w action)) → Staying
-staying on_kept before effects marked equality first stays = record {
+staying on_kept before effects marked equality taking first stays = record {
   leading = record {
     on_kept = on_kept;
     before = before;
     effects = effects;
     marked = marked;
     same = λ m. (equality m m).1 refl;
+    taking = taking;
   };
   first = first;
   stays = stays;

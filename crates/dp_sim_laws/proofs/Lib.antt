@@ -4,3 +4,10 @@ pub mod Events
 pub mod Uplinks
 pub mod Clients
 pub mod Forks
+pub mod Openings
+pub mod Histories
+pub mod Walks
+pub mod Speaking
+pub mod Streams
+pub mod TakenUp
+pub mod Shown

@@ -1,2 +1,4 @@
 pub mod OwnSteps
 pub mod Tally
+pub mod Spelled
+pub mod Resets

@@ -1,16 +1,29 @@
 //! Laws of schedules, each the contract of a function that does nothing but call others.
 
-ghost use Rattle.std.specs.Prelude.{◌≡◌, ◌≢◌, ◌≤◌, ℕ, List, length, drop, IfSome};
-ghost use Rattle.dp_client.specs.Client.{own_of};
+ghost use Rattle.std.specs.Prelude.{◌≡◌, ◌≢◌, ◌≤◌, ℕ, List, ◌∷◌, ◌++◌, length, drop, IfSome, All};
+ghost use Rattle.dp_client.specs.Client.{confirmed, own_of};
+ghost use Rattle.dp_epochs.specs.Past.{Past, state_of};
+ghost use Rattle.dp_epochs.specs.Rows.{event_limit};
+ghost use Rattle.dp_epochs.specs.State.{history_of};
 ghost use Rattle.dp_fork.specs.declared.own.Own.TheVariants.{Lost};
 ghost use Rattle.dp_schedule.specs.declared.action.Action.{Action};
+ghost use Rattle.dp_schedule.specs.declared.action.Action.TheVariants.{Act};
+ghost use Rattle.dp_schedule.specs.declared.action.Instruction.TheVariants.{Reset};
+ghost use Rattle.dp_sim.specs.Exchanges.{Participant};
 ghost use Rattle.dp_sim.specs.World.{world_after, participant_of};
 ghost use Rattle.dp_sim_laws.specs.OwnSteps.{own_steps, GoesBy, next_of};
+ghost use Rattle.dp_sim_laws.specs.Resets.{IsTakenUp, GoesOnFrom};
+ghost use Rattle.dp_sim_laws.specs.Spelled.{AreSpelledEntries, IsSpelledEvent, SaysSpelled};
 ghost use Rattle.dp_sim_laws.specs.Tally.{IsUnended, tally_of};
 
-use dp_epochs::{events_have_effects, histories_are_marked, steps_lead_on};
+use dp_acl::spelled_ids_are_in_order;
+use dp_client::entries_are_taken;
+use dp_epochs::{
+    epochs_rise, events_have_effects, histories_are_marked, histories_grow, steps_lead_on,
+};
 use dp_messages::one_equality;
-use dp_sim::worlds_stay_worlds;
+use dp_sim::{openings_go_on, worlds_stay_worlds};
+use dp_snap_laws::{snapshots_are_spelled, snapshots_replay};
 
 /// After every schedule each client is where its own steps since its Welcome lead.
 pub fn clients_go_by_their_steps()
@@ -36,6 +49,7 @@ pub fn forks_are_plain()
     events_have_effects();
     histories_are_marked();
     one_equality();
+    entries_are_taken();
 }
 
 /// After such a schedule no client's next entry loses its fork.
@@ -50,4 +64,52 @@ pub fn no_fork_is_lost()
     events_have_effects();
     histories_are_marked();
     one_equality();
+    entries_are_taken();
+}
+
+/// In a session whose messages have a spelling, as many as may be kept, so has each entry of each
+/// epoch, and so have those with which it opened.
+pub fn histories_are_spelled()
+    ensures { (past : Past) (epoch : ℕ) → All IsSpelledEvent past.journal
+        → length past.journal ≤ event_limit → AreSpelledEntries (history_of (state_of past) epoch) }
+{
+    spelled_ids_are_in_order();
+    events_have_effects();
+}
+
+/// After every schedule of messages that have a spelling, so has each entry of each epoch, and each
+/// message that came to the session.
+pub fn schedules_are_spelled()
+    ensures entries { (actions : List Action) (epoch : ℕ) → All SaysSpelled actions
+        → AreSpelledEntries (history_of (state_of (world_after actions).past) epoch) }
+    ensures events { (actions : List Action) → All SaysSpelled actions
+        → All IsSpelledEvent (world_after actions).past.journal }
+{
+    worlds_stay_worlds();
+    steps_lead_on();
+    histories_are_spelled();
+    snapshots_are_spelled();
+}
+
+/// Where each message of a client's reset was taken up, its begin and its parts noted and its end
+/// the opening of an epoch, every client of that epoch that has taken the opening whole shows the
+/// sender's confirmed canvas as it was at the reset, with what it has taken more drawn after it.
+pub fn resets_show_the_senders_canvas()
+    ensures { (before later : List Action) (number epoch : ℕ) (sender : Participant)
+        → All SaysSpelled before → IsTakenUp before later number sender epoch → (other : ℕ)
+        → IfSome (participant_of (world_after (before ++ Act number Reset ∷ later)) other)
+        (λ participant. participant.state.epoch ≡ epoch
+        → GoesOnFrom (confirmed sender.state) participant.state) }
+{
+    worlds_stay_worlds();
+    steps_lead_on();
+    events_have_effects();
+    histories_grow();
+    epochs_rise();
+    histories_are_marked();
+    histories_are_spelled();
+    snapshots_are_spelled();
+    snapshots_replay();
+    openings_go_on();
+    entries_are_taken();
 }

@@ -3,4 +3,7 @@
 
 mod laws;
 
-pub use laws::{clients_go_by_their_steps, forks_are_plain, no_fork_is_lost};
+pub use laws::{
+    clients_go_by_their_steps, forks_are_plain, histories_are_spelled, no_fork_is_lost,
+    resets_show_the_senders_canvas, schedules_are_spelled,
+};

@@ -5,3 +5,4 @@ pub mod Puts
 pub mod Layers
 pub mod Snapshots
 pub mod Keeping
+pub mod Spelling

@@ -14,6 +14,7 @@ ghost use Rattle.dp_plain.specs.Board.{Board, HasPixels, IsBoard, empty_board};
 ghost use Rattle.dp_plain.specs.Commands.{draw, draw_all};
 ghost use Rattle.dp_replay.specs.Replay.{replay};
 ghost use Rattle.dp_snap.specs.Snapshot.{snapshot};
+ghost use Rattle.dp_snap.specs.Spelled.{IsSpelled};
 
 use dp_board::{Board as Drawn, prefixes_without_points};
 use dp_layers::{listed_modes, trees_stay_trees};
@@ -53,4 +54,14 @@ pub fn replays_have_pixels()
         → HasPixels (replay entries) }
 {
     spelled_commands_keep_pixels();
+}
+
+/// The snapshot of what a history of messages that have a spelling replays to can be sent: each of
+/// its commands has a spelling, as a message of its own and as a part of a reset.
+pub fn snapshots_are_spelled()
+    ensures { (entries : List Entry) → All (λ e. HasSpelling e.msg) entries
+        → All IsSpelled (snapshot (replay entries)) }
+{
+    replays_are_boards();
+    replays_have_pixels();
 }

@@ -3,4 +3,4 @@
 
 mod laws;
 
-pub use laws::{replays_are_boards, replays_have_pixels, snapshots_replay};
+pub use laws::{replays_are_boards, replays_have_pixels, snapshots_are_spelled, snapshots_replay};

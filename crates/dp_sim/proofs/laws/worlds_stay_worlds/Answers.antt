@@ -11,4 +11,5 @@ returns-clause-stays c =
       histories = c.histories_grow.ensures;
       epochs = c.epochs_rise.ensures.rise;
       marked = c.histories_are_marked.ensures;
+      taking = c.entries_are_taken.ensures;
     })

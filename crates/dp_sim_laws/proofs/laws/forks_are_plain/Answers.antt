@@ -6,11 +6,13 @@ returns-clause-few c =
     let worlds = c.worlds_stay_worlds.ensures in
     let steps = c.steps_lead_on.ensures in
     few-answers (staying steps.kept steps.before c.events_have_effects.ensures
-    c.histories_are_marked.ensures c.one_equality.ensures worlds.first worlds.stays)
+    c.histories_are_marked.ensures c.one_equality.ensures
+    c.entries_are_taken.ensures worlds.first worlds.stays)
 
 pub returns-clause-fork : goal.returns-clause-fork
 returns-clause-fork c =
     let worlds = c.worlds_stay_worlds.ensures in
     let steps = c.steps_lead_on.ensures in
     fork-plain (staying steps.kept steps.before c.events_have_effects.ensures
-    c.histories_are_marked.ensures c.one_equality.ensures worlds.first worlds.stays)
+    c.histories_are_marked.ensures c.one_equality.ensures
+    c.entries_are_taken.ensures worlds.first worlds.stays)

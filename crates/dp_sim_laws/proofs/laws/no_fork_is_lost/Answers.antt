@@ -6,4 +6,5 @@ returns c =
     let worlds = c.worlds_stay_worlds.ensures in
     let steps = c.steps_lead_on.ensures in
     fork-kept (staying steps.kept steps.before c.events_have_effects.ensures
-    c.histories_are_marked.ensures c.one_equality.ensures worlds.first worlds.stays)
+    c.histories_are_marked.ensures c.one_equality.ensures
+    c.entries_are_taken.ensures worlds.first worlds.stays)

@@ -1,0 +1,330 @@
+-- In a session in which what is said has a spelling, so has each entry of each epoch.
+use Rattle.std.proofs.Common.{◌≡◌, ℕ, zero, suc, ◌+◌, ◌^◌, ◌<◌, ◌≤◌, ◌==◌, Bool, true, false}
+use Rattle.std.proofs.Common.{nat_lt, not, ◌&&◌, if◌then◌else◌, List, [], ◌∷◌, ◌++◌, length}
+use Rattle.std.proofs.Common.{map, fold}
+use Rattle.std.proofs.Common.{Option, None, Some, refl, sym, ap, subst, ◌∙◌, ⊎_elim, arith}
+use Rattle.std.specs.Prelude.{All, nat_le, slice_index_or}
+use Rattle.std.specs.List.{find, filter, list_any, sum_by, range_with_len}
+use Rattle.std.specs.Str.{is_utf8}
+use Rattle.std.proofs.lemmas.Bool.{cond_both, cases_Bool, cases_lt, and_parts, ltb-true, leb-true}
+use Rattle.std.proofs.lemmas.Option.{same_Some}
+use Rattle.std.proofs.lemmas.Str.{IsUtf8-from_is_utf8}
+use Rattle.std.proofs.lemmas.List.{length-append, get_or_past}
+use Rattle.std.proofs.lemmas.List.Elements.{All-nil, All-cons, All-head, All-tail, All-append}
+use Rattle.std.proofs.lemmas.List.Elements.{All-push}
+use Rattle.std.proofs.lemmas.List.Sums.{fold-append}
+use Rattle.dp_msg_draw.specs.declared.draw.Draw.{Draw}
+use Rattle.dp_msg_draw.specs.declared.draw.Draw.TheVariants as draws
+use Rattle.dp_msg_draw.specs.Payloads.{DrawHasSpelling, draw_kind}
+use Rattle.dp_msg_meta.specs.Fields.{IsName}
+use Rattle.dp_msg_meta.specs.declared.message.Control.{Control}
+use Rattle.dp_msg_meta.specs.declared.message.Control.TheVariants as control
+use Rattle.dp_msg_meta.specs.declared.message.Meta.{Meta}
+use Rattle.dp_msg_meta.specs.declared.message.Meta.TheVariants as meta
+use Rattle.dp_msg_meta.specs.Payloads.{control_kind, meta_kind}
+use Rattle.dp_messages.specs.declared.message.Msg.{Msg}
+use Rattle.dp_messages.specs.declared.message.Msg.TheVariants as msg
+use Rattle.dp_messages.specs.declared.message.Entry.{Entry}
+use Rattle.dp_messages.specs.Messages.{HasSpelling, kind_of}
+use Rattle.dp_acl.specs.Opening.{server_entry, part_limit, opening_limit, opening}
+use Rattle.dp_acl.specs.Rights.{is_operator}
+use Rattle.dp_acl.specs.Laws.{SpelledIdsAreInOrder}
+use Rattle.dp_epochs.specs.declared.connection.Connection.{Connection}
+use Rattle.dp_epochs.specs.declared.connection.Ending.TheVariants as ending
+use Rattle.dp_epochs.specs.declared.event.Event.{Event}
+use Rattle.dp_epochs.specs.declared.event.Event.TheVariants as event
+use Rattle.dp_epochs.specs.declared.event.ShutAt.{ShutAt}
+use Rattle.dp_epochs.specs.State.{State, Stream, first_state, noted, after_event, after_shut}
+use Rattle.dp_epochs.specs.State.{epoch_of, history_of, entry_of, filtered_entry, is_name}
+use Rattle.dp_epochs.specs.State.{user_ids, is_present, free_id, owner_on_join, owner_on_leave}
+use Rattle.dp_epochs.specs.State.{next_owner, left, stream_without, sent_commands, part_bytes}
+use Rattle.dp_epochs.specs.State.{reset_byte_limit, reset_of, commands_by, present_users}
+use Rattle.dp_epochs.specs.State.{open_connection, with_connection}
+use Rattle.dp_epochs.specs.Effects.{Effect, Nothing, TakesUp, Placed, Filtered, Joined, Left}
+use Rattle.dp_epochs.specs.Effects.{Began, Added, Dropped, Reopened, made, entries_of, ended_after}
+use Rattle.dp_epochs.specs.Effects.{live_after, stream_after, IsEffect, EventsHaveEffects}
+use Rattle.dp_epochs.specs.Rows.{event_limit}
+use Rattle.dp_epochs.specs.Past.{Past, LogItem, Journalled, RefusedClose, shut_at, interleaved}
+use Rattle.dp_epochs.specs.Past.{after_item, state_of}
+use Rattle.dp_epochs.proofs.OpeningLemmas.{opening-short, present-few, present-rise}
+use Rattle.dp_lists.proofs.Options.{option_both}
+use Rattle.dp_sim_laws.specs.Spelled.{AreSpelledEntries, IsSpelledEvent}
+use Rattle.dp_sim_laws.proofs.Openings.{opening-spelled}
+
+-- ---- single entries
+
+-- no kind is above a byte
+control-small : (m : Control) → control_kind m < 2 ^ 8
+control-small (control.Hello name) = omega arith
+control-small m = omega arith
+
+meta-small : (m : Meta) → meta_kind m < 2 ^ 8
+meta-small meta.Leave = omega arith
+meta-small m = omega arith
+
+draw-small : (m : Draw) → draw_kind m < 2 ^ 8
+draw-small (draws.Background color) = omega arith
+draw-small m = omega arith
+
+kind-small : (m : Msg) → HasSpelling m → kind_of m < 2 ^ 8
+kind-small (msg.Control m) spelled = control-small m
+kind-small (msg.Meta m) spelled = meta-small m
+kind-small (msg.Part command) spelled = omega arith
+kind-small msg.Point spelled = omega arith
+kind-small (msg.Undo target redo) spelled = omega arith
+kind-small (msg.Draw command) spelled = draw-small command
+kind-small (msg.Opaque kind body) spelled = spelled.1
+
+-- a user's id
+abbrev IsUser : ℕ → Type 0
+IsUser user = (1 ≤ user) × (user ≤ 254)
+
+found-user : (p : ℕ → Bool) (low n k : ℕ) → 1 ≤ low → low + n ≤ 255
+    → find p (range_with_len low n) ≡ Some k → IsUser k
+found-user p low zero k above within found = cc
+found-user p low (suc n) k above within found =
+    ⊎_elim (λ (here : p low ≡ true).
+    let e : Some low ≡ Some k = sym (ap (λ b. if b then Some low
+    else find p (range_with_len (low + 1) n)) here) ∙ found in
+    let same : low ≡ k = cc in
+    (omega (arith, same), omega (arith, same)))
+    (λ (other : p low ≡ false).
+    found-user p (low + 1) n k (omega arith) (omega arith)
+    (sym (ap (λ b. if b then Some low else find p (range_with_len (low + 1) n)) other) ∙ found))
+    (cases_Bool (p low))
+
+among-users : (p : ℕ → Bool) (k : ℕ) → find p user_ids ≡ Some k → IsUser k
+unfolding user_ids
+among-users p k found = found-user p 1 254 k (omega arith) (omega arith) found
+
+-- the entry that makes a user operator, if it is one
+owner-spelled : (o : Option ℕ) → ((user : ℕ) → o ≡ Some user → IsUser user)
+    → AreSpelledEntries (next_owner o)
+owner-spelled None is = All-nil (λ (e : Entry). HasSpelling e.msg)
+owner-spelled (Some user) is =
+    let h = is user refl in
+    All-cons (λ (e : Entry). HasSpelling e.msg) (server_entry (meta.Owners (user ∷ []))) []
+    (h.0, h.1, tt) (All-nil (λ (e : Entry). HasSpelling e.msg))
+
+if-else : {X : Type 0} (b : Bool) (o : Option X) (x : X) → (if b then o else None) ≡ Some x
+    → o ≡ Some x
+if-else true o x is = is
+if-else false o x is = cc
+
+if-not : {X : Type 0} (b : Bool) (o : Option X) (x : X) → (if b then None else o) ≡ Some x
+    → o ≡ Some x
+if-not true o x is = cc
+if-not false o x is = is
+
+one-spelled : (user : ℕ) (m : Msg) → HasSpelling m → AreSpelledEntries (entry_of user m ∷ [])
+one-spelled user m spelled =
+    All-cons (λ (e : Entry). HasSpelling e.msg) (entry_of user m) [] spelled
+    (All-nil (λ (e : Entry). HasSpelling e.msg))
+
+name-spelled : (registered : Bool) (name : List ℕ) → is_name name ≡ true
+    → HasSpelling (msg.Meta (meta.Join registered name))
+name-spelled registered name named =
+    let two = and_parts (nat_le 1 (length name) && nat_le (length name) 32) (is_utf8 name) named in
+    let sides = and_parts (nat_le 1 (length name)) (nat_le (length name) 32) two.0 in (
+      IsUtf8-from_is_utf8 name two.1,
+      (leb-true 1 (length name) sides.0, leb-true (length name) 32 sides.1),
+    )
+
+-- ---- what an event places
+
+entries-spelled : (s : State) (e : Event) (effect : Effect) → IsEffect s e effect
+    → IsSpelledEvent e → AreSpelledEntries (entries_of effect)
+entries-spelled s e (Placed conn c m) cause spelled =
+    one-spelled c.user m (subst IsSpelledEvent cause.0.came spelled)
+entries-spelled s e (Filtered conn c m) cause spelled =
+    one-spelled c.user (msg.Meta (meta.Filtered (kind_of m)))
+    (kind-small m (subst IsSpelledEvent cause.0.came spelled))
+entries-spelled s e (Joined user registered name next) cause spelled =
+    let P : Entry → Type 0 = λ e. HasSpelling e.msg in
+    All-cons P (entry_of user (msg.Meta (meta.Join registered name))) (next_owner next)
+    (name-spelled registered name cause.named)
+    (owner-spelled next (λ other is.
+    let e : Some user ≡ Some other =
+    if-not (list_any (is_present s) user_ids) (Some user) other (sym cause.owner ∙ is) in
+    among-users (λ k. not (is_present s k)) other (cause.free ∙ e)))
+entries-spelled s e (Left conn c next) cause spelled =
+    let P : Entry → Type 0 = λ e. HasSpelling e.msg in
+    let gone = left s conn c in
+    All-cons P (entry_of c.user (msg.Meta meta.Leave)) (next_owner next) tt
+    (owner-spelled next (λ user is.
+    among-users (is_present gone) user
+    (if-else _ (find (is_present gone) user_ids) user (sym cause.owner ∙ is))))
+entries-spelled s e (Dropped conn c command) cause spelled =
+    one-spelled c.user (msg.Meta (meta.Filtered 6)) (omega arith)
+entries-spelled s e effect cause spelled = All-nil (λ (e : Entry). HasSpelling e.msg)
+
+-- ---- states
+
+-- What is true of a state after so many events: the entries of its histories have a spelling, and
+-- so have the commands of the reset that is being sent, which aren't too many.
+pub record IsSpelledState (n : ℕ) (s : State) : Type 0 where
+  pub ended : All AreSpelledEntries s.ended
+  pub live : AreSpelledEntries s.live
+  pub epochs : epoch_of s ≤ n
+  pub few : length (sent_commands s.stream) ≤ part_limit
+  pub commands : All DrawHasSpelling (sent_commands s.stream)
+
+-- the commands of a stream are few, and have a spelling
+abbrev IsSpelledStream : Option Stream → Type 0
+IsSpelledStream stream =
+    (length (sent_commands stream) ≤ part_limit) × All DrawHasSpelling (sent_commands stream)
+
+none-sent : IsSpelledStream None
+none-sent = (omega arith, All-nil DrawHasSpelling)
+
+without-spelled : (conn : ℕ) (stream : Option Stream) → IsSpelledStream stream
+    → IsSpelledStream (stream_without conn stream)
+without-spelled conn None h = h
+without-spelled conn (Some stream) h =
+    cond_both (stream.owner == conn) None (Some stream) IsSpelledStream (λ yes. none-sent) (λ no. h)
+
+stream-spelled : (s : State) (e : Event) (effect : Effect) → IsEffect s e effect
+    → IsSpelledEvent e → IsSpelledStream s.stream → IsSpelledStream (stream_after s.stream effect)
+stream-spelled s e (Left conn c next) cause spelled h = without-spelled conn s.stream h
+stream-spelled s e (Began conn c) cause spelled h = none-sent
+stream-spelled s e (Added conn c before command) cause spelled h =
+    let sent : IsSpelledStream (Some before) = subst IsSpelledStream cause.1 h in
+    let may : HasSpelling (msg.Part command) = subst IsSpelledEvent cause.0.said.came spelled in
+    let room = and_parts (nat_lt (length before.commands) part_limit)
+    (nat_le (sum_by part_bytes before.commands + part_bytes command) reset_byte_limit) cause.3 in (
+      omega (
+        arith,
+        length-append before.commands (command ∷ []),
+        ltb-true (length before.commands) part_limit room.0,
+      ),
+      All-push DrawHasSpelling before.commands command sent.1 may.0,
+    )
+stream-spelled s e (Dropped conn c command) cause spelled h = none-sent
+stream-spelled s e (Reopened conn c commands) cause spelled h = none-sent
+stream-spelled s e effect cause spelled h = h
+
+-- the commands with which an epoch opens are those of the stream
+sent-those : (s : State) (conn : ℕ) (c : Connection) (commands : List Draw)
+    → reset_of s conn c ≡ Some commands → sent_commands s.stream ≡ commands
+sent-those s conn c commands is =
+    by_stream s.stream (if-else (is_operator s.live c.user) (commands_by conn s.stream) commands is)
+  where
+    by_stream : (stream : Option Stream) → commands_by conn stream ≡ Some commands
+        → sent_commands stream ≡ commands
+    by_stream None is = cc
+    by_stream (Some stream) is =
+        same_Some stream.commands commands
+        (if-else (stream.owner == conn) (Some stream.commands) commands is)
+
+module _ (order : SpelledIdsAreInOrder) where
+  effect-histories : (n : ℕ) (s : State) (e : Event) (effect : Effect) → IsEffect s e effect
+      → IsSpelledEvent e → n < event_limit → IsSpelledState n s
+      → All AreSpelledEntries (ended_after s effect) × AreSpelledEntries (live_after s effect)
+  effect-histories n s e (Reopened conn c commands) cause spelled below h =
+      let same = sent-those s conn c commands cause.1 in
+      let present = present_users s in
+      let few : length commands ≤ part_limit = omega (arith, h.few, ap length (sym same)) in (
+        All-push AreSpelledEntries s.ended s.live h.ended h.live,
+        opening-spelled order s.live h.live (epoch_of s + 1) present commands
+            (omega (arith, below, h.epochs))
+            (omega (
+              arith,
+              opening-short (epoch_of s + 1) s.live present commands [] (present-few s) few,
+            ))
+            (present-rise s) (subst (All DrawHasSpelling) same h.commands),
+      )
+  effect-histories n s e effect cause spelled below h = (
+    h.ended,
+    All-append (λ (e : Entry). HasSpelling e.msg) s.live (entries_of effect) h.live
+        (entries-spelled s e effect cause spelled),
+  )
+
+  effect-epochs : (n : ℕ) (s : State) (effect : Effect) → epoch_of s ≤ n
+      → length (ended_after s effect) ≤ n + 1
+  effect-epochs n s (Reopened conn c commands) le =
+      omega (arith, le, length-append s.ended (s.live ∷ []))
+  effect-epochs n s effect le = omega (arith, le)
+
+  effect-spelled : (n : ℕ) (s : State) (e : Event) (effect : Effect) → IsEffect s e effect
+      → IsSpelledEvent e → n < event_limit → IsSpelledState n s
+      → IsSpelledState (n + 1) (noted s (made s effect))
+  effect-spelled n s e effect cause spelled below h =
+      let histories = effect-histories n s e effect cause spelled below h in
+      let stream = stream-spelled s e effect cause spelled (h.few, h.commands) in
+      record {
+        ended = histories.0;
+        live = histories.1;
+        epochs = effect-epochs n s effect h.epochs;
+        few = stream.0;
+        commands = stream.1;
+      }
+
+  module _ (effects : EventsHaveEffects) where
+    event-spelled : (n : ℕ) (s : State) (e : Event) → IsSpelledEvent e → n < event_limit
+        → IsSpelledState n s → IsSpelledState (n + 1) (after_event s e)
+    event-spelled n s e spelled below h =
+        let it = effects s e in
+        subst (λ a. IsSpelledState (n + 1) (noted s a)) (sym it.made)
+        (effect-spelled n s e it.effect it.cause spelled below h)
+
+    shut-spelled : (n : ℕ) (s : State) (conn : ℕ) → IsSpelledState n s
+        → IsSpelledState n (after_shut s conn)
+    shut-spelled n s conn h =
+        option_both (λ c. with_connection s conn (record c { ending = ending.Shut }))
+        (open_connection s conn) s (IsSpelledState n)
+        (λ c found. record {
+          ended = h.ended;
+          live = h.live;
+          epochs = h.epochs;
+          few = h.few;
+          commands = h.commands;
+        }) h
+
+    closings-spelled : (n : ℕ) (s : State) (shut : List ShutAt) → IsSpelledState n s
+        → IsSpelledState n (fold after_item s (map (λ c. RefusedClose c.conn) shut))
+    closings-spelled n s [] h = h
+    closings-spelled n s (c ∷ shut) h =
+        closings-spelled n (after_shut s c.conn) shut (shut-spelled n s c.conn h)
+
+    run-spelled : (n : ℕ) (s : State) (journal : List Event) (shut : List ShutAt)
+        → All IsSpelledEvent journal → n + length journal ≤ event_limit → IsSpelledState n s
+        → IsSpelledState (n + length journal) (fold after_item s (interleaved n journal shut))
+    run-spelled n s [] shut each few h =
+        subst (λ k. IsSpelledState k (fold after_item s (shut_at n shut))) (omega arith)
+        (closings-spelled n s (filter (λ c. c.n == n) shut) h)
+    run-spelled n s (e ∷ journal) shut each few h =
+        let closed = fold after_item s (shut_at n shut) in
+        let before = closings-spelled n s (filter (λ c. c.n == n) shut) h in
+        let next = event-spelled n closed e (All-head IsSpelledEvent e journal each)
+        (omega (arith, few)) before in
+        let rest = interleaved (n + 1) journal shut in
+        subst (IsSpelledState (n + length (e ∷ journal)))
+        (sym (fold-append after_item s (shut_at n shut) (Journalled e ∷ rest)))
+        (subst (λ k. IsSpelledState k (fold after_item (after_event closed e) rest))
+        (omega arith)
+        (run-spelled (n + 1) (after_event closed e) journal shut
+        (All-tail IsSpelledEvent e journal each) (omega (arith, few)) next))
+
+    first-spelled : IsSpelledState 0 first_state
+    first-spelled = record {
+      ended = All-nil AreSpelledEntries;
+      live = one-spelled 0 (msg.Meta (meta.ResetMark 0 0)) (omega arith, omega arith);
+      epochs = omega arith;
+      few = omega arith;
+      commands = All-nil DrawHasSpelling;
+    }
+
+    -- the entries of each epoch have a spelling
+    pub history-spelled : (past : Past) (epoch : ℕ) → All IsSpelledEvent past.journal
+        → length past.journal ≤ event_limit → AreSpelledEntries (history_of (state_of past) epoch)
+    history-spelled past epoch each few =
+        let s = state_of past in
+        let h = run-spelled 0 first_state past.journal past.shut each (omega (arith, few))
+        first-spelled in
+        let hs = s.ended ++ s.live ∷ [] in
+        let all = All-push AreSpelledEntries s.ended s.live h.ended h.live in
+        ⊎_elim (λ (within : epoch < length hs). all epoch [] within)
+        (λ (past_it : length hs ≤ epoch).
+        subst AreSpelledEntries (sym (get_or_past hs epoch [] past_it))
+        (All-nil (λ (e : Entry). HasSpelling e.msg)))
+        (cases_lt epoch (length hs))

@@ -1,0 +1,134 @@
+-- What holds of the session's past through an action, where each event that may come keeps it; and
+-- what an action leaves of one client.
+use Rattle.std.proofs.Common.{◌≡◌, ◌⊎◌, ℕ, ◌+◌, ◌==◌, Bool, true, false, if◌then◌else◌}
+use Rattle.std.proofs.Common.{List, [], ◌∷◌, ◌++◌, length, Option, None, Some}
+use Rattle.std.proofs.Common.{refl, sym, ap, subst, ◌∙◌, ⊎_elim, inl, inr}
+use Rattle.std.specs.Prelude.{All}
+use Rattle.std.specs.Option.{option_map_or}
+use Rattle.std.proofs.lemmas.Bool.{cases_eq, cases_Bool, eq-eqb, ne_eqb}
+use Rattle.std.proofs.lemmas.List.Elements.{All-head}
+use Rattle.dp_messages.specs.declared.message.Msg.{Msg}
+use Rattle.dp_messages.specs.declared.message.Entry.{Entry}
+use Rattle.dp_messages.specs.Properties.{is_disconnect}
+use Rattle.dp_epochs.specs.declared.event.Event.{Event}
+use Rattle.dp_epochs.specs.declared.event.Event.TheVariants as event
+use Rattle.dp_epochs.specs.declared.event.Reply.{Reply}
+use Rattle.dp_epochs.specs.declared.event.Reply.TheVariants as reply
+use Rattle.dp_epochs.specs.Past.{Past, sure_step, sure_answer}
+use Rattle.dp_epochs.specs.Laws.{ShutBefore}
+use Rattle.dp_schedule.specs.declared.action.Instruction.{Instruction}
+use Rattle.dp_schedule.specs.declared.action.Instruction.TheVariants.{Say, Up, Take, Reset}
+use Rattle.dp_schedule.specs.declared.action.Instruction.TheVariants.{Leave, Cut}
+use Rattle.dp_schedule.specs.declared.action.Action.{Action}
+use Rattle.dp_schedule.specs.declared.action.Action.TheVariants.{Join, Act, Show}
+use Rattle.dp_sim.specs.Exchanges.{Participant, Exchange, is_gone, disconnected, heard, uplink_sent}
+use Rattle.dp_sim.specs.Exchanges.{next_entry, took_next, done, exchanged}
+use Rattle.dp_sim.specs.World.{World, participant_of, with_joined, after, with_exchange}
+use Rattle.dp_lists.specs.Numbered.{numbered}
+use Rattle.dp_lists.proofs.Options.{option_either}
+use Rattle.dp_lists.proofs.Numbered.{number-found, numbered-other, numbered-same, numbered-old}
+use Rattle.dp_sim_laws.specs.OwnSteps.{exchange_of}
+
+-- ---- the session
+
+module _ (P : Past → Type 0) (May : Event → Type 0)
+    (before : (past : Past) (e : Event) → ShutBefore past → ShutBefore (sure_step past e))
+    (step : (past : Past) (e : Event) → ShutBefore past → May e → P past → P (sure_step past e))
+  where
+    -- each message of the uplink may come, and the Close
+    abbrev pub MaySend : Participant → Type 0
+    MaySend p = All (λ m. May (event.Say p.conn m)) p.uplink × May (event.Close p.conn)
+
+    up-keeps : (t : Exchange) (uplink : List Msg) → ShutBefore t.past
+        → All (λ m. May (event.Say t.participant.conn m)) uplink
+        → May (event.Close t.participant.conn) → P t.past → P (uplink_sent t uplink).past
+    up-keeps t [] shut each close h = h
+    up-keeps t (m ∷ rest) shut each close h = by_leave (is_disconnect m)
+      where
+        e : Event
+        e = event.Say t.participant.conn m
+
+        told : P (sure_step t.past e)
+        told = step t.past e shut
+            (All-head (λ n. May (event.Say t.participant.conn n)) m rest each) h
+
+        by_leave : (b : Bool)
+            → P (if b then disconnected (heard t m rest) else heard t m rest).past
+        by_leave true =
+            step (sure_step t.past e) (event.Close t.participant.conn) (before t.past e shut) close
+            told
+        by_leave false = told
+
+    take-keeps : (t : Exchange) (o : Option Entry) → P t.past → P (took_next t o).past
+    take-keeps t None h = h
+    take-keeps t (Some entry) h = h
+
+    done-keeps : (t : Exchange) (instruction : Instruction) → ShutBefore t.past
+        → MaySend t.participant → P t.past → P (done t instruction).past
+    done-keeps t (Say m) shut may h = h
+    done-keeps t Up shut may h = up-keeps t t.participant.uplink shut may.0 may.1 h
+    done-keeps t Take shut may h = take-keeps t (next_entry t) h
+    done-keeps t Reset shut may h = h
+    done-keeps t Leave shut may h = h
+    done-keeps t Cut shut may h = step t.past (event.Close t.participant.conn) shut may.1 h
+
+    exchange-keeps : (t : Exchange) (instruction : Instruction) → ShutBefore t.past
+        → MaySend t.participant → P t.past → P (exchanged t instruction).past
+    exchange-keeps t instruction shut may h = by_gone (is_gone t.participant.link instruction)
+      where
+        by_gone : (b : Bool) → P (if b then t else done t instruction).past
+        by_gone true = h
+        by_gone false = done-keeps t instruction shut may h
+
+    -- the events of the action may come
+    abbrev pub MayAct : World → Action → Type 0
+    MayAct w (Join name registered) = May (event.Open name registered)
+    MayAct w (Act client instruction) =
+        (p : Participant) → participant_of w client ≡ Some p → MaySend p
+    MayAct w (Show client kind) = Unit {0}
+
+    pub action-keeps : (w : World) (action : Action) → ShutBefore w.past → MayAct w action
+        → P w.past → P (after w action).past
+    action-keeps w (Join name registered) shut may h =
+        step w.past (event.Open name registered) shut may h
+    action-keeps w (Act client instruction) shut may h =
+        option_either (λ p. with_exchange w client (exchanged (exchange_of w p) instruction))
+        (participant_of w client) w (λ v. P v.past)
+        (λ p found. exchange-keeps (exchange_of w p) instruction shut (may p found) h)
+        (λ none. h)
+    action-keeps w (Show client kind) shut may h = h
+
+-- ---- one client
+
+joined-stays : (participants : List Participant) (number : ℕ) (p : Participant) (r : Reply)
+    → numbered participants number ≡ Some p → numbered (with_joined participants r) number ≡ Some p
+joined-stays participants number p (reply.Opened conn user epoch at) found =
+    numbered-old participants _ number p found
+joined-stays participants number p r found = found
+
+-- the action is none of the client's, which stays
+pub other-stays : (w : World) (action : Action) (number : ℕ) (p : Participant)
+    → participant_of w number ≡ Some p
+    → ((instruction : Instruction) → action ≡ Act number instruction → ⊥)
+    → participant_of (after w action) number ≡ Some p
+other-stays w (Join name registered) number p found other =
+    joined-stays w.participants number p (sure_answer w.past (event.Open name registered)) found
+other-stays w (Act client instruction) number p found other =
+    option_either (λ q. with_exchange w client (exchanged (exchange_of w q) instruction))
+    (participant_of w client) w (λ v. participant_of v number ≡ Some p)
+    (λ q there.
+    let above = number-found w.participants client q there in
+    numbered-other w.participants client number
+    (exchanged (exchange_of w q) instruction).participant above.0
+    (λ same. other instruction (ap (λ n. Act n instruction) (sym same))) ∙ found)
+    (λ none. found)
+other-stays w (Show client kind) number p found other = found
+
+-- its own instruction makes of it what its exchange does
+pub own-becomes : (w : World) (number : ℕ) (p : Participant) (instruction : Instruction)
+    → participant_of w number ≡ Some p
+    → after w (Act number instruction)
+    ≡ with_exchange w number (exchanged (exchange_of w p) instruction)
+own-becomes w number p instruction found =
+    ap (λ o. option_map_or (λ q. with_exchange w number
+    (exchanged (exchange_of w q) instruction)) o w) found

@@ -1,0 +1,25 @@
+use Rattle.dp_sim.specs.World.{world_after}
+use Rattle.dp_sim_laws.proofs.Speaking.{spoken}
+use Rattle.dp_sim_laws.proofs.laws.schedules_are_spelled.Goals as goal
+
+pub returns-clause-entries : goal.returns-clause-entries
+returns-clause-entries c = λ actions epoch each.
+    let w = world_after actions in
+    let h = spoken (record {
+      first = c.worlds_stay_worlds.ensures.first;
+      stays = c.worlds_stay_worlds.ensures.stays;
+      before = c.steps_lead_on.ensures.before;
+      histories = c.histories_are_spelled.ensures;
+      snapshots = c.snapshots_are_spelled.ensures;
+    }) actions each in
+    c.histories_are_spelled.ensures w.past epoch h.speaks.journal h.world.events
+
+pub returns-clause-events : goal.returns-clause-events
+returns-clause-events c = λ actions each.
+    (spoken (record {
+      first = c.worlds_stay_worlds.ensures.first;
+      stays = c.worlds_stay_worlds.ensures.stays;
+      before = c.steps_lead_on.ensures.before;
+      histories = c.histories_are_spelled.ensures;
+      snapshots = c.snapshots_are_spelled.ensures;
+    }) actions each).speaks.journal

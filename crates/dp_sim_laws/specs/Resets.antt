@@ -1,0 +1,87 @@
+-- Resets that the session takes up, and what a client shows after one.
+use Rattle.std.specs.Prelude.{◌≡◌, ℕ, ◌+◌, ◌==◌, if◌then◌else◌, List, [], ◌∷◌, ◌++◌}
+use Rattle.std.specs.Prelude.{length, drop, map}
+use Rattle.std.specs.Option.{option_map_or}
+use Rattle.std.specs.Prelude.{Some}
+use Rattle.dp_msg_draw.specs.declared.draw.Draw.{Draw}
+use Rattle.dp_messages.specs.declared.message.Msg.{Msg}
+use Rattle.dp_messages.specs.declared.message.Entry.{Entry}
+use Rattle.dp_messages.specs.Properties.{carried_in}
+use Rattle.dp_plain.specs.Board.{Board}
+use Rattle.dp_plain.specs.Commands.{draw}
+use Rattle.dp_replay.specs.Replay.{replay_from, depth_in_force}
+use Rattle.dp_client.specs.Client as client
+use Rattle.dp_epochs.specs.declared.event.Event.TheVariants as event
+use Rattle.dp_epochs.specs.declared.event.Reply.{Reply}
+use Rattle.dp_epochs.specs.declared.event.Reply.TheVariants as reply
+use Rattle.dp_epochs.specs.Past.{sure_answer}
+use Rattle.dp_schedule.specs.declared.action.Instruction.{Instruction}
+use Rattle.dp_schedule.specs.declared.action.Instruction.TheVariants.{Up, Reset}
+use Rattle.dp_schedule.specs.declared.action.Action.{Action}
+use Rattle.dp_schedule.specs.declared.action.Action.TheVariants.{Act}
+use Rattle.dp_snap.specs.Snapshot.{snapshot}
+use Rattle.dp_sim.specs.declared.participant.LinkState.TheVariants.{Connected}
+use Rattle.dp_sim.specs.Exchanges.{Participant, Exchange, is_gone}
+use Rattle.dp_sim.specs.World.{World, after, world_after, participant_of}
+use Rattle.dp_sim.specs.Report.{along}
+use Rattle.dp_sim_laws.specs.OwnSteps.{exchange_of}
+
+-- ---- what the session answers to the messages of one client
+
+-- the answer to the next message of an uplink, if there is one
+abbrev pub next_answer : Exchange → List Msg → List Reply
+next_answer t [] = []
+next_answer t (m ∷ rest) = sure_answer t.past (event.Say t.participant.conn m) ∷ []
+
+-- the answer to the message that an instruction sends, if it sends one
+abbrev pub sent_answer : Exchange → Instruction → List Reply
+sent_answer t Up = next_answer t t.participant.uplink
+sent_answer t other = []
+
+-- the same of the client of a number, where it still does that
+abbrev pub client_answer : Exchange → Instruction → List Reply
+client_answer t instruction =
+    if is_gone t.participant.link instruction then [] else sent_answer t instruction
+
+-- the answer to the message of the client of a number that the session takes by an action
+abbrev pub own_answer : ℕ → World → Action → List Reply
+own_answer number w (Act client instruction) =
+    if client == number
+    then option_map_or (λ participant. client_answer (exchange_of w participant) instruction)
+    (participant_of w client) []
+    else []
+own_answer number w other = []
+
+-- the answers to its messages, in order, along actions from a world on
+abbrev pub own_answers : ℕ → World → List Action → List Reply
+own_answers number w actions = along (own_answer number) w actions
+
+-- ---- a reset that is taken up
+
+-- the answers to a reset to these commands that is taken up: its begin and its parts are noted, and
+-- by its end the epoch of this number opens
+abbrev pub taken_up : List Draw → ℕ → List Reply
+taken_up commands epoch =
+    reply.Noted ∷ map (λ command. reply.Noted) commands ++ reply.Placed epoch 0 ∷ []
+
+-- The client of the number, which was so after the actions before, resets; and among the answers
+-- along the actions after that, those to the messages of the reset are such ones. As many answers
+-- come first as messages stood on its uplink.
+pub record IsTakenUp (before later : List Action) (number : ℕ) (sender : Participant) (epoch : ℕ)
+    : Type 0 where
+  pub found : participant_of (world_after before) number ≡ Some sender
+  pub connected : sender.link ≡ Connected
+  pub rest : List Reply
+  pub answers : drop (length sender.uplink)
+      (own_answers number (after (world_after before) (Act number Reset)) later)
+      ≡ taken_up (snapshot (client.confirmed sender.state)) epoch ++ rest
+
+-- ---- what a client shows
+
+-- Where the client has taken all with which its epoch opened, and more, it shows the board with the
+-- more drawn after it, from the depth of undo on that the opening carried.
+abbrev pub GoesOnFrom : Board → client.State → Type 0
+GoesOnFrom board c =
+    (opening more : List Entry) → c.taken ≡ opening ++ more
+    → length opening ≡ carried_in c.taken + 1
+    → client.confirmed c ≡ replay_from draw board (depth_in_force opening) more
