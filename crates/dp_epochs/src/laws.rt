@@ -16,7 +16,8 @@ ghost use Rattle.dp_acl.specs.Opening.{opening, last_join, part_limit, opening_l
 ghost use Rattle.dp_epochs.specs.Past.{Past, state_after, state_of, kept, refused, sure_step};
 ghost use Rattle.dp_epochs.specs.State.{State, after_event, epoch_of, history_of, present_users};
 ghost use Rattle.dp_epochs.specs.State.{entry_of, free_id, is_name};
-ghost use Rattle.dp_epochs.specs.Effects.{EventsHaveEffects, ConnectionsStay, PartsFit};
+ghost use Rattle.dp_epochs.specs.Effects.{EventsHaveEffects, EffectsAreMade};
+ghost use Rattle.dp_epochs.specs.Effects.{DecisionsHaveEffects, ConnectionsStay};
 ghost use Rattle.dp_epochs.specs.Laws.{Continues, LoggedStep, IsRun, AreFaults, ShutBefore};
 ghost use Rattle.dp_epochs.specs.Laws.{shut_by};
 ghost use Rattle.dp_epochs.specs.Laws.{HasNoMark, IsHistory, AreHistories, ArePermitted};
@@ -32,9 +33,14 @@ pub fn events_have_effects()
     ensures { EventsHaveEffects }
 {}
 
-/// What joins a reset is a part, and fits the reset that is being sent.
-pub fn parts_fit()
-    ensures { PartsFit }
+/// An effect that has its cause is what the event does.
+pub fn effects_are_made()
+    ensures { EffectsAreMade }
+{}
+
+/// A message of an open connection has the effect that the decision on it says.
+pub fn decisions_have_effects()
+    ensures { DecisionsHaveEffects }
 {}
 
 /// The history of each epoch only grows: what stands in it stands there after one more event.
