@@ -30,8 +30,10 @@ use Rattle.dp_acl.specs.Opening.{part_limit, opening_limit, opening}
 use Rattle.dp_epochs.specs.State.{State, Stream, first_state, acted, noted, after_event, epoch_of}
 use Rattle.dp_epochs.specs.State.{histories, history_of, open_connection, with_connection}
 use Rattle.dp_epochs.specs.State.{after_shut, next_owner, stream_without, present_users}
-use Rattle.dp_epochs.specs.State.{part_bytes, reset_byte_limit, fits_reset, with_part, sent_commands}
-use Rattle.dp_epochs.specs.Effects.{own_message, made, entries_of, ended_after, live_after, IsEffect}
+use Rattle.dp_epochs.specs.State.{part_bytes, reset_byte_limit, fits_reset, with_part}
+use Rattle.dp_epochs.specs.State.{sent_commands}
+use Rattle.dp_epochs.specs.Effects.{own_message, made, entries_of, ended_after, live_after}
+use Rattle.dp_epochs.specs.Effects.{IsEffect}
 use Rattle.dp_epochs.specs.Past.{Past, LogItem, Journalled, RefusedClose, shut_at, interleaved}
 use Rattle.dp_epochs.specs.Past.{after_item, state_after, state_of}
 use Rattle.dp_epochs.specs.Past.{Serves, Step, refused, kept, shut_with, sure_step}

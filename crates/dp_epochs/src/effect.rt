@@ -14,13 +14,25 @@ pub enum Effect {
     /// It is answered so, and nothing else.
     Nothing(Reply),
     /// The connection of this number takes up the live epoch.
-    TakesUp { conn: u32, connection: Connection },
+    TakesUp {
+        conn: u32,
+        connection: Connection,
+    },
     /// What the connection of this number says is placed.
-    Placed { conn: u32, connection: Connection },
+    Placed {
+        conn: u32,
+        connection: Connection,
+    },
     /// Filtered is placed instead.
-    Filtered { conn: u32, connection: Connection },
+    Filtered {
+        conn: u32,
+        connection: Connection,
+    },
     /// The user joins by the next connection; one may become operator.
-    Joined { user: u8, next: Option<u8> },
+    Joined {
+        user: u8,
+        next: Option<u8>,
+    },
     /// The user of the connection of this number leaves; one may become operator.
     Left {
         conn: u32,
@@ -28,13 +40,25 @@ pub enum Effect {
         next: Option<u8>,
     },
     /// The connection begins a reset.
-    Began { conn: u32, connection: Connection },
+    Began {
+        conn: u32,
+        connection: Connection,
+    },
     /// The command of the part that it says joins the reset that it sends.
-    Added { conn: u32, connection: Connection },
+    Added {
+        conn: u32,
+        connection: Connection,
+    },
     /// The part passes the limits of the reset, which is dropped; Filtered is placed instead.
-    Dropped { conn: u32, connection: Connection },
+    Dropped {
+        conn: u32,
+        connection: Connection,
+    },
     /// The reset that it sends ends, and the next epoch opens.
-    Reopened { conn: u32, connection: Connection },
+    Reopened {
+        conn: u32,
+        connection: Connection,
+    },
 }
 
 impl Effect {

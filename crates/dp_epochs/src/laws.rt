@@ -94,14 +94,14 @@ pub fn histories_are_marked()
     ensures { (past : Past) → AreHistories (state_of past) }
 {}
 
-/// In the history of each epoch every entry after those with which it opened is the server's, or its
-/// user was permitted to send its message by the entries before it.
+/// In the history of each epoch every entry after those with which it opened is the server's, or
+/// its user was permitted to send its message by the entries before it.
 pub fn histories_are_permitted()
     ensures { (past : Past) (epoch : ℕ) → ArePermitted (history_of (state_of past) epoch) }
 {}
 
-/// How an epoch opens: with the mark of its number, after which no other stands, where none is kept.
-/// Who is present has joined last as before, where no Join of the user is kept.
+/// How an epoch opens: with the mark of its number, after which no other stands, where none is
+/// kept. Who is present has joined last as before, where no Join of the user is kept.
 pub fn openings()
     ensures marked { (epoch : ℕ) (history : List Entry) (present : List ℕ) (commands : List Draw)
         (kept : List Entry) → HasNoMark kept

@@ -1,5 +1,5 @@
-//! What comes to a session and what it answers, the rows that are kept of it, its state, what events
-//! make of it, and laws of it.
+//! What comes to a session and what it answers, the rows that are kept of it, its state, what
+//! events do to it, and laws of it.
 //!
 //! The rule: docs/protocol.md, "The session".
 #![tactic(auto)]

@@ -68,8 +68,9 @@ holder_other c user apart =
     ap (λ b. one_if (is_open c && b)) (ne_eqb c.user user apart) ∙ neither (is_open c)
 
 -- one more connection of a user who was not present
-pub marks-adds : (present : List Bool) (cs : List Connection) (c : Connection) → length present ≡ 256
-    → MarksHolders present cs → (is_open c ≡ true) × (list_any (is_holder c.user) cs ≡ false)
+pub marks-adds : (present : List Bool) (cs : List Connection) (c : Connection)
+    → length present ≡ 256 → MarksHolders present cs
+    → (is_open c ≡ true) × (list_any (is_holder c.user) cs ≡ false)
     → MarksHolders (set present c.user true) (cs ++ c ∷ [])
 marks-adds present cs c ids marks h user small =
     let more = sum_by_push (λ x. one_if (is_holder user x)) cs c in

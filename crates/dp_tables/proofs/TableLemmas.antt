@@ -1,6 +1,6 @@
 -- When tables are those of a state.
-use Rattle.std.proofs.Common.{◌≡◌, ℕ, zero, suc, ◌+◌, ◌-◌, ◌*◌, ◌<◌, ◌≤◌, ◌==◌, Bool, true, false, not}
-use Rattle.std.proofs.Common.{cond}
+use Rattle.std.proofs.Common.{◌≡◌, ℕ, zero, suc, ◌+◌, ◌-◌, ◌*◌, ◌<◌, ◌≤◌, ◌==◌, Bool, true, false}
+use Rattle.std.proofs.Common.{cond, not}
 use Rattle.std.proofs.Common.{nat_lt, nat_le, if◌then◌else◌, is_some, unwrap_or}
 use Rattle.std.proofs.Common.{List, [], ◌∷◌, ◌++◌, length, set, map, All, Option, None, Some}
 use Rattle.std.proofs.Common.{append_assoc, refl, sym, ap, subst, ◌∙◌, ⊎_elim, arith, length-append}
@@ -144,11 +144,6 @@ own_entries_kept journal (e ∷ entries) =
 own-few : (e : Event) (effect : Effect) → length (own_entries e effect) ≤ 1
 own-few e (Placed conn c) = omega arith
 own-few e effect = omega arith
-
-pub own-count : (n : ℕ) (e : Event) (effect : Effect)
-    → length (own_items n effect) ≡ length (own_entries e effect)
-own-count n e (Placed conn c) = refl
-own-count n e effect = refl
 
 -- what the event says is kept so, if it is placed
 own-placed : (journal : List Event) (e : Event) (effect : Effect) → SaysOwn e effect
@@ -802,7 +797,6 @@ ledger-is a b journal shut quiet room =
 -- where memory is ready, there is room for two entries
 pub ready-rights : (t : Inside) → is_ready t ≡ true → 2 ≤ t.rights.room
 ready-rights t ready = leb-true 2 t.rights.room (and_parts _ (nat_le 2 t.rights.room) ready).1
-
 
 flags-after : (place : Place) (effect : Effect) (flags : List Bool) (cs : List Connection)
     → length flags ≡ length cs

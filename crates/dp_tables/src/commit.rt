@@ -159,12 +159,7 @@ fn is_sender(conn: u32, owner: Option<u32>) -> bool
 }
 
 /// The reset has no parts, and is this connection's or no one's.
-fn restart(
-    owner: &mut Option<u32>,
-    parts: &mut Vec<u32>,
-    part_bytes: &mut u64,
-    sender: Option<u32>,
-)
+fn restart(owner: &mut Option<u32>, parts: &mut Vec<u32>, part_bytes: &mut u64, sender: Option<u32>)
     ensures owner { owner.new ≡ sender }
     ensures parts { parts.new.items ≡ [] }
     ensures bytes { part_bytes.new ≡ 0 }
@@ -247,7 +242,9 @@ fn make(
             opens[user as usize] = event;
         }
         Effect::Left {
-            conn, connection, ..
+            conn,
+            connection,
+            ..
         } => {
             connections[conn as usize - 1] = Connection {
                 ending: Ending::Left(here),

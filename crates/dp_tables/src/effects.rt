@@ -14,9 +14,7 @@ ghost use Rattle.dp_tables.specs.Ready.{IsReady, IsSupply};
 use crate::ready::{Ready, Supply};
 use crate::tables::Tables;
 use dp_acl::operators_stay;
-use dp_epochs::{
-    Connection, Decision, Effect, Event, Reply, decisions_have_effects, make_row,
-};
+use dp_epochs::{Connection, Decision, Effect, Event, Reply, decisions_have_effects, make_row};
 use dp_history::{first_operator, free_id, join_entry, name_text, next_operator};
 use dp_keeper::{Row, RowBytes};
 use dp_messages::{Entry, Msg};
@@ -189,7 +187,9 @@ impl Tables {
                 second: owner_entry(alloc, next)?,
             },
             Effect::Left {
-                connection, next, ..
+                connection,
+                next,
+                ..
             } => Supply::Entries {
                 first: Some(Entry {
                     user: connection.user,

@@ -10,6 +10,7 @@ returns-after-own-clause-stands c = λ journal history next stands given.
     let second = option_to_list c.in-Entries.second in
     let is : next ≡ history ++ (first ++ second) =
     subst (λ p. IsWithSupply journal p history next) c.in-Entries.is given in
-    subst (StandsFor c.place_server-in-Entries.new.rights) (append_assoc history first second ∙ sym is)
+    subst (StandsFor c.place_server-in-Entries.new.rights)
+    (append_assoc history first second ∙ sym is)
     (c.place_server-in-Entries.ensures.stands (history ++ first)
     (c.place_server.ensures.stands history stands))

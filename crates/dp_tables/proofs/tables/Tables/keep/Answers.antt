@@ -74,7 +74,8 @@ invariant_of-self c =
           ∙ ap (λ own. items_after own ready.supply t.live.items)
           (c.own_item.ensures ∙ ap (λ n. own_items n effect) count);
       stands = c.place.ensures.stands t.journal.items (s.live ++ own_entries e effect)
-          (live_after s e effect) (c.note_own-event.ensures.stands s.live c.self.invariant.of.stands)
+          (live_after s e effect)
+          (c.note_own-event.ensures.stands s.live c.self.invariant.of.stands)
           (next-is t.journal.items s e effect is.effect ready.supply is.supply);
       present = c.make.ensures.present;
       opens = c.make.ensures.opens ∙ ap (λ n. opens_after n effect t.opens) count;
