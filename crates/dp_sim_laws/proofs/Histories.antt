@@ -5,9 +5,9 @@ use Rattle.std.proofs.Common.{map, fold}
 use Rattle.std.proofs.Common.{Option, None, Some, refl, sym, ap, subst, ◌∙◌, ⊎_elim, arith}
 use Rattle.std.specs.Prelude.{All, nat_le, slice_index_or}
 use Rattle.std.specs.List.{find, filter, list_any, sum_by, range_with_len}
+use Rattle.std.specs.Option.{option_map}
 use Rattle.std.specs.Str.{is_utf8}
 use Rattle.std.proofs.lemmas.Bool.{cond_both, cases_Bool, cases_lt, and_parts, ltb-true, leb-true}
-use Rattle.std.proofs.lemmas.Option.{same_Some}
 use Rattle.std.proofs.lemmas.Str.{IsUtf8-from_is_utf8}
 use Rattle.std.proofs.lemmas.List.{length-append, get_or_past}
 use Rattle.std.proofs.lemmas.List.Elements.{All-nil, All-cons, All-head, All-tail, All-append}
@@ -27,7 +27,6 @@ use Rattle.dp_messages.specs.declared.message.Msg.TheVariants as msg
 use Rattle.dp_messages.specs.declared.message.Entry.{Entry}
 use Rattle.dp_messages.specs.Messages.{HasSpelling, kind_of}
 use Rattle.dp_acl.specs.Opening.{server_entry, part_limit, opening_limit, opening}
-use Rattle.dp_acl.specs.Rights.{is_operator}
 use Rattle.dp_acl.specs.Laws.{SpelledIdsAreInOrder}
 use Rattle.dp_epochs.specs.declared.connection.Connection.{Connection}
 use Rattle.dp_epochs.specs.declared.connection.Ending.TheVariants as ending
@@ -38,11 +37,13 @@ use Rattle.dp_epochs.specs.State.{State, Stream, first_state, noted, after_event
 use Rattle.dp_epochs.specs.State.{epoch_of, history_of, entry_of, filtered_entry, is_name}
 use Rattle.dp_epochs.specs.State.{user_ids, is_present, free_id, owner_on_join, owner_on_leave}
 use Rattle.dp_epochs.specs.State.{next_owner, left, stream_without, sent_commands, part_bytes}
-use Rattle.dp_epochs.specs.State.{reset_byte_limit, reset_of, commands_by, present_users}
+use Rattle.dp_epochs.specs.State.{reset_byte_limit, with_part, present_users}
 use Rattle.dp_epochs.specs.State.{open_connection, with_connection}
-use Rattle.dp_epochs.specs.Effects.{Effect, Nothing, TakesUp, Placed, Filtered, Joined, Left}
-use Rattle.dp_epochs.specs.Effects.{Began, Added, Dropped, Reopened, made, entries_of, ended_after}
-use Rattle.dp_epochs.specs.Effects.{live_after, stream_after, IsEffect, EventsHaveEffects}
+use Rattle.dp_epochs.specs.declared.effect.Effect.{Effect}
+use Rattle.dp_epochs.specs.declared.effect.Effect.TheVariants.{Placed, Filtered, Joined, Left}
+use Rattle.dp_epochs.specs.declared.effect.Effect.TheVariants.{Began, Added, Dropped, Reopened}
+use Rattle.dp_epochs.specs.Effects.{own_message, made, entries_of, ended_after, live_after}
+use Rattle.dp_epochs.specs.Effects.{stream_after, IsEffect, EventsHaveEffects}
 use Rattle.dp_epochs.specs.Rows.{event_limit}
 use Rattle.dp_epochs.specs.Past.{Past, LogItem, Journalled, RefusedClose, shut_at, interleaved}
 use Rattle.dp_epochs.specs.Past.{after_item, state_of}
@@ -133,16 +134,17 @@ name-spelled registered name named =
 -- ---- what an event places
 
 entries-spelled : (s : State) (e : Event) (effect : Effect) → IsEffect s e effect
-    → IsSpelledEvent e → AreSpelledEntries (entries_of effect)
-entries-spelled s e (Placed conn c m) cause spelled =
-    one-spelled c.user m (subst IsSpelledEvent cause.0.came spelled)
-entries-spelled s e (Filtered conn c m) cause spelled =
-    one-spelled c.user (msg.Meta (meta.Filtered (kind_of m)))
-    (kind-small m (subst IsSpelledEvent cause.0.came spelled))
-entries-spelled s e (Joined user registered name next) cause spelled =
+    → IsSpelledEvent e → AreSpelledEntries (entries_of e effect)
+entries-spelled s e (Placed conn c) cause spelled =
+    one-spelled c.user (own_message e) (subst IsSpelledEvent cause.0.came spelled)
+entries-spelled s e (Filtered conn c) cause spelled =
+    one-spelled c.user (msg.Meta (meta.Filtered (kind_of (own_message e))))
+    (kind-small (own_message e) (subst IsSpelledEvent cause.0.came spelled))
+entries-spelled s e (Joined user next) cause spelled =
     let P : Entry → Type 0 = λ e. HasSpelling e.msg in
-    All-cons P (entry_of user (msg.Meta (meta.Join registered name))) (next_owner next)
-    (name-spelled registered name cause.named)
+    All-cons P (entry_of user (own_message e)) (next_owner next)
+    (subst (λ e. HasSpelling (own_message e)) (sym cause.came)
+    (name-spelled cause.registered cause.name cause.named))
     (owner-spelled next (λ other is.
     let e : Some user ≡ Some other =
     if-not (list_any (is_present s) user_ids) (Some user) other (sym cause.owner ∙ is) in
@@ -154,8 +156,9 @@ entries-spelled s e (Left conn c next) cause spelled =
     (owner-spelled next (λ user is.
     among-users (is_present gone) user
     (if-else _ (find (is_present gone) user_ids) user (sym cause.owner ∙ is))))
-entries-spelled s e (Dropped conn c command) cause spelled =
-    one-spelled c.user (msg.Meta (meta.Filtered 6)) (omega arith)
+entries-spelled s e (Dropped conn c) cause spelled =
+    one-spelled c.user (msg.Meta (meta.Filtered (kind_of (own_message e))))
+    (kind-small (own_message e) (subst IsSpelledEvent cause.1.said.came spelled))
 entries-spelled s e effect cause spelled = All-nil (λ (e : Entry). HasSpelling e.msg)
 
 -- ---- states
@@ -184,70 +187,65 @@ without-spelled conn (Some stream) h =
     cond_both (stream.owner == conn) None (Some stream) IsSpelledStream (λ yes. none-sent) (λ no. h)
 
 stream-spelled : (s : State) (e : Event) (effect : Effect) → IsEffect s e effect
-    → IsSpelledEvent e → IsSpelledStream s.stream → IsSpelledStream (stream_after s.stream effect)
+    → IsSpelledEvent e → IsSpelledStream s.stream
+    → IsSpelledStream (stream_after e s.stream effect)
 stream-spelled s e (Left conn c next) cause spelled h = without-spelled conn s.stream h
 stream-spelled s e (Began conn c) cause spelled h = none-sent
-stream-spelled s e (Added conn c before command) cause spelled h =
-    let sent : IsSpelledStream (Some before) = subst IsSpelledStream cause.1 h in
-    let may : HasSpelling (msg.Part command) = subst IsSpelledEvent cause.0.said.came spelled in
+stream-spelled s e (Added conn c) cause spelled h =
+    let command = cause.0 in
+    let before = cause.2.stream in
+    let sent : IsSpelledStream (Some before) = subst IsSpelledStream cause.2.sent h in
+    let may : HasSpelling (msg.Part command) =
+    subst HasSpelling cause.1.is (subst IsSpelledEvent cause.1.said.came spelled) in
     let room = and_parts (nat_lt (length before.commands) part_limit)
-    (nat_le (sum_by part_bytes before.commands + part_bytes command) reset_byte_limit) cause.3 in (
+    (nat_le (sum_by part_bytes before.commands + part_bytes command) reset_byte_limit)
+    cause.2.fits in
+    subst (λ m. IsSpelledStream (option_map (with_part m) s.stream)) (sym cause.1.is)
+    (subst (λ stream. IsSpelledStream (option_map (with_part (msg.Part command)) stream))
+    (sym cause.2.sent)
+    (
       omega (
         arith,
         length-append before.commands (command ∷ []),
         ltb-true (length before.commands) part_limit room.0,
       ),
       All-push DrawHasSpelling before.commands command sent.1 may.0,
-    )
-stream-spelled s e (Dropped conn c command) cause spelled h = none-sent
-stream-spelled s e (Reopened conn c commands) cause spelled h = none-sent
+    ))
+stream-spelled s e (Dropped conn c) cause spelled h = none-sent
+stream-spelled s e (Reopened conn c) cause spelled h = none-sent
 stream-spelled s e effect cause spelled h = h
-
--- the commands with which an epoch opens are those of the stream
-sent-those : (s : State) (conn : ℕ) (c : Connection) (commands : List Draw)
-    → reset_of s conn c ≡ Some commands → sent_commands s.stream ≡ commands
-sent-those s conn c commands is =
-    by_stream s.stream (if-else (is_operator s.live c.user) (commands_by conn s.stream) commands is)
-  where
-    by_stream : (stream : Option Stream) → commands_by conn stream ≡ Some commands
-        → sent_commands stream ≡ commands
-    by_stream None is = cc
-    by_stream (Some stream) is =
-        same_Some stream.commands commands
-        (if-else (stream.owner == conn) (Some stream.commands) commands is)
 
 module _ (order : SpelledIdsAreInOrder) where
   effect-histories : (n : ℕ) (s : State) (e : Event) (effect : Effect) → IsEffect s e effect
       → IsSpelledEvent e → n < event_limit → IsSpelledState n s
-      → All AreSpelledEntries (ended_after s effect) × AreSpelledEntries (live_after s effect)
-  effect-histories n s e (Reopened conn c commands) cause spelled below h =
-      let same = sent-those s conn c commands cause.1 in
-      let present = present_users s in
-      let few : length commands ≤ part_limit = omega (arith, h.few, ap length (sym same)) in (
+      → All AreSpelledEntries (ended_after s effect) × AreSpelledEntries (live_after s e effect)
+  effect-histories n s e (Reopened conn c) cause spelled below h =
+      let commands = sent_commands s.stream in
+      let present = present_users s in (
         All-push AreSpelledEntries s.ended s.live h.ended h.live,
         opening-spelled order s.live h.live (epoch_of s + 1) present commands
             (omega (arith, below, h.epochs))
             (omega (
               arith,
-              opening-short (epoch_of s + 1) s.live present commands [] (present-few s) few,
+              opening-short (epoch_of s + 1) s.live present commands [] (present-few s) h.few,
             ))
-            (present-rise s) (subst (All DrawHasSpelling) same h.commands),
+            (present-rise s) h.commands,
       )
   effect-histories n s e effect cause spelled below h = (
     h.ended,
-    All-append (λ (e : Entry). HasSpelling e.msg) s.live (entries_of effect) h.live
+    All-append (λ (e : Entry). HasSpelling e.msg) s.live (entries_of e effect) h.live
         (entries-spelled s e effect cause spelled),
   )
 
   effect-epochs : (n : ℕ) (s : State) (effect : Effect) → epoch_of s ≤ n
       → length (ended_after s effect) ≤ n + 1
-  effect-epochs n s (Reopened conn c commands) le =
+  effect-epochs n s (Reopened conn c) le =
       omega (arith, le, length-append s.ended (s.live ∷ []))
   effect-epochs n s effect le = omega (arith, le)
 
   effect-spelled : (n : ℕ) (s : State) (e : Event) (effect : Effect) → IsEffect s e effect
       → IsSpelledEvent e → n < event_limit → IsSpelledState n s
-      → IsSpelledState (n + 1) (noted s (made s effect))
+      → IsSpelledState (n + 1) (noted s (made s e effect))
   effect-spelled n s e effect cause spelled below h =
       let histories = effect-histories n s e effect cause spelled below h in
       let stream = stream-spelled s e effect cause spelled (h.few, h.commands) in

@@ -4,6 +4,7 @@ use Rattle.std.proofs.Common.{List, [], ◌∷◌, ◌++◌, length, Option, Non
 use Rattle.std.proofs.Common.{refl, sym, ap, subst, ◌∙◌, arith, append-nil, append_assoc}
 use Rattle.std.proofs.Common.{length-append}
 use Rattle.std.proofs.lemmas.Bool.{cond_both, eqb-true}
+use Rattle.std.specs.Option.{option_map}
 use Rattle.std.proofs.lemmas.Option.{same_Some}
 use Rattle.dp_msg_draw.specs.declared.draw.Draw.{Draw}
 use Rattle.dp_msg_meta.specs.declared.message.Control.TheVariants.{ResetBegin, ResetEnd}
@@ -22,12 +23,17 @@ use Rattle.dp_epochs.specs.declared.event.Reply.{Reply}
 use Rattle.dp_epochs.specs.declared.event.Reply.TheVariants as reply
 use Rattle.dp_epochs.specs.State.{State, Stream, noted, after_event, after_shut, epoch_of}
 use Rattle.dp_epochs.specs.State.{history_of, open_connection, with_connection, first_stream}
-use Rattle.dp_epochs.specs.State.{with_command, stream_without, commands_by, reset_of, fits_reset}
+use Rattle.dp_epochs.specs.State.{with_command, with_part, sent_commands, stream_without}
+use Rattle.dp_epochs.specs.State.{commands_by, reset_of, fits_reset}
 use Rattle.dp_epochs.specs.State.{part_decided, has_acknowledged, may_begin, decided}
 use Rattle.dp_epochs.specs.State.{present_users}
-use Rattle.dp_epochs.specs.Effects.{Effect, Nothing, TakesUp, Placed, Filtered, Joined, Left}
-use Rattle.dp_epochs.specs.Effects.{Began, Added, Dropped, Reopened, made, ended_after, live_after}
-use Rattle.dp_epochs.specs.Effects.{stream_after, answer_of, IsStill, IsEffect, EventsHaveEffects}
+use Rattle.dp_epochs.specs.declared.effect.Effect.{Effect}
+use Rattle.dp_epochs.specs.declared.effect.Effect.TheVariants.{Nothing, TakesUp, Placed, Filtered}
+use Rattle.dp_epochs.specs.declared.effect.Effect.TheVariants.{Joined, Left, Began, Added, Dropped}
+use Rattle.dp_epochs.specs.declared.effect.Effect.TheVariants.{Reopened}
+use Rattle.dp_epochs.specs.Effects.{own_message, made, ended_after, live_after, stream_after}
+use Rattle.dp_epochs.specs.Effects.{answer_of}
+use Rattle.dp_epochs.specs.Effects.{IsStill, IsEffect, EventsHaveEffects}
 use Rattle.dp_epochs.specs.Rows.{has_room}
 use Rattle.dp_epochs.specs.Past.{Past, state_after, state_of, kept, refused, answer_to, sure_step}
 use Rattle.dp_epochs.specs.Past.{sure_answer}
@@ -61,7 +67,7 @@ without-owned conn other commands (Some sent) h =
 -- what others do leaves it so
 effect-owned : (conn : ℕ) (commands : List Draw) (s : State) (e : Event) (effect : Effect)
     → IsEffect s e effect → IsNotBy conn e → Owns conn commands s.stream
-    → Owns conn commands (stream_after s.stream effect)
+    → Owns conn commands (stream_after e s.stream effect)
 effect-owned conn commands s e (Left other c next) cause far h =
     without-owned conn other commands s.stream h
 effect-owned conn commands s e (Began other c) cause far h =
@@ -69,13 +75,16 @@ effect-owned conn commands s e (Began other c) cause far h =
     let same = same_Some (first_stream other) sent is in
     let apart : other ≡ conn → ⊥ = subst (IsNotBy conn) cause.said.came far in
     absurd (apart (ap (λ st. st.owner) same ∙ own))
-effect-owned conn commands s e (Added other c before command) cause far h =
+effect-owned conn commands s e (Added other c) cause far h =
     λ sent is own.
-    let same = same_Some (with_command command before) sent is in
-    let apart : other ≡ conn → ⊥ = subst (IsNotBy conn) cause.0.said.came far in
-    absurd (apart (sym cause.2 ∙ ap (λ st. st.owner) same ∙ own))
-effect-owned conn commands s e (Dropped other c command) cause far h = none-owned conn commands
-effect-owned conn commands s e (Reopened other c list) cause far h = none-owned conn commands
+    let fit = cause.2 in
+    let after = ap (option_map (with_part (own_message e))) fit.sent
+    ∙ ap (λ m. option_map (with_part m) (Some fit.stream)) cause.1.is in
+    let same = same_Some (with_command cause.0 fit.stream) sent (sym after ∙ is) in
+    let apart : other ≡ conn → ⊥ = subst (IsNotBy conn) cause.1.said.came far in
+    absurd (apart (sym fit.owner ∙ ap (λ st. st.owner) same ∙ own))
+effect-owned conn commands s e (Dropped other c) cause far h = none-owned conn commands
+effect-owned conn commands s e (Reopened other c) cause far h = none-owned conn commands
 effect-owned conn commands s e effect cause far h = h
 
 shut-owned : (conn other : ℕ) (commands : List Draw) (s : State) → Owns conn commands s.stream
@@ -122,7 +131,7 @@ module _ (laws : Leading) where
       → (reply.Ended ≡ r → ⊥) → sure_answer past e ≡ r
       → ((effect : Effect) → IsEffect (state_of past) e effect
       → answer_of (state_of past) effect ≡ r
-      → P (noted (state_of past) (made (state_of past) effect)))
+      → P (noted (state_of past) (made (state_of past) e effect)))
       → P (state_of (sure_step past e))
   kept-effect P past e r shut other is holds =
       let s = state_of past in
@@ -168,62 +177,55 @@ still-not s e answer r still is never = never (subst (IsStill s e) is still)
 
 begin-effect : (conn : ℕ) (s : State) (effect : Effect)
     → IsEffect s (event.Say conn (msg.Control ResetBegin)) effect
-    → answer_of s effect ≡ reply.Noted → Owns conn [] (stream_after s.stream effect)
+    → answer_of s effect ≡ reply.Noted
+    → Owns conn [] (stream_after (event.Say conn (msg.Control ResetBegin)) s.stream effect)
 begin-effect conn s (Nothing answer) cause is =
     absurd (still-not s (event.Say conn (msg.Control ResetBegin)) answer reply.Noted cause is
     (λ never. never))
 begin-effect conn s (TakesUp other c) cause is =
-    let came : event.Say conn (msg.Control ResetBegin) ≡ event.Say other cause.0 = cause.1.came in
-    let same : cause.0 ≡ msg.Control ResetBegin = cc in
-    let what : decided s other c (msg.Control ResetBegin) ≡ decision.Acknowledge =
-    subst (λ m. decided s other c m ≡ decision.Acknowledge) same cause.1.decided in
-    absurd (begin-decides (has_acknowledged s c) (may_begin s other c) what)
-begin-effect conn s (Placed other c m) cause is = λ sent now own. cc
-begin-effect conn s (Filtered other c m) cause is = λ sent now own. cc
-begin-effect conn s (Joined user registered name next) cause is = λ sent now own. cc
+    absurd (begin-decides (has_acknowledged s c) (may_begin s other c) cause.0.decided)
+begin-effect conn s (Placed other c) cause is = λ sent now own. cc
+begin-effect conn s (Filtered other c) cause is = λ sent now own. cc
+begin-effect conn s (Joined user next) cause is = λ sent now own. cc
 begin-effect conn s (Left other c next) cause is = λ sent now own. cc
 begin-effect conn s (Began other c) cause is =
     λ sent now own. sym (ap (λ st. st.commands) (same_Some (first_stream other) sent now))
-begin-effect conn s (Added other c before command) cause is =
-    let came : event.Say conn (msg.Control ResetBegin) ≡ event.Say other (msg.Part command) =
-    cause.0.said.came in
+begin-effect conn s (Added other c) cause is =
+    let never : msg.Control ResetBegin ≡ msg.Part cause.0 = cause.1.is in
     λ sent now own. cc
-begin-effect conn s (Dropped other c command) cause is = λ sent now own. cc
-begin-effect conn s (Reopened other c list) cause is = λ sent now own. cc
+begin-effect conn s (Dropped other c) cause is = λ sent now own. cc
+begin-effect conn s (Reopened other c) cause is = λ sent now own. cc
 
 part-effect : (conn : ℕ) (commands : List Draw) (command : Draw) (s : State) (effect : Effect)
     → IsEffect s (event.Say conn (msg.Part command)) effect → answer_of s effect ≡ reply.Noted
     → Owns conn commands s.stream
-    → Owns conn (commands ++ command ∷ []) (stream_after s.stream effect)
+    → Owns conn (commands ++ command ∷ [])
+    (stream_after (event.Say conn (msg.Part command)) s.stream effect)
 part-effect conn commands command s (Nothing answer) cause is h =
     absurd (still-not s (event.Say conn (msg.Part command)) answer reply.Noted cause is
     (λ never. never))
 part-effect conn commands command s (TakesUp other c) cause is h =
-    let came : event.Say conn (msg.Part command) ≡ event.Say other cause.0 = cause.1.came in
-    let same : cause.0 ≡ msg.Part command = cc in
-    let what : decided s other c (msg.Part command) ≡ decision.Acknowledge =
-    subst (λ m. decided s other c m ≡ decision.Acknowledge) same cause.1.decided in
-    absurd (part-decides (has_acknowledged s c) command (reset_of s other c) what)
-part-effect conn commands command s (Placed other c m) cause is h = λ sent now own. cc
-part-effect conn commands command s (Filtered other c m) cause is h = λ sent now own. cc
-part-effect conn commands command s (Joined user registered name next) cause is h =
-    λ sent now own. cc
+    absurd (part-decides (has_acknowledged s c) command (reset_of s other c) cause.0.decided)
+part-effect conn commands command s (Placed other c) cause is h = λ sent now own. cc
+part-effect conn commands command s (Filtered other c) cause is h = λ sent now own. cc
+part-effect conn commands command s (Joined user next) cause is h = λ sent now own. cc
 part-effect conn commands command s (Left other c next) cause is h = λ sent now own. cc
 part-effect conn commands command s (Began other c) cause is h =
-    let came : event.Say conn (msg.Part command) ≡ event.Say other (msg.Control ResetBegin) =
-    cause.said.came in
+    let never : msg.Part command ≡ msg.Control ResetBegin = cause.is in
     λ sent now own. cc
-part-effect conn commands command s (Added other c before part) cause is h =
-    let came : event.Say conn (msg.Part command) ≡ event.Say other (msg.Part part) =
-    cause.0.said.came in
+part-effect conn commands command s (Added other c) cause is h =
+    let came : event.Say conn (msg.Part command) ≡ event.Say other (msg.Part command) =
+    cause.1.said.came in
     let whose : other ≡ conn = cc in
-    let one : part ≡ command = cc in
-    let so_far = h before cause.1 (cause.2 ∙ whose) in
+    let fit = cause.2 in
+    let so_far = h fit.stream fit.sent (fit.owner ∙ whose) in
     λ sent now own.
-    sym (ap (λ st. st.commands) (same_Some (with_command part before) sent now))
-    ∙ ap (λ list. list ++ part ∷ []) so_far ∙ ap (λ x. commands ++ x ∷ []) one
-part-effect conn commands command s (Dropped other c part) cause is h = λ sent now own. cc
-part-effect conn commands command s (Reopened other c list) cause is h = λ sent now own. cc
+    let after = ap (option_map (with_part (msg.Part command))) fit.sent in
+    sym (ap (λ st. st.commands)
+    (same_Some (with_command command fit.stream) sent (sym after ∙ now)))
+    ∙ ap (λ list. list ++ command ∷ []) so_far
+part-effect conn commands command s (Dropped other c) cause is h = λ sent now own. cc
+part-effect conn commands command s (Reopened other c) cause is h = λ sent now own. cc
 
 -- ---- the epoch that opens
 
@@ -241,17 +243,19 @@ if-else false o x is = cc
 
 -- the reset with whose commands an epoch opens is the connection's
 sent-owned : (conn : ℕ) (commands list : List Draw) (stream : Option Stream)
-    → Owns conn commands stream → commands_by conn stream ≡ Some list → list ≡ commands
+    → Owns conn commands stream → commands_by conn stream ≡ Some list
+    → sent_commands stream ≡ commands
 sent-owned conn commands list None h is = cc
 sent-owned conn commands list (Some sent) h is =
     let yes = if-else (sent.owner == conn) (Some sent.commands) list is in
-    sym (same_Some sent.commands list yes.1) ∙ h sent refl (eqb-true sent.owner conn yes.0)
+    h sent refl (eqb-true sent.owner conn yes.0)
 
-reopened-opened : (epoch : ℕ) (commands : List Draw) (s : State) (other : ℕ) (c : Connection)
+reopened-opened : (epoch : ℕ) (s : State) (e : Event) (other : ℕ) (c : Connection)
     → epoch_of s + 1 ≡ epoch
-    → OpenedWith epoch commands (noted s (made s (Reopened other c commands)))
-reopened-opened epoch commands s other c at =
-    let t = noted s (made s (Reopened other c commands)) in
+    → OpenedWith epoch (sent_commands s.stream) (noted s (made s e (Reopened other c)))
+reopened-opened epoch s e other c at =
+    let t = noted s (made s e (Reopened other c)) in
+    let commands = sent_commands s.stream in
     let new = opening (epoch_of s + 1) s.live (present_users s) commands [] in
     let here : epoch ≡ epoch_of t = omega (arith, at, length-append s.ended (s.live ∷ [])) in
     record {
@@ -266,35 +270,32 @@ reopened-opened epoch commands s other c at =
 end-effect : (conn epoch : ℕ) (commands : List Draw) (s : State) (effect : Effect)
     → IsEffect s (event.Say conn (msg.Control ResetEnd)) effect
     → answer_of s effect ≡ reply.Placed epoch 0 → Owns conn commands s.stream
-    → OpenedWith epoch commands (noted s (made s effect))
+    → OpenedWith epoch commands
+    (noted s (made s (event.Say conn (msg.Control ResetEnd)) effect))
 end-effect conn epoch commands s (Nothing answer) cause is h =
     absurd (still-not s (event.Say conn (msg.Control ResetEnd)) answer (reply.Placed epoch 0) cause
     is (λ never. never))
 end-effect conn epoch commands s (TakesUp other c) cause is h = cc
-end-effect conn epoch commands s (Placed other c m) cause is h =
-    let came : event.Say conn (msg.Control ResetEnd) ≡ event.Say other m = cause.0.came in
-    let same : m ≡ msg.Control ResetEnd = cc in
-    let what : decided s other c (msg.Control ResetEnd) ≡ decision.Place =
-    subst (λ n. decided s other c n ≡ decision.Place) same cause.0.decided in
-    absurd (end-decides (has_acknowledged s c) (is_some (reset_of s other c)) what)
-end-effect conn epoch commands s (Filtered other c m) cause is h = cc
-end-effect conn epoch commands s (Joined user registered name next) cause is h = cc
+end-effect conn epoch commands s (Placed other c) cause is h =
+    absurd (end-decides (has_acknowledged s c) (is_some (reset_of s other c)) cause.0.decided)
+end-effect conn epoch commands s (Filtered other c) cause is h = cc
+end-effect conn epoch commands s (Joined user next) cause is h = cc
 end-effect conn epoch commands s (Left other c next) cause is h =
     let came : event.Say conn (msg.Control ResetEnd) ≡ event.Close other = cause.came in cc
 end-effect conn epoch commands s (Began other c) cause is h = cc
-end-effect conn epoch commands s (Added other c before part) cause is h = cc
-end-effect conn epoch commands s (Dropped other c part) cause is h = cc
-end-effect conn epoch commands s (Reopened other c list) cause is h =
-    let came : event.Say conn (msg.Control ResetEnd) ≡ event.Say other (msg.Control ResetEnd) =
-    cause.0.said.came in
+end-effect conn epoch commands s (Added other c) cause is h = cc
+end-effect conn epoch commands s (Dropped other c) cause is h = cc
+end-effect conn epoch commands s (Reopened other c) cause is h =
+    let e = event.Say conn (msg.Control ResetEnd) in
+    let came : e ≡ event.Say other (msg.Control ResetEnd) = cause.1.said.came in
     let whose : conn ≡ other = cc in
     let at : epoch_of s + 1 ≡ epoch = cc in
     let owned : Owns other commands s.stream =
     subst (λ n. Owns n commands s.stream) whose h in
-    let those = if-else (is_operator s.live c.user) (commands_by other s.stream) list cause.1 in
-    let same : list ≡ commands = sent-owned other commands list s.stream owned those.1 in
-    subst (λ l. OpenedWith epoch commands (noted s (made s (Reopened other c l)))) (sym same)
-    (reopened-opened epoch commands s other c at)
+    let those = if-else (is_operator s.live c.user) (commands_by other s.stream) cause.0 cause.2 in
+    let same = sent-owned other commands cause.0 s.stream owned those.1 in
+    subst (λ l. OpenedWith epoch l (noted s (made s e (Reopened other c)))) same
+    (reopened-opened epoch s e other c at)
 
 module _ (laws : Leading) where
   -- the begin is noted
