@@ -1,35 +1,33 @@
 -- What a session makes of the messages of a reset: the commands that it has of it so far.
-use Rattle.std.proofs.Common.{◌≡◌, ℕ, ◌+◌, ◌==◌, Bool, true, false, ◌&&◌, if◌then◌else◌}
-use Rattle.std.proofs.Common.{List, [], ◌∷◌, ◌++◌, length, Option, None, Some, is_some}
+use Rattle.std.proofs.Common.{◌≡◌, ℕ, ◌+◌, ◌==◌, Bool, true, false, if◌then◌else◌}
+use Rattle.std.proofs.Common.{List, [], ◌∷◌, ◌++◌, Option, None, Some, is_some}
 use Rattle.std.proofs.Common.{refl, sym, ap, subst, ◌∙◌, arith, append-nil, append_assoc}
 use Rattle.std.proofs.Common.{length-append}
 use Rattle.std.proofs.lemmas.Bool.{cond_both, eqb-true}
 use Rattle.std.proofs.lemmas.Option.{same_Some}
 use Rattle.dp_msg_draw.specs.declared.draw.Draw.{Draw}
 use Rattle.dp_msg_meta.specs.declared.message.Control.TheVariants.{ResetBegin, ResetEnd}
-use Rattle.dp_messages.specs.declared.message.Msg.{Msg}
 use Rattle.dp_messages.specs.declared.message.Msg.TheVariants as msg
 use Rattle.dp_messages.specs.declared.message.Entry.{Entry}
 use Rattle.dp_acl.specs.Opening.{opening}
 use Rattle.dp_acl.specs.Rights.{is_operator}
 use Rattle.dp_epochs.specs.declared.connection.Connection.{Connection}
 use Rattle.dp_epochs.specs.declared.connection.Ending.TheVariants as ending
-use Rattle.dp_epochs.specs.declared.decision.Decision.{Decision}
 use Rattle.dp_epochs.specs.declared.decision.Decision.TheVariants as decision
 use Rattle.dp_epochs.specs.declared.event.Event.{Event}
 use Rattle.dp_epochs.specs.declared.event.Event.TheVariants as event
 use Rattle.dp_epochs.specs.declared.event.Reply.{Reply}
 use Rattle.dp_epochs.specs.declared.event.Reply.TheVariants as reply
-use Rattle.dp_epochs.specs.State.{State, Stream, noted, after_event, after_shut, epoch_of}
+use Rattle.dp_epochs.specs.State.{State, Stream, noted, after_shut, epoch_of}
 use Rattle.dp_epochs.specs.State.{history_of, open_connection, with_connection, first_stream}
 use Rattle.dp_epochs.specs.State.{with_command, stream_without, commands_by, reset_of, fits_reset}
 use Rattle.dp_epochs.specs.State.{part_decided, has_acknowledged, may_begin, decided}
 use Rattle.dp_epochs.specs.State.{present_users}
 use Rattle.dp_epochs.specs.Effects.{Effect, Nothing, TakesUp, Placed, Filtered, Joined, Left}
-use Rattle.dp_epochs.specs.Effects.{Began, Added, Dropped, Reopened, made, ended_after, live_after}
-use Rattle.dp_epochs.specs.Effects.{stream_after, answer_of, IsStill, IsEffect, EventsHaveEffects}
+use Rattle.dp_epochs.specs.Effects.{Began, Added, Dropped, Reopened, made}
+use Rattle.dp_epochs.specs.Effects.{stream_after, answer_of, IsStill, IsEffect}
 use Rattle.dp_epochs.specs.Rows.{has_room}
-use Rattle.dp_epochs.specs.Past.{Past, state_after, state_of, kept, refused, answer_to, sure_step}
+use Rattle.dp_epochs.specs.Past.{Past, state_of, kept, refused, answer_to, sure_step}
 use Rattle.dp_epochs.specs.Past.{sure_answer}
 use Rattle.dp_epochs.specs.Laws.{Continues, ShutBefore, shut_by}
 use Rattle.dp_lists.proofs.Options.{option_both}
