@@ -1,5 +1,5 @@
 -- What taking the entry that comes next makes of a client.
-use Rattle.std.proofs.Common.{◌≡◌, ℕ, zero, suc, ◌<◌, ◌≤◌, ◌==◌, Bool, true, false, ◌&&◌}
+use Rattle.std.proofs.Common.{◌≡◌, ℕ, ◌<◌, ◌≤◌, ◌==◌, Bool, true, false, ◌&&◌}
 use Rattle.std.proofs.Common.{if◌then◌else◌, List, [], ◌∷◌, ◌++◌, length, None, Some}
 use Rattle.std.proofs.Common.{refl, sym, ap, ◌∙◌, ⊎_elim, arith}
 use Rattle.std.specs.Prelude.{nat_lt}
@@ -8,7 +8,7 @@ use Rattle.dp_messages.specs.declared.message.Entry.{Entry}
 use Rattle.dp_messages.specs.Properties.{marked, carried_in}
 use Rattle.dp_fork.specs.declared.own.Own.TheVariants.{Stranger}
 use Rattle.dp_client.specs.Client.{State, is_first_mark, last_before, may_answer, is_own_answer}
-use Rattle.dp_client.specs.Client.{answered, fork_after, took, took_at, taken_of, taken_at}
+use Rattle.dp_client.specs.Client.{answered, fork_after, took, took_at, taken_at}
 use Rattle.dp_client.specs.Taking.{IsUnderway, mark_due, with_entry, with_mark, TakesHere}
 use Rattle.dp_client.specs.Taking.{TakesLater, EntriesAreTaken}
 

@@ -1,14 +1,13 @@
 -- What is true of a client and the answers to its sends, and that its instructions keep it so.
-use Rattle.std.proofs.Common.{◌≡◌, ◌⊎◌, ℕ, zero, suc, ◌+◌, ◌<◌, ◌≤◌, ◌==◌, Bool, true, false, ◌&&◌}
+use Rattle.std.proofs.Common.{◌≡◌, ◌⊎◌, ℕ, suc, ◌+◌, ◌<◌, ◌≤◌, ◌==◌, Bool, true, false, ◌&&◌}
 use Rattle.std.proofs.Common.{◌||◌, if◌then◌else◌}
 use Rattle.std.proofs.Common.{List, [], ◌∷◌, ◌++◌, length, take, drop, map, Option, None, Some}
 use Rattle.std.proofs.Common.{is_some}
 use Rattle.std.proofs.Common.{refl, sym, ap, subst, ◌∙◌, ⊎_elim, inl, inr, arith, append-nil}
 use Rattle.std.proofs.Common.{append_assoc, length-append, add-one}
-use Rattle.std.specs.Prelude.{option_to_list, nat_lt, slice_index_or}
+use Rattle.std.specs.Prelude.{option_to_list, nat_lt}
 use Rattle.std.specs.List.{slice_get, AllByRecursion}
-use Rattle.std.proofs.lemmas.Bool.{cases_Bool, cases_eq, cases_lt, eq-eqb, ne_eqb, le-ltb}
-use Rattle.std.proofs.lemmas.Bool.{and_from}
+use Rattle.std.proofs.lemmas.Bool.{cases_Bool, cases_eq, eq-eqb, ne_eqb}
 use Rattle.std.proofs.lemmas.List.{drop-append-le}
 use Rattle.dp_msg_draw.specs.declared.draw.Draw.{Draw}
 use Rattle.dp_msg_meta.specs.declared.message.Control.TheVariants.{Disconnect, Ack}
@@ -22,7 +21,7 @@ use Rattle.dp_messages.specs.Properties.{is_disconnect, is_filtered, marked, car
 use Rattle.dp_messages.specs.Properties.{carried_in}
 use Rattle.dp_messages.specs.Equality.{same_message}
 use Rattle.dp_client.specs.Client as client
-use Rattle.dp_client.specs.Client.{Took, is_first_mark, last_before, is_own_answer}
+use Rattle.dp_client.specs.Client.{Took, last_before, is_own_answer}
 use Rattle.dp_client.specs.Client.{may_answer, answered, own_of, fork_after}
 use Rattle.dp_client.specs.Taking.{IsUnderway, with_entry, with_mark}
 use Rattle.dp_fork.specs.declared.own.Own.TheVariants.{Stranger, Echo, Dropped, Lost}
@@ -32,7 +31,7 @@ use Rattle.dp_epochs.specs.declared.event.Reply.{Reply}
 use Rattle.dp_epochs.specs.declared.event.Reply.TheVariants as reply
 use Rattle.dp_epochs.specs.State.{State, open_connection, has_acknowledged, epoch_of, history_of}
 use Rattle.dp_epochs.specs.Past.{state_of, sure_answer}
-use Rattle.dp_epochs.specs.Laws.{HasNoMark, IsHistory, AreHistories, ShutBefore}
+use Rattle.dp_epochs.specs.Laws.{IsHistory, AreHistories, ShutBefore}
 use Rattle.dp_schedule.specs.declared.action.Instruction.{Instruction}
 use Rattle.dp_schedule.specs.declared.action.Instruction.TheVariants.{Say, Up, Take, Reset}
 use Rattle.dp_schedule.specs.declared.action.Instruction.TheVariants.{Leave, Cut}
@@ -45,7 +44,7 @@ use Rattle.dp_sim.proofs.OpenConnections.{live-is, mark-first, mark-next}
 use Rattle.dp_sim_laws.specs.OwnSteps.{steps_of_instruction, steps_of_exchange}
 use Rattle.dp_sim_laws.specs.Tally.{Tally, no_sends, tally_step, tally_from, up_replies}
 use Rattle.dp_sim_laws.specs.Tally.{instruction_replies, exchange_replies}
-use Rattle.dp_sim_laws.proofs.Answering.{last_false, answers_from, answers-append, answers-same}
+use Rattle.dp_sim_laws.proofs.Answering.{answers_from, answers-append, answers-same}
 use Rattle.dp_sim_laws.proofs.Answering.{answers-before, answers-none, answers-push, answers-at}
 use Rattle.dp_sim_laws.proofs.Answering.{NoAnswers, AnswersTo, Answer, answer-both, answer-none}
 use Rattle.dp_sim_laws.proofs.Answering.{FirstSend, first-of, split-at, drop-first}
@@ -219,19 +218,15 @@ done-passes : Leading → (t : Exchange) (instruction : Instruction) → ShutBef
     → HasPeople (state_of t.past)
     → NeverEnds (instruction_replies t instruction)
     → Passes (state_of t.past) (NotThis t.participant.conn) (state_of (done t instruction).past)
-done-passes laws t (Say m) before people goes = passes-not (state_of t.past)
-    (NotThis t.participant.conn) people
 done-passes laws t Up before people goes = up-passes laws t t.participant.uplink before people goes
 done-passes laws t Take before people goes =
     subst (λ past. Passes (state_of t.past) (NotThis t.participant.conn) (state_of past))
     (sym (next-past t (next_entry t)))
     (passes-not (state_of t.past) (NotThis t.participant.conn) people)
-done-passes laws t Reset before people goes = passes-not (state_of t.past)
-    (NotThis t.participant.conn) people
-done-passes laws t Leave before people goes = passes-not (state_of t.past)
-    (NotThis t.participant.conn) people
-done-passes laws t Cut before people goes = passes-close laws t.past t.participant.conn before
-    goes.0 people
+done-passes laws t Cut before people goes =
+    passes-close laws t.past t.participant.conn before goes.0 people
+done-passes laws t instruction before people goes =
+    passes-not (state_of t.past) (NotThis t.participant.conn) people
 
 pub exchange-passes : Leading → (t : Exchange) (instruction : Instruction) → ShutBefore t.past
     → HasPeople (state_of t.past)

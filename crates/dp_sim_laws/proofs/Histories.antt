@@ -3,7 +3,7 @@ use Rattle.std.proofs.Common.{◌≡◌, ℕ, zero, suc, ◌+◌, ◌^◌, ◌<�
 use Rattle.std.proofs.Common.{nat_lt, not, ◌&&◌, if◌then◌else◌, List, [], ◌∷◌, ◌++◌, length}
 use Rattle.std.proofs.Common.{map, fold}
 use Rattle.std.proofs.Common.{Option, None, Some, refl, sym, ap, subst, ◌∙◌, ⊎_elim, arith}
-use Rattle.std.specs.Prelude.{All, nat_le, slice_index_or}
+use Rattle.std.specs.Prelude.{All, nat_le}
 use Rattle.std.specs.List.{find, filter, list_any, sum_by, range_with_len}
 use Rattle.std.specs.Option.{option_map}
 use Rattle.std.specs.Str.{is_utf8}
@@ -16,7 +16,6 @@ use Rattle.std.proofs.lemmas.List.Sums.{fold-append}
 use Rattle.dp_msg_draw.specs.declared.draw.Draw.{Draw}
 use Rattle.dp_msg_draw.specs.declared.draw.Draw.TheVariants as draws
 use Rattle.dp_msg_draw.specs.Payloads.{DrawHasSpelling, draw_kind}
-use Rattle.dp_msg_meta.specs.Fields.{IsName}
 use Rattle.dp_msg_meta.specs.declared.message.Control.{Control}
 use Rattle.dp_msg_meta.specs.declared.message.Control.TheVariants as control
 use Rattle.dp_msg_meta.specs.declared.message.Meta.{Meta}
@@ -26,16 +25,15 @@ use Rattle.dp_messages.specs.declared.message.Msg.{Msg}
 use Rattle.dp_messages.specs.declared.message.Msg.TheVariants as msg
 use Rattle.dp_messages.specs.declared.message.Entry.{Entry}
 use Rattle.dp_messages.specs.Messages.{HasSpelling, kind_of}
-use Rattle.dp_acl.specs.Opening.{server_entry, part_limit, opening_limit, opening}
+use Rattle.dp_acl.specs.Opening.{server_entry, part_limit}
 use Rattle.dp_acl.specs.Laws.{SpelledIdsAreInOrder}
 use Rattle.dp_epochs.specs.declared.connection.Connection.{Connection}
 use Rattle.dp_epochs.specs.declared.connection.Ending.TheVariants as ending
 use Rattle.dp_epochs.specs.declared.event.Event.{Event}
-use Rattle.dp_epochs.specs.declared.event.Event.TheVariants as event
 use Rattle.dp_epochs.specs.declared.event.ShutAt.{ShutAt}
 use Rattle.dp_epochs.specs.State.{State, Stream, first_state, noted, after_event, after_shut}
-use Rattle.dp_epochs.specs.State.{epoch_of, history_of, entry_of, filtered_entry, is_name}
-use Rattle.dp_epochs.specs.State.{user_ids, is_present, free_id, owner_on_join, owner_on_leave}
+use Rattle.dp_epochs.specs.State.{epoch_of, history_of, entry_of, is_name}
+use Rattle.dp_epochs.specs.State.{user_ids, is_present}
 use Rattle.dp_epochs.specs.State.{next_owner, left, stream_without, sent_commands, part_bytes}
 use Rattle.dp_epochs.specs.State.{reset_byte_limit, with_part, present_users}
 use Rattle.dp_epochs.specs.State.{open_connection, with_connection}
@@ -45,7 +43,7 @@ use Rattle.dp_epochs.specs.declared.effect.Effect.TheVariants.{Began, Added, Dro
 use Rattle.dp_epochs.specs.Effects.{own_message, made, entries_of, ended_after, live_after}
 use Rattle.dp_epochs.specs.Effects.{stream_after, IsEffect, EventsHaveEffects}
 use Rattle.dp_epochs.specs.Rows.{event_limit}
-use Rattle.dp_epochs.specs.Past.{Past, LogItem, Journalled, RefusedClose, shut_at, interleaved}
+use Rattle.dp_epochs.specs.Past.{Past, Journalled, RefusedClose, shut_at, interleaved}
 use Rattle.dp_epochs.specs.Past.{after_item, state_of}
 use Rattle.dp_epochs.proofs.OpeningLemmas.{opening-short, present-few, present-rise}
 use Rattle.dp_lists.proofs.Options.{option_both}

@@ -1,19 +1,17 @@
 -- What an epoch opens with has a spelling, where the history before it and the commands have one.
-use Rattle.std.proofs.Common.{◌≡◌, ℕ, zero, suc, ◌+◌, ◌-◌, ◌^◌, ◌<◌, ◌≤◌, ◌==◌, Bool, true, false}
+use Rattle.std.proofs.Common.{ℕ, zero, suc, ◌+◌, ◌-◌, ◌^◌, ◌<◌, ◌≤◌, ◌==◌, Bool, true, false}
 use Rattle.std.proofs.Common.{if◌then◌else◌, List, [], ◌∷◌, ◌++◌, length, map, Option, None, Some}
-use Rattle.std.proofs.Common.{refl, sym, ap, subst, ◌∙◌, arith, unwrap_or}
+use Rattle.std.proofs.Common.{sym, subst, arith, unwrap_or}
 use Rattle.std.specs.Prelude.{All, IfSome, option_to_list, slice_index_or}
 use Rattle.std.specs.List.{filter, filter_map, cons_option, slice_get, range_with_len}
 use Rattle.std.specs.Option.{option_map}
 use Rattle.std.proofs.lemmas.Bool.{cond_both}
-use Rattle.std.proofs.lemmas.Option.{same_Some}
 use Rattle.std.proofs.lemmas.List.Elements.{All-nil, All-cons, All-head, All-tail, All-append}
 use Rattle.std.proofs.lemmas.List.Elements.{All-filter, All-map, All-weaker}
 use Rattle.dp_msg_draw.specs.declared.draw.Draw.{Draw}
 use Rattle.dp_msg_draw.specs.Payloads.{DrawHasSpelling}
 use Rattle.dp_msg_meta.specs.Fields.{RiseFrom}
 use Rattle.dp_msg_meta.specs.Payloads.{MetaHasSpelling, AreTiers}
-use Rattle.dp_msg_meta.specs.declared.message.Tiers.{Tiers}
 use Rattle.dp_msg_meta.specs.declared.message.Meta.{Meta}
 use Rattle.dp_msg_meta.specs.declared.message.Meta.TheVariants as meta
 use Rattle.dp_messages.specs.declared.message.Msg.{Msg}
@@ -22,7 +20,7 @@ use Rattle.dp_messages.specs.declared.message.Entry.{Entry}
 use Rattle.dp_messages.specs.Messages.{HasSpelling}
 use Rattle.dp_acl.specs.LookBack.{last_said, feature_tiers, set_depth, layer_rule, LayerRule}
 use Rattle.dp_acl.specs.LookBack.{numbers_below, is_join_of}
-use Rattle.dp_acl.specs.Rights.{is_operator, is_trusted, is_lock_listed, are_all_locked, tiers_of}
+use Rattle.dp_acl.specs.Rights.{is_operator, is_trusted, is_lock_listed, are_all_locked}
 use Rattle.dp_acl.specs.Rights.{first_tiers, depth_of, rule_of}
 use Rattle.dp_acl.specs.Carried.{carried, carried_owners, carried_trusted, carried_locks}
 use Rattle.dp_acl.specs.Carried.{carried_tiers, carried_depth, carried_rules, carried_rule}

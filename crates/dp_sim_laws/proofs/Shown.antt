@@ -1,13 +1,10 @@
 -- What a client shows after a reset that was taken up.
-use Rattle.std.proofs.Common.{◌≡◌, ℕ, zero, suc, ◌+◌, ◌≤◌, true, false, if◌then◌else◌}
-use Rattle.std.proofs.Common.{List, [], ◌∷◌, ◌++◌, length, drop, map, fold, take, Option, Some}
-use Rattle.std.proofs.Common.{refl, sym, ap, subst, ◌∙◌, arith, append-nil, append_assoc}
+use Rattle.std.proofs.Common.{◌≡◌, ℕ, zero, suc, ◌+◌, if◌then◌else◌}
+use Rattle.std.proofs.Common.{List, [], ◌∷◌, ◌++◌, length, map, fold, take, Some}
+use Rattle.std.proofs.Common.{refl, sym, ap, subst, ◌∙◌, arith, append_assoc}
 use Rattle.std.specs.Prelude.{All, IfSome}
 use Rattle.std.proofs.lemmas.List.Sums.{fold-append}
 use Rattle.dp_msg_draw.specs.declared.draw.Draw.{Draw}
-use Rattle.dp_msg_meta.specs.declared.message.Control.TheVariants.{ResetBegin, ResetEnd}
-use Rattle.dp_messages.specs.declared.message.Msg.{Msg}
-use Rattle.dp_messages.specs.declared.message.Msg.TheVariants as msg
 use Rattle.dp_messages.specs.declared.message.Entry.{Entry}
 use Rattle.dp_messages.specs.Messages.{HasSpelling}
 use Rattle.dp_messages.specs.Properties.{carried_by, carried_in}
@@ -23,9 +20,7 @@ use Rattle.dp_epochs.specs.Past.{state_of}
 use Rattle.dp_schedule.specs.declared.action.Instruction.TheVariants.{Reset}
 use Rattle.dp_schedule.specs.declared.action.Action.{Action}
 use Rattle.dp_schedule.specs.declared.action.Action.TheVariants.{Act}
-use Rattle.dp_snap.specs.Resets.{reset_messages}
 use Rattle.dp_snap.specs.Snapshot.{snapshot}
-use Rattle.dp_sim.specs.declared.participant.LinkState.TheVariants.{Connected}
 use Rattle.dp_sim.specs.Exchanges.{Participant, is_gone, done, exchanged}
 use Rattle.dp_sim.specs.World.{World, participant_of, after, first_world, world_after}
 use Rattle.dp_sim.specs.World.{with_exchange}
@@ -34,12 +29,12 @@ use Rattle.dp_sim.proofs.LawLemmas.{Leading}
 use Rattle.dp_sim.proofs.LawOpenings.{opening-depth}
 use Rattle.dp_lists.proofs.Options.{at_some, if_some}
 use Rattle.dp_sim_laws.specs.OwnSteps.{exchange_of}
-use Rattle.dp_sim_laws.specs.Spelled.{AreSpelledEntries, SaysSpelled}
-use Rattle.dp_sim_laws.specs.Resets.{own_answers, taken_up, IsTakenUp, GoesOnFrom}
+use Rattle.dp_sim_laws.specs.Spelled.{SaysSpelled}
+use Rattle.dp_sim_laws.specs.Resets.{taken_up, IsTakenUp, GoesOnFrom}
 use Rattle.dp_sim_laws.proofs.Walks.{own-becomes}
 use Rattle.dp_sim_laws.proofs.Speaking.{Speaking, spoken, taken-spelled}
 use Rattle.dp_sim_laws.proofs.Streams.{OpenedWith}
-use Rattle.dp_sim_laws.proofs.TakenUp.{rest_answers, rest_messages, with-own, queued}
+use Rattle.dp_sim_laws.proofs.TakenUp.{rest_answers, with-own, queued}
 
 -- the laws that are used
 pub record Resetting : Type 0 where

@@ -16,8 +16,7 @@ use Rattle.dp_epochs.specs.declared.event.Reply.{Reply}
 use Rattle.dp_epochs.specs.declared.event.Reply.TheVariants as reply
 use Rattle.dp_epochs.specs.Past.{Past, sure_step, sure_answer}
 use Rattle.dp_schedule.specs.declared.action.Instruction.{Instruction}
-use Rattle.dp_schedule.specs.declared.action.Instruction.TheVariants.{Say, Up, Take, Reset}
-use Rattle.dp_schedule.specs.declared.action.Instruction.TheVariants.{Leave, Cut}
+use Rattle.dp_schedule.specs.declared.action.Instruction.TheVariants.{Up, Take}
 use Rattle.dp_schedule.specs.declared.action.Action.{Action}
 use Rattle.dp_schedule.specs.declared.action.Action.TheVariants.{Join, Act, Show}
 use Rattle.dp_sim.specs.Exchanges.{Participant, Exchange, is_gone, disconnected, heard, uplink_sent}
@@ -78,12 +77,9 @@ up-state t (m ∷ rest) =
 
 done-steps : (t : Exchange) (instruction : Instruction) → (done t instruction).participant.state
     ≡ after_steps t.participant.state (steps_of_instruction t instruction)
-done-steps t (Say m) = refl
 done-steps t Up = up-state t t.participant.uplink
 done-steps t Take = next-steps t (next_entry t)
-done-steps t Reset = refl
-done-steps t Leave = refl
-done-steps t Cut = refl
+done-steps t instruction = refl
 
 -- an exchange leads where its steps do
 pub exchange-steps : (t : Exchange) (instruction : Instruction)

@@ -1,6 +1,6 @@
 -- What a session makes of the messages of a reset: the commands that it has of it so far.
-use Rattle.std.proofs.Common.{◌≡◌, ℕ, ◌+◌, ◌==◌, Bool, true, false, ◌&&◌, if◌then◌else◌}
-use Rattle.std.proofs.Common.{List, [], ◌∷◌, ◌++◌, length, Option, None, Some, is_some}
+use Rattle.std.proofs.Common.{◌≡◌, ℕ, ◌+◌, ◌==◌, Bool, true, false, if◌then◌else◌}
+use Rattle.std.proofs.Common.{List, [], ◌∷◌, ◌++◌, Option, None, Some, is_some}
 use Rattle.std.proofs.Common.{refl, sym, ap, subst, ◌∙◌, arith, append-nil, append_assoc}
 use Rattle.std.proofs.Common.{length-append}
 use Rattle.std.proofs.lemmas.Bool.{cond_both, eqb-true}
@@ -8,20 +8,18 @@ use Rattle.std.specs.Option.{option_map}
 use Rattle.std.proofs.lemmas.Option.{same_Some}
 use Rattle.dp_msg_draw.specs.declared.draw.Draw.{Draw}
 use Rattle.dp_msg_meta.specs.declared.message.Control.TheVariants.{ResetBegin, ResetEnd}
-use Rattle.dp_messages.specs.declared.message.Msg.{Msg}
 use Rattle.dp_messages.specs.declared.message.Msg.TheVariants as msg
 use Rattle.dp_messages.specs.declared.message.Entry.{Entry}
 use Rattle.dp_acl.specs.Opening.{opening}
 use Rattle.dp_acl.specs.Rights.{is_operator}
 use Rattle.dp_epochs.specs.declared.connection.Connection.{Connection}
 use Rattle.dp_epochs.specs.declared.connection.Ending.TheVariants as ending
-use Rattle.dp_epochs.specs.declared.decision.Decision.{Decision}
 use Rattle.dp_epochs.specs.declared.decision.Decision.TheVariants as decision
 use Rattle.dp_epochs.specs.declared.event.Event.{Event}
 use Rattle.dp_epochs.specs.declared.event.Event.TheVariants as event
 use Rattle.dp_epochs.specs.declared.event.Reply.{Reply}
 use Rattle.dp_epochs.specs.declared.event.Reply.TheVariants as reply
-use Rattle.dp_epochs.specs.State.{State, Stream, noted, after_event, after_shut, epoch_of}
+use Rattle.dp_epochs.specs.State.{State, Stream, noted, after_shut, epoch_of}
 use Rattle.dp_epochs.specs.State.{history_of, open_connection, with_connection, first_stream}
 use Rattle.dp_epochs.specs.State.{with_command, with_part, sent_commands, stream_without}
 use Rattle.dp_epochs.specs.State.{commands_by, reset_of, fits_reset}
@@ -31,11 +29,10 @@ use Rattle.dp_epochs.specs.declared.effect.Effect.{Effect}
 use Rattle.dp_epochs.specs.declared.effect.Effect.TheVariants.{Nothing, TakesUp, Placed, Filtered}
 use Rattle.dp_epochs.specs.declared.effect.Effect.TheVariants.{Joined, Left, Began, Added, Dropped}
 use Rattle.dp_epochs.specs.declared.effect.Effect.TheVariants.{Reopened}
-use Rattle.dp_epochs.specs.Effects.{own_message, made, ended_after, live_after, stream_after}
-use Rattle.dp_epochs.specs.Effects.{answer_of}
-use Rattle.dp_epochs.specs.Effects.{IsStill, IsEffect, EventsHaveEffects}
+use Rattle.dp_epochs.specs.Effects.{own_message, made, stream_after, answer_of, IsStill}
+use Rattle.dp_epochs.specs.Effects.{IsEffect}
 use Rattle.dp_epochs.specs.Rows.{has_room}
-use Rattle.dp_epochs.specs.Past.{Past, state_after, state_of, kept, refused, answer_to, sure_step}
+use Rattle.dp_epochs.specs.Past.{Past, state_of, kept, refused, answer_to, sure_step}
 use Rattle.dp_epochs.specs.Past.{sure_answer}
 use Rattle.dp_epochs.specs.Laws.{Continues, ShutBefore, shut_by}
 use Rattle.dp_lists.proofs.Options.{option_both}

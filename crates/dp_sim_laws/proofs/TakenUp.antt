@@ -1,11 +1,10 @@
 -- A reset that is taken up opens its epoch with its commands.
-use Rattle.std.proofs.Common.{◌≡◌, ◌⊎◌, ℕ, zero, suc, ◌+◌, ◌≤◌, ◌==◌, Bool, true, false}
-use Rattle.std.proofs.Common.{if◌then◌else◌, List, [], ◌∷◌, ◌++◌, length, drop, map, fold, take}
+use Rattle.std.proofs.Common.{◌≡◌, ◌⊎◌, ℕ, zero, suc, ◌+◌, Bool, true, false}
+use Rattle.std.proofs.Common.{if◌then◌else◌, List, [], ◌∷◌, ◌++◌, length, drop, map, fold}
 use Rattle.std.proofs.Common.{Option, None, Some, refl, sym, ap, subst, ◌∙◌, ⊎_elim, inl, inr}
-use Rattle.std.proofs.Common.{arith, append-nil, append_assoc}
-use Rattle.std.specs.Prelude.{All, get_or}
+use Rattle.std.proofs.Common.{append-nil, append_assoc}
 use Rattle.std.specs.Option.{option_map_or}
-use Rattle.std.proofs.lemmas.Bool.{cases_eq, cases_Bool, eq-eqb, ne_eqb}
+use Rattle.std.proofs.lemmas.Bool.{cases_eq, eq-eqb, ne_eqb}
 use Rattle.dp_msg_draw.specs.declared.draw.Draw.{Draw}
 use Rattle.dp_msg_meta.specs.declared.message.Control.TheVariants.{ResetBegin, ResetEnd}
 use Rattle.dp_messages.specs.declared.message.Msg.{Msg}
@@ -24,7 +23,6 @@ use Rattle.dp_schedule.specs.declared.action.Instruction.TheVariants.{Say, Up, T
 use Rattle.dp_schedule.specs.declared.action.Instruction.TheVariants.{Leave, Cut}
 use Rattle.dp_schedule.specs.declared.action.Action.{Action}
 use Rattle.dp_schedule.specs.declared.action.Action.TheVariants.{Join, Act, Show}
-use Rattle.dp_snap.specs.Resets.{reset_messages}
 use Rattle.dp_sim.specs.declared.participant.LinkState.{LinkState}
 use Rattle.dp_sim.specs.declared.participant.LinkState.TheVariants.{Connected, Leaving, Closed}
 use Rattle.dp_sim.specs.Exchanges.{Participant, Exchange, is_gone, disconnected, heard, uplink_sent}
@@ -36,8 +34,8 @@ use Rattle.dp_lists.proofs.Options.{at_some}
 use Rattle.dp_lists.proofs.Numbered.{numbered-same}
 use Rattle.dp_sim_laws.specs.OwnSteps.{exchange_of}
 use Rattle.dp_sim_laws.specs.Resets.{next_answer, sent_answer, client_answer, own_answer}
-use Rattle.dp_sim_laws.specs.Resets.{own_answers, taken_up}
-use Rattle.dp_sim_laws.proofs.Walks.{MayAct, MaySend, action-keeps, other-stays, own-becomes}
+use Rattle.dp_sim_laws.specs.Resets.{own_answers}
+use Rattle.dp_sim_laws.proofs.Walks.{MayAct, action-keeps, other-stays, own-becomes}
 use Rattle.dp_sim_laws.proofs.Streams.{Owns, IsNotBy, step-owned, OpenedWith, step-opened}
 use Rattle.dp_sim_laws.proofs.Streams.{begin-noted, part-noted, end-placed}
 

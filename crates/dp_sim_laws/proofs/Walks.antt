@@ -1,11 +1,10 @@
 -- What holds of the session's past through an action, where each event that may come keeps it; and
 -- what an action leaves of one client.
-use Rattle.std.proofs.Common.{◌≡◌, ◌⊎◌, ℕ, ◌+◌, ◌==◌, Bool, true, false, if◌then◌else◌}
-use Rattle.std.proofs.Common.{List, [], ◌∷◌, ◌++◌, length, Option, None, Some}
-use Rattle.std.proofs.Common.{refl, sym, ap, subst, ◌∙◌, ⊎_elim, inl, inr}
+use Rattle.std.proofs.Common.{◌≡◌, ℕ, Bool, true, false, if◌then◌else◌}
+use Rattle.std.proofs.Common.{List, [], ◌∷◌, Option, None, Some}
+use Rattle.std.proofs.Common.{sym, ap, ◌∙◌}
 use Rattle.std.specs.Prelude.{All}
 use Rattle.std.specs.Option.{option_map_or}
-use Rattle.std.proofs.lemmas.Bool.{cases_eq, cases_Bool, eq-eqb, ne_eqb}
 use Rattle.std.proofs.lemmas.List.Elements.{All-head}
 use Rattle.dp_messages.specs.declared.message.Msg.{Msg}
 use Rattle.dp_messages.specs.declared.message.Entry.{Entry}
@@ -17,8 +16,7 @@ use Rattle.dp_epochs.specs.declared.event.Reply.TheVariants as reply
 use Rattle.dp_epochs.specs.Past.{Past, sure_step, sure_answer}
 use Rattle.dp_epochs.specs.Laws.{ShutBefore}
 use Rattle.dp_schedule.specs.declared.action.Instruction.{Instruction}
-use Rattle.dp_schedule.specs.declared.action.Instruction.TheVariants.{Say, Up, Take, Reset}
-use Rattle.dp_schedule.specs.declared.action.Instruction.TheVariants.{Leave, Cut}
+use Rattle.dp_schedule.specs.declared.action.Instruction.TheVariants.{Up, Take, Cut}
 use Rattle.dp_schedule.specs.declared.action.Action.{Action}
 use Rattle.dp_schedule.specs.declared.action.Action.TheVariants.{Join, Act, Show}
 use Rattle.dp_sim.specs.Exchanges.{Participant, Exchange, is_gone, disconnected, heard, uplink_sent}
@@ -26,7 +24,7 @@ use Rattle.dp_sim.specs.Exchanges.{next_entry, took_next, done, exchanged}
 use Rattle.dp_sim.specs.World.{World, participant_of, with_joined, after, with_exchange}
 use Rattle.dp_lists.specs.Numbered.{numbered}
 use Rattle.dp_lists.proofs.Options.{option_either}
-use Rattle.dp_lists.proofs.Numbered.{number-found, numbered-other, numbered-same, numbered-old}
+use Rattle.dp_lists.proofs.Numbered.{number-found, numbered-other, numbered-old}
 use Rattle.dp_sim_laws.specs.OwnSteps.{exchange_of}
 
 -- ---- the session
@@ -65,12 +63,10 @@ module _ (P : Past → Type 0) (May : Event → Type 0)
 
     done-keeps : (t : Exchange) (instruction : Instruction) → ShutBefore t.past
         → MaySend t.participant → P t.past → P (done t instruction).past
-    done-keeps t (Say m) shut may h = h
     done-keeps t Up shut may h = up-keeps t t.participant.uplink shut may.0 may.1 h
     done-keeps t Take shut may h = take-keeps t (next_entry t) h
-    done-keeps t Reset shut may h = h
-    done-keeps t Leave shut may h = h
     done-keeps t Cut shut may h = step t.past (event.Close t.participant.conn) shut may.1 h
+    done-keeps t instruction shut may h = h
 
     exchange-keeps : (t : Exchange) (instruction : Instruction) → ShutBefore t.past
         → MaySend t.participant → P t.past → P (exchanged t instruction).past

@@ -1,33 +1,32 @@
 -- The commands of a snapshot have a spelling, where those that made the board have one.
 use Rattle.std.proofs.Common.{◌≡◌, ◌==◌, ℕ, zero, suc, ◌+◌, ◌*◌, ◌^◌, ◌<◌, ◌≤◌, Bool, true, false}
-use Rattle.std.proofs.Common.{not, List, [], ◌∷◌, ◌++◌, length, map, Option, None, Some, refl, ap}
-use Rattle.std.proofs.Common.{sym, subst, ◌∙◌, arith}
+use Rattle.std.proofs.Common.{not, List, [], ◌∷◌, ◌++◌, length, map, Option, None, Some, refl}
+use Rattle.std.proofs.Common.{sym, ◌∙◌, arith}
 use Rattle.std.specs.Prelude.{ℤ, pos, ◌+ℤ◌, ◌&&◌, All, IfSome, unwrap_or, if◌then◌else◌}
 use Rattle.std.specs.Prelude.{slice_index_or}
 use Rattle.std.specs.List.{filter, fold, flat_map, range_with_len, list_all}
 use Rattle.std.specs.Option.{option_map, option_map_or}
 use Rattle.std.proofs.lemmas.Int.{ints}
 use Rattle.std.proofs.lemmas.Bool.{cond_both, false≢true}
-use Rattle.std.proofs.lemmas.List.{length-map, length-append, get_or_default}
+use Rattle.std.proofs.lemmas.List.{length-map, get_or_default}
 use Rattle.std.proofs.lemmas.List.Elements.{All-nil, All-cons, All-head, All-tail, All-append}
 use Rattle.std.proofs.lemmas.List.Elements.{All-filter, All-map, All-push, All-weaker}
 use Rattle.dp_blend.specs.Color.{Channels, IsPixel, clear}
-use Rattle.dp_blend.specs.Canvas.{below, canvas_of, pixel_at}
+use Rattle.dp_blend.specs.Canvas.{below, pixel_at}
 use Rattle.dp_blend.proofs.Canvas.{length-canvas_of}
 use Rattle.dp_msg_draw.specs.declared.draw.Draw.{Draw}
 use Rattle.dp_msg_draw.specs.declared.draw.Draw.TheVariants as draws
 use Rattle.dp_msg_draw.specs.declared.draw.TileContent.{TileContent}
 use Rattle.dp_msg_draw.specs.declared.draw.TileContent.TheVariants.{Solid, Pixels}
-use Rattle.dp_msg_draw.specs.declared.lists.TilePixel.{TilePixel}
 use Rattle.dp_msg_draw.specs.Limits.{IsTitle, IsListedMode}
 use Rattle.dp_msg_draw.specs.Payloads as payloads
-use Rattle.dp_msg_draw.specs.Payloads.{DrawHasSpelling, IsContent, AreAllEqual, draw_payload}
+use Rattle.dp_msg_draw.specs.Payloads.{DrawHasSpelling, IsContent, draw_payload}
 use Rattle.dp_layers.specs.declared.row.LayerRow.{LayerRow}
 use Rattle.dp_layers.specs.Layers.{has_id, is_in}
-use Rattle.dp_layers.specs.Rows.{Row, layers_of, content_of, map_contents}
+use Rattle.dp_layers.specs.Rows.{Row, layers_of, content_of}
 use Rattle.dp_layers.specs.Changes.{change_row, with_layer, rows_changed, new_row, set_attr}
-use Rattle.dp_layers.specs.Changes.{set_title, set_parent, inserted_after, placed, moved, deleted}
-use Rattle.dp_layers.specs.Changes.{created, has_effect, effect_on, rows_after}
+use Rattle.dp_layers.specs.Changes.{set_title, set_parent, inserted_after, placed}
+use Rattle.dp_layers.specs.Changes.{has_effect, effect_on, rows_after}
 use Rattle.dp_pixels.specs.Commands.{pixel_of, pixels_after}
 use Rattle.dp_pixels.specs.Resizes.{is_side, side, pixels_shifted}
 use Rattle.dp_pixels.specs.Tiles.{tiles_along}
