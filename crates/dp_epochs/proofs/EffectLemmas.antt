@@ -21,44 +21,37 @@ use Rattle.dp_epochs.specs.declared.connection.Connection.{Connection}
 use Rattle.dp_epochs.specs.declared.connection.Ending.TheVariants as ending
 use Rattle.dp_epochs.specs.declared.decision.Decision.{Decision}
 use Rattle.dp_epochs.specs.declared.decision.Decision.TheVariants as decision
+use Rattle.dp_epochs.specs.declared.effect.Effect.{Effect}
+use Rattle.dp_epochs.specs.declared.effect.Effect.TheVariants.{Nothing, TakesUp, Placed, Filtered}
+use Rattle.dp_epochs.specs.declared.effect.Effect.TheVariants.{Joined, Left, Began, Added, Dropped}
+use Rattle.dp_epochs.specs.declared.effect.Effect.TheVariants.{Reopened}
 use Rattle.dp_epochs.specs.declared.event.Event.{Event}
 use Rattle.dp_epochs.specs.declared.event.Event.TheVariants as event
 use Rattle.dp_epochs.specs.declared.event.Reply.{Reply}
 use Rattle.dp_epochs.specs.declared.event.Reply.TheVariants as reply
 use Rattle.dp_epochs.specs.State.{State, acted, stays, noted, after_event, epoch_of, here, entry_of}
 use Rattle.dp_epochs.specs.Connections.{is_open}
-use Rattle.dp_epochs.specs.State.{history_of, connection_of, open_connection, where_open}
+use Rattle.dp_epochs.specs.State.{history_of, connection_of, open_connection}
 use Rattle.dp_epochs.specs.State.{has_acknowledged, is_name, free_id, opened_as, owner_on_join}
 use Rattle.dp_epochs.specs.State.{new_connection, left, next_owner, owner_on_leave, closed_by}
 use Rattle.dp_epochs.specs.State.{stream_without, judged, heard, decided, acted_by, says_by}
 use Rattle.dp_epochs.specs.State.{Stream, Acted, commands_by, reset_of, is_held_by_other, may_begin}
-use Rattle.dp_epochs.specs.State.{part_decided, fits_reset, first_stream, with_command, with_part}
-use Rattle.dp_epochs.specs.State.{epoch_opened, present_users, sent_commands}
-use Rattle.dp_epochs.specs.Effects.{Effect, Nothing, TakesUp, Placed, Filtered, Joined, Left, made}
-use Rattle.dp_epochs.specs.Effects.{Began, Added, Dropped, Reopened}
-use Rattle.dp_epochs.specs.Effects.{entries_of, connections_after, IsStill, IsOpenAt, IsEffect}
-use Rattle.dp_epochs.specs.Effects.{ended_after, live_after, HasEffect, IsLater, PartsFit}
+use Rattle.dp_epochs.specs.State.{part_decided, fits_reset, first_stream, with_part}
+use Rattle.dp_epochs.specs.State.{present_users, sent_commands}
+use Rattle.dp_epochs.specs.Effects.{own_message, made, entries_of, ended_after, live_after}
+use Rattle.dp_epochs.specs.Effects.{connections_after, IsIgnored, IsRefusedName, IsForNoOne}
+use Rattle.dp_epochs.specs.Effects.{IsStill, IsOpenAt, IsSaid, IsReset, IsEffect, effect_by}
+use Rattle.dp_epochs.specs.Effects.{DecisionsHaveEffects, EventsHaveEffects, EffectsAreMade}
+use Rattle.dp_epochs.specs.Effects.{IsLater}
 use Rattle.dp_epochs.specs.Laws.{Continues}
+use Rattle.dp_epochs.proofs.OpenConnections.{open_is_found}
 
 -- ---- open connections
-
--- a connection that was found open is there, and open
-pub found-open : (found : Option Connection) (c : Connection) → where_open found ≡ Some c
-    → (found ≡ Some c) × (is_open c ≡ true)
-found-open None c h = cc
-found-open (Some x) c h =
-    ⊎_elim (λ (up : is_open x ≡ true).
-    let e : Some x ≡ Some c = sym (ap (λ b. if b then Some x else None) up) ∙ h in
-    let same : x ≡ c = cc in
-    (e, subst (λ y. is_open y ≡ true) same up))
-    (λ (shut : is_open x ≡ false).
-    let e : None ≡ Some c = sym (ap (λ b. if b then Some x else None) shut) ∙ h in cc)
-    (cases_Bool (is_open x))
 
 open-at : (s : State) (conn : ℕ) (c : Connection) → open_connection s conn ≡ Some c
     → IsOpenAt s conn c
 open-at s conn c found =
-    let f = found-open (connection_of s conn) c found in
+    let f = open_is_found s.connections conn c found in
     record { given = f.0; running = f.1; found = found }
 
 -- ---- decisions
@@ -186,211 +179,230 @@ decided-reason s conn c (msg.Control (control.Ack epoch)) =
     (λ no. tt)
 decided-reason s conn c m = asked-reason s conn c m
 
-pub parts-fit : PartsFit
-parts-fit s conn c m is =
-    let why : Reason s conn c m decision.AddPart =
-    subst (Reason s conn c m) is (decided-reason s conn c m) in
+-- ---- causes
+
+module _ (s : State) (conn : ℕ) (c : Connection) (m : Msg) (at : IsOpenAt s conn c) where
+  abbrev e : Event
+  e = event.Say conn m
+
+  said : (d : Decision) → decided s conn c m ≡ d → IsSaid s e conn c d
+  said d is = record { came = refl; at = at; decided = is }
+
+  reset : (n : Msg) (d : Decision) → decided s conn c m ≡ d → m ≡ n
+      → has_acknowledged s c ≡ true → is_operator s.live c.user ≡ true
+      → IsReset s e conn c n d
+  reset n d is same ready operator = record {
+    said = said d is;
+    is = same;
+    acknowledged = ready;
+    operator = operator;
+  }
+
+  -- a message has the effect that its decision says
+  decided-cause : (d : Decision) → decided s conn c m ≡ d → Reason s conn c m d
+      → IsEffect s e (effect_by conn c d)
+  decided-cause decision.Ignore is why =
+      subst (λ o. IfSome o (λ c. decided s conn c m ≡ decision.Ignore)) (sym at.found) is
+  decided-cause decision.Acknowledge is why = (said decision.Acknowledge is, why)
+  decided-cause decision.Place is why = (said decision.Place is, why.0, why.1)
+  decided-cause decision.Filter is why = (said decision.Filter is, why)
+  decided-cause decision.BeginReset is why =
+      reset (msg.Control control.ResetBegin) decision.BeginReset is why.0 why.1 why.2
+  decided-cause decision.AddPart is why = (
+    why.0,
+    reset (msg.Part why.0) decision.AddPart is why.2 why.3 why.4.operator,
     record {
-      command = why.0;
       stream = why.4.stream;
-      part = why.2;
       sent = why.4.is;
+      owner = why.4.owner;
       fits = subst (λ list. fits_reset list why.0 ≡ true) (sym why.4.same) why.5;
-    }
+    },
+  )
+  decided-cause decision.DropReset is why =
+      (why.0, reset (msg.Part why.0) decision.DropReset is why.2 why.3 why.4.operator)
+  decided-cause decision.OpenEpoch is why = (
+    why.0,
+    reset (msg.Control control.ResetEnd) decision.OpenEpoch is why.1 why.2
+        (reset-sends s conn c why.0 why.3).operator,
+    why.3,
+  )
 
--- ---- effects
+pub decision-cause : DecisionsHaveEffects
+decision-cause s conn c m found =
+    decided-cause s conn c m (open-at s conn c found) (decided s conn c m) refl
+    (decided-reason s conn c m)
 
-nothing-made : (s : State) (r : Reply) → stays s r ≡ made s (Nothing r)
-nothing-made s r =
-    ap (λ live. record { state = record s { live = live }; reply = r }) (sym (append-nil s.live))
+-- an effect of an event, with its cause
+record Caused (s : State) (e : Event) : Type 0 where
+  effect : Effect
+  cause : IsEffect s e effect
 
-nothing-done : (s : State) (e : Event) (r : Reply) → IsStill s e r → HasEffect s e (stays s r)
-nothing-done s e r still =
-    record { effect = Nothing r; cause = still; made = nothing-made s r }
-
-open-effect : (s : State) (name : List ℕ) (registered : Bool) (o : Option ℕ) → free_id s ≡ o
-    → is_name name ≡ true
-    → HasEffect s (event.Open name registered) (opened_as s registered name o)
-open-effect s name registered None is named =
-    nothing-done s (event.Open name registered) reply.Full (named, is)
-open-effect s name registered (Some user) is named = record {
-  effect = Joined user registered name (owner_on_join s user);
-  cause = record { came = refl; named = named; free = is; owner = refl };
-  made = refl;
+said-caused : (s : State) (conn : ℕ) (m : Msg) (o : Option Connection)
+    → open_connection s conn ≡ o → Caused s (event.Say conn m)
+said-caused s conn m None is = record {
+  effect = Nothing reply.Ignored;
+  cause = subst (λ o. IfSome o (λ c. decided s conn c m ≡ decision.Ignore)) (sym is) tt;
 }
+said-caused s conn m (Some c) is = record {
+  effect = effect_by conn c (decided s conn c m);
+  cause = decision-cause s conn c m is;
+}
+
+closed-caused : (s : State) (conn : ℕ) (o : Option Connection) → open_connection s conn ≡ o
+    → Caused s (event.Close conn)
+closed-caused s conn None is = record { effect = Nothing reply.Ignored; cause = is }
+closed-caused s conn (Some c) is = record {
+  effect = Left conn c (owner_on_leave (is_operator s.live c.user) (left s conn c));
+  cause = record { came = refl; at = open-at s conn c is; owner = refl };
+}
+
+named-caused : (s : State) (name : List ℕ) (registered : Bool) → is_name name ≡ true
+    → (o : Option ℕ) → free_id s ≡ o → Caused s (event.Open name registered)
+named-caused s name registered named None is =
+    record { effect = Nothing reply.Full; cause = (named, is) }
+named-caused s name registered named (Some user) is = record {
+  effect = Joined user (owner_on_join s user);
+  cause = record {
+    name = name;
+    registered = registered;
+    came = refl;
+    named = named;
+    free = is;
+    owner = refl;
+  };
+}
+
+-- each event has an effect
+caused : (s : State) (e : Event) → Caused s e
+caused s (event.Open name registered) =
+    ⊎_elim (λ (named : is_name name ≡ true).
+    named-caused s name registered named (free_id s) refl)
+    (λ (no : is_name name ≡ false).
+    record { effect = Nothing reply.NameRefused; cause = no })
+    (cases_Bool (is_name name))
+caused s (event.Say conn m) = said-caused s conn m (open_connection s conn) refl
+caused s (event.Close conn) = closed-caused s conn (open_connection s conn) refl
+
+-- ---- what is made
 
 -- an effect that places nothing after the live history leaves it
-with-nothing : (s : State) (o : Option Stream) (r : Reply)
-    → ◌≡◌ {A = Acted} (record { state = record s { stream = o }; reply = r })
-    (record { state = record s { live = s.live ++ []; stream = o }; reply = r })
-with-nothing s o r =
-    ap (λ live. record { state = record s { live = live; stream = o }; reply = r })
-    (sym (append-nil s.live))
+with-nothing : (s : State) (cs : List Connection) (o : Option Stream) (r : Reply)
+    → ◌≡◌ {A = Acted} (record { state = record s { connections = cs; stream = o }; reply = r })
+    (record { state = record s { live = s.live ++ []; connections = cs; stream = o }; reply = r })
+with-nothing s cs o r =
+    ap (λ live. record {
+      state = record s { live = live; connections = cs; stream = o };
+      reply = r;
+    }) (sym (append-nil s.live))
 
-module _ (s : State) (conn : ℕ) (c : Connection) (at : IsOpenAt s conn c) where
-  begin-effect : decided s conn c (msg.Control control.ResetBegin) ≡ decision.BeginReset
-      → has_acknowledged s c ≡ true → is_operator s.live c.user ≡ true
-      → HasEffect s (event.Say conn (msg.Control control.ResetBegin))
-      (acted_by s conn c (msg.Control control.ResetBegin) decision.BeginReset)
-  begin-effect is ready operator = record {
-    effect = Began conn c;
-    cause = record {
-      said = record { came = refl; at = at; decided = is };
-      acknowledged = ready;
-      operator = operator;
-    };
-    made = with-nothing s (Some (first_stream conn)) reply.Noted;
-  }
+stays-made : (s : State) (e : Event) (r : Reply) → acted s e ≡ stays s r
+    → acted s e ≡ made s e (Nothing r)
+stays-made s e r is = is ∙ with-nothing s s.connections s.stream r
 
-  add-effect : (command : Draw) (commands : List Draw)
-      → decided s conn c (msg.Part command) ≡ decision.AddPart → has_acknowledged s c ≡ true
-      → Sends s conn c commands → fits_reset commands command ≡ true
-      → HasEffect s (event.Say conn (msg.Part command))
-      (acted_by s conn c (msg.Part command) decision.AddPart)
-  add-effect command commands is ready sends fits = record {
-    effect = Added conn c sends.stream command;
-    cause = (
-      record {
-        said = record { came = refl; at = at; decided = is };
-        acknowledged = ready;
-        operator = sends.operator;
-      },
-      sends.is,
-      sends.owner,
-      subst (λ list. fits_reset list command ≡ true) (sym sends.same) fits,
-    );
-    made = ap (λ o. record {
-      state = record s { stream = option_map (with_part (msg.Part command)) o };
-      reply = reply.Noted;
-    }) sends.is
-        ∙ with-nothing s (Some (with_command command sends.stream)) reply.Noted;
-  }
+ignored-said : (s : State) (conn : ℕ) (m : Msg) (o : Option Connection)
+    → IfSome o (λ c. decided s conn c m ≡ decision.Ignore)
+    → option_map_or (says_by s conn m) o (stays s reply.Ignored) ≡ stays s reply.Ignored
+ignored-said s conn m None is = refl
+ignored-said s conn m (Some c) is = ap (acted_by s conn c m) is
 
-  drop-effect : (command : Draw) → decided s conn c (msg.Part command) ≡ decision.DropReset
-      → has_acknowledged s c ≡ true → is_operator s.live c.user ≡ true
-      → HasEffect s (event.Say conn (msg.Part command))
-      (acted_by s conn c (msg.Part command) decision.DropReset)
-  drop-effect command is ready operator = record {
-    effect = Dropped conn c command;
-    cause = record {
-      said = record { came = refl; at = at; decided = is };
-      acknowledged = ready;
-      operator = operator;
-    };
-    made = refl;
-  }
+ignored-made : (s : State) (e : Event) → IsIgnored s e → acted s e ≡ stays s reply.Ignored
+ignored-made s (event.Open name registered) never = absurd never
+ignored-made s (event.Say conn m) is = ignored-said s conn m (open_connection s conn) is
+ignored-made s (event.Close conn) is =
+    ap (λ o. option_map_or (closed_by s conn) o (stays s reply.Ignored)) is
 
-  end-effect : (commands : List Draw)
-      → decided s conn c (msg.Control control.ResetEnd) ≡ decision.OpenEpoch
-      → has_acknowledged s c ≡ true → reset_of s conn c ≡ Some commands
-      → HasEffect s (event.Say conn (msg.Control control.ResetEnd))
-      (acted_by s conn c (msg.Control control.ResetEnd) decision.OpenEpoch)
-  end-effect commands is ready reset =
-      let sends = reset-sends s conn c commands reset in
-      record {
-        effect = Reopened conn c commands;
-        cause = (
-          record {
-            said = record { came = refl; at = at; decided = is };
-            acknowledged = ready;
-            operator = sends.operator;
-          },
-          reset,
-        );
-        made = ap (λ list. record {
-          state = epoch_opened s list;
-          reply = reply.Placed (epoch_of s + 1) 0;
-        }) (ap sent_commands sends.is ∙ sends.same);
-      }
+refused-made : (s : State) (e : Event) → IsRefusedName e → acted s e ≡ stays s reply.NameRefused
+refused-made s (event.Open name registered) nameless =
+    ap (λ b. if b then opened_as s registered name (free_id s) else stays s reply.NameRefused)
+    nameless
+refused-made s (event.Say conn m) never = absurd never
+refused-made s (event.Close conn) never = absurd never
 
-say-effect : (s : State) (conn : ℕ) (c : Connection) (m : Msg) → IsOpenAt s conn c
-    → (d : Decision) → decided s conn c m ≡ d → Reason s conn c m d
-    → HasEffect s (event.Say conn m) (acted_by s conn c m d)
-say-effect s conn c m at decision.Ignore is why =
-    nothing-done s (event.Say conn m) reply.Ignored
-    (subst (λ o. IfSome o (λ c. decided s conn c m ≡ decision.Ignore)) (sym at.found) is)
-say-effect s conn c m at decision.Acknowledge is why = record {
-  effect = TakesUp conn c;
-  cause = (m, record { came = refl; at = at; decided = is }, why);
-  made = ap (λ live. record {
-    state = record s {
-      live = live;
-      connections = slice_set s.connections (conn - 1)
-          (record c { acknowledged = epoch_of s });
-    };
-    reply = reply.Noted;
-  }) (sym (append-nil s.live));
-}
-say-effect s conn c m at decision.Place is why = record {
-  effect = Placed conn c m;
-  cause = (record { came = refl; at = at; decided = is }, why.0, why.1);
-  made = refl;
-}
-say-effect s conn c m at decision.Filter is why = record {
-  effect = Filtered conn c m;
-  cause = (record { came = refl; at = at; decided = is }, why);
-  made = refl;
-}
-say-effect s conn c m at decision.BeginReset is why =
-    subst (λ x. HasEffect s (event.Say conn x) (acted_by s conn c x decision.BeginReset))
-    (sym why.0)
-    (begin-effect s conn c at (subst (λ x. decided s conn c x ≡ decision.BeginReset) why.0 is) why.1
-    why.2)
-say-effect s conn c m at decision.AddPart is why =
-    subst (λ x. HasEffect s (event.Say conn x) (acted_by s conn c x decision.AddPart)) (sym why.2)
-    (add-effect s conn c at why.0 why.1
-    (subst (λ x. decided s conn c x ≡ decision.AddPart) why.2 is) why.3 why.4 why.5)
-say-effect s conn c m at decision.DropReset is why =
-    subst (λ x. HasEffect s (event.Say conn x) (acted_by s conn c x decision.DropReset)) (sym why.2)
-    (drop-effect s conn c at why.0
-    (subst (λ x. decided s conn c x ≡ decision.DropReset) why.2 is) why.3 why.4.operator)
-say-effect s conn c m at decision.OpenEpoch is why =
-    subst (λ x. HasEffect s (event.Say conn x) (acted_by s conn c x decision.OpenEpoch)) (sym why.1)
-    (end-effect s conn c at why.0
-    (subst (λ x. decided s conn c x ≡ decision.OpenEpoch) why.1 is) why.2 why.3)
+full-made : (s : State) (e : Event) → IsForNoOne s e → acted s e ≡ stays s reply.Full
+full-made s (event.Open name registered) full =
+    ap (λ b. if b then opened_as s registered name (free_id s) else stays s reply.NameRefused)
+    full.0
+    ∙ ap (opened_as s registered name) full.1
+full-made s (event.Say conn m) never = absurd never
+full-made s (event.Close conn) never = absurd never
 
-close-effect : (s : State) (conn : ℕ) (c : Connection) → IsOpenAt s conn c
-    → HasEffect s (event.Close conn) (closed_by s conn c)
-close-effect s conn c at =
+still-made : (s : State) (e : Event) (r : Reply) → IsStill s e r → acted s e ≡ stays s r
+still-made s e reply.Ignored is = ignored-made s e is
+still-made s e reply.NameRefused is = refused-made s e is
+still-made s e reply.Full is = full-made s e is
+still-made s e other is = absurd is
+
+-- what is made of a message of which that becomes
+said-made : (s : State) (e : Event) (conn : ℕ) (c : Connection) (d : Decision)
+    → IsSaid s e conn c d → acted s e ≡ acted_by s conn c (own_message e) d
+said-made s e conn c d is =
+    ap (acted s) is.came
+    ∙ ap (λ o. option_map_or (says_by s conn (own_message e)) o (stays s reply.Ignored)) is.at.found
+    ∙ ap (acted_by s conn c (own_message e)) is.decided
+
+joined-made : (s : State) (name : List ℕ) (registered : Bool) (user : ℕ) → is_name name ≡ true
+    → free_id s ≡ Some user
+    → acted s (event.Open name registered)
+    ≡ made s (event.Open name registered) (Joined user (owner_on_join s user))
+joined-made s name registered user named free =
+    ap (λ b. if b then opened_as s registered name (free_id s) else stays s reply.NameRefused)
+    named
+    ∙ ap (opened_as s registered name) free
+
+left-made : (s : State) (conn : ℕ) (c : Connection) → IsOpenAt s conn c
+    → acted s (event.Close conn)
+    ≡ made s (event.Close conn)
+    (Left conn c (owner_on_leave (is_operator s.live c.user) (left s conn c)))
+left-made s conn c at =
     let next = owner_on_leave (is_operator s.live c.user) (left s conn c) in
-    record {
-      effect = Left conn c next;
-      cause = record { came = refl; at = at; owner = refl };
-      made = ap (λ live. record {
-        state = record s {
-          live = live;
-          connections = slice_set s.connections (conn - 1)
-              (record c { ending = ending.Left (here s) });
-          stream = stream_without conn s.stream;
-        };
-        reply = reply.Placed (epoch_of s) (length s.live);
-      }) (append_assoc s.live (entry_of c.user (msg.Meta Leave) ∷ []) (next_owner next));
-    }
+    ap (λ o. option_map_or (closed_by s conn) o (stays s reply.Ignored)) at.found
+    ∙ ap (λ live. record {
+      state = record s {
+        live = live;
+        connections = slice_set s.connections (conn - 1)
+            (record c { ending = ending.Left (here s) });
+        stream = stream_without conn s.stream;
+      };
+      reply = reply.Placed (epoch_of s) (length s.live);
+    }) (append_assoc s.live (entry_of c.user (msg.Meta Leave) ∷ []) (next_owner next))
 
-said-effect : (s : State) (conn : ℕ) (m : Msg) (o : Option Connection)
-    → open_connection s conn ≡ o
-    → HasEffect s (event.Say conn m)
-    (option_map_or (says_by s conn m) o (stays s reply.Ignored))
-said-effect s conn m None is =
-    nothing-done s (event.Say conn m) reply.Ignored
-    (subst (λ o. IfSome o (λ c. decided s conn c m ≡ decision.Ignore)) (sym is) tt)
-said-effect s conn m (Some c) is =
-    say-effect s conn c m (open-at s conn c is) (decided s conn c m) refl (decided-reason s conn c m)
-
-closed-effect : (s : State) (conn : ℕ) (o : Option Connection) → open_connection s conn ≡ o
-    → HasEffect s (event.Close conn) (option_map_or (closed_by s conn) o (stays s reply.Ignored))
-closed-effect s conn None is = nothing-done s (event.Close conn) reply.Ignored is
-closed-effect s conn (Some c) is = close-effect s conn c (open-at s conn c is)
+-- an effect that has its cause is what the event does
+pub effect-made : EffectsAreMade
+effect-made s e (Nothing answer) cause = stays-made s e answer (still-made s e answer cause)
+effect-made s e (TakesUp conn c) cause =
+    said-made s e conn c decision.Acknowledge cause.0
+    ∙ with-nothing s
+    (slice_set s.connections (conn - 1) (record c { acknowledged = epoch_of s })) s.stream
+    reply.Noted
+effect-made s e (Placed conn c) cause = said-made s e conn c decision.Place cause.0
+effect-made s e (Filtered conn c) cause = said-made s e conn c decision.Filter cause.0
+effect-made s e (Joined user next) cause =
+    subst (λ e. acted s e ≡ made s e (Joined user next)) (sym cause.came)
+    (subst (λ o. acted s (event.Open cause.name cause.registered)
+    ≡ made s (event.Open cause.name cause.registered) (Joined user o)) (sym cause.owner)
+    (joined-made s cause.name cause.registered user cause.named cause.free))
+effect-made s e (Left conn c next) cause =
+    subst (λ e. acted s e ≡ made s e (Left conn c next)) (sym cause.came)
+    (subst (λ o. acted s (event.Close conn) ≡ made s (event.Close conn) (Left conn c o))
+    (sym cause.owner) (left-made s conn c cause.at))
+effect-made s e (Began conn c) cause =
+    said-made s e conn c decision.BeginReset cause.said
+    ∙ with-nothing s s.connections (Some (first_stream conn)) reply.Noted
+effect-made s e (Added conn c) cause =
+    said-made s e conn c decision.AddPart cause.1.said
+    ∙ with-nothing s s.connections (option_map (with_part (own_message e)) s.stream) reply.Noted
+effect-made s e (Dropped conn c) cause = said-made s e conn c decision.DropReset cause.1.said
+effect-made s e (Reopened conn c) cause = said-made s e conn c decision.OpenEpoch cause.1.said
 
 -- what an event does is one of the effects
-pub has-effect : (s : State) (e : Event) → HasEffect s e (acted s e)
-has-effect s (event.Open name registered) =
-    cond_both (is_name name) (opened_as s registered name (free_id s)) (stays s reply.NameRefused)
-    (HasEffect s (event.Open name registered))
-    (λ named. open-effect s name registered (free_id s) refl named)
-    (λ no. nothing-done s (event.Open name registered) reply.NameRefused no)
-has-effect s (event.Say conn m) = said-effect s conn m (open_connection s conn) refl
-has-effect s (event.Close conn) = closed-effect s conn (open_connection s conn) refl
+pub has-effect : EventsHaveEffects
+has-effect s e =
+    let it = caused s e in
+    record {
+      effect = it.effect;
+      cause = it.cause;
+      made = effect-made s e it.effect it.cause;
+    }
 
 -- ---- what they leave
 
@@ -399,17 +411,13 @@ owner-few None = omega arith
 owner-few (Some user) = omega arith
 
 -- at most two entries are placed
-pub entries-few : (effect : Effect) → length (entries_of effect) ≤ 2
-entries-few (Nothing answer) = omega arith
-entries-few (TakesUp conn c) = omega arith
-entries-few (Placed conn c m) = omega arith
-entries-few (Filtered conn c m) = omega arith
-entries-few (Joined user registered name next) = omega (arith, owner-few next)
-entries-few (Left conn c next) = omega (arith, owner-few next)
-entries-few (Began conn c) = omega arith
-entries-few (Added conn c stream command) = omega arith
-entries-few (Dropped conn c command) = omega arith
-entries-few (Reopened conn c commands) = omega arith
+pub entries-few : (e : Event) (effect : Effect) → length (entries_of e effect) ≤ 2
+entries-few e (Placed conn c) = omega arith
+entries-few e (Filtered conn c) = omega arith
+entries-few e (Joined user next) = omega (arith, owner-few next)
+entries-few e (Left conn c next) = omega (arith, owner-few next)
+entries-few e (Dropped conn c) = omega arith
+entries-few e other = omega arith
 
 last-grows : (ended : List (List Entry)) (live more : List Entry) (k : ℕ)
     → Continues (slice_index_or (ended ++ live ∷ []) k [])
@@ -427,12 +435,13 @@ opened-grows [] live new (suc k) = (slice_index_or (new ∷ []) k [], refl)
 opened-grows (history ∷ ended) live new zero = ([], sym (append-nil history))
 opened-grows (history ∷ ended) live new (suc k) = opened-grows ended live new k
 
-histories-go_on : (s : State) (effect : Effect) (k : ℕ)
+histories-go_on : (s : State) (e : Event) (effect : Effect) (k : ℕ)
     → Continues (history_of s k)
-    (slice_index_or (ended_after s effect ++ live_after s effect ∷ []) k [])
-histories-go_on s (Reopened conn c commands) k =
-    opened-grows s.ended s.live (opening (epoch_of s + 1) s.live (present_users s) commands []) k
-histories-go_on s effect k = last-grows s.ended s.live (entries_of effect) k
+    (slice_index_or (ended_after s effect ++ live_after s e effect ∷ []) k [])
+histories-go_on s e (Reopened conn c) k =
+    opened-grows s.ended s.live
+    (opening (epoch_of s + 1) s.live (present_users s) (sent_commands s.stream) []) k
+histories-go_on s e effect k = last-grows s.ended s.live (entries_of e effect) k
 
 -- the history of each epoch goes on
 pub history-goes_on : (s : State) (e : Event) (epoch : ℕ)
@@ -440,7 +449,7 @@ pub history-goes_on : (s : State) (e : Event) (epoch : ℕ)
 history-goes_on s e epoch =
     let h = has-effect s e in
     subst (λ a. Continues (history_of s epoch) (history_of (noted s a) epoch)) (sym h.made)
-    (histories-go_on s h.effect epoch)
+    (histories-go_on s e h.effect epoch)
 
 -- a connection of the number is there after it, that is later this one
 abbrev StaysIn : List Connection → ℕ → Connection → Type 0
@@ -470,13 +479,10 @@ becomes-later cs conn n c d x there later is =
 connections-stay : (s : State) (e : Event) (effect : Effect) → IsEffect s e effect
     → (n : ℕ) (x : Connection) → connection_of s n ≡ Some x
     → StaysIn (connections_after s effect) n x
-connections-stay s e (Nothing answer) cause n x is = (x, is, same-later x)
 connections-stay s e (TakesUp conn c) cause n x is =
     becomes-later s.connections conn n c (record c { acknowledged = epoch_of s }) x
-    cause.1.at.given (record { user = refl; joined = refl; ending = λ shut. refl }) is
-connections-stay s e (Placed conn c m) cause n x is = (x, is, same-later x)
-connections-stay s e (Filtered conn c m) cause n x is = (x, is, same-later x)
-connections-stay s e (Joined user registered name next) cause n x is =
+    cause.0.at.given (record { user = refl; joined = refl; ending = λ shut. refl }) is
+connections-stay s e (Joined user next) cause n x is =
     (x, numbered-old s.connections (new_connection s user ∷ []) n x is, same-later x)
 connections-stay s e (Left conn c next) cause n x is =
     becomes-later s.connections conn n c (record c { ending = ending.Left (here s) }) x
@@ -485,10 +491,7 @@ connections-stay s e (Left conn c next) cause n x is =
       joined = refl;
       ending = λ shut. let no : true ≡ false = sym cause.at.running ∙ shut in cc;
     }) is
-connections-stay s e (Began conn c) cause n x is = (x, is, same-later x)
-connections-stay s e (Added conn c stream command) cause n x is = (x, is, same-later x)
-connections-stay s e (Dropped conn c command) cause n x is = (x, is, same-later x)
-connections-stay s e (Reopened conn c commands) cause n x is = (x, is, same-later x)
+connections-stay s e effect cause n x is = (x, is, same-later x)
 
 -- a connection stays its user's
 pub connection-stays : (s : State) (e : Event) (n : ℕ) (x : Connection)

@@ -15,15 +15,16 @@ use Rattle.dp_messages.specs.declared.message.Entry.{Entry}
 use Rattle.dp_acl.specs.LookBack.{lists, joined, is_join_of}
 use Rattle.dp_acl.specs.Permitted.{permitted}
 use Rattle.dp_acl.specs.Opening.{last_join}
+use Rattle.dp_epochs.specs.declared.effect.Effect.{Effect}
+use Rattle.dp_epochs.specs.declared.effect.Effect.TheVariants.{Placed, Filtered, Joined, Left}
+use Rattle.dp_epochs.specs.declared.effect.Effect.TheVariants.{Dropped, Reopened}
 use Rattle.dp_epochs.specs.declared.event.Event.{Event}
 use Rattle.dp_epochs.specs.declared.event.Event.TheVariants as event
 use Rattle.dp_epochs.specs.declared.event.Reply.TheVariants as reply
 use Rattle.dp_epochs.specs.State.{State, acted, stays, noted, after_event, epoch_of, entry_of}
 use Rattle.dp_epochs.specs.State.{is_name, is_present, free_id, user_ids, present_users, opened_as}
-use Rattle.dp_epochs.specs.State.{next_owner, owner_on_join}
-use Rattle.dp_epochs.specs.Effects.{Effect, Nothing, TakesUp, Placed, Filtered, Joined, Left}
-use Rattle.dp_epochs.specs.Effects.{Began, Added, Dropped, Reopened, entries_of, live_after}
-use Rattle.dp_epochs.specs.Effects.{IsEffect}
+use Rattle.dp_epochs.specs.State.{next_owner, owner_on_join, sent_commands}
+use Rattle.dp_epochs.specs.Effects.{own_message, entries_of, live_after, IsEffect}
 use Rattle.dp_epochs.proofs.OpeningLemmas.{present-rise, opening-joins}
 use Rattle.dp_epochs.proofs.EffectLemmas.{has-effect}
 
@@ -102,33 +103,35 @@ module _ (user : ℕ) where
   -- a present user's last Join is as before
   effect-join : (s : State) (e : Event) (effect : Effect) → IsEffect s e effect
       → lists (present_users s) user ≡ true
-      → last_join (live_after s effect) user ≡ last_join s.live user
-  effect-join s e (Nothing answer) cause present = last-more s.live [] refl
-  effect-join s e (TakesUp conn c) cause present = last-more s.live [] refl
-  effect-join s e (Placed conn c m) cause present =
+      → last_join (live_after s e effect) user ≡ last_join s.live user
+  effect-join s e (Placed conn c) cause present =
+      let m = own_message e in
       last-more s.live (entry_of c.user m ∷ [])
       (ap (λ o. cond (is_some o && (c.user == user)) (entry_of c.user m ∷ []) [])
       (permitted-none s.live c.user m cause.2))
-  effect-join s e (Filtered conn c m) cause present =
-      last-more s.live (entries_of (Filtered conn c m)) refl
-  effect-join s e (Joined newer registered name next) cause present =
+  effect-join s e (Filtered conn c) cause present =
+      last-more s.live (entries_of e (Filtered conn c)) refl
+  effect-join s e (Joined newer next) cause present =
       let here = listed-passes (is_present s) user user_ids present in
       let absent = find-passes (λ id. not (is_present s id)) user_ids newer cause.free in
       let differ : (newer ≡ user → ⊥) = λ same. not_both (is_present s user) here
       (subst (λ k. not (is_present s k) ≡ true) same absent) in
-      last-more s.live (entries_of (Joined newer registered name next))
-      (cond-false (newer == user) (entry_of newer (msg.Meta (meta.Join registered name))
+      let join : joined (own_message e) ≡ Some cause.registered =
+      ap (λ x. joined (own_message x)) cause.came in
+      last-more s.live (entries_of e (Joined newer next))
+      (ap (λ o. cond (is_some o && newer == user) (entry_of newer (own_message e)
+      ∷ mine (next_owner next)) (mine (next_owner next))) join
+      ∙ cond-false (newer == user) (entry_of newer (own_message e)
       ∷ mine (next_owner next)) (mine (next_owner next)) (ne_eqb newer user differ)
       ∙ owner-none next)
   effect-join s e (Left conn c next) cause present =
-      last-more s.live (entries_of (Left conn c next)) (owner-none next)
-  effect-join s e (Began conn c) cause present = last-more s.live [] refl
-  effect-join s e (Added conn c stream command) cause present = last-more s.live [] refl
-  effect-join s e (Dropped conn c command) cause present =
-      last-more s.live (entries_of (Dropped conn c command)) refl
-  effect-join s e (Reopened conn c commands) cause present =
-      opening-joins s.live user (epoch_of s + 1) (present_users s) commands [] (present-rise s) present
-      refl
+      last-more s.live (entries_of e (Left conn c next)) (owner-none next)
+  effect-join s e (Dropped conn c) cause present =
+      last-more s.live (entries_of e (Dropped conn c)) refl
+  effect-join s e (Reopened conn c) cause present =
+      opening-joins s.live user (epoch_of s + 1) (present_users s) (sent_commands s.stream) []
+      (present-rise s) present refl
+  effect-join s e effect cause present = last-more s.live [] refl
 
   pub join-stays : (s : State) (e : Event) → lists (present_users s) user ≡ true
       → last_join (after_event s e).live user ≡ last_join s.live user

@@ -6,10 +6,13 @@ use Rattle.std.proofs.Common.{refl, sym, ap, subst, ◌∙◌, ⊎_elim, arith}
 use Rattle.std.proofs.Common.{length-append}
 use Rattle.std.specs.Prelude.{slice_index_or}
 use Rattle.std.specs.List.{filter, sum_by}
-use Rattle.std.specs.Option.{option_map_or}
+use Rattle.std.specs.Option.{option_map, option_map_or}
 use Rattle.std.specs.declared.alloc.AllocError.{AllocError}
 use Rattle.dp_epochs.specs.declared.connection.Connection.{Connection}
 use Rattle.dp_epochs.specs.declared.connection.Ending.TheVariants as ending
+use Rattle.dp_epochs.specs.declared.effect.Effect.{Effect}
+use Rattle.dp_epochs.specs.declared.effect.Effect.TheVariants.{Placed, Filtered, Joined, Left}
+use Rattle.dp_epochs.specs.declared.effect.Effect.TheVariants.{Began, Added, Dropped, Reopened}
 use Rattle.dp_epochs.specs.declared.event.Event.{Event}
 use Rattle.dp_epochs.specs.declared.event.Event.TheVariants as event
 use Rattle.dp_epochs.specs.declared.event.Reply.{Reply}
@@ -19,6 +22,7 @@ use Rattle.std.proofs.lemmas.List.{get_or_past}
 use Rattle.dp_msg_meta.specs.declared.message.Meta.TheVariants as meta
 use Rattle.dp_messages.specs.declared.message.Msg.{Msg}
 use Rattle.dp_messages.specs.declared.message.Msg.TheVariants as msg
+use Rattle.dp_msg_draw.specs.declared.draw.Draw.{Draw}
 use Rattle.dp_messages.specs.declared.message.Entry.{Entry}
 use Rattle.dp_messages.specs.Properties.{marked}
 use Rattle.dp_acl.specs.Permitted.{permitted}
@@ -26,10 +30,10 @@ use Rattle.dp_acl.specs.Opening.{part_limit, opening_limit, opening}
 use Rattle.dp_epochs.specs.State.{State, Stream, first_state, acted, noted, after_event, epoch_of}
 use Rattle.dp_epochs.specs.State.{histories, history_of, open_connection, with_connection}
 use Rattle.dp_epochs.specs.State.{after_shut, next_owner, stream_without, present_users}
-use Rattle.dp_epochs.specs.State.{part_bytes, reset_byte_limit}
-use Rattle.dp_epochs.specs.Effects.{Effect, Nothing, TakesUp, Placed, Filtered, Joined, Left}
-use Rattle.dp_epochs.specs.Effects.{Began, Added, Dropped, Reopened, made, entries_of, ended_after}
-use Rattle.dp_epochs.specs.Effects.{live_after, IsEffect}
+use Rattle.dp_epochs.specs.State.{part_bytes, reset_byte_limit, fits_reset, with_part}
+use Rattle.dp_epochs.specs.State.{sent_commands}
+use Rattle.dp_epochs.specs.Effects.{own_message, made, entries_of, ended_after, live_after}
+use Rattle.dp_epochs.specs.Effects.{IsEffect}
 use Rattle.dp_epochs.specs.Past.{Past, LogItem, Journalled, RefusedClose, shut_at, interleaved}
 use Rattle.dp_epochs.specs.Past.{after_item, state_after, state_of}
 use Rattle.dp_epochs.specs.Past.{Serves, Step, refused, kept, shut_with, sure_step}
@@ -40,7 +44,7 @@ use Rattle.dp_epochs.specs.Laws.{shut_by, HasNoMark, IsHistory, AreHistories}
 use Rattle.dp_epochs.proofs.Interleaving.{state-came, state-shut}
 use Rattle.dp_epochs.proofs.OpeningLemmas.{opening-short, present-few, opening-marked}
 use Rattle.dp_epochs.proofs.OpeningLemmas.{unmarked-append}
-use Rattle.dp_epochs.proofs.EffectLemmas.{has-effect, entries-few, history-goes_on, reset-sends}
+use Rattle.dp_epochs.proofs.EffectLemmas.{has-effect, entries-few, history-goes_on}
 
 -- ---- answers
 
@@ -167,42 +171,48 @@ without-short conn None h = tt
 without-short conn (Some stream) h =
     cond_both (stream.owner == conn) None (Some stream) IsShortStream (λ yes. tt) (λ no. h)
 
-short-effect : (s : State) (e : Event) (effect : Effect) → IsEffect s e effect → (n : ℕ)
-    → IsShort s n → IsShort (noted s (made s effect)) (suc n)
-short-effect s e (Nothing answer) cause n h =
-    short-grown s n h (noted s (made s (Nothing answer))) [] refl refl (omega arith) h.stream
-short-effect s e (TakesUp conn c) cause n h =
-    short-grown s n h (noted s (made s (TakesUp conn c))) [] refl refl (omega arith) h.stream
-short-effect s e (Placed conn c m) cause n h =
-    short-grown s n h (noted s (made s (Placed conn c m))) (entries_of (Placed conn c m)) refl refl
-    (omega arith) h.stream
-short-effect s e (Filtered conn c m) cause n h =
-    short-grown s n h (noted s (made s (Filtered conn c m))) (entries_of (Filtered conn c m)) refl
-    refl (omega arith) h.stream
-short-effect s e (Joined user registered name next) cause n h =
-    short-grown s n h (noted s (made s (Joined user registered name next)))
-    (entries_of (Joined user registered name next)) refl refl
-    (entries-few (Joined user registered name next)) h.stream
-short-effect s e (Left conn c next) cause n h =
-    short-grown s n h (noted s (made s (Left conn c next))) (entries_of (Left conn c next)) refl
-    refl (entries-few (Left conn c next)) (without-short conn s.stream h.stream)
-short-effect s e (Began conn c) cause n h =
-    short-grown s n h (noted s (made s (Began conn c))) [] refl refl (omega arith) (omega arith)
-short-effect s e (Added conn c stream command) cause n h =
+added-short : (command : Draw) (o : Option Stream) (stream : Stream) → o ≡ Some stream
+    → fits_reset stream.commands command ≡ true
+    → IsShortStream (option_map (with_part (msg.Part command)) o)
+added-short command None stream is fits = tt
+added-short command (Some sent) stream is fits =
+    let same : sent ≡ stream = cc in
     let room : length stream.commands < part_limit =
     ltb-true (length stream.commands) part_limit
     (and_parts (nat_lt (length stream.commands) part_limit)
-    (nat_le (sum_by part_bytes stream.commands + part_bytes command) reset_byte_limit) cause.3).0 in
-    short-grown s n h (noted s (made s (Added conn c stream command))) [] refl refl (omega arith)
-    (omega (arith, room, length-append stream.commands (command ∷ [])))
-short-effect s e (Dropped conn c command) cause n h =
-    short-grown s n h (noted s (made s (Dropped conn c command)))
-    (entries_of (Dropped conn c command)) refl refl (omega arith) tt
-short-effect s e (Reopened conn c commands) cause n h =
-    let sends = reset-sends s conn c commands cause.1 in
-    let few : length sends.stream.commands ≤ part_limit = subst IsShortStream sends.is h.stream in
+    (nat_le (sum_by part_bytes stream.commands + part_bytes command) reset_byte_limit) fits).0 in
+    omega (
+      arith,
+      room,
+      ap (λ x. length x.commands) same,
+      length-append sent.commands (command ∷ []),
+    )
+
+sent-short : (o : Option Stream) → IsShortStream o → length (sent_commands o) ≤ part_limit
+sent-short None h = omega arith
+sent-short (Some stream) h = h
+
+short-effect : (s : State) (e : Event) (effect : Effect) → IsEffect s e effect → (n : ℕ)
+    → IsShort s n → IsShort (noted s (made s e effect)) (suc n)
+short-effect s e (Joined user next) cause n h =
+    short-grown s n h (noted s (made s e (Joined user next))) (entries_of e (Joined user next)) refl
+    refl (entries-few e (Joined user next)) h.stream
+short-effect s e (Left conn c next) cause n h =
+    short-grown s n h (noted s (made s e (Left conn c next))) (entries_of e (Left conn c next)) refl
+    refl (entries-few e (Left conn c next)) (without-short conn s.stream h.stream)
+short-effect s e (Began conn c) cause n h =
+    short-grown s n h (noted s (made s e (Began conn c))) [] refl refl (omega arith) (omega arith)
+short-effect s e (Added conn c) cause n h =
+    short-grown s n h (noted s (made s e (Added conn c))) [] refl refl (omega arith)
+    (subst (λ m. IsShortStream (option_map (with_part m) s.stream)) (sym cause.1.is)
+    (added-short cause.0 s.stream cause.2.stream cause.2.sent cause.2.fits))
+short-effect s e (Dropped conn c) cause n h =
+    short-grown s n h (noted s (made s e (Dropped conn c))) (entries_of e (Dropped conn c)) refl
+    refl (omega arith) tt
+short-effect s e (Reopened conn c) cause n h =
+    let commands = sent_commands s.stream in
     let short = opening-short (epoch_of s + 1) s.live (present_users s) commands [] (present-few s)
-    (omega (arith, few, ap length sends.same)) in
+    (sent-short s.stream h.stream) in
     record {
       ended = All-push (λ (history : List Entry). length history ≤ 2 * suc n + opening_limit)
           s.ended s.live (ended-short s n h) (omega (arith, h.live));
@@ -210,6 +220,9 @@ short-effect s e (Reopened conn c commands) cause n h =
       stream = tt;
       epoch = omega (arith, length-append s.ended (s.live ∷ []), h.epoch);
     }
+short-effect s e effect cause n h =
+    short-grown s n h (noted s (made s e effect)) (entries_of e effect) refl refl
+    (entries-few e effect) h.stream
 
 event-short : (s : State) (e : Event) (n : ℕ) → IsShort s n → IsShort (after_event s e) (suc n)
 event-short s e n h =
@@ -266,7 +279,7 @@ short-history past epoch =
 epoch-effect : (s : State) (effect : Effect)
     → (length s.ended ≤ length (ended_after s effect))
     × (length (ended_after s effect) ≤ length s.ended + 1)
-epoch-effect s (Reopened conn c commands) = (
+epoch-effect s (Reopened conn c) = (
   omega (arith, length-append s.ended (s.live ∷ [])),
   omega (arith, length-append s.ended (s.live ∷ [])),
 )
@@ -292,18 +305,15 @@ unmarked-owner (Some user) = (refl, tt)
 
 -- no entry that an event places after the live history is a mark
 entries-unmarked : (s : State) (e : Event) (effect : Effect) → IsEffect s e effect
-    → HasNoMark (entries_of effect)
-entries-unmarked s e (Nothing answer) cause = tt
-entries-unmarked s e (TakesUp conn c) cause = tt
-entries-unmarked s e (Placed conn c m) cause =
-    (unmarked-permitted s.live c.user m cause.2, tt)
-entries-unmarked s e (Filtered conn c m) cause = (refl, tt)
-entries-unmarked s e (Joined user registered name next) cause = (refl, unmarked-owner next)
+    → HasNoMark (entries_of e effect)
+entries-unmarked s e (Placed conn c) cause =
+    (unmarked-permitted s.live c.user (own_message e) cause.2, tt)
+entries-unmarked s e (Filtered conn c) cause = (refl, tt)
+entries-unmarked s e (Joined user next) cause =
+    (ap (λ x. marked (own_message x)) cause.came, unmarked-owner next)
 entries-unmarked s e (Left conn c next) cause = (refl, unmarked-owner next)
-entries-unmarked s e (Began conn c) cause = tt
-entries-unmarked s e (Added conn c stream command) cause = tt
-entries-unmarked s e (Dropped conn c command) cause = (refl, tt)
-entries-unmarked s e (Reopened conn c commands) cause = tt
+entries-unmarked s e (Dropped conn c) cause = (refl, tt)
+entries-unmarked s e effect cause = tt
 
 -- the histories are those of the epochs from this one on
 abbrev AreMarked : ℕ → List (List Entry) → Type 0
@@ -346,15 +356,16 @@ IsMarked s n = AreMarked 0 (histories s)
 
 marked-effect : (s : State) (e : Event) (effect : Effect) → IsEffect s e effect
     → AreMarked 0 (histories s)
-    → AreMarked 0 (ended_after s effect ++ live_after s effect ∷ [])
-marked-effect s e (Reopened conn c commands) cause h =
+    → AreMarked 0 (ended_after s effect ++ live_after s e effect ∷ [])
+marked-effect s e (Reopened conn c) cause h =
     marked-opened 0 (s.ended ++ s.live ∷ [])
-    (opening (epoch_of s + 1) s.live (present_users s) commands []) h
-    (subst (λ k. IsHistory k (opening (epoch_of s + 1) s.live (present_users s) commands []))
+    (opening (epoch_of s + 1) s.live (present_users s) (sent_commands s.stream) []) h
+    (subst (λ k. IsHistory k (opening (epoch_of s + 1) s.live (present_users s)
+    (sent_commands s.stream) []))
     (omega (arith, length-append s.ended (s.live ∷ [])))
-    (opening-marked (epoch_of s + 1) s.live (present_users s) commands [] tt))
+    (opening-marked (epoch_of s + 1) s.live (present_users s) (sent_commands s.stream) [] tt))
 marked-effect s e effect cause h =
-    marked-grown 0 s.ended s.live (entries_of effect) h (entries-unmarked s e effect cause)
+    marked-grown 0 s.ended s.live (entries_of e effect) h (entries-unmarked s e effect cause)
 
 event-marked : (s : State) (e : Event) (n : ℕ) → IsMarked s n → IsMarked (after_event s e) (suc n)
 event-marked s e n h =

@@ -1,5 +1,6 @@
 pub mod Interleaving
 pub mod OpeningLemmas
+pub mod OpenConnections
 pub mod EffectLemmas
 pub mod JoinLemmas
 pub mod LawLemmas

@@ -12,16 +12,17 @@ use Rattle.dp_msg_draw.specs.declared.draw.Draw.{Draw}
 use Rattle.dp_messages.specs.declared.message.Entry.{Entry}
 use Rattle.dp_epochs.specs.declared.connection.Connection.{Connection}
 use Rattle.dp_epochs.specs.declared.connection.Ending.TheVariants as ending
+use Rattle.dp_epochs.specs.declared.effect.Effect.{Effect}
+use Rattle.dp_epochs.specs.declared.effect.Effect.TheVariants.{Placed, Filtered, Joined, Left}
+use Rattle.dp_epochs.specs.declared.effect.Effect.TheVariants.{Dropped, Reopened}
 use Rattle.dp_epochs.specs.declared.event.Event.{Event}
 use Rattle.dp_acl.specs.Opening.{opening}
 use Rattle.dp_epochs.specs.State.{State, first_state, noted, after_event, after_shut, epoch_of}
 use Rattle.dp_epochs.specs.State.{history_of, open_connection, with_connection, next_owner}
-use Rattle.dp_epochs.specs.State.{present_users}
-use Rattle.dp_epochs.specs.Effects.{Effect, Nothing, TakesUp, Placed, Filtered, Joined, Left}
-use Rattle.dp_epochs.specs.Effects.{Began, Added, Dropped, Reopened, entries_of, ended_after}
-use Rattle.dp_epochs.specs.Effects.{live_after, IsEffect}
+use Rattle.dp_epochs.specs.State.{present_users, sent_commands}
+use Rattle.dp_epochs.specs.Effects.{own_message, entries_of, ended_after, live_after, IsEffect}
 use Rattle.dp_epochs.specs.Past.{Past, state_of}
-use Rattle.dp_epochs.specs.Laws.{IsAllowed, ArePermitted}
+use Rattle.dp_epochs.specs.Laws.{is_servers, IsAllowed, ArePermitted}
 use Rattle.dp_epochs.proofs.EffectLemmas.{has-effect}
 use Rattle.dp_epochs.proofs.LawLemmas.{past-holds}
 
@@ -109,28 +110,24 @@ owner-next live None = tt
 owner-next live (Some user) = (inl refl, tt)
 
 entries-next : (s : State) (e : Event) (effect : Effect) → IsEffect s e effect
-    → AreNext s.live (entries_of effect)
-entries-next s e (Nothing answer) cause = tt
-entries-next s e (TakesUp conn c) cause = tt
-entries-next s e (Placed conn c m) cause = (inr (inr cause.2), tt)
-entries-next s e (Filtered conn c m) cause = (inr (inl refl), tt)
-entries-next s e (Joined user registered name next) cause =
-    (inr (inl refl), owner-next _ next)
+    → AreNext s.live (entries_of e effect)
+entries-next s e (Placed conn c) cause = (inr (inr cause.2), tt)
+entries-next s e (Filtered conn c) cause = (inr (inl refl), tt)
+entries-next s e (Joined user next) cause =
+    (inr (inl (ap (λ x. is_servers (own_message x)) cause.came)), owner-next _ next)
 entries-next s e (Left conn c next) cause = (inr (inl refl), owner-next _ next)
-entries-next s e (Began conn c) cause = tt
-entries-next s e (Added conn c stream command) cause = tt
-entries-next s e (Dropped conn c command) cause = (inr (inl refl), tt)
-entries-next s e (Reopened conn c commands) cause = tt
+entries-next s e (Dropped conn c) cause = (inr (inl refl), tt)
+entries-next s e effect cause = tt
 
 permitted-effect : (s : State) (e : Event) (effect : Effect) → IsEffect s e effect
     → All ArePermitted s.ended × ArePermitted s.live
-    → All ArePermitted (ended_after s effect) × ArePermitted (live_after s effect)
-permitted-effect s e (Reopened conn c commands) cause h = (
+    → All ArePermitted (ended_after s effect) × ArePermitted (live_after s e effect)
+permitted-effect s e (Reopened conn c) cause h = (
   All-push ArePermitted s.ended s.live h.0 h.1,
-  opening-permitted (epoch_of s + 1) s.live (present_users s) commands [],
+  opening-permitted (epoch_of s + 1) s.live (present_users s) (sent_commands s.stream) [],
 )
 permitted-effect s e effect cause h =
-    (h.0, permitted-more s.live (entries_of effect) h.1 (entries-next s e effect cause))
+    (h.0, permitted-more s.live (entries_of e effect) h.1 (entries-next s e effect cause))
 
 -- ---- every history
 

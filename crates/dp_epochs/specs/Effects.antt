@@ -1,6 +1,7 @@
 -- What an event does to a session, by the kinds of outcome.
 use Rattle.std.specs.Prelude.{◌≡◌, ℕ, ◌+◌, ◌-◌, Bool, true, false, Option, None, Some}
 use Rattle.std.specs.Prelude.{IfSome, List, [], ◌∷◌, ◌++◌, length, slice_set}
+use Rattle.std.specs.Option.{option_map}
 use Rattle.dp_msg_draw.specs.declared.draw.Draw.{Draw}
 use Rattle.dp_msg_meta.specs.declared.message.Control.TheVariants.{ResetBegin, ResetEnd}
 use Rattle.dp_msg_meta.specs.declared.message.Meta.TheVariants.{Join, Leave}
@@ -10,9 +11,14 @@ use Rattle.dp_messages.specs.declared.message.Entry.{Entry}
 use Rattle.dp_acl.specs.Rights.{is_operator}
 use Rattle.dp_acl.specs.Permitted.{permitted}
 use Rattle.dp_epochs.specs.declared.connection.Connection.{Connection}
+use Rattle.dp_epochs.specs.declared.connection.Place.{Place}
 use Rattle.dp_epochs.specs.declared.connection.Ending.TheVariants as ending
 use Rattle.dp_epochs.specs.declared.decision.Decision.{Decision}
 use Rattle.dp_epochs.specs.declared.decision.Decision.TheVariants as decision
+use Rattle.dp_epochs.specs.declared.effect.Effect.{Effect}
+use Rattle.dp_epochs.specs.declared.effect.Effect.TheVariants.{Nothing, TakesUp, Placed, Filtered}
+use Rattle.dp_epochs.specs.declared.effect.Effect.TheVariants.{Joined, Left, Began, Added, Dropped}
+use Rattle.dp_epochs.specs.declared.effect.Effect.TheVariants.{Reopened}
 use Rattle.dp_epochs.specs.declared.event.Event.{Event}
 use Rattle.dp_epochs.specs.declared.event.Event.TheVariants as event
 use Rattle.dp_epochs.specs.declared.event.Reply.{Reply}
@@ -20,115 +26,94 @@ use Rattle.dp_epochs.specs.declared.event.Reply.TheVariants as reply
 use Rattle.dp_epochs.specs.State.{State, Stream, Acted, epoch_of, here, entry_of, filtered_entry}
 use Rattle.dp_epochs.specs.Connections.{is_open}
 use Rattle.dp_epochs.specs.State.{connection_of, open_connection, has_acknowledged}
-use Rattle.dp_epochs.specs.State.{is_name, free_id, new_connection, next_owner, owner_on_join}
+use Rattle.dp_epochs.specs.State.{is_name, free_id, next_owner, owner_on_join}
 use Rattle.dp_epochs.specs.State.{left, owner_on_leave, stream_without, decided, acted}
-use Rattle.dp_epochs.specs.State.{first_stream, with_command, fits_reset, reset_of, present_users}
-use Rattle.dp_epochs.specs.State.{after_event}
+use Rattle.dp_epochs.specs.State.{first_stream, with_part, fits_reset, reset_of, present_users}
+use Rattle.dp_epochs.specs.State.{after_event, sent_commands}
 use Rattle.dp_acl.specs.Opening.{opening}
 
--- what becomes of an event
-pub data Effect : Type 0 where
-  -- it is answered so, and nothing else
-  Nothing : Reply → Effect
-  -- the connection of this number takes up the live epoch
-  TakesUp : ℕ → Connection → Effect
-  -- what the connection of this number says is placed
-  Placed : ℕ → Connection → Msg → Effect
-  -- Filtered is placed instead
-  Filtered : ℕ → Connection → Msg → Effect
-  -- the user joins, registered or not, by this name; one may become operator
-  Joined : ℕ → Bool → List ℕ → Option ℕ → Effect
-  -- the user of the connection of this number leaves; one may become operator
-  Left : ℕ → Connection → Option ℕ → Effect
-  -- the connection begins a reset
-  Began : ℕ → Connection → Effect
-  -- a command joins the reset that the connection sends
-  Added : ℕ → Connection → Stream → Draw → Effect
-  -- a command passes the limits of the reset, which is dropped; Filtered is placed instead
-  Dropped : ℕ → Connection → Draw → Effect
-  -- the reset that the connection sends ends: the next epoch opens with these commands
-  Reopened : ℕ → Connection → List Draw → Effect
+-- the message of the event's own entry: a user's Join, what is said, or the Leave
+abbrev pub own_message : Event → Msg
+own_message (event.Open name registered) = msg.Meta (Join registered name)
+own_message (event.Say conn m) = m
+own_message (event.Close conn) = msg.Meta Leave
 
 -- ---- what it makes of a state
 
--- the entries that it places after the live history
-abbrev pub entries_of : Effect → List Entry
-entries_of (Nothing answer) = []
-entries_of (TakesUp conn connection) = []
-entries_of (Placed conn connection m) = entry_of connection.user m ∷ []
-entries_of (Filtered conn connection m) = filtered_entry connection.user m ∷ []
-entries_of (Joined user registered name next) =
-    entry_of user (msg.Meta (Join registered name)) ∷ next_owner next
-entries_of (Left conn connection next) =
+-- the entries that the event places after the live history by its effect
+abbrev pub entries_of : Event → Effect → List Entry
+entries_of e (Placed conn connection) = entry_of connection.user (own_message e) ∷ []
+entries_of e (Filtered conn connection) = filtered_entry connection.user (own_message e) ∷ []
+entries_of e (Joined user next) = entry_of user (own_message e) ∷ next_owner next
+entries_of e (Left conn connection next) =
     entry_of connection.user (msg.Meta Leave) ∷ next_owner next
-entries_of (Began conn connection) = []
-entries_of (Added conn connection stream command) = []
-entries_of (Dropped conn connection command) =
-    filtered_entry connection.user (msg.Part command) ∷ []
-entries_of (Reopened conn connection commands) = []
+entries_of e (Dropped conn connection) = filtered_entry connection.user (own_message e) ∷ []
+entries_of e other = []
 
 -- the histories of the epochs before the live one after it
 abbrev pub ended_after : State → Effect → List (List Entry)
-ended_after s (Reopened conn connection commands) = s.ended ++ s.live ∷ []
+ended_after s (Reopened conn connection) = s.ended ++ s.live ∷ []
 ended_after s other = s.ended
 
 -- the live history after it
-abbrev pub live_after : State → Effect → List Entry
-live_after s (Reopened conn connection commands) =
-    opening (epoch_of s + 1) s.live (present_users s) commands []
-live_after s other = s.live ++ entries_of other
+abbrev pub live_after : State → Event → Effect → List Entry
+live_after s e (Reopened conn connection) =
+    opening (epoch_of s + 1) s.live (present_users s) (sent_commands s.stream) []
+live_after s e other = s.live ++ entries_of e other
 
--- the connections after it: at most one is added, or changed
+-- the connections after it, where the next entry would stand at this place: at most one is added,
+-- or changed
+abbrev pub connections_at : Place → List Connection → Effect → List Connection
+connections_at place connections (TakesUp conn connection) =
+    slice_set connections (conn - 1) (record connection { acknowledged = place.epoch })
+connections_at place connections (Joined user next) =
+    connections ++ record {
+      user = user;
+      acknowledged = place.epoch;
+      joined = place;
+      ending = ending.Running;
+    } ∷ []
+connections_at place connections (Left conn connection next) =
+    slice_set connections (conn - 1) (record connection { ending = ending.Left place })
+connections_at place connections other = connections
+
 abbrev pub connections_after : State → Effect → List Connection
-connections_after s (Nothing answer) = s.connections
-connections_after s (TakesUp conn connection) =
-    slice_set s.connections (conn - 1) (record connection { acknowledged = epoch_of s })
-connections_after s (Placed conn connection m) = s.connections
-connections_after s (Filtered conn connection m) = s.connections
-connections_after s (Joined user registered name next) =
-    s.connections ++ new_connection s user ∷ []
-connections_after s (Left conn connection next) =
-    slice_set s.connections (conn - 1) (record connection { ending = ending.Left (here s) })
-connections_after s (Began conn connection) = s.connections
-connections_after s (Added conn connection stream command) = s.connections
-connections_after s (Dropped conn connection command) = s.connections
-connections_after s (Reopened conn connection commands) = s.connections
+connections_after s effect = connections_at (here s) s.connections effect
 
 -- the stream after it
-abbrev pub stream_after : Option Stream → Effect → Option Stream
-stream_after stream (Nothing answer) = stream
-stream_after stream (TakesUp conn connection) = stream
-stream_after stream (Placed conn connection m) = stream
-stream_after stream (Filtered conn connection m) = stream
-stream_after stream (Joined user registered name next) = stream
-stream_after stream (Left conn connection next) = stream_without conn stream
-stream_after stream (Began conn connection) = Some (first_stream conn)
-stream_after stream (Added conn connection before command) = Some (with_command command before)
-stream_after stream (Dropped conn connection command) = None
-stream_after stream (Reopened conn connection commands) = None
+abbrev pub stream_after : Event → Option Stream → Effect → Option Stream
+stream_after e stream (Left conn connection next) = stream_without conn stream
+stream_after e stream (Began conn connection) = Some (first_stream conn)
+stream_after e stream (Added conn connection) = option_map (with_part (own_message e)) stream
+stream_after e stream (Dropped conn connection) = None
+stream_after e stream (Reopened conn connection) = None
+stream_after e stream other = stream
 
--- what is answered
+-- what is answered, where the next entry would stand at this place and so many connections were
+-- given out
+abbrev pub answer_at : Place → ℕ → Effect → Reply
+answer_at place given (Nothing answer) = answer
+answer_at place given (TakesUp conn connection) = reply.Noted
+answer_at place given (Placed conn connection) = reply.Placed place.epoch place.index
+answer_at place given (Filtered conn connection) = reply.Filtered place.epoch place.index
+answer_at place given (Joined user next) = reply.Opened (given + 1) user place.epoch place.index
+answer_at place given (Left conn connection next) = reply.Placed place.epoch place.index
+answer_at place given (Began conn connection) = reply.Noted
+answer_at place given (Added conn connection) = reply.Noted
+answer_at place given (Dropped conn connection) = reply.Filtered place.epoch place.index
+answer_at place given (Reopened conn connection) = reply.Placed (place.epoch + 1) 0
+
 abbrev pub answer_of : State → Effect → Reply
-answer_of s (Nothing answer) = answer
-answer_of s (TakesUp conn connection) = reply.Noted
-answer_of s (Placed conn connection m) = reply.Placed (epoch_of s) (length s.live)
-answer_of s (Filtered conn connection m) = reply.Filtered (epoch_of s) (length s.live)
-answer_of s (Joined user registered name next) =
-    reply.Opened (length s.connections + 1) user (epoch_of s) (length s.live)
-answer_of s (Left conn connection next) = reply.Placed (epoch_of s) (length s.live)
-answer_of s (Began conn connection) = reply.Noted
-answer_of s (Added conn connection stream command) = reply.Noted
-answer_of s (Dropped conn connection command) = reply.Filtered (epoch_of s) (length s.live)
-answer_of s (Reopened conn connection commands) = reply.Placed (epoch_of s + 1) 0
+answer_of s effect = answer_at (here s) (length s.connections) effect
 
--- the state after it, and the answer
-abbrev pub made : State → Effect → Acted
-made s effect = record {
+-- the state after the event by its effect, and the answer
+abbrev pub made : State → Event → Effect → Acted
+made s e effect = record {
   state = record s {
     ended = ended_after s effect;
-    live = live_after s effect;
+    live = live_after s e effect;
     connections = connections_after s effect;
-    stream = stream_after s.stream effect;
+    stream = stream_after e s.stream effect;
   };
   reply = answer_of s effect;
 }
@@ -166,23 +151,32 @@ pub record IsOpenAt (s : State) (conn : ℕ) (connection : Connection) : Type 0 
   pub found : open_connection s conn ≡ Some connection
 
 -- the event is a message of this connection, of which that becomes
-pub record IsSaid (s : State) (e : Event) (conn : ℕ) (connection : Connection) (m : Msg)
-    (d : Decision) : Type 0 where
-  pub came : e ≡ event.Say conn m
+pub record IsSaid (s : State) (e : Event) (conn : ℕ) (connection : Connection) (d : Decision)
+    : Type 0 where
+  pub came : e ≡ event.Say conn (own_message e)
   pub at : IsOpenAt s conn connection
-  pub decided : decided s conn connection m ≡ d
+  pub decided : decided s conn connection (own_message e) ≡ d
 
--- the event is a message about resets of this connection, which has taken up the live epoch and
+-- the event is this message about resets of this connection, which has taken up the live epoch and
 -- whose user is operator, and that becomes of it
 pub record IsReset (s : State) (e : Event) (conn : ℕ) (connection : Connection) (m : Msg)
     (d : Decision) : Type 0 where
-  pub said : IsSaid s e conn connection m d
+  pub said : IsSaid s e conn connection d
+  pub is : own_message e ≡ m
   pub acknowledged : has_acknowledged s connection ≡ true
   pub operator : is_operator s.live connection.user ≡ true
 
+-- the command is a part that fits the reset that the connection sends
+pub record FitsReset (s : State) (conn : ℕ) (command : Draw) : Type 0 where
+  pub stream : Stream
+  pub sent : s.stream ≡ Some stream
+  pub owner : stream.owner ≡ conn
+  pub fits : fits_reset stream.commands command ≡ true
+
 -- the user joins by this event, under the lowest id that no one holds
-pub record IsJoin (s : State) (e : Event) (user : ℕ) (registered : Bool) (name : List ℕ)
-    (next : Option ℕ) : Type 0 where
+pub record IsJoin (s : State) (e : Event) (user : ℕ) (next : Option ℕ) : Type 0 where
+  pub name : List ℕ
+  pub registered : Bool
   pub came : e ≡ event.Open name registered
   pub named : is_name name ≡ true
   pub free : free_id s ≡ Some user
@@ -200,53 +194,63 @@ pub record IsLeave (s : State) (e : Event) (conn : ℕ) (connection : Connection
 abbrev pub IsEffect : State → Event → Effect → Type 0
 IsEffect s e (Nothing answer) = IsStill s e answer
 IsEffect s e (TakesUp conn connection) =
-    (m : Msg)
-    × IsSaid s e conn connection m decision.Acknowledge
+    IsSaid s e conn connection decision.Acknowledge
     × (has_acknowledged s connection ≡ false)
-IsEffect s e (Placed conn connection m) =
-    IsSaid s e conn connection m decision.Place
+IsEffect s e (Placed conn connection) =
+    IsSaid s e conn connection decision.Place
     × (has_acknowledged s connection ≡ true)
-    × (permitted s.live connection.user m ≡ true)
-IsEffect s e (Filtered conn connection m) =
-    IsSaid s e conn connection m decision.Filter
+    × (permitted s.live connection.user (own_message e) ≡ true)
+IsEffect s e (Filtered conn connection) =
+    IsSaid s e conn connection decision.Filter
     × (has_acknowledged s connection ≡ true)
-IsEffect s e (Joined user registered name next) = IsJoin s e user registered name next
+IsEffect s e (Joined user next) = IsJoin s e user next
 IsEffect s e (Left conn connection next) = IsLeave s e conn connection next
 IsEffect s e (Began conn connection) =
     IsReset s e conn connection (msg.Control ResetBegin) decision.BeginReset
-IsEffect s e (Added conn connection stream command) =
-    IsReset s e conn connection (msg.Part command) decision.AddPart
-    × (s.stream ≡ Some stream)
-    × (stream.owner ≡ conn)
-    × (fits_reset stream.commands command ≡ true)
-IsEffect s e (Dropped conn connection command) =
-    IsReset s e conn connection (msg.Part command) decision.DropReset
-IsEffect s e (Reopened conn connection commands) =
-    IsReset s e conn connection (msg.Control ResetEnd) decision.OpenEpoch
+IsEffect s e (Added conn connection) =
+    (command : Draw)
+    × IsReset s e conn connection (msg.Part command) decision.AddPart
+    × FitsReset s conn command
+IsEffect s e (Dropped conn connection) =
+    (command : Draw)
+    × IsReset s e conn connection (msg.Part command) decision.DropReset
+IsEffect s e (Reopened conn connection) =
+    (commands : List Draw)
+    × IsReset s e conn connection (msg.Control ResetEnd) decision.OpenEpoch
     × (reset_of s conn connection ≡ Some commands)
+
+-- the effect of a message of the connection of which that becomes
+abbrev pub effect_by : ℕ → Connection → Decision → Effect
+effect_by conn connection decision.Ignore = Nothing reply.Ignored
+effect_by conn connection decision.Acknowledge = TakesUp conn connection
+effect_by conn connection decision.Place = Placed conn connection
+effect_by conn connection decision.Filter = Filtered conn connection
+effect_by conn connection decision.BeginReset = Began conn connection
+effect_by conn connection decision.AddPart = Added conn connection
+effect_by conn connection decision.DropReset = Dropped conn connection
+effect_by conn connection decision.OpenEpoch = Reopened conn connection
+
+-- a message of an open connection has the effect that the decision on it says
+abbrev pub DecisionsHaveEffects : Type 0
+DecisionsHaveEffects =
+    (s : State) (conn : ℕ) (connection : Connection) (m : Msg)
+    → open_connection s conn ≡ Some connection
+    → IsEffect s (event.Say conn m) (effect_by conn connection (decided s conn connection m))
 
 -- what was made of the state by the event is one of these effects
 pub record HasEffect (s : State) (e : Event) (a : Acted) : Type 0 where
   pub effect : Effect
   pub cause : IsEffect s e effect
-  pub made : a ≡ made s effect
+  pub made : a ≡ made s e effect
 
 -- what an event does is one of the effects
 abbrev pub EventsHaveEffects : Type 0
 EventsHaveEffects = (s : State) (e : Event) → HasEffect s e (acted s e)
 
--- a message that joins a reset is a part, and fits the reset that is being sent
-pub record IsFittingPart (s : State) (m : Msg) : Type 0 where
-  pub command : Draw
-  pub stream : Stream
-  pub part : m ≡ msg.Part command
-  pub sent : s.stream ≡ Some stream
-  pub fits : fits_reset stream.commands command ≡ true
-
-abbrev pub PartsFit : Type 0
-PartsFit =
-    (s : State) (conn : ℕ) (connection : Connection) (m : Msg)
-    → decided s conn connection m ≡ decision.AddPart → IsFittingPart s m
+-- an effect that has its cause is what the event does
+abbrev pub EffectsAreMade : Type 0
+EffectsAreMade =
+    (s : State) (e : Event) (effect : Effect) → IsEffect s e effect → acted s e ≡ made s e effect
 
 -- ---- connections
 

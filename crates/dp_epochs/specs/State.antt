@@ -304,8 +304,8 @@ part_decided command None = decision.Filter
 part_decided command (Some commands) =
     if fits_reset commands command then decision.AddPart else decision.DropReset
 
--- What becomes of a message of a connection that has taken up the live epoch. No reset keeps entries
--- so far, so a ResetFrom isn't permitted.
+-- What becomes of a message of a connection that has taken up the live epoch. No reset keeps
+-- entries so far, so a ResetFrom isn't permitted.
 abbrev pub heard : State → ℕ → Connection → Msg → Decision
 heard s conn connection (msg.Control ResetBegin) =
     if may_begin s conn connection then decision.BeginReset else decision.Filter

@@ -1,8 +1,11 @@
 //! What comes to a session, and what it answers.
 
+ghost use Rattle.std.specs.Prelude.{◌≡◌, IfOk};
+
 use dp_frame::Octets;
 use dp_lists::Listed;
 use dp_messages::{Entry, Msg};
+use std::alloc::AllocError;
 
 /// What comes to a session.
 #[derive(Debug, Drop)]
@@ -13,6 +16,25 @@ pub enum Event {
     Say { conn: u32, msg: Msg },
     /// A connection ends.
     Close { conn: u32 },
+}
+
+impl Event {
+    /// An equal event.
+    pub fn copy(&self) -> Result<Event, AllocError>
+        ensures { IfOk result (λ event. event ≡ self.now) }
+    {
+        Ok(match self {
+            Event::Open { name, registered } => Event::Open {
+                name: name.copy()?,
+                registered: *registered,
+            },
+            Event::Say { conn, msg } => Event::Say {
+                conn: *conn,
+                msg: msg.copy()?,
+            },
+            Event::Close { conn } => Event::Close { conn: *conn },
+        })
+    }
 }
 
 /// What a session answers to an event.

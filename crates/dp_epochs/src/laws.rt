@@ -16,7 +16,8 @@ ghost use Rattle.dp_acl.specs.Opening.{opening, last_join, part_limit, opening_l
 ghost use Rattle.dp_epochs.specs.Past.{Past, state_after, state_of, kept, refused, sure_step};
 ghost use Rattle.dp_epochs.specs.State.{State, after_event, epoch_of, history_of, present_users};
 ghost use Rattle.dp_epochs.specs.State.{entry_of, free_id, is_name};
-ghost use Rattle.dp_epochs.specs.Effects.{EventsHaveEffects, ConnectionsStay, PartsFit};
+ghost use Rattle.dp_epochs.specs.Effects.{EventsHaveEffects, EffectsAreMade};
+ghost use Rattle.dp_epochs.specs.Effects.{DecisionsHaveEffects, ConnectionsStay};
 ghost use Rattle.dp_epochs.specs.Laws.{Continues, LoggedStep, IsRun, AreFaults, ShutBefore};
 ghost use Rattle.dp_epochs.specs.Laws.{shut_by};
 ghost use Rattle.dp_epochs.specs.Laws.{HasNoMark, IsHistory, AreHistories, ArePermitted};
@@ -32,9 +33,14 @@ pub fn events_have_effects()
     ensures { EventsHaveEffects }
 {}
 
-/// What joins a reset is a part, and fits the reset that is being sent.
-pub fn parts_fit()
-    ensures { PartsFit }
+/// An effect that has its cause is what the event does.
+pub fn effects_are_made()
+    ensures { EffectsAreMade }
+{}
+
+/// A message of an open connection has the effect that the decision on it says.
+pub fn decisions_have_effects()
+    ensures { DecisionsHaveEffects }
 {}
 
 /// The history of each epoch only grows: what stands in it stands there after one more event.
@@ -88,14 +94,14 @@ pub fn histories_are_marked()
     ensures { (past : Past) → AreHistories (state_of past) }
 {}
 
-/// In the history of each epoch every entry after those with which it opened is the server's, or its
-/// user was permitted to send its message by the entries before it.
+/// In the history of each epoch every entry after those with which it opened is the server's, or
+/// its user was permitted to send its message by the entries before it.
 pub fn histories_are_permitted()
     ensures { (past : Past) (epoch : ℕ) → ArePermitted (history_of (state_of past) epoch) }
 {}
 
-/// How an epoch opens: with the mark of its number, after which no other stands, where none is kept.
-/// Who is present has joined last as before, where no Join of the user is kept.
+/// How an epoch opens: with the mark of its number, after which no other stands, where none is
+/// kept. Who is present has joined last as before, where no Join of the user is kept.
 pub fn openings()
     ensures marked { (epoch : ℕ) (history : List Entry) (present : List ℕ) (commands : List Draw)
         (kept : List Entry) → HasNoMark kept

@@ -91,6 +91,11 @@ list_any-filter p q (x ∷ xs) =
 
 -- ---- the ids of users
 
+-- they are the numbers from 1 on, 254 of them
+pub user_ids-are : (n : ℕ) → n ≡ 254 → range_with_len 1 n ≡ user_ids
+unfolding user_ids
+user_ids-are n count = ap (range_with_len 1) count
+
 -- the first id that passes is found
 pub find_user-first : (p : ℕ → Bool) (k : ℕ) → 1 ≤ k → k < 255 → p k ≡ true
     → ((j : ℕ) → 1 ≤ j → j < k → p j ≡ false) → find p user_ids ≡ Some k

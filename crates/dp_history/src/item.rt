@@ -74,23 +74,36 @@ fn command(journal: &[Event], event: u32) -> Result<Entry, AllocError>
     }
 }
 
-/// The user's Join by the Open that the event is.
+/// The user's Join by the event, if it is an Open with a name.
+pub fn join_entry(alloc: Global, event: &Event, user: u8) -> Result<Option<Entry>, AllocError>
+    ensures { IfOk result (λ entry. entry ≡ join_of user (Some event.now)) }
+{
+    let Event::Open { name, registered } = event else {
+        return Ok(None);
+    };
+    Ok(match name_text(alloc, name.as_slice())? {
+        Some(name) => Some(Entry {
+            user,
+            msg: Msg::Meta(Meta::Join {
+                registered: *registered,
+                name,
+            }),
+        }),
+        None => None,
+    })
+}
+
+/// The user's Join by the Open that is this event of the journal.
 fn join(alloc: Global, journal: &[Event], event: u32, user: u8) -> Result<Entry, AllocError>
     requires { is_some (join_of user (slice_get journal.now event)) ≡ true }
     ensures { IfOk result (λ entry. Some entry ≡ join_of user (slice_get journal.now event)) }
 {
     match journal.get(event as usize) {
-        Some(Event::Open { name, registered }) => match name_text(alloc, name.as_slice())? {
-            Some(name) => Ok(Entry {
-                user,
-                msg: Msg::Meta(Meta::Join {
-                    registered: *registered,
-                    name,
-                }),
-            }),
+        Some(found) => match join_entry(alloc, found, user)? {
+            Some(entry) => Ok(entry),
             None => unreachable!(),
         },
-        _ => unreachable!(),
+        None => unreachable!(),
     }
 }
 

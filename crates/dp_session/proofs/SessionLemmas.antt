@@ -16,9 +16,9 @@ use Rattle.dp_epochs.specs.declared.event.Reply.TheVariants.{Ended, StoreFault}
 use Rattle.dp_epochs.specs.Rows.{has_room}
 use Rattle.dp_epochs.specs.Past.{Past, quiet_with, quieted, Accepts, FailsFirst, Refuses}
 use Rattle.dp_epochs.specs.Past.{Serves}
-use Rattle.dp_tables.specs.declared.plan.Ready.{Ready}
+use Rattle.dp_tables.specs.declared.ready.Ready.{Ready}
 use Rattle.dp_tables.specs.SessionLog.{SessionLog, state_in}
-use Rattle.dp_tables.specs.Plans.{IsReady}
+use Rattle.dp_tables.specs.Ready.{IsReady}
 use Rattle.dp_session.specs.Puts.{past_of, IsPut}
 
 -- ---- memory that was made ready
@@ -29,7 +29,13 @@ pub ready-later : (l m : SessionLog) (b : Bool) (e : Event) (ready : Ready)
     → IsReady l e ready → IsReady m e ready
 ready-later l m b e ready same is =
     subst (λ x. IsReady x e ready) (sym same)
-    (record { plan = is.plan; row = is.row; room = is.room })
+    (record {
+      event = is.event;
+      effect = is.effect;
+      supply = is.supply;
+      row = is.row;
+      room = is.room;
+    })
 
 -- so is what became of a row
 pub put-later : (l m n : SessionLog) (b : Bool) (e : Event) (r : Result Reply KeepError)

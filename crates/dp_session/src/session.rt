@@ -7,7 +7,7 @@ ghost use Rattle.dp_epochs.specs.Pull.{answered};
 ghost use Rattle.dp_epochs.specs.State.{next_open};
 ghost use Rattle.dp_epochs.specs.declared.event.Query.TheVariants.{Pull};
 ghost use Rattle.dp_tables.specs.Pages.{IsBounded, IsPage};
-ghost use Rattle.dp_tables.specs.Plans.{IsReady};
+ghost use Rattle.dp_tables.specs.Ready.{IsReady};
 ghost use Rattle.dp_session.specs.Puts.{IsPut};
 
 use dp_epochs::{Answer, Event, Journal, Query, Reply, Shut};

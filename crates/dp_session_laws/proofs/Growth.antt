@@ -18,6 +18,8 @@ use Rattle.dp_epochs.specs.declared.connection.Place.{Place}
 use Rattle.dp_epochs.specs.declared.connection.Ending.{Ending}
 use Rattle.dp_epochs.specs.declared.connection.Ending.TheVariants as ending
 use Rattle.dp_epochs.specs.declared.connection.Connection.{Connection}
+use Rattle.dp_epochs.specs.declared.effect.Effect.{Effect}
+use Rattle.dp_epochs.specs.declared.effect.Effect.TheVariants.{TakesUp, Joined, Left, Reopened}
 use Rattle.dp_epochs.specs.declared.event.Event.{Event}
 use Rattle.dp_epochs.specs.declared.event.Event.TheVariants as event
 use Rattle.dp_epochs.specs.declared.event.Reply.{Reply}
@@ -27,12 +29,11 @@ use Rattle.dp_epochs.specs.Rows.{has_room}
 use Rattle.dp_epochs.specs.State.{State, epoch_of, here, history_of, connection_of, open_connection}
 use Rattle.dp_epochs.specs.State.{where_open, with_connection, new_connection, noted}
 use Rattle.dp_epochs.specs.State.{after_event}
-use Rattle.dp_epochs.specs.Effects.{Began, Added, Dropped, Reopened}
-use Rattle.dp_epochs.specs.Effects.{Effect, Nothing, TakesUp, Placed, Filtered, Joined, Left, made}
-use Rattle.dp_epochs.specs.Effects.{connections_after, IsEffect, EventsHaveEffects}
+use Rattle.dp_epochs.specs.Effects.{made, connections_after, IsEffect, EventsHaveEffects}
 use Rattle.dp_epochs.specs.Past.{Past, Step, Serves, Accepts, FailsFirst, Refuses, kept, refused}
 use Rattle.dp_epochs.specs.Past.{quieted, state_of, state_after}
 use Rattle.dp_epochs.specs.Laws.{Continues, ShutBefore, shut_by}
+use Rattle.dp_epochs.proofs.OpenConnections.{open_is_found}
 use Rattle.dp_session_laws.specs.Growing.{IsAfter, EndsLater, ConnectionLater, GrowsInto}
 use Rattle.dp_session_laws.specs.Logs.{ReplyOrMemory, LogEntry, IsSessionLog}
 
@@ -186,14 +187,11 @@ open-shuts s t ending.Shut up = cc
 
 connections-grow : (s t : State) (e : Event) (effect : Effect) → IsEffect s e effect
     → epoch_of s ≤ epoch_of t → LaterIn s t s.connections (connections_after s effect)
-connections-grow s t e (Nothing answer) cause more = all-same s t s.connections
 connections-grow s t e (TakesUp conn c) cause more =
     one-changed s t s.connections conn c (record c { acknowledged = epoch_of s })
-    cause.1.at.given
+    cause.0.at.given
     (record { user = refl; joined = refl; ending = ends-same s t c.ending })
-connections-grow s t e (Placed conn c m) cause more = all-same s t s.connections
-connections-grow s t e (Filtered conn c m) cause more = all-same s t s.connections
-connections-grow s t e (Joined user registered name next) cause more =
+connections-grow s t e (Joined user next) cause more =
     λ n x is.
     (x, numbered-old s.connections (new_connection s user ∷ []) n x is, connection-same s t x)
 connections-grow s t e (Left conn c next) cause more =
@@ -203,15 +201,13 @@ connections-grow s t e (Left conn c next) cause more =
       joined = refl;
       ending = open-leaves s t c.ending cause.at.running more;
     })
-connections-grow s t e (Began conn c) cause more = all-same s t s.connections
-connections-grow s t e (Added conn c stream command) cause more = all-same s t s.connections
-connections-grow s t e (Dropped conn c command) cause more = all-same s t s.connections
-connections-grow s t e (Reopened conn c commands) cause more = all-same s t s.connections
+connections-grow s t e effect cause more = all-same s t s.connections
 
 -- the epochs are no fewer after an effect
-epochs-grow : (s : State) (effect : Effect) → epoch_of s ≤ epoch_of (made s effect).state
-epochs-grow s (Reopened conn c commands) = omega (arith, length-append s.ended (s.live ∷ []))
-epochs-grow s effect = omega arith
+epochs-grow : (s : State) (e : Event) (effect : Effect)
+    → epoch_of s ≤ epoch_of (made s e effect).state
+epochs-grow s e (Reopened conn c) = omega (arith, length-append s.ended (s.live ∷ []))
+epochs-grow s e effect = omega arith
 
 event-grows : EpochLaws → (s : State) (e : Event)
     → ((epoch : ℕ) → IsPrefix (history_of s epoch) (history_of (after_event s e) epoch))
@@ -219,7 +215,7 @@ event-grows : EpochLaws → (s : State) (e : Event)
 event-grows laws s e histories =
     let h = laws.effects s e in
     let more : epoch_of s ≤ epoch_of (after_event s e) =
-    subst (λ a. epoch_of s ≤ epoch_of (noted s a)) (sym h.made) (epochs-grow s h.effect) in
+    subst (λ a. epoch_of s ≤ epoch_of (noted s a)) (sym h.made) (epochs-grow s e h.effect) in
     record {
       epochs = more;
       histories = histories;
@@ -231,26 +227,13 @@ event-grows laws s e histories =
 
 -- ---- a Close that was refused
 
--- a connection that was found open is there, and open
-found-open : (found : Option Connection) (c : Connection) → where_open found ≡ Some c
-    → (found ≡ Some c) × (is_open c ≡ true)
-found-open None c h = cc
-found-open (Some x) c h =
-    ⊎_elim (λ (up : is_open x ≡ true).
-    let e : Some x ≡ Some c = sym (ap (λ b. if b then Some x else None) up) ∙ h in
-    let same : x ≡ c = cc in
-    (e, subst (λ y. is_open y ≡ true) same up))
-    (λ (shut : is_open x ≡ false).
-    let e : None ≡ Some c = sym (ap (λ b. if b then Some x else None) shut) ∙ h in cc)
-    (cases_Bool (is_open x))
-
 shut-grows-at : (s : State) (conn : ℕ) (found : Option Connection)
     → open_connection s conn ≡ found
     → GrowsInto s (option_map_or (λ connection. with_connection s conn (record connection
     { ending = ending.Shut })) found s)
 shut-grows-at s conn None is = grows-same s
 shut-grows-at s conn (Some c) is =
-    let f = found-open (connection_of s conn) c is in
+    let f = open_is_found s.connections conn c is in
     let t = with_connection s conn (record c { ending = ending.Shut }) in
     record {
       epochs = omega arith;

@@ -7,14 +7,16 @@ use Rattle.std.specs.Prelude.{MatchBool}
 use Rattle.dp_io.specs.Faults.{Rose}
 use Rattle.dp_hall.specs.Logs.{left_by}
 use Rattle.dp_hall.specs.Names.{IsIn}
+use Rattle.dp_epochs.specs.declared.effect.Effect.{Effect}
+use Rattle.dp_epochs.specs.declared.effect.Effect.TheVariants.{Nothing, TakesUp, Placed, Filtered}
+use Rattle.dp_epochs.specs.declared.effect.Effect.TheVariants.{Joined, Left, Began, Added, Dropped}
+use Rattle.dp_epochs.specs.declared.effect.Effect.TheVariants.{Reopened}
 use Rattle.dp_epochs.specs.declared.event.Event.{Event}
 use Rattle.dp_epochs.specs.declared.event.Event.TheVariants as event
 use Rattle.dp_epochs.specs.declared.event.Reply.{Reply}
 use Rattle.dp_epochs.specs.declared.event.Reply.TheVariants as reply
 use Rattle.dp_epochs.specs.Rows.{has_room}
 use Rattle.dp_epochs.specs.State.{State, acted}
-use Rattle.dp_epochs.specs.Effects.{Effect, Nothing, TakesUp, Placed, Filtered, Joined, Left}
-use Rattle.dp_epochs.specs.Effects.{Began, Added, Dropped, Reopened}
 use Rattle.dp_epochs.specs.Effects.{EventsHaveEffects, IsEffect, IsStill, answer_of}
 use Rattle.dp_epochs.specs.Past.{Past, Step, Serves, Accepts, FailsFirst, Refuses, quieted}
 use Rattle.dp_epochs.specs.Past.{state_of}
@@ -38,14 +40,14 @@ effect-kept : (s : State) (e : Event) (effect : Effect) → IsEffect s e effect
     → is_kept (Ok (answer_of s effect)) ≡ true
 effect-kept s e (Nothing answer) cause = still-kept s e answer cause
 effect-kept s e (TakesUp conn c) cause = refl
-effect-kept s e (Placed conn c m) cause = refl
-effect-kept s e (Filtered conn c m) cause = refl
-effect-kept s e (Joined user registered name next) cause = refl
+effect-kept s e (Placed conn c) cause = refl
+effect-kept s e (Filtered conn c) cause = refl
+effect-kept s e (Joined user next) cause = refl
 effect-kept s e (Left conn c next) cause = refl
 effect-kept s e (Began conn c) cause = refl
-effect-kept s e (Added conn c stream command) cause = refl
-effect-kept s e (Dropped conn c command) cause = refl
-effect-kept s e (Reopened conn c commands) cause = refl
+effect-kept s e (Added conn c) cause = refl
+effect-kept s e (Dropped conn c) cause = refl
+effect-kept s e (Reopened conn c) cause = refl
 
 pub own-kept : EventsHaveEffects → (s : State) (e : Event) → is_kept (Ok (acted s e).reply) ≡ true
 own-kept effects s e =

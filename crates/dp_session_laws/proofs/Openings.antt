@@ -13,15 +13,15 @@ use Rattle.dp_epochs.specs.declared.connection.Place.{Place}
 use Rattle.dp_epochs.specs.declared.connection.Ending.{Ending}
 use Rattle.dp_epochs.specs.declared.connection.Ending.TheVariants as ending
 use Rattle.dp_epochs.specs.declared.connection.Connection.{Connection}
+use Rattle.dp_epochs.specs.declared.effect.Effect.{Effect}
+use Rattle.dp_epochs.specs.declared.effect.Effect.TheVariants.{Nothing, Joined}
 use Rattle.dp_epochs.specs.declared.event.Event.{Event}
 use Rattle.dp_epochs.specs.declared.event.Reply.{Reply}
 use Rattle.dp_epochs.specs.declared.event.Reply.TheVariants as reply
 use Rattle.dp_epochs.specs.Rows.{has_room}
 use Rattle.dp_epochs.specs.State.{State, epoch_of, history_of, connection_of, new_connection}
 use Rattle.dp_epochs.specs.State.{acted, noted, after_event}
-use Rattle.dp_epochs.specs.Effects.{Began, Added, Dropped, Reopened}
-use Rattle.dp_epochs.specs.Effects.{Effect, Nothing, TakesUp, Placed, Filtered, Joined, Left, made}
-use Rattle.dp_epochs.specs.Effects.{answer_of, IsEffect, IsStill}
+use Rattle.dp_epochs.specs.Effects.{made, answer_of, IsEffect, IsStill}
 use Rattle.dp_epochs.specs.Past.{Past, Step, Serves, Accepts, FailsFirst, Refuses, state_of}
 use Rattle.dp_epochs.specs.Laws.{ShutBefore}
 use Rattle.dp_session_laws.specs.Growing.{IsAfter, EndsLater, GrowsInto}
@@ -134,21 +134,13 @@ begins-later s t conn epoch grows b =
 -- where an event was answered by a connection, that was added
 effect-opens : (s : State) (e : Event) (effect : Effect) → IsEffect s e effect
     → (conn user epoch at : ℕ) → answer_of s effect ≡ reply.Opened conn user epoch at
-    → Begins (made s effect).state conn epoch
+    → Begins (made s e effect).state conn epoch
 effect-opens s e (Nothing answer) cause conn user epoch at is =
     absurd (subst (IsStill s e) is cause)
-effect-opens s e (TakesUp n c) cause conn user epoch at is = cc
-effect-opens s e (Placed n c m) cause conn user epoch at is = cc
-effect-opens s e (Filtered n c m) cause conn user epoch at is = cc
-effect-opens s e (Left n c next) cause conn user epoch at is = cc
-effect-opens s e (Began n c) cause conn user epoch at is = cc
-effect-opens s e (Added n c stream command) cause conn user epoch at is = cc
-effect-opens s e (Dropped n c command) cause conn user epoch at is = cc
-effect-opens s e (Reopened n c commands) cause conn user epoch at is = cc
-effect-opens s e (Joined id registered name next) cause conn user epoch at is =
+effect-opens s e (Joined id next) cause conn user epoch at is =
     let number : length s.connections + 1 ≡ conn = cc in
     let of_epoch : epoch_of s ≡ epoch = cc in
-    let t = (made s (Joined id registered name next)).state in
+    let t = (made s e (Joined id next)).state in
     let there : connection_of t conn ≡ Some (new_connection s id) =
     subst (λ n. connection_of t n ≡ Some (new_connection s id)) number
     (numbered-new s.connections (new_connection s id)) in
@@ -164,6 +156,7 @@ effect-opens s e (Joined id registered name next) cause conn user epoch at is =
       };
       inside = λ place e. cc;
     }
+effect-opens s e effect cause conn user epoch at is = cc
 
 -- the state after the event that was answered so
 event-opens : EpochLaws → (s : State) (e : Event) (conn user epoch at : ℕ)
@@ -175,8 +168,8 @@ event-opens laws s e conn user epoch at is =
     subst (λ a. Begins (noted s a) conn epoch) (sym h.made)
     (noted-begins h.effect (effect-opens s e h.effect h.cause conn user epoch at answer))
   where
-    noted-begins : (effect : Effect) → Begins (made s effect).state conn epoch
-        → Begins (noted s (made s effect)) conn epoch
+    noted-begins : (effect : Effect) → Begins (made s e effect).state conn epoch
+        → Begins (noted s (made s e effect)) conn epoch
     noted-begins effect b = record {
       connection = b.connection;
       is = b.is;

@@ -2,7 +2,6 @@
 use Rattle.std.proofs.Common.{◌≡◌, ℕ, List, [], ◌∷◌, ◌++◌, map, fold, ap, sym, subst, ◌∙◌}
 use Rattle.std.proofs.Common.{append_assoc}
 use Rattle.std.proofs.lemmas.List.{map-append}
-use Rattle.dp_messages.specs.declared.message.Msg.TheVariants as msg
 use Rattle.dp_messages.specs.declared.message.Entry.{Entry}
 use Rattle.dp_messages.specs.Messages.{kind_of}
 use Rattle.dp_msg_draw.specs.declared.draw.Draw.{Draw}
@@ -14,12 +13,14 @@ use Rattle.dp_replay.specs.Replay.{replay, user_act_of, undo_depth}
 use Rattle.dp_acl.specs.Laws.{ForbiddenChangesNoRight}
 use Rattle.dp_acl.specs.Laws as acl
 use Rattle.dp_acl.specs.Permitted.{permitted}
+use Rattle.dp_epochs.specs.declared.effect.Effect.{Effect}
+use Rattle.dp_epochs.specs.declared.effect.Effect.TheVariants.{Nothing, Filtered, Dropped}
 use Rattle.dp_epochs.specs.declared.event.Event.{Event}
 use Rattle.dp_epochs.specs.declared.event.Event.TheVariants as event
 use Rattle.dp_epochs.specs.declared.event.Reply.TheVariants as reply
 use Rattle.dp_epochs.specs.State.{State}
-use Rattle.dp_epochs.specs.Effects.{Effect, Nothing, Filtered, Dropped}
-use Rattle.dp_epochs.specs.Effects.{live_after, answer_of, IsStill, IsEffect, EventsHaveEffects}
+use Rattle.dp_epochs.specs.Effects.{own_message, live_after, answer_of, IsStill, IsEffect}
+use Rattle.dp_epochs.specs.Effects.{EventsHaveEffects}
 use Rattle.dp_sim.specs.Headline.{ChangesNothing, ForbiddenChangesNothing}
 
 -- the entry in place of a forbidden message changes no canvas
@@ -50,13 +51,13 @@ entry-nothing others rights live sender kind = record {
 effect-nothing : OthersDoNotCount Draw → ForbiddenChangesNoRight → (s : State) (e : Event)
     (effect : Effect) → IsEffect s e effect → (epoch at : ℕ)
     → answer_of s effect ≡ reply.Filtered epoch at
-    → ChangesNothing s.live (live_after s effect)
+    → ChangesNothing s.live (live_after s e effect)
 effect-nothing others rights s e (Nothing answer) cause epoch at is =
     absurd (subst (IsStill s e) is cause)
-effect-nothing others rights s e (Filtered conn c m) cause epoch at is =
-    entry-nothing others rights s.live c.user (kind_of m)
-effect-nothing others rights s e (Dropped conn c command) cause epoch at is =
-    entry-nothing others rights s.live c.user (kind_of (msg.Part command))
+effect-nothing others rights s e (Filtered conn c) cause epoch at is =
+    entry-nothing others rights s.live c.user (kind_of (own_message e))
+effect-nothing others rights s e (Dropped conn c) cause epoch at is =
+    entry-nothing others rights s.live c.user (kind_of (own_message e))
 effect-nothing others rights s e effect cause epoch at is = cc
 
 pub forbidden-nothing : OthersDoNotCount Draw → ForbiddenChangesNoRight → EventsHaveEffects

@@ -10,6 +10,8 @@ use Rattle.std.proofs.lemmas.Bool.{cond_both, cases_eq}
 use Rattle.dp_messages.specs.declared.message.Msg.{Msg}
 use Rattle.dp_epochs.specs.declared.connection.Connection.{Connection}
 use Rattle.dp_epochs.specs.declared.connection.Ending.TheVariants as ending
+use Rattle.dp_epochs.specs.declared.effect.Effect.{Effect}
+use Rattle.dp_epochs.specs.declared.effect.Effect.TheVariants.{Nothing, TakesUp, Joined, Left}
 use Rattle.dp_epochs.specs.declared.event.Event.{Event}
 use Rattle.dp_epochs.specs.declared.event.Event.TheVariants as event
 use Rattle.dp_epochs.specs.declared.event.Reply.{Reply}
@@ -18,7 +20,6 @@ use Rattle.dp_epochs.specs.declared.event.ShutAt.{ShutAt}
 use Rattle.dp_epochs.specs.Connections.{is_open}
 use Rattle.dp_epochs.specs.State.{State, after_event, after_shut, epoch_of, here, history_of}
 use Rattle.dp_epochs.specs.State.{open_in, open_connection, with_connection, new_connection}
-use Rattle.dp_epochs.specs.Effects.{Effect, Nothing, TakesUp, Joined, Left}
 use Rattle.dp_epochs.specs.Effects.{connections_after, answer_of, IsStill, IsEffect}
 use Rattle.dp_epochs.specs.Effects.{EventsHaveEffects}
 use Rattle.dp_epochs.specs.Rows.{has_room}
@@ -134,9 +135,9 @@ open-stay : (s : State) (e : Event) (effect : Effect) → IsEffect s e effect �
     → (e ≡ event.Close n → ⊥) → is_some (open_in s.connections n) ≡ true
     → is_some (open_in (connections_after s effect) n) ≡ true
 open-stay s e (TakesUp conn c) cause n other up =
-    open-all s.connections conn c (record c { acknowledged = epoch_of s }) n cause.1.at.found
-    cause.1.at.running up
-open-stay s e (Joined user registered name next) cause n other up =
+    open-all s.connections conn c (record c { acknowledged = epoch_of s }) n cause.0.at.found
+    cause.0.at.running up
+open-stay s e (Joined user next) cause n other up =
     open-more s.connections (new_connection s user) n up
 open-stay s e (Left conn c next) cause n other up =
     open-others s.connections conn c (record c { ending = ending.Left (here s) }) n cause.at.found
@@ -160,7 +161,7 @@ effect-answers : (s : State) (e : Event) (effect : Effect) → IsEffect s e effe
 effect-answers s e (Nothing answer) cause = answers-still s e answer cause
 effect-answers s e (TakesUp conn c) cause =
     length-set s.connections (conn - 1) (record c { acknowledged = epoch_of s })
-effect-answers s e (Joined user registered name next) cause =
+effect-answers s e (Joined user next) cause =
     let d = new_connection s user in (
       length-append s.connections (d ∷ []),
       refl,
@@ -180,8 +181,8 @@ effect-count : (s : State) (e : Event) (effect : Effect) → IsEffect s e effect
     → length (connections_after s effect) ≡ length s.connections
 effect-count s e (TakesUp conn c) cause closed =
     length-set s.connections (conn - 1) (record c { acknowledged = epoch_of s })
-effect-count s e (Joined user registered name next) cause closed =
-    absurd (closed name registered cause.came)
+effect-count s e (Joined user next) cause closed =
+    absurd (closed cause.name cause.registered cause.came)
 effect-count s e (Left conn c next) cause closed =
     length-set s.connections (conn - 1) (record c { ending = ending.Left (here s) })
 effect-count s e effect cause closed = refl

@@ -27,6 +27,9 @@ use Rattle.dp_epochs.specs.declared.connection.Connection.{Connection}
 use Rattle.dp_epochs.specs.declared.connection.Ending.TheVariants as ending
 use Rattle.dp_epochs.specs.declared.decision.Decision.{Decision}
 use Rattle.dp_epochs.specs.declared.decision.Decision.TheVariants as decision
+use Rattle.dp_epochs.specs.declared.effect.Effect.{Effect}
+use Rattle.dp_epochs.specs.declared.effect.Effect.TheVariants.{Nothing, TakesUp, Placed, Filtered}
+use Rattle.dp_epochs.specs.declared.effect.Effect.TheVariants.{Joined, Left, Dropped, Reopened}
 use Rattle.dp_epochs.specs.declared.event.Event.{Event}
 use Rattle.dp_epochs.specs.declared.event.Event.TheVariants as event
 use Rattle.dp_epochs.specs.declared.event.Reply.{Reply}
@@ -35,73 +38,23 @@ use Rattle.dp_epochs.specs.State.{State, first_state, acted, stays, noted, after
 use Rattle.dp_epochs.specs.State.{here, entry_of, filtered_entry, epoch_opened, present_users}
 use Rattle.dp_epochs.specs.State.{is_present, user_ids, free_id, new_connection, next_owner}
 use Rattle.dp_epochs.specs.Connections.{is_open}
-use Rattle.dp_epochs.specs.State.{where_open, open_in, open_connection, has_acknowledged}
+use Rattle.dp_epochs.specs.State.{open_in, open_connection, has_acknowledged}
 use Rattle.dp_epochs.specs.State.{judged, heard, decided, acted_by, says_by, fits_reset}
 use Rattle.dp_epochs.specs.State.{part_decided, may_begin, reset_of, sent_commands}
-use Rattle.dp_epochs.specs.Effects.{Effect, Nothing, TakesUp, Placed, Filtered, Joined, Left}
-use Rattle.dp_epochs.specs.Effects.{Dropped, Reopened, made, entries_of, ended_after, live_after}
+use Rattle.dp_epochs.specs.Effects.{own_message, made, entries_of, ended_after, live_after}
 use Rattle.dp_epochs.specs.Effects.{connections_after, answer_of, IsStill, IsSaid}
 use Rattle.dp_epochs.specs.Effects.{IsEffect, EventsHaveEffects}
 use Rattle.dp_epochs.specs.Rows.{has_room}
 use Rattle.dp_epochs.specs.Past.{Past, state_of, kept, refused, answer_to, sure_step, sure_answer}
 use Rattle.dp_epochs.specs.Laws.{ShutBefore, AreHistories}
 use Rattle.dp_lists.specs.Numbered.{numbered}
-use Rattle.dp_lists.proofs.Numbered.{number-found, numbered-other, numbered-same, numbered-old}
+use Rattle.dp_lists.proofs.Numbered.{number-found, numbered-same, numbered-old}
 use Rattle.dp_lists.proofs.Numbered.{numbered-either, numbered-new}
+use Rattle.dp_epochs.proofs.OpenConnections.{open_is_found, found_is_open, other_stays_open}
+use Rattle.dp_epochs.proofs.OpenConnections.{changed_is_open}
 use Rattle.dp_sim_laws.proofs.Answering.{answers_from, NoAnswers, answers-append, answers-none}
 use Rattle.dp_sim_laws.proofs.Answering.{answers-same, answers-before, answers-one, none-append}
 use Rattle.dp_sim_laws.proofs.Answering.{none-other, none-mute, AnswersTo, Answer}
-
--- ---- open connections
-
-found-by : (found : Option Connection) (c : Connection) → where_open found ≡ Some c
-    → (found ≡ Some c) × (is_open c ≡ true)
-found-by None c h = cc
-found-by (Some x) c h =
-    ⊎_elim (λ (up : is_open x ≡ true).
-    let e : Some x ≡ Some c = sym (ap (λ b. if b then Some x else None) up) ∙ h in
-    let same : x ≡ c = cc in
-    (e, subst (λ y. is_open y ≡ true) same up))
-    (λ (shut : is_open x ≡ false).
-    let e : None ≡ Some c = sym (ap (λ b. if b then Some x else None) shut) ∙ h in cc)
-    (cases_Bool (is_open x))
-
-open-found : (cs : List Connection) (n : ℕ) (c : Connection) → open_in cs n ≡ Some c
-    → (numbered cs n ≡ Some c) × (is_open c ≡ true)
-open-found cs n c is = found-by (numbered cs n) c is
-
--- an open connection is found open
-open-from : (cs : List Connection) (n : ℕ) (c : Connection) → numbered cs n ≡ Some c
-    → is_open c ≡ true
-    → open_in cs n ≡ Some c
-open-from cs n c is up = ap where_open is ∙ ap (λ b. if b then Some c else None) up
-
--- another connection stays open
-open-other : (cs : List Connection) (conn : ℕ) (c d : Connection) (n : ℕ) (x : Connection)
-    → open_in cs conn ≡ Some c
-    → (n ≡ conn → ⊥) → open_in cs n ≡ Some x → open_in (slice_set cs (conn - 1) d) n ≡ Some x
-open-other cs conn c d n x found ne is =
-    let above = number-found cs conn c (open-found cs conn c found).0 in
-    let h = open-found cs n x is in
-    open-from (slice_set cs (conn - 1) d) n x (numbered-other cs conn n d above.0 ne ∙ h.0) h.1
-
--- what is open where one has become another is the other, or was open
-open-set : (cs : List Connection) (conn : ℕ) (c d : Connection) (n : ℕ) (x : Connection)
-    → open_in cs conn ≡ Some c → open_in (slice_set cs (conn - 1) d) n ≡ Some x
-    → ((n ≡ conn) × (x ≡ d)) ⊎ (open_in cs n ≡ Some x)
-open-set cs conn c d n x found is =
-    let there = (open-found cs conn c found).0 in
-    let above = number-found cs conn c there in
-    let h = open-found (slice_set cs (conn - 1) d) n x is in
-    ⊎_elim (λ (same : n ≡ conn).
-    let at : numbered (slice_set cs (conn - 1) d) conn ≡ Some x =
-    subst (λ k. numbered (slice_set cs (conn - 1) d) k ≡ Some x) same h.0 in
-    let e : Some d ≡ Some x = sym (numbered-same cs conn c d there) ∙ at in
-    let it : x ≡ d = cc in
-    inl (same, it))
-    (λ (ne : n ≡ conn → ⊥). inr (open-from cs n x
-    (sym (numbered-other cs conn n d above.0 ne) ∙ h.0) h.1))
-    (cases_eq n conn)
 
 -- ---- people
 
@@ -114,7 +67,7 @@ pub record ArePeople (epoch : ℕ) (cs : List Connection) : Type 0 where
 
 none-open : (n : ℕ) (c : Connection) → open_in [] n ≡ Some c → ⊥
 none-open n c is =
-    let found = number-found [] n c (open-found [] n c is).0 in let no : None
+    let found = number-found [] n c (open_is_found [] n c is).0 in let no : None
     ≡ Some c = found.1 in cc
 
 -- where there are no connections
@@ -149,8 +102,8 @@ open-either : (cs : List Connection) (d : Connection) (n : ℕ) (x : Connection)
     → open_in (cs ++ d ∷ []) n ≡ Some x
     → (open_in cs n ≡ Some x) ⊎ ((n ≡ length cs + 1) × (x ≡ d))
 open-either cs d n x is =
-    let h = open-found (cs ++ d ∷ []) n x is in
-    ⊎_elim (λ (old : numbered cs n ≡ Some x). inl (open-from cs n x old h.1))
+    let h = open_is_found (cs ++ d ∷ []) n x is in
+    ⊎_elim (λ (old : numbered cs n ≡ Some x). inl (found_is_open cs n x old h.1))
     (λ (new : (n ≡ length cs + 1) × (x ≡ d)). inr new)
     (numbered-either cs d n x h.0)
 
@@ -441,13 +394,13 @@ module _ (s : State) (conn : ℕ) (c : Connection) (m : Msg)
       → Hears s conn c m (noted s (acted_by s conn c m decision.Acknowledge))
   hears-takes epoch is here late =
       let d : Connection = record c { acknowledged = epoch_of s } in
-      let h = open-found s.connections conn c found in
+      let h = open_is_found s.connections conn c found in
       let ack : is_ack (epoch_of s) m ≡ true =
       ap (is_ack (epoch_of s)) is ∙ eq-eqb epoch (epoch_of s) here in
       let send : is_send m ≡ false = ap is_send is in
       record {
         connection = d;
-        found = open-from (slice_set s.connections (conn - 1) d) conn d
+        found = found_is_open (slice_set s.connections (conn - 1) d) conn d
             (numbered-same s.connections conn c d h.0) h.1;
         user = refl;
         epochs = omega arith;
@@ -655,7 +608,7 @@ none-at p (c ∷ cs) (suc i) x none is = none-at p cs i x (or_parts (p c) (list_
 fresh-id : (s : State) (user : ℕ) → is_present s user ≡ false
     → (n : ℕ) (x : Connection) → open_connection s n ≡ Some x → x.user ≡ user → ⊥
 fresh-id s user none n x is same =
-    let h = open-found s.connections n x is in
+    let h = open_is_found s.connections n x is in
     let at = number-found s.connections n x h.0 in
     let no : (is_open x && x.user == user) ≡ false =
     none-at (λ c. is_open c && c.user == user) s.connections (n - 1) x none at.1 in
@@ -678,15 +631,15 @@ effect-people s e (TakesUp conn c) cause h =
     (λ n x is.
     ⊎_elim (λ (new : (n ≡ conn) × (x ≡ d)). record {
       old = c;
-      found = ap (λ k. open_in s.connections k) new.0 ∙ cause.1.at.found;
+      found = ap (λ k. open_in s.connections k) new.0 ∙ cause.0.at.found;
       user = ap (λ y. y.user) new.1;
       known = omega (arith, ap (λ y. y.acknowledged) new.1);
     })
     (λ (old : open_in s.connections n ≡ Some x).
     record { old = x; found = old; user = refl; known = h.connections.known n x old })
-    (open-set s.connections conn c d n x cause.1.at.found is))
+    (changed_is_open s.connections conn c d n x cause.0.at.found is))
     h.connections
-effect-people s e (Joined user registered name next) cause h =
+effect-people s e (Joined user next) cause h =
     let free = free-id s user cause.free in
     people-more (epoch_of s) s.connections (new_connection s user) free.0 refl
     (fresh-id s user free.1) h.connections
@@ -697,13 +650,13 @@ effect-people s e (Left conn c next) cause h =
     ⊎_elim (λ (new : (n ≡ conn) × (x ≡ d)).
     let up : is_open d ≡ true =
     subst (λ y. is_open y ≡ true) new.1
-    (open-found (slice_set s.connections (conn - 1) d) n x is).1 in
+    (open_is_found (slice_set s.connections (conn - 1) d) n x is).1 in
     absurd (false≢true up))
     (λ (old : open_in s.connections n ≡ Some x).
     record { old = x; found = old; user = refl; known = h.connections.known n x old })
-    (open-set s.connections conn c d n x cause.at.found is))
+    (changed_is_open s.connections conn c d n x cause.at.found is))
     h.connections
-effect-people s e (Reopened conn c commands) cause h =
+effect-people s e (Reopened conn c) cause h =
     people-from (epoch_of s) (length (s.ended ++ s.live ∷ [])) s.connections s.connections
     (λ n x is. record {
       old = x;
@@ -715,23 +668,23 @@ effect-people s e (Reopened conn c commands) cause h =
     h.connections
 effect-people s e effect cause h = h.connections
 
-effect-server : (s : State) (effect : Effect) → IsServerFirst s.live
-    → IsServerFirst (live_after s effect)
-effect-server s (Reopened conn c commands) h = refl
-effect-server s effect h = server-more s.live (entries_of effect) h
+effect-server : (s : State) (e : Event) (effect : Effect) → IsServerFirst s.live
+    → IsServerFirst (live_after s e effect)
+effect-server s e (Reopened conn c) h = refl
+effect-server s e effect h = server-more s.live (entries_of e effect) h
 
 effect-stay : (s : State) (e : Event) (effect : Effect) → IsEffect s e effect
     → (n : ℕ) (x : Connection) → Spares e n → open_connection s n ≡ Some x
     → open_in (connections_after s effect) n ≡ Some x
 effect-stay s e (TakesUp conn c) cause n x other is =
-    open-other s.connections conn c (record c { acknowledged = epoch_of s }) n x
-    cause.1.at.found (subst (λ k. Spares k n) cause.1.came other) is
-effect-stay s e (Joined user registered name next) cause n x other is =
+    other_stays_open s.connections conn c (record c { acknowledged = epoch_of s }) n x
+    cause.0.at.found (subst (λ k. Spares k n) cause.0.came other) is
+effect-stay s e (Joined user next) cause n x other is =
     let d = new_connection s user in
-    let f = open-found s.connections n x is in
-    open-from (s.connections ++ d ∷ []) n x (numbered-old s.connections (d ∷ []) n x f.0) f.1
+    let f = open_is_found s.connections n x is in
+    found_is_open (s.connections ++ d ∷ []) n x (numbered-old s.connections (d ∷ []) n x f.0) f.1
 effect-stay s e (Left conn c next) cause n x other is =
-    open-other s.connections conn c (record c { ending = ending.Left (here s) }) n x
+    other_stays_open s.connections conn c (record c { ending = ending.Left (here s) }) n x
     cause.at.found (subst (λ k. Spares k n) cause.came other) is
 effect-stay s e effect cause n x other is = is
 
@@ -741,63 +694,68 @@ none-owner user (Some owner) above =
     none-other user (server_entry (meta.Owners (owner ∷ []))) [] (λ same. omega arith) tt
 
 -- what a user says is no answer of another's
-none-said : (s : State) (e : Event) (conn : ℕ) (c : Connection) (m : Msg) (d : Decision)
-    (entry : Entry) → IsSaid s e conn c m d → entry.user ≡ c.user → HasPeople s
+none-said : (s : State) (e : Event) (conn : ℕ) (c : Connection) (d : Decision) (entry : Entry)
+    → IsSaid s e conn c d → entry.user ≡ c.user → HasPeople s
     → (n : ℕ) (x : Connection) → Spares e n → open_connection s n ≡ Some x
     → NoAnswers x.user (entry ∷ [])
-none-said s e conn c m d entry said whose h n x other is =
+none-said s e conn c d entry said whose h n x other is =
     let far : n ≡ conn → ⊥ = subst (λ k. Spares k n) said.came other in
     none-other x.user entry []
     (λ same. far (h.connections.apart n conn x c is said.at.found (sym same ∙ whose))) tt
 
 effect-strange : (s : State) (e : Event) (effect : Effect) → IsEffect s e effect → HasPeople s
     → (n : ℕ) (x : Connection) → Spares e n → open_connection s n ≡ Some x
-    → NoAnswers x.user (entries_of effect)
-effect-strange s e (Placed conn c m) cause h n x other is =
-    none-said s e conn c m decision.Place (entry_of c.user m) cause.0 refl h n x other is
-effect-strange s e (Filtered conn c m) cause h n x other is =
-    none-said s e conn c m decision.Filter (filtered_entry c.user m) cause.0 refl h n x other is
-effect-strange s e (Joined user registered name next) cause h n x other is =
-    none-mute x.user (entry_of user (msg.Meta (meta.Join registered name))) (next_owner next) refl
-    (none-owner x.user next (h.connections.users n x is))
+    → NoAnswers x.user (entries_of e effect)
+effect-strange s e (Placed conn c) cause h n x other is =
+    none-said s e conn c decision.Place (entry_of c.user (own_message e)) cause.0 refl h n x other
+    is
+effect-strange s e (Filtered conn c) cause h n x other is =
+    none-said s e conn c decision.Filter (filtered_entry c.user (own_message e)) cause.0 refl h n x
+    other is
+effect-strange s e (Joined user next) cause h n x other is =
+    subst (λ m. NoAnswers x.user (entry_of user m ∷ next_owner next))
+    (sym (ap own_message cause.came))
+    (none-mute x.user (entry_of user (msg.Meta (meta.Join cause.registered cause.name)))
+    (next_owner next) refl (none-owner x.user next (h.connections.users n x is)))
 effect-strange s e (Left conn c next) cause h n x other is =
     none-mute x.user (entry_of c.user (msg.Meta meta.Leave)) (next_owner next) refl
     (none-owner x.user next (h.connections.users n x is))
-effect-strange s e (Dropped conn c command) cause h n x other is =
-    none-said s e conn c (msg.Part command) decision.DropReset
-    (filtered_entry c.user (msg.Part command)) cause.said refl h n x other is
+effect-strange s e (Dropped conn c) cause h n x other is =
+    none-said s e conn c decision.DropReset (filtered_entry c.user (own_message e)) cause.1.said
+    refl h n x other is
 effect-strange s e effect cause h n x other is = tt
 
 effect-grown : (s : State) (e : Event) (effect : Effect) → IsEffect s e effect → HasPeople s
-    → length (ended_after s effect) ≡ epoch_of s → Grown s (Spares e) (noted s (made s effect))
-effect-grown s e (Reopened conn c commands) cause h same =
+    → length (ended_after s effect) ≡ epoch_of s → Grown s (Spares e) (noted s (made s e effect))
+effect-grown s e (Reopened conn c) cause h same =
     absurd (omega (arith, same, length-append s.ended (s.live ∷ [])))
 effect-grown s e effect cause h same = record {
-  more = entries_of effect;
+  more = entries_of e effect;
   live = refl;
   strange = effect-strange s e effect cause h;
 }
 
-effect-later : (s : State) (effect : Effect) → epoch_of s < length (ended_after s effect)
-    → (user : ℕ) → Unheard user (live_after s effect)
-effect-later s (Reopened conn c commands) less user =
-    unheard-opening user (epoch_of s + 1) s.live (present_users s) commands
-effect-later s effect less user = absurd (omega (arith, less))
+effect-later : (s : State) (e : Event) (effect : Effect)
+    → epoch_of s < length (ended_after s effect)
+    → (user : ℕ) → Unheard user (live_after s e effect)
+effect-later s e (Reopened conn c) less user =
+    unheard-opening user (epoch_of s + 1) s.live (present_users s) (sent_commands s.stream)
+effect-later s e effect less user = absurd (omega (arith, less))
 
 effect-epochs : (s : State) (effect : Effect) → epoch_of s ≤ length (ended_after s effect)
-effect-epochs s (Reopened conn c commands) = omega (arith, length-append s.ended (s.live ∷ []))
+effect-epochs s (Reopened conn c) = omega (arith, length-append s.ended (s.live ∷ []))
 effect-epochs s effect = omega arith
 
 passes-effect : (s : State) (e : Event) (effect : Effect) → IsEffect s e effect → HasPeople s
-    → Passes s (Spares e) (noted s (made s effect))
+    → Passes s (Spares e) (noted s (made s e effect))
 passes-effect s e effect cause h = record {
   people = record {
     connections = effect-people s e effect cause h;
-    server = effect-server s effect h.server;
+    server = effect-server s e effect h.server;
   };
   epochs = effect-epochs s effect;
   same = effect-grown s e effect cause h;
-  later = λ less n c other is. effect-later s effect less c.user;
+  later = λ less n c other is. effect-later s e effect less c.user;
   stay = effect-stay s e effect cause;
 }
 
@@ -826,24 +784,28 @@ still-tells s t e (reply.Opened conn user epoch at) still = absurd still
 still-tells s t e r still = tt
 
 effect-tells : (s : State) (e : Event) (effect : Effect) → IsEffect s e effect
-    → Tells s (noted s (made s effect)) (answer_of s effect)
+    → Tells s (noted s (made s e effect)) (answer_of s effect)
 effect-tells s e (Nothing answer) cause =
-    still-tells s (noted s (made s (Nothing answer))) e answer cause
-effect-tells s e (Joined user registered name next) cause =
-    let join = entry_of user (msg.Meta (meta.Join registered name)) in
+    still-tells s (noted s (made s e (Nothing answer))) e answer cause
+effect-tells s e (Joined user next) cause =
+    let join = entry_of user (own_message e) in
     let more : List Entry = join ∷ next_owner next in
     let d = new_connection s user in
     let above = (free-id s user cause.free).0 in
+    let mute : NoAnswers user more =
+    subst (λ m. NoAnswers user (entry_of user m ∷ next_owner next))
+    (sym (ap own_message cause.came))
+    (none-mute user (entry_of user (msg.Meta (meta.Join cause.registered cause.name)))
+    (next_owner next) refl (none-owner user next above)) in
     record {
       connection = d;
-      found = open-from (s.connections ++ d ∷ []) (length s.connections + 1) d
+      found = found_is_open (s.connections ++ d ∷ []) (length s.connections + 1) d
           (numbered-new s.connections d) refl;
       whose = refl;
       ready = eq-eqb (epoch_of s) (epoch_of s) refl;
       opened = refl;
       base = omega (arith, length-append s.live more);
-      none = answers-same user (length s.live) s.live more
-          (none-mute user join (next_owner next) refl (none-owner user next above))
+      none = answers-same user (length s.live) s.live more mute
           ∙ answers-before user (length s.live) 0 s.live (omega arith);
     }
 effect-tells s e effect cause = tt

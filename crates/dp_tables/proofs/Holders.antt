@@ -5,18 +5,14 @@ use Rattle.std.proofs.Common.{List, [], ◌∷◌, ◌++◌, length, get_or, set
 use Rattle.std.proofs.Common.{Some}
 use Rattle.std.proofs.Common.{refl, sym, ap, subst, ◌∙◌, ⊎_elim, arith, zero-add}
 use Rattle.std.specs.List.{list_any, slice_get}
-use Rattle.std.specs.Option.{MatchOption}
 use Rattle.std.proofs.lemmas.Bool.{cases_eq, eq-eqb, ne_eqb, lt-ltb, ltb-false}
 use Rattle.std.proofs.lemmas.List.{get_or-set_same, get_or-set_other}
 use Rattle.std.proofs.lemmas.List.Sums.{sum_by_push, sum_by-set, sum_by-cons}
 use Rattle.std.proofs.lemmas.Option.{slice_get_within, get_or_from_slice_get}
 use Rattle.dp_epochs.specs.declared.connection.Connection.{Connection}
-use Rattle.dp_tables.specs.declared.plan.Change.{Change}
-use Rattle.dp_tables.specs.declared.plan.Change.TheVariants.{Stays, Adds, Becomes}
 use Rattle.dp_epochs.specs.Connections.{is_open}
 use Rattle.dp_history.specs.Users.{mark}
 use Rattle.dp_tables.specs.Tables.{is_holder, MarksHolders}
-use Rattle.dp_tables.specs.Plans.{changed, marks_after, IsChange}
 
 any-head : (b any : Bool) (n : ℕ) → any ≡ ltb 0 n → (b || any) ≡ ltb 0 (cond b 1 0 + n)
 any-head true any n h = sym (lt-ltb 0 (1 + n) (omega arith))
@@ -72,8 +68,9 @@ holder_other c user apart =
     ap (λ b. one_if (is_open c && b)) (ne_eqb c.user user apart) ∙ neither (is_open c)
 
 -- one more connection of a user who was not present
-marks-adds : (present : List Bool) (cs : List Connection) (c : Connection) → length present ≡ 256
-    → MarksHolders present cs → (is_open c ≡ true) × (list_any (is_holder c.user) cs ≡ false)
+pub marks-adds : (present : List Bool) (cs : List Connection) (c : Connection)
+    → length present ≡ 256 → MarksHolders present cs
+    → (is_open c ≡ true) × (list_any (is_holder c.user) cs ≡ false)
     → MarksHolders (set present c.user true) (cs ++ c ∷ [])
 marks-adds present cs c ids marks h user small =
     let more = sum_by_push (λ x. one_if (is_holder user x)) cs c in
@@ -94,7 +91,7 @@ marks-adds present cs c ids marks h user small =
     (cases_eq c.user user)
 
 -- an open connection stays its user's, and may end
-marks-becomes : (present : List Bool) (cs : List Connection) (i : ℕ) (old c : Connection)
+pub marks-becomes : (present : List Bool) (cs : List Connection) (i : ℕ) (old c : Connection)
     (up : Bool)
     → length present ≡ 256 → MarksHolders present cs → slice_get cs i ≡ Some old → is_open c ≡ up
     → (is_open old ≡ true) × (old.user ≡ c.user)
@@ -130,22 +127,3 @@ marks-becomes present cs i old c false ids marks found shut h user small =
       one_most : (b : Bool) → cond b 1 0 ≤ 1
       one_most true = omega arith
       one_most false = omega arith
-
-becomes-found : (present : List Bool) (cs : List Connection) (i : ℕ) (c : Connection)
-    (found : Option Connection)
-    → length present ≡ 256 → MarksHolders present cs → slice_get cs i ≡ found
-    → MatchOption found ⊥ (λ old. (is_open old ≡ true) × (old.user ≡ c.user))
-    → MarksHolders (cond (is_open c) present (set present c.user false)) (set cs i c)
-becomes-found present cs i c None ids marks found h = absurd h
-becomes-found present cs i c (Some old) ids marks found h =
-    marks-becomes present cs i old c (is_open c) ids marks found refl h
-
--- the marks are right after a change
-pub marks-changed : (change : Change) (present : List Bool) (cs : List Connection)
-    → length present ≡ 256
-    → MarksHolders present cs → IsChange cs change → MarksHolders (marks_after change present)
-    (changed change cs)
-marks-changed Stays present cs ids marks may = marks
-marks-changed (Adds c) present cs ids marks may = marks-adds present cs c ids marks may
-marks-changed (Becomes conn c) present cs ids marks may =
-    becomes-found present cs (conn - 1) c (slice_get cs (conn - 1)) ids marks refl may.1

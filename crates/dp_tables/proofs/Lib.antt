@@ -2,6 +2,6 @@ pub mod Holders
 pub mod TableLemmas
 pub mod ResetLemmas
 pub mod PageLemmas
-pub mod PlanLemmas
+pub mod CauseLemmas
 pub mod QuietLemmas
 pub mod ReadLemmas

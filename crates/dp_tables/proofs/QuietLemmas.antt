@@ -13,13 +13,13 @@ use Rattle.std.proofs.Math.ListN.{length-set}
 use Rattle.std.proofs.Math.Seq.{get_or-append_seam}
 use Rattle.std.proofs.lemmas.Grind.{get_or-set_at}
 use Rattle.dp_epochs.specs.declared.connection.Connection.{Connection}
-use Rattle.dp_tables.specs.declared.plan.Change.{Change}
-use Rattle.dp_tables.specs.declared.plan.Change.TheVariants.{Stays, Adds, Becomes}
+use Rattle.dp_epochs.specs.declared.effect.Effect.{Effect}
+use Rattle.dp_epochs.specs.declared.effect.Effect.TheVariants.{Joined}
 use Rattle.dp_epochs.specs.State.{State}
 use Rattle.dp_epochs.specs.Past.{quiet_with}
 use Rattle.dp_history.specs.Users.{mark}
 use Rattle.dp_tables.specs.Tables.{quiet_of, flagged}
-use Rattle.dp_tables.specs.Plans.{quiet_after}
+use Rattle.dp_tables.specs.Ready.{quiet_after}
 use Rattle.dp_history.proofs.Ranges.{find-first, find-none, filter-range_same, list_any-find}
 use Rattle.dp_history.proofs.Ranges.{list_any-filter, both}
 
@@ -77,11 +77,10 @@ quiet-adds flags =
       at_end xs k e = ap (λ i. mark (xs ++ false ∷ []) i) e ∙ get_or-append_seam xs false [] false
 
 -- the quiet connections stay
-pub quiet-changed : (change : Change) (flags : List Bool)
-    → quiet_of (quiet_after change flags) ≡ quiet_of flags
-quiet-changed Stays flags = refl
-quiet-changed (Adds c) flags = quiet-adds flags
-quiet-changed (Becomes conn c) flags = refl
+pub quiet-stays : (effect : Effect) (flags : List Bool)
+    → quiet_of (quiet_after effect flags) ≡ quiet_of flags
+quiet-stays (Joined user next) flags = quiet-adds flags
+quiet-stays effect flags = refl
 
 abbrev with_it : State → List Bool → ℕ → List ℕ
 with_it s flags conn =

@@ -1,6 +1,6 @@
 -- When tables are those of a state.
-use Rattle.std.proofs.Common.{◌≡◌, ℕ, zero, suc, ◌+◌, ◌-◌, ◌*◌, ◌<◌, ◌≤◌, Bool, true, false}
-use Rattle.std.proofs.Common.{cond}
+use Rattle.std.proofs.Common.{◌≡◌, ℕ, zero, suc, ◌+◌, ◌-◌, ◌*◌, ◌<◌, ◌≤◌, ◌==◌, Bool, true, false}
+use Rattle.std.proofs.Common.{cond, not}
 use Rattle.std.proofs.Common.{nat_lt, nat_le, if◌then◌else◌, is_some, unwrap_or}
 use Rattle.std.proofs.Common.{List, [], ◌∷◌, ◌++◌, length, set, map, All, Option, None, Some}
 use Rattle.std.proofs.Common.{append_assoc, refl, sym, ap, subst, ◌∙◌, ⊎_elim, arith, length-append}
@@ -31,18 +31,26 @@ use Rattle.dp_epochs.specs.declared.event.Event.{Event}
 use Rattle.dp_epochs.specs.declared.event.Event.TheVariants as event
 use Rattle.dp_history.specs.declared.item.HistoryItem.{HistoryItem}
 use Rattle.dp_history.specs.declared.item.HistoryItem.TheVariants as item
-use Rattle.dp_tables.specs.declared.plan.Change.{Change}
-use Rattle.dp_tables.specs.declared.plan.Change.TheVariants.{Stays, Adds, Becomes}
-use Rattle.dp_tables.specs.declared.plan.Placing.{Placing}
-use Rattle.dp_tables.specs.declared.plan.Placing.TheVariants.{Said, Server, Opens}
-use Rattle.dp_tables.specs.declared.plan.StreamChange.{StreamChange}
-use Rattle.dp_tables.specs.declared.plan.StreamChange.TheVariants as stream
-use Rattle.dp_tables.specs.declared.plan.Plan.{Plan}
+use Rattle.dp_tables.specs.declared.ready.Supply.{Supply}
+use Rattle.dp_tables.specs.declared.ready.Supply.TheVariants.{Entries, Opens}
+use Rattle.dp_tables.specs.declared.ready.Ready.{Ready}
+use Rattle.dp_epochs.specs.declared.connection.Ending.TheVariants as ending
+use Rattle.dp_epochs.specs.declared.connection.Place.{Place}
+use Rattle.dp_epochs.specs.declared.decision.Decision.TheVariants as decision
+use Rattle.dp_epochs.specs.declared.effect.Effect.{Effect}
+use Rattle.dp_epochs.specs.declared.effect.Effect.TheVariants.{TakesUp, Placed, Joined, Left, Began}
+use Rattle.dp_epochs.specs.declared.effect.Effect.TheVariants.{Added, Dropped, Reopened}
+use Rattle.dp_epochs.specs.Effects.{own_message, made, entries_of, ended_after, live_after}
+use Rattle.dp_epochs.specs.Effects.{connections_at, connections_after, stream_after, IsReset}
+use Rattle.dp_epochs.specs.Effects.{FitsReset, IsJoin, IsEffect, EffectsAreMade}
+use Rattle.dp_epochs.proofs.EffectLemmas.{entries-few}
+use Rattle.dp_epochs.proofs.OpenConnections.{open_is_found}
 use Rattle.dp_epochs.specs.Connections.{is_open}
 use Rattle.dp_epochs.specs.State.{State, Stream, first_state, is_present, present_users, is_name}
 use Rattle.dp_epochs.specs.State.{free_id, entry_of, epoch_of, after_shut, after_event, acted}
 use Rattle.dp_epochs.specs.State.{first_stream, with_part, part_bytes, reset_byte_limit}
-use Rattle.dp_epochs.specs.State.{history_of}
+use Rattle.dp_epochs.specs.State.{history_of, here, new_connection, open_connection, open_in}
+use Rattle.dp_epochs.specs.State.{with_connection, stream_without}
 use Rattle.dp_epochs.specs.declared.event.ShutAt.{ShutAt}
 use Rattle.dp_tables.specs.declared.tables.Tables.TheInside.{Inside}
 use Rattle.dp_epochs.specs.Rows.{row_of, row_bytes, event_limit, byte_limit, has_room}
@@ -56,14 +64,15 @@ use Rattle.dp_history.specs.Items.{IsPart, commands_in}
 use Rattle.dp_tables.specs.Tables.{stream_in, IsResetIn}
 use Rattle.dp_history.specs.Users.{IsJoinedBy, AreJoined}
 use Rattle.dp_tables.specs.Tables.{is_holder, MarksHolders, Seen, AreOf}
-use Rattle.dp_tables.specs.Inside.{ledger_of, seen, AreTables}
-use Rattle.dp_tables.specs.Plans.{event_of, entries_of, items_of, items_after, history_after}
-use Rattle.dp_tables.specs.Plans.{ended_after, epoch_after, IsOpening, opens_after, IsNewUser}
-use Rattle.dp_tables.specs.Plans.{IsJoinOf, streamed, owner_after, parts_after, bytes_after}
-use Rattle.dp_tables.specs.Plans.{IsGrowth, IsStreamChange, changed, marks_after, quiet_after}
-use Rattle.dp_tables.specs.Plans.{IsChange, IsPlan}
-use Rattle.dp_history.proofs.Ranges.{lists-user}
-use Rattle.dp_tables.proofs.Holders.{any-marked, mark-set_same, mark-set_other, marks-changed}
+use Rattle.dp_tables.specs.Inside.{is_ready, ledger_of, seen, AreTables}
+use Rattle.dp_tables.specs.Ready.{own_entries, own_items, SaysOwn, opens_epoch, supplied, IsSupply}
+use Rattle.dp_tables.specs.Ready.{items_after, IsWithSupply, AreFramesWith, epoch_with, marks_after}
+use Rattle.dp_tables.specs.Ready.{opens_after, quiet_after, closed_in, unmarked, is_sender}
+use Rattle.dp_tables.specs.Ready.{owner_after, parts_after, bytes_after, IsReady}
+use Rattle.dp_lists.proofs.Numbered.{number-found}
+use Rattle.dp_history.proofs.Ranges.{lists-user, find_user-passes}
+use Rattle.dp_tables.proofs.Holders.{any-marked, mark-set_same, mark-set_other, marks-adds}
+use Rattle.dp_tables.proofs.Holders.{marks-becomes}
 
 -- ---- entries
 
@@ -121,76 +130,120 @@ entries-later journal more (i ∷ live) said =
     (entries-later journal more live (All-tail (IsIn journal) i live said))
 
 -- entries of the server's own are themselves
-own_entries : (journal : List Event) (entries : List Entry)
+own_entries_kept : (journal : List Event) (entries : List Entry)
     → (map (entry_in journal) (map item.Server entries) ≡ entries)
     × All (IsIn journal) (map item.Server entries)
-own_entries journal [] = (refl, All-nil (IsIn journal))
-own_entries journal (e ∷ entries) =
-    let h = own_entries journal entries in (
+own_entries_kept journal [] = (refl, All-nil (IsIn journal))
+own_entries_kept journal (e ∷ entries) =
+    let h = own_entries_kept journal entries in (
       ap (λ xs. e ∷ xs) h.0,
       All-cons (IsIn journal) (item.Server e) (map item.Server entries) tt
           h.1,
     )
 
--- what an event places is kept so
-items-placed : (journal : List Event) (placing : Placing)
-    → (map (entry_in (journal ++ event_of placing ∷ [])) (items_of (length journal) placing)
-    ≡ entries_of placing)
-    × All (IsIn (journal ++ event_of placing ∷ [])) (items_of (length journal) placing)
-items-placed journal (Said conn entry) =
-    let e = last_there journal (event.Say conn entry.msg) in
-    let J = journal ++ event.Say conn entry.msg ∷ [] in (
-      ap (λ o. record { user = entry.user; msg = message_of o } ∷ []) e,
-      All-cons (IsIn J) (item.Said (length journal) entry.user) [] (subst IsSay (sym e) tt)
+own-few : (e : Event) (effect : Effect) → length (own_entries e effect) ≤ 1
+own-few e (Placed conn c) = omega arith
+own-few e effect = omega arith
+
+-- what the event says is kept so, if it is placed
+own-placed : (journal : List Event) (e : Event) (effect : Effect) → SaysOwn e effect
+    → (map (entry_in (journal ++ e ∷ [])) (own_items (length journal) effect)
+    ≡ own_entries e effect)
+    × All (IsIn (journal ++ e ∷ [])) (own_items (length journal) effect)
+own-placed journal (event.Say conn m) (Placed n c) says =
+    let e = last_there journal (event.Say conn m) in
+    let J = journal ++ event.Say conn m ∷ [] in (
+      ap (λ o. record { user = c.user; msg = message_of o } ∷ []) e,
+      All-cons (IsIn J) (item.Said (length journal) c.user) [] (subst IsSay (sym e) tt)
           (All-nil (IsIn J)),
     )
-items-placed journal (Server e first second) =
-    own_entries (journal ++ e ∷ []) (option_to_list first ++ option_to_list second)
-items-placed journal (Opens e opening) = (refl, All-nil (IsIn (journal ++ e ∷ [])))
+own-placed journal (event.Open name registered) (Placed n c) says = absurd says
+own-placed journal (event.Close conn) (Placed n c) says = absurd says
+own-placed journal e effect says = (refl, All-nil (IsIn (journal ++ e ∷ [])))
 
--- the live history as it is kept after an event that places entries after it
-items-more : (journal : List Event) (live : List HistoryItem) (history : List Entry)
-    (placing : Placing)
-    → map (entry_in journal) live ≡ history → All (IsIn journal) live
-    → (map (entry_in (journal ++ event_of placing ∷ []))
-    (live ++ items_of (length journal) placing) ≡ history ++ entries_of placing)
-    × All (IsIn (journal ++ event_of placing ∷ [])) (live ++ items_of (length journal) placing)
-items-more journal live history placing is said =
-    let e = event_of placing in
-    let J : List Event = journal ++ e ∷ [] in
-    let placed = items-placed journal placing in
-    let items = items_of (length journal) placing in (
-      map-append (entry_in J) live items
-          ∙ ap (λ xs. xs ++ map (entry_in J) items)
-          (entries-later journal (e ∷ []) live said ∙ is)
-          ∙ ap (λ xs. history ++ xs) placed.0,
-      All-append (IsIn J) live items
-          (All-weaker (IsIn journal) (IsIn J) (λ i h. (entry-later journal (e ∷ []) i h).1) live
-          said) placed.1,
-    )
+-- where no epoch opens, entries are placed after the live history
+pub live-more : (s : State) (e : Event) (effect : Effect) → opens_epoch effect ≡ false
+    → (live_after s e effect ≡ s.live ++ entries_of e effect) × (ended_after s effect ≡ s.ended)
+live-more s e (Reopened conn c) stays = cc
+live-more s e effect stays = (refl, refl)
 
--- the live history as it is kept after any event
-items-kept : (journal : List Event) (live : List HistoryItem) (history : List Entry)
-    (placing : Placing)
-    → map (entry_in journal) live ≡ history → All (IsIn journal) live → IsOpening journal placing
-    → (map (entry_in (journal ++ event_of placing ∷ []))
-    (items_after (length journal) placing live) ≡ history_after journal placing history)
-    × All (IsIn (journal ++ event_of placing ∷ [])) (items_after (length journal) placing live)
-items-kept journal live history (Said conn entry) is said opening =
-    items-more journal live history (Said conn entry) is said
-items-kept journal live history (Server e first second) is said opening =
-    items-more journal live history (Server e first second) is said
-items-kept journal live history (Opens e next) is said opening = (
-  entries-later journal (e ∷ []) next.live.items opening.0,
-  All-weaker (IsIn journal) (IsIn (journal ++ e ∷ []))
-      (λ i h. (entry-later journal (e ∷ []) i h).1) next.live.items opening.0,
-)
+-- where one opens, there is one more
+ended-more : (s : State) (effect : Effect) → opens_epoch effect ≡ true
+    → length (ended_after s effect) ≡ length s.ended + 1
+ended-more s (Reopened conn c) opens = length-append s.ended (s.live ∷ [])
+ended-more s effect opens = cc
 
-epoch-kept : (placing : Placing) (s : State) (epoch : ℕ) → epoch ≡ epoch_of s
-    → epoch_after placing epoch ≡ length (ended_after placing s)
-epoch-kept (Said conn entry) s epoch is = is
-epoch-kept (Server e first second) s epoch is = is
-epoch-kept (Opens e next) s epoch is = omega (arith, is, length-append s.ended (s.live ∷ []))
+-- a message is placed only by a Say
+pub says-own : (s : State) (e : Event) (effect : Effect) → IsEffect s e effect → SaysOwn e effect
+says-own s e (Placed conn c) cause = subst (λ x. IsSay (Some x)) (sym cause.0.came) tt
+says-own s e effect cause = tt
+
+module _ (journal : List Event) (s : State) (e : Event) (effect : Effect)
+    (cause : IsEffect s e effect) where
+  abbrev J : List Event
+  J = journal ++ e ∷ []
+
+  -- the live history as it is kept after the event
+  items-kept : (live : List HistoryItem) (supply : Supply) → IsSupply journal s e effect supply
+      → map (entry_in journal) live ≡ s.live → All (IsIn journal) live
+      → (map (entry_in J) (items_after (own_items (length journal) effect) supply live)
+      ≡ live_after s e effect)
+      × All (IsIn J) (items_after (own_items (length journal) effect) supply live)
+  items-kept live (Entries first second) supply is said =
+      let own = own-placed journal e effect (says-own s e effect cause) in
+      let list = option_to_list first ++ option_to_list second in
+      let ahead = own_entries_kept J list in
+      let more = own_items (length journal) effect ++ map item.Server list in (
+        map-append (entry_in J) live more
+            ∙ ap (λ xs. xs ++ map (entry_in J) more)
+            (entries-later journal (e ∷ []) live said ∙ is)
+            ∙ ap (λ xs. s.live ++ xs)
+            (map-append (entry_in J) (own_items (length journal) effect) (map item.Server list)
+            ∙ ap (λ xs. xs ++ map (entry_in J) (map item.Server list)) own.0
+            ∙ ap (λ xs. own_entries e effect ++ xs) ahead.0
+            ∙ supply.1)
+            ∙ sym (live-more s e effect supply.0).0,
+        All-append (IsIn J) live more
+            (All-weaker (IsIn journal) (IsIn J) (λ i h. (entry-later journal (e ∷ []) i h).1) live
+            said)
+            (All-append (IsIn J) (own_items (length journal) effect) (map item.Server list) own.1
+            ahead.1),
+      )
+  items-kept live (Opens opening) supply is said = (
+    entries-later journal (e ∷ []) opening.live.items supply.1.said ∙ supply.1.entries,
+    All-weaker (IsIn journal) (IsIn J)
+        (λ i h. (entry-later journal (e ∷ []) i h).1) opening.live.items supply.1.said,
+  )
+
+  epoch-kept : (supply : Supply) (epoch : ℕ) → IsSupply journal s e effect supply
+      → epoch ≡ epoch_of s → epoch_with supply epoch ≡ length (ended_after s effect)
+  epoch-kept (Entries first second) epoch supply is =
+      is ∙ sym (ap length (live-more s e effect supply.0).1)
+  epoch-kept (Opens opening) epoch supply is =
+      omega (arith, is, ended-more s effect supply.0)
+
+  -- the rights that were noted with the event's own entry are, with the supply, those after it
+  pub next-is : (supply : Supply) → IsSupply journal s e effect supply
+      → IsWithSupply journal supply (s.live ++ own_entries e effect) (live_after s e effect)
+  next-is (Entries first second) supply =
+      (live-more s e effect supply.0).0
+      ∙ ap (λ xs. s.live ++ xs) (sym supply.1)
+      ∙ sym (append_assoc s.live (own_entries e effect)
+      (option_to_list first ++ option_to_list second))
+  next-is (Opens opening) supply = supply.1
+
+  -- the event places few entries
+  pub supply-few : (supply : Supply) → IsSupply journal s e effect supply
+      → length (own_entries e effect) + length (supplied supply) ≤ 2
+  supply-few (Entries first second) supply =
+      let list = option_to_list first ++ option_to_list second in
+      omega (
+        arith,
+        length-append (own_entries e effect) list,
+        ap length supply.1,
+        entries-few e effect,
+      )
+  supply-few (Opens opening) supply = omega (arith, own-few e effect)
 
 -- ---- a reset that is being sent
 
@@ -244,10 +297,10 @@ grown-in : (owner : Option ℕ) (commands : List Draw) (command : Draw)
 grown-in None commands command = refl
 grown-in (Some conn) commands command = refl
 
--- what the size of the event's payload is, where it is a part
-abbrev SizeIs : State → Event → ℕ → StreamChange → Type 0
-SizeIs s e size stream.Grows = (g : IsGrowth s e) → size ≡ part_bytes g.fitting.command
-SizeIs s e size change = Unit {0}
+-- the size is that of the event's payload, if it says a part
+abbrev PartSize : Event → ℕ → Type 0
+PartSize e size = (conn : ℕ) (command : Draw) → e ≡ event.Say conn (msg.Part command)
+    → size ≡ part_bytes command
 
 module _ (sent : Option Stream) (journal : List Event) (owner : Option ℕ) (parts : List ℕ)
     (bytes : ℕ) (h : IsResetIn sent journal owner parts bytes) (e : Event) where
@@ -298,30 +351,30 @@ module _ (sent : Option Stream) (journal : List Event) (owner : Option ℕ) (par
   }
 
   -- one more part
-  reset-grows : (s : State) → s.stream ≡ sent → (growth : IsGrowth s e) (size : ℕ)
-      → size ≡ part_bytes growth.fitting.command
-      → IsResetIn (option_map (with_part (message_of (Some e))) sent) later owner
+  reset-grows : (s : State) (conn : ℕ) (c : Connection) (command : Draw) → s.stream ≡ sent
+      → IsReset s e conn c (msg.Part command) decision.AddPart → FitsReset s conn command
+      → (size : ℕ) → PartSize e size
+      → IsResetIn (option_map (with_part (own_message e)) sent) later owner
       (parts ++ length journal ∷ []) (bytes + size)
-  reset-grows s is growth size size_is =
+  reset-grows s conn c command is reset fitting size size_of =
       let commands = commands_in journal parts in
-      let came : e ≡ event.Say growth.conn (msg.Part growth.fitting.command) =
-      growth.said ∙ ap (event.Say growth.conn) growth.fitting.part in
+      let came : e ≡ event.Say conn (msg.Part command) =
+      reset.said.came ∙ ap (event.Say conn) reset.is in
+      let size_is : size ≡ part_bytes command = size_of conn command came in
       let new : slice_get later (length journal) ≡ Some e = last_there journal e in
-      let part : part_of (slice_get later (length journal)) ≡ Some growth.fitting.command =
+      let part : part_of (slice_get later (length journal)) ≡ Some command =
       ap part_of new ∙ ap (λ x. part_of (Some x)) came in
-      let all : commands_in later (parts ++ length journal ∷ []) ≡ commands
-      ++ growth.fitting.command ∷ [] =
+      let all : commands_in later (parts ++ length journal ∷ []) ≡ commands ++ command ∷ [] =
       filter_map-append (λ k. part_of (slice_get later k)) parts (length journal ∷ [])
       ∙ ap (λ xs. xs ++ commands_in later (length journal ∷ [])) commands-after
       ∙ ap (λ o. commands ++ cons_option o []) part in
-      let same : growth.fitting.stream.commands ≡ commands =
-      sent-in owner commands growth.fitting.stream (h.stream ∙ sym is ∙ growth.fitting.sent) in
-      let room = and_parts (nat_lt (length growth.fitting.stream.commands) part_limit)
-      (nat_le (sum_by part_bytes growth.fitting.stream.commands + part_bytes growth.fitting.command)
-      reset_byte_limit) growth.fitting.fits in
-      let count = ltb-true (length growth.fitting.stream.commands) part_limit room.0 in
-      let fits = leb-true (sum_by part_bytes growth.fitting.stream.commands + part_bytes
-      growth.fitting.command)
+      let same : fitting.stream.commands ≡ commands =
+      sent-in owner commands fitting.stream (h.stream ∙ sym is ∙ fitting.sent) in
+      let room = and_parts (nat_lt (length fitting.stream.commands) part_limit)
+      (nat_le (sum_by part_bytes fitting.stream.commands + part_bytes command)
+      reset_byte_limit) fitting.fits in
+      let count = ltb-true (length fitting.stream.commands) part_limit room.0 in
+      let fits = leb-true (sum_by part_bytes fitting.stream.commands + part_bytes command)
       reset_byte_limit room.1 in
       record {
         stream = ap (λ list. option_map (λ conn. record {
@@ -329,14 +382,14 @@ module _ (sent : Option Stream) (journal : List Event) (owner : Option ℕ) (par
           commands = list;
           place = None;
         }) owner) all
-            ∙ grown-in owner commands growth.fitting.command
-            ∙ ap (option_map (with_part (msg.Part growth.fitting.command))) h.stream
-            ∙ ap (λ x. option_map (with_part (message_of (Some x))) sent) (sym came);
+            ∙ grown-in owner commands command
+            ∙ ap (option_map (with_part (msg.Part command))) h.stream
+            ∙ ap (λ x. option_map (with_part x) sent) (sym reset.is);
         said = All-push (IsPart later) parts (length journal) parts-later
             (ap is_some part);
         size = ap (λ n. n + size) h.size
             ∙ ap (λ n. sum_by part_bytes commands + n) size_is
-            ∙ sym (sum_by_push part_bytes commands growth.fitting.command)
+            ∙ sym (sum_by_push part_bytes commands command)
             ∙ ap (sum_by part_bytes) (sym all);
         many = omega (
           arith,
@@ -349,34 +402,77 @@ module _ (sent : Option Stream) (journal : List Event) (owner : Option ℕ) (par
         none = λ no_one.
             let sent_none : None ≡ sent = ap (λ o. stream_in journal o parts) (sym no_one)
             ∙ h.stream in
-            cc (growth.fitting.sent);
+            cc (fitting.sent);
       }
 
-  -- after any event
-  reset-kept : (s : State) (change : StreamChange) (size : ℕ) → s.stream ≡ sent
-      → IsStreamChange s e change → SizeIs s e size change
-      → IsResetIn (streamed change e sent) later (owner_after change owner)
-      (parts_after (length journal) change parts) (bytes_after size change bytes)
-  reset-kept s stream.Stays size is growth size_is = reset-stays
-  reset-kept s (stream.Begins conn) size is growth size_is = reset-begins conn
-  reset-kept s stream.Grows size is growth size_is =
-      reset-grows s is growth size (size_is growth)
-  reset-kept s stream.Ends size is growth size_is = reset-ends
+-- a connection leaves
+reset-left : (sent : Option Stream) (journal : List Event) (owner : Option ℕ) (parts : List ℕ)
+    (bytes : ℕ) → IsResetIn sent journal owner parts bytes → (e : Event) (conn : ℕ)
+    → IsResetIn (stream_without conn sent) (journal ++ e ∷ [])
+    (if is_sender conn owner then None else owner) (if is_sender conn owner then [] else parts)
+    (if is_sender conn owner then 0 else bytes)
+reset-left sent journal None parts bytes h e conn =
+    subst (λ o. IsResetIn o (journal ++ e ∷ []) None parts bytes)
+    (sym h.stream ∙ ap (stream_without conn) h.stream)
+    (reset-stays sent journal None parts bytes h e)
+reset-left sent journal (Some owner) parts bytes h e conn =
+    subst (λ o. IsResetIn (stream_without conn o) (journal ++ e ∷ [])
+    (if owner == conn then None else Some owner) (if owner == conn then [] else parts)
+    (if owner == conn then 0 else bytes)) h.stream
+    (by_sender (owner == conn))
+  where
+    stream : Stream
+    stream = record { owner = owner; commands = commands_in journal parts; place = None }
+
+    by_sender : (b : Bool) → IsResetIn (if b then None else Some stream) (journal ++ e ∷ [])
+        (if b then None else Some owner) (if b then [] else parts) (if b then 0 else bytes)
+    by_sender true = reset-ends sent journal (Some owner) parts bytes h e
+    by_sender false =
+        subst (λ o. IsResetIn o (journal ++ e ∷ []) (Some owner) parts bytes) (sym h.stream)
+        (reset-stays sent journal (Some owner) parts bytes h e)
+
+-- after any event
+reset-kept : (s : State) (journal : List Event) (owner : Option ℕ) (parts : List ℕ) (bytes : ℕ)
+    → IsResetIn s.stream journal owner parts bytes → (e : Event) (effect : Effect)
+    → IsEffect s e effect → (size : ℕ) → PartSize e size
+    → IsResetIn (stream_after e s.stream effect) (journal ++ e ∷ []) (owner_after effect owner)
+    (parts_after (length journal) effect owner parts) (bytes_after size effect owner bytes)
+reset-kept s journal owner parts bytes h e (Left conn c next) cause size size_of =
+    reset-left s.stream journal owner parts bytes h e conn
+reset-kept s journal owner parts bytes h e (Began conn c) cause size size_of =
+    reset-begins s.stream journal owner parts bytes h e conn
+reset-kept s journal owner parts bytes h e (Added conn c) cause size size_of =
+    reset-grows s.stream journal owner parts bytes h e s conn c cause.0 refl cause.1 cause.2 size
+    size_of
+reset-kept s journal owner parts bytes h e (Dropped conn c) cause size size_of =
+    reset-ends s.stream journal owner parts bytes h e
+reset-kept s journal owner parts bytes h e (Reopened conn c) cause size size_of =
+    reset-ends s.stream journal owner parts bytes h e
+reset-kept s journal owner parts bytes h e effect cause size size_of =
+    reset-stays s.stream journal owner parts bytes h e
 
 -- an event adds at most one connection
-changed-more : (change : Change) (cs : List Connection)
-    → (length cs ≤ length (changed change cs)) × (length (changed change cs) ≤ length cs + 1)
-changed-more Stays cs = (omega arith, omega arith)
-changed-more (Adds c) cs = (simp length-append (omega arith), simp length-append (omega arith))
-changed-more (Becomes conn c) cs = (simp length-set (omega arith), simp length-set (omega arith))
+connections-more : (s : State) (effect : Effect)
+    → length (connections_after s effect) ≤ length s.connections + 1
+connections-more s (TakesUp conn c) =
+    omega (
+      arith,
+      length-set s.connections (conn - 1) (record c { acknowledged = epoch_of s }),
+    )
+connections-more s (Joined user next) =
+    omega (arith, length-append s.connections (new_connection s user ∷ []))
+connections-more s (Left conn c next) =
+    omega (
+      arith,
+      length-set s.connections (conn - 1) (record c { ending = ending.Left (here s) }),
+    )
+connections-more s effect = omega arith
 
 -- ---- states
 
--- a connection is closed, or none
-abbrev pub IsClosing : Change → Type 0
-IsClosing Stays = Unit {0}
-IsClosing (Adds c) = ⊥
-IsClosing (Becomes conn c) = is_open c ≡ false
+not_true : (b : Bool) → not b ≡ true → b ≡ false
+not_true true h = cc
+not_true false h = refl
 
 -- who is present has joined last as before, and who joins by that
 pub record JoinsStay (s : State) : Type 0 where
@@ -396,19 +492,14 @@ module _ (s : State) (t : Seen) (are : AreOf s t) where
   pub live-length : length t.live ≡ length s.live
   live-length = sym (length-map t.live (entry_in t.journal)) ∙ ap length are.entries
 
-  length-marks_after : (change : Change) → length (marks_after change t.present) ≡ 256
-  length-marks_after Stays = are.ids
-  length-marks_after (Adds c) = simp length-set are.ids
-  length-marks_after (Becomes conn c) =
-      elim (is_open c) as (λ b. length (cond b t.present (set t.present c.user false)) ≡ 256) [
-        | true ↦ are.ids
-        | false ↦ simp length-set are.ids
-      ]
+  length-marks : (effect : Effect) → length (marks_after effect t.present) ≡ 256
+  length-marks (Joined user next) = simp length-set are.ids
+  length-marks (Left conn c next) = simp length-set are.ids
+  length-marks effect = are.ids
 
-  length-opens_after : (n : ℕ) (change : Change) → length (opens_after n change t.opens) ≡ 256
-  length-opens_after n Stays = are.slots
-  length-opens_after n (Adds c) = simp length-set are.slots
-  length-opens_after n (Becomes conn c) = are.slots
+  length-opens : (n : ℕ) (effect : Effect) → length (opens_after n effect t.opens) ≡ 256
+  length-opens n (Joined user next) = simp length-set are.slots
+  length-opens n effect = are.slots
 
   -- a user who is marked is among the present ones
   marked-present : (user : ℕ) → 1 ≤ user → user ≤ 254 → mark t.present user ≡ true
@@ -417,43 +508,18 @@ module _ (s : State) (t : Seen) (are : AreOf s t) where
       lists-user (is_present s) user above below
       ∙ present-marked user (omega arith) ∙ up
 
-  -- who was marked after the change and not before was added by it
-  newly-marked : (change : Change) (user : ℕ) → user < 256
-      → mark (marks_after change t.present) user ≡ true → mark t.present user ≡ false
-      → (c : Connection) × (change ≡ Adds c) × (c.user ≡ user)
-  newly-marked Stays user small up down = absurd (false≢true (sym down ∙ up))
-  newly-marked (Adds c) user small up down =
-      ⊎_elim (λ (same : c.user ≡ user). (c, refl, same))
-      (λ (other : c.user ≡ user → ⊥).
-      absurd (false≢true (sym (mark-set_other t.present c.user user true other ∙ down) ∙ up)))
-      (cases_eq c.user user)
-  newly-marked (Becomes conn c) user small up down =
-      absurd (none_new (is_open c) up)
-    where
-      none_new : (b : Bool)
-          → mark (cond b t.present (set t.present c.user false)) user ≡ true → ⊥
-      none_new true is = false≢true (sym down ∙ is)
-      none_new false is =
-          ⊎_elim (λ (same : c.user ≡ user).
-          let gone : mark (set t.present c.user false) user ≡ false =
-          subst (λ u. mark (set t.present c.user false) u ≡ false) same
-          (mark-set_same t.present c.user false (omega (arith, are.ids, same))) in
-          false≢true (sym gone ∙ is))
-          (λ (other : c.user ≡ user → ⊥).
-          false≢true (sym (mark-set_other t.present c.user user false other ∙ down) ∙ is))
-          (cases_eq c.user user)
-
-  -- who was marked before was not added
-  not-added : (change : Change) (user n : ℕ) → IsChange s.connections change → user < 256
-      → mark t.present user ≡ true
-      → slice_index_or (opens_after n change t.opens) user 0 ≡ slice_index_or t.opens user 0
-  not-added Stays user n may small up = refl
-  not-added (Becomes conn c) user n may small up = refl
-  not-added (Adds c) user n may small up =
-      get_or-set_other t.opens c.user user n 0
-      (λ same. false≢true (sym may.1
-      ∙ ap (λ u. list_any (is_holder u) s.connections) (sym same)
-      ∙ present-marked user small ∙ up))
+  -- who is marked while another is unmarked was marked before
+  marked-before : (gone user : ℕ) → user < 256
+      → mark (set t.present gone false) user ≡ true → mark t.present user ≡ true
+  marked-before gone user small up =
+      ⊎_elim (λ (same : gone ≡ user).
+      let down : mark (set t.present gone false) user ≡ false =
+      subst (λ u. mark (set t.present gone false) u ≡ false) same
+      (mark-set_same t.present gone false (omega (arith, are.ids, same))) in
+      absurd (false≢true (sym down ∙ up)))
+      (λ (other : gone ≡ user → ⊥).
+      sym (mark-set_other t.present gone user false other) ∙ up)
+      (cases_eq gone user)
 
   joined-later : (more : List Event) (live : List Entry) (user event : ℕ)
       → last_join live user ≡ last_join s.live user
@@ -467,125 +533,159 @@ module _ (s : State) (t : Seen) (are : AreOf s t) where
         last = same ∙ h.last ∙ ap (join_of user) (sym e);
       }
 
-  fewer-marked : (change : Change) (user : ℕ) → IsClosing change → user < 256
-      → mark (marks_after change t.present) user ≡ true → mark t.present user ≡ true
-  fewer-marked change user closing small up =
-      ⊎_elim (λ (up_before : mark t.present user ≡ true). up_before)
-      (λ (down : mark t.present user ≡ false).
-      let new = newly-marked change user small up down in
-      absurd (subst IsClosing new.1 closing))
-      (cases_Bool (mark t.present user))
+  -- a connection that was found open ends: its user is marked no more
+  pub ends-marked : (conn : ℕ) (c d : Connection) → open_connection s conn ≡ Some c
+      → is_open d ≡ false → c.user ≡ d.user
+      → MarksHolders (set t.present d.user false) (set s.connections (conn - 1) d)
+  ends-marked conn c d found shut same =
+      let f = open_is_found s.connections conn c found in
+      marks-becomes t.present s.connections (conn - 1) c d false are.ids are.marks
+      (number-found s.connections conn c f.0).1 shut (f.1, same)
 
-  -- the tables after a connection was closed without a Leave, or none
-  AreOf-changed : (change : Change) → IsClosing change → IsChange s.connections change
-      → length (changed change s.connections) ≤ length t.journal
-      → AreOf (record s { connections = changed change s.connections }) (record t {
-        connections = changed change t.connections;
-        present = marks_after change t.present;
-      })
-  AreOf-changed change closing may opened = record {
-    epoch = are.epoch;
-    reset = are.reset;
-    table = ap (changed change) are.table;
-    entries = are.entries;
-    said = are.said;
-    stands = are.stands;
-    ids = length-marks_after change;
-    marks = marks-changed change t.present s.connections are.ids are.marks may;
-    slots = are.slots;
-    joined = λ user above below up. are.joined user above below
-        (fewer-marked change user closing (omega arith) up);
-    opened = opened;
-  }
+  -- the marks are right after an event
+  marks-kept : (e : Event) (effect : Effect) → IsEffect s e effect
+      → MarksHolders (marks_after effect t.present) (connections_after s effect)
+  marks-kept e (TakesUp conn c) cause =
+      marks-becomes t.present s.connections (conn - 1) c (record c { acknowledged = epoch_of s })
+      true are.ids are.marks (number-found s.connections conn c cause.0.at.given).1
+      cause.0.at.running (cause.0.at.running, refl)
+  marks-kept e (Joined user next) cause =
+      let free = find_user-passes (λ id. not (is_present s id)) user cause.free in
+      marks-adds t.present s.connections (new_connection s user) are.ids are.marks
+      (refl, not_true (is_present s user) free.1)
+  marks-kept e (Left conn c next) cause =
+      ends-marked conn c (record c { ending = ending.Left (here s) }) cause.at.found refl refl
+  marks-kept e effect cause = are.marks
+
+  -- who was marked before has joined last as before
+  joined-before : JoinsStay s → (e : Event) (user : ℕ) → 1 ≤ user → user ≤ 254
+      → mark t.present user ≡ true
+      → IsJoinedBy (t.journal ++ e ∷ []) (after_event s e).live user
+      (slice_index_or t.opens user 0)
+  joined-before laws e user above below up =
+      joined-later (e ∷ []) (after_event s e).live user (slice_index_or t.opens user 0)
+      (laws.present e user (marked-present user above below up))
+      (are.joined user above below up)
+
+  -- who joins has joined last by the event that is noted then
+  joined-now : JoinsStay s → (e : Event) (user : ℕ) (next : Option ℕ) → IsJoin s e user next
+      → IsJoinedBy (t.journal ++ e ∷ []) (after_event s e).live user (length t.journal)
+  joined-now laws e user next new =
+      let join = entry_of user (msg.Meta (Join new.registered new.name)) in
+      let found : join_of user (slice_get (t.journal ++ e ∷ []) (length t.journal)) ≡ Some join
+      =
+      ap (join_of user) (last_there t.journal e ∙ ap Some new.came)
+      ∙ ap (λ b. if b then Some join else None) new.named in
+      record {
+        some = ap is_some found;
+        last = ap (λ x. last_join (after_event s x).live user) new.came
+            ∙ laws.joined new.name new.registered user new.named new.free ∙ sym found;
+      }
 
   -- who is marked after an event has joined last by the event that is noted then
-  joined-kept : JoinsStay s → (e : Event) (change : Change) → IsChange s.connections change
-      → IsJoinOf s e change
-      → AreJoined (t.journal ++ e ∷ []) (after_event s e).live (marks_after change t.present)
-      (opens_after (length t.journal) change t.opens)
-  joined-kept laws e change may join user above below up =
-      ⊎_elim (λ (before : mark t.present user ≡ true).
+  joined-kept : JoinsStay s → (e : Event) (effect : Effect) → IsEffect s e effect
+      → AreJoined (t.journal ++ e ∷ []) (after_event s e).live (marks_after effect t.present)
+      (opens_after (length t.journal) effect t.opens)
+  joined-kept laws e (Joined newer next) cause user above below up =
+      ⊎_elim (λ (same : newer ≡ user).
       subst (IsJoinedBy (t.journal ++ e ∷ []) (after_event s e).live user)
-      (sym (not-added change user (length t.journal) may (omega arith) before))
-      (joined-later (e ∷ []) (after_event s e).live user (slice_index_or t.opens user 0)
-      (laws.present e user (marked-present user above below before))
-      (are.joined user above below before)))
-      (λ (down : mark t.present user ≡ false).
-      let new = newly-marked change user (omega arith) up down in
-      let user_is : IsNewUser s e user =
-      subst (IsNewUser s e) new.2 (subst (IsJoinOf s e) new.1 join) in
-      let place : slice_index_or (opens_after (length t.journal) change t.opens) user 0
-      ≡ length t.journal =
-      ap (λ x. slice_index_or (opens_after (length t.journal) x t.opens) user 0) new.1
-      ∙ ap (λ u. slice_index_or (slice_set t.opens u (length t.journal)) user 0) new.2
-      ∙ get_or-set_same t.opens user (length t.journal) 0 (omega (arith, are.slots)) in
-      subst (IsJoinedBy (t.journal ++ e ∷ []) (after_event s e).live user) (sym place)
-      (joined-now user user_is))
-      (cases_Bool (mark t.present user))
-    where
-      joined-now : (user : ℕ) → IsNewUser s e user
-          → IsJoinedBy (t.journal ++ e ∷ []) (after_event s e).live user (length t.journal)
-      joined-now user new =
-          let join = entry_of user (msg.Meta (Join new.registered new.name)) in
-          let found : join_of user (slice_get (t.journal ++ e ∷ []) (length t.journal)) ≡ Some join
-          =
-          ap (join_of user) (last_there t.journal e ∙ ap Some new.came)
-          ∙ ap (λ b. if b then Some join else None) new.named in
-          record {
-            some = ap is_some found;
-            last = ap (λ x. last_join (after_event s x).live user) new.came
-                ∙ laws.joined new.name new.registered user new.named new.free ∙ sym found;
-          }
+      (sym (ap (λ u. slice_index_or (slice_set t.opens u (length t.journal)) user 0) same
+      ∙ get_or-set_same t.opens user (length t.journal) 0 (omega (arith, are.slots))))
+      (joined-now laws e user next (subst (λ u. IsJoin s e u next) same cause)))
+      (λ (other : newer ≡ user → ⊥).
+      subst (IsJoinedBy (t.journal ++ e ∷ []) (after_event s e).live user)
+      (sym (get_or-set_other t.opens newer user (length t.journal) 0 (λ same. other (sym same))))
+      (joined-before laws e user above below
+      (sym (mark-set_other t.present newer user true other) ∙ up)))
+      (cases_eq newer user)
+  joined-kept laws e (Left conn c next) cause user above below up =
+      joined-before laws e user above below (marked-before c.user user (omega arith) up)
+  joined-kept laws e effect cause user above below up =
+      joined-before laws e user above below up
 
   -- the tables after an event that was kept
-  AreOf-kept : JoinsStay s → (plan : Plan) (after : Kept) (size : ℕ)
-      → IsPlan t.journal s (event_of plan.placing) plan
-      → StandsFor after (history_after t.journal plan.placing s.live)
-      → SizeIs s (event_of plan.placing) size plan.stream
-      → AreOf (after_event s (event_of plan.placing)) (record {
-        journal = t.journal ++ event_of plan.placing ∷ [];
-        connections = changed plan.change t.connections;
-        epoch = epoch_after plan.placing t.epoch;
-        live = items_after (length t.journal) plan.placing t.live;
+  AreOf-kept : JoinsStay s → EffectsAreMade → (e : Event) (effect : Effect) (supply : Supply)
+      (after : Kept) (size : ℕ)
+      → IsEffect s e effect → IsSupply t.journal s e effect supply
+      → StandsFor after (live_after s e effect) → PartSize e size
+      → AreOf (after_event s e) (record {
+        journal = t.journal ++ e ∷ [];
+        connections = connections_after s effect;
+        epoch = epoch_with supply t.epoch;
+        live = items_after (own_items (length t.journal) effect) supply t.live;
         rights = after;
-        present = marks_after plan.change t.present;
-        opens = opens_after (length t.journal) plan.change t.opens;
-        owner = owner_after plan.stream t.owner;
-        parts = parts_after (length t.journal) plan.stream t.parts;
-        part_bytes = bytes_after size plan.stream t.part_bytes;
+        present = marks_after effect t.present;
+        opens = opens_after (length t.journal) effect t.opens;
+        owner = owner_after effect t.owner;
+        parts = parts_after (length t.journal) effect t.owner t.parts;
+        part_bytes = bytes_after size effect t.owner t.part_bytes;
       })
-  AreOf-kept laws plan after size is stands size_is =
-      let e = event_of plan.placing in
+  AreOf-kept laws made_law e effect supply after size cause is stands size_of =
       let J : List Event = t.journal ++ e ∷ [] in
-      let kept = items-kept t.journal t.live s.live plan.placing are.entries are.said is.opening in
-      let live_is : (acted s e).state.live ≡ history_after t.journal plan.placing s.live = ap
-      (λ a. a.state.live) is.acted in
-      let table_is : (acted s e).state.connections ≡ changed plan.change s.connections = ap
-      (λ a. a.state.connections) is.acted in
+      let made_is : acted s e ≡ made s e effect = made_law s e effect cause in
+      let kept = items-kept t.journal s e effect cause t.live supply is are.entries are.said in
       record {
-        epoch = epoch-kept plan.placing s t.epoch are.epoch
-            ∙ sym (ap (λ a. length a.state.ended) is.acted);
-        reset = subst (λ o. IsResetIn o J (owner_after plan.stream t.owner)
-            (parts_after (length t.journal) plan.stream t.parts)
-            (bytes_after size plan.stream t.part_bytes)) (sym (ap (λ a. a.state.stream) is.acted))
-            (reset-kept s.stream t.journal t.owner t.parts t.part_bytes are.reset e s plan.stream
-            size refl is.growth size_is);
-        table = ap (changed plan.change) are.table ∙ sym table_is;
-        entries = kept.0 ∙ sym live_is;
+        epoch = epoch-kept t.journal s e effect cause supply t.epoch is are.epoch
+            ∙ sym (ap (λ a. length a.state.ended) made_is);
+        reset = subst (λ o. IsResetIn o J (owner_after effect t.owner)
+            (parts_after (length t.journal) effect t.owner t.parts)
+            (bytes_after size effect t.owner t.part_bytes))
+            (sym (ap (λ a. a.state.stream) made_is))
+            (reset-kept s t.journal t.owner t.parts t.part_bytes are.reset e effect cause size
+            size_of);
+        table = sym (ap (λ a. a.state.connections) made_is);
+        entries = kept.0 ∙ sym (ap (λ a. a.state.live) made_is);
         said = kept.1;
-        stands = subst (StandsFor after) (sym live_is) stands;
-        ids = length-marks_after plan.change;
-        marks = subst (MarksHolders (marks_after plan.change t.present)) (sym table_is)
-            (marks-changed plan.change t.present s.connections are.ids are.marks is.change);
-        slots = length-opens_after (length t.journal) plan.change;
-        joined = joined-kept laws e plan.change is.change is.join;
+        stands = subst (StandsFor after) (sym (ap (λ a. a.state.live) made_is)) stands;
+        ids = length-marks effect;
+        marks = subst (MarksHolders (marks_after effect t.present))
+            (sym (ap (λ a. a.state.connections) made_is)) (marks-kept e effect cause);
+        slots = length-opens (length t.journal) effect;
+        joined = joined-kept laws e effect cause;
         opened = omega (
           arith,
-          ap length table_is,
-          (changed-more plan.change s.connections).1,
+          ap (λ a. length a.state.connections) made_is,
+          connections-more s effect,
           length-append t.journal (e ∷ []),
           are.opened,
         );
+      }
+
+  -- the tables after a connection, if it is open, was closed without a Leave
+  AreOf-shut : (conn : ℕ) (o : Option Connection) → open_connection s conn ≡ o
+      → AreOf (option_map_or (λ c. with_connection s conn (record c { ending = ending.Shut })) o s)
+      (record t {
+        connections = closed_in conn o s.connections;
+        present = unmarked o t.present;
+      })
+  AreOf-shut conn None is = record {
+    epoch = are.epoch;
+    reset = are.reset;
+    table = refl;
+    entries = are.entries;
+    said = are.said;
+    stands = are.stands;
+    ids = are.ids;
+    marks = are.marks;
+    slots = are.slots;
+    joined = are.joined;
+    opened = are.opened;
+  }
+  AreOf-shut conn (Some c) is =
+      let d : Connection = record c { ending = ending.Shut } in
+      record {
+        epoch = are.epoch;
+        reset = are.reset;
+        table = refl;
+        entries = are.entries;
+        said = are.said;
+        stands = are.stands;
+        ids = simp length-set are.ids;
+        marks = ends-marked conn c d is refl refl;
+        slots = are.slots;
+        joined = λ user above below up. are.joined user above below
+            (marked-before c.user user (omega arith) up);
+        opened = omega (arith, length-set s.connections (conn - 1) d, are.opened);
       }
 
 -- ---- nothing has come
@@ -694,18 +794,28 @@ ledger-is a b journal shut quiet room =
 
 -- ---- an event was kept
 
-flags-after : (change : Change) (flags : List Bool) (cs : List Connection)
+-- where memory is ready, there is room for two entries
+pub ready-rights : (t : Inside) → is_ready t ≡ true → 2 ≤ t.rights.room
+ready-rights t ready = leb-true 2 t.rights.room (and_parts _ (nat_le 2 t.rights.room) ready).1
+
+flags-after : (place : Place) (effect : Effect) (flags : List Bool) (cs : List Connection)
     → length flags ≡ length cs
-    → length (quiet_after change flags) ≡ length (changed change cs)
-flags-after Stays flags cs same = same
-flags-after (Adds c) flags cs same = omega (
-  arith,
-  length-append flags (false ∷ []),
-  length-append
-      cs (c ∷ []),
-  same,
-)
-flags-after (Becomes conn c) flags cs same = simp length-set same
+    → length (quiet_after effect flags) ≡ length (connections_at place cs effect)
+flags-after place (TakesUp conn c) flags cs same = simp length-set same
+flags-after place (Joined user next) flags cs same =
+    omega (
+      arith,
+      length-append flags (false ∷ []),
+      length-append cs (record {
+        user = user;
+        acknowledged = place.epoch;
+        joined = place;
+        ending = ending.Running;
+      } ∷ []),
+      same,
+    )
+flags-after place (Left conn c next) flags cs same = simp length-set same
+flags-after place effect flags cs same = same
 
 -- a past with these events and closings
 past_in : SessionLog → Past
@@ -745,71 +855,84 @@ unfolding past_in
 epoch-fits few t are =
     omega (arith, few (past_in (ledger_of t)), are.of.epoch, are.events)
 
--- what keeping a planned event makes of the tables
-pub record IsKept (old : Inside) (plan : Plan) (row_length : ℕ) (new : Inside) : Type 0 where
-  pub journal : new.journal.items ≡ old.journal.items ++ event_of plan.placing ∷ []
-  pub bytes : new.row_bytes ≡ old.row_bytes + row_length
+-- what keeping an event makes of the tables
+pub record IsKept (old : Inside) (ready : Ready) (new : Inside) : Type 0 where
+  pub journal : new.journal.items ≡ old.journal.items ++ ready.event ∷ []
+  pub bytes : new.row_bytes ≡ old.row_bytes + length ready.row.bytes
   pub shut : new.shut.items ≡ old.shut.items
-  pub connections : new.connections.items ≡ changed plan.change old.connections.items
-  pub quiet : new.quiet.items ≡ quiet_after plan.change old.quiet.items
-  pub epoch : new.epoch ≡ epoch_after plan.placing old.epoch
-  pub live : new.live.items ≡ items_after (length old.journal.items) plan.placing old.live.items
+  pub connections : new.connections.items
+      ≡ connections_at (here (state_in (ledger_of old))) old.connections.items ready.effect
+  pub quiet : new.quiet.items ≡ quiet_after ready.effect old.quiet.items
+  pub epoch : new.epoch ≡ epoch_with ready.supply old.epoch
+  pub live : new.live.items
+      ≡ items_after (own_items (length old.journal.items) ready.effect) ready.supply old.live.items
   pub stands : StandsFor new.rights
-      (history_after old.journal.items plan.placing (state_in (ledger_of old)).live)
-  pub present : new.present ≡ marks_after plan.change old.present
-  pub opens : new.opens ≡ opens_after (length old.journal.items) plan.change old.opens
-  pub owner : new.owner ≡ owner_after plan.stream old.owner
-  pub parts : new.parts.items ≡ parts_after (length old.journal.items) plan.stream old.parts.items
-  pub part_bytes : new.part_bytes ≡ bytes_after (row_length - 6) plan.stream old.part_bytes
-  pub frames : AreWritten new.frames
-      (history_after old.journal.items plan.placing (state_in (ledger_of old)).live)
+      (live_after (state_in (ledger_of old)) ready.event ready.effect)
+  pub present : new.present ≡ marks_after ready.effect old.present
+  pub opens : new.opens ≡ opens_after (length old.journal.items) ready.effect old.opens
+  pub owner : new.owner ≡ owner_after ready.effect old.owner
+  pub parts : new.parts.items
+      ≡ parts_after (length old.journal.items) ready.effect old.owner old.parts.items
+  pub part_bytes : new.part_bytes
+      ≡ bytes_after (length ready.row.bytes - 6) ready.effect old.owner old.part_bytes
+  pub frames : AreFramesWith ready.supply old.frames new.frames
+
+-- the frames that were made are those of the live history's first entries, or there are none
+frames-kept : (journal : List Event) (s : State) (e : Event) (effect : Effect) (supply : Supply)
+    (old new : Frames) → IsSupply journal s e effect supply → AreFramesWith supply old new
+    → AreWritten old s.live → AreWritten new (live_after s e effect)
+frames-kept journal s e effect (Entries first second) old new is same are =
+    subst (AreWritten new) (sym (live-more s e effect is.0).0)
+    (written-on new s.live (entries_of e effect) (subst (λ f. AreWritten f s.live) (sym same) are))
+frames-kept journal s e effect (Opens opening) old new is none are =
+    none-written new (live_after s e effect) none
 
 pub row-length : (conn : ℕ) (m : Msg) → length (row_of (event.Say conn m)) ≡ 6 + length
     (payload_of m)
 row-length conn m = omega (arith, length-append {A = ℕ})
 
 -- the payload of a part has six bytes less than its row
-size-is : (s : State) (e : Event) (change : StreamChange) (row_length : ℕ)
-    → row_length ≡ length (row_of e) → SizeIs s e (row_length - 6) change
-size-is s e stream.Stays row_length is = tt
-size-is s e (stream.Begins conn) row_length is = tt
-size-is s e stream.Grows row_length is = λ g.
+size-is : (e : Event) (row_length : ℕ) → row_length ≡ length (row_of e)
+    → PartSize e (row_length - 6)
+size-is e row_length is conn command came =
     omega (
       arith,
       is,
-      ap (λ x. length (row_of x)) (g.said ∙ ap (event.Say g.conn) g.fitting.part),
-      row-length g.conn (msg.Part g.fitting.command),
+      ap (λ x. length (row_of x)) came,
+      row-length conn (msg.Part command),
     )
-size-is s e stream.Ends row_length is = tt
 
 -- the tables after an event that was kept
 pub tables-kept : (leads : (past : Past) (e : Event) → ShutBefore past
     → state_of (kept past e) ≡ after_event (state_of past) e)
-    → ((s : State) → JoinsStay s) → (old new : Inside) (plan : Plan)
-    (row_length : ℕ) → AreTables old
-    → IsPlan old.journal.items (state_in (ledger_of old)) (event_of plan.placing) plan
-    → row_length ≡ length (row_of (event_of plan.placing))
-    → has_room old.journal.items (event_of plan.placing) ≡ true → IsKept old plan row_length new
+    → ((s : State) → JoinsStay s) → EffectsAreMade → (old new : Inside) (ready : Ready)
+    → AreTables old → IsReady (ledger_of old) ready.event ready → IsKept old ready new
     → AreTables new
 unfolding past_in
-tables-kept leads joins old new plan row_length are is row room keeps =
-    let e = event_of plan.placing in
+tables-kept leads joins made_law old new ready are is keeps =
+    let e = ready.event in
+    let effect = ready.effect in
     let s = state_in (ledger_of old) in
+    let row : length ready.row.bytes ≡ length (row_of e) = ap (λ r. length r.bytes) is.row in
     let limits : (nat_lt (length old.journal.items) event_limit ≡ true)
     × (nat_le (row_bytes old.journal.items + length (row_of e)) byte_limit ≡ true) = and_parts _
-    _ room in
+    _ is.room in
     let more = length-append old.journal.items (e ∷ []) in
+    let table : connections_at (here s) old.connections.items effect ≡ connections_after s effect =
+    ap (λ cs. connections_at (here s) cs effect) are.of.table in
+    let connections : new.connections.items ≡ connections_after s effect =
+    keeps.connections ∙ table in
     let after : Seen = record {
       journal = old.journal.items ++ e ∷ [];
-      connections = changed plan.change old.connections.items;
-      epoch = epoch_after plan.placing old.epoch;
-      live = items_after (length old.journal.items) plan.placing old.live.items;
+      connections = connections_after s effect;
+      epoch = epoch_with ready.supply old.epoch;
+      live = items_after (own_items (length old.journal.items) effect) ready.supply old.live.items;
       rights = new.rights;
-      present = marks_after plan.change old.present;
-      opens = opens_after (length old.journal.items) plan.change old.opens;
-      owner = owner_after plan.stream old.owner;
-      parts = parts_after (length old.journal.items) plan.stream old.parts.items;
-      part_bytes = bytes_after (row_length - 6) plan.stream old.part_bytes;
+      present = marks_after effect old.present;
+      opens = opens_after (length old.journal.items) effect old.opens;
+      owner = owner_after effect old.owner;
+      parts = parts_after (length old.journal.items) effect old.owner old.parts.items;
+      part_bytes = bytes_after (length ready.row.bytes - 6) effect old.owner old.part_bytes;
     }
     in
     let seen_is : seen new ≡ after = cc in
@@ -819,12 +942,12 @@ tables-kept leads joins old new plan row_length are is row room keeps =
     ∙ leads (past_in (ledger_of old)) e are.before in
     record {
       of = subst (λ x. AreOf x (seen new)) (sym state_is) (subst (AreOf (after_event s e))
-          (sym seen_is) (AreOf-kept s (seen old) are.of (joins s) plan new.rights
-          (row_length - 6) is
-          keeps.stands (size-is s e plan.stream row_length row)));
+          (sym seen_is) (AreOf-kept s (seen old) are.of (joins s) made_law e effect ready.supply
+          new.rights (length ready.row.bytes - 6) is.effect is.supply keeps.stands
+          (size-is e (length ready.row.bytes) row)));
       before = subst (λ x. All (λ (y : ShutAt). y.n ≤ length new.journal.items) x) (sym keeps.shut)
           (λ k d lt. omega (arith, are.before k d lt, more, ap length keeps.journal));
-      bytes = keeps.bytes ∙ ap (λ n. n + row_length) are.bytes
+      bytes = keeps.bytes ∙ ap (λ n. n + length ready.row.bytes) are.bytes
           ∙ ap (λ n. row_bytes old.journal.items + n) row
           ∙ sym (sum_by_push (λ event. length (row_of event)) old.journal.items e)
           ∙ sym (ap row_bytes keeps.journal);
@@ -842,63 +965,77 @@ tables-kept leads joins old new plan row_length are is row room keeps =
         row,
       );
       flags = ap length keeps.quiet
-          ∙ flags-after plan.change old.quiet.items old.connections.items are.flags
+          ∙ flags-after (here s) effect old.quiet.items old.connections.items are.flags
           ∙ sym (ap length keeps.connections);
       frames = subst (AreWritten new.frames)
-          (sym (ap (λ a. a.state.live) is.acted) ∙ sym (ap (λ x. x.live) state_is)) keeps.frames;
+          (sym (ap (λ a. a.state.live) (made_law s e effect is.effect))
+          ∙ sym (ap (λ x. x.live) state_is))
+          (frames-kept old.journal.items s e effect ready.supply old.frames new.frames is.supply
+          keeps.frames are.frames);
     }
 
 -- ---- a Close was left out
 
 -- what leaving out a Close makes of the tables
-pub record IsLeftOut (old : Inside) (conn : ℕ) (change : Change) (new : Inside) : Type 0 where
+pub record IsLeftOut (old : Inside) (conn : ℕ) (new : Inside) : Type 0 where
   pub journal : new.journal.items ≡ old.journal.items
   pub bytes : new.row_bytes ≡ old.row_bytes
   pub shut : new.shut.items ≡ old.shut.items ++ record { conn = conn; n = length old.journal.items }
       ∷ []
-  pub connections : new.connections.items ≡ changed change old.connections.items
-  pub quiet : new.quiet.items ≡ quiet_after change old.quiet.items
+  pub connections : new.connections.items
+      ≡ closed_in conn (open_in old.connections.items conn) old.connections.items
+  pub quiet : new.quiet.items ≡ old.quiet.items
   pub epoch : new.epoch ≡ old.epoch
   pub live : new.live.items ≡ old.live.items
   pub rights : new.rights ≡ old.rights
-  pub present : new.present ≡ marks_after change old.present
+  pub present : new.present ≡ unmarked (open_in old.connections.items conn) old.present
   pub opens : new.opens ≡ old.opens
   pub owner : new.owner ≡ old.owner
   pub parts : new.parts.items ≡ old.parts.items
   pub part_bytes : new.part_bytes ≡ old.part_bytes
   pub frames : new.frames ≡ old.frames
 
+length-closed : (conn : ℕ) (o : Option Connection) (cs : List Connection)
+    → length (closed_in conn o cs) ≡ length cs
+length-closed conn None cs = refl
+length-closed conn (Some c) cs = length-set cs (conn - 1) (record c { ending = ending.Shut })
+
+live-shut : (s : State) (conn : ℕ) (o : Option Connection)
+    → (option_map_or (λ c. with_connection s conn (record c { ending = ending.Shut })) o s).live
+    ≡ s.live
+live-shut s conn None = refl
+live-shut s conn (Some c) = refl
+
 -- the tables after a Close that was left out
 pub tables-left : (leads : (past : Past) (e : Event)
     → state_of (refused past e) ≡ shut_by (state_of past) e) (old new : Inside) (conn : ℕ)
-    (change : Change) → AreTables old → IsLeftOut old conn change new
-    → IsClosing change
-    → IsChange (state_in (ledger_of old)).connections change
-    → length (changed change (state_in (ledger_of old)).connections) ≤ length old.journal.items
-    → after_shut (state_in (ledger_of old)) conn
-    ≡ record (state_in (ledger_of old)) {
-      connections = changed change (state_in (ledger_of old)).connections;
-    }
-    → AreTables new
+    → AreTables old → IsLeftOut old conn new → AreTables new
 unfolding past_in
-tables-left leads old new conn change are left closing may opened after =
+tables-left leads old new conn are left =
     let s = state_in (ledger_of old) in
+    let o = open_connection s conn in
     let shut_now : List ShutAt = old.shut.items
     ++ record { conn = conn; n = length old.journal.items } ∷ [] in
+    let found : open_in old.connections.items conn ≡ o =
+    ap (λ cs. open_in cs conn) are.of.table in
+    let connections : new.connections.items ≡ closed_in conn o s.connections =
+    left.connections
+    ∙ ap (λ x. closed_in conn x old.connections.items) found
+    ∙ ap (closed_in conn o) are.of.table in
+    let present : new.present ≡ unmarked o old.present =
+    left.present ∙ ap (λ x. unmarked x old.present) found in
     let seen_is : seen new ≡ record (seen old) {
-      connections = changed change old.connections.items;
-      present = marks_after change old.present;
+      connections = closed_in conn o s.connections;
+      present = unmarked o old.present;
     } = cc in
-    let state_is : state_in (ledger_of new) ≡ record s {
-      connections = changed change s.connections;
-    } =
+    let state_is : state_in (ledger_of new) ≡ after_shut s conn =
     ap (λ j. state_after j new.shut.items) left.journal
     ∙ ap (state_after old.journal.items) left.shut
-    ∙ leads (past_in (ledger_of old)) (event.Close conn) ∙ after in
+    ∙ leads (past_in (ledger_of old)) (event.Close conn) in
     record {
       of = subst (λ x. AreOf x (seen new)) (sym state_is)
-          (subst (AreOf (record s { connections = changed change s.connections })) (sym seen_is)
-          (AreOf-changed s (seen old) are.of change closing may opened));
+          (subst (AreOf (after_shut s conn)) (sym seen_is)
+          (AreOf-shut s (seen old) are.of conn o refl));
       before = subst (λ x. All (λ (y : ShutAt). y.n ≤ length new.journal.items) x) (sym left.shut)
           (subst (λ j. All (λ (y : ShutAt). y.n ≤ length j) shut_now) (sym left.journal)
           (All-push (λ (y : ShutAt). y.n ≤ length old.journal.items) old.shut.items
@@ -906,9 +1043,10 @@ tables-left leads old new conn change are left closing may opened after =
       bytes = left.bytes ∙ are.bytes ∙ sym (ap row_bytes left.journal);
       events = omega (arith, ap length left.journal, are.events);
       within = omega (arith, left.bytes, are.within);
-      flags = ap length left.quiet
-          ∙ flags-after change old.quiet.items old.connections.items are.flags
-          ∙ sym (ap length left.connections);
+      flags = ap length left.quiet ∙ are.flags
+          ∙ sym (ap length left.connections
+          ∙ length-closed conn (open_in old.connections.items conn) old.connections.items);
       frames = subst (λ x. AreWritten x (state_in (ledger_of new)).live) (sym left.frames)
-          (subst (AreWritten old.frames) (sym (ap (λ x. x.live) state_is)) are.frames);
+          (subst (AreWritten old.frames) (sym (ap (λ x. x.live) state_is ∙ live-shut s conn o))
+          are.frames);
     }

@@ -1,5 +1,5 @@
 pub mod SessionLog
 pub mod Tables
-pub mod Plans
+pub mod Ready
 pub mod Inside
 pub mod Pages

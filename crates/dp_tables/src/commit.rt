@@ -11,6 +11,7 @@ ghost use Rattle.std.specs.Prelude.{
   ◌++◌,
   [],
   List,
+  Some,
   map,
   length,
   option_to_list,
@@ -20,36 +21,89 @@ ghost use Rattle.std.specs.Prelude.{
 };
 ghost use Rattle.dp_messages.specs.declared.message.Entry.{Entry as Piece};
 ghost use Rattle.dp_acl.specs.Table.{StandsFor};
-ghost use Rattle.dp_epochs.specs.State.{acted, open_in};
+ghost use Rattle.dp_epochs.specs.declared.event.Event.{Event as Kept};
+ghost use Rattle.dp_epochs.specs.Effects.{connections_at, own_message};
+ghost use Rattle.dp_epochs.specs.State.{acted, entry_of, open_in};
 ghost use Rattle.dp_epochs.specs.Past.{shut_with, quiet_with};
-ghost use Rattle.dp_history.specs.Frames.{AreWritten};
+ghost use Rattle.dp_history.specs.Items.{IsSay};
 ghost use Rattle.dp_tables.specs.SessionLog.{state_in};
 ghost use Rattle.dp_tables.specs.Tables.{flagged};
-ghost use Rattle.dp_tables.specs.Plans.{event_of, epoch_after, items_after, history_after};
-ghost use Rattle.dp_tables.specs.Plans.{IsOpening, owner_after, parts_after, bytes_after};
-ghost use Rattle.dp_tables.specs.Plans.{changed, marks_after, opens_after, quiet_after, event_in};
-ghost use Rattle.dp_tables.specs.Plans.{shut_change, IsChange, IsReady};
+ghost use Rattle.dp_tables.specs.Ready.{own_entries, own_items, SaysOwn, supplied, items_after};
+ghost use Rattle.dp_tables.specs.Ready.{IsWithSupply, AreFramesWith, epoch_with, IsThere};
+ghost use Rattle.dp_tables.specs.Ready.{marks_after, opens_after, quiet_after, closed_in, unmarked};
+ghost use Rattle.dp_tables.specs.Ready.{is_sender, owner_after, parts_after, bytes_after, IsReady};
 
-use crate::plan::{Change, Placing, Plan, Ready, StreamChange};
+use crate::ready::{Ready, Supply};
 use crate::tables::{Tables, open_connection};
 use dp_acl::Rights;
 use dp_epochs::{
-    Connection, Ending, Event, Reply, ShutAt, epochs_are_few, joins_stay, steps_lead_on,
+    Connection, Effect, Ending, Event, Place, Reply, ShutAt, effects_are_made, epochs_are_few,
+    joins_stay, steps_lead_on,
 };
 use dp_history::{FrameLog, HistoryItem};
 use dp_messages::Entry;
 
+/// Notes the entry of a message that the user says.
+fn note_said(rights: &mut Rights, event: Event, user: u8) -> Event
+    requires said { IsSay (Some event) }
+    requires room { 1 ≤ rights.old.room }
+    ensures event { result ≡ event }
+    ensures stands { (history : List Piece) → StandsFor rights.old history
+        → StandsFor rights.new (history ++ entry_of user (own_message event) ∷ []) }
+    ensures room { rights.old.room ≤ rights.new.room + 1 }
+{
+    match event {
+        Event::Say { conn, msg } => {
+            let entry = Entry { user, msg };
+            rights.note_reserved(&entry);
+            Event::Say {
+                conn,
+                msg: entry.msg,
+            }
+        }
+        _ => unreachable!(),
+    }
+}
+
+/// Notes the entry of what the event says, if that is placed.
+fn note_own(rights: &mut Rights, event: Event, effect: Effect) -> Event
+    requires said { SaysOwn event effect }
+    requires room { length (own_entries event effect) ≤ rights.old.room }
+    ensures event { result ≡ event }
+    ensures stands { (history : List Piece) → StandsFor rights.old history
+        → StandsFor rights.new (history ++ own_entries event effect) }
+    ensures room { rights.old.room ≤ rights.new.room + length (own_entries event effect) }
+{
+    match effect {
+        Effect::Placed { connection, .. } => note_said(rights, event, connection.user),
+        _ => event,
+    }
+}
+
+/// The entry of what the event of this number says, as it is kept, if that is placed.
+fn own_item(event: u32, effect: Effect) -> Option<HistoryItem>
+    ensures { option_to_list result ≡ own_items event effect }
+{
+    match effect {
+        Effect::Placed { connection, .. } => Some(HistoryItem::Said {
+            event,
+            user: connection.user,
+        }),
+        _ => None,
+    }
+}
+
 /// Places an entry, if there is one.
 fn place_server(live: &mut Vec<HistoryItem>, rights: &mut Rights, entry: Option<Entry>)
-    requires live { vec_len live.old + 1 ≤ vec_capacity live.old }
-    requires rights { 1 ≤ rights.old.room }
+    requires live { vec_len live.old + length (option_to_list entry) ≤ vec_capacity live.old }
+    requires rights { length (option_to_list entry) ≤ rights.old.room }
     ensures live { live.new.items
         ≡ live.old.items ++ map HistoryItem.Server (option_to_list entry) }
     ensures stands { (history : List Piece) → StandsFor rights.old history
         → StandsFor rights.new (history ++ option_to_list entry) }
-    ensures len { vec_len live.new ≤ vec_len live.old + 1 }
+    ensures len { vec_len live.new ≡ vec_len live.old + length (option_to_list entry) }
     ensures capacity { vec_capacity live.new ≡ vec_capacity live.old }
-    ensures room { rights.old.room ≤ rights.new.room + 1 }
+    ensures room { rights.old.room ≤ rights.new.room + length (option_to_list entry) }
 {
     if let Some(entry) = entry {
         rights.note_reserved(&entry);
@@ -57,140 +111,163 @@ fn place_server(live: &mut Vec<HistoryItem>, rights: &mut Rights, entry: Option<
     }
 }
 
-/// Journals an event, and places its entries, or opens the next epoch.
+/// Places the event's own entry, which was noted, and what was made ahead.
 fn place(
-    journal: &mut Vec<Event>,
     epoch: &mut u32,
     live: &mut Vec<HistoryItem>,
     frames: &mut FrameLog,
     rights: &mut Rights,
-    placing: Placing,
+    own: Option<HistoryItem>,
+    supply: Supply,
 )
-    requires few { length journal.old.items < 2 ^ 32 }
     requires next { epoch.old < 2 ^ 32 - 1 }
-    requires journal { vec_len journal.old < vec_capacity journal.old }
-    requires live { vec_len live.old + 2 ≤ vec_capacity live.old }
-    requires rights { 2 ≤ rights.old.room }
-    ensures journal { journal.new.items ≡ journal.old.items ++ event_of placing ∷ [] }
-    ensures epoch { epoch.new ≡ epoch_after placing epoch.old }
-    ensures live { live.new.items
-        ≡ items_after (length journal.old.items) placing live.old.items }
-    ensures stands { (history : List Piece) → StandsFor rights.old history
-        → IsOpening journal.old.items placing
-        → StandsFor rights.new (history_after journal.old.items placing history) }
-    ensures written { (history : List Piece) → AreWritten frames.old history
-        → AreWritten frames.new (history_after journal.old.items placing history) }
+    requires live { vec_len live.old + length (option_to_list own) + length (supplied supply)
+        ≤ vec_capacity live.old }
+    requires rights { length (supplied supply) ≤ rights.old.room }
+    ensures epoch { epoch.new ≡ epoch_with supply epoch.old }
+    ensures live { live.new.items ≡ items_after (option_to_list own) supply live.old.items }
+    ensures stands { (journal : List Kept) (history : List Piece) (next : List Piece)
+        → StandsFor rights.old history → IsWithSupply journal supply history next
+        → StandsFor rights.new next }
+    ensures frames { AreFramesWith supply frames.old frames.new }
 {
-    match placing {
-        Placing::Said { conn, entry } => {
-            rights.note_reserved(&entry);
-            let Entry { user, msg } = entry;
-            let event = journal.len() as u32;
-            live.push_reserved(HistoryItem::Said { event, user });
-            journal.push_reserved(Event::Say { conn, msg });
-        }
-        Placing::Server {
-            event,
-            first,
-            second,
-        } => {
+    match supply {
+        Supply::Entries { first, second } => {
+            if let Some(item) = own {
+                live.push_reserved(item);
+            }
             place_server(live, rights, first);
             place_server(live, rights, second);
-            journal.push_reserved(event);
         }
-        Placing::Opens { event, opening } => {
+        Supply::Opens(opening) => {
             *epoch += 1;
             *live = opening.live;
             frames.clear();
             *rights = Box::into_inner(opening.rights);
-            journal.push_reserved(event);
         }
     }
 }
 
-/// Changes the reset that is being sent by the event of this number, which has a payload of this
+/// Whether the connection is the one that sends the reset, if one does.
+fn is_sender(conn: u32, owner: Option<u32>) -> bool
+    ensures { result ≡ is_sender conn owner }
+{
+    match owner {
+        Some(owner) => owner == conn,
+        None => false,
+    }
+}
+
+/// The reset has no parts, and is this connection's or no one's.
+fn restart(owner: &mut Option<u32>, parts: &mut Vec<u32>, part_bytes: &mut u64, sender: Option<u32>)
+    ensures owner { owner.new ≡ sender }
+    ensures parts { parts.new.items ≡ [] }
+    ensures bytes { part_bytes.new ≡ 0 }
+{
+    *owner = sender;
+    parts.clear();
+    *part_bytes = 0;
+}
+
+/// Changes the reset that is being sent, by the event of this number, which has a payload of this
 /// size.
 fn follow(
     owner: &mut Option<u32>,
     parts: &mut Vec<u32>,
     part_bytes: &mut u64,
-    change: StreamChange,
+    effect: Effect,
     event: u32,
     size: u64,
 )
     requires parts { vec_len parts.old < vec_capacity parts.old }
     requires within { part_bytes.old ≤ 2 ^ 28 }
     requires size { size ≤ 2 ^ 30 }
-    ensures owner { owner.new ≡ owner_after change owner.old }
-    ensures parts { parts.new.items ≡ parts_after event change parts.old.items }
-    ensures bytes { part_bytes.new ≡ bytes_after size change part_bytes.old }
+    ensures owner { owner.new ≡ owner_after effect owner.old }
+    ensures parts { parts.new.items ≡ parts_after event effect owner.old parts.old.items }
+    ensures bytes { part_bytes.new ≡ bytes_after size effect owner.old part_bytes.old }
 {
-    match change {
-        StreamChange::Stays => {}
-        StreamChange::Begins(conn) => {
-            *owner = Some(conn);
-            parts.clear();
-            *part_bytes = 0;
-        }
-        StreamChange::Grows => {
+    match effect {
+        Effect::Began { conn, .. } => restart(owner, parts, part_bytes, Some(conn)),
+        Effect::Added { .. } => {
             parts.push_reserved(event);
             *part_bytes += size;
         }
-        StreamChange::Ends => {
-            *owner = None;
-            parts.clear();
-            *part_bytes = 0;
+        Effect::Left { conn, .. } => {
+            if is_sender(conn, *owner) {
+                restart(owner, parts, part_bytes, None);
+            }
         }
+        Effect::Dropped { .. } | Effect::Reopened { .. } => {
+            restart(owner, parts, part_bytes, None);
+        }
+        _ => {}
     }
 }
 
-/// Makes a change of the connections, by the event of this number.
+/// Adds the connection of the user who joins, or changes that of the one who takes up the epoch or
+/// leaves, by the event of this number.
 fn make(
     connections: &mut Vec<Connection>,
     quiet: &mut Vec<bool>,
     present: &mut [bool; 256],
     opens: &mut [u32; 256],
-    change: Change,
+    effect: Effect,
+    here: Place,
     event: u32,
 )
     requires connections { vec_len connections.old < vec_capacity connections.old }
     requires quiet { vec_len quiet.old < vec_capacity quiet.old }
-    requires change { IsChange connections.old.items change }
-    ensures connections { connections.new.items ≡ changed change connections.old.items }
-    ensures quiet { quiet.new.items ≡ quiet_after change quiet.old.items }
-    ensures present { present.new ≡ marks_after change present.old }
-    ensures opens { opens.new ≡ opens_after event change opens.old }
+    requires there { IsThere connections.old.items effect }
+    ensures connections { connections.new.items ≡ connections_at here connections.old.items effect }
+    ensures quiet { quiet.new.items ≡ quiet_after effect quiet.old.items }
+    ensures present { present.new ≡ marks_after effect present.old }
+    ensures opens { opens.new ≡ opens_after event effect opens.old }
 {
-    match change {
-        Change::Stays => {}
-        Change::Adds(connection) => {
-            connections.push_reserved(connection);
+    match effect {
+        Effect::TakesUp { conn, connection } => {
+            connections[conn as usize - 1] = Connection {
+                acknowledged: here.epoch,
+                ..connection
+            };
+        }
+        Effect::Joined { user, .. } => {
+            connections.push_reserved(Connection {
+                user,
+                acknowledged: here.epoch,
+                joined: here,
+                ending: Ending::Running,
+            });
             quiet.push_reserved(false);
-            present[connection.user as usize] = true;
-            opens[connection.user as usize] = event;
+            present[user as usize] = true;
+            opens[user as usize] = event;
         }
-        Change::Becomes { conn, connection } => {
-            connections[conn as usize - 1] = connection;
-            if !connection.is_open() {
-                present[connection.user as usize] = false;
-            }
+        Effect::Left {
+            conn,
+            connection,
+            ..
+        } => {
+            connections[conn as usize - 1] = Connection {
+                ending: Ending::Left(here),
+                ..connection
+            };
+            present[connection.user as usize] = false;
         }
+        _ => {}
     }
 }
 
-/// The change by which the connection of a number, if it is open, is closed without a Leave.
-fn shut_change(connections: &[Connection], conn: u32) -> Change
-    ensures { result ≡ shut_change conn (open_in connections.now conn) }
+/// Closes the connection of a number, if it is open, without a Leave.
+fn shut(connections: &mut Vec<Connection>, present: &mut [bool; 256], conn: u32)
+    ensures connections { connections.new.items
+        ≡ closed_in conn (open_in connections.old.items conn) connections.old.items }
+    ensures present { present.new ≡ unmarked (open_in connections.old.items conn) present.old }
 {
-    match open_connection(connections, conn) {
-        Some(connection) => Change::Becomes {
-            conn,
-            connection: Connection {
-                ending: Ending::Shut,
-                ..connection
-            },
-        },
-        None => Change::Stays,
+    if let Some(connection) = open_connection(connections, conn) {
+        connections[conn as usize - 1] = Connection {
+            ending: Ending::Shut,
+            ..connection
+        };
+        present[connection.user as usize] = false;
     }
 }
 
@@ -207,50 +284,55 @@ impl Tables {
     /// Keeps an event that is ready, and gives its answer. It takes no memory.
     pub fn keep(&mut self, ready: Ready) -> Reply
         requires room { self.old.room ≡ true }
-        requires ready { IsReady self.old (event_in ready) ready }
+        requires ready { IsReady self.old ready.event ready }
         ensures kept { self.new ≡ record self.old {
-          journal = self.old.journal ++ event_in ready ∷ [];
+          journal = self.old.journal ++ ready.event ∷ [];
           room = self.new.room;
         } }
-        ensures reply { result ≡ (acted (state_in self.old) (event_in ready)).reply }
+        ensures reply { result ≡ (acted (state_in self.old) ready.event).reply }
     {
         steps_lead_on();
         joins_stay();
         epochs_are_few();
-        let Ready { plan, row } = ready;
-        let Plan {
-            reply,
-            change,
-            stream,
-            placing,
-        } = plan;
-        let event = self.journal.len() as u32;
+        effects_are_made();
+        let Ready {
+            event,
+            effect,
+            supply,
+            row,
+        } = ready;
+        let here = self.here();
+        let reply = effect.reply(here, self.connections.len() as u32);
+        let n = self.journal.len() as u32;
         let row_bytes = row.bytes.as_slice().len() as u64;
         self.row_bytes += row_bytes;
         follow(
             &mut self.owner,
             &mut self.parts,
             &mut self.part_bytes,
-            stream,
-            event,
+            effect,
+            n,
             row_bytes.saturating_sub(6),
-        );
-        place(
-            &mut self.journal,
-            &mut self.epoch,
-            &mut self.live,
-            &mut self.frames,
-            &mut self.rights,
-            placing,
         );
         make(
             &mut self.connections,
             &mut self.quiet,
             &mut self.present,
             &mut self.opens,
-            change,
-            event,
+            effect,
+            here,
+            n,
         );
+        let event = note_own(&mut self.rights, event, effect);
+        place(
+            &mut self.epoch,
+            &mut self.live,
+            &mut self.frames,
+            &mut self.rights,
+            own_item(n, effect),
+            supply,
+        );
+        self.journal.push_reserved(event);
         reply
     }
 
@@ -265,15 +347,7 @@ impl Tables {
         steps_lead_on();
         let n = self.journal.len() as u64;
         self.shut.push_reserved(ShutAt { conn, n });
-        let change = shut_change(&self.connections, conn);
-        make(
-            &mut self.connections,
-            &mut self.quiet,
-            &mut self.present,
-            &mut self.opens,
-            change,
-            n as u32,
-        );
+        shut(&mut self.connections, &mut self.present, conn);
     }
 
     /// Leaves an event out: a Close closes its connection without a Leave. It takes no memory.

@@ -4,12 +4,12 @@
 #![tactic(auto)]
 
 mod commit;
+mod effects;
 mod pages;
-mod plan;
-mod planner;
+mod ready;
 mod resets;
 mod tables;
 
 pub use pages::Page;
-pub use plan::Ready;
+pub use ready::Ready;
 pub use tables::Tables;

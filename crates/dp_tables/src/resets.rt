@@ -19,10 +19,8 @@ ghost use Rattle.dp_msg_draw.specs.declared.draw.Draw.{Draw as Drawn};
 ghost use Rattle.dp_msg_meta.specs.declared.message.Meta.TheVariants.{ResetMark};
 ghost use Rattle.dp_msg_meta.specs.declared.message.Control.TheVariants.{ResetBegin, ResetEnd};
 ghost use Rattle.dp_tables.specs.SessionLog.{state_in};
-ghost use Rattle.dp_tables.specs.Plans.{stream_left};
 ghost use Rattle.dp_history.specs.Openings.{Holds};
 
-use crate::plan::StreamChange;
 use crate::tables::Tables;
 use dp_epochs::{Connection, Decision, epochs_are_few, openings, present_users_rise};
 use dp_history::{Opening, present_ids};
@@ -36,16 +34,6 @@ const PART_LIMIT: usize = 262_144;
 
 /// The most bytes that the payloads of its parts have.
 const BYTE_LIMIT: u64 = 1 << 28;
-
-/// How the reset changes where the connection of this number leaves: one that it sends is dropped.
-pub(crate) fn stream_left(conn: u32, owner: Option<u32>) -> StreamChange
-    ensures { result ≡ stream_left conn owner }
-{
-    match owner {
-        Some(owner) if owner == conn => StreamChange::Ends,
-        _ => StreamChange::Stays,
-    }
-}
 
 impl Tables {
     /// Whether a connection other than this one, whose user is present and operator, sends a reset.

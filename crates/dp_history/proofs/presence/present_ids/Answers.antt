@@ -1,9 +1,9 @@
 use Rattle.std.proofs.Common.{◌≡◌, ◌-◌, ◌++◌, ◌∷◌, [], length, true, false, None}
 use Rattle.std.proofs.Common.{ap, ◌∙◌, arith, rules, length-append}
 use Rattle.std.specs.List.{filter, range_with_len}
-use Rattle.dp_epochs.specs.State.{user_ids}
 use Rattle.dp_history.specs.Users.{mark}
 use Rattle.dp_history.proofs.ItemLemmas.{ids-marked, ids-unmarked}
+use Rattle.dp_history.proofs.Ranges.{user_ids-are}
 use Rattle.dp_history.proofs.presence.present_ids.Goals as goal
 use Rattle.dp_history.proofs.presence.present_ids.Goals.{then-present-user+in_ok-push}
 use Rattle.dp_history.proofs.presence.present_ids.Goals.{else-present-user}
@@ -34,8 +34,6 @@ pub from_vec-requires : goal.from_vec-requires
 from_vec-requires c = omega (arith, c.loop-user.ids.ok.0)
 
 pub returns : goal.returns
-unfolding user_ids
 returns c =
-    let last : c.loop-user.user - 1 ≡ 254 = omega arith in
     c.from_vec.ensures ∙ c.loop-user.invariant.found
-    ∙ ap (λ n. filter (mark c.args.present.now) (range_with_len 1 n)) last
+    ∙ ap (filter (mark c.args.present.now)) (user_ids-are (c.loop-user.user - 1) (omega arith))

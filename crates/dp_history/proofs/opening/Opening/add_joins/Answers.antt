@@ -1,10 +1,10 @@
 use Rattle.std.proofs.Common.{◌≡◌, ◌+◌, ◌-◌, ◌++◌, List, ℕ, true, false, sym, subst, arith, rules}
 use Rattle.std.specs.List.{filter, filter_map, range_with_len}
 use Rattle.dp_acl.specs.Opening.{last_join}
-use Rattle.dp_epochs.specs.State.{user_ids}
 use Rattle.dp_history.specs.Openings.{Holds}
 use Rattle.dp_history.specs.Users.{mark}
 use Rattle.dp_history.proofs.ItemLemmas.{joins-marked, ids-unmarked}
+use Rattle.dp_history.proofs.Ranges.{user_ids-are}
 use Rattle.dp_history.proofs.opening.Opening.add_joins.Goals as goal
 use Rattle.dp_history.proofs.opening.Opening.add_joins.Goals.{then-present-user+in_ok-add_join}
 use Rattle.dp_history.proofs.opening.Opening.add_joins.Goals.{else-present-user}
@@ -35,10 +35,8 @@ loop-user-preserved c = λ history live joined h.
     ]
 
 pub returns : goal.returns
-unfolding user_ids
 returns c = λ history live joined h.
-    let last : c.loop-user.user - 1 ≡ 254 = omega arith in
-    subst (λ n. Holds c.args.journal.now c.loop-user.self
-    (history ++ filter_map (last_join live)
-    (filter (mark c.args.present.now) (range_with_len 1 n)))) last
+    subst (λ ids. Holds c.args.journal.now c.loop-user.self
+    (history ++ filter_map (last_join live) (filter (mark c.args.present.now) ids)))
+    (user_ids-are (c.loop-user.user - 1) (omega arith))
     (c.loop-user.invariant history live joined h)

@@ -1,0 +1,229 @@
+//! What an event does to a session, and what is to be kept of it, with the memory that it needs.
+
+ghost use Rattle.std.specs.Prelude.{◌≡◌, ℕ, List, Bool, Some, None, option_to_list, false, IfOk};
+ghost use Rattle.std.specs.Prelude.{MatchOption, length};
+ghost use Rattle.dp_messages.specs.Messages.{payload_of};
+ghost use Rattle.dp_epochs.specs.State.{is_name, next_owner, decided, heard, has_acknowledged};
+ghost use Rattle.dp_epochs.specs.State.{filtered_entry};
+ghost use Rattle.dp_epochs.specs.Effects.{own_message, IsEffect};
+ghost use Rattle.dp_epochs.specs.Rows.{has_room, row_of};
+ghost use Rattle.dp_history.specs.Items.{IsSay};
+ghost use Rattle.dp_tables.specs.SessionLog.{state_in};
+ghost use Rattle.dp_tables.specs.Ready.{IsReady, IsSupply};
+
+use crate::ready::{Ready, Supply};
+use crate::tables::Tables;
+use dp_acl::operators_stay;
+use dp_epochs::{Connection, Decision, Effect, Event, Reply, decisions_have_effects, make_row};
+use dp_history::{first_operator, free_id, join_entry, name_text, next_operator};
+use dp_keeper::{Row, RowBytes};
+use dp_messages::{Entry, Msg};
+use dp_msg_meta::{Control, Ids, Meta};
+use std::alloc::{AllocError, Global};
+
+/// The entry that makes the user the only operator, if there is one.
+fn owner_entry(alloc: Global, user: Option<u8>) -> Result<Option<Entry>, AllocError>
+    ensures { IfOk result (λ entry. option_to_list entry ≡ next_owner user) }
+{
+    let Some(user) = user else {
+        return Ok(None);
+    };
+    let ids = Vec::from_slice(alloc, &[user])?;
+    Ok(Some(Entry {
+        user: 0,
+        msg: Msg::Meta(Meta::Owners {
+            ids: Ids::from_vec(ids),
+        }),
+    }))
+}
+
+/// The entry in place of what the event says: of what kind that was.
+fn filtered(event: &Event, user: u8) -> Entry
+    requires { IsSay (Some event.now) }
+    ensures { result ≡ filtered_entry user (own_message event.now) }
+{
+    match event {
+        Event::Say { msg, .. } => Entry {
+            user,
+            msg: Msg::Meta(Meta::Filtered { kind: msg.kind() }),
+        },
+        _ => unreachable!(),
+    }
+}
+
+impl Tables {
+    /// Whether the connection has taken up the live epoch.
+    fn has_acknowledged(&self, connection: &Connection) -> bool
+        ensures { result ≡ has_acknowledged (state_in self.now) connection.now }
+    {
+        connection.acknowledged == self.here().epoch
+    }
+
+    /// What becomes of a message of the open connection of this number, whose payload has this
+    /// size. It takes no memory.
+    fn decide(&self, conn: u32, connection: &Connection, msg: &Msg, size: u64) -> Decision
+        requires { size ≡ length (payload_of msg.now) }
+        ensures { result ≡ decided (state_in self.now) conn connection.now msg.now }
+    {
+        match msg {
+            Msg::Control(Control::Ping { .. }) => Decision::Ignore,
+            Msg::Control(Control::Disconnect { .. }) => Decision::Ignore,
+            Msg::Control(Control::Ack { epoch }) => {
+                if *epoch == self.here().epoch && !self.has_acknowledged(connection) {
+                    Decision::Acknowledge
+                } else {
+                    Decision::Ignore
+                }
+            }
+            _ => {
+                if self.has_acknowledged(connection) {
+                    self.hear(conn, connection, msg, size)
+                } else {
+                    Decision::Ignore
+                }
+            }
+        }
+    }
+
+    /// What becomes of a message of a connection that has taken up the live epoch. It takes no
+    /// memory.
+    fn hear(&self, conn: u32, connection: &Connection, msg: &Msg, size: u64) -> Decision
+        requires { size ≡ length (payload_of msg.now) }
+        ensures { result ≡ heard (state_in self.now) conn connection.now msg.now }
+    {
+        match msg {
+            Msg::Control(Control::ResetBegin) => self.hear_begin(conn, connection),
+            Msg::Control(Control::ResetEnd) => self.hear_end(conn, connection),
+            Msg::Control(Control::ResetFrom { .. }) => Decision::Filter,
+            Msg::Part(command) => self.hear_part(conn, connection, command, size),
+            _ => {
+                if self.permits(connection.user, msg) {
+                    Decision::Place
+                } else {
+                    Decision::Filter
+                }
+            }
+        }
+    }
+
+    /// What an Open does, by whether it has a name.
+    fn open_effect(&self, named: bool) -> Effect
+        ensures { (name : List ℕ) (registered : Bool) → named ≡ is_name name
+            → IsEffect (state_in self.now) (Event.Open name registered) result }
+    {
+        if !named {
+            return Effect::Nothing(Reply::NameRefused);
+        }
+        match free_id(&self.present) {
+            Some(user) => Effect::Joined {
+                user,
+                next: first_operator(&self.present, user),
+            },
+            None => Effect::Nothing(Reply::Full),
+        }
+    }
+
+    /// What a Say does, of which the message's payload has this size.
+    fn say_effect(&self, conn: u32, msg: &Msg, size: u64) -> Effect
+        requires { size ≡ length (payload_of msg.now) }
+        ensures { IsEffect (state_in self.now) (Event.Say conn msg.now) result }
+    {
+        decisions_have_effects();
+        match self.open_connection(conn) {
+            Some(connection) => self
+                .decide(conn, &connection, msg, size)
+                .effect(conn, connection),
+            None => Effect::Nothing(Reply::Ignored),
+        }
+    }
+
+    /// What a Close does.
+    fn close_effect(&self, conn: u32) -> Effect
+        ensures { IsEffect (state_in self.now) (Event.Close conn) result }
+    {
+        operators_stay();
+        match self.open_connection(conn) {
+            Some(connection) => Effect::Left {
+                conn,
+                connection,
+                next: next_operator(&self.rights, &self.present, connection.user),
+            },
+            None => Effect::Nothing(Reply::Ignored),
+        }
+    }
+
+    /// What the event, whose row has this length, does to the session.
+    fn effect(&self, event: &Event, row: usize) -> Result<Effect, AllocError>
+        requires { row ≡ length (row_of event.now) }
+        ensures { IfOk result (IsEffect (state_in self.now) event.now) }
+    {
+        Ok(match event {
+            Event::Open { name, .. } => {
+                let text = name_text(self.allocator(), name.as_slice())?;
+                self.open_effect(text.is_some())
+            }
+            Event::Say { conn, msg } => {
+                self.say_effect(*conn, msg, row.saturating_sub(6) as u64)
+            }
+            Event::Close { conn } => self.close_effect(*conn),
+        })
+    }
+
+    /// What the event, which does this, places beside what it says.
+    fn supply(&self, event: &Event, effect: Effect) -> Result<Supply, AllocError>
+        requires { IsEffect (state_in self.now) event.now effect }
+        ensures { IfOk result (IsSupply self.now.journal (state_in self.now) event.now effect) }
+    {
+        let alloc = self.allocator();
+        Ok(match effect {
+            Effect::Filtered { connection, .. } | Effect::Dropped { connection, .. } => {
+                Supply::Entries {
+                    first: Some(filtered(event, connection.user)),
+                    second: None,
+                }
+            }
+            Effect::Joined { user, next } => Supply::Entries {
+                first: join_entry(alloc, event, user)?,
+                second: owner_entry(alloc, next)?,
+            },
+            Effect::Left {
+                connection,
+                next,
+                ..
+            } => Supply::Entries {
+                first: Some(Entry {
+                    user: connection.user,
+                    msg: Msg::Meta(Meta::Leave),
+                }),
+                second: owner_entry(alloc, next)?,
+            },
+            Effect::Reopened { .. } => Supply::Opens(self.open_epoch()?),
+            _ => Supply::Entries {
+                first: None,
+                second: None,
+            },
+        })
+    }
+
+    /// The event as it is ready to be kept; `None` where there is no room for it.
+    pub fn prepare(&self, event: &Event) -> Result<Option<Ready>, AllocError>
+        ensures { IfOk result (λ found. MatchOption found
+            (has_room self.now.journal event.now ≡ false) (IsReady self.now event.now)) }
+    {
+        let bytes = make_row(self.allocator(), event)?;
+        if !self.has_room(bytes.len()) {
+            return Ok(None);
+        }
+        let effect = self.effect(event, bytes.len())?;
+        let supply = self.supply(event, effect)?;
+        Ok(Some(Ready {
+            event: event.copy()?,
+            effect,
+            supply,
+            row: Row {
+                n: self.events(),
+                bytes: RowBytes::from_vec(bytes),
+            },
+        }))
+    }
+}
