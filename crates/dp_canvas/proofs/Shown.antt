@@ -4,8 +4,8 @@ use Rattle.std.specs.Prelude.{Option, Some, None, IfSome, IfNone}
 use Rattle.dp_blend.specs.Color.{Channels}
 use Rattle.dp_pixels.specs.Tiles.{ShowsTile}
 use Rattle.dp_tile.specs.Tiles.{IsOfColor, TileGrid, cell_at, grid_pixels, tile_of}
-use Rattle.dp_paint.specs.Waiting.{tile_pixels}
-use Rattle.dp_paint.proofs.Layers.{shows_tile}
+use Rattle.dp_paint.specs.Ops.{tile_pixels}
+use Rattle.dp_paint.proofs.Layers.{shows_grid}
 
 -- a tile that was read has the pixels of its cell
 is_cell : (color : Option Channels) (pixels cell : List Channels)
@@ -21,7 +21,7 @@ pub shown_tile : (width height : ℕ) (g : TileGrid) (col row : ℕ) (color : Op
     → IfNone color (pixels ≡ cell_at g col row)
     → ShowsTile width height (grid_pixels width height g) col row color pixels
 shown_tile width height g col row color pixels some none =
-    shows_tile width height [] g col row color pixels
+    shows_grid width height g col row color pixels
     (is_cell color pixels (cell_at g col row) some none)
 
 -- and so does its colour, where it is known

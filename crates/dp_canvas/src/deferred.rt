@@ -1,4 +1,4 @@
-//! The board on which `replay` and `play` draw: small fills wait until tiles are read.
+//! The board on which `replay` and `play` draw: small fills and dabs wait until tiles are read.
 
 use dp_blend::Pixel;
 use dp_layers::Share;
@@ -11,18 +11,18 @@ use std::alloc::{AllocError, Global};
 use std::marker::Model;
 use std::sync::ledger::Ledger;
 
-/// A board for pictures: small fills wait, and each tile is painted by all of its fills when it is
-/// read.
+/// A board for pictures: small fills and dabs wait, and each tile is painted by all of them when it
+/// is read.
 pub type DeferredBoard = LayeredBoard<DeferredPixels>;
 
-/// The pixels of a layer, on tiles, with fills that wait.
+/// The pixels of a layer, on tiles, with operations that wait.
 #[derive(Drop)]
 pub struct DeferredPixels {
     layer: DeferredGrid,
 }
 
 impl Model for DeferredPixels {
-    ghost use Rattle.dp_paint.specs.Waiting.{LayerOf};
+    ghost use Rattle.dp_paint.specs.Lists.{LayerOf};
 
     ghost Value = { LayerOf };
 

@@ -1,7 +1,7 @@
-pub mod Strokes
-pub mod Fills
+pub mod Ops
+pub mod Waits
+pub mod Filed
 pub mod Layers
-pub mod Lists
 pub mod Drawn
 pub mod FootLemmas
 pub mod Moving

@@ -5,7 +5,7 @@ use Rattle.std.specs.Prelude.{pos, ℤ}
 use Rattle.std.proofs.lemmas.Bool.{lt-ltb, cond-true, cond-false, cases_Bool, false≢true}
 use Rattle.std.proofs.lemmas.Bool.{false_from_ne_true}
 use Rattle.dp_blend.specs.Color.{Channels, clear}
-use Rattle.dp_blend.specs.Canvas.{pixel_at}
+use Rattle.dp_blend.specs.Canvas.{canvas_of, pixel_at}
 use Rattle.dp_blend.proofs.Canvas.{canvas_of-same, pixel_at-canvas_of}
 use Rattle.dp_msg_draw.specs.declared.draw.Draw.{Draw}
 use Rattle.dp_msg_draw.specs.declared.draw.Draw.TheVariants as draws
@@ -14,11 +14,9 @@ use Rattle.dp_pixels.specs.Commands.{drawn, pixel_drawn, pixel_of, pixels_after}
 use Rattle.dp_pixels.specs.Feet.{foot, is_in_foot}
 use Rattle.dp_pixels.specs.Regions.{IsPainted}
 use Rattle.dp_tile.specs.declared.area.CellArea.{CellArea}
-use Rattle.dp_pixels.specs.Tiles.{tiles_along}
-use Rattle.dp_tile.specs.Tiles.{TileGrid, cell_at, grid_pixels}
+use Rattle.dp_tile.specs.Tiles.{TileGrid, cell_at, grid_pixel, grid_pixels}
 use Rattle.dp_tile.specs.Areas.{IsPaintedOn, is_in_cells}
 use Rattle.dp_paint.specs.Painting.{IsGridOf, IsPainting, tile_drawn}
-use Rattle.dp_paint.specs.Waiting.{pixels_of_cells}
 use Rattle.dp_paint.proofs.Drawn.{is_tile_drawn, pixel-tile_drawn}
 
 -- a window of one tile that was painted
@@ -48,72 +46,46 @@ StaysOutside = (width height : ℕ) (op : Draw) (old : ℤ → ℤ → Channels)
     → width ≤ 4096 → height ≤ 4096 → is_in_foot (foot op) x y ≡ false
     → drawn width height op old x y ≡ old x y
 
--- what a command makes of the tiles of an area is what it makes of the canvas
 module _ (width height : ℕ) (op : Draw) (is : IsPainting op) (law : StaysOutside)
-    (wide : width ≤ 4096) (high : height ≤ 4096) (area : CellArea)
-    (old new : ℕ → ℕ → List Channels)
-    (covers : (x y : ℕ) → x < tiles_along width * 64 → y < tiles_along height * 64
-    → is_in_foot (foot op) (pos x) (pos y) ≡ true → is_in_cells area (x / 64) (y / 64) ≡ true)
-    (inside : (col row : ℕ) → col < tiles_along width → row < tiles_along height
-    → is_in_cells area col row ≡ true
-    → new col row ≡ tile_drawn width height op col row (old col row))
-    (outside : (col row : ℕ) → col < tiles_along width → row < tiles_along height
-    → is_in_cells area col row ≡ false → new col row ≡ old col row) where
-  abbrev before : ℕ → ℕ → Channels
-  before x y = pixel_at 64 (old (x / 64) (y / 64)) (x % 64) (y % 64)
+    (wide : width ≤ 4096) (high : height ≤ 4096) where
+  -- a place outside the foot keeps its pixel
+  pub kept_outside : (x y : ℤ) (p : Channels) → is_in_foot (foot op) x y ≡ false
+      → p ≡ pixel_drawn width height op x y p
+  kept_outside x y p out =
+      sym (sym (by_pixels width height op is (λ _ _. p) x y)
+      ∙ law width height op (λ _ _. p) x y wide high out)
 
-  abbrev after : ℕ → ℕ → Channels
-  after x y = pixel_at 64 (new (x / 64) (y / 64)) (x % 64) (y % 64)
-
-  -- in a cell of the area
-  in_area : (x y : ℕ) → x < width → y < height → is_in_cells area (x / 64) (y / 64) ≡ true
-      → after x y ≡ pixel_drawn width height op (pos x) (pos y) (before x y)
-  in_area x y in_x in_y t =
-      let col = x / 64 in
-      let row = y / 64 in
-      let cell = inside col row (omega (arith, in_x)) (omega (arith, in_y)) t in
-      let at_x : col * 64 + x % 64 ≡ x = omega arith in
-      let at_y : row * 64 + y % 64 ≡ y = omega arith in
-      ap (λ pixels. pixel_at 64 pixels (x % 64) (y % 64)) cell
-      ∙ pixel-tile_drawn width height op col row (old col row) (x % 64) (y % 64)
-      (omega arith) (omega arith)
-      ∙ (rw (at_x, at_y) refl)
-
-  -- in another cell
-  off_area : (x y : ℕ) → x < width → y < height → is_in_cells area (x / 64) (y / 64) ≡ false
-      → after x y ≡ pixel_drawn width height op (pos x) (pos y) (before x y)
-  off_area x y in_x in_y t =
-      let col = x / 64 in
-      let row = y / 64 in
-      let p = before x y in
-      let cell = outside col row (omega (arith, in_x)) (omega (arith, in_y)) t in
-      let out : is_in_foot (foot op) (pos x) (pos y) ≡ false = false_from_ne_true
-      (is_in_foot (foot op) (pos x) (pos y))
-      (λ foot. false≢true (sym t ∙ covers x y (omega (arith, in_x)) (omega (arith, in_y)) foot)) in
-      ap (λ pixels. pixel_at 64 pixels (x % 64) (y % 64)) cell
-      ∙ sym (sym (by_pixels width height op is (λ _ _. p) (pos x) (pos y))
-      ∙ law width height op (λ _ _. p) (pos x) (pos y) wide high out)
-
-  pixel_painted : (x y : ℕ) → x < width → y < height
-      → after x y ≡ pixel_drawn width height op (pos x) (pos y) (before x y)
-  pixel_painted x y in_x in_y =
-      ⊎_elim (in_area x y in_x in_y) (off_area x y in_x in_y)
-      (cases_Bool (is_in_cells area (x / 64) (y / 64)))
-
-  pixel_before : (x y : ℕ) → x < width → y < height
-      → pixel_of width height (pixels_of_cells width height old) (pos x) (pos y) ≡ before x y
-  pixel_before x y in_x in_y =
-      rw (lt-ltb x width in_x, lt-ltb y height in_y)
-      (pixel_at-canvas_of width height before x y in_x in_y)
-
-  pub cells_painted : pixels_of_cells width height new
-      ≡ pixels_after width height op (pixels_of_cells width height old)
-  cells_painted =
-      let first = pixel_of width height (pixels_of_cells width height old) in
+  -- pixels of which each is what a command makes of the old one
+  pub by_each : (before after : ℕ → ℕ → Channels)
+      → ((x y : ℕ) → x < width → y < height
+      → after x y ≡ pixel_drawn width height op (pos x) (pos y) (before x y))
+      → canvas_of width height after ≡ pixels_after width height op (canvas_of width height before)
+  by_each before after each =
+      let first = pixel_of width height (canvas_of width height before) in
       canvas_of-same width height after (λ x y. drawn width height op first (pos x) (pos y))
-      (λ x y in_x in_y. pixel_painted x y in_x in_y
+      (λ x y in_x in_y. each x y in_x in_y
       ∙ sym (by_pixels width height op is first (pos x) (pos y)
-      ∙ ap (pixel_drawn width height op (pos x) (pos y)) (pixel_before x y in_x in_y)))
+      ∙ ap (pixel_drawn width height op (pos x) (pos y))
+      (rw (lt-ltb x width in_x, lt-ltb y height in_y)
+      (pixel_at-canvas_of width height before x y in_x in_y))))
+
+  -- the same, by whether the cell of a place is in an area that has the foot
+  pub by_cells : (area : CellArea) (before after : ℕ → ℕ → Channels)
+      → ((x y : ℕ) → x < width → y < height → is_in_foot (foot op) (pos x) (pos y) ≡ true
+      → is_in_cells area (x / 64) (y / 64) ≡ true)
+      → ((x y : ℕ) → x < width → y < height → is_in_cells area (x / 64) (y / 64) ≡ true
+      → after x y ≡ pixel_drawn width height op (pos x) (pos y) (before x y))
+      → ((x y : ℕ) → x < width → y < height → is_in_cells area (x / 64) (y / 64) ≡ false
+      → after x y ≡ before x y)
+      → canvas_of width height after ≡ pixels_after width height op (canvas_of width height before)
+  by_cells area before after covers inside outside =
+      by_each before after
+      (λ x y in_x in_y. ⊎_elim (inside x y in_x in_y)
+      (λ t. outside x y in_x in_y t
+      ∙ kept_outside (pos x) (pos y) (before x y) (false_from_ne_true
+      (is_in_foot (foot op) (pos x) (pos y))
+      (λ f. false≢true (sym t ∙ covers x y in_x in_y f))))
+      (cases_Bool (is_in_cells area (x / 64) (y / 64))))
 
 -- a grid of which an area was painted
 pub grid_painted : (width height : ℕ) (op : Draw) → IsPainting op → StaysOutside
@@ -123,14 +95,25 @@ pub grid_painted : (width height : ℕ) (op : Draw) → IsPainting op → StaysO
     → IsPaintedOn area (tile_drawn width height op) old new
     → grid_pixels width height new ≡ pixels_after width height op (grid_pixels width height old)
 grid_painted width height op is law area old new is_of covers painted =
-    cells_painted width height op is law is_of.wide is_of.high area (cell_at old) (cell_at new)
+    by_cells width height op is law is_of.wide is_of.high area (grid_pixel old) (grid_pixel new)
     (λ x y in_x in_y. covers x y (omega (arith, is_of.cols, in_x))
     (omega (arith, is_of.rows, in_y)))
-    (λ col row in_cols in_rows t.
-    painted.cells col row (omega (arith, is_of.cols, in_cols)) (omega (arith, is_of.rows, in_rows))
+    (λ x y in_x in_y t.
+    let col = x / 64 in
+    let row = y / 64 in
+    let at_x : col * 64 + x % 64 ≡ x = omega arith in
+    let at_y : row * 64 + y % 64 ≡ y = omega arith in
+    ap (λ pixels. pixel_at 64 pixels (x % 64) (y % 64))
+    (painted.cells col row (omega (arith, is_of.cols, in_x)) (omega (arith, is_of.rows, in_y))
     ∙ cond-true (is_in_cells area col row)
     (tile_drawn width height op col row (cell_at old col row)) (cell_at old col row) t)
-    (λ col row in_cols in_rows t.
-    painted.cells col row (omega (arith, is_of.cols, in_cols)) (omega (arith, is_of.rows, in_rows))
+    ∙ pixel-tile_drawn width height op col row (cell_at old col row) (x % 64) (y % 64)
+    (omega arith) (omega arith)
+    ∙ (rw (at_x, at_y) refl))
+    (λ x y in_x in_y t.
+    let col = x / 64 in
+    let row = y / 64 in
+    ap (λ pixels. pixel_at 64 pixels (x % 64) (y % 64))
+    (painted.cells col row (omega (arith, is_of.cols, in_x)) (omega (arith, is_of.rows, in_y))
     ∙ cond-false (is_in_cells area col row)
-    (tile_drawn width height op col row (cell_at old col row)) (cell_at old col row) t)
+    (tile_drawn width height op col row (cell_at old col row)) (cell_at old col row) t))

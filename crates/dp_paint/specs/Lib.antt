@@ -1,6 +1,6 @@
 pub mod Painting
 pub mod Puts
-pub mod Strokes
-pub mod Waiting
+pub mod Ops
+pub mod Lists
 pub mod Reading
 pub mod Movements

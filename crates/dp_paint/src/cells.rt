@@ -1,6 +1,6 @@
 //! The cells of a grid that have places of a rectangle.
 
-ghost use Rattle.std.specs.Prelude.{◌≡◌, ◌-◌, ◌*◌, ◌/◌, ◌<◌, ◌≤◌, ℕ, pos, ◌≤ℤ◌, ◌<ℤ◌, true};
+ghost use Rattle.std.specs.Prelude.{◌≡◌, ◌+◌, ◌-◌, ◌*◌, ◌/◌, ◌<◌, ◌≤◌, ℕ, pos, ◌≤ℤ◌, ◌<ℤ◌, true};
 ghost use Rattle.dp_pixels.specs.Rectangles.{is_in};
 ghost use Rattle.dp_pixels.specs.Feet.{on_greatest, squares_of, stretches};
 ghost use Rattle.dp_tile.specs.Areas.{is_in_cells};
@@ -37,6 +37,25 @@ pub(crate) fn tiles_between(from: i64, to: i64, count: u32) -> (u32, u32)
     let end = ((to as u32 + 63) / 64).min(count);
     let start = (from as u32 / 64).min(end);
     (start, end)
+}
+
+/// Of the tiles along a side, from `left` on before `right`, those that have one of the places from
+/// one on before another: the first of them, and the first after them.
+pub(crate) fn tiles_met(from: i64, to: i64, left: u32, right: u32) -> (u32, u32)
+    requires order { left ≤ right }
+    requires few { right ≤ 64 }
+    ensures order { result.0 ≤ result.1 }
+    ensures from { left ≤ result.0 }
+    ensures within { result.1 ≤ right }
+    ensures all { (k : ℕ) → left ≤ k → k < right → from <ℤ to
+        → from <ℤ pos (k * 64 + 64) → pos (k * 64) <ℤ to → (result.0 ≤ k) × (k < result.1) }
+{
+    if from >= to {
+        return (left, left);
+    }
+    let first = from.clamp(0, MAX_SIDE) as u32 / 64;
+    let after = (to.clamp(0, MAX_SIDE) as u32 + 63) / 64;
+    (first.clamp(left, right), after.clamp(left, right))
 }
 
 /// The cells of a grid of so many columns and rows that have places of a rectangle.

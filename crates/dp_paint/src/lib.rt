@@ -5,23 +5,22 @@
 
 mod blank;
 mod cells;
-mod dabs;
-mod deferred;
 mod feet;
 mod fetch;
+mod filing;
+mod layer;
+mod lists;
 mod movement;
+mod op;
 mod paint;
 mod painter;
 mod put;
 mod reading;
 mod resize;
 mod rows;
-mod stroke;
-mod tile_fill;
-mod waiting;
 
 pub use blank::blank_grid;
-pub use deferred::DeferredGrid;
+pub use layer::DeferredGrid;
 pub use movement::{move_in_place, move_one};
 pub use paint::{paint_in_place, paint_one};
 pub use resize::{resize_grid, resized_grid};

@@ -1,38 +1,89 @@
 //! Commands that are painted on a grid.
 
-ghost use Rattle.std.specs.Prelude.{◌≡◌, ◌+◌, ◌-◌, ◌*◌, ◌≤◌, Some, IfOk, IfSome, OnOk, OnErr};
+ghost use Rattle.std.specs.Prelude.{◌≡◌, ◌+◌, ◌*◌, ◌/◌, ◌≤◌, ◌<◌, ℕ, pos, true, IfOk, OnOk, OnErr};
 ghost use Rattle.dp_pixels.specs.Commands.{IsDabs, pixels_after};
-ghost use Rattle.dp_pixels.specs.Feet.{reach};
-ghost use Rattle.dp_pixels.specs.Strokes.{brush_of};
-ghost use Rattle.dp_tile.specs.Areas.{IsPaintedOn};
+ghost use Rattle.dp_pixels.specs.Feet.{foot, is_in_foot, reach};
+ghost use Rattle.dp_tile.specs.Areas.{IsPaintedOn, is_in_cells};
 ghost use Rattle.dp_tile.specs.Tiles.{grid_pixels};
 ghost use Rattle.dp_paint.specs.Painting.{IsGridOf, IsPainting, tile_drawn};
+ghost use Rattle.dp_paint.specs.Reading.{IsAreaOf, cells_of};
+ghost use Rattle.dp_paint.specs.Ops.{tile_after};
+ghost use Rattle.dp_paint.specs.Lists.{IsChangedOn, IsFinished, listed_at};
 
 use crate::feet::cells_of;
-use crate::painter::CommandPainter;
-use crate::stroke::StrokePainter;
+use crate::filing::file;
+use crate::lists::{Finish, TileLists};
+use crate::painter::{CommandPainter, OpsPainter};
 use dp_msg_draw::Draw;
-use dp_pixels::{Brush, brush_of, pixels_stay_outside_the_foot};
+use dp_pixels::pixels_stay_outside_the_foot;
 use dp_steps::Steps;
 use dp_tile::{CellArea, Grid};
 use std::alloc::AllocError;
 use std::sync::ledger::Ledger;
 
-/// The brush of a message of more than one dab, if the command is one and a mode has its number.
-fn brush_of_stroke(command: &Draw) -> Option<Brush>
-    ensures dabs { IfSome result (λ brush. IsDabs command.now) }
-    ensures brush { IfSome result (λ brush. brush_of command.now ≡ Some brush) }
+/// Whether a command is a message of more than one dab.
+fn is_stroke(command: &Draw) -> bool
+    ensures { result ≡ true → IsDabs command.now }
 {
     match command {
-        Draw::DabsRound { dabs, .. } if dabs.as_slice().len() > 1 => brush_of(command),
-        Draw::DabsSquare { dabs, .. } if dabs.as_slice().len() > 1 => brush_of(command),
-        _ => None,
+        Draw::DabsRound { dabs, .. } => dabs.as_slice().len() > 1,
+        Draw::DabsSquare { dabs, .. } => dabs.as_slice().len() > 1,
+        _ => false,
     }
 }
 
-/// Paints a command on the cells of an area: dabs, each on the tiles that its square meets, and
-/// other commands on all of them.
-fn paint_cells<T: Ledger>(
+/// Paints what waits on the cells of an area.
+///
+/// # Errors
+///
+/// The grid is as it was.
+pub(crate) fn paint_lists<T: Ledger>(
+    grid: &mut Grid,
+    lists: &TileLists,
+    area: CellArea,
+    tiles: &mut Steps<T>,
+) -> Result<(), AllocError>
+    requires area { IsAreaOf grid.old area }
+    ensures painted { OnOk result (IsPaintedOn area
+        (λ col row. tile_after (listed_at lists.now col row)) grid.old grid.new) }
+    ensures err { OnErr result (grid.new ≡ grid.old) }
+    ensures tiles_rise { tiles.old ≤ tiles.new }
+    ensures few_tiles { tiles.new ≤ tiles.old + cells_of area }
+{
+    grid.known();
+    grid.paint_area(area, &OpsPainter { lists }, tiles)
+}
+
+/// Paints what waits on the cells of an area. None waits there then.
+///
+/// # Errors
+///
+/// The grid is as it was, and the operations wait.
+pub(crate) fn settle<T: Ledger>(
+    grid: &mut Grid,
+    lists: &mut TileLists,
+    area: CellArea,
+    tiles: &mut Steps<T>,
+) -> Result<(), AllocError>
+    requires area { IsAreaOf grid.old area }
+    requires first { lists.old.first ≤ area.top }
+    ensures painted { OnOk result (IsPaintedOn area
+        (λ col row. tile_after (listed_at lists.old col row)) grid.old grid.new) }
+    ensures none { OnOk result
+        (IsChangedOn area (IsFinished Finish.Clear) lists.old lists.new) }
+    ensures err { OnErr result (grid.new ≡ grid.old) }
+    ensures err_lists { OnErr result (lists.new ≡ lists.old) }
+    ensures tiles_rise { tiles.old ≤ tiles.new }
+    ensures few_tiles { tiles.new ≤ tiles.old + cells_of area }
+{
+    grid.known();
+    paint_lists(grid, lists, area, tiles)?;
+    lists.finish(area, Finish::Clear);
+    Ok(())
+}
+
+/// Paints dabs on the cells of an area, each on the tiles that its square meets.
+fn paint_stroke<T: Ledger>(
     grid: &mut Grid,
     width: u32,
     height: u32,
@@ -40,33 +91,24 @@ fn paint_cells<T: Ledger>(
     area: CellArea,
     tiles: &mut Steps<T>,
 ) -> Result<(), AllocError>
-    requires across { area.left ≤ area.right }
-    requires down { area.top ≤ area.bottom }
-    requires cols { area.right ≤ grid.old.cols }
-    requires rows { area.bottom ≤ grid.old.rows }
-    ensures painted { OnOk result
-        (IsPaintedOn area (tile_drawn width height command.now) grid.old grid.new) }
+    requires grid { IsGridOf width height grid.old }
+    requires dabs { IsDabs command.now }
+    requires area { IsAreaOf grid.old area }
+    requires all { (x y : ℕ) → x < grid.old.cols * 64 → y < grid.old.rows * 64
+        → is_in_foot (foot command.now) (pos x) (pos y) ≡ true
+        → is_in_cells area (x / 64) (y / 64) ≡ true }
+    ensures pixels { OnOk result (grid_pixels width height grid.new
+        ≡ pixels_after width height command.now (grid_pixels width height grid.old)) }
+    ensures grid { OnOk result (IsGridOf width height grid.new) }
     ensures err { OnErr result (grid.new ≡ grid.old) }
     ensures tiles_rise { tiles.old ≤ tiles.new }
-    ensures few_tiles { tiles.new
-        ≤ tiles.old + (area.bottom - area.top) * (area.right - area.left) }
+    ensures few_tiles { tiles.new ≤ tiles.old + cells_of area }
 {
+    pixels_stay_outside_the_foot();
     grid.known();
-    let is_one = area.bottom - area.top <= 1 && area.right - area.left <= 1;
-    match brush_of_stroke(command) {
-        Some(brush) if !is_one => {
-            let painter = StrokePainter::of(grid.alloc(), command, brush, width, height, area)?;
-            grid.paint_area(area, &painter, tiles)
-        }
-        _ => {
-            let painter = CommandPainter {
-                command,
-                width,
-                height,
-            };
-            grid.paint_area(area, &painter, tiles)
-        }
-    }
+    let mut lists = TileLists::new(grid.alloc(), area.top);
+    file(&mut lists, grid.alloc(), command, area)?;
+    paint_lists(grid, &lists, area, tiles)
 }
 
 /// Paints a command on a grid. Tiles are made before the first is painted.
@@ -92,7 +134,15 @@ pub fn paint_in_place<T: Ledger>(
 {
     pixels_stay_outside_the_foot();
     let area = cells_of(command, grid.cols(), grid.rows());
-    paint_cells(grid, width, height, command, area, tiles)
+    if is_stroke(command) {
+        return paint_stroke(grid, width, height, command, area, tiles);
+    }
+    let painter = CommandPainter {
+        command,
+        width,
+        height,
+    };
+    grid.paint_area(area, &painter, tiles)
 }
 
 /// The grid after a command. It shares the tiles that the command doesn't change.

@@ -1,18 +1,21 @@
 //! What a command does to a tile.
 
-ghost use Rattle.std.specs.Prelude.{◌≡◌, ℕ, ◌+◌, ◌*◌, ◌<◌, ◌≤◌, pos, true, false, length};
-ghost use Rattle.std.specs.Prelude.{Option, Some};
+ghost use Rattle.std.specs.Prelude.{◌≡◌, ℕ, ◌+◌, ◌*◌, ◌<◌, ◌≤◌, pos, true, false, length, take};
+ghost use Rattle.std.specs.Prelude.{drop, [], ◌∷◌, ◌++◌, Option, Some, IfSome};
 ghost use Rattle.std.specs.Option.{option_map_or};
 ghost use Rattle.dp_blend.specs.Color.{Channels, of_argb};
 ghost use Rattle.dp_blend.specs.Blending.{blend, mode_numbered};
 ghost use Rattle.dp_pixels.specs.Rectangles.{rect_at};
-ghost use Rattle.dp_pixels.specs.Commands.{IsDabs};
 ghost use Rattle.dp_tile.specs.Painters.{KnownChange};
+ghost use Rattle.dp_tile.specs.Tiles.{tile_of};
 ghost use Rattle.dp_paint.specs.Painting.{IsTileWithin, length-tile_drawn, tile_drawn};
+ghost use Rattle.dp_paint.specs.Ops.{length-tile_after, ops_at, tile_after, tile_pixels};
+ghost use Rattle.dp_paint.specs.Lists.{listed_at};
 
-use crate::fetch::Fill;
+use crate::fetch::{Fill, read_tile};
+use crate::lists::TileLists;
+use crate::op::{PackedOp, TileOp};
 use crate::put::TileRun;
-use crate::stroke::dabs_keep;
 use dp_blend::{Mode, Pixel, blend, of_argb};
 use dp_msg_draw::Draw;
 use dp_pixels::{Region, draw_region};
@@ -131,19 +134,6 @@ impl CommandPainter<'_> {
         run.change(content, row, left, right)
     }
 
-    /// What dabs do to any tile of which all pixels are of this colour.
-    fn dabs_change(&self, color: Pixel) -> TileChange
-        requires { IsDabs self.now.command.now }
-        ensures { (col row : ℕ) → KnownChange result (Some color)
-            (tile_drawn self.now.width self.now.height self.now.command.now col row) }
-    {
-        if dabs_keep(self.command, color) {
-            TileChange::Stays
-        } else {
-            TileChange::Unknown
-        }
-    }
-
     /// What the command does to each tile of a row, from the column `left` on before `right`, of
     /// which all pixels are of this colour.
     fn known_change(&self, row: u32, left: u32, right: u32, color: Pixel) -> TileChange
@@ -156,7 +146,6 @@ impl CommandPainter<'_> {
         match self.command {
             Draw::FillRect { .. } => self.fill_change(row, left, right, color),
             Draw::PutTile { .. } => self.put_change(row, left, right),
-            Draw::DabsRound { .. } | Draw::DabsSquare { .. } => self.dabs_change(color),
             _ => TileChange::Unknown,
         }
     }
@@ -227,3 +216,131 @@ impl TilePainter for CommandPainter<'_> {
         self.draw(col, row, pixels);
     }
 }
+
+/// Draws operations one after the other on a tile.
+pub(crate) fn draw_ops(ops: &[PackedOp], pixels: &mut [Pixel])
+    requires { length pixels.old ≡ 4096 }
+    ensures { pixels.new ≡ tile_after ops.now pixels.old }
+{
+    for op in ops.iter() {
+        op.unpacked().draw(pixels);
+    }
+}
+
+/// Draws operations one after the other on a tile that is of one colour, if one is given, and else
+/// has these pixels. Gives its colour then, if it is known to be of one.
+pub(crate) fn show_ops(
+    ops: &[PackedOp],
+    color: Option<Pixel>,
+    pixels: &mut [Pixel],
+) -> Option<Pixel>
+    requires { length pixels.old ≡ 4096 }
+    ensures shown { tile_pixels result pixels.new
+        ≡ tile_after ops.now (tile_pixels color pixels.old) }
+    ensures count { length pixels.new ≡ 4096 }
+{
+    let mut color = color;
+    for op in ops {
+        color = show_op(op.unpacked(), color, pixels);
+    }
+    color
+}
+
+/// Draws an operation in the same way.
+fn show_op(op: TileOp, color: Option<Pixel>, pixels: &mut [Pixel]) -> Option<Pixel>
+    requires { length pixels.old ≡ 4096 }
+    ensures shown { tile_pixels result pixels.new
+        ≡ tile_after (op ∷ []) (tile_pixels color pixels.old) }
+    ensures count { length pixels.new ≡ 4096 }
+{
+    let Some(p) = color else {
+        op.draw(pixels);
+        return None;
+    };
+    if let Some(after) = op.color_after(p) {
+        return Some(after);
+    }
+    fill_tile(p, pixels);
+    op.draw(pixels);
+    None
+}
+
+/// How many pixels of a tile are filled one by one.
+const BLOCK: usize = 512;
+
+/// Gives each pixel of a tile this colour. The first ones get it one by one, and then they are
+/// copied, which is faster.
+fn fill_tile(color: Pixel, pixels: &mut [Pixel])
+    requires { length pixels.old ≡ 4096 }
+    ensures { pixels.new ≡ tile_of color }
+{
+    let (block, _rest) = pixels.split_at_mut(BLOCK);
+    block.fill(color);
+    for k in 1..SIDE * SIDE / BLOCK {
+        let (done, rest) = pixels.split_at_mut(k * BLOCK);
+        copy_block(done, rest);
+    }
+}
+
+/// Copies the first pixels of a row over the first ones of another, as many as are a block.
+fn copy_block(from: &[Pixel], to: &mut [Pixel])
+    requires from { BLOCK ≤ length from.now }
+    requires to { BLOCK ≤ length to.old }
+    ensures { to.new ≡ take BLOCK from.now ++ drop BLOCK to.old }
+{
+    let (first, _others) = from.split_at(BLOCK);
+    let (block, _rest) = to.split_at_mut(BLOCK);
+    block.copy_from_slice(first);
+}
+
+/// The colour of a tile of this colour after operations, if it is known to be of one.
+fn color_after(ops: &[PackedOp], color: Pixel) -> Option<Pixel>
+    ensures { IfSome result (λ after. (x y : ℕ) → x < 64 → y < 64
+        → ops_at ops.now x y color ≡ after) }
+{
+    let mut color = color;
+    for op in ops {
+        color = op.unpacked().color_after(color)?;
+    }
+    Some(color)
+}
+
+/// Operations on tiles, by their lists.
+#[derive(Clone, Copy)]
+pub(crate) struct OpsPainter<'a> {
+    pub lists: &'a TileLists,
+}
+
+impl TilePainter for OpsPainter<'_> {
+    ghost painted = { λ p col row. tile_after (listed_at p.lists.now col row) };
+
+    ghost keeps_count = { λ p col row pixels count.
+        length-tile_after (listed_at p.lists.now col row) pixels };
+
+    fn change(&self, col: u32, row: u32, color: Option<Pixel>) -> TileChange {
+        let ops = self.lists.ops(col, row);
+        if ops.is_empty() {
+            return TileChange::Stays;
+        }
+        let Some(before) = color else {
+            return TileChange::Unknown;
+        };
+        match color_after(ops, before) {
+            Some(after) if after == before => TileChange::Stays,
+            Some(after) => TileChange::Becomes(after),
+            None => TileChange::Unknown,
+        }
+    }
+
+    fn paint(&self, col: u32, row: u32, pixels: &mut [Pixel]) {
+        let ops = self.lists.ops(col, row);
+        if ops.len() > MANY && read_tile(pixels) {
+            // This is never so. The test has the compiler keep what is read for it.
+            return;
+        }
+        draw_ops(ops, pixels);
+    }
+}
+
+/// From how many operations on a tile is read before they are painted.
+const MANY: usize = 4;

@@ -1,0 +1,330 @@
+-- Lists of operations, by the columns and rows of their tiles.
+use Rattle.std.proofs.Common.{◌≡◌, ℕ, zero, suc, ◌+◌, ◌-◌, ◌*◌, ◌<◌, ◌≤◌, List, [], ◌∷◌, ◌++◌, length, get_or, set}
+use Rattle.std.proofs.Common.{refl, sym, ◌∙◌, ap, subst, arith, ◌⊎◌, ⊎_elim, ◌&&◌, leb, ltb, cond}
+use Rattle.std.proofs.Common.{Bool, true, false, length-append}
+use Rattle.std.specs.Prelude.{ℤ}
+use Rattle.std.proofs.lemmas.Bool.{cases_Bool, cases_lt, cases_eq, false≢true, and_parts, leb-true, ltb-true}
+use Rattle.std.proofs.lemmas.Bool.{le-leb, lt-ltb}
+use Rattle.std.proofs.lemmas.List.{get_or-set_same, get_or-set_other, length-set, get_or_past}
+use Rattle.dp_blend.specs.Color.{Channels}
+use Rattle.dp_tile.specs.declared.area.CellArea.{CellArea}
+use Rattle.dp_tile.specs.Areas.{is_in_cells}
+use Rattle.dp_paint.specs.declared.op.TileOp.{TileOp}
+use Rattle.dp_paint.specs.declared.lists.Finish.{Finish}
+use Rattle.dp_paint.specs.declared.lists.Finish.TheVariants as ways
+use Rattle.dp_paint.specs.Ops.{op_at, ops_at}
+use Rattle.dp_paint.specs.Lists.{AddsMore, AllCount, HaveSame, HaveSameLists, IsChangedOn, IsInside, Lists}
+use Rattle.dp_paint.specs.Lists.{IsFinished, Waiting, finished, list_at, listed_at, no_list, row_to}
+use Rattle.dp_paint.proofs.Ops.{ops_more}
+
+-- ---- cells of an area
+
+pub inside_facts : (area : CellArea) (col row : ℕ) → is_in_cells area col row ≡ true
+    → IsInside area col row
+inside_facts area col row t =
+    let a = and_parts (leb area.left col && ltb col area.right && leb area.top row)
+    (ltb row area.bottom) t in
+    let b = and_parts (leb area.left col && ltb col area.right) (leb area.top row) a.0 in
+    let c = and_parts (leb area.left col) (ltb col area.right) b.0 in
+    record {
+      left = leb-true area.left col c.0;
+      right = ltb-true col area.right c.1;
+      top = leb-true area.top row b.1;
+      bottom = ltb-true row area.bottom a.1;
+    }
+
+pub inside_by : (area : CellArea) (col row : ℕ) → IsInside area col row
+    → is_in_cells area col row ≡ true
+inside_by area col row is =
+    rw (
+      le-leb area.left col is.left,
+      lt-ltb col area.right is.right,
+      le-leb area.top row is.top,
+      lt-ltb row area.bottom is.bottom,
+    ) refl
+
+pub in_joined : (a j : CellArea) (col row : ℕ) → j.left ≤ a.left → a.right ≤ j.right
+    → j.top ≤ a.top → a.bottom ≤ j.bottom → is_in_cells a col row ≡ true
+    → is_in_cells j col row ≡ true
+in_joined a j col row left right top bottom t =
+    let is = inside_facts a col row t in
+    inside_by j col row (record {
+      left = omega (arith, left, is.left);
+      right = omega (arith, right, is.right);
+      top = omega (arith, top, is.top);
+      bottom = omega (arith, bottom, is.bottom);
+    })
+
+-- ---- one list
+
+abbrev at_first : Lists → ℕ → ℕ → List Waiting → Waiting
+at_first l col row lists =
+    cond (leb l.first row) (get_or lists ((row - l.first) * 64 + col) no_list) no_list
+
+module _ (l : Lists) (at up : ℕ) (list : Waiting) (from : l.first ≤ up) (in_cols : at < 64) where
+  -- the lists with another one at a tile
+  abbrev pub with_list : Lists
+  with_list = record { first = l.first; lists = set l.lists ((up - l.first) * 64 + at) list }
+
+  pub list_here : (up - l.first) * 64 + at < length l.lists → list_at with_list at up ≡ list
+  list_here inside =
+      rw (le-leb l.first up from)
+      (get_or-set_same l.lists ((up - l.first) * 64 + at) list no_list inside)
+
+  pub list_beside : (col row : ℕ) → col < 64 → (col ≡ at → row ≡ up → ⊥)
+      → list_at with_list col row ≡ list_at l col row
+  list_beside col row few other =
+      ⊎_elim (λ (above : row < l.first). past above) (λ (below : l.first ≤ row). rw (le-leb l.first row below)
+      (get_or-set_other l.lists ((up - l.first) * 64 + at) ((row - l.first) * 64 + col) list
+      no_list (λ same. other (omega (arith, same, few, in_cols, from, below))
+      (omega (arith, same, few, in_cols, from, below)))))
+      (cases_lt row l.first)
+    where
+      past : row < l.first → list_at with_list col row ≡ list_at l col row
+      past above = by (leb l.first row) (leb-true l.first row)
+        where
+          by : (t : Bool) → (t ≡ true → l.first ≤ row)
+              → cond t (get_or (set l.lists ((up - l.first) * 64 + at) list)
+              ((row - l.first) * 64 + col) no_list) no_list
+              ≡ cond t (get_or l.lists ((row - l.first) * 64 + col) no_list) no_list
+          by true is = absurd (omega (arith, above, is refl))
+          by false is = refl
+
+-- the list at a place that is there
+pub list_from : (l : Lists) (col row : ℕ) → l.first ≤ row
+    → list_at l col row ≡ get_or l.lists ((row - l.first) * 64 + col) no_list
+list_from l col row from = rw (le-leb l.first row from) refl
+
+-- ---- areas that change list by list
+
+-- the rows of an area before a row
+abbrev pub rows_to : CellArea → ℕ → CellArea
+rows_to area row =
+    record { left = area.left; right = area.right; top = area.top; bottom = row }
+
+module _ (change : ℕ → ℕ → Waiting → Waiting → Type 0) where
+  pub row_none : (row left : ℕ) (l : Lists) → IsChangedOn (row_to row left left) change l l
+  row_none row left l = record {
+    first = refl;
+    len = refl;
+    inside = λ col up is. absurd (omega (arith, is.left, is.right));
+    outside = λ col up few out. refl;
+  }
+
+  pub rows_none : (area : CellArea) (l : Lists) → IsChangedOn (rows_to area area.top) change l l
+  rows_none area l = record {
+    first = refl;
+    len = refl;
+    inside = λ col up is. absurd (omega (arith, is.top, is.bottom));
+    outside = λ col up few out. refl;
+  }
+
+  -- one list changed
+  pub one_changed : (row at : ℕ) (old : Lists) (list : Waiting) (from : old.first ≤ row)
+      (in_cols : at < 64) → (row - old.first) * 64 + at < length old.lists
+      → change at row (list_at old at row) list
+      → IsChangedOn (row_to row at (at + 1)) change old (with_list old at row list from in_cols)
+  one_changed row at old list from in_cols room is =
+      record {
+        first = refl;
+        len = length-set old.lists ((row - old.first) * 64 + at) list;
+        inside = λ col up i.
+            let same_row : up ≡ row = omega (arith, i.top, i.bottom) in
+            let same : col ≡ at = omega (arith, i.left, i.right) in
+            rw (same, same_row) (rw (list_here old at row list from in_cols room) is);
+        outside = λ col up few out.
+            list_beside old at row list from in_cols col up few
+            (λ c r. out (record {
+              left = omega (arith, c);
+              right = omega (arith, c);
+              top = omega (arith, r);
+              bottom = omega (arith, r);
+            }));
+      }
+
+  -- one more list of a row changed
+  pub row_next : (row left at : ℕ) (old now new : Lists) → left ≤ at → at < 64
+      → IsChangedOn (row_to row left at) change old now
+      → IsChangedOn (row_to row at (at + 1)) change now new
+      → IsChangedOn (row_to row left (at + 1)) change old new
+  row_next row left at old now new order few before then = record {
+    first = then.first ∙ before.first;
+    len = then.len ∙ before.len;
+    inside = λ col up i.
+        let in_cols : col < 64 = omega (arith, i.right, few) in
+        ⊎_elim (λ (same : col ≡ at).
+        rw (← before.outside col up in_cols (λ j. absurd (omega (arith, j.right, same))))
+        (then.inside col up (record {
+          left = omega (arith, same);
+          right = omega (arith, same);
+          top = i.top;
+          bottom = i.bottom;
+        })))
+        (λ (other : col ≡ at → ⊥).
+        rw (then.outside col up in_cols (λ j. other (omega (arith, j.left, j.right))))
+        (before.inside col up (record {
+          left = i.left;
+          right = omega (arith, i.right, other);
+          top = i.top;
+          bottom = i.bottom;
+        })))
+        (cases_eq col at);
+    outside = λ col up few_cols out.
+        then.outside col up few_cols (λ j. out (record {
+          left = omega (arith, j.left, order);
+          right = j.right;
+          top = j.top;
+          bottom = j.bottom;
+        }))
+        ∙ before.outside col up few_cols (λ j. out (record {
+          left = j.left;
+          right = omega (arith, j.right);
+          top = j.top;
+          bottom = j.bottom;
+        }));
+  }
+
+  -- the next row changed
+  pub rows_next : (area : CellArea) (row : ℕ) (old now new : Lists) → area.top ≤ row
+      → area.right ≤ 64 → IsChangedOn (rows_to area row) change old now
+      → IsChangedOn (row_to row area.left area.right) change now new
+      → IsChangedOn (rows_to area (row + 1)) change old new
+  rows_next area row old now new order few before then = record {
+    first = then.first ∙ before.first;
+    len = then.len ∙ before.len;
+    inside = λ col up i.
+        let in_cols : col < 64 = omega (arith, i.right, few) in
+        ⊎_elim (λ (same : up ≡ row).
+        rw (← before.outside col up in_cols (λ j. absurd (omega (arith, j.bottom, same))))
+        (then.inside col up (record {
+          left = i.left;
+          right = i.right;
+          top = omega (arith, same);
+          bottom = omega (arith, same);
+        })))
+        (λ (other : up ≡ row → ⊥).
+        rw (then.outside col up in_cols (λ j. other (omega (arith, j.top, j.bottom))))
+        (before.inside col up (record {
+          left = i.left;
+          right = i.right;
+          top = i.top;
+          bottom = omega (arith, i.bottom, other);
+        })))
+        (cases_eq up row);
+    outside = λ col up few_cols out.
+        then.outside col up few_cols (λ j. out (record {
+          left = j.left;
+          right = j.right;
+          top = omega (arith, j.top, order);
+          bottom = j.bottom;
+        }))
+        ∙ before.outside col up few_cols (λ j. out (record {
+          left = j.left;
+          right = j.right;
+          top = j.top;
+          bottom = omega (arith, j.bottom);
+        }));
+  }
+
+-- a list that isn't there is finished
+finished_none : (how : Finish) → no_list ≡ finished how no_list
+finished_none ways.Keep = refl
+finished_none ways.Drop = refl
+finished_none ways.Clear = refl
+
+pub past_finished : (how : Finish) (row at : ℕ) (l : Lists) → l.first ≤ row
+    → length l.lists ≤ (row - l.first) * 64 + at
+    → IsChangedOn (row_to row at (at + 1)) (IsFinished how) l l
+past_finished how row at l from past = record {
+  first = refl;
+  len = refl;
+  inside = λ col up i.
+      let same_row : up ≡ row = omega (arith, i.top, i.bottom) in
+      let same : col ≡ at = omega (arith, i.left, i.right) in
+      let none : list_at l at row ≡ no_list =
+      list_from l at row from ∙ get_or_past l.lists ((row - l.first) * 64 + at) no_list past in
+      rw (same, same_row, none) (finished_none how);
+  outside = λ col up few out. refl;
+}
+
+-- lists that aren't there have no operation that doesn't count
+pub none_counts : (l : Lists) → l.lists ≡ [] → AllCount l
+none_counts l none col row few = rw none (either (leb l.first row))
+  where
+    either : (t : Bool) → (cond t no_list no_list).more ≡ []
+    either true = refl
+    either false = refl
+
+-- a list that was finished has none
+finished_counts : (how : Finish) (w : Waiting) → (finished how w).more ≡ []
+finished_counts ways.Keep w = refl
+finished_counts ways.Drop w = refl
+finished_counts ways.Clear w = refl
+
+pub all_counts : (area : CellArea) (how : Finish) (old new : Lists)
+    → IsChangedOn area (IsFinished how) old new
+    → ((col row : ℕ) → col < 64 → (IsInside area col row → ⊥) → (list_at old col row).more ≡ [])
+    → AllCount new
+all_counts area how old new is before col row few =
+    ⊎_elim (λ t.
+    ap (λ (w : Waiting). w.more) (is.inside col row (inside_facts area col row t))
+    ∙ finished_counts how (list_at old col row))
+    (λ t.
+    let out : IsInside area col row → ⊥ = λ i. false≢true (sym t ∙ inside_by area col row i) in
+    ap (λ (w : Waiting). w.more) (is.outside col row few out) ∙ before col row few out)
+    (cases_Bool (is_in_cells area col row))
+
+-- ---- lists that are made and copied
+
+get_or_push : (xs : List Waiting) (d : Waiting) (n : ℕ) → get_or (xs ++ d ∷ []) n d ≡ get_or xs n d
+get_or_push [] d zero = refl
+get_or_push [] d (suc n) = refl
+get_or_push (x ∷ xs) d zero = refl
+get_or_push (x ∷ xs) d (suc n) = get_or_push xs d n
+
+-- one empty list more
+pub pushed_same : (l : Lists) (new : List Waiting) → new ≡ l.lists ++ no_list ∷ []
+    → HaveSameLists l (record { first = l.first; lists = new })
+pushed_same l new is col row few =
+    ap (λ (lists : List Waiting). at_first l col row lists) is
+    ∙ ap (λ (w : Waiting). cond (leb l.first row) w no_list)
+    (get_or_push l.lists no_list ((row - l.first) * 64 + col))
+
+-- a list of what counts alone
+abbrev pub counted : Waiting → Waiting
+counted w = record { ops = w.ops; more = [] }
+
+-- copied lists
+module _ (l copy : Lists) (first : copy.first ≡ l.first)
+    (count : length copy.lists ≡ length l.lists)
+    (each : (k : ℕ) → k < length l.lists
+    → get_or copy.lists k no_list ≡ counted (get_or l.lists k no_list)) where
+  any : (k : ℕ) → get_or copy.lists k no_list ≡ counted (get_or l.lists k no_list)
+  any k =
+      ⊎_elim (each k) (λ past.
+      get_or_past copy.lists k no_list (omega (arith, count, past))
+      ∙ sym (ap counted (get_or_past l.lists k no_list past)))
+      (cases_lt k (length l.lists))
+
+  pub copied_list : (col row : ℕ) → list_at copy col row ≡ counted (list_at l col row)
+  copied_list col row =
+      ap (λ (n : ℕ). cond (leb n row) (get_or copy.lists ((row - n) * 64 + col) no_list) no_list)
+      first
+      ∙ ap (λ (w : Waiting). cond (leb l.first row) w no_list) (any ((row - l.first) * 64 + col))
+      ∙ either (leb l.first row) (get_or l.lists ((row - l.first) * 64 + col) no_list)
+    where
+      either : (t : Bool) (w : Waiting)
+          → cond t (counted w) no_list ≡ counted (cond t w no_list)
+      either true w = refl
+      either false w = refl
+
+  pub copied_same : HaveSame l copy
+  copied_same col row few = ap (λ (w : Waiting). w.ops) (copied_list col row)
+
+  pub copied_counts : AllCount copy
+  copied_counts col row few = ap (λ (w : Waiting). w.more) (copied_list col row)
+
+-- so many lists and one more
+pub grown : (xs : List Waiting) (w : Waiting) (n : ℕ) → length xs ≡ n
+    → length (xs ++ w ∷ []) ≡ n + 1
+grown xs w n is = length-append xs (w ∷ []) ∙ ap (λ (k : ℕ). k + 1) is

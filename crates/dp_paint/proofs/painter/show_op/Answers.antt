@@ -1,0 +1,11 @@
+use Rattle.std.proofs.Common.{[], ◌∷◌, refl, sym}
+use Rattle.dp_tile.specs.Tiles.{tile_of}
+use Rattle.dp_paint.proofs.Ops.{tile_becomes}
+use Rattle.dp_paint.proofs.painter.show_op.Goals as goal
+
+pub returns-in-Some-color_after-clause-shown : goal.returns-in-Some-color_after-clause-shown
+returns-in-Some-color_after-clause-shown c =
+    let p = c.in-Some.p in
+    rw c.in-Some.is
+    (sym (tile_becomes (c.args.op ∷ []) p c.in-Some-color_after.after (tile_of p)
+    c.in-Some-color_after.ensures refl))

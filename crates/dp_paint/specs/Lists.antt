@@ -1,0 +1,117 @@
+-- Operations that wait for the tiles of a grid.
+use Rattle.std.specs.Prelude.{◌≡◌, ℕ, ◌+◌, ◌-◌, ◌*◌, ◌/◌, ◌%◌, ◌<◌, ◌≤◌, pos, ℤ}
+use Rattle.std.specs.Prelude.{nat_le, if◌then◌else◌, List, [], ◌++◌, length, slice_index_or}
+use Rattle.dp_blend.specs.Color.{Channels}
+use Rattle.dp_blend.specs.Canvas.{canvas_of}
+use Rattle.dp_msg_draw.specs.declared.draw.Draw.{Draw}
+use Rattle.dp_tile.specs.declared.area.CellArea.{CellArea}
+use Rattle.dp_tile.specs.Tiles.{TileGrid, grid_pixel}
+use Rattle.dp_paint.specs.declared.op.TileOp.{TileOp}
+use Rattle.dp_paint.specs.declared.lists.Finish.{Finish}
+use Rattle.dp_paint.specs.declared.lists.Finish.TheVariants.{Keep, Drop, Clear}
+use Rattle.dp_paint.specs.Ops.{Draws, ops_at}
+
+-- the operations that wait on a tile, and those that were added since and don't count yet
+pub record Waiting : Type 0 where
+  pub ops : List TileOp
+  pub more : List TileOp
+
+-- no operation
+abbrev pub no_list : Waiting
+no_list = record { ops = []; more = [] }
+
+-- lists of tiles, 64 for each row of tiles, from a row on
+pub record Lists : Type 0 where
+  pub first : ℕ
+  pub lists : List Waiting
+
+-- the list of the tile at a column and a row
+abbrev pub list_at : Lists → ℕ → ℕ → Waiting
+list_at l col row =
+    if nat_le l.first row
+    then slice_index_or l.lists ((row - l.first) * 64 + col) no_list
+    else no_list
+
+-- the operations that wait there
+abbrev pub listed_at : Lists → ℕ → ℕ → List TileOp
+listed_at l col row = (list_at l col row).ops
+
+-- the pixels of a layer on a canvas of these sides
+pub record LayerOf : Type 0 where
+  pub width : ℕ
+  pub height : ℕ
+  pub pixels : List Channels
+
+-- the pixel at a place of a grid after all that waits on its tile
+abbrev pub waiting_pixel : Lists → TileGrid → ℕ → ℕ → Channels
+waiting_pixel lists g x y =
+    ops_at (listed_at lists (x / 64) (y / 64)) (x % 64) (y % 64) (grid_pixel g x y)
+
+-- the pixels of a canvas of this width and height, after all that waits on its tiles
+abbrev pub layer_pixels : ℕ → ℕ → Lists → TileGrid → List Channels
+layer_pixels width height lists g = canvas_of width height (waiting_pixel lists g)
+
+-- the cell at a column and a row is in the area
+pub record IsInside (area : CellArea) (col row : ℕ) : Type 0 where
+  pub left : area.left ≤ col
+  pub right : col < area.right
+  pub top : area.top ≤ row
+  pub bottom : row < area.bottom
+
+-- a command was filed: the lists of the cells of an area draw it more, and all others stay
+pub record IsFiled (command : Draw) (area : CellArea) (old new : Lists) : Type 0 where
+  pub inside : (col row : ℕ) → IsInside area col row
+      → Draws command col row (listed_at old col row) (listed_at new col row)
+  pub outside : (col row : ℕ) → col < 64 → (IsInside area col row → ⊥)
+      → listed_at new col row ≡ listed_at old col row
+
+-- ---- in the words of the code
+
+-- what becomes of the operations of a list
+abbrev pub finished : Finish → Waiting → Waiting
+finished Keep l = record { ops = l.ops ++ l.more; more = [] }
+finished Drop l = record { ops = l.ops; more = [] }
+finished Clear l = no_list
+
+-- a list was finished
+abbrev pub IsFinished : Finish → ℕ → ℕ → Waiting → Waiting → Type 0
+IsFinished how col row old new = new ≡ finished how old
+
+-- the cells of a row from a column on before another
+abbrev pub row_to : ℕ → ℕ → ℕ → CellArea
+row_to row left right = record { left = left; right = right; top = row; bottom = row + 1 }
+
+-- nothing was added on any tile that doesn't count
+abbrev pub AllCount : Lists → Type 0
+AllCount l = (col row : ℕ) → col < 64 → (list_at l col row).more ≡ []
+
+-- the same operations wait on each tile
+abbrev pub HaveSame : Lists → Lists → Type 0
+HaveSame old new = (col row : ℕ) → col < 64 → listed_at new col row ≡ listed_at old col row
+
+-- the same lists stand at each tile
+abbrev pub HaveSameLists : Lists → Lists → Type 0
+HaveSameLists old new = (col row : ℕ) → col < 64 → list_at new col row ≡ list_at old col row
+
+-- the same lists stand outside an area
+abbrev pub StayOutside : CellArea → Lists → Lists → Type 0
+StayOutside area old new =
+    (col row : ℕ) → col < 64 → (IsInside area col row → ⊥) → list_at new col row ≡ list_at old col row
+
+-- in an area, each list is related to the old one, and all others stay
+pub record IsChangedOn (area : CellArea) (change : ℕ → ℕ → Waiting → Waiting → Type 0)
+    (old new : Lists) : Type 0 where
+  pub first : new.first ≡ old.first
+  pub len : length new.lists ≡ length old.lists
+  pub inside : (col row : ℕ) → IsInside area col row
+      → change col row (list_at old col row) (list_at new col row)
+  pub outside : (col row : ℕ) → col < 64 → (IsInside area col row → ⊥)
+      → list_at new col row ≡ list_at old col row
+
+-- what was added on a tile makes a change of its places more
+abbrev pub AddsMore : (ℤ → ℤ → Channels → Channels) → ℕ → ℕ → Waiting → Waiting → Type 0
+AddsMore change col row old new =
+    (new.ops ≡ old.ops)
+    × ((i j : ℕ) (p : Channels) → i < 64 → j < 64
+    → ops_at new.more i j p
+    ≡ change (pos (col * 64 + i)) (pos (row * 64 + j)) (ops_at old.more i j p))

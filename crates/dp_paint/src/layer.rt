@@ -1,0 +1,330 @@
+//! The pixels of a layer, with operations that wait until its tiles are painted otherwise or read.
+
+ghost use Rattle.std.specs.Prelude.{◌≡◌, ◌+◌, ◌*◌, ◌/◌, ◌<◌, ◌≤◌, [], ℕ, length, Some, true, pos};
+ghost use Rattle.std.specs.Prelude.{IfOk, IfSome, OnOk, OnErr};
+ghost use Rattle.dp_blend.specs.Color.{clear};
+ghost use Rattle.dp_blend.specs.Canvas.{canvas_of, part_of_row, pixel_at};
+ghost use Rattle.dp_pixels.specs.Commands.{pixels_after};
+ghost use Rattle.dp_pixels.specs.Feet.{foot, is_in_foot, reach};
+ghost use Rattle.dp_pixels.specs.Resizes.{pixels_resized};
+ghost use Rattle.dp_pixels.specs.Tiles.{ShowsTile};
+ghost use Rattle.dp_tile.specs.Areas.{is_in_cells};
+ghost use Rattle.dp_tile.specs.Tiles.{grid_pixels};
+ghost use Rattle.dp_paint.specs.Painting.{IsGridOf};
+ghost use Rattle.dp_paint.specs.Ops.{MayWait};
+ghost use Rattle.dp_paint.specs.Reading.{ChangesPixels};
+
+use crate::blank::blank_grid;
+use crate::feet::foot_cells;
+use crate::filing::{file, may_wait};
+use crate::lists::TileLists;
+use crate::movement::move_in_place;
+use crate::paint::{paint_in_place, paint_lists, settle};
+use crate::painter::show_ops;
+use crate::resize::resized_grid;
+use dp_blend::Pixel;
+use dp_msg_draw::Draw;
+use dp_pixels::{Resize, pixels_stay_outside_the_foot, the_foot_tells_all};
+use dp_steps::Steps;
+use dp_tile::{CellArea, Grid};
+use std::alloc::{AllocError, Global};
+use std::marker::Model;
+use std::sync::ledger::Ledger;
+
+/// How many operations may be added for each tile of the layer before all are painted.
+const WAITING: usize = 1024;
+
+/// The pixels of a layer on a canvas: a grid of tiles, and small fills and dabs that wait until
+/// their tiles are painted otherwise or read. A tile is then painted once by all of them. Layers
+/// that are shared have their tiles in common until one of them is written to.
+///
+/// It is seen as the sides of its canvas and its pixels after all that waits.
+#[derive(Drop)]
+pub struct DeferredGrid {
+    width: u32,
+    height: u32,
+    grid: Grid,
+    lists: TileLists,
+}
+
+impl Model for DeferredGrid {
+    ghost use Rattle.std.specs.Prelude.{◌≡◌};
+    ghost use Rattle.dp_paint.specs.Painting.{IsGridOf};
+    ghost use Rattle.dp_paint.specs.Lists.{AllCount, LayerOf, layer_pixels};
+
+    ghost Value = { LayerOf };
+
+    ghost view = { λ d. record {
+      width = d.width;
+      height = d.height;
+      pixels = layer_pixels d.width d.height d.lists d.grid;
+    } };
+
+    ghost invariant = { λ d. IsGridOf d.width d.height d.grid
+        × (d.lists.first ≡ 0) × AllCount d.lists };
+}
+
+/// Draws a command on a grid.
+fn draw_in_place<T: Ledger>(
+    grid: &mut Grid,
+    width: u32,
+    height: u32,
+    command: &Draw,
+    tiles: &mut Steps<T>,
+) -> Result<(), AllocError>
+    requires grid { IsGridOf width height grid.old }
+    requires command { ChangesPixels command.now }
+    ensures grid { OnOk result (IsGridOf width height grid.new) }
+    ensures pixels { OnOk result (grid_pixels width height grid.new
+        ≡ pixels_after width height command.now (grid_pixels width height grid.old)) }
+    ensures err { OnErr result (grid.new ≡ grid.old) }
+    ensures tiles_rise { tiles.old ≤ tiles.new }
+    ensures few_tiles { tiles.new ≤ tiles.old + reach command.now }
+{
+    match command {
+        Draw::MoveRect { .. } => move_in_place(grid, width, height, command, tiles),
+        _ => paint_in_place(grid, width, height, command, tiles),
+    }
+}
+
+impl DeferredGrid {
+    /// The clear pixels of a canvas of these sides. It makes no tile.
+    pub fn blank(alloc: Global, width: u32, height: u32) -> Result<DeferredGrid, AllocError>
+        requires wide { width ≤ 4096 }
+        requires high { height ≤ 4096 }
+        ensures { IfOk result (λ layer. layer ≡ record {
+          width = width;
+          height = height;
+          pixels = canvas_of width height (λ x y. clear);
+        }) }
+    {
+        let grid = blank_grid(alloc, width, height)?;
+        Ok(DeferredGrid {
+            width,
+            height,
+            grid,
+            lists: TileLists::new(alloc, 0),
+        })
+    }
+
+    /// The sides are at most 4096, and there is a pixel for each place.
+    pub fn known(&self)
+        ensures wide { self.now.width ≤ 4096 }
+        ensures high { self.now.height ≤ 4096 }
+        ensures covers { length self.now.pixels ≡ self.now.width * self.now.height }
+    {
+        let _ = &self.grid;
+    }
+
+    /// Draws a command. A fill of few tiles and dabs wait. Any other command is painted, after all
+    /// that waits on the tiles of its foot.
+    ///
+    /// # Errors
+    ///
+    /// The pixels are as they were, and tiles that were made are counted.
+    pub fn draw<T: Ledger>(
+        &mut self,
+        command: &Draw,
+        tiles: &mut Steps<T>,
+    ) -> Result<(), AllocError>
+        requires { ChangesPixels command.now }
+        ensures ok { OnOk result (self.new ≡ record self.old {
+          pixels = pixels_after self.old.width
+              self.old.height command.now self.old.pixels;
+        }) }
+        ensures err { OnErr result (self.new ≡ self.old) }
+        ensures tiles_rise { tiles.old ≤ tiles.new }
+        ensures few_tiles { tiles.new ≤ tiles.old + (4096 + reach command.now) }
+    {
+        self.grid.known();
+        let area = foot_cells(command, self.grid.cols(), self.grid.rows());
+        if may_wait(command, area) {
+            self.wait(command, area, tiles)
+        } else {
+            self.paint(command, area, tiles)
+        }
+    }
+
+    /// Has a command wait on the cells of its foot. All that waits is painted before, if it is too
+    /// much.
+    fn wait<T: Ledger>(
+        &mut self,
+        command: &Draw,
+        area: CellArea,
+        tiles: &mut Steps<T>,
+    ) -> Result<(), AllocError>
+        requires command { MayWait command.now }
+        requires across { area.left ≤ area.right }
+        requires down { area.top ≤ area.bottom }
+        requires cols { area.right * 64 < self.old.width + 64 }
+        requires rows { area.bottom * 64 < self.old.height + 64 }
+        requires all { (x y : ℕ) → x < self.old.width → y < self.old.height
+            → is_in_foot (foot command.now) (pos x) (pos y) ≡ true
+            → is_in_cells area (x / 64) (y / 64) ≡ true }
+        ensures ok { OnOk result (self.new ≡ record self.old {
+          pixels = pixels_after self.old.width
+              self.old.height command.now self.old.pixels;
+        }) }
+        ensures err { OnErr result (self.new ≡ self.old) }
+        ensures tiles_rise { tiles.old ≤ tiles.new }
+        ensures few_tiles { tiles.new ≤ tiles.old + 4096 }
+    {
+        pixels_stay_outside_the_foot();
+        self.make_room(tiles)?;
+        file(&mut self.lists, self.grid.alloc(), command, area)
+    }
+
+    /// Paints all that waits, if it is too much.
+    fn make_room<T: Ledger>(&mut self, tiles: &mut Steps<T>) -> Result<(), AllocError>
+        ensures same { self.new ≡ self.old }
+        ensures tiles_rise { tiles.old ≤ tiles.new }
+        ensures few_tiles { tiles.new ≤ tiles.old + 4096 }
+    {
+        self.grid.known();
+        let (cols, rows) = (self.grid.cols(), self.grid.rows());
+        if self.lists.added() < cols as usize * rows as usize * WAITING {
+            return Ok(());
+        }
+        let all = CellArea {
+            left: 0,
+            right: cols,
+            top: 0,
+            bottom: rows,
+        };
+        paint_lists(&mut self.grid, &self.lists, all, tiles)?;
+        self.lists = TileLists::new(self.grid.alloc(), 0);
+        Ok(())
+    }
+
+    /// Draws a command on the grid after all that waits on the cells of its foot.
+    fn paint<T: Ledger>(
+        &mut self,
+        command: &Draw,
+        area: CellArea,
+        tiles: &mut Steps<T>,
+    ) -> Result<(), AllocError>
+        requires command { ChangesPixels command.now }
+        requires across { area.left ≤ area.right }
+        requires down { area.top ≤ area.bottom }
+        requires cols { area.right * 64 < self.old.width + 64 }
+        requires rows { area.bottom * 64 < self.old.height + 64 }
+        requires all { (x y : ℕ) → x < self.old.width → y < self.old.height
+            → is_in_foot (foot command.now) (pos x) (pos y) ≡ true
+            → is_in_cells area (x / 64) (y / 64) ≡ true }
+        ensures ok { OnOk result (self.new ≡ record self.old {
+          pixels = pixels_after self.old.width
+              self.old.height command.now self.old.pixels;
+        }) }
+        ensures err { OnErr result (self.new ≡ self.old) }
+        ensures tiles_rise { tiles.old ≤ tiles.new }
+        ensures few_tiles { tiles.new ≤ tiles.old + (4096 + reach command.now) }
+    {
+        pixels_stay_outside_the_foot();
+        the_foot_tells_all();
+        settle(&mut self.grid, &mut self.lists, area, tiles)?;
+        draw_in_place(&mut self.grid, self.width, self.height, command, tiles)
+    }
+
+    /// The pixels on a canvas of the new sides.
+    ///
+    /// # Errors
+    ///
+    /// Tiles that were made are counted.
+    pub fn resized<T: Ledger>(
+        &self,
+        change: Resize,
+        tiles: &mut Steps<T>,
+    ) -> Result<DeferredGrid, AllocError>
+        requires wide { self.now.width ≡ change.width }
+        requires high { self.now.height ≡ change.height }
+        ensures resized { IfOk result (λ layer. layer ≡ record {
+          width = change.new_width;
+          height = change.new_height;
+          pixels = pixels_resized change self.now.pixels;
+        }) }
+        ensures tiles_rise { tiles.old ≤ tiles.new }
+        ensures few_tiles { tiles.new ≤ tiles.old + 8192 }
+    {
+        let mut grid = self.grid.share()?;
+        let all = CellArea {
+            left: 0,
+            right: grid.cols(),
+            top: 0,
+            bottom: grid.rows(),
+        };
+        paint_lists(&mut grid, &self.lists, all, tiles)?;
+        Ok(DeferredGrid {
+            width: change.new_width as u32,
+            height: change.new_height as u32,
+            grid: resized_grid(&grid, change, tiles)?,
+            lists: TileLists::new(grid.alloc(), 0),
+        })
+    }
+
+    /// Equal pixels. It makes no tile.
+    pub fn share(&self) -> Result<DeferredGrid, AllocError>
+        ensures { IfOk result (λ layer. layer ≡ self.now) }
+    {
+        Ok(DeferredGrid {
+            width: self.width,
+            height: self.height,
+            grid: self.grid.share()?,
+            lists: self.lists.share()?,
+        })
+    }
+
+    /// The colour of the tile at a column and a row, where it is of one and that is known without
+    /// reading it.
+    pub fn tile_color(&self, col: u32, row: u32) -> Option<Pixel>
+        requires across { col * 64 < self.now.width }
+        requires down { row * 64 < self.now.height }
+        ensures { IfSome result (λ color. ShowsTile self.now.width self.now.height
+            self.now.pixels col row (Some color) []) }
+    {
+        self.grid.known();
+        if self.lists.ops(col, row).is_empty() {
+            self.grid.tile_color(col, row)
+        } else {
+            None
+        }
+    }
+
+    /// Reads the tile at a column and a row: gives its colour, where it is known to be of one, and
+    /// else leaves its pixels, row by row. Past the canvas it may hold anything.
+    pub fn read_tile(&self, col: u32, row: u32, pixels: &mut [Pixel]) -> Option<Pixel>
+        requires across { col * 64 < self.now.width }
+        requires down { row * 64 < self.now.height }
+        requires count { length pixels.old ≡ 4096 }
+        ensures { ShowsTile self.now.width self.now.height self.now.pixels col row result
+            pixels.new }
+    {
+        self.grid.known();
+        let color = self.grid.read_tile(col, row, pixels);
+        show_ops(self.lists.ops(col, row), color, pixels)
+    }
+
+    /// The pixel at a place.
+    pub fn pixel(&self, x: u32, y: u32) -> Pixel
+        requires across { x < self.now.width }
+        requires down { y < self.now.height }
+        ensures { result ≡ pixel_at self.now.width self.now.pixels x y }
+    {
+        let mut pixel = self.grid.get(x, y);
+        for op in self.lists.ops(x / 64, y / 64) {
+            pixel = op.unpacked().pixel_after(x % 64, y % 64, pixel);
+        }
+        pixel
+    }
+
+    /// Copies a part of the row y of the pixels, from x on.
+    pub fn copy_part(&self, x: u32, y: u32, part: &mut [Pixel])
+        requires inside { y < self.now.height }
+        requires within { x + length part.old ≤ self.now.width }
+        ensures { part.new ≡ part_of_row self.now.width self.now.pixels x y (length part.old) }
+    {
+        self.known();
+        for k in 0..part.len() {
+            part[k] = self.pixel(x + k as u32, y);
+        }
+    }
+}
