@@ -61,7 +61,7 @@ fn fill_of(frame: &FrameView<'_>) -> Option<Entry>
 }
 
 /// Why a frame that isn't decoded gives no entry.
-fn refusal_of(error: DecodeError) -> Refusal<DecodeError>
+pub(crate) fn refusal_of(error: DecodeError) -> Refusal<DecodeError>
     ensures { result ≡ refusal_of error }
 {
     match error {

@@ -5,6 +5,7 @@
 
 mod anywhere;
 mod ends;
+mod first_profile;
 mod laws;
 mod reader;
 mod standing;
@@ -12,6 +13,7 @@ mod taking;
 
 pub use anywhere::Anywhere;
 pub use ends::{ReadEnd, Refusal};
+pub use first_profile::FirstProfile;
 pub use laws::one_reading;
 pub use reader::EntryReader;
 pub use standing::Standing;

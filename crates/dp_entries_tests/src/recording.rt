@@ -2,7 +2,9 @@
 
 use dp_io::MemSource;
 use dp_lines::RunEnd;
-use dp_recording::{HeaderError, RecordingReader, put_header, read_header, the_header_is_one};
+use dp_recording::{
+    Header, HeaderError, Profile, RecordingReader, put_header, read_header, the_header_is_one,
+};
 use std::alloc::Global;
 use std::process::Abort;
 
@@ -83,7 +85,11 @@ fn headers(rt: HostRuntime) {
         assert!(rt; len <= header.len());
         assert_eq!(rt; read_header(alloc, &header[..len]), Err(HeaderError::Short));
     }
-    assert_eq!(rt; read_header(alloc, &header), Ok(30));
+    let today = Header {
+        profile: Profile::Second,
+        len: 30,
+    };
+    assert_eq!(rt; read_header(alloc, &header), Ok(today));
     assert_eq!(rt; read_header(alloc, b"DPREX"), Err(HeaderError::Bad));
     assert_eq!(rt; read_header(alloc, b"DPREC0"), Err(HeaderError::Bad));
     the_header_is_one();

@@ -1,13 +1,16 @@
 -- Headers of bytes, and of these bytes with more after them.
 use Rattle.std.proofs.Common.{◌≡◌, ◌<◌, ◌≤◌, ◌⊎◌, ℕ, ◌+◌, ◌*◌, ◌-◌, List, ◌++◌, length, take, drop}
 use Rattle.std.proofs.Common.{min}
-use Rattle.std.proofs.Common.{inl, inr, ap, ap₂, arith, codes, slice_index, subst, sym, ◌∙◌}
+use Rattle.std.proofs.Common.{inl, inr, ap, ap₂, arith, refl, slice_index, subst, sym, ◌∙◌}
 use Rattle.std.proofs.lemmas.List.{get_or-drop, get_or_append_left, length-append, take-append-le}
 use Rattle.std.proofs.lemmas.List.{take_min}
 use Rattle.std.proofs.lemmas.Bool.{cases_lt}
 use Rattle.std.proofs.Math.Seq.{take-append-add, take-append_seam, take-length}
+use Rattle.std.specs.Prelude.{Option, None, Some}
+use Rattle.dp_recording.specs.declared.header.Profile.{Profile}
+use Rattle.dp_recording.specs.declared.header.Profile.TheVariants.{First, Second}
 use Rattle.dp_recording.specs.Headers.{HasNoHeader, IsHeader, IsShort, TellsProfile, announced}
-use Rattle.dp_recording.specs.Headers.{magic}
+use Rattle.dp_recording.specs.Headers.{magic, name_of}
 
 pub take-past : {X : Type 0} (xs : List X) (n : ℕ) → length xs ≤ n → take n xs ≡ xs
 take-past xs n long =
@@ -57,20 +60,43 @@ agree bytes more begins = by (cases_lt (length bytes) 6)
 
 -- ---- headers
 
-pub header-long : {bytes : List ℕ} {len : ℕ} → IsHeader bytes len → 8 ≤ length bytes
+pub header-long : {bytes : List ℕ} {profile : Profile} {len : ℕ} → IsHeader bytes profile len
+    → 8 ≤ length bytes
 header-long h = omega (arith, h.long, h.whole)
 
-pub goes-on : (bytes more : List ℕ) (len : ℕ) → IsHeader bytes len → IsHeader (bytes ++ more) len
-goes-on bytes more len h = record {
+pub goes-on : (bytes more : List ℕ) (profile : Profile) (len : ℕ) → IsHeader bytes profile len
+    → IsHeader (bytes ++ more) profile len
+goes-on bytes more profile len h = record {
   begins = six bytes more (omega (arith, header-long h)) ∙ h.begins;
   long = h.long ∙ sym (announced-same bytes more (header-long h));
   whole = omega (arith, h.whole, length-append bytes more);
-  profile = subst (λ t. TellsProfile (drop 8 t) (codes "dp-int-1"))
-      (sym (take-append-le len bytes more h.whole)) h.profile;
+  tells = subst (λ t. TellsProfile (drop 8 t) (name_of profile))
+      (sym (take-append-le len bytes more h.whole)) h.tells;
 }
 
+-- the last letter of a name of eight
+abbrev last-letter : Option (List ℕ) → ℕ
+last-letter None = 0
+last-letter (Some name) = slice_index name 7
+
+-- profiles of one name are one
+one-name : (p q : Profile) → Some (name_of p) ≡ Some (name_of q) → p ≡ q
+one-name First First e = refl
+one-name First Second e = let wrong : 49 ≡ 50 = ap last-letter e in absurd (omega (arith, wrong))
+one-name Second First e = let wrong : 50 ≡ 49 = ap last-letter e in absurd (omega (arith, wrong))
+one-name Second Second e = refl
+
+-- a header tells one profile, and has one length
+pub one-header : (bytes : List ℕ) (profile other : Profile) (len more : ℕ)
+    → IsHeader bytes profile len → IsHeader bytes other more → (profile ≡ other) × (len ≡ more)
+one-header bytes profile other len more h k =
+    let same : len ≡ more = h.long ∙ sym k.long in
+    let tells : TellsProfile (drop 8 (take more bytes)) (name_of profile) =
+    subst (λ n. TellsProfile (drop 8 (take n bytes)) (name_of profile)) same h.tells in
+    (one-name profile other (sym tells.1 ∙ k.tells.1), same)
+
 pub short-none : (bytes : List ℕ) → IsShort bytes → HasNoHeader bytes
-short-none bytes short len h = by short.few
+short-none bytes short profile len h = by short.few
   where
     by : (length bytes < 8) ⊎ (length bytes < announced bytes) → ⊥
     by (inl few) = omega (arith, few, header-long h)
@@ -78,7 +104,7 @@ short-none bytes short len h = by short.few
 
 pub none-stays : (bytes more : List ℕ) → HasNoHeader bytes → (IsShort bytes → ⊥)
     → HasNoHeader (bytes ++ more)
-none-stays bytes more none enough len h =
+none-stays bytes more none enough profile len h =
     let begins = agree bytes more h.begins in
     let long : 8 ≤ length bytes =
     not-below _ _ (λ few. enough (record { begins = begins; few = inl few })) in
@@ -86,32 +112,32 @@ none-stays bytes more none enough len h =
     not-below _ _ (λ few. enough (record { begins = begins; few = inr few })) in
     let same = announced-same bytes more long in
     let fits : len ≤ length bytes = omega (arith, h.long, same, whole) in
-    none len (record {
+    none profile len (record {
       begins = sym (six bytes more (omega (arith, long))) ∙ h.begins;
       long = h.long ∙ same;
       whole = fits;
-      profile = subst (λ t. TellsProfile (drop 8 t) (codes "dp-int-1"))
-          (take-append-le len bytes more fits) h.profile;
+      tells = subst (λ t. TellsProfile (drop 8 t) (name_of profile))
+          (take-append-le len bytes more fits) h.tells;
     })
 
 -- a header is longer than bytes that are too few for one
-pub header-goes-past : (short more : List ℕ) (len : ℕ) → IsShort short
-    → IsHeader (short ++ more) len
+pub header-goes-past : (short more : List ℕ) (profile : Profile) (len : ℕ) → IsShort short
+    → IsHeader (short ++ more) profile len
     → length short < len
-header-goes-past short more len few h = elim (cases_lt (length short) len) as (λ _.
+header-goes-past short more profile len few h = elim (cases_lt (length short) len) as (λ _.
     length short < len) [
       | inl lt ↦ lt
-      | inr le ↦ absurd (short-none short few len (cut short more len le h))
+      | inr le ↦ absurd (short-none short few profile len (cut short more len le h))
     ]
   where
-    cut : (bytes more : List ℕ) (len : ℕ) → len ≤ length bytes → IsHeader (bytes ++ more) len
-        → IsHeader bytes len
+    cut : (bytes more : List ℕ) (len : ℕ) → len ≤ length bytes
+        → IsHeader (bytes ++ more) profile len → IsHeader bytes profile len
     cut bytes more len fits h =
         let long : 8 ≤ length bytes = omega (arith, h.long, fits) in
         record {
           begins = sym (six bytes more (omega (arith, long))) ∙ h.begins;
           long = h.long ∙ announced-same bytes more long;
           whole = fits;
-          profile = subst (λ t. TellsProfile (drop 8 t) (codes "dp-int-1"))
-              (take-append-le len bytes more fits) h.profile;
+          tells = subst (λ t. TellsProfile (drop 8 t) (name_of profile))
+              (take-append-le len bytes more fits) h.tells;
         }

@@ -7,9 +7,9 @@ use Rattle.std.specs.Io.KnownBytes.{Consumes}
 use Rattle.dp_lines.specs.TakenParts.{TookWithin}
 use Rattle.dp_recording.specs.Headers.{IsHeader, IsShort}
 use Rattle.dp_messages.specs.declared.message.Entry.{Entry}
-use Rattle.dp_entries.specs.Reader.{Reader}
+use Rattle.dp_recording.specs.declared.header.Profile.{Profile}
 use Rattle.dp_recording.specs.declared.reader.Phase.{Phase}
-use Rattle.dp_recording.specs.declared.reader.Phase.TheVariants.{New, Reading}
+use Rattle.dp_recording.specs.declared.reader.Phase.TheVariants.{New}
 use Rattle.dp_recording.specs.Recordings.{HasReadOf, HoldsHeader}
 use Rattle.dp_recording.proofs.Headers.{header-goes-past}
 
@@ -36,11 +36,13 @@ reads-piece input left new held later chunk short small joined consumes h =
     }
 
 -- what is held after the header is no more than the last piece
-pub rest-is-small : {input : List ℕ} {left : Option (List ℕ)} (held : List ℕ) (len : ℕ)
-    → IsHeader held len → HoldsHeader input left held → length (drop len held) ≤ 4096
-rest-is-small held len header h =
+pub rest-is-small : {input : List ℕ} {left : Option (List ℕ)} (held : List ℕ) (profile : Profile)
+    (len : ℕ) → IsHeader held profile len → HoldsHeader input left held
+    → length (drop len held) ≤ 4096
+rest-is-small held profile len header h =
     let past : length h.short < len =
-    header-goes-past h.short h.piece len h.few (subst (λ t. IsHeader t len) h.split header) in
+    header-goes-past h.short h.piece profile len h.few
+    (subst (λ t. IsHeader t profile len) h.split header) in
     omega (
       arith,
       past,
@@ -75,11 +77,11 @@ took-a-piece h = record {
 -- ---- how far a reader is
 
 -- the header is read
-pub began : (bytes : List ℕ) (left new : Option (List ℕ)) (entries : List Entry) (reader : Reader)
-    → ((bytes : List ℕ) → left ≡ Some bytes → HasReadOf bytes new [] (Reading reader))
-    → HasReadOf bytes left entries New → HasReadOf bytes new entries (Reading reader)
-began bytes left new entries reader begun h =
-    subst (λ es. HasReadOf bytes new es (Reading reader)) (sym h.1) (begun bytes h.0)
+pub began : (bytes : List ℕ) (left new : Option (List ℕ)) (entries : List Entry) (reading : Phase)
+    → ((bytes : List ℕ) → left ≡ Some bytes → HasReadOf bytes new [] reading)
+    → HasReadOf bytes left entries New → HasReadOf bytes new entries reading
+began bytes left new entries reading begun h =
+    subst (λ es. HasReadOf bytes new es reading) (sym h.1) (begun bytes h.0)
 
 pub so-far : {p q : Phase} (bytes : List ℕ) (left : Option (List ℕ)) (entries : List Entry) → p ≡ q
     → HasReadOf bytes left entries q → HasReadOf bytes left entries p

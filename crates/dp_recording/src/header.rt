@@ -1,8 +1,9 @@
 //! Headers.
 
-ghost use Rattle.std.specs.Prelude.{◌≡◌, ◌↔◌, ◌<◌, ◌≤◌, length, IsTrue, IfOk, IfErr};
+ghost use Rattle.std.specs.Prelude.{◌≡◌, ◌<◌, ◌≤◌, length, IfOk, IfErr, IfSome, IfNone};
 ghost use Rattle.dp_recording.specs.declared.header.HeaderError.TheVariants.{Short, Memory};
-ghost use Rattle.dp_recording.specs.Headers.{IsHeader, IsHeaderRefused, TellsProfile};
+ghost use Rattle.dp_recording.specs.declared.header.Profile.{Profile as Told};
+ghost use Rattle.dp_recording.specs.Headers.{IsHeader, IsHeaderRefused, TellsProfile, name_of};
 
 use byteorder::{BigEndian, ByteOrder};
 use dp_lists::{prefix_of, rest_of};
@@ -11,13 +12,32 @@ use std::alloc::{AllocError, Global};
 use thiserror::Error;
 
 /// The header that is written.
-pub const HEADER: [u8; 30] = *b"DPREC\0\0\x16{\"profile\":\"dp-int-1\"}";
+pub const HEADER: [u8; 30] = *b"DPREC\0\0\x16{\"profile\":\"dp-int-2\"}";
 
 /// The first bytes of each recording.
 const MAGIC: [u8; 6] = *b"DPREC\0";
 
-/// The profile that a recording has to tell.
-const PROFILE: &str = "dp-int-1";
+/// The name of the first profile.
+const FIRST: &str = "dp-int-1";
+
+/// The name of the second one.
+const SECOND: &str = "dp-int-2";
+
+/// The profile by which the frames of a recording are read.
+#[derive(Clone, Copy, Debug, PartialEq, Eq)]
+pub enum Profile {
+    /// dp-int-1, in which no message has kind 70.
+    First,
+    /// dp-int-2, which is today's.
+    Second,
+}
+
+/// A header: which profile it tells, and how many bytes it has.
+#[derive(Clone, Copy, Debug, PartialEq, Eq)]
+pub struct Header {
+    pub profile: Profile,
+    pub len: usize,
+}
 
 /// Why bytes begin with no header.
 #[derive(Clone, Copy, Debug, PartialEq, Eq, Error)]
@@ -40,10 +60,10 @@ impl From<AllocError> for HeaderError {
     }
 }
 
-/// How many bytes the header has with which these bytes begin: at most 65,543.
-pub fn read_header(alloc: Global, bytes: &[u8]) -> Result<usize, HeaderError>
-    ensures ok { IfOk result (IsHeader bytes.now) }
-    ensures few { IfOk result (λ len. len ≤ 65543) }
+/// The header with which these bytes begin: it has at most 65,543.
+pub fn read_header(alloc: Global, bytes: &[u8]) -> Result<Header, HeaderError>
+    ensures ok { IfOk result (λ header. IsHeader bytes.now header.profile header.len) }
+    ensures few { IfOk result (λ header. header.len ≤ 65543) }
     ensures refused { IfErr result (IsHeaderRefused bytes.now) }
     ensures short { IfErr result (λ error. error ≡ Short → length bytes.now < 65543) }
 {
@@ -57,20 +77,31 @@ pub fn read_header(alloc: Global, bytes: &[u8]) -> Result<usize, HeaderError>
     if bytes.len() < len {
         return Err(HeaderError::Short);
     }
-    if tells_profile(alloc, rest_of(prefix_of(bytes, len), 8))? {
-        Ok(len)
-    } else {
-        Err(HeaderError::Bad)
+    match read_profile(alloc, rest_of(prefix_of(bytes, len), 8))? {
+        Some(profile) => Ok(Header { profile, len }),
+        None => Err(HeaderError::Bad),
     }
 }
 
-/// Whether the text of a header tells the profile.
-fn tells_profile(alloc: Global, text: &[u8]) -> Result<bool, AllocError>
-    ensures { IfOk result (λ tells. IsTrue tells ↔ TellsProfile text.now PROFILE.now) }
+/// The profile that the text of a header tells; `None` where it tells neither.
+fn read_profile(alloc: Global, text: &[u8]) -> Result<Option<Profile>, AllocError>
+    ensures told { IfOk result (λ told. IfSome told (λ profile.
+        TellsProfile text.now (name_of profile))) }
+    ensures none { IfOk result (λ told. IfNone told ((profile : Told)
+        → ¬ TellsProfile text.now (name_of profile))) }
 {
     match Value::from_slice(alloc, text) {
-        Ok(value) => Ok(value.get("profile").and_then(Value::as_str) == Some(PROFILE)),
+        Ok(value) => {
+            let told = value.get("profile").and_then(Value::as_str);
+            if told == Some(FIRST) {
+                Ok(Some(Profile::First))
+            } else if told == Some(SECOND) {
+                Ok(Some(Profile::Second))
+            } else {
+                Ok(None)
+            }
+        }
         Err(error) if error.is_memory() => Err(AllocError),
-        Err(_) => Ok(false),
+        Err(_) => Ok(None),
     }
 }

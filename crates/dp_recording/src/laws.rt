@@ -3,26 +3,30 @@
 ghost use Rattle.std.specs.Prelude.{◌≡◌, ℕ, List, ◌++◌};
 ghost use Rattle.dp_messages.specs.declared.message.Entry.{Entry};
 ghost use Rattle.dp_lines.specs.declared.run_end.RunEnd.{RunEnd};
+ghost use Rattle.dp_recording.specs.declared.header.Profile.{Profile};
+ghost use Rattle.dp_recording.specs.declared.header.Profile.TheVariants.{Second};
 ghost use Rattle.dp_recording.specs.Headers.{HasNoHeader, IsHeader, IsShort, header_bytes};
 ghost use Rattle.dp_recording.specs.Recordings.{RecordingComesTo};
 
-use dp_entries::{Anywhere, one_reading};
+use dp_entries::{Anywhere, FirstProfile, one_reading};
 
-/// Bytes begin with one header at most, and more bytes after it change nothing. Bytes that are too
-/// few for a header begin with none; others that begin with none never do.
+/// Bytes begin with one header at most, which tells one profile. More bytes after it change
+/// nothing. Bytes that are too few for a header begin with none; others that begin with none never
+/// do.
 pub fn one_header()
-    ensures one { (bytes : List ℕ) (len other : ℕ) → IsHeader bytes len → IsHeader bytes other
-        → len ≡ other }
-    ensures goes_on { (bytes more : List ℕ) (len : ℕ) → IsHeader bytes len
-        → IsHeader (bytes ++ more) len }
+    ensures one { (bytes : List ℕ) (profile other : Profile) (len more : ℕ)
+        → IsHeader bytes profile len → IsHeader bytes other more
+        → (profile ≡ other) × (len ≡ more) }
+    ensures goes_on { (bytes more : List ℕ) (profile : Profile) (len : ℕ)
+        → IsHeader bytes profile len → IsHeader (bytes ++ more) profile len }
     ensures short { (bytes : List ℕ) → IsShort bytes → HasNoHeader bytes }
     ensures none { (bytes more : List ℕ) → HasNoHeader bytes → ¬ IsShort bytes
         → HasNoHeader (bytes ++ more) }
 {}
 
-/// The header that is written is one, whatever comes after it.
+/// The header that is written is one of today's profile, whatever comes after it.
 pub fn the_header_is_one()
-    ensures { (more : List ℕ) → IsHeader (header_bytes ++ more) 30 }
+    ensures { (more : List ℕ) → IsHeader (header_bytes ++ more) Second 30 }
 {}
 
 /// A recording comes to at most one end, with one list of entries.
@@ -34,5 +38,6 @@ pub fn one_recording()
         → RecordingComesTo input entries end → RecordingComesTo input others other → end ≡ other }
 {
     one_header();
+    one_reading::<FirstProfile>();
     one_reading::<Anywhere>();
 }

@@ -8,7 +8,7 @@ mod laws;
 mod reader;
 mod writer;
 
-pub use header::{HEADER, HeaderError, read_header};
+pub use header::{HEADER, Header, HeaderError, Profile, read_header};
 pub use laws::{one_header, one_recording, the_header_is_one};
 pub use reader::{RecError, RecordingReader};
 pub use writer::put_header;

@@ -1,23 +1,24 @@
 //! Reading a recording.
 
 ghost use Rattle.std.specs.Prelude.{◌≡◌, ◌<◌, ◌≤◌, ◌⊎◌, ℕ, List, [], ◌∷◌, ◌++◌, length, Err, Some};
-ghost use Rattle.std.specs.Prelude.{IfOk, IfErr, IfSome, IfNone, IsTrue, OnOk, OnSome, Option};
+ghost use Rattle.std.specs.Prelude.{IfOk, IfErr, IfSome, IfNone, IsTrue, None, Ok, OnOk, OnSome};
+ghost use Rattle.std.specs.Prelude.{Option};
 ghost use Rattle.std.specs.Io.KnownBytes.{IsAtEnd};
 ghost use Rattle.dp_messages.specs.declared.message.Entry.{Entry as Item};
 ghost use Rattle.dp_recording.specs.declared.reader.RecError.{RecError as Error};
 ghost use Rattle.dp_recording.specs.declared.reader.RecError.TheVariants.{Memory};
-ghost use Rattle.dp_recording.specs.declared.reader.Phase.TheVariants.{New, Reading, Finished};
+ghost use Rattle.dp_recording.specs.declared.reader.Phase.TheVariants.{New, Finished};
 ghost use Rattle.dp_recording.specs.declared.reader.Phase.TheVariants.{Failed};
 ghost use Rattle.dp_recording.specs.Headers.{IsHeader, IsShort};
 ghost use Rattle.dp_recording.specs.Recordings.{FaultMatchesError, EndsEarly, EndsRecording};
-ghost use Rattle.dp_recording.specs.Recordings.{HasReadOf};
+ghost use Rattle.dp_recording.specs.Recordings.{HasReadAfter, HasReadOf};
 ghost use Rattle.dp_recording.specs.Recordings.{EndsWithInput, GoesOn, HoldsHeader, IsReading};
 ghost use Rattle.dp_recording.specs.Recordings.{end_of, error_of, limit_of};
 ghost use Rattle.dp_recording.specs.Recordings.{measure_of};
 ghost use Rattle.dp_io.specs.Limits.{stream_limit};
 
-use crate::header::{HeaderError, read_header};
-use dp_entries::{Anywhere, EntryReader, ReadEnd};
+use crate::header::{Header, HeaderError, Profile, read_header};
+use dp_entries::{Anywhere, EntryReader, FirstProfile, ReadEnd, Standing};
 use dp_io::{Failed as ReadFailed, Source};
 use dp_lines::RunEnd;
 use dp_lists::rest_of;
@@ -71,7 +72,9 @@ impl RecError {
 pub enum Phase {
     /// It has read nothing.
     New,
-    /// It reads the entries after the header.
+    /// It reads the entries after the header of a recording of the first profile.
+    Lifting(EntryReader<FirstProfile>),
+    /// It reads those of a recording of today's.
     Reading(EntryReader<Anywhere>),
     /// It came to the end, after a whole frame.
     Finished,
@@ -135,10 +138,12 @@ impl RecordingReader {
             IfNone next (IsAtEnd (I.left input.new))) }
         ensures inside { GoesOn self.old → IfErr result (EndsWithInput (I.left input.new)) }
 
-        // It stays so.
+        // It stays so, and reads nothing then.
         ensures finished { IfOk result (λ next. IfNone next (self.new ≡ Finished)) }
         ensures failed { IfErr result (λ error. self.new ≡ Failed error) }
         ensures again { (error : Error) → self.old ≡ Failed error → (result ≡ Err error)
+            × (I.left input.new ≡ I.left input.old) × (I.faults input.new ≡ I.faults input.old) }
+        ensures none { self.old ≡ Finished → (result ≡ Ok None)
             × (I.left input.new ≡ I.left input.old) × (I.faults input.new ≡ I.faults input.old) }
 
         // A fault is answered where the count of the input's faults rose, and else it stays.
@@ -177,6 +182,8 @@ fn go_on<I: Source>(
     ensures failed { IfErr result (λ error. phase.new ≡ Failed error) }
     ensures again { (error : Error) → phase.old ≡ Failed error → (result ≡ Err error)
         × (I.left input.new ≡ I.left input.old) × (I.faults input.new ≡ I.faults input.old) }
+    ensures none { phase.old ≡ Finished → (result ≡ Ok None)
+        × (I.left input.new ≡ I.left input.old) × (I.faults input.new ≡ I.faults input.old) }
     ensures kept { OnOk result (I.faults input.new ≡ I.faults input.old) }
     ensures fault { IfErr result (λ error. (phase.old ≡ Failed error)
         ⊎ FaultMatchesError (I.faults input.old) (I.faults input.new) error) }
@@ -184,8 +191,8 @@ fn go_on<I: Source>(
 {
     match phase {
         Phase::New => match open(alloc, input) {
-            Ok(reader) => {
-                *phase = Phase::Reading(reader);
+            Ok(reading) => {
+                *phase = reading;
                 pull(alloc, input, phase)
             }
             Err(error) => {
@@ -193,7 +200,7 @@ fn go_on<I: Source>(
                 Err(error)
             }
         },
-        Phase::Reading(_) => pull(alloc, input, phase),
+        Phase::Lifting(_) | Phase::Reading(_) => pull(alloc, input, phase),
         Phase::Finished => Ok(None),
         Phase::Failed(error) => Err(*error),
     }
@@ -229,51 +236,31 @@ fn pull<I: Source>(
     ensures fault { IfErr result (FaultMatchesError (I.faults input.old) (I.faults input.new)) }
     ensures later { I.faults input.old ≤ I.faults input.new }
 {
-    match read_next(alloc, input, phase) {
-        Ok(Some(entry)) => Ok(Some(entry)),
-        Ok(None) => {
-            *phase = Phase::Finished;
-            Ok(None)
-        }
-        Err(end) => {
-            let error = error_of(end);
-            *phase = Phase::Failed(error);
-            Err(error)
-        }
-    }
-}
-
-/// Gives the next entry after the header, where the reader is past it. The reader stays there.
-fn read_next<I: Source>(
-    alloc: Global,
-    input: &mut I,
-    phase: &mut Phase,
-) -> Result<Option<Entry>, ReadEnd<DecodeError>>
-    requires { IsReading phase.old }
-    ensures given { IfOk result (λ next. IfSome next (λ entry.
-        (bytes : List ℕ) (entries : List Item)
-        → HasReadOf bytes (I.left input.old) entries phase.old
-        → HasReadOf bytes (I.left input.new) (entries ++ entry ∷ []) phase.new)) }
-    ensures done { IfOk result (λ next. IfNone next ((bytes : List ℕ) (entries : List Item)
-        → HasReadOf bytes (I.left input.old) entries phase.old
-        → HasReadOf bytes (I.left input.new) entries Finished)) }
-    ensures ends { IfErr result (λ end. (bytes : List ℕ) (entries : List Item)
-        → HasReadOf bytes (I.left input.old) entries phase.old
-        → EndsRecording bytes (I.left input.new) entries (error_of end)) }
-    ensures further { IfOk result (λ next. IfSome next (λ _.
-        (measure_of phase.new < measure_of phase.old)
-        × (measure_of phase.new ≤ limit_of phase.old))) }
-    ensures goes_on { IfOk result (λ next. OnSome next (GoesOn phase.new)) }
-    ensures at_end { GoesOn phase.old → IfOk result (λ next.
-        IfNone next (IsAtEnd (I.left input.new))) }
-    ensures inside { IfErr result (λ end. EndsWithInput (I.left input.new) (error_of end)) }
-    ensures kept { OnOk result (I.faults input.new ≡ I.faults input.old) }
-    ensures fault { IfErr result (λ end.
-        FaultMatchesError (I.faults input.old) (I.faults input.new) (error_of end)) }
-    ensures later { I.faults input.old ≤ I.faults input.new }
-{
     match phase {
-        Phase::Reading(reader) => reader.next(alloc, input),
+        Phase::Lifting(reader) => match reader.next(alloc, input) {
+            Ok(Some(entry)) => Ok(Some(entry)),
+            Ok(None) => {
+                *phase = Phase::Finished;
+                Ok(None)
+            }
+            Err(end) => {
+                let error = error_of(end);
+                *phase = Phase::Failed(error);
+                Err(error)
+            }
+        },
+        Phase::Reading(reader) => match reader.next(alloc, input) {
+            Ok(Some(entry)) => Ok(Some(entry)),
+            Ok(None) => {
+                *phase = Phase::Finished;
+                Ok(None)
+            }
+            Err(end) => {
+                let error = error_of(end);
+                *phase = Phase::Failed(error);
+                Err(error)
+            }
+        },
         _ => Ok(None),
     }
 }
@@ -291,14 +278,15 @@ fn error_of(end: ReadEnd<DecodeError>) -> RecError
     }
 }
 
-/// Reads the header of an input, and gives a reader of what comes after it.
-fn open<I: Source>(alloc: Global, input: &mut I) -> Result<EntryReader<Anywhere>, RecError>
-    ensures begun { IfOk result (λ reader. (bytes : List ℕ) → I.left input.old ≡ Some bytes
-        → HasReadOf bytes (I.left input.new) [] (Reading reader)) }
+/// Reads the header of an input. What comes after it is read by the profile that it tells.
+fn open<I: Source>(alloc: Global, input: &mut I) -> Result<Phase, RecError>
+    ensures begun { IfOk result (λ reading. (bytes : List ℕ) → I.left input.old ≡ Some bytes
+        → HasReadOf bytes (I.left input.new) [] reading) }
+    ensures reading { IfOk result IsReading }
     ensures ends { IfErr result (λ error. (bytes : List ℕ) → I.left input.old ≡ Some bytes
         → EndsEarly bytes (I.left input.new) error) }
-    ensures limit { IfOk result (λ reader. reader.limit ≡ stream_limit) }
-    ensures goes_on { IfOk result (λ reader. ¬ IsTrue reader.ended) }
+    ensures limit { IfOk result (λ reading. limit_of reading ≡ stream_limit) }
+    ensures goes_on { IfOk result GoesOn }
     ensures inside { IfErr result (EndsWithInput (I.left input.new)) }
     ensures kept { OnOk result (I.faults input.new ≡ I.faults input.old) }
     ensures fault { IfErr result (FaultMatchesError (I.faults input.old) (I.faults input.new)) }
@@ -307,7 +295,7 @@ fn open<I: Source>(alloc: Global, input: &mut I) -> Result<EntryReader<Anywhere>
     let mut held = Vec::new(alloc);
     'pieces: loop {
         match read_header(alloc, held.as_slice()) {
-            Ok(len) => return begin(alloc, held.as_slice(), len),
+            Ok(header) => return begin(alloc, held.as_slice(), header),
             Err(HeaderError::Short) => read_piece(input, &mut held)?,
             Err(HeaderError::Bad) => return Err(RecError::BadHeader),
             Err(HeaderError::Memory) => return Err(RecError::Memory),
@@ -344,18 +332,40 @@ fn read_piece<I: Source>(input: &mut I, held: &mut Vec<u8>) -> Result<(), RecErr
     }
 }
 
-/// A reader of what comes after the header with which these bytes begin.
-fn begin(alloc: Global, held: &[u8], len: usize) -> Result<EntryReader<Anywhere>, RecError>
-    requires header { IsHeader held.now len }
-    requires few { len ≤ 65543 }
+/// A reader that is past the header with which these bytes begin.
+fn begin(alloc: Global, held: &[u8], header: Header) -> Result<Phase, RecError>
+    requires header { IsHeader held.now header.profile header.len }
+    requires few { header.len ≤ 65543 }
+    ensures begun { IfOk result (λ reading. (bytes : List ℕ) (left : Option (List ℕ))
+        → HoldsHeader bytes left held.now → HasReadOf bytes left [] reading) }
+    ensures reading { IfOk result IsReading }
+    ensures limit { IfOk result (λ reading. limit_of reading ≡ stream_limit) }
+    ensures goes_on { IfOk result GoesOn }
+    ensures memory { IfErr result (λ error. error ≡ Memory) }
+{
+    match header.profile {
+        Profile::First => Ok(Phase::Lifting(reader_after(alloc, held, header)?)),
+        Profile::Second => Ok(Phase::Reading(reader_after(alloc, held, header)?)),
+    }
+}
+
+/// A reader of the frames after the header with which these bytes begin.
+fn reader_after<S: Standing>(
+    alloc: Global,
+    held: &[u8],
+    header: Header,
+) -> Result<EntryReader<S>, RecError>
+    requires header { IsHeader held.now header.profile header.len }
+    requires few { header.len ≤ 65543 }
     ensures begun { IfOk result (λ reader. (bytes : List ℕ) (left : Option (List ℕ))
-        → HoldsHeader bytes left held.now → HasReadOf bytes left [] (Reading reader)) }
+        → HoldsHeader bytes left held.now
+        → HasReadAfter header.profile S.may_stand bytes left [] reader) }
     ensures limit { IfOk result (λ reader. reader.limit ≡ stream_limit) }
     ensures goes_on { IfOk result (λ reader. ¬ IsTrue reader.ended) }
     ensures memory { IfErr result (λ error. error ≡ Memory) }
 {
-    let mut reader = EntryReader::new(alloc, len as u64, LIMIT);
-    match reader.push(rest_of(held, len)) {
+    let mut reader = EntryReader::new(alloc, header.len as u64, LIMIT);
+    match reader.push(rest_of(held, header.len)) {
         Ok(()) => Ok(reader),
         Err(AllocError) => Err(RecError::Memory),
     }

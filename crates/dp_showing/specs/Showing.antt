@@ -10,6 +10,7 @@ use Rattle.dp_plain.specs.Board.{Board}
 use Rattle.dp_plain.specs.Picture.{p3}
 use Rattle.dp_snap.specs.Snapshot.{snapshot}
 use Rattle.dp_recording.specs.Headers.{header_bytes}
+use Rattle.dp_recording.specs.Recordings.{recording}
 use Rattle.dp_client.specs.Client.{State, confirmed, view}
 use Rattle.dp_showing.specs.declared.showing.Shown.{Shown}
 use Rattle.dp_showing.specs.declared.showing.Shown.TheVariants.{View, Confirmed, Snapshot}
@@ -39,10 +40,6 @@ snapshot_text board =
     snapshot_head (length (snapshot board)) ++ flat_map snapshot_line (snapshot board)
 
 -- ---- a recording
-
--- the bytes of a recording of these entries
-abbrev pub recording : List Entry → List ℕ
-recording entries = header_bytes ++ flat_map entry_bytes entries
 
 -- the text of a recording before its entries
 abbrev pub recording_head : List ℕ

@@ -1,9 +1,8 @@
-use Rattle.std.proofs.Common.{sym, ◌∙◌}
-use Rattle.dp_recording.proofs.Headers.{goes-on, none-stays, short-none}
+use Rattle.dp_recording.proofs.Headers.{goes-on, none-stays, one-header, short-none}
 use Rattle.dp_recording.proofs.laws.one_header.Goals as goal
 
 pub returns-clause-one : goal.returns-clause-one
-returns-clause-one c = λ bytes len other h other_h. h.long ∙ sym other_h.long
+returns-clause-one c = one-header
 
 pub returns-clause-goes_on : goal.returns-clause-goes_on
 returns-clause-goes_on c = goes-on

@@ -10,5 +10,5 @@ returns c = λ more. record {
   begins = refl;
   long = refl;
   whole = omega arith;
-  profile = (IsUtf8-from_is_utf8 (codes "{\"profile\":\"dp-int-1\"}") refl, refl);
+  tells = (IsUtf8-from_is_utf8 (codes "{\"profile\":\"dp-int-2\"}") refl, refl);
 }

@@ -1,29 +1,11 @@
-use Rattle.std.proofs.Common.{◌≡◌, ◌≤◌, IsTrue, [], ◌++◌, ap, length, take, drop, arith, subst, sym}
-use Rattle.std.proofs.Common.{◌∙◌}
-use Rattle.std.proofs.lemmas.List.{length-take}
-use Rattle.dp_entries.specs.Anywhere.{StandsAnywhere}
-use Rattle.dp_entries.specs.Reader.{HasRead}
-use Rattle.dp_recording.specs.Headers.{IsHeader}
-use Rattle.dp_recording.proofs.Headers.{goes-on}
-use Rattle.dp_recording.proofs.Taken.{parts, rest-is-small}
 use Rattle.dp_recording.proofs.reader.begin.Goals as goal
 
-pub returns-in-Ok-clause-begun : goal.returns-in-Ok-clause-begun
-returns-in-Ok-clause-begun c = λ bytes left h.
-    let held = c.args.held.now in
-    let len = c.args.len in
-    let header = c.requires.header in
-    let place : length (take len held) ≡ len = omega (arith, length-take len held, header.whole) in
-    let rest = c.rest_of.result.now in
-    let rest_is : rest ≡ drop len held = c.rest_of.ensures in
-    let whole = parts held len h ∙ ap (λ t. take len held ++ (t ++ h.untaken)) (sym rest_is) in
-    let begun = c.new-reader.ensures.begun bytes (take len held) (rest ++ h.untaken) whole place in
-    let small = subst (λ t. length t ≤ 4096) (sym rest_is) (rest-is-small held len header h) in
-    let read = c.in-Ok.ensures.read bytes h.untaken [] small begun in
-    let first = c.in-Ok.ensures.first ∙ c.new-reader.ensures.first in (
-      subst (IsHeader bytes) (sym first)
-          (subst (λ t. IsHeader t len) (sym h.whole) (goes-on held h.untaken len header)),
-      c.in-Ok.ensures.limit ∙ c.new-reader.ensures.limit,
-      subst (λ b. IsTrue b → ⊥) (sym c.in-Ok.ensures.ended) c.new-reader.ensures.not_ended,
-      subst (λ o. HasRead StandsAnywhere bytes o [] c.push.new.self) (sym h.left_is) read,
-    )
+pub returns-in_ok-reader_after-in-First-clause-begun :
+    goal.returns-in_ok-reader_after-in-First-clause-begun
+returns-in_ok-reader_after-in-First-clause-begun c = λ bytes left h.
+    rw c.in-First.is at (c.in_ok-reader_after-in-First.ensures.begun bytes left h)
+
+pub returns-in_ok-reader_after-in-Second-clause-begun :
+    goal.returns-in_ok-reader_after-in-Second-clause-begun
+returns-in_ok-reader_after-in-Second-clause-begun c = λ bytes left h.
+    rw c.in-Second.is at (c.in_ok-reader_after-in-Second.ensures.begun bytes left h)

@@ -10,7 +10,7 @@ use Rattle.dp_recording.proofs.reader.open.Goals as goal
 pub returns-in-Ok-clause-begun : goal.returns-in-Ok-clause-begun
 returns-in-Ok-clause-begun g c =
     IfOk-weaker c.begin.result _ _
-    (λ reader begun bytes e. begun bytes (g.I.Source.left c.pieces.input)
+    (λ reading begun bytes e. begun bytes (g.I.Source.left c.pieces.input)
     (subst (HoldsHeader bytes (g.I.Source.left c.pieces.input)) (sym c.as_slice-in-Ok.ensures.value)
     (c.pieces.invariant.0 bytes e))) c.begin.ensures.begun
 
