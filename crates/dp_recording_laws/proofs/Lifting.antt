@@ -48,13 +48,13 @@ same-shown : (xs ys : List Entry) → map user_act_of xs ≡ map user_act_of ys
     → map is_mark xs ≡ map is_mark ys → shown xs ≡ shown ys
 same-shown xs ys acts marks =
     let long : length xs ≡ length ys =
-    sym (length-map user_act_of xs) ∙ ap length acts ∙ length-map user_act_of ys in
+    sym (length-map xs user_act_of) ∙ ap length acts ∙ length-map ys user_act_of in
     let place : length xs - suffix_len (λ e. not (is_mark e)) xs
     ≡ length ys - suffix_len (λ e. not (is_mark e)) ys =
     ap₂ (λ m n. m - n) long (suffix-tests is_mark xs ys marks) in
     let after : map user_act_of (after_last is_mark xs) ≡ map user_act_of (after_last is_mark ys) =
     sym (drop-map user_act_of (length xs - suffix_len (λ e. not (is_mark e)) xs) xs)
-    ∙ ap₂ (λ (n : ℕ) (as : List (UserAct Draw)). drop n as) place acts
+    ∙ ap₂ (λ (n : ℕ) (acts : List (UserAct Draw)). drop n acts) place acts
     ∙ drop-map user_act_of (length ys - suffix_len (λ e. not (is_mark e)) ys) ys in
     ap (strokes.replay draw empty_board undo_depth) after
 
@@ -135,7 +135,7 @@ stand-lifted laws before (frame ∷ frames) (e ∷ entries) h =
       one.0 ∷ rest.0,
       (one.1, rest.1),
       record {
-        acts = ap₂ (λ (a : UserAct Draw) (as : List (UserAct Draw)). a ∷ as) same.0 rest.2.acts;
+        acts = ap₂ (λ (a : UserAct Draw) (more : List (UserAct Draw)). a ∷ more) same.0 rest.2.acts;
         marks = ap₂ (λ (b : Bool) (bs : List Bool). b ∷ bs) same.1 rest.2.marks;
       },
     )

@@ -53,7 +53,8 @@ written header frame carries entries spelled short =
       frames = map frame_of entries;
       stand = stand carries 0 entries spelled;
       splits = record {
-        whole = spelled-frames entries ∙ sym (append-nil (flat_map spelling (map frame_of entries)));
+        whole =
+            spelled-frames entries ∙ sym (append-nil (flat_map spelling (map frame_of entries)));
         each = are-frames frame entries spelled;
         partial = none_held [] refl;
       };
@@ -61,6 +62,5 @@ written header frame carries entries spelled short =
       Second,
       30,
       header bytes,
-      subst (λ t. Tells StandsAnywhere t entries []) (sym after) tells,
-      short,
+      (subst (λ t. Tells StandsAnywhere t entries []) (sym after) tells, short),
     )

@@ -24,7 +24,7 @@ returns-clause-whole c = λ input len entries header came.
       one = c.one_message.ensures.message;
     } in
     let told = tells-lifted laws _ entries _ came.0 in
-    (told.0, (First, len, header, told.1, came.1), told.2)
+    (told.0, (First, len, header, (told.1, came.1)), told.2)
 
 pub returns-clause-cut : goal.returns-clause-cut
 returns-clause-cut c = λ input len n entries header came.
@@ -34,4 +34,4 @@ returns-clause-cut c = λ input len n entries header came.
       one = c.one_message.ensures.message;
     } in
     let told = tells-lifted laws _ entries _ came.1 in
-    (told.0, (First, len, header, came.0, told.1, came.2, came.3, came.4), told.2)
+    (told.0, (First, len, header, (came.0, told.1, came.2, came.3, came.4)), told.2)
