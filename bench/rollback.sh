@@ -1,7 +1,8 @@
 #!/usr/bin/env bash
-# Times fills of 16 by 16 on a canvas of 4096 by 4096, drawn on it and taken by a rollback over it, and
-# points that a rollback takes. The program is built without a proof, on copies of the crates in a
-# temporary folder; that takes some two minutes. Each case is run seven times, in turns.
+# Times fills of 16 by 16 on a canvas of 4096 by 4096, drawn on it and taken by a rollback over it,
+# points that a rollback takes, and 1,000 shares of a canvas of 1,000 layers. The program is built
+# without a proof, on copies of the crates in a temporary folder; that takes some two minutes. Each
+# case is run seven times, in turns.
 set -eu
 top=$(cd "$(dirname "$0")/.." && pwd)
 work=$(mktemp -d)
@@ -118,6 +119,30 @@ fn draw_all<D: Ledger, T: Ledger>(
     Ok(())
 }
 
+/// Microseconds of 1,000 shares of a canvas of so many layers, each of which has a fill.
+fn share_all<R: Clock, D: Ledger, T: Ledger>(
+    rt: &R,
+    alloc: Global,
+    mut canvas: Canvas,
+    layers: u16,
+    draws: &mut Steps<D>,
+    tiles: &mut Steps<T>,
+) -> io::Result<u64> {
+    for id in 2..=layers {
+        let title = Title::new(alloc);
+        canvas.draw(&Draw::LayerCreate { id, parent: 0, group: false, title }, draws, tiles)?;
+    }
+    for layer in 1..=layers {
+        let (x, y, w, h, color) = (0, 0, 16, 16, 0xffff_0000);
+        canvas.draw(&Draw::FillRect { layer, mode: 1, x, y, w, h, color }, draws, tiles)?;
+    }
+    let start = Instant::now(rt)?;
+    for _ in 0..1000 {
+        let _shared = canvas.share(draws, tiles)?;
+    }
+    Ok(micros(start.elapsed(rt)?))
+}
+
 /// Microseconds of what the words say: a kind of acts, how many, and the depth of undo.
 fn measure<R: Clock, D: Ledger, T: Ledger>(
     rt: &R,
@@ -136,8 +161,11 @@ fn measure<R: Clock, D: Ledger, T: Ledger>(
     let [kind, count, depth] = words else {
         return Ok(0);
     };
-    let acts = acts(alloc, count.parse().unwrap_or(0), kind.as_str())?;
     let canvas = canvas(alloc, &mut draws, &mut tiles)?;
+    if kind.as_str() == "shares" {
+        return share_all(rt, alloc, canvas, count.parse().unwrap_or(1), &mut draws, &mut tiles);
+    }
+    let acts = acts(alloc, count.parse().unwrap_or(0), kind.as_str())?;
     let start = Instant::now(rt)?;
     draw_all(alloc, canvas, &acts, depth.parse().ok(), &mut draws, &mut tiles)?;
     Ok(micros(start.elapsed(rt)?))
@@ -159,7 +187,7 @@ import subprocess
 import sys
 
 CASES = ["any 100000 -", "any 100000 30", "rows 65536 -", "rows 65536 30", "any 20000 -"]
-CASES += ["any 20000 30", "points 1000000 30", "points 1000000 255"]
+CASES += ["any 20000 30", "points 1000000 30", "points 1000000 255", "shares 1000 -"]
 runs = {case: [] for case in CASES}
 for _ in range(7):
     for case in CASES:
