@@ -200,8 +200,7 @@ stream-spelled s e (Added conn c) cause spelled h =
     cause.2.fits in
     subst (λ m. IsSpelledStream (option_map (with_part m) s.stream)) (sym cause.1.is)
     (subst (λ stream. IsSpelledStream (option_map (with_part (msg.Part command)) stream))
-    (sym cause.2.sent)
-    (
+    (sym cause.2.sent) (
       omega (
         arith,
         length-append before.commands (command ∷ []),
