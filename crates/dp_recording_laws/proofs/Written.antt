@@ -5,7 +5,7 @@ use Rattle.std.specs.List.{AllByRecursion, flat_map}
 use Rattle.std.proofs.Math.Seq.{drop-append_seam}
 use Rattle.std.proofs.lemmas.List.{append-nil}
 use Rattle.dp_io.specs.Limits.{stream_limit}
-use Rattle.dp_frame.specs.Frames.{FrameParts, IsFrame, HoldsNoFrame, spelling}
+use Rattle.dp_frame.specs.Frames.{IsFrame, spelling}
 use Rattle.dp_messages.specs.declared.message.Entry.{Entry}
 use Rattle.dp_messages.specs.Decoded.{Carries}
 use Rattle.dp_messages.specs.Messages.{HasSpelling, entry_bytes, frame_of}

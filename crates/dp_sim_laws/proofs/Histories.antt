@@ -27,7 +27,6 @@ use Rattle.dp_messages.specs.declared.message.Entry.{Entry}
 use Rattle.dp_messages.specs.Messages.{HasSpelling, kind_of}
 use Rattle.dp_acl.specs.Opening.{server_entry, part_limit}
 use Rattle.dp_acl.specs.Laws.{SpelledIdsAreInOrder}
-use Rattle.dp_epochs.specs.declared.connection.Connection.{Connection}
 use Rattle.dp_epochs.specs.declared.connection.Ending.TheVariants as ending
 use Rattle.dp_epochs.specs.declared.event.Event.{Event}
 use Rattle.dp_epochs.specs.declared.event.ShutAt.{ShutAt}

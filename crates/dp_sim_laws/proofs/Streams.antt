@@ -23,7 +23,7 @@ use Rattle.dp_epochs.specs.State.{State, Stream, noted, after_shut, epoch_of}
 use Rattle.dp_epochs.specs.State.{history_of, open_connection, with_connection, first_stream}
 use Rattle.dp_epochs.specs.State.{with_command, with_part, sent_commands, stream_without}
 use Rattle.dp_epochs.specs.State.{commands_by, reset_of, fits_reset}
-use Rattle.dp_epochs.specs.State.{part_decided, has_acknowledged, may_begin, decided}
+use Rattle.dp_epochs.specs.State.{part_decided, has_acknowledged, may_begin}
 use Rattle.dp_epochs.specs.State.{present_users}
 use Rattle.dp_epochs.specs.declared.effect.Effect.{Effect}
 use Rattle.dp_epochs.specs.declared.effect.Effect.TheVariants.{Nothing, TakesUp, Placed, Filtered}
