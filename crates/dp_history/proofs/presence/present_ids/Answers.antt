@@ -1,5 +1,5 @@
 use Rattle.std.proofs.Common.{◌≡◌, ◌-◌, ◌++◌, ◌∷◌, [], length, true, false, None}
-use Rattle.std.proofs.Common.{ap, ◌∙◌, arith, rules, length-append}
+use Rattle.std.proofs.Common.{ap, ◌∙◌, arith, length-append}
 use Rattle.std.specs.List.{filter, range_with_len}
 use Rattle.dp_history.specs.Users.{mark}
 use Rattle.dp_history.proofs.ItemLemmas.{ids-marked, ids-unmarked}
@@ -14,7 +14,7 @@ loop-user-preserved c =
     let k = c.loop-user.user in
     elim c.if-present-user.branch [
       | then-present-user+in_ok-push w ↦
-          let marked : mark c.args.present.now c.loop-user.user ≡ true = search rules in
+          let marked : mark c.args.present.now c.loop-user.user ≡ true = w.if-present-user.true in
           let more = ap (λ ids. ids.items) w.ids-is ∙ w.in_ok-push.ensures.items in
           record {
             found = more ∙ ap (λ ids. ids ++ k ∷ []) c.loop-user.invariant.found
@@ -22,7 +22,7 @@ loop-user-preserved c =
             few = omega (arith, ap length more, length-append c.loop-user.ids.items (k ∷ []));
           }
       | else-present-user w ↦
-          let unmarked : mark c.args.present.now c.loop-user.user ≡ false = search rules in
+          let unmarked : mark c.args.present.now c.loop-user.user ≡ false = w.if-present-user.false in
           record {
             found = ap (λ ids. ids.items) w.ids-is ∙ c.loop-user.invariant.found
                 ∙ ids-unmarked (λ id. None) p k (omega arith) unmarked;

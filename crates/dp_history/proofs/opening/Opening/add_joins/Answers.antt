@@ -1,4 +1,4 @@
-use Rattle.std.proofs.Common.{◌≡◌, ◌+◌, ◌-◌, ◌++◌, List, ℕ, true, false, sym, subst, arith, rules}
+use Rattle.std.proofs.Common.{◌≡◌, ◌+◌, ◌-◌, ◌++◌, List, ℕ, true, false, sym, subst, arith}
 use Rattle.std.specs.List.{filter, filter_map, range_with_len}
 use Rattle.dp_acl.specs.Opening.{last_join}
 use Rattle.dp_history.specs.Openings.{Holds}
@@ -18,7 +18,7 @@ loop-user-preserved c = λ history live joined h.
     let before = c.loop-user.invariant history live joined h in
     elim c.if-present-user.branch [
       | then-present-user+in_ok-add_join w ↦
-          let marked : mark c.args.present.now c.loop-user.user ≡ true = search rules in
+          let marked : mark c.args.present.now c.loop-user.user ≡ true = w.if-present-user.true in
           let user = joined k (omega arith) (omega arith) marked in
           subst (λ o. Holds journal o (joins (filter p (range_with_len 1 (k + 1 - 1)))))
           (sym w.self-is)
@@ -27,7 +27,7 @@ loop-user-preserved c = λ history live joined h.
           (w.in_ok-add_join.ensures (joins (filter p (range_with_len 1 (k - 1)))) live user.last
           before))
       | else-present-user w ↦
-          let unmarked : mark c.args.present.now c.loop-user.user ≡ false = search rules in
+          let unmarked : mark c.args.present.now c.loop-user.user ≡ false = w.if-present-user.false in
           subst (λ o. Holds journal o (joins (filter p (range_with_len 1 (k + 1 - 1)))))
           (sym w.self-is)
           (subst (λ ids. Holds journal c.loop-user.self (joins ids))
