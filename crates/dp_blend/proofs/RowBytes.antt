@@ -10,7 +10,8 @@ use Rattle.dp_blend.specs.White.{rgb_on_white}
 -- the bytes of the first k pixels are put
 pub record PutTo (k : ℕ) (pixels : List Channels) (old now : List (List ℕ)) : Type 0 where
   pub count : length now ≡ length old
-  pub done : (i : ℕ) → i < k → i < length old → get_or now i [] ≡ rgb_on_white (get_or pixels i clear)
+  pub done : (i : ℕ) → i < k → i < length old
+      → get_or now i [] ≡ rgb_on_white (get_or pixels i clear)
 
 -- those of one more pixel
 pub put-more : (k n : ℕ) (pixels : List Channels) (old now written : List (List ℕ))

@@ -6,7 +6,8 @@
 //!
 //! The rule: docs/protocol.md, "Numbers and blending".
 
-ghost use Rattle.std.specs.Prelude.{◌≡◌, ◌<◌, ◌≤◌, ◌+◌, ◌*◌, ◌/◌, ◌%◌, ℕ, length, All, if◌then◌else◌};
+ghost use Rattle.std.specs.Prelude.{◌≡◌, ◌<◌, ◌≤◌, ◌+◌, ◌*◌, ◌/◌, ◌%◌, ℕ};
+ghost use Rattle.std.specs.Prelude.{length, All, if◌then◌else◌};
 ghost use Rattle.std.specs.Prelude.{slice_index, slice_index_or, slice_set};
 ghost use Rattle.dp_blend.specs.Color.{Channels, clear, fade};
 ghost use Rattle.dp_blend.specs.Blending.{blend, is_between, masked, row_blended, row_filled};

@@ -60,8 +60,8 @@ Answers Lost act said = ⊤
 abbrev pub is_apart : {Op : Type 0} → (Op → Op → Bool) → Op → List Op → Bool
 is_apart apart op others = not (list_any (λ other. not (apart op other)) others)
 
--- what a stranger's act draws on the fork's board: its command, where that is apart from the fork's;
--- else all of the fork's anew
+-- what a stranger's act draws on the fork's board: its command, where that is apart from the
+-- fork's; else all of the fork's anew
 abbrev pub due_of_stranger : {Op : Type 0} → (Op → Op → Bool) → Act Op → List (Act Op) → List Op
 due_of_stranger apart (variant.Draw op) said =
     if is_apart apart op (commands_in said) then op ∷ [] else commands_in said

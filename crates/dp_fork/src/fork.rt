@@ -1,6 +1,7 @@
 //! What is said and isn't answered.
 
-ghost use Rattle.std.specs.Prelude.{◌≡◌, ◌≤◌, ◌∷◌, ◌++◌, [], true, false, not, ◌&&◌, ◌||◌, length, drop, take};
+ghost use Rattle.std.specs.Prelude.{◌≡◌, ◌≤◌, ◌∷◌, ◌++◌, [], true, false, not, ◌&&◌, ◌||◌};
+ghost use Rattle.std.specs.Prelude.{length, drop, take};
 ghost use Rattle.std.specs.Prelude.{None, IsTrue, OnOk, OnErr, List, option_map};
 ghost use Rattle.std.specs.List.{fold, list_any};
 ghost use Rattle.dp_board.specs.declared.act.Act.{Act as ActOf};

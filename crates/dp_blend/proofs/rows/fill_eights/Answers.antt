@@ -14,13 +14,16 @@ loop-k-preserved g c =
     let four = changed-next f row clear row c.fill_next.new.row c.fill_next-in-loop-k.new.row
     (at + 2) (at + 4) (omega arith) (omega arith) (omega arith) two c.fill_next-in-loop-k.ensures in
     let six = changed-next f row clear row c.fill_next-in-loop-k.new.row
-    c.fill_next-in-loop-k-2.new.row (at + 4) (at + 6) (omega arith) (omega arith) (omega arith) four c.fill_next-in-loop-k-2.ensures in
+    c.fill_next-in-loop-k-2.new.row (at + 4) (at + 6) (omega arith) (omega arith) (omega arith)
+    four c.fill_next-in-loop-k-2.ensures in
     changed-next f row clear row c.fill_next-in-loop-k-2.new.row _ (at + 6) (8 * (c.loop-k.k + 1))
     (omega arith) (omega arith) (omega arith) six c.fill_next-in-loop-k-3.ensures
 
 pub returns : goal.returns
 returns g c =
     let row = c.args.row.now in
-    changed-all (λ (_ d : Channels). blend (g.F.Fill.mode c.args.fill) (g.F.Fill.source c.args.fill) d) row row c.loop-k.row
+    changed-all
+    (λ (_ d : Channels). blend (g.F.Fill.mode c.args.fill) (g.F.Fill.source c.args.fill) d)
+    row row c.loop-k.row
     (8 * c.loop-k.k) (omega arith) c.loop-k.invariant
     ∙ sym (row_filled-is (g.F.Fill.mode c.args.fill) (g.F.Fill.source c.args.fill) row)

@@ -6,7 +6,9 @@ use Rattle.dp_blend.proofs.rows.fill_twos.Goals as goal
 
 pub loop-k-preserved : goal.loop-k-preserved
 loop-k-preserved g c =
-    changed-next (λ (_ d : Channels). blend (g.F.Fill.mode c.args.fill) (g.F.Fill.source c.args.fill) d) c.args.row.now
+    changed-next
+    (λ (_ d : Channels). blend (g.F.Fill.mode c.args.fill) (g.F.Fill.source c.args.fill) d)
+    c.args.row.now
     clear c.args.row.now c.loop-k.row _ (2 * c.loop-k.k) (2 * (c.loop-k.k + 1)) (omega arith)
     (omega arith) (omega arith) c.loop-k.invariant c.fill_next.ensures
 
@@ -22,6 +24,8 @@ returns-then-row-eq1 g c =
 pub returns-else-row-eq1 : goal.returns-else-row-eq1
 returns-else-row-eq1 g c =
     let row = c.args.row.now in
-    changed-all (λ (_ d : Channels). blend (g.F.Fill.mode c.args.fill) (g.F.Fill.source c.args.fill) d) row row c.loop-k.row
+    changed-all
+    (λ (_ d : Channels). blend (g.F.Fill.mode c.args.fill) (g.F.Fill.source c.args.fill) d)
+    row row c.loop-k.row
     (2 * c.loop-k.k) (omega arith) c.loop-k.invariant
     ∙ sym (row_filled-is (g.F.Fill.mode c.args.fill) (g.F.Fill.source c.args.fill) row)

@@ -5,5 +5,6 @@ use Rattle.dp_blend.proofs.rows.fill_twos.Given as goal
 
 -- the places before two times k are blended, and the others are as they were
 abbrev pub invariant-loop-k : goal.invariant-loop-k
-invariant-loop-k g l = l.row ≡ changed (λ _ d. blend (g.F.Fill.mode l.fill) (g.F.Fill.source l.fill) d)
+invariant-loop-k g l =
+    l.row ≡ changed (λ _ d. blend (g.F.Fill.mode l.fill) (g.F.Fill.source l.fill) d)
     (take (2 * l.k) l.initial.row) l.initial.row

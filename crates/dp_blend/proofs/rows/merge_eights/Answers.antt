@@ -13,9 +13,11 @@ loop-k-preserved g c =
     let two = changed-next f xs clear row c.loop-k.row c.merge_next.new.row at (at + 2)
     (omega arith) (omega arith) (omega arith) c.loop-k.invariant c.merge_next.ensures in
     let four = changed-next f xs clear row c.merge_next.new.row c.merge_next-in-loop-k.new.row
-    (at + 2) (at + 4) (omega arith) (omega arith) (omega arith) two c.merge_next-in-loop-k.ensures in
+    (at + 2) (at + 4) (omega arith) (omega arith) (omega arith)
+    two c.merge_next-in-loop-k.ensures in
     let six = changed-next f xs clear row c.merge_next-in-loop-k.new.row
-    c.merge_next-in-loop-k-2.new.row (at + 4) (at + 6) (omega arith) (omega arith) (omega arith) four c.merge_next-in-loop-k-2.ensures in
+    c.merge_next-in-loop-k-2.new.row (at + 4) (at + 6) (omega arith) (omega arith) (omega arith)
+    four c.merge_next-in-loop-k-2.ensures in
     changed-next f xs clear row c.merge_next-in-loop-k-2.new.row _ (at + 6) (8 * (c.loop-k.k + 1))
     (omega arith) (omega arith) (omega arith) six c.merge_next-in-loop-k-3.ensures
 

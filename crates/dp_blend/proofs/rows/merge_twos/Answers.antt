@@ -8,7 +8,8 @@ pub loop-k-preserved : goal.loop-k-preserved
 loop-k-preserved g c =
     let f = λ (s d : Channels). blend g.K.Kernel.mode (fade s (g.F.Fading.by c.args.fading)) d in
     changed-next f c.args.sources.now clear c.args.row.now c.loop-k.row _ (2 * c.loop-k.k)
-    (2 * (c.loop-k.k + 1)) (omega arith) (omega arith) (omega arith) c.loop-k.invariant c.merge_next.ensures
+    (2 * (c.loop-k.k + 1)) (omega arith) (omega arith) (omega arith)
+    c.loop-k.invariant c.merge_next.ensures
 
 pub returns-then-row-eq1 : goal.returns-then-row-eq1
 returns-then-row-eq1 g c =

@@ -13,7 +13,8 @@ loop-j-preserved g c =
     let rows : (c.loop-j.j + 1) * stride ≤ len / stride * stride =
     mul-le-mul_right stride (omega arith) in
     filled-more (blend (g.F.Fill.mode c.args.fill) (g.F.Fill.source c.args.fill)) c.args.left
-    c.args.right stride _ c.loop-j.j c.args.rows.now c.loop-j.rows c.fill_pairs.new.row (omega arith)
+    c.args.right stride _ c.loop-j.j c.args.rows.now c.loop-j.rows c.fill_pairs.new.row
+    (omega arith)
     (omega arith) c.fill_pairs.ensures.count c.fill_pairs.ensures.places c.loop-j.invariant
 
 pub returns-clause-count : goal.returns-clause-count
