@@ -226,7 +226,8 @@ pub openings-change-nothing : OpeningsChangeNoRight
 openings-change-nothing kept epoch history present commands user m stands rise listed spelled =
     let small : painted_layer m < 65536 = painted-small m spelled in
     let found = look-opening history present user rise listed epoch commands in
-    let alike : LetAlike (opening epoch history present commands []) history user (painted_layer m) =
+    let alike : LetAlike (opening epoch history present commands []) history user
+    (painted_layer m) =
     ap (λ l. option_map_or (lets_paint history user) l.rule true) (found (painted_layer m) small)
     ∙ let-alike history user (rule_of history (painted_layer m))
     (listed-low 1 user present rise listed) (stands.ids (painted_layer m) small) in

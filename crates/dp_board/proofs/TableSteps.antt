@@ -1,8 +1,7 @@
 -- Steps of the table of strokes.
-use Rattle.std.proofs.Common.{◌≡◌, ℕ, ◌+◌, ◌-◌, ◌<◌, ◌≤◌, true, false, List, [], ◌∷◌, ◌++◌}
-use Rattle.std.proofs.Common.{length, drop, Option, Some, None, refl, ap, sym, arith, min, inl, inr}
+use Rattle.std.proofs.Common.{◌≡◌, ℕ, ◌+◌, ◌-◌, ◌<◌, ◌≤◌, List, [], ◌∷◌, ◌++◌}
+use Rattle.std.proofs.Common.{length, drop, Option, Some, None, refl, sym, arith, min, inl, inr}
 use Rattle.std.proofs.Common.{subst}
-use Rattle.std.specs.Prelude.{if◌then◌else◌}
 use Rattle.std.specs.List.{fold, All}
 use Rattle.std.specs.Option.{IfSome}
 use Rattle.std.proofs.lemmas.List.Elements.{All-head, All-tail, All-weaker, All-push, All-drop}
@@ -11,7 +10,7 @@ use Rattle.dp_board.specs.declared.act.Act.{Act}
 use Rattle.dp_board.specs.declared.act.Act.TheVariants.{Point, Undo, Redo, Draw, Depth, Other}
 use Rattle.dp_board.specs.declared.act.UserAct.{UserAct}
 use Rattle.dp_board.specs.Strokes.{Window, concerned, window_after}
-use Rattle.dp_board.specs.Table.{Table, begins_settled, without_settled, moved_in, oldest_in}
+use Rattle.dp_board.specs.Table.{Table, moved_in, oldest_in}
 use Rattle.dp_board.specs.Table.{strokes_of}
 use Rattle.std.proofs.lemmas.Bool.{cases_eq}
 use Rattle.dp_board.proofs.TimesLemmas.{times, times-some, one_other}
@@ -37,26 +36,6 @@ All_among P (x ∷ xs) q all some = elim (cases_eq x q) [
   | inl same ↦ subst P same (All-head P x xs all)
   | inr differ ↦ All_among P xs q (All-tail P x xs all) (omega (arith, one_other x q differ))
 ]
-
--- groups that begin with settled ones are some
-pub begins_settled-some : (w : Window) (done : List ℕ) → begins_settled w done ≡ true
-    → 0 < length done
-begins_settled-some w [] is =
-    let wrong : false ≡ true = is in cc
-begins_settled-some w (group ∷ done) is = omega arith
-
--- the first of them is left out
-pub without_settled-true : (w : Window) (done : List ℕ) → begins_settled w done ≡ true
-    → without_settled w (drop 1 done) ≡ without_settled w done
-without_settled-true w [] is = refl
-without_settled-true w (group ∷ done) is =
-    sym (ap (λ b. if b then without_settled w done else group ∷ done) is)
-
-pub without_settled-false : (w : Window) (done : List ℕ) → begins_settled w done ≡ false
-    → without_settled w done ≡ done
-without_settled-false w [] is = refl
-without_settled-false w (group ∷ done) is =
-    ap (λ b. if b then without_settled w done else group ∷ done) is
 
 -- a fact of what is there, from each that it may be
 pub IfSome-each : (o : Option ℕ) (P : ℕ → Type 0) → ((x : ℕ) → o ≡ Some x → P x) → IfSome o P

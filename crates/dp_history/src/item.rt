@@ -1,6 +1,7 @@
 //! Entries of the history as they are kept.
 
-ghost use Rattle.std.specs.Prelude.{◌≡◌, ◌++◌, ◌∷◌, List, OnOk, true, is_some, map, slice_get, All, IfOk, OnErr, Some, IfSome, []};
+ghost use Rattle.std.specs.Prelude.{◌≡◌, ◌++◌, ◌∷◌, List, [], true, is_some, map, slice_get};
+ghost use Rattle.std.specs.Prelude.{All, IfOk, IfSome, OnOk, OnErr, Some};
 ghost use Rattle.std.specs.Option.{option_map};
 ghost use Rattle.dp_acl.specs.Opening.{command_entry};
 ghost use Rattle.dp_epochs.specs.State.{entry_of, is_name};

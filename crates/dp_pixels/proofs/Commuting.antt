@@ -74,7 +74,8 @@ pixel_then law w h d pixels (pos x) (negsuc y) on =
 pub commute : PixelLaw → EqualLaw → (w h : ℕ) (a b : Draw) (pixels : List Channels)
     → w ≤ 4096 → h ≤ 4096 → foot_layer (foot a) ≡ foot_layer (foot b)
     → feet_meet (foot a) (foot b) ≡ false
-    → pixels_after w h b (pixels_after w h a pixels) ≡ pixels_after w h a (pixels_after w h b pixels)
+    → pixels_after w h b (pixels_after w h a pixels)
+    ≡ pixels_after w h a (pixels_after w h b pixels)
 commute law equal w h a b pixels narrow low layer far =
     let old = pixel_of w h pixels in
     let after_a = pixel_of w h (pixels_after w h a pixels) in

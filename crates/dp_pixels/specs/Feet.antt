@@ -1,7 +1,7 @@
 -- The foot of a command: where it may change a layer, and where it reads it.
 use Rattle.std.specs.Prelude.{ℕ, ◌+◌, ◌-◌, ◌*◌, ◌/◌, ◌==◌, ℤ, pos, unsigned_abs}
-use Rattle.std.specs.Prelude.{Bool, true, not, ◌&&◌, ◌||◌, int_lt, if◌then◌else◌, List, [], ◌∷◌, map}
-use Rattle.std.specs.Prelude.{fold, Option, Some, None}
+use Rattle.std.specs.Prelude.{Bool, true, not, ◌&&◌, ◌||◌, int_lt, if◌then◌else◌}
+use Rattle.std.specs.Prelude.{List, [], ◌∷◌, map, fold, Option, Some, None}
 use Rattle.std.specs.List.{sum_by, count_by, range_with_len}
 use Rattle.dp_msg_draw.specs.declared.draw.Draw.{Draw}
 use Rattle.dp_msg_draw.specs.declared.draw.Draw.TheVariants.{CanvasResize, FillRect, PutImage}

@@ -85,7 +85,8 @@ rows_twice : (la lb : ℕ) (f g : List Channels → List Channels)
     ≡ map (with_change la f) (map (with_change lb g) rows)
 rows_twice la lb f g either [] = refl
 rows_twice la lb f g either (row ∷ rows) =
-    ap (λ (first : Row (List Channels)). first ∷ map (with_change lb g) (map (with_change la f) rows))
+    ap (λ (first : Row (List Channels)).
+    first ∷ map (with_change lb g) (map (with_change la f) rows))
     (row_twice la lb f g either row)
     ∙ ap (λ (rest : List (Row (List Channels))).
     with_change la f (with_change lb g row) ∷ rest) (rows_twice la lb f g either rows)

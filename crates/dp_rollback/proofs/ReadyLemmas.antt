@@ -1,6 +1,6 @@
 -- What is made ready for an act.
 use Rattle.std.proofs.Common.{◌≡◌, ℕ, List, [], ◌∷◌, ◌++◌, ap, sym, ◌∙◌}
-use Rattle.std.proofs.Common.{subst, refl, ◌+◌, ◌<◌, ◌≤◌, None, Some, true, drop, arith}
+use Rattle.std.proofs.Common.{subst, refl, ◌+◌, ◌<◌, ◌≤◌, None, Some, true, drop}
 use Rattle.std.specs.List.{fold}
 use Rattle.dp_board.specs.Commands.{command_of}
 use Rattle.dp_board.specs.Strokes.{concerned}
@@ -78,21 +78,6 @@ counts-due laws draw weight old now user copy act draws draws' tiles tiles' same
           blank depth acts (stands-now draw old now same blank depth acts st)
           ∙ ap (λ b. due_commands depth acts (act_by user b)) copied) counts;
     }
-
--- nothing was drawn
-pub counts-none : {B Op : Type 0} → (draw : B → Op → B) (weight : Op → ℕ) (old : Rolled B Op)
-    (a : UserAct Op) (draws draws' tiles tiles' : ℕ) → draws' ≡ draws → tiles' ≡ tiles
-    → CountsDue draw weight old a draws draws' tiles tiles'
-counts-none draw weight old a draws draws' tiles tiles' same same_tiles = record {
-  draws_rise = omega (arith, same);
-  tiles_rise = omega (arith, same_tiles);
-  due = λ blank depth acts st. record {
-    draws_rise = omega (arith, same);
-    few_draws = omega (arith, same);
-    tiles_rise = omega (arith, same_tiles);
-    few_tiles = omega (arith, same_tiles);
-  };
-}
 
 -- what an act makes of it that moves no group
 pub IsNext-here : {B Op : Type 0} → (draw : B → Op → B) (r : Rolled B Op) (a : UserAct Op)

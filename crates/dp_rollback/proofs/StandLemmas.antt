@@ -614,15 +614,3 @@ StandsFor-spare draw blank depth acts r spare st = record {
   board = st.board;
   saves = st.saves;
 }
-
--- nor has the room of what an act was put on
-pub StandsFor-put_spare : {B Op : Type 0} → (draw : B → Op → B) (blank : B) (depth : ℕ)
-    (acts : List (UserAct Op)) (next : Next B Op) (r : Rolled B Op) (spare : ℕ)
-    → StandsFor draw blank depth acts (put_on next r)
-    → StandsFor draw blank depth acts (put_on next (record r { spare = spare }))
-StandsFor-put_spare draw blank depth acts next r spare st = record {
-  table = st.table;
-  kept = st.kept;
-  board = st.board;
-  saves = st.saves;
-}

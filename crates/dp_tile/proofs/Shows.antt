@@ -1,11 +1,11 @@
 -- Cells that show something.
 use Rattle.std.proofs.Common.{◌≡◌, ℕ, ◌<◌, List, length, get_or, ap, sym, ◌∙◌, refl, arith}
-use Rattle.std.proofs.Common.{Bool, true, false, cond, ◌&&◌, ◌⊎◌, inl, inr, ⊎_elim}
+use Rattle.std.proofs.Common.{Bool, true, false, ◌&&◌, ◌⊎◌, inl, inr, ⊎_elim}
 use Rattle.std.specs.Prelude.{not, ◌==◌}
 use Rattle.std.proofs.lemmas.Bool.{eqb-true, and_parts}
 use Rattle.std.proofs.lemmas.List.Folds.{list_any_at}
 use Rattle.dp_blend.specs.Color.{Channels, clear}
-use Rattle.dp_tile.specs.Tiles.{shows, tile_of, tiles_for}
+use Rattle.dp_tile.specs.Tiles.{shows, tile_of}
 use Rattle.dp_tile.proofs.Tiles.{length-tile_of, pixel-tile_of}
 
 -- all channels are 0
@@ -42,21 +42,8 @@ shows_at pixels k d inside isnt =
     ⊎_elim (λ yes. list_any_at (λ (p : Channels). not (is_clear p)) pixels k d inside yes)
     (λ is. absurd (isnt is)) (shown_or_clear (get_or pixels k d))
 
--- a list of which two pixels differ shows something
-pub shows_two : (pixels : List Channels) (j k : ℕ) (d : Channels) → j < length pixels
-    → k < length pixels → (get_or pixels j d ≡ get_or pixels k d → ⊥) → shows pixels ≡ true
-shows_two pixels j k d in_j in_k differ =
-    ⊎_elim (λ yes. list_any_at (λ (p : Channels). not (is_clear p)) pixels j d in_j yes)
-    (λ first. ⊎_elim (λ yes. list_any_at (λ (p : Channels). not (is_clear p)) pixels k d in_k yes)
-    (λ second. absurd (differ (first ∙ sym second))) (shown_or_clear (get_or pixels k d)))
-    (shown_or_clear (get_or pixels j d))
-
 -- a tile of a colour that isn't clear shows something
 pub shows_color : (p : Channels) → (p ≡ clear → ⊥) → shows (tile_of p) ≡ true
 shows_color p isnt =
     let inside : 0 < length (tile_of p) = omega (arith, length-tile_of p) in
     shows_at (tile_of p) 0 clear inside (λ is. isnt (sym (pixel-tile_of p 0 (omega arith)) ∙ is))
-
--- what shows something needs a tile
-pub needs_tile : (cell : List Channels) → shows cell ≡ true → tiles_for cell ≡ 1
-needs_tile cell is = ap (λ b. cond b 1 0) is

@@ -1,6 +1,6 @@
 use Rattle.std.proofs.Common.{◌≡◌, ◌-◌, ◌++◌, ◌∷◌, [], length, true, false, None}
 use Rattle.std.proofs.Common.{ap, ◌∙◌, arith, length-append}
-use Rattle.std.specs.List.{filter, range_with_len}
+use Rattle.std.specs.List.{filter}
 use Rattle.dp_history.specs.Users.{mark}
 use Rattle.dp_history.proofs.ItemLemmas.{ids-marked, ids-unmarked}
 use Rattle.dp_history.proofs.Ranges.{user_ids-are}
@@ -22,7 +22,8 @@ loop-user-preserved c =
             few = omega (arith, ap length more, length-append c.loop-user.ids.items (k ∷ []));
           }
       | else-present-user w ↦
-          let unmarked : mark c.args.present.now c.loop-user.user ≡ false = w.if-present-user.false in
+          let unmarked : mark c.args.present.now c.loop-user.user ≡ false =
+          w.if-present-user.false in
           record {
             found = ap (λ ids. ids.items) w.ids-is ∙ c.loop-user.invariant.found
                 ∙ ids-unmarked (λ id. None) p k (omega arith) unmarked;

@@ -27,7 +27,8 @@ loop-user-preserved c = λ history live joined h.
           (w.in_ok-add_join.ensures (joins (filter p (range_with_len 1 (k - 1)))) live user.last
           before))
       | else-present-user w ↦
-          let unmarked : mark c.args.present.now c.loop-user.user ≡ false = w.if-present-user.false in
+          let unmarked : mark c.args.present.now c.loop-user.user ≡ false =
+          w.if-present-user.false in
           subst (λ o. Holds journal o (joins (filter p (range_with_len 1 (k + 1 - 1)))))
           (sym w.self-is)
           (subst (λ ids. Holds journal c.loop-user.self (joins ids))

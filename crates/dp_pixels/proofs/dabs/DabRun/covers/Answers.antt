@@ -10,8 +10,9 @@ use Rattle.dp_pixels.proofs.dabs.DabRun.covers.Goals as goal
 use Rattle.dp_pixels.proofs.dabs.DabRun.covers.Goals.{After-placed_after-placed}
 
 -- the dab stands after the last one
-next : (c : After-placed_after-placed) → IsLast c.args.self.at.x c.args.self.at.y c.args.self.dabs.now
-    (c.loop-dab.dab-index + 1) c.placed_after-placed.result.at
+next : (c : After-placed_after-placed)
+    → IsLast c.args.self.at.x c.args.self.at.y c.args.self.dabs.now (c.loop-dab.dab-index + 1)
+    c.placed_after-placed.result.at
 next c =
     let s = c.args.self in
     last_more s.at.x s.at.y s.dabs.now c.loop-dab.dab-index c.loop-dab.last
