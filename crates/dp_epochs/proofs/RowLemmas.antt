@@ -8,7 +8,7 @@ use Rattle.dp_messages.specs.Messages.{Spells, lifted_kind}
 use Rattle.dp_epochs.specs.declared.event.Event.{Event}
 use Rattle.dp_epochs.specs.declared.event.Event.TheVariants.{Open, Say, Close}
 use Rattle.dp_keeper.specs.declared.row.Row.{Row}
-use Rattle.dp_epochs.specs.Spelled.{SaidBy, SpellsSay, RowSpells}
+use Rattle.dp_epochs.specs.Spelled.{RowSays, SpellsSay, RowSpells}
 use Rattle.dp_epochs.specs.Resumed.{StandAfter}
 
 abbrev OneMessage : Type 0
@@ -18,7 +18,7 @@ OneMessage =
 
 -- a kind and a payload after a first byte have one message
 one-said : OneMessage → (first kind : ℕ) (payload : List ℕ) (m n : Msg)
-    → SaidBy first kind payload m → SaidBy first kind payload n → m ≡ n
+    → RowSays first kind payload m → RowSays first kind payload n → m ≡ n
 one-said one first kind payload m n (inl s) (inl t) = one kind payload m n s.1 t.1
 one-said one first kind payload m n (inl s) (inr t) = absurd (cc (s.0, t.0))
 one-said one first kind payload m n (inr s) (inl t) = absurd (cc (s.0, t.0))
@@ -36,11 +36,11 @@ one-say one bytes conn other m n s t =
     (one_byte t.kind ++ t.payload) s.fits t.fits after in
     let kind : s.kind ≡ t.kind = cc (conns.1) in
     let payload : s.payload ≡ t.payload = cc (conns.1) in
-    let said : SaidBy s.first s.kind s.payload n = rw (first, kind, payload) t.said in
+    let said : RowSays s.first s.kind s.payload n = rw (first, kind, payload) t.said in
     ap (λ c. Say c m) conns.0 ∙ ap (Say other) (one-said one s.first s.kind s.payload m n s.said said)
 
 -- the first byte of a Say's row is no other event's
-begins : (first kind : ℕ) (payload : List ℕ) (m : Msg) → SaidBy first kind payload m
+begins : (first kind : ℕ) (payload : List ℕ) (m : Msg) → RowSays first kind payload m
     → (first ≡ 3) ⊎ (first ≡ 1)
 begins first kind payload m (inl s) = inl s.0
 begins first kind payload m (inr s) = inr s.0

@@ -8,8 +8,8 @@ use Rattle.dp_epochs.specs.declared.event.Event.TheVariants.{Open, Say, Close}
 
 -- How a Say's row has its message, by its first byte: 3 as it is spelled, and 1 as it was spelled
 -- in the first profile.
-abbrev pub SaidBy : ℕ → ℕ → List ℕ → Msg → Type 0
-SaidBy first kind payload m =
+abbrev pub RowSays : ℕ → ℕ → List ℕ → Msg → Type 0
+RowSays first kind payload m =
     ((first ≡ 3) × Spells kind payload m) ⊎ ((first ≡ 1) × Lifts kind payload m)
 
 -- the bytes are the first byte, the connection, and the kind and the payload of the message
@@ -19,7 +19,7 @@ pub record SpellsSay (bytes : List ℕ) (conn : ℕ) (m : Msg) : Type 0 where
   pub payload : List ℕ
   pub is : bytes ≡ one_byte first ++ four_bytes conn ++ one_byte kind ++ payload
   pub fits : conn < 2 ^ 32
-  pub said : SaidBy first kind payload m
+  pub said : RowSays first kind payload m
 
 -- the bytes of a row spell the event
 abbrev pub RowSpells : List ℕ → Event → Type 0

@@ -6,7 +6,7 @@ ghost use Rattle.std.specs.Prelude.{◌≡◌, ◌≢◌, ◌++◌, ◌<◌, ◌
 ghost use Rattle.dp_fields.specs.Fields.{one_byte, four_bytes};
 ghost use Rattle.dp_fields.specs.Reading.{Finds};
 ghost use Rattle.dp_messages.specs.Messages.{Spells};
-ghost use Rattle.dp_epochs.specs.Spelled.{RowSpells, SaidBy};
+ghost use Rattle.dp_epochs.specs.Spelled.{RowSpells, RowSays};
 
 use crate::event::Event;
 use dp_fields::{Field, all};
@@ -88,7 +88,7 @@ fn take_say(bytes: &[u8]) -> Option<(u32, u8, &[u8])>
 
 /// The message of a Say whose row begins with this byte.
 fn read_said(alloc: Global, first: u8, kind: u8, payload: &[u8]) -> Result<Option<Msg>, AllocError>
-    ensures { IfOk result (Finds (SaidBy first kind payload.now)) }
+    ensures { IfOk result (Finds (RowSays first kind payload.now)) }
 {
     match first {
         SAY => find_message(alloc, kind, payload),
