@@ -21,7 +21,7 @@ pub enum Instruction {
 }
 
 /// What is printed of a client.
-#[derive(Clone, Copy, Debug, PartialEq, Eq)]
+#[derive(Clone, Copy)]
 pub enum CanvasKind {
     /// The picture of the entries that it has taken, with its unanswered sends.
     View,
