@@ -5,3 +5,8 @@ use Rattle.std.specs.Prelude.{◌≡◌, ℕ, ◌^◌, ◌<◌, List, decimal}
 pub record IsNumber (word : List ℕ) (n : ℕ) : Type 0 where
   pub fits : n < 2 ^ 32
   pub text : word ≡ decimal n
+
+-- the same of a number that fits 64 bits
+pub record IsLongNumber (word : List ℕ) (n : ℕ) : Type 0 where
+  pub fits : n < 2 ^ 64
+  pub text : word ≡ decimal n

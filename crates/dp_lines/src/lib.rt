@@ -16,6 +16,6 @@ pub use laws::{
 };
 pub use line::{Line, LineBytes};
 pub use lines::{LineError, Lines};
-pub use numbers::{number, put_number};
+pub use numbers::{long_number, number, put_number};
 pub use run_end::RunEnd;
 pub use words::{word, word_count};

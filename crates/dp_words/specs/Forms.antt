@@ -1,39 +1,34 @@
--- The commands: a row for each, with its name, what `clap` is told, and what the words ask for.
-use Rattle.std.specs.Prelude.{◌≡◌, ◌≤◌, ℕ, List, [], ◌∷◌, Option, Some, codes, length, true}
-use Rattle.clap.specs.Simple.{new_rule}
-use Rattle.clap.specs.Walk.{Row, Rule, Text, first_of}
+-- The commands: a row for each, with its name, what may follow it, and what the words ask for.
+use Rattle.std.specs.Prelude.{◌≡◌, ◌≤◌, ℕ, List, [], ◌∷◌, Option, Some, codes, length, true, false}
+use Rattle.clap.specs.Walk.{Row, Text, first_of}
 use Rattle.dp_words.specs.declared.command_line.CommandLine.{CommandLine}
 use Rattle.dp_words.specs.declared.command_line.CommandLine.TheVariants.{Local, Join, Listen}
 use Rattle.dp_words.specs.declared.command_line.LocalCommand.TheVariants.{Replay, World, Play}
 use Rattle.dp_words.specs.declared.command_line.Service.TheVariants.{Session}
+use Rattle.dp_words.specs.declared.form.Kind.{Kind}
+use Rattle.dp_words.specs.declared.form.Kind.TheVariants.{Word, Named}
 use Rattle.dp_words.specs.Values.{HasAt, HasWorkers, IsConns}
 
--- a command's words: their name, the options and words that may follow it, and the line for which
+-- a command's words: their name, the words and options that may follow it, and the line for which
 -- they ask with such values
 pub record Form : Type 1 where
   pub name : Text
-  pub rules : List Rule
+  pub params : List (Text × Kind)
   pub asks : List Row → CommandLine → Type 0
 
--- an option `--NAME VALUE`
-abbrev pub option_named : Text → Rule
-option_named name = record (new_rule name) { long = Some name }
-
--- what has to be there
-abbrev pub required : Rule → Rule
-required rule = record rule { required = true }
-
 abbrev pub replay_form : Form
-replay_form = record { name = codes "replay"; rules = []; asks = λ rows line. line ≡ Local Replay }
+replay_form =
+    record { name = codes "replay"; params = []; asks = λ rows line. line ≡ Local Replay }
 
 abbrev pub world_form : Form
-world_form = record { name = codes "world"; rules = []; asks = λ rows line. line ≡ Local World }
+world_form =
+    record { name = codes "world"; params = []; asks = λ rows line. line ≡ Local World }
 
 -- `play [--at N]`
 abbrev pub play_form : Form
 play_form = record {
   name = codes "play";
-  rules = option_named (codes "at") ∷ [];
+  params = (codes "at", Named false) ∷ [];
   asks = λ rows line. (at : Option ℕ) × HasAt (first_of (codes "at") rows) at
       × (line ≡ Local (Play at));
 }
@@ -42,7 +37,7 @@ play_form = record {
 abbrev pub join_form : Form
 join_form = record {
   name = codes "join";
-  rules = required (new_rule (codes "addr")) ∷ required (new_rule (codes "name")) ∷ [];
+  params = (codes "addr", Word) ∷ (codes "name", Word) ∷ [];
   asks = λ rows line. (addr user : Text) × (first_of (codes "addr") rows ≡ Some addr)
       × (first_of (codes "name") rows ≡ Some user) × (1 ≤ length user) × (length user ≤ 32)
       × (line ≡ Join addr user);
@@ -52,8 +47,8 @@ join_form = record {
 abbrev pub serve_form : Form
 serve_form = record {
   name = codes "serve";
-  rules = required (new_rule (codes "addr")) ∷ required (option_named (codes "workers"))
-      ∷ option_named (codes "conns") ∷ [];
+  params = (codes "addr", Word) ∷ (codes "workers", Named true) ∷ (codes "conns", Named false)
+      ∷ [];
   asks = λ rows line. (addr : Text) × (workers : ℕ) × (conns : Option ℕ)
       × (first_of (codes "addr") rows ≡ Some addr)
       × HasWorkers (first_of (codes "workers") rows) workers

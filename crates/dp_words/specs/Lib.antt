@@ -1,5 +1,6 @@
 pub mod CommandLines
 pub mod Forms
 pub mod Program
+pub mod Several
 pub mod Values
 pub mod Wanted

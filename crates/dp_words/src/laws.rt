@@ -8,6 +8,7 @@ ghost use Rattle.dp_words.specs.declared.command_line.LocalCommand.TheVariants.{
 ghost use Rattle.dp_words.specs.declared.command_line.LocalCommand.TheVariants.{Play};
 ghost use Rattle.dp_words.specs.declared.command_line.Service.TheVariants.{Session};
 ghost use Rattle.dp_words.specs.CommandLines.{AsksFor, IsCommandLine};
+ghost use Rattle.dp_words.specs.Several.{HasPlaces};
 
 use dp_lines::one_number;
 
@@ -43,4 +44,11 @@ pub fn some_command_lines()
     ensures signed { ¬ IsCommandLine (codes "play" ∷ codes "--at=+3" ∷ []) }
     ensures no_number { ¬ IsCommandLine (codes "play" ∷ codes "--at" ∷ []) }
     ensures no_name { ¬ IsCommandLine (codes "join" ∷ codes "localhost:7" ∷ []) }
+{}
+
+/// Where a form's last words may be several, `clap` finds all of them, in order.
+pub fn several_words_are_found()
+    ensures one { HasPlaces (codes "seek" ∷ codes "5" ∷ codes "7" ∷ []) (codes "7" ∷ []) }
+    ensures several { HasPlaces (codes "seek" ∷ codes "5" ∷ codes "7" ∷ codes "0" ∷ codes "7" ∷ [])
+        (codes "7" ∷ codes "0" ∷ codes "7" ∷ []) }
 {}

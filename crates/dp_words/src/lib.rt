@@ -7,11 +7,13 @@ mod address;
 mod app;
 mod command_line;
 mod devices;
+mod form;
 mod laws;
 mod parser;
 
 pub use address::Address;
 pub use command_line::{CommandLine, LocalCommand, Service};
 pub use devices::{Devices, wanted};
-pub use laws::{one_command_line, some_command_lines};
+pub use form::{Form, Kind, program_of};
+pub use laws::{one_command_line, several_words_are_found, some_command_lines};
 pub use parser::read_words;

@@ -9,7 +9,7 @@ ghost use Rattle.dp_words.specs.Forms.{join_form, play_form, serve_form};
 ghost use Rattle.dp_words.specs.Values.{HasAt, HasWorkers, IsConns};
 
 use crate::address::Address;
-use crate::app::program_of;
+use crate::app::drawpile_of;
 use crate::command_line::{CommandLine, LocalCommand, Service};
 use clap::ArgMatches;
 use clap::error::ErrorKind;
@@ -25,7 +25,7 @@ pub fn read_words(alloc: Global, words: &[String]) -> Result<Option<CommandLine>
         (¬ IsCommandLine (map string_bytes words.now))) }
     ensures limits { IfOk result (λ line. IfSome line FitsLimits) }
 {
-    match program_of(alloc)?.try_get_matches_from(words) {
+    match drawpile_of(alloc)?.try_get_matches_from(words) {
         Ok(matches) => line_of(alloc, &matches),
         Err(error) if error.kind() == ErrorKind::OutOfMemory => Err(AllocError),
         Err(_) => Ok(None),

@@ -13,7 +13,7 @@ is-simple = refl
 
 pub returns-in-Ok-clause-none : goal.returns-in-Ok-clause-none
 returns-in-Ok-clause-none c =
-    let app_is = c.in_ok-program_of.ensures in
+    let app_is = c.in_ok-drawpile_of.ensures in
     let entered = (c.in-Ok.ensures.matches (ap is_simple app_is ∙ is-simple)).1
     ∙ ap (λ app. subcommand_of app (map string_bytes c.args.words.now)) app_is in
     IfOk-weaker c.line_of.result _ _ (λ line none. none-asked _ _ line entered none)

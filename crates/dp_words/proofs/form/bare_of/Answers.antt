@@ -1,7 +1,7 @@
 -- Each setting changes one field.
 use Rattle.std.proofs.Common.{ap, true, ◌∙◌}
 use Rattle.clap.specs.Simple.{app_of_fields, on_top}
-use Rattle.dp_words.proofs.app.bare_of.Goals as goal
+use Rattle.dp_words.proofs.form.bare_of.Goals as goal
 
 pub returns : goal.returns
 returns c =
