@@ -35,6 +35,10 @@ loop-user-preserved c = λ history live joined h.
           (ids-unmarked (last_join live) p k (omega arith) unmarked) before)
     ]
 
+pub add_join-requires : goal.add_join-requires
+add_join-requires c =
+    c.requires c.loop-user.user (omega arith) (omega arith) c.if-present-user.true
+
 pub returns : goal.returns
 returns c = λ history live joined h.
     subst (λ ids. Holds c.args.journal.now c.loop-user.self
