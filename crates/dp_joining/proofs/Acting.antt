@@ -72,10 +72,3 @@ pub err_alone : (r : Result Unit JoinStop) (old now : Seen) (action : JoinAction
     → IfErr r (Fails old now (acted action)) → IfErr r (Halts old now action)
 err_alone (Ok done) old now action ready fails = tt
 err_alone (Err stop) old now action ready fails = halts_alone old now action stop ready fails
-
-pub ready_ok : (r : Result Unit JoinStop) (client now : State) (source source_now : Source)
-    → IsReady client source → source_now ≡ source → OnOk r (now.taken ≡ client.taken)
-    → OnOk r (IsReady now source_now)
-ready_ok (Err e) client now source source_now ready same taken = tt
-ready_ok (Ok done) client now source source_now ready same taken =
-    ready_alone client now source source_now ready same taken

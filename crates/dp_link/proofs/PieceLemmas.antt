@@ -5,7 +5,7 @@ use Rattle.std.proofs.Common.{Option, None, Some, Ok, Err, refl, sym, ap, subst,
 use Rattle.std.proofs.Common.{append_assoc, length-append, inl, inr}
 use Rattle.std.proofs.lemmas.Bool.{cases_lt}
 use Rattle.std.proofs.lemmas.List.{take-append-drop, length-take-le, take_all}
-use Rattle.std.specs.Io.KnownBytes.{Consumes, Keeps}
+use Rattle.std.specs.Io.KnownBytes.{Consumes}
 use Rattle.dp_frame.specs.Frames.{FrameParts, IsFrame, spelling, HoldsNoFrame}
 use Rattle.dp_split.specs.Stream.{Stream}
 use Rattle.dp_link.specs.declared.pieces.PieceEnd.TheVariants.{Memory}
@@ -18,11 +18,6 @@ use Rattle.dp_link.specs.Pieces.{room_after, ReadsPiece}
 pub consumes-none : (left : Option (List ℕ)) → Consumes left left []
 consumes-none None = tt
 consumes-none (Some xs) = refl
-
-pub consumes-kept : (left unread : Option (List ℕ)) → Keeps left unread → Consumes left unread []
-consumes-kept None unread kept = tt
-consumes-kept (Some xs) None kept = kept
-consumes-kept (Some xs) (Some ys) kept = sym kept
 
 pub consumes-then : (a b c : Option (List ℕ)) (xs ys : List ℕ) → Consumes a b xs
     → Consumes b c ys → Consumes a c (xs ++ ys)
@@ -39,13 +34,6 @@ pub small-then : (xs ys : List ℕ) → ((k : ℕ) → get_or xs k 0 < 256)
 small-then [] ys p q k = q k
 small-then (x ∷ xs) ys p q zero = p 0
 small-then (x ∷ xs) ys p q (suc k) = small-then xs ys (λ j. p (suc j)) q k
-
-pub small-take : (n : ℕ) (xs : List ℕ) → ((k : ℕ) → get_or xs k 0 < 256)
-    → (k : ℕ) → get_or (take n xs) k 0 < 256
-small-take zero xs p k = omega arith
-small-take (suc n) [] p k = omega arith
-small-take (suc n) (x ∷ xs) p zero = p 0
-small-take (suc n) (x ∷ xs) p (suc k) = small-take n xs (λ j. p (suc j)) k
 
 -- a header with the payload that it announces after it is a frame
 begins-with-frame : (a b c d : ℕ) (tail : List ℕ) → a < 256 → b < 256 → a * 256 + b ≤ length tail

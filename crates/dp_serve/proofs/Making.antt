@@ -59,13 +59,6 @@ module _ {W R T : Type 0} (see : Seen W R T) (hall : HallValue Past) (most : ℕ
       → RanJobs see hall most (reverse olds) (reverse news)
   ran-reverse olds news h = ran-onto olds news [] [] h tt
 
-  pub ran-length : (olds news : List (JobValue W)) → RanJobs see hall most olds news
-      → length news ≡ length olds
-  ran-length [] [] h = refl
-  ran-length [] (new ∷ news) h = absurd h
-  ran-length (old ∷ olds) [] h = absurd h
-  ran-length (old ∷ olds) (new ∷ news) h = ap suc (ran-length olds news h.1)
-
   ran-seat : (old new : JobValue W) → RanJob see hall most old new
       → IfSome new.seat (IsOf hall)
   ran-seat old new h = by_seat old.seat new.seat h.works
