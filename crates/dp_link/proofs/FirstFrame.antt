@@ -14,7 +14,6 @@ use Rattle.dp_entries.specs.Anywhere.{IsCauseAnywhere}
 use Rattle.dp_entries.specs.Ends.{IfCause}
 use Rattle.dp_entries.specs.Reading.{TakesBad}
 use Rattle.dp_link.specs.declared.messages.BadFrame.{BadFrame}
-use Rattle.dp_link.specs.declared.ends.GreetEnd.TheVariants as greet
 use Rattle.dp_link.specs.Bytes.{BeginsWithoutHello, BeginsWithNoMessage}
 use Rattle.dp_link.specs.Bytes.{TakesMessage, StopIs}
 
