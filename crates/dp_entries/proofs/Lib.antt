@@ -3,3 +3,4 @@ pub mod Frames
 pub mod OneReading
 pub mod Reading
 pub mod Refused
+pub mod TakenParts

@@ -2,13 +2,16 @@
 use Rattle.std.proofs.Common.{◌≡◌, ℕ, ◌+◌, ◌<◌, ◌≤◌, List, [], ◌∷◌, ◌++◌, length, take, drop}
 use Rattle.std.proofs.Common.{refl, sym, ap, ◌∙◌, subst, append_assoc, length-append, arith}
 use Rattle.std.proofs.Common.{Bool, true, false, IsTrue, cond}
-use Rattle.std.specs.Prelude.{Option, Some, None, ◌-◌, ◌↔◌}
+use Rattle.std.specs.Prelude.{Option, Some, ◌-◌, ◌↔◌}
 use Rattle.std.specs.List.{flat_map}
-use Rattle.std.proofs.Math.Seq.{take-append-add, drop-append_seam}
+use Rattle.std.proofs.Math.Seq.{drop-append_seam}
 use Rattle.std.proofs.lemmas.Bool.{false≢true}
-use Rattle.std.proofs.lemmas.List.{append-nil, length-drop, length-take, nil_from_length}
-use Rattle.std.proofs.lemmas.List.{take-append-drop}
+use Rattle.std.proofs.lemmas.List.{length-drop, length-take, nil_from_length}
 use Rattle.std.specs.Io.KnownBytes.{Consumes, Keeps, IsAtEnd}
+use Rattle.dp_io.specs.Pieces.{TookPieces}
+use Rattle.dp_io.proofs.Pieces.{all_taken, counted_first, cut_short, first_taken, kept_taken}
+use Rattle.dp_io.proofs.Pieces.{nothing_taken, parts_of, piece_taken}
+use Rattle.dp_entries.proofs.TakenParts.{took_all, took_last}
 use Rattle.dp_frame.specs.Frames.{FrameParts, IsFrame, spelling, HoldsNoFrame}
 use Rattle.dp_split.specs.Stream.{Stream}
 use Rattle.dp_messages.specs.declared.message.Entry.{Entry}
@@ -24,86 +27,75 @@ use Rattle.dp_entries.specs.Reading.{TakesEntry, TakesBad, TookNoCause, EndsRead
 use Rattle.dp_entries.proofs.Frames.{none_held, stand_length, fed_length, follows_taken}
 use Rattle.dp_entries.proofs.Frames.{follows_bad, follows_fed, follows_tells}
 
--- ---- lists
-
--- the first bytes of a front and a rest
-take_prefix : (xs ys : List ℕ) (m n : ℕ) → m ≡ length xs + n → take m (xs ++ ys) ≡ xs ++ take n ys
-take_prefix xs ys m n e = ap (λ (k : ℕ). take k (xs ++ ys)) e ∙ take-append-add xs ys n
-
 -- what comes after the first bytes
 drop_prefix : (xs ys : List ℕ) (n : ℕ) → length xs ≡ n → drop n (xs ++ ys) ≡ ys
 drop_prefix xs ys n e = ap (λ (k : ℕ). drop k (xs ++ ys)) (sym e) ∙ drop-append_seam xs ys
 
+none_above : (n : ℕ) → ¬ (0 < n) → n ≡ 0
+none_above n none = omega (arith, none)
+
 -- ---- what was read
 
--- how many bytes these are: those before the first frame, and those that were fed
-prefix_length : {M : ℕ → FrameParts → Entry → Type 0} {input : List ℕ} {left : Option (List ℕ)}
-    {entries : List Entry} {r : Reader} → (h : HasRead M input left entries r)
-    → length (h.head ++ (h.earlier ++ h.piece)) ≡ r.first + r.stream.at + length r.stream.held
-prefix_length h =
-    omega (arith, length-append h.head (h.earlier ++ h.piece), h.place, fed_length h.follows)
+module _ {M : ℕ → FrameParts → Entry → Type 0} {input : List ℕ} {left : Option (List ℕ)}
+    {entries : List Entry} {r : Reader} (h : HasRead M input left entries r) where
+  -- how many bytes these are: those before the first frame, and those that were fed
+  prefix_length : length ((h.head ++ h.earlier) ++ h.piece)
+      ≡ r.first + r.stream.at + length r.stream.held
+  prefix_length = omega (
+    arith,
+    length-append (h.head ++ h.earlier) h.piece,
+    length-append h.head h.earlier,
+    length-append h.earlier h.piece,
+    h.place,
+    fed_length h.follows,
+  )
 
--- what they are of the input
-prefix_whole : {M : ℕ → FrameParts → Entry → Type 0} {input : List ℕ} {left : Option (List ℕ)}
-    {entries : List Entry} {r : Reader} → (h : HasRead M input left entries r)
-    → input ≡ (h.head ++ (h.earlier ++ h.piece)) ++ (h.cut ++ h.untaken)
-prefix_whole h =
-    h.whole ∙ sym (append_assoc h.head (h.earlier ++ h.piece) (h.cut ++ h.untaken))
+  -- the input is the bytes before the first frame, those that were fed, and others
+  pub input_parts : input
+      ≡ h.head ++ ((h.earlier ++ h.piece) ++ (h.cut ++ (parts_of h.took).untaken))
+  input_parts =
+      let rest : List ℕ = h.cut ++ (parts_of h.took).untaken in
+      (parts_of h.took).whole
+      ∙ ap (λ (xs : List ℕ). xs ++ rest) (append_assoc h.head h.earlier h.piece)
+      ∙ append_assoc h.head (h.earlier ++ h.piece) rest
 
--- the bytes that count begin with them
-counted : {M : ℕ → FrameParts → Entry → Type 0} {input : List ℕ} {left : Option (List ℕ)}
-    {entries : List Entry} {r : Reader} → (h : HasRead M input left entries r)
-    → r.first + r.stream.at + length r.stream.held ≤ r.limit
-    → take r.limit input ≡ (h.head ++ (h.earlier ++ h.piece))
-    ++ take (r.limit - length (h.head ++ (h.earlier ++ h.piece))) (h.cut ++ h.untaken)
-counted {input = input} {r = r} h within =
-    let prefix : List ℕ = h.head ++ (h.earlier ++ h.piece) in
-    let sum : r.limit ≡ length prefix + (r.limit - length prefix) =
-    omega (arith, prefix_length h) in
-    ap (take r.limit) (prefix_whole h)
-    ∙ take_prefix prefix (h.cut ++ h.untaken) r.limit (r.limit - length prefix) sum
+  -- after the first bytes, those that were fed
+  after_head : (more : List ℕ)
+      → drop r.first (((h.head ++ h.earlier) ++ h.piece) ++ more) ≡ (h.earlier ++ h.piece) ++ more
+  after_head more =
+      ap (λ (xs : List ℕ). drop r.first (xs ++ more)) (append_assoc h.head h.earlier h.piece)
+      ∙ ap (drop r.first) (append_assoc h.head (h.earlier ++ h.piece) more)
+      ∙ drop_prefix h.head ((h.earlier ++ h.piece) ++ more) r.first h.place
 
--- after the first bytes, those that were fed
-after_head : {M : ℕ → FrameParts → Entry → Type 0} {input : List ℕ} {left : Option (List ℕ)}
-    {entries : List Entry} {r : Reader} → (h : HasRead M input left entries r) (more : List ℕ)
-    → drop r.first ((h.head ++ (h.earlier ++ h.piece)) ++ more) ≡ (h.earlier ++ h.piece) ++ more
-after_head {r = r} h more =
-    ap (drop r.first) (append_assoc h.head (h.earlier ++ h.piece) more)
-    ∙ drop_prefix h.head ((h.earlier ++ h.piece) ++ more) r.first h.place
+  fed_after : drop r.first ((h.head ++ h.earlier) ++ h.piece) ≡ h.earlier ++ h.piece
+  fed_after =
+      ap (drop r.first) (append_assoc h.head h.earlier h.piece)
+      ∙ drop_prefix h.head (h.earlier ++ h.piece) r.first h.place
 
--- where no whole frame is held, they hold no cause to end
-no_cause : {M : ℕ → FrameParts → Entry → Type 0} {input : List ℕ} {left : Option (List ℕ)}
-    {entries : List Entry} {r : Reader} → (h : HasRead M input left entries r)
-    → HoldsNoFrame r.stream.held → r.first + r.stream.at + length r.stream.held ≤ r.limit
-    → HoldsNoCause M r.first r.limit (h.head ++ (h.earlier ++ h.piece))
-no_cause {M = M} {entries = entries} {r = r} h none within = record {
-  entries = entries;
-  rest = r.stream.held;
-  tells =
-      subst (λ (xs : List ℕ). Tells M xs entries r.stream.held)
-      (sym (drop_prefix h.head (h.earlier ++ h.piece) r.first h.place))
-      (follows_tells none h.follows);
-  counts = omega (arith, prefix_length h);
-}
+  -- where no whole frame is held, they hold no cause to end
+  no_cause : HoldsNoFrame r.stream.held
+      → HoldsNoCause M r.first r.limit ((h.head ++ h.earlier) ++ h.piece)
+  no_cause none = record {
+    entries = entries;
+    rest = r.stream.held;
+    tells =
+        subst (λ (xs : List ℕ). Tells M xs entries r.stream.held) (sym fed_after)
+        (follows_tells none h.follows);
+    counts = h.took.within;
+  }
 
--- what was taken, but for the last piece, holds no cause to end
-took_piece : {M : ℕ → FrameParts → Entry → Type 0} {input : List ℕ} {left : Option (List ℕ)}
-    {entries : List Entry} {r : Reader} → HasRead M input left entries r
-    → TookNoCause M r.first r.limit 4096 input left
-took_piece h = record {
-  taken = h.head ++ h.earlier;
-  after = h.piece ++ h.cut;
-  untaken = h.untaken;
-  whole =
-      h.whole ∙ ap (λ (xs : List ℕ). h.head ++ xs)
-      (append_assoc h.earlier h.piece (h.cut ++ h.untaken))
-      ∙ sym (append_assoc h.head h.earlier (h.piece ++ (h.cut ++ h.untaken)))
-      ∙ ap (λ (xs : List ℕ). (h.head ++ h.earlier) ++ xs)
-      (sym (append_assoc h.piece h.cut h.untaken));
-  left_is = h.left_is;
-  meets = h.quiet;
-  few = h.few;
-}
+  -- what was taken, but for the last piece, holds no cause to end
+  took_piece : TookNoCause M r.first r.limit 4096 input left
+  took_piece = took_last (HoldsNoCause M r.first r.limit) h.took h.quiet
+
+  -- where no more was taken than counts, nothing was cut
+  none_cut : ¬ IsTrue r.over
+      → TookPieces r.limit (Some input) left (h.head ++ h.earlier) h.piece []
+  none_cut not_over =
+      let cut : h.cut ≡ [] =
+      nil_from_length h.cut (none_above (length h.cut) (λ some. not_over (h.over.1 some))) in
+      subst (λ (xs : List ℕ). TookPieces r.limit (Some input) left (h.head ++ h.earlier) h.piece xs)
+      cut h.took
 
 -- ---- the first pull, and an entry more
 
@@ -117,9 +109,7 @@ begins M input head untaken r held at count over place within whole = record {
   earlier = [];
   piece = [];
   cut = [];
-  untaken = untaken;
-  whole = whole;
-  left_is = refl;
+  took = first_taken r.limit input head untaken whole (omega (arith, place, within));
   place = place;
   follows = follows;
   quiet = record {
@@ -136,10 +126,10 @@ begins M input head untaken r held at count over place within whole = record {
     };
     counts = omega (arith, length-append head []);
   };
-  few = omega arith;
-  over = λ yes. let e : true ≡ false = over_is r.over yes over in cc (e);
-  full = λ yes. let e : true ≡ false = over_is r.over yes over in cc (e);
-  all = λ no. refl;
+  over = (
+    λ yes. let e : true ≡ false = over_is r.over yes over in cc (e),
+    λ some. absurd (omega (arith, some)),
+  );
 }
   where
     follows : Follows M [] [] r.count r.stream
@@ -165,19 +155,18 @@ reads_entry M input left entries old new e taken count first limit over h =
       earlier = h.earlier;
       piece = h.piece;
       cut = h.cut;
-      untaken = h.untaken;
-      whole = h.whole;
-      left_is = h.left_is;
+      took = subst (λ (n : ℕ). TookPieces n (Some input) left (h.head ++ h.earlier) h.piece h.cut)
+          (sym limit) h.took;
       place = h.place ∙ sym first;
       follows = further;
       quiet =
           subst (λ (n : ℕ). HoldsNoCause M n new.limit (h.head ++ h.earlier)) (sym first)
           (subst (λ (n : ℕ). HoldsNoCause M old.first n (h.head ++ h.earlier)) (sym limit)
           h.quiet);
-      few = h.few;
-      over = λ yes. h.over (subst IsTrue over yes);
-      full = λ yes. h.full (subst IsTrue over yes) ∙ sym limit;
-      all = λ no. h.all (λ yes. no (subst IsTrue (sym over) yes));
+      over = (
+        λ yes. h.over.0 (subst IsTrue over yes),
+        λ some. subst IsTrue (sym over) (h.over.1 some),
+      );
     }
 
 -- a frame is taken that may not stand
@@ -187,23 +176,22 @@ pub ends_bad : {C : Type 0} (M : ℕ → FrameParts → Entry → Type 0)
     → IsCause before frame cause → ¬ M before frame e)
     → (input : List ℕ) (left : Option (List ℕ)) (entries : List Entry) (old : Reader)
     (new : Stream) (at : ℕ) (cause : C)
-    → old.first + old.stream.at + length old.stream.held ≤ old.limit
     → TakesBad IsCause old.count old.stream new cause → at ≡ old.stream.at
     → HasRead M input left entries old
     → EndsReading M IsCause old.first old.limit input left entries
     (BadMessage cause (old.first + at))
-ends_bad M IsCause none input left entries old new at cause within taken place h =
+ends_bad M IsCause none input left entries old new at cause taken place h =
     let fed : List ℕ = h.earlier ++ h.piece in
-    let prefix : List ℕ = h.head ++ fed in
-    let more : List ℕ = take (old.limit - length prefix) (h.cut ++ h.untaken) in
+    let prefix : List ℕ = (h.head ++ h.earlier) ++ h.piece in
+    let rest : List ℕ = h.cut ++ (parts_of h.took).untaken in
+    let more : List ℕ = take (old.limit - length prefix) rest in
     let bytes : drop old.first (take old.limit input) ≡ fed ++ more =
-    ap (drop old.first) (counted h within) ∙ after_head h more in
+    ap (drop old.first) (counted_first h.took) ∙ after_head h more in
     let tells : TellsUpTo M (drop old.first (take old.limit input)) entries old.stream.at =
     subst (λ (xs : List ℕ). TellsUpTo M xs entries old.stream.at) (sym bytes)
     (follows_bad M IsCause none fed more entries old.count old.stream new cause taken h.follows) in
     let f = h.follows in
     let many : old.count ≡ length entries = f.many ∙ stand_length M 0 f.frames entries f.stand in
-    let rest : List ℕ = h.cut ++ h.untaken in
     let frames : List ℕ = flat_map spelling f.frames in (
       (
         at,
@@ -217,7 +205,7 @@ ends_bad M IsCause none input left entries old new at cause within taken place h
         prefix = h.head ++ frames;
         more = new.held ++ rest;
         whole =
-            h.whole ∙ ap (λ (xs : List ℕ). h.head ++ (xs ++ rest)) f.whole
+            input_parts h ∙ ap (λ (xs : List ℕ). h.head ++ (xs ++ rest)) f.whole
             ∙ ap (λ (xs : List ℕ). h.head ++ ((frames ++ xs) ++ rest)) taken.held
             ∙ ap (λ (xs : List ℕ). h.head ++ xs)
             (append_assoc frames (spelling taken.frame ++ new.held) rest)
@@ -233,31 +221,17 @@ ends_bad M IsCause none input left entries old new at cause within taken place h
 pub ends_long : {C : Type 0} (M : ℕ → FrameParts → Entry → Type 0)
     (IsCause : ℕ → FrameParts → C → Type 0)
     (input : List ℕ) (left : Option (List ℕ)) (entries : List Entry) (r : Reader)
-    → r.first + r.stream.at + length r.stream.held ≤ r.limit
     → HoldsNoFrame r.stream.held → IsTrue r.over → HasRead M input left entries r
     → EndsReading M IsCause r.first r.limit input left entries Long
-ends_long M IsCause input left entries r within none over h =
-    let fed : List ℕ = h.earlier ++ h.piece in
-    let prefix : List ℕ = h.head ++ fed in
-    let rest : List ℕ = h.cut ++ h.untaken in
-    let bytes : take r.limit input ≡ prefix =
-    ap (take r.limit) (prefix_whole h)
-    ∙ take_prefix prefix rest r.limit 0 (omega (arith, h.full over))
-    ∙ append-nil prefix in
-    let same : drop r.first (take r.limit input) ≡ fed =
-    ap (drop r.first) bytes ∙ drop_prefix h.head fed r.first h.place in (
+ends_long M IsCause input left entries r none over h =
+    let short = cut_short h.took (h.over.0 over) in
+    let same : drop r.first (take r.limit input) ≡ h.earlier ++ h.piece =
+    ap (drop r.first) short.0 ∙ fed_after h in (
       (
         r.stream.held,
         subst (λ (xs : List ℕ). Tells M xs entries r.stream.held) (sym same)
             (follows_tells none h.follows),
-        omega (
-          arith,
-          ap length (prefix_whole h),
-          length-append prefix rest,
-          length-append h.cut h.untaken,
-          h.over over,
-          h.full over,
-        ),
+        short.1,
       ),
       took_piece h,
     )
@@ -268,87 +242,56 @@ ends_long M IsCause input left entries r within none over h =
 pub ends_fault : {C : Type 0} (M : ℕ → FrameParts → Entry → Type 0)
     (IsCause : ℕ → FrameParts → C → Type 0)
     (input : List ℕ) (left new : Option (List ℕ)) (entries : List Entry) (r : Reader)
-    → r.first + r.stream.at + length r.stream.held ≤ r.limit
     → HoldsNoFrame r.stream.held → ¬ IsTrue r.over → Keeps left new
     → HasRead M input left entries r
     → EndsReading M IsCause r.first r.limit input new entries ReadFault
-ends_fault M IsCause input left new entries r within none not_over keeps h =
-    let cut : h.cut ≡ [] = nil_from_length h.cut (h.all not_over) in record {
-      taken = h.head ++ (h.earlier ++ h.piece);
-      after = [];
-      untaken = h.untaken;
-      whole =
-          prefix_whole h ∙ ap (λ (xs : List ℕ). (h.head ++ (h.earlier ++ h.piece))
-          ++ (xs ++ h.untaken)) cut;
-      left_is = kept new (subst (λ (o : Option (List ℕ)). Keeps o new) h.left_is keeps);
-      meets = no_cause h none within;
-      few = omega arith;
-    }
-  where
-    kept : (new : Option (List ℕ)) → Keeps (Some h.untaken) new → new ≡ Some h.untaken
-    kept None impossible = absurd impossible
-    kept (Some rest) e = ap Some e
+ends_fault M IsCause input left new entries r none not_over keeps h =
+    took_all (HoldsNoCause M r.first r.limit) 0
+    (kept_taken r.limit (Some input) left new (h.head ++ h.earlier) h.piece [] keeps
+    (none_cut h not_over)) (no_cause h none)
 
 -- a piece is taken, of which the bytes that count are fed
-pub reads_piece : (M : ℕ → FrameParts → Entry → Type 0) (input rest : List ℕ)
-    (entries : List Entry) (old later : Reader) (chunk : List ℕ)
-    → old.first + old.stream.at + length old.stream.held ≤ old.limit
+pub reads_piece : (M : ℕ → FrameParts → Entry → Type 0) (input : List ℕ)
+    (left rest : Option (List ℕ)) (entries : List Entry) (old later : Reader) (chunk : List ℕ)
     → HoldsNoFrame old.stream.held → ¬ IsTrue old.over → length chunk ≤ 4096
+    → Consumes left rest chunk
     → later.stream.held ≡ old.stream.held ++ take (room_of old) chunk
     → later.stream.at ≡ old.stream.at
     → later.count ≡ old.count → later.first ≡ old.first → later.limit ≡ old.limit
     → IsTrue later.over ↔ (room_of old < length chunk)
-    → HasRead M input (Some (chunk ++ rest)) entries old → HasRead M input (Some rest) entries later
-reads_piece M input rest entries old later chunk within none not_over few held at count first limit
-    over
-    h =
+    → HasRead M input left entries old → HasRead M input rest entries later
+reads_piece M input left rest entries old later chunk none not_over few consumes held at count
+    first limit over h =
     let piece : List ℕ = take (room_of old) chunk in
     let cut : List ℕ = drop (room_of old) chunk in
     let fed : List ℕ = h.earlier ++ h.piece in
-    let prefix : List ℕ = h.head ++ fed in
-    let before : h.cut ≡ [] = nil_from_length h.cut (h.all not_over) in
-    let left : h.untaken ≡ chunk ++ rest = cc (h.left_is) in
-    let parts : piece ++ cut ≡ chunk = take-append-drop (room_of old) chunk in
-    let whole : h.cut ++ h.untaken ≡ piece ++ (cut ++ rest) =
-    ap (λ (xs : List ℕ). xs ++ h.untaken) before ∙ left
-    ∙ ap (λ (xs : List ℕ). xs ++ rest) (sym parts) ∙ append_assoc piece cut rest in record {
+    let prefix : List ℕ = (h.head ++ h.earlier) ++ h.piece in
+    let same : prefix ≡ h.head ++ fed = append_assoc h.head h.earlier h.piece in
+    let room : length prefix + room_of old ≡ old.limit =
+    omega (arith, prefix_length h, h.took.within) in
+    let took : TookPieces old.limit (Some input) rest prefix piece cut =
+    piece_taken old.limit (room_of old) (Some input) left rest (h.head ++ h.earlier) h.piece chunk
+    room consumes few (none_cut h not_over) in record {
       head = h.head;
       earlier = fed;
       piece = piece;
       cut = cut;
-      untaken = rest;
-      whole =
-          h.whole ∙ ap (λ (xs : List ℕ). h.head ++ (fed ++ xs)) whole
-          ∙ ap (λ (xs : List ℕ). h.head ++ xs) (sym (append_assoc fed piece (cut ++ rest)));
-      left_is = refl;
+      took =
+          subst (λ (n : ℕ). TookPieces n (Some input) rest (h.head ++ fed) piece cut) (sym limit)
+          (subst (λ (xs : List ℕ). TookPieces old.limit (Some input) rest xs piece cut) same took);
       place = h.place ∙ sym first;
       follows =
           subst (λ (n : ℕ). Follows M (fed ++ piece) entries n later.stream) (sym count)
           (follows_fed M fed piece entries old.count old.stream later.stream held at h.follows);
       quiet =
-          subst (λ (n : ℕ). HoldsNoCause M n later.limit prefix) (sym first)
-          (subst (λ (n : ℕ). HoldsNoCause M old.first n prefix) (sym limit)
-          (no_cause h none within));
-      few = subst (λ (xs : List ℕ). length xs ≤ 4096) (sym parts) few;
-      over = λ yes. omega (arith, over.0 yes, length-drop (room_of old) chunk);
-      full = λ yes. omega (
-        arith,
-        over.0 yes,
-        limit,
-        length-append h.head (fed ++ piece),
-        length-append fed piece,
-        length-take (room_of old) chunk,
-        fed_length h.follows,
-        h.place,
+          subst (λ (n : ℕ). HoldsNoCause M n later.limit (h.head ++ fed)) (sym first)
+          (subst (λ (n : ℕ). HoldsNoCause M old.first n (h.head ++ fed)) (sym limit)
+          (subst (HoldsNoCause M old.first old.limit) same (no_cause h none)));
+      over = (
+        λ yes. omega (arith, over.0 yes, length-drop (room_of old) chunk),
+        λ some. over.1 (omega (arith, some, length-drop (room_of old) chunk)),
       );
-      all = λ no.
-          let most : length chunk ≤ room_of old = at_most (room_of old) (length chunk)
-          (λ less. no (over.1 less)) in
-          omega (arith, length-drop (room_of old) chunk);
     }
-  where
-    at_most : (m n : ℕ) → ¬ (m < n) → n ≤ m
-    at_most m n more = omega (arith, more)
 
 -- a number falls with it
 pub piece_falls : (old later : Reader) (chunk : List ℕ) → ¬ IsTrue old.over
@@ -380,94 +323,69 @@ piece_falls old later chunk not_over within held at first limit over some =
     by_test false true not_over over = omega arith
     by_test false false not_over over = smaller (λ less. false≢true (over.1 less))
 
--- bytes of the input are taken
-pub reads_chunk : (M : ℕ → FrameParts → Entry → Type 0) (input : List ℕ)
-    (left new : Option (List ℕ)) (entries : List Entry) (old later : Reader) (chunk : List ℕ)
-    → ((rest : List ℕ) → HasRead M input (Some (chunk ++ rest)) entries old
-    → HasRead M input (Some rest) entries later)
-    → Consumes left new chunk
-    → HasRead M input left entries old → HasRead M input new entries later
-reads_chunk M input left new entries old later chunk further consumes h =
-    at_new new (subst (λ (o : Option (List ℕ)). Consumes o new chunk) h.left_is consumes)
-  where
-    at_new : (new : Option (List ℕ)) → Consumes (Some h.untaken) new chunk
-        → HasRead M input new entries later
-    at_new None impossible = absurd impossible
-    at_new (Some rest) taken =
-        further rest
-        (subst (λ (o : Option (List ℕ)). HasRead M input o entries old)
-        (h.left_is ∙ ap Some taken) h)
-
 -- the input is at its end
 pub reads_nothing : (M : ℕ → FrameParts → Entry → Type 0) (input : List ℕ)
     (left new : Option (List ℕ)) (entries : List Entry) (r : Reader) (none : List ℕ)
-    → none ≡ [] → Consumes left new none → HasRead M input left entries r
+    → none ≡ [] → ¬ IsTrue r.over → Consumes left new none → HasRead M input left entries r
     → HasRead M input new entries r
-reads_nothing M input left new entries r none is consumes h =
-    at_new new (subst (λ (o : Option (List ℕ)). Consumes o new none) h.left_is consumes)
-  where
-    at_new : (new : Option (List ℕ)) → Consumes (Some h.untaken) new none
-        → HasRead M input new entries r
-    at_new None impossible = absurd impossible
-    at_new (Some rest) taken =
-        let same : h.untaken ≡ rest = taken ∙ ap (λ (xs : List ℕ). xs ++ rest) is in
-        subst (λ (o : Option (List ℕ)). HasRead M input o entries r) (h.left_is ∙ ap Some same) h
+reads_nothing M input left new entries r none is not_over consumes h = record {
+  head = h.head;
+  earlier = h.earlier;
+  piece = h.piece;
+  cut = [];
+  took = nothing_taken r.limit (Some input) left new (h.head ++ h.earlier) h.piece none is consumes
+      (none_cut h not_over);
+  place = h.place;
+  follows = h.follows;
+  quiet = h.quiet;
+  over = (λ yes. absurd (not_over yes), λ some. absurd (omega (arith, some)));
+}
 
 -- ---- the input's end
 
--- all of the input was fed
-all_fed : {M : ℕ → FrameParts → Entry → Type 0} {input : List ℕ} {left : Option (List ℕ)}
-    {entries : List Entry} {r : Reader} → (h : HasRead M input left entries r)
-    → ¬ IsTrue r.over → IsAtEnd left → input ≡ h.head ++ (h.earlier ++ h.piece)
-all_fed {left = left} h not_over end =
-    let cut : h.cut ≡ [] = nil_from_length h.cut (h.all not_over) in
-    let none : h.untaken ≡ [] = subst IsAtEnd h.left_is end in
-    prefix_whole h
-    ∙ ap (λ (xs : List ℕ). (h.head ++ (h.earlier ++ h.piece)) ++ (xs ++ h.untaken)) cut
-    ∙ ap (λ (xs : List ℕ). (h.head ++ (h.earlier ++ h.piece)) ++ xs) none
-    ∙ append-nil (h.head ++ (h.earlier ++ h.piece))
-
--- after the first bytes of the input come those that were fed
+-- after the first bytes of the input come those that were fed, and all of them count
 all_after : {M : ℕ → FrameParts → Entry → Type 0} {input : List ℕ} {left : Option (List ℕ)}
     {entries : List Entry} {r : Reader} → (h : HasRead M input left entries r)
-    → ¬ IsTrue r.over → IsAtEnd left → drop r.first input ≡ h.earlier ++ h.piece
+    → ¬ IsTrue r.over → IsAtEnd left
+    → (drop r.first input ≡ h.earlier ++ h.piece) × (length input ≤ r.limit)
+    × (length input ≡ r.first + r.stream.at + length r.stream.held)
 all_after {r = r} h not_over end =
-    ap (drop r.first) (all_fed h not_over end)
-    ∙ drop_prefix h.head (h.earlier ++ h.piece) r.first h.place
+    let all = all_taken (none_cut h not_over) end in
+    (ap (drop r.first) all.0 ∙ fed_after h, all.1, ap length all.0 ∙ prefix_length h)
 
 -- after a whole frame
 pub ends_done : (M : ℕ → FrameParts → Entry → Type 0) (input : List ℕ) (left : Option (List ℕ))
     (entries : List Entry) (r : Reader)
-    → r.first + r.stream.at + length r.stream.held ≤ r.limit
     → HoldsNoFrame r.stream.held → ¬ IsTrue r.over → IsAtEnd left → length r.stream.held ≡ 0
     → HasRead M input left entries r → ComesTo M r.first r.limit input entries run.Done
-ends_done M input left entries r within none not_over end empty h =
-    let held : r.stream.held ≡ [] = nil_from_length r.stream.held empty in (
-      subst (λ (xs : List ℕ). Tells M xs entries []) (sym (all_after h not_over end))
+ends_done M input left entries r none not_over end empty h =
+    let held : r.stream.held ≡ [] = nil_from_length r.stream.held empty in
+    let all = all_after h not_over end in (
+      subst (λ (xs : List ℕ). Tells M xs entries []) (sym all.0)
           (subst (λ (xs : List ℕ). Tells M (h.earlier ++ h.piece) entries xs) held
           (follows_tells none h.follows)),
-      omega (arith, ap length (all_fed h not_over end), prefix_length h),
+      all.1,
     )
 
 -- inside a frame
 pub ends_inside : {C : Type 0} (M : ℕ → FrameParts → Entry → Type 0)
     (IsCause : ℕ → FrameParts → C → Type 0) (input : List ℕ) (left : Option (List ℕ))
     (entries : List Entry) (r : Reader)
-    → r.first + r.stream.at + length r.stream.held ≤ r.limit
     → HoldsNoFrame r.stream.held → ¬ IsTrue r.over → IsAtEnd left → 0 < length r.stream.held
     → HasRead M input left entries r
     → EndsReading M IsCause r.first r.limit input left entries (Truncated (r.first + r.stream.at))
-ends_inside M IsCause input left entries r within none not_over end some h = (
-  (
-    r.stream.held,
-    subst (λ (xs : List ℕ). Tells M xs entries r.stream.held) (sym (all_after h not_over end))
-        (follows_tells none h.follows),
-    λ empty. omega (arith, some, ap length empty),
-    omega (arith, ap length (all_fed h not_over end), prefix_length h),
-    omega (arith, ap length (all_fed h not_over end), prefix_length h),
-  ),
-  end,
-)
+ends_inside M IsCause input left entries r none not_over end some h =
+    let all = all_after h not_over end in (
+      (
+        r.stream.held,
+        subst (λ (xs : List ℕ). Tells M xs entries r.stream.held) (sym all.0)
+            (follows_tells none h.follows),
+        λ empty. omega (arith, some, ap length empty),
+        omega (arith, all.2),
+        all.1,
+      ),
+      end,
+    )
 
 -- ---- the first frame that is held
 
@@ -512,10 +430,9 @@ pub ends_stop : {C : Type 0} (M : ℕ → FrameParts → Entry → Type 0)
     → IsCause before frame cause → ¬ M before frame e)
     → (input : List ℕ) (left : Option (List ℕ)) (entries : List Entry) (old : Reader)
     (new : Stream) (at : ℕ) (why : Refusal C)
-    → old.first + old.stream.at + length old.stream.held ≤ old.limit
     → IfCause (TakesBad IsCause old.count old.stream new) why → at ≡ old.stream.at
     → HasRead M input left entries old
     → EndsReading M IsCause old.first old.limit input left entries (refused_at (old.first + at) why)
-ends_stop M IsCause none input left entries old new at (refusal.Cause cause) within taken place h =
-    ends_bad M IsCause none input left entries old new at cause within taken place h
-ends_stop M IsCause none input left entries old new at refusal.Memory within taken place h = tt
+ends_stop M IsCause none input left entries old new at (refusal.Cause cause) taken place h =
+    ends_bad M IsCause none input left entries old new at cause taken place h
+ends_stop M IsCause none input left entries old new at refusal.Memory taken place h = tt

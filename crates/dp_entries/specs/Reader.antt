@@ -1,8 +1,9 @@
 -- A reader of entries, and what was read so far.
-use Rattle.std.specs.Prelude.{◌≡◌, ℕ, ◌+◌, ◌-◌, ◌<◌, ◌≤◌, Bool, IsTrue, List, ◌++◌, length}
+use Rattle.std.specs.Prelude.{◌≡◌, ℕ, ◌+◌, ◌-◌, ◌<◌, ◌↔◌, Bool, IsTrue, List, ◌++◌, length}
 use Rattle.std.specs.Prelude.{Option, Some, if◌then◌else◌}
 use Rattle.std.specs.List.{AllByRecursion, flat_map}
 use Rattle.dp_frame.specs.Frames.{FrameParts, IsFrame, spelling}
+use Rattle.dp_io.specs.Pieces.{TookPieces}
 use Rattle.dp_split.specs.Stream.{Stream}
 use Rattle.dp_messages.specs.declared.message.Entry.{Entry}
 use Rattle.dp_entries.specs.Input.{StandFor, HoldsNoCause}
@@ -37,21 +38,16 @@ pub record Follows (MayStand : ℕ → FrameParts → Entry → Type 0) (bytes :
   pub at : stream.at ≡ length (flat_map spelling frames)
 
 -- What was taken of an input of which these bytes are left: the bytes before the first frame, then
--- bytes that hold no cause to end, and then a piece of at most 4096. The bytes of it that count are
--- fed, and the fed bytes gave these entries.
+-- bytes that hold no cause to end, and then a piece. The bytes of it that count are fed, and the
+-- fed bytes gave these entries.
 pub record HasRead (MayStand : ℕ → FrameParts → Entry → Type 0) (input : List ℕ)
     (left : Option (List ℕ)) (entries : List Entry) (reader : Reader) : Type 0 where
   pub head : List ℕ
   pub earlier : List ℕ
   pub piece : List ℕ
   pub cut : List ℕ
-  pub untaken : List ℕ
-  pub whole : input ≡ head ++ ((earlier ++ piece) ++ (cut ++ untaken))
-  pub left_is : left ≡ Some untaken
+  pub took : TookPieces reader.limit (Some input) left (head ++ earlier) piece cut
   pub place : length head ≡ reader.first
   pub follows : Follows MayStand (earlier ++ piece) entries reader.count reader.stream
   pub quiet : HoldsNoCause MayStand reader.first reader.limit (head ++ earlier)
-  pub few : length (piece ++ cut) ≤ 4096
-  pub over : IsTrue reader.over → 0 < length cut
-  pub full : IsTrue reader.over → length (head ++ (earlier ++ piece)) ≡ reader.limit
-  pub all : ¬ IsTrue reader.over → length cut ≡ 0
+  pub over : IsTrue reader.over ↔ (0 < length cut)

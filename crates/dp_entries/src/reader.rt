@@ -4,7 +4,7 @@ ghost use Rattle.std.specs.Prelude.{◌≡◌, ◌≢◌, ◌↔◌, ℕ, ◌+�
 ghost use Rattle.std.specs.Prelude.{List, [], ◌∷◌, ◌++◌, length, take, Some, OnOk, OnErr};
 ghost use Rattle.std.specs.Prelude.{IfOk, IfErr, IfSome, IfNone, None, IsOkAnd, OnSome};
 ghost use Rattle.std.specs.declared.option.Option.{Option};
-ghost use Rattle.std.specs.Io.KnownBytes.{IsAtEnd, Keeps};
+ghost use Rattle.std.specs.Io.KnownBytes.{Consumes, IsAtEnd};
 ghost use Rattle.dp_io.specs.Faults.{Rose};
 ghost use Rattle.dp_frame.specs.Frames.{HoldsNoFrame};
 ghost use Rattle.dp_messages.specs.declared.message.Entry.{Entry as Item};
@@ -159,10 +159,10 @@ impl<S: Standing> EntryReader<S> {
     pub fn push(&mut self, bytes: &[u8]) -> Result<(), AllocError>
         requires not_over { ¬ IsTrue self.old.over }
         requires none { HoldsNoFrame self.old.stream.held }
-        ensures read { OnOk result ((input untaken : List ℕ) (entries : List Item)
-            → length bytes.now ≤ 4096
-            → HasRead S.may_stand input (Some (bytes.now ++ untaken)) entries self.old
-            → HasRead S.may_stand input (Some untaken) entries self.new) }
+        ensures read { OnOk result ((input : List ℕ) (left rest : Option (List ℕ))
+            (entries : List Item) → length bytes.now ≤ 4096 → Consumes left rest bytes.now
+            → HasRead S.may_stand input left entries self.old
+            → HasRead S.may_stand input rest entries self.new) }
         ensures further { OnOk result (0 < length bytes.now
             → measure_of self.new < measure_of self.old) }
         ensures first { self.new.first ≡ self.old.first }

@@ -1,12 +1,11 @@
 -- What a link gave, and how it goes on.
-use Rattle.std.proofs.Common.{◌≡◌, ◌⊎◌, inl, inr, ℕ, ◌+◌, ◌<◌, ◌≤◌, true, false, List, [], ◌∷◌}
+use Rattle.std.proofs.Common.{◌≡◌, inl, inr, ℕ, ◌+◌, ◌<◌, ◌≤◌, true, false, List, [], ◌∷◌}
 use Rattle.std.proofs.Common.{◌++◌}
 use Rattle.std.proofs.Common.{length, refl, sym, ap, ◌∙◌, subst, arith, ◌||◌, if◌then◌else◌}
-use Rattle.std.specs.Prelude.{Option, Some, None, IfSome, IsTrue}
+use Rattle.std.specs.Prelude.{Option, IsTrue}
 use Rattle.std.specs.List.{flat_map}
 use Rattle.std.proofs.lemmas.List.{append_assoc, append-nil, nil_from_length, length-append}
 use Rattle.dp_frame.specs.Frames.{spelling}
-use Rattle.dp_io.specs.Faults.{Rose}
 use Rattle.dp_lines.specs.declared.run_end.RunEnd.{RunEnd}
 use Rattle.dp_lines.specs.declared.run_end.RunEnd.TheVariants as run
 use Rattle.dp_messages.specs.declared.message.Entry.{Entry}
@@ -15,12 +14,13 @@ use Rattle.dp_entries.specs.declared.ends.ReadEnd.{ReadEnd}
 use Rattle.dp_entries.specs.declared.ends.ReadEnd.TheVariants.{ReadFault, Truncated, BadMessage}
 use Rattle.dp_entries.specs.declared.ends.ReadEnd.TheVariants as read
 use Rattle.dp_entries.specs.Input.{ComesTo}
-use Rattle.dp_entries.specs.Reader.{Reader, HasRead}
+use Rattle.dp_entries.proofs.Reading.{input_parts}
+use Rattle.dp_io.proofs.Pieces.{parts_of}
 use Rattle.dp_entries.specs.Reading.{FaultMatchesReadEnd, EndsReading}
 use Rattle.dp_joining.specs.declared.join_standing.LinkFlaw.{LinkFlaw}
 use Rattle.dp_joining.specs.declared.stops.LinkCause.TheVariants as cause
 use Rattle.dp_joining.specs.declared.stops.JoinStop.{JoinStop}
-use Rattle.dp_joining.specs.declared.stops.JoinStop.TheVariants.{WriteFault, LinkFault, Memory}
+use Rattle.dp_joining.specs.declared.stops.JoinStop.TheVariants.{Memory}
 use Rattle.dp_joining.specs.declared.stops.JoinStop.TheVariants.{NoEntry}
 use Rattle.dp_joining.specs.Joining.{is_closed, takeable}
 use Rattle.dp_joining.specs.JoinStanding.{IsFlaw, StandsOnLink, is_ping}
@@ -40,14 +40,14 @@ given_begins s bytes entries readable has_given =
     nil_from_length has_given.head (has_given.place ∙ readable.first) in
     let prefix = flat_map spelling has_given.follows.frames in
     let held = s.reader.stream.held in
-    let rest = has_given.cut ++ has_given.untaken in
+    let rest = has_given.cut ++ (parts_of has_given.took).untaken in
     record {
       frames = has_given.follows.frames;
       more = held ++ rest;
       each = has_given.follows.each;
       stand = has_given.follows.stand;
       whole =
-          has_given.whole
+          input_parts has_given
           ∙ ap (λ xs. xs ++ ((has_given.earlier ++ has_given.piece) ++ rest)) none
           ∙ ap (λ xs. xs ++ rest) has_given.follows.whole
           ∙ append_assoc prefix held rest;

@@ -1,4 +1,5 @@
 pub mod Called
 pub mod Lines
 pub mod Reading
+pub mod TakenParts
 pub mod Leaving

@@ -1,7 +1,7 @@
 -- How far a run has come, and how a line stops it. What was done between two moments is a relation
 -- of the machine.
-use Rattle.std.specs.Prelude.{◌≡◌, ℕ, List, ◌∷◌, ◌++◌, Option}
-use Rattle.std.specs.Io.KnownBytes.{Consumes}
+use Rattle.std.specs.Prelude.{◌≡◌, ℕ, List, [], ◌∷◌, ◌++◌, Option}
+use Rattle.dp_io.specs.Pieces.{TookPieces}
 use Rattle.dp_lines.specs.declared.line.Line.{Line}
 use Rattle.dp_lines.specs.Ends.{AreSteps, IsDoable, StopsAt}
 use Rattle.dp_lines.specs.Held.{Held, IsInLimit, IsLeft, lines_from}
@@ -30,12 +30,12 @@ pub record IsEnding {X : Type 0} (IsStep : List Line → Line → Type 0)
     pub whole : lines ≡ done ++ lines_from held
     pub has : HasDone IsStep Does start done now
 
--- of the bytes of the input these were taken and fed, where they are known
+-- of the bytes of the input, of which so many count, these were taken and fed
 pub record HasRead {X : Type 0} (IsStep : List Line → Line → Type 0)
-    (Does : X → List Line → X → Type 0) (input left : Option (List ℕ)) (held : Held)
+    (Does : X → List Line → X → Type 0) (limit : ℕ) (input left : Option (List ℕ)) (held : Held)
     (start now : X) : Type 0 where
   pub taken : List ℕ
-  pub consumed : Consumes input left taken
+  pub took : TookPieces limit input left taken [] []
   pub reading : IsReading IsStep Does taken held start now
 
 -- how a line after those that were done stops the run

@@ -1,4 +1,5 @@
 use Rattle.std.proofs.Common.{◌≡◌, ◌≤◌, IsTrue, [], ◌++◌, ap, length, take, drop, arith, subst, sym}
+use Rattle.std.proofs.Common.{refl, Some}
 use Rattle.std.proofs.Common.{◌∙◌}
 use Rattle.std.proofs.lemmas.List.{length-take}
 use Rattle.dp_entries.specs.Reader.{HasRead}
@@ -20,7 +21,8 @@ returns-in-Ok-clause-begun g c = λ bytes left h.
     let begun = c.new-reader.ensures.begun bytes (take len held) (rest ++ h.untaken) whole place in
     let small = subst (λ t. length t ≤ 4096) (sym rest_is)
     (rest-is-small held profile len header h) in
-    let read = c.in-Ok.ensures.read bytes h.untaken [] small begun in
+    let read = c.in-Ok.ensures.read bytes (Some (rest ++ h.untaken)) (Some h.untaken) [] small refl
+    begun in
     let first = c.in-Ok.ensures.first ∙ c.new-reader.ensures.first in (
       subst (IsHeader bytes profile) (sym first)
           (subst (λ t. IsHeader t profile len) (sym h.whole)

@@ -7,7 +7,8 @@ use Rattle.dp_script.proofs.run.run_lines.Given as goal
 -- the lines that are whole in what was taken are done, and the input didn't fail
 abbrev pub invariant-reads : goal.invariant-reads
 invariant-reads g l = record {
-  read : HasRead g.M.StepRule.is_step g.M.LineMachine.has_done (g.I.Source.left l.fn.input)
+  read : HasRead g.M.StepRule.is_step g.M.LineMachine.has_done l.fn.limit
+      (g.I.Source.left l.fn.input)
       (g.I.Source.left l.input) l.lines
       (moment l.fn.machine l.fn.output l.fn.draws l.fn.tiles)
       (moment l.machine l.output l.draws l.tiles);

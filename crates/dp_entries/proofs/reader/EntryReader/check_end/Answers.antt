@@ -9,7 +9,7 @@ pub returns-then-rest_len-eq0-clause-done : goal.returns-then-rest_len-eq0-claus
 returns-then-rest_len-eq0-clause-done g c = λ bytes left entries end h.
     let none = ap (λ (r : Reader). length r.stream.held) c.self.view_is in
     ends_done g.S.Standing.may_stand bytes left entries c.args.self.now
-    c.requires.within c.requires.none c.requires.not_over end (omega (arith, none)) h
+    c.requires.none c.requires.not_over end (omega (arith, none)) h
 
 pub returns-else-rest_len-eq0-clause-ends : goal.returns-else-rest_len-eq0-clause-ends
 returns-else-rest_len-eq0-clause-ends g c = λ bytes left entries end h.
@@ -20,4 +20,4 @@ returns-else-rest_len-eq0-clause-ends g c = λ bytes left entries end h.
     subst (λ (n : ℕ). EndsReading g.S.Standing.may_stand g.S.Standing.is_cause
     c.args.self.now.first c.args.self.now.limit bytes left entries (Truncated n)) at
     (ends_inside g.S.Standing.may_stand g.S.Standing.is_cause bytes left entries c.args.self.now
-    c.requires.within c.requires.none c.requires.not_over end (omega (arith, some)) h)
+    c.requires.none c.requires.not_over end (omega (arith, some)) h)

@@ -42,3 +42,7 @@ returns-then-not-branch-clause-done g c = λ no bytes entries h.
     rw (← first, ← limit)
     (c.in_ok-check_end.ensures.done bytes (g.I.Source.left c.read_piece.new.input) entries end
     (piece.read bytes entries (c.pieces.invariant.read bytes entries h)))
+
+pub returns-then-not-branch-clause-read : goal.returns-then-not-branch-clause-read
+returns-then-not-branch-clause-read g c = λ bytes entries h.
+    c.in_ok-read_piece.ensures.read bytes entries (c.pieces.invariant.read bytes entries h)

@@ -2,10 +2,10 @@ use Rattle.dp_entries.proofs.Reading.{reads_piece, piece_falls}
 use Rattle.dp_entries.proofs.reader.EntryReader.push.Goals as goal
 
 pub returns-in-Ok-clause-read : goal.returns-in-Ok-clause-read
-returns-in-Ok-clause-read g c = λ input untaken entries few h.
+returns-in-Ok-clause-read g c = λ input left rest entries few consumes h.
     let e = c.feed.ensures in
-    reads_piece g.S.Standing.may_stand input untaken entries c.args.self.now c.feed.new.self
-    c.args.bytes.now e.before c.requires.none c.requires.not_over few
+    reads_piece g.S.Standing.may_stand input left rest entries c.args.self.now c.feed.new.self
+    c.args.bytes.now c.requires.none c.requires.not_over few consumes
     c.in-Ok.ensures.held e.at e.count e.first e.limit c.in-Ok.ensures.over h
 
 pub returns-in-Ok-clause-further : goal.returns-in-Ok-clause-further

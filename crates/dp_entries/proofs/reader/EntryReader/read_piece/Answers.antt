@@ -1,23 +1,25 @@
 use Rattle.std.proofs.Common.{◌≡◌, ◌≤◌, ◌<◌, ℕ, [], length, take, ap, sym, ◌∙◌, arith}
+use Rattle.std.proofs.Common.{Bool, false, IsTrue}
 use Rattle.std.proofs.lemmas.Bool.{false≢true}
 use Rattle.std.proofs.lemmas.List.{length-take}
 use Rattle.dp_entries.specs.Reader.{Reader}
-use Rattle.dp_entries.proofs.Reading.{reads_nothing, reads_chunk, ends_fault, ends_long}
+use Rattle.dp_entries.proofs.Reading.{reads_nothing, ends_fault, ends_long}
 use Rattle.dp_entries.proofs.reader.EntryReader.read_piece.Goals as goal
+
+not_over : {b over : Bool} → b ≡ false → b ≡ over → ¬ IsTrue over
+not_over off is on = false≢true (sym off ∙ is ∙ on)
 
 pub returns-then-self-clause-ends : goal.returns-then-self-clause-ends
 returns-then-self-clause-ends g c = λ bytes entries h.
     ends_long g.S.Standing.may_stand g.S.Standing.is_cause bytes
     (g.I.Source.left c.args.input.now) entries c.args.self.now
-    c.requires.within c.requires.none (rw (← c.self.view_is) c.if-self.true) h
+    c.requires.none (rw (← c.self.view_is) c.if-self.true) h
 
 pub returns-in-Err-clause-ends : goal.returns-in-Err-clause-ends
 returns-in-Err-clause-ends g c = λ bytes entries h.
     ends_fault g.S.Standing.may_stand g.S.Standing.is_cause bytes
     (g.I.Source.left c.args.input.now) (g.I.Source.left c.read.new.self) entries c.args.self.now
-    c.requires.within c.requires.none
-    (λ over. false≢true
-    (sym c.if-self.false ∙ ap (λ (r : Reader). r.over) c.self.view_is ∙ over))
+    c.requires.none (not_over c.if-self.false (ap (λ (r : Reader). r.over) c.self.view_is))
     c.in-Err.ensures.bytes h
 
 pub returns-then-count-eq0-clause-read : goal.returns-then-count-eq0-clause-read
@@ -26,7 +28,9 @@ returns-then-count-eq0-clause-read g c = λ bytes entries h.
     ap (λ (n : ℕ). take n c.read.new.buf) c.if-count-eq0.true in
     reads_nothing g.S.Standing.may_stand bytes
     (g.I.Source.left c.args.input.now) (g.I.Source.left c.read.new.self) entries c.args.self.now
-    (take c.in-Ok.count c.read.new.buf) none c.in-Ok.ensures.bytes.0 h
+    (take c.in-Ok.count c.read.new.buf) none
+    (not_over c.if-self.false (ap (λ (r : Reader). r.over) c.self.view_is))
+    c.in-Ok.ensures.bytes.0 h
 
 pub returns-then-count-eq0-clause-at_end : goal.returns-then-count-eq0-clause-at_end
 returns-then-count-eq0-clause-at_end g c = λ no.
@@ -38,10 +42,8 @@ returns-in-Ok-push-clause-read g c = λ bytes entries h.
     let chunk = take c.in-Ok.count c.read.new.buf in
     let few : length chunk ≤ 4096 =
     omega (arith, length-take c.in-Ok.count c.read.new.buf, c.in-Ok.ensures.bound) in
-    reads_chunk g.S.Standing.may_stand bytes
-    (g.I.Source.left c.args.input.now) (g.I.Source.left c.read.new.self) entries c.args.self.now
-    c.push.new.self chunk (λ rest. c.in-Ok-push.ensures.read bytes rest entries few)
-    c.in-Ok.ensures.bytes.0 h
+    c.in-Ok-push.ensures.read bytes (g.I.Source.left c.args.input.now)
+    (g.I.Source.left c.read.new.self) entries few c.in-Ok.ensures.bytes.0 h
 
 pub returns-in-Ok-push-clause-further : goal.returns-in-Ok-push-clause-further
 returns-in-Ok-push-clause-further g c = λ yes.

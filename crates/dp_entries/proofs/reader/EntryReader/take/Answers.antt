@@ -50,5 +50,5 @@ returns-in-Err-clause-ends g c = λ bytes left entries h.
     (subst (λ (r : Reader). EndsReading M IsCause r.first r.limit bytes left entries
     (refused_at (inside.first + c.at.result) c.in-Err.why)) c.self.view_is
     (ends_stop M IsCause c.one_standing.ensures.none bytes left entries old after c.at.result
-    c.in-Err.why c.self.invariant.0 bad c.at.ensures.value
+    c.in-Err.why bad c.at.ensures.value
     (subst (λ (r : Reader). HasRead M bytes left entries r) (sym c.self.view_is) h)))
