@@ -4,10 +4,11 @@ bench/house.py --names    writes today's doubled names into bench/doubled_names.
 bench/house.py --lines    counts the lines of code, contracts, definitions and proofs
 
 It looks at text alone and proves nothing, in a few seconds. It finds
-- a definition's name that stands in two crates, and isn't in bench/doubled_names.txt;
-- a lemma that no other line cites;
+- a definition's name that stands in two crates which bench/doubled_names.txt doesn't list, and what
+  stands in that list but isn't so any more;
+- a lemma that no other line cites, or only a wrong body;
 - a sentence of README.md with over 25 words;
-- a file, crate or backquoted name in a document that isn't there;
+- a file, crate or backquoted name in a document that isn't there, or not in the crate that it names;
 - a line of over 100 columns;
 - a function of over 40 lines, or of over 7 parameters that isn't a test's.
 The status is 1 where it finds anything."""
@@ -16,6 +17,7 @@ import os
 import re
 import sys
 from collections import defaultdict
+from functools import cache
 
 ROOT = os.path.dirname(os.path.dirname(os.path.abspath(__file__)))
 LISTED = f"{ROOT}/bench/doubled_names.txt"
@@ -54,33 +56,48 @@ def doubled():
 
 
 def look_at_names():
-    listed = {it.split()[0] for it in text_of(LISTED).split("\n") if it and not it.startswith("#")}
-    for name, crates in sorted(doubled().items()):
-        if name not in listed:
-            yield f"{name} is defined in {', '.join(crates)}"
-    for name in sorted(listed - set(doubled())):
-        yield f"{short(LISTED)} names {name}, which stands in one crate at most"
+    listed = {it.split()[0]: it.split()[1:] for it in text_of(LISTED).split("\n") if it and not it.startswith("#")}
+    today = doubled()
+    for name, crates in sorted(today.items()):
+        added = [it for it in crates if it not in listed.get(name, [])]
+        if added:
+            yield f"{name} is defined in {', '.join(crates)}; {short(LISTED)} doesn't list {', '.join(added)}"
+    for name, crates in sorted(listed.items()):
+        for crate in [it for it in crates if it not in today.get(name, [])]:
+            yield f"{short(LISTED)}: {name} is no doubled name of {crate} any more"
+
+
+def blocks_of(text):
+    """Each lemma of a proof file with the words of its own lines. A record's fields and answers aren't lemmas."""
+    in_record = {it for block in re.findall(r"^(?:pub )?record .*?where\n((?:  .*\n|\n)*)", text, re.M) for _, it in LEMMA.findall(block)}
+    lines = text.split("\n")
+    for at, line in enumerate(lines):
+        found = LEMMA.match(line)
+        if not found or found[2] in in_record:
+            continue
+        indent, name = found.groups()
+        own = re.compile(rf"{indent}(?:abbrev )?(?:pub )?{re.escape(name)}(?=[\s:])")
+        end = at + 1
+        while end < len(lines) and (not lines[end].strip() or lines[end].startswith(f"{indent} ") or own.match(lines[end])):
+            end += 1
+        yield name, re.findall(WORD, "\n".join(lines[at:end]))
 
 
 def look_at_lemmas():
-    """Lemmas by name, and how often the name stands anywhere. A record's fields and answers aren't lemmas."""
+    """A lemma is cited where its name stands in other lines than its own, in which it may call itself."""
     cited, homes = defaultdict(int), {}
     for path in files("crates/**/*.antt") + files("crates/**/*.rt"):
         for word in re.findall(WORD, text_of(path)):
             cited[word] += 1
+    wrong = set(re.findall(WORD, "\n".join(text_of(it) for it in files("crates/*/wrong-bodies/*.edit") + files("crates/*/must-fail/*.edit"))))
     for path in files("crates/*/proofs/**/*.antt"):
         if os.path.basename(path) in ("Answers.antt", "Invariants.antt", "Lib.antt", "Proof.antt"):
             continue
-        text = text_of(path)
-        in_record = {it for block in re.findall(r"^(?:pub )?record .*?where\n((?:  .*\n|\n)*)", text, re.M) for _, it in LEMMA.findall(block)}
-        for indent, name in LEMMA.findall(text):
-            if name not in in_record:
-                # its signature and each of its equations begin with the name
-                own = len(re.findall(rf"^{indent}(?:abbrev )?(?:pub )?{re.escape(name)}(?=[\s:])", text, re.M))
-                homes.setdefault(name, [path, 0])[1] += own
+        for name, words in blocks_of(text_of(path)):
+            homes.setdefault(name, [path, 0])[1] += words.count(name)
     for name, (path, own) in sorted(homes.items()):
         if cited[name] <= own:
-            yield f"{short(path)}: nothing cites {name}"
+            yield f"{short(path)}: {'only wrong bodies cite' if name in wrong else 'nothing cites'} {name}"
 
 
 def look_at_sentences():
@@ -92,6 +109,13 @@ def look_at_sentences():
                 yield f"README.md: {len(words)} words: {' '.join(words[:8])} .."
 
 
+@cache
+def known_in(crate):
+    """The words that stand in a crate's sources, definitions and proofs."""
+    every = [it for kind in ("rt", "antt") for it in files(f"crates/{crate}/**/*.{kind}")]
+    return set(re.findall(r"[A-Za-z_][\w-]*", "\n".join(text_of(it) for it in every)))
+
+
 def look_at_documents():
     every = "\n".join(text_of(it) for it in files("crates/**/*.rt") + files("crates/**/*.antt") + [f"{ROOT}/docs/protocol.md", f"{ROOT}/crates.txt"])
     known = set(re.findall(r"[A-Za-z_][\w-]*", every))
@@ -100,12 +124,40 @@ def look_at_documents():
         for crate in sorted(set(re.findall(r"\bdp_\w+", text))):
             if not os.path.isdir(f"{ROOT}/crates/{crate}") and not re.search(rf"\b{crate}\b", every):
                 yield f"{name}: there is no crate {crate}"
+        for quoted, crate in sorted(set(re.findall(r"`([A-Za-z_][\w:]*)(?:\([^`]*\))?` (?:of |\()(dp_\w+)\b", text))):
+            if quoted.split("::")[-1] not in known_in(crate):
+                yield f"{name}: {crate} has no {quoted}"
         for path in sorted(set(re.findall(r"(?:bin|bench|docs|examples|crates)/[\w./-]*\w", text))):
             if not os.path.exists(f"{ROOT}/{path}") and not re.search(r"NAME|WHAT", path):
                 yield f"{name}: there is no {path}"
         for quoted in sorted(set(re.findall(r"`([A-Za-z_]\w+)(?:\(.*?\))?`", text))):
             if quoted not in known and "_" in quoted:
                 yield f"{name}: nothing is named {quoted}"
+
+
+def look_at_tables():
+    """The tables of promises (crate, calls, promise) and of definitions (definitions, files)."""
+    crates = []
+    for line in text_of(f"{ROOT}/docs/promises.md").split("\n"):
+        row = re.match(r"\| ((?:dp_\w+(?:, )?)*) ?\| (.*?) \| ", line)
+        if row:
+            crates = row[1].split(", ") if row[1] else crates
+            for call in re.findall(r"`([A-Za-z_][\w:]*)`", row[2]):
+                for part in call.split("::"):
+                    if not any(part in known_in(it) for it in crates):
+                        yield f"docs/promises.md: {', '.join(crates)} has no {call}"
+    for line in text_of(f"{ROOT}/docs/architecture.md").split("\n"):
+        row, crate, known = re.match(r"\| (.*) \| (`dp_\w+/specs/.*) \|$", line), "", set()
+        for path in re.findall(r"`([^`]*)`", row[2]) if row else []:
+            crate = path.split("/")[0] if "/" in path else crate
+            at = f"{ROOT}/crates/{path}" if "/" in path else f"{ROOT}/crates/{crate}/specs/{path}"
+            if os.path.isfile(at):
+                known |= set(re.findall(r"[A-Za-z_]\w*", text_of(at)))
+            else:
+                yield f"docs/architecture.md: there is no {short(at)}"
+        for name in re.findall(r"`([A-Za-z_]\w*)`", row[1]) if row else []:
+            if name not in known:
+                yield f"docs/architecture.md: {name} isn't in {row[2]}"
 
 
 def look_at_lines():
@@ -172,7 +224,7 @@ def count_lines():
     """How many lines there are of each kind, without blank ones, comments and imports."""
     counts = defaultdict(int)
     for path in files("crates/*/src/**/*.rt"):
-        is_test = crate_of(path).endswith("_tests") or crate_of(path) in ("dp_rows", "dp_app_runs")
+        is_test = crate_of(path).endswith("_tests") or crate_of(path) in ("dp_rows", "dp_row_texts", "dp_app_runs")
         for kind in kinds_of(text_of(path)):
             counts["tests" if is_test else kind] += 1
     for part in ("specs", "proofs"):
@@ -195,7 +247,7 @@ def main(words):
     if words:
         sys.exit(__doc__)
     found = 0
-    for look in (look_at_names, look_at_lemmas, look_at_sentences, look_at_documents, look_at_lines, look_at_functions):
+    for look in (look_at_names, look_at_lemmas, look_at_sentences, look_at_documents, look_at_tables, look_at_lines, look_at_functions):
         for said in look():
             print(said)
             found += 1

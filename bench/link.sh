@@ -7,7 +7,7 @@ work=$(mktemp -d)
 trap 'rm -rf "$work"' EXIT
 git -C "$top" archive HEAD | tar -x -C "$work"
 mkdir -p "$work/crates/feeds/src"
-printf 'feeds: dp_epochs dp_epochs dp_frame dp_hall dp_io dp_keeper dp_link dp_session dp_wire\n' >>"$work/crates.txt"
+printf 'feeds: dp_epochs dp_hall dp_io dp_keeper dp_link dp_session dp_session_laws dp_split dp_wire\n' >>"$work/crates.txt"
 cd "$work/crates/feeds"
 cat >src/main.rt <<'RT'
 //! Times the feed of a link.
@@ -17,15 +17,15 @@ ghost use Rattle.std.specs.Prelude.{List};
 ghost use Rattle.dp_hall.specs.Calls.{IsOf};
 ghost use Rattle.dp_hall.specs.Laws.{Continues};
 ghost use Rattle.dp_epochs.specs.Laws.{ShutBefore};
-ghost use Rattle.dp_link.specs.Acts.{Act};
+ghost use Rattle.dp_session_laws.specs.Logs.{LogEntry};
 
 use dp_epochs::{Event, Reply};
-use dp_frame::Splitter;
 use dp_hall::{Hall, HallError, Seat, calls_add_up, seats_come_back};
 use dp_io::{MemSink, MemSource};
 use dp_keeper::{Rows, SureKeeper};
 use dp_link::{DownEnd, greet, greetings_are_seen, pump_down, pump_up};
 use dp_session::Session;
+use dp_split::Splitter;
 use dp_wire::OpenGate;
 use std::alloc::{AllocError, Global};
 use std::io;
@@ -57,7 +57,7 @@ fn serve_link<W: Wait + Clock>(
     requires of { IsOf hall.now seat.old }
     requires start { ShutBefore hall.now.start }
     ensures of { IsOf hall.now seat.new }
-    ensures calls { (acts : List Act) × Continues seat.old.view acts seat.new.view }
+    ensures calls { (acts : List LogEntry) × Continues seat.old.view acts seat.new.view }
 {
     calls_add_up::<Event, Result<Reply, AllocError>, Session<SureKeeper>>();
     let mut split = Splitter::new(alloc);

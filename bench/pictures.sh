@@ -1,7 +1,7 @@
 #!/usr/bin/env bash
 # Times `replay` where the picture takes most of it: 200 layers on 512 by 512, all of them half opaque
 # and every fourth in groups nested three deep, and one opaque layer on 4096 by 4096. Half of the
-# first is the memory of 200 plain layers. Figures of an earlier day: docs/architecture.md.
+# first is the memory of 200 plain layers. Figures of an earlier day: bench/RESULTS.md.
 . "$(dirname "$0")/common.sh"
 make_frames <<'PY'
 with open(sys.argv[1] + '/layers', 'wb') as out:

@@ -32,6 +32,7 @@ pub record ServedOn {W R T : Type 0} (see : Wires W R T) (conns : Option ℕ) (e
   pub is_new : IsNew start
   pub known : Option (List Row)
   pub count : ℕ
+  pub read_faults : ℕ
   pub memory : Bool
   pub store : Bool
   pub wire : Bool
@@ -40,6 +41,7 @@ pub record ServedOn {W R T : Type 0} (see : Wires W R T) (conns : Option ℕ) (e
     shut = e.kept.shut;
     known = known;
     count = count;
+    read_faults = read_faults;
     reports = e.kept.reports;
     memory = memory;
     store = store;

@@ -5,6 +5,8 @@
 #[cfg(test)]
 mod frames;
 #[cfg(test)]
+mod jobs;
+#[cfg(test)]
 mod links;
 #[cfg(test)]
 mod lists;

@@ -61,6 +61,6 @@ fn listed_calls_fail(rt: HostRuntime) {
         assert_eq!(rt; keeper.put(&row(&rt, alloc, n)), answer);
     }
     assert_eq!(rt; keeper.rows(0, 1).err(), Some(KeepError::Failed));
-    assert_eq!(rt; keeper.count(), 3);
+    assert_eq!(rt; keeper.count(), 2);
     check(&rt, keeper.held(), &[0, 2, 3]);
 }

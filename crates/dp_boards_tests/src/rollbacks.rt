@@ -174,8 +174,8 @@ fn script_of(rt: &impl Abort, alloc: Global, groups: usize, commands: Option<usi
     script
 }
 
-/// Takes a script again and again, more than a hundred thousand acts. None is held beyond as many as
-/// were held among the first ten thousand.
+/// Takes a script again and again, more than a hundred thousand acts. None is held beyond as many
+/// as were held among the first ten thousand.
 fn check_memory<D: Ledger, T: Ledger>(
     rt: &impl Abort,
     alloc: Global,
@@ -212,8 +212,8 @@ fn check_memory<D: Ledger, T: Ledger>(
     assert!(rt; most < 500, "{most} acts");
 }
 
-/// One point, and some thousand commands after it: two savepoints at most are held, and the point is
-/// undone and brought back.
+/// One point, and some thousand commands after it: two savepoints at most are held, and the point
+/// is undone and brought back.
 fn check_saves<D: Ledger, T: Ledger>(
     rt: &impl Abort,
     alloc: Global,
@@ -267,8 +267,8 @@ fn check_trailing<D: Ledger, T: Ledger>(
     assert!(rt; numbers == wanted, "at {depth}");
 }
 
-/// Checks scripts, savepoints, two hundred groups of a command, and boards that trail, with counters
-/// over these blanks.
+/// Checks scripts, savepoints, two hundred groups of a command, and boards that trail, with
+/// counters over these blanks.
 fn check_all<D: Ledger, T: Ledger>(
     rt: &impl Abort,
     alloc: Global,

@@ -11,8 +11,8 @@ use std::process::Abort;
 /// What the letter S sets the depth to, by its digit.
 static DEPTHS: [u8; 4] = [1, 2, 30, 255];
 
-/// The act of a word: its user, what it does (Point, Draw, Undo, Redo, Set the depth, Other) and the
-/// user of an Undo or a Redo. A Draw that is expected to be drawn ends in `+`.
+/// The act of a word: its user, what it does (Point, Draw, Undo, Redo, Set the depth, Other) and
+/// the user of an Undo or a Redo. A Draw that is expected to be drawn ends in `+`.
 fn act_of(rt: &impl Abort, word: &str) -> UserAct<u8> {
     let [user, kind, last] = word.as_bytes() else {
         panic!(rt; "{word} has not three letters");

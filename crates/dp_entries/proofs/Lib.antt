@@ -1,3 +1,4 @@
+pub mod EachInput
 pub mod Frames
 pub mod OneReading
 pub mod Reading

@@ -23,3 +23,9 @@ pub fn one_reading<S: Standing>()
     one_splitting();
     S::one_standing();
 }
+
+/// It can't be that an input comes to no end.
+pub fn each_input_ends<S: Standing>()
+    ensures { (first limit : ℕ) (input : List ℕ) → ¬ ((entries : List Entry) (end : RunEnd)
+        → ¬ ComesTo S.may_stand first limit input entries end) }
+{}

@@ -14,7 +14,7 @@ mod taking;
 pub use anywhere::Anywhere;
 pub use ends::{ReadEnd, Refusal};
 pub use first_profile::FirstProfile;
-pub use laws::one_reading;
+pub use laws::{each_input_ends, one_reading};
 pub use reader::EntryReader;
 pub use standing::Standing;
 pub use taking::{Stop, take_entry};

@@ -88,6 +88,7 @@ impl<S: Standing> EntryReader<S> {
     /// `ReadFault` where the input failed, `Truncated` where it ends inside a frame, `BadMessage`
     /// at the first frame that may not stand, `Long` where more bytes than count were taken, and
     /// `Memory` where memory ran out.
+    #[inline(always)]
     pub fn next<I: Source>(
         &mut self,
         alloc: Global,
@@ -186,6 +187,7 @@ impl<S: Standing> EntryReader<S> {
     /// `ReadFault` where the input failed, `Truncated` where it ends inside a frame, `Long` where
     /// more bytes than count were taken, and `Memory` where memory ran out. It reads even where
     /// `next` has ended.
+    #[inline(always)]
     pub fn fill<I: Source>(&mut self, input: &mut I) -> Result<bool, ReadEnd<S::Cause>>
         ensures read { OnOk result ((bytes : List ℕ) (entries : List Item)
             → HasRead S.may_stand bytes (I.left input.old) entries self.old
@@ -275,6 +277,7 @@ impl<S: Standing> EntryReader<S> {
     }
 
     /// Reads a piece, and takes it. Whether there was any byte.
+    #[inline(never)]
     fn read_piece<I: Source>(&mut self, input: &mut I) -> Result<bool, ReadEnd<S::Cause>>
         requires none { HoldsNoFrame self.old.stream.held }
         requires within { self.old.first + self.old.stream.at + length self.old.stream.held

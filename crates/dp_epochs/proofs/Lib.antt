@@ -5,3 +5,4 @@ pub mod EffectLemmas
 pub mod JoinLemmas
 pub mod LawLemmas
 pub mod PermittedLemmas
+pub mod RowLemmas

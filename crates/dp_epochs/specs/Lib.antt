@@ -1,7 +1,9 @@
 pub mod Connections
 pub mod Rows
+pub mod Spelled
 pub mod State
 pub mod Effects
 pub mod Past
+pub mod Resumed
 pub mod Pull
 pub mod Laws

@@ -25,12 +25,14 @@ pub record Past : Type 0 where
   pub shut : List ShutAt
   -- the connections whose Close was refused because memory ran out, by rising number
   pub quiet : List ℕ
-  -- how often the keeper had failed when a put of this session failed first
+  -- how many puts of the keeper had failed when one of this session failed first
   pub first_fault : Option ℕ
   -- the keeper's rows, where they are known
   pub known : Option (List Row)
-  -- how often the keeper has failed
+  -- how many of its puts have failed
   pub count : ℕ
+  -- how many of its readings have failed
+  pub read_faults : ℕ
 
 -- ---- where it leads
 

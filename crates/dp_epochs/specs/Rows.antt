@@ -7,11 +7,11 @@ use Rattle.dp_messages.specs.Messages.{kind_of, payload_of}
 use Rattle.dp_epochs.specs.declared.event.Event.{Event}
 use Rattle.dp_epochs.specs.declared.event.Event.TheVariants.{Open, Say, Close}
 
--- The bytes of the row that is written for an event: 0, the flag and the name of an Open; 1, the
+-- The bytes of the row that is written for an event: 0, the flag and the name of an Open; 3, the
 -- connection, the kind and the payload of a Say; 2 and the connection of a Close.
 abbrev pub row_of : Event → List ℕ
 row_of (Open name registered) = one_byte 0 ++ flag_byte registered ++ name
-row_of (Say conn m) = one_byte 1 ++ four_bytes conn ++ one_byte (kind_of m) ++ payload_of m
+row_of (Say conn m) = one_byte 3 ++ four_bytes conn ++ one_byte (kind_of m) ++ payload_of m
 row_of (Close conn) = one_byte 2 ++ four_bytes conn
 
 -- how many bytes the rows of a journal have

@@ -21,6 +21,12 @@ ghost use Rattle.dp_epochs.specs.Effects.{DecisionsHaveEffects, ConnectionsStay}
 ghost use Rattle.dp_epochs.specs.Laws.{Continues, LoggedStep, IsRun, AreFaults, ShutBefore};
 ghost use Rattle.dp_epochs.specs.Laws.{shut_by};
 ghost use Rattle.dp_epochs.specs.Laws.{HasNoMark, IsHistory, AreHistories, ArePermitted};
+ghost use Rattle.dp_epochs.specs.Rows.{row_of};
+ghost use Rattle.dp_epochs.specs.Spelled.{HasRow, RowSpells};
+ghost use Rattle.dp_epochs.specs.Resumed.{StandAfter};
+ghost use Rattle.dp_keeper.specs.declared.row.Row.{Row};
+
+use dp_messages::one_message;
 
 /// A session has one answer for each event of its journal, whatever was closed between.
 pub fn one_answer_each()
@@ -129,4 +135,23 @@ pub fn joins_stay()
         → is_name name ≡ true → free_id s ≡ Some user
         → last_join (after_event s (Open name registered)).live user
         ≡ Some (entry_of user (Meta (Join registered name))) }
+{}
+
+/// Bytes are the row of at most one event, and that event has a row. The row that is written for an
+/// event spells it, and any other row that spells it is as long.
+pub fn rows_spell_events()
+    ensures one { (bytes : List ℕ) (e f : Kept) → RowSpells bytes e → RowSpells bytes f → e ≡ f }
+    ensures read { (bytes : List ℕ) (e : Kept) → RowSpells bytes e → HasRow e }
+    ensures written { (e : Kept) → HasRow e → RowSpells (row_of e) e }
+    ensures long { (bytes : List ℕ) (e : Kept) → RowSpells bytes e
+        → length bytes ≡ length (row_of e) }
+{
+    one_message();
+}
+
+/// Rows of some events, and rows of more events that may stand after them, are the rows of both.
+pub fn rows_go_on()
+    ensures { (before : List Kept) (rows more : List Row) (first next : List Kept)
+        → StandAfter before rows first → StandAfter (before ++ first) more next
+        → StandAfter before (rows ++ more) (first ++ next) }
 {}

@@ -9,6 +9,7 @@ mod decision;
 mod effect;
 mod event;
 mod laws;
+mod reading;
 mod row;
 
 pub use connection::{Connection, Ending, Place};
@@ -19,6 +20,7 @@ pub use laws::{
     connections_stay, decisions_have_effects, effects_are_made, epochs_are_few, epochs_rise,
     events_have_effects, faults_for_good, histories_are_marked, histories_are_permitted,
     histories_are_short, histories_grow, joins_stay, one_answer_each, openings, present_users_rise,
-    steps_lead_on,
+    rows_go_on, rows_spell_events, steps_lead_on,
 };
+pub use reading::read_row;
 pub use row::make_row;

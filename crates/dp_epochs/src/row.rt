@@ -4,6 +4,7 @@ ghost use Rattle.std.specs.Prelude.{◌≡◌, IfOk};
 ghost use Rattle.dp_epochs.specs.Rows.{row_of};
 
 use crate::event::Event;
+use crate::reading::{CLOSE, OPEN, SAY};
 use dp_messages::put_payload;
 use std::alloc::{AllocError, Global};
 
@@ -14,17 +15,17 @@ pub fn make_row(alloc: Global, event: &Event) -> Result<Vec<u8>, AllocError>
     let mut bytes = Vec::new(alloc);
     match event {
         Event::Open { name, registered } => {
-            bytes.extend_from_slice(&[0, u8::from(*registered)])?;
+            bytes.extend_from_slice(&[OPEN, u8::from(*registered)])?;
             bytes.extend_from_slice(name.as_slice())?;
         }
         Event::Say { conn, msg } => {
-            bytes.push(1)?;
+            bytes.push(SAY)?;
             bytes.extend_from_slice(&conn.to_be_bytes())?;
             bytes.push(msg.kind())?;
             put_payload(msg, &mut bytes)?;
         }
         Event::Close { conn } => {
-            bytes.push(2)?;
+            bytes.push(CLOSE)?;
             bytes.extend_from_slice(&conn.to_be_bytes())?;
         }
     }

@@ -1,3 +1,4 @@
 pub mod ReadEnds
 pub mod WriteRuns
+pub mod Pieces
 pub mod Prefixes

@@ -3,3 +3,4 @@ pub mod Streams
 pub mod Memory
 pub mod Adapters
 pub mod Limits
+pub mod Pieces

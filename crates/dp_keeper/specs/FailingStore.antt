@@ -8,14 +8,15 @@ use Rattle.dp_keeper.specs.declared.keeper.KeepError.{KeepError}
 use Rattle.dp_keeper.specs.declared.keeper.KeepError.TheVariants.{Failed, Memory}
 
 -- The rows; which calls fail, by their numbers from 1, and beside those of put whether the row is
--- kept; how many calls of each were made; and how many of them failed.
+-- kept; how many calls of each were made; and how many of each failed.
 pub record Failing : Type 0 where
   pub rows : List Row
   pub fails : List (ℕ × Bool)
   pub read_fails : List ℕ
   pub puts : ℕ
   pub reads : ℕ
-  pub faults : ℕ
+  pub put_faults : ℕ
+  pub read_faults : ℕ
 
 -- what is listed of the next put: nothing where it is not to fail, and else whether its row is kept
 abbrev pub listed_fault : Failing → Option Bool
@@ -41,7 +42,8 @@ PutsAsListed old row (Ok done) new =
     × (new ≡ record (put_counted old) { rows = old.rows ++ row ∷ [] })
 PutsAsListed old row (Err Failed) new =
     (kept : Bool) × (listed_fault old ≡ Some kept)
-    × (new ≡ record (with_row_if kept row (put_counted old)) { faults = one_more old.faults })
+    × (new ≡ record (with_row_if kept row (put_counted old))
+    { put_faults = one_more old.put_faults })
 PutsAsListed old row (Err Memory) new = new ≡ put_counted old
 
 -- one more reading was made
@@ -55,5 +57,5 @@ ReadsAsListed old from max (Ok page) new =
     × (page ≡ take max (drop from old.rows)) × (new ≡ read_counted old)
 ReadsAsListed old from max (Err Failed) new =
     Contains old.read_fails (one_more old.reads)
-    × (new ≡ record (read_counted old) { faults = one_more old.faults })
+    × (new ≡ record (read_counted old) { read_faults = one_more old.read_faults })
 ReadsAsListed old from max (Err Memory) new = new ≡ read_counted old

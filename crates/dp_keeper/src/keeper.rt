@@ -25,14 +25,17 @@ impl From<AllocError> for KeepError {
     }
 }
 
-/// A store of rows. It counts its faults; what it holds is known where a file's content can be
-/// known.
+/// A store of rows. It counts its faults, those of puts apart from those of readings. What it holds
+/// is known where a file's content can be known.
 pub trait Keeper {
     /// The rows, where they are known.
     ghost held: { Self → Option (List Kept) };
 
-    /// How often the store has failed; the count stops at the greatest `u64`.
-    ghost faults: { Self → ℕ };
+    /// How often a put has failed; the count stops at the greatest `u64`.
+    ghost put_faults: { Self → ℕ };
+
+    /// How often a reading has failed; the count stops at the greatest `u64`.
+    ghost read_faults: { Self → ℕ };
 
     /// Adds a row after the others.
     ///
@@ -42,7 +45,8 @@ pub trait Keeper {
     /// it was not.
     fn put(&mut self, row: &Row) -> Result<(), KeepError>
         ensures rows { Puts (held self.old) row.now result (held self.new) }
-        ensures count { Counts (faults self.old) result (faults self.new) };
+        ensures count { Counts (put_faults self.old) result (put_faults self.new) }
+        ensures others { read_faults self.new ≡ read_faults self.old };
 
     /// The rows from a place on, at most that many.
     ///
@@ -52,9 +56,10 @@ pub trait Keeper {
     fn rows(&mut self, from: u64, max: u32) -> Result<Rows, KeepError>
         ensures page { IsPage (held self.old) from max result }
         ensures stay { held self.new ≡ held self.old }
-        ensures count { Counts (faults self.old) result (faults self.new) };
+        ensures count { Counts (read_faults self.old) result (read_faults self.new) }
+        ensures others { put_faults self.new ≡ put_faults self.old };
 
-    /// How often the store has failed. It takes no memory.
+    /// How often a put has failed. It takes no memory.
     fn count(&self) -> u64
-        ensures { result ≡ faults self.now };
+        ensures { result ≡ put_faults self.now };
 }

@@ -18,7 +18,8 @@ pub struct MemKeeper {
     read_fails: Vec<u64>,
     puts: u64,
     reads: u64,
-    faults: u64,
+    put_faults: u64,
+    read_faults: u64,
 }
 
 impl Model for MemKeeper {
@@ -32,7 +33,8 @@ impl Model for MemKeeper {
       read_fails = k.read_fails.items;
       puts = k.puts;
       reads = k.reads;
-      faults = k.faults;
+      put_faults = k.put_faults;
+      read_faults = k.read_faults;
     } };
 }
 
@@ -46,7 +48,8 @@ impl MemKeeper {
           read_fails = read_fails.items;
           puts = 0;
           reads = 0;
-          faults = 0;
+          put_faults = 0;
+          read_faults = 0;
         } }
     {
         MemKeeper {
@@ -55,7 +58,8 @@ impl MemKeeper {
             read_fails,
             puts: 0,
             reads: 0,
-            faults: 0,
+            put_faults: 0,
+            read_faults: 0,
         }
     }
 
@@ -87,12 +91,12 @@ impl MemKeeper {
         Ok(())
     }
 
-    /// Counts a fault.
+    /// Counts a put that failed.
     fn fail(&mut self) -> KeepError
         ensures error { result ≡ KeepError.Failed }
-        ensures counted { self.new ≡ record self.old { faults = one_more self.old.faults } }
+        ensures counted { self.new ≡ record self.old { put_faults = one_more self.old.put_faults } }
     {
-        self.faults = self.faults.saturating_add(1);
+        self.put_faults = self.put_faults.saturating_add(1);
         KeepError::Failed
     }
 }
@@ -100,11 +104,14 @@ impl MemKeeper {
 impl Keeper for MemKeeper {
     ghost held = { λ k. Some k.rows };
 
-    ghost faults = { λ k. k.faults };
+    ghost put_faults = { λ k. k.put_faults };
+
+    ghost read_faults = { λ k. k.read_faults };
 
     fn put(&mut self, row: &Row) -> Result<(), KeepError>
         ensures rows { Puts (Some self.old.rows) row.now result (Some self.new.rows) }
-        ensures count { Counts self.old.faults result self.new.faults }
+        ensures count { Counts self.old.put_faults result self.new.put_faults }
+        ensures others { self.new.read_faults ≡ self.old.read_faults }
 
         // It fails at the listed calls alone, and keeps the row where the flag beside says so.
         ensures listed { PutsAsListed self.old row.now result self.new }
@@ -123,19 +130,21 @@ impl Keeper for MemKeeper {
     fn rows(&mut self, from: u64, max: u32) -> Result<Rows, KeepError>
         ensures page { IsPage (Some self.old.rows) from max result }
         ensures stay { Some self.new.rows ≡ Some self.old.rows }
-        ensures count { Counts self.old.faults result self.new.faults }
+        ensures count { Counts self.old.read_faults result self.new.read_faults }
+        ensures others { self.new.put_faults ≡ self.old.put_faults }
 
         // It fails at the listed calls alone.
         ensures listed { ReadsAsListed self.old from max result self.new }
     {
         self.reads = self.reads.saturating_add(1);
         if self.read_fails.contains(&self.reads) {
-            return Err(self.fail());
+            self.read_faults = self.read_faults.saturating_add(1);
+            return Err(KeepError::Failed);
         }
         Ok(page(&self.rows, from, max)?)
     }
 
     fn count(&self) -> u64 {
-        self.faults
+        self.put_faults
     }
 }

@@ -6,7 +6,7 @@ use crate::keeper::{KeepError, Keeper};
 use crate::row::{Row, Rows, page};
 use std::marker::Model;
 
-/// Rows in memory. It never fails: its count of faults is 0.
+/// Rows in memory. It never fails: its counts of faults are 0.
 #[derive(Debug, Drop)]
 pub struct SureKeeper {
     rows: Rows,
@@ -33,7 +33,9 @@ impl SureKeeper {
 impl Keeper for SureKeeper {
     ghost held = { λ rows. Some rows };
 
-    ghost faults = { λ rows. 0 };
+    ghost put_faults = { λ rows. 0 };
+
+    ghost read_faults = { λ rows. 0 };
 
     fn put(&mut self, row: &Row) -> Result<(), KeepError> {
         self.rows.push(row.clone()?)?;

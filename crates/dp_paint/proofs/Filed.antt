@@ -1,18 +1,17 @@
 -- Commands that are filed on tiles.
-use Rattle.std.proofs.Common.{◌≡◌, ℕ, ◌+◌, ◌-◌, ◌*◌, ◌/◌, ◌%◌, ◌<◌, ◌≤◌, List, [], ◌∷◌, ◌++◌, length}
-use Rattle.std.proofs.Common.{refl, sym, ◌∙◌, ap, subst, arith, ◌⊎◌, ⊎_elim, ◌&&◌, cond, get_or}
-use Rattle.std.proofs.Common.{Bool, true, false, map, take, Some, None}
-use Rattle.std.specs.Prelude.{ℤ, pos, ◌+ℤ◌, ◌-ℤ◌}
-use Rattle.std.specs.Int.{int_max, int_min}
-use Rattle.std.proofs.lemmas.Bool.{and_parts, cases_Bool, false≢true, false_from_ne_true}
+use Rattle.std.proofs.Common.{◌≡◌, ℕ, ◌+◌, ◌*◌, ◌<◌, ◌≤◌, List, [], ◌∷◌, ◌++◌, length}
+use Rattle.std.proofs.Common.{refl, sym, ◌∙◌, ap, arith, ⊎_elim, ◌&&◌, cond, get_or}
+use Rattle.std.proofs.Common.{Bool, true, false, map, take}
+use Rattle.std.specs.Prelude.{ℤ, pos, ◌-ℤ◌}
+use Rattle.std.specs.Int.{int_min}
+use Rattle.std.proofs.lemmas.Bool.{cases_Bool, false≢true}
 use Rattle.std.proofs.lemmas.Int.{ints, int_max_is, int_min_is}
 use Rattle.std.proofs.lemmas.List.Sums.{fold-append}
 use Rattle.std.proofs.lemmas.List.{get_or-map, length-map, take_more}
-use Rattle.dp_blend.specs.Color.{Channels, fade, from8, of_argb, premultiplied}
-use Rattle.dp_blend.specs.Blending.{blend, mode_numbered}
+use Rattle.dp_blend.specs.Color.{Channels, fade, from8}
+use Rattle.dp_blend.specs.Blending.{blend}
 use Rattle.dp_blend.specs.declared.modes.Mode.{Mode}
 use Rattle.dp_msg_draw.specs.declared.draw.Draw.{Draw}
-use Rattle.dp_msg_draw.specs.declared.draw.Draw.TheVariants as draws
 use Rattle.dp_pixels.specs.declared.dabs.NearDab.{NearDab}
 use Rattle.dp_pixels.specs.declared.dabs.PlacedDab.{PlacedDab}
 use Rattle.dp_pixels.specs.declared.dabs.Shape.{Shape}
@@ -27,7 +26,7 @@ use Rattle.dp_tile.specs.declared.area.CellArea.{CellArea}
 use Rattle.dp_tile.specs.Areas.{is_in_cells}
 use Rattle.dp_paint.specs.declared.op.TileFill.{TileFill}
 use Rattle.dp_paint.specs.declared.op.TileOp.{TileOp}
-use Rattle.dp_paint.specs.Ops.{Draws, is_in_fill, op_at, ops_at, tile_place}
+use Rattle.dp_paint.specs.Ops.{is_in_fill, op_at, ops_at, tile_place}
 use Rattle.dp_paint.specs.Lists.{AddsMore, AllCount, HaveSame, HaveSameLists, IsChangedOn}
 use Rattle.dp_paint.specs.Lists.{IsFiled, IsFinished, IsInside, Lists, Waiting, list_at, listed_at}
 use Rattle.dp_paint.specs.declared.lists.Finish.TheVariants.{Drop, Keep}
@@ -72,19 +71,6 @@ fill_met f x y w h col row i j across back_across down back_down =
     fill_by f i j (record { left = of_x.0; right = of_x.1; top = of_y.0; bottom = of_y.1 }))
 
 -- ---- dabs
-
--- the number of an opaque colour
-pub opaque_color : (n r g b : ℕ) → n ≡ 4278190080 + r * 65536 + g * 256 + b → r < 256 → g < 256
-    → b < 256 → of_argb n ≡ premultiplied r g b 255
-opaque_color n r g b is few_r few_g few_b =
-    let red : n / 65536 % 256 ≡ r = omega (arith, is, few_r, few_g, few_b) in
-    let green : n / 256 % 256 ≡ g = omega (arith, is, few_g, few_b) in
-    let blue : n % 256 ≡ b = omega (arith, is, few_b) in
-    let alpha : n / 16777216 ≡ 255 = omega (arith, is, few_r, few_g, few_b) in
-    ap (λ (c : ℕ). premultiplied c (n / 256 % 256) (n % 256) (n / 16777216)) red
-    ∙ ap (λ (c : ℕ). premultiplied r c (n % 256) (n / 16777216)) green
-    ∙ ap (λ (c : ℕ). premultiplied r g c (n / 16777216)) blue
-    ∙ ap (premultiplied r g b) alpha
 
 -- a dab, counted from the corner of a tile
 abbrev pub on_tile : PlacedDab → ℕ → ℕ → PlacedDab
@@ -322,20 +308,6 @@ dropped_same area old new is col row few =
     ap (λ (w : Waiting). w.ops) (is.outside col row few
     (λ i. false≢true (sym t ∙ inside_by area col row i))))
     (cases_Bool (is_in_cells area col row))
-
--- the pixel after a fill of a mode
-pub fill_after : (op : Draw) (layer mode a b w h color : ℕ) (m : Mode)
-    → op ≡ draws.FillRect layer mode a b w h color → mode_numbered mode ≡ Some m
-    → (x y : ℤ) (p : Channels)
-    → cond (is_in (rect_at (pos a) (pos b) w h) x y) (blend m (of_argb color) p) p
-    ≡ pixel_after op x y p
-fill_after op layer mode a b w h color m is by x y p = rw (is, by) refl
-
--- the pixel after a fill of no mode
-pub fill_none : (op : Draw) (layer mode a b w h color : ℕ)
-    → op ≡ draws.FillRect layer mode a b w h color → mode_numbered mode ≡ None
-    → (x y : ℤ) (p : Channels) → pixel_after op x y p ≡ p
-fill_none op layer mode a b w h color is none x y p = rw (is, none) refl
 
 -- the pixel after one dab more
 pub dabs_next : (shape : Shape) (mode : Mode) (color : Channels) (items : List NearDab) (k : ℕ)

@@ -1,8 +1,9 @@
 -- The pixels of a layer on which operations wait.
-use Rattle.std.proofs.Common.{◌≡◌, ℕ, ◌+◌, ◌*◌, ◌/◌, ◌%◌, ◌<◌, ◌≤◌, List, [], ◌++◌, length}
+use Rattle.std.proofs.Common.{◌≡◌, ℕ, ◌+◌, ◌*◌, ◌/◌, ◌%◌, ◌<◌, ◌≤◌, List, [], length}
 use Rattle.std.proofs.Common.{take, ap, sym, ◌∙◌, refl, true, false, arith, slice_index_or, subst}
 use Rattle.std.proofs.Common.{Ok, Err, ⊎_elim, cond, leb}
-use Rattle.std.specs.Prelude.{ℤ, pos, negsuc, Bool, ◌==◌, Option, Some, None, IfNone, IfSome, Result, OnOk, OnErr, IsTrue}
+use Rattle.std.specs.Prelude.{ℤ, pos, negsuc, Bool, ◌==◌, Option, Some, None, IfNone, IfSome}
+use Rattle.std.specs.Prelude.{Result, OnOk, OnErr, IsTrue}
 use Rattle.std.specs.Option.{ForSome}
 use Rattle.std.proofs.lemmas.Bool.{cases_Bool, cond-true, cond-false, eqb-true, false≢true, lt-ltb}
 use Rattle.std.proofs.lemmas.Int.{ints}
@@ -13,7 +14,8 @@ use Rattle.dp_blend.specs.Canvas.{canvas_of, pixel_at}
 use Rattle.dp_blend.proofs.Canvas.{canvas_of-same, length-canvas_of, pixel_at-canvas_of}
 use Rattle.dp_msg_draw.specs.declared.draw.Draw.{Draw}
 use Rattle.dp_msg_draw.specs.declared.draw.Draw.TheVariants as draws
-use Rattle.dp_pixels.specs.Commands.{IsDabs, drawn, pixel_after, pixel_drawn, pixel_of, pixels_after}
+use Rattle.dp_pixels.specs.Commands.{IsDabs, drawn, pixel_after, pixel_drawn, pixel_of}
+use Rattle.dp_pixels.specs.Commands.{pixels_after}
 use Rattle.dp_pixels.specs.Feet.{foot, is_in_foot}
 use Rattle.dp_pixels.specs.Rectangles.{canvas_rect, is_in}
 use Rattle.dp_pixels.specs.Tiles.{ShowsTile, tile_pixel, tiles_along}
@@ -31,7 +33,7 @@ use Rattle.dp_paint.specs.Painting.{IsGridOf, IsPainting}
 use Rattle.dp_paint.specs.Reading.{IsResized}
 use Rattle.dp_paint.specs.Ops.{MayWait, ops_at, tile_after, tile_pixels}
 use Rattle.dp_paint.specs.Lists.{HaveSame, IsChangedOn, IsFiled, IsFinished, IsInside, LayerOf}
-use Rattle.dp_paint.specs.Lists.{Lists, Waiting, layer_pixels, list_at, listed_at, no_list}
+use Rattle.dp_paint.specs.Lists.{Lists, Waiting, layer_pixels, listed_at, no_list}
 use Rattle.dp_paint.specs.Lists.{waiting_pixel}
 use Rattle.dp_paint.proofs.Ops.{pixel-tile_after}
 use Rattle.dp_paint.proofs.Painting.{StaysOutside, by_cells}
@@ -187,7 +189,8 @@ either (Ok x) P ok err = ok
 either (Err e) P ok err = err
 
 -- a grid of which an area was painted is one of the same canvas
-pub painted_grid : (width height : ℕ) (area : CellArea) (painted : ℕ → ℕ → List Channels → List Channels)
+pub painted_grid : (width height : ℕ) (area : CellArea)
+    (painted : ℕ → ℕ → List Channels → List Channels)
     (old new : TileGrid) → IsGridOf width height old → IsPaintedOn area painted old new
     → IsGridOf width height new
 painted_grid width height area painted old new is_of is = record {

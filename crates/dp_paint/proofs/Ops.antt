@@ -2,9 +2,9 @@
 use Rattle.std.proofs.Common.{◌≡◌, ℕ, ◌+◌, ◌-◌, ◌*◌, ◌/◌, ◌%◌, ◌<◌, ◌≤◌, List, [], ◌∷◌, ◌++◌}
 use Rattle.std.proofs.Common.{length, get_or, take, cond, true, false, ◌&&◌, leb, ltb}
 use Rattle.std.proofs.Common.{refl, sym, ◌∙◌, ap, arith, ◌⊎◌, ⊎_elim, replicate, min}
-use Rattle.std.specs.Prelude.{pos, ℤ, ◌+ℤ◌, ◌-ℤ◌, Option, Some, None}
+use Rattle.std.specs.Prelude.{pos, ◌+ℤ◌, ◌-ℤ◌, Option, Some, None}
 use Rattle.std.proofs.lemmas.Int.{ints}
-use Rattle.std.proofs.lemmas.Bool.{cases_lt, cases_Bool, cond-true, cond-false, false≢true}
+use Rattle.std.proofs.lemmas.Bool.{cases_lt, cases_Bool, cond-false, false≢true}
 use Rattle.std.proofs.lemmas.Bool.{false_from_ne_true, and_parts}
 use Rattle.std.proofs.lemmas.Bool.{le-leb, lt-ltb, leb-true, ltb-true}
 use Rattle.std.proofs.lemmas.List.{take_more, length-replicate}
@@ -32,7 +32,7 @@ use Rattle.dp_paint.specs.declared.op.TileFill.{TileFill}
 use Rattle.dp_paint.specs.declared.op.TileDab.{TileDab}
 use Rattle.dp_paint.specs.declared.op.TileOp.{TileOp}
 use Rattle.dp_paint.specs.declared.op.TileOp.TheVariants.{Fill, Dab}
-use Rattle.dp_paint.specs.Ops.{code_of, color_of_op, dab_in_tile, is_in_fill, length-tile_after}
+use Rattle.dp_paint.specs.Ops.{code_of, dab_in_tile, is_in_fill, length-tile_after}
 use Rattle.dp_paint.specs.Ops.{mode_coded, op_at, ops_at, packed_dab, packed_fill, shape_code}
 use Rattle.dp_paint.specs.Ops.{shape_coded, tile_after, tile_pixels}
 
@@ -67,7 +67,8 @@ tile_none ops pixels none count =
 -- one operation more at a place
 pub ops_more : (ops : List TileOp) (op : TileOp) (x y : ℕ) (p : Channels)
     → ops_at (ops ++ op ∷ []) x y p ≡ op_at op x y (ops_at ops x y p)
-ops_more ops op x y p = fold-append (λ (old : Channels) (o : TileOp). op_at o x y old) p ops (op ∷ [])
+ops_more ops op x y p =
+    fold-append (λ (old : Channels) (o : TileOp). op_at o x y old) p ops (op ∷ [])
 
 -- one operation more on a tile
 pub tile_more : (ops : List TileOp) (op : TileOp) (start before new : List Channels)
@@ -167,8 +168,8 @@ pub dab_drawn : (d : TileDab) (region : Region) (shape : Shape) (mode : Mode) (c
     → shape ≡ d.shape → mode ≡ d.mode → color ≡ of_argb d.color → length old ≡ 4096
     → IsPainted region 64 (on_canvas region (dab_blended shape mode color (dab_in_tile d))) old new
     → new ≡ tile_after (Dab d ∷ []) old
-dab_drawn d region shape mode color old new at_x at_y wide high cw ch by_shape by_mode by_color count
-    is =
+dab_drawn d region shape mode color old new at_x at_y wide high cw ch by_shape by_mode by_color
+    count is =
     is_tile_after (Dab d ∷ []) old new (is.len ∙ count)
     (λ x y in_x in_y.
     let here : is_in (canvas_rect 64 64) (pos x) (pos y) ≡ true =
@@ -192,8 +193,8 @@ pub dab_pixel : (d : TileDab) (region : Region) (shape : Shape) (mode : Mode) (c
     → IsPainted region 1 (on_canvas region (dab_blended shape mode color (dab_in_tile d)))
     (old ∷ []) new
     → get_or new 0 d0 ≡ op_at (Dab d) x y old
-dab_pixel d region shape mode color x y old new d0 at_x at_y wide high cw ch by_shape by_mode by_color
-    in_x in_y is =
+dab_pixel d region shape mode color x y old new d0 at_x at_y wide high cw ch by_shape by_mode
+    by_color in_x in_y is =
     let here : is_in (canvas_rect 64 64) (pos x) (pos y) ≡ true =
     is_in_by (canvas_rect 64 64) (pos x) (pos y) (record {
       x0 = omega (arith, ints);
@@ -219,22 +220,6 @@ modes_coded modes.Replace = refl
 shapes_coded : (s : Shape) → shape_coded (shape_code s) ≡ s
 shapes_coded shapes.Round = refl
 shapes_coded shapes.Square = refl
-
-pub fill_packed : (f : TileFill) (low high code : ℕ) → f.left ≤ 64 → f.right ≤ 64 → f.top ≤ 64
-    → f.bottom ≤ 64 → code ≡ code_of f.mode → code < 8 → low ≡ f.color
-    → high ≡ f.left + f.right * 128 + f.top * 16384 + f.bottom * 2097152 + code * 268435456
-    → cond (ltb high 2147483648) (packed_fill low high) (packed_dab low (high - 2147483648))
-    ≡ Fill f
-fill_packed f low high code l r t b coded few color is =
-    let small : high < 2147483648 = omega (arith, is, l, r, t, b, few) in
-    let left : high % 128 ≡ f.left = omega (arith, is, l) in
-    let right : high / 128 % 128 ≡ f.right = omega (arith, is, l, r) in
-    let top : high / 16384 % 128 ≡ f.top = omega (arith, is, l, r, t) in
-    let bottom : high / 2097152 % 128 ≡ f.bottom = omega (arith, is, l, r, t, b) in
-    let mode : high / 268435456 ≡ code_of f.mode = omega (arith, is, l, r, t, b, coded) in
-    cond-true (ltb high 2147483648) (packed_fill low high)
-    (packed_dab low (high - 2147483648)) (lt-ltb high 2147483648 small)
-    ∙ (rw (color, left, right, top, bottom, mode, modes_coded f.mode) refl)
 
 pub dab_packed : (d : TileDab) (low high x y shape mode : ℕ) → pos x ≡ d.x +ℤ pos 256 → x < 512
     → pos y ≡ d.y +ℤ pos 256 → y < 512 → d.size < 256 → d.opacity < 256

@@ -1,10 +1,9 @@
 -- Tiles of one colour that a command fills.
-use Rattle.std.proofs.Common.{◌≡◌, ℕ, ◌+◌, ◌*◌, ◌<◌, ◌≤◌, List, length, arith}
+use Rattle.std.proofs.Common.{◌≡◌, ℕ, ◌+◌, ◌*◌, ◌<◌, List, length, arith}
 use Rattle.std.proofs.Common.{ap, sym, ◌∙◌, refl, Bool, true, false, cond, Some, None}
 use Rattle.std.specs.Prelude.{Option}
 use Rattle.std.specs.Prelude.{pos, ℤ}
 use Rattle.std.specs.Option.{option_map_or}
-use Rattle.std.proofs.lemmas.Int.{ints}
 use Rattle.std.proofs.lemmas.Bool.{cond-true}
 use Rattle.dp_blend.specs.Color.{Channels, of_argb}
 use Rattle.dp_blend.specs.Blending.{blend, mode_numbered}
@@ -14,8 +13,7 @@ use Rattle.dp_msg_draw.specs.declared.draw.Draw.{Draw}
 use Rattle.dp_msg_draw.specs.declared.draw.Draw.TheVariants as draws
 use Rattle.dp_pixels.specs.declared.rect.Rect.{Rect}
 use Rattle.dp_pixels.specs.Rectangles.{canvas_rect, is_in, rect_at}
-use Rattle.dp_pixels.specs.Commands.{IsDabs, filled, pixel_after, pixel_drawn}
-use Rattle.dp_pixels.proofs.Rectangles.{is_in_by}
+use Rattle.dp_pixels.specs.Commands.{filled, pixel_drawn}
 use Rattle.dp_tile.specs.Tiles.{tile_of}
 use Rattle.dp_tile.proofs.Tiles.{length-tile_of, pixel-tile_of}
 use Rattle.dp_paint.specs.Painting.{IsTileWithin, tile_drawn}
@@ -56,34 +54,6 @@ filled_tile width height layer mode x y w h color col row p within =
     ∙ cond-true (is_in (canvas_rect width height) (pos (col * 64 + i)) (pos (row * 64 + j)))
     (filled mode area color (pos (col * 64 + i)) (pos (row * 64 + j)) p) p here.1
     ∙ within_fill mode color area (pos (col * 64 + i)) (pos (row * 64 + j)) p here.0)
-
--- a tile on both sides
-pub tile_within : (width height x y w h col row : ℕ) → (x ≤ col * 64) × (col * 64 + 64 ≤ x + w)
-    × (col * 64 + 64 ≤ width) → (y ≤ row * 64) × (row * 64 + 64 ≤ y + h)
-    × (row * 64 + 64 ≤ height)
-    → IsTileWithin width height (rect_at (pos x) (pos y) w h) col row
-tile_within width height x y w h col row across down i j in_x in_y =
-    let a0 = across.0 in
-    let a1 = across.1 in
-    let a2 = across.2 in
-    let d0 = down.0 in
-    let d1 = down.1 in
-    let d2 = down.2 in (
-      is_in_by (rect_at (pos x) (pos y) w h) (pos (col * 64 + i)) (pos (row * 64 + j))
-          (record {
-            x0 = omega (arith, ints);
-            x1 = omega (arith, ints);
-            y0 = omega (arith, ints);
-            y1 = omega (arith, ints);
-          }),
-      is_in_by (canvas_rect width height) (pos (col * 64 + i)) (pos (row * 64 + j))
-          (record {
-            x0 = omega (arith, ints);
-            x1 = omega (arith, ints);
-            y0 = omega (arith, ints);
-            y1 = omega (arith, ints);
-          }),
-    )
 
 -- what a fill makes of a tile whose pixels are all of one colour
 pub fill_becomes : (width height : ℕ) (op : Draw) (layer mode x y w h color col row : ℕ)
@@ -145,14 +115,3 @@ fill_keeps width height op layer mode x y w h color p is same a b =
     (filled mode (rect_at (pos x) (pos y) w h) color a b p) p
     (in_part (mode_numbered mode) (is_in (rect_at (pos x) (pos y) w h) a b)
     (λ m. blend m (of_argb color) p) p same)
-
--- dabs that change nothing of a colour
-pub dabs_stay : (width height : ℕ) (op : Draw) (p : Channels) → IsDabs op
-    → ((a b : ℤ) → pixel_after op a b p ≡ p) → (a b : ℤ) → pixel_drawn width height op a b p ≡ p
-dabs_stay width height (draws.DabsRound layer x y red g bl mode dabs) p are same a b =
-    on_part (is_in (canvas_rect width height) a b)
-    (pixel_after (draws.DabsRound layer x y red g bl mode dabs) a b p) p (same a b)
-dabs_stay width height (draws.DabsSquare layer x y red g bl mode dabs) p are same a b =
-    on_part (is_in (canvas_rect width height) a b)
-    (pixel_after (draws.DabsSquare layer x y red g bl mode dabs) a b p) p (same a b)
-dabs_stay width height _ p are same a b = absurd are

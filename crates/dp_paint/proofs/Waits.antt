@@ -1,21 +1,18 @@
 -- Lists of operations, by the columns and rows of their tiles.
-use Rattle.std.proofs.Common.{◌≡◌, ℕ, zero, suc, ◌+◌, ◌-◌, ◌*◌, ◌<◌, ◌≤◌, List, [], ◌∷◌, ◌++◌, length, get_or, set}
-use Rattle.std.proofs.Common.{refl, sym, ◌∙◌, ap, subst, arith, ◌⊎◌, ⊎_elim, ◌&&◌, leb, ltb, cond}
-use Rattle.std.proofs.Common.{Bool, true, false, length-append}
-use Rattle.std.specs.Prelude.{ℤ}
-use Rattle.std.proofs.lemmas.Bool.{cases_Bool, cases_lt, cases_eq, false≢true, and_parts, leb-true, ltb-true}
+use Rattle.std.proofs.Common.{◌≡◌, ℕ, zero, suc, ◌+◌, ◌-◌, ◌*◌, ◌<◌, ◌≤◌, List, [], ◌∷◌, ◌++◌}
+use Rattle.std.proofs.Common.{length, get_or}
+use Rattle.std.proofs.Common.{refl, sym, ◌∙◌, ap, arith, ⊎_elim, ◌&&◌, leb, ltb, cond}
+use Rattle.std.proofs.Common.{true, length-append}
+use Rattle.std.proofs.lemmas.Bool.{cases_Bool, cases_lt, cases_eq, false≢true, and_parts, leb-true}
+use Rattle.std.proofs.lemmas.Bool.{ltb-true}
 use Rattle.std.proofs.lemmas.Bool.{le-leb, lt-ltb}
-use Rattle.std.proofs.lemmas.List.{get_or-set_same, get_or-set_other, length-set, get_or_past}
-use Rattle.dp_blend.specs.Color.{Channels}
+use Rattle.std.proofs.lemmas.List.{get_or_past}
 use Rattle.dp_tile.specs.declared.area.CellArea.{CellArea}
 use Rattle.dp_tile.specs.Areas.{is_in_cells}
-use Rattle.dp_paint.specs.declared.op.TileOp.{TileOp}
 use Rattle.dp_paint.specs.declared.lists.Finish.{Finish}
 use Rattle.dp_paint.specs.declared.lists.Finish.TheVariants as ways
-use Rattle.dp_paint.specs.Ops.{op_at, ops_at}
-use Rattle.dp_paint.specs.Lists.{AddsMore, AllCount, HaveSame, HaveSameLists, IsChangedOn, IsInside, Lists}
-use Rattle.dp_paint.specs.Lists.{IsFinished, Waiting, finished, list_at, listed_at, no_list, row_to}
-use Rattle.dp_paint.proofs.Ops.{ops_more}
+use Rattle.dp_paint.specs.Lists.{AllCount, HaveSameLists, IsChangedOn, IsInside, Lists}
+use Rattle.dp_paint.specs.Lists.{IsFinished, Waiting, finished, list_at, no_list, row_to}
 
 -- ---- cells of an area
 
@@ -61,40 +58,6 @@ abbrev at_first : Lists → ℕ → ℕ → List Waiting → Waiting
 at_first l col row lists =
     cond (leb l.first row) (get_or lists ((row - l.first) * 64 + col) no_list) no_list
 
-module _ (l : Lists) (at up : ℕ) (list : Waiting) (from : l.first ≤ up) (in_cols : at < 64) where
-  -- the lists with another one at a tile
-  abbrev pub with_list : Lists
-  with_list = record { first = l.first; lists = set l.lists ((up - l.first) * 64 + at) list }
-
-  pub list_here : (up - l.first) * 64 + at < length l.lists → list_at with_list at up ≡ list
-  list_here inside =
-      rw (le-leb l.first up from)
-      (get_or-set_same l.lists ((up - l.first) * 64 + at) list no_list inside)
-
-  pub list_beside : (col row : ℕ) → col < 64 → (col ≡ at → row ≡ up → ⊥)
-      → list_at with_list col row ≡ list_at l col row
-  list_beside col row few other =
-      ⊎_elim (λ (above : row < l.first). past above) (λ (below : l.first ≤ row). rw (le-leb l.first row below)
-      (get_or-set_other l.lists ((up - l.first) * 64 + at) ((row - l.first) * 64 + col) list
-      no_list (λ same. other (omega (arith, same, few, in_cols, from, below))
-      (omega (arith, same, few, in_cols, from, below)))))
-      (cases_lt row l.first)
-    where
-      past : row < l.first → list_at with_list col row ≡ list_at l col row
-      past above = by (leb l.first row) (leb-true l.first row)
-        where
-          by : (t : Bool) → (t ≡ true → l.first ≤ row)
-              → cond t (get_or (set l.lists ((up - l.first) * 64 + at) list)
-              ((row - l.first) * 64 + col) no_list) no_list
-              ≡ cond t (get_or l.lists ((row - l.first) * 64 + col) no_list) no_list
-          by true is = absurd (omega (arith, above, is refl))
-          by false is = refl
-
--- the list at a place that is there
-pub list_from : (l : Lists) (col row : ℕ) → l.first ≤ row
-    → list_at l col row ≡ get_or l.lists ((row - l.first) * 64 + col) no_list
-list_from l col row from = rw (le-leb l.first row from) refl
-
 -- ---- areas that change list by list
 
 -- the rows of an area before a row
@@ -118,29 +81,6 @@ module _ (change : ℕ → ℕ → Waiting → Waiting → Type 0) where
     inside = λ col up is. absurd (omega (arith, is.top, is.bottom));
     outside = λ col up few out. refl;
   }
-
-  -- one list changed
-  pub one_changed : (row at : ℕ) (old : Lists) (list : Waiting) (from : old.first ≤ row)
-      (in_cols : at < 64) → (row - old.first) * 64 + at < length old.lists
-      → change at row (list_at old at row) list
-      → IsChangedOn (row_to row at (at + 1)) change old (with_list old at row list from in_cols)
-  one_changed row at old list from in_cols room is =
-      record {
-        first = refl;
-        len = length-set old.lists ((row - old.first) * 64 + at) list;
-        inside = λ col up i.
-            let same_row : up ≡ row = omega (arith, i.top, i.bottom) in
-            let same : col ≡ at = omega (arith, i.left, i.right) in
-            rw (same, same_row) (rw (list_here old at row list from in_cols room) is);
-        outside = λ col up few out.
-            list_beside old at row list from in_cols col up few
-            (λ c r. out (record {
-              left = omega (arith, c);
-              right = omega (arith, c);
-              top = omega (arith, r);
-              bottom = omega (arith, r);
-            }));
-      }
 
   -- one more list of a row changed
   pub row_next : (row left at : ℕ) (old now new : Lists) → left ≤ at → at < 64
@@ -226,35 +166,6 @@ module _ (change : ℕ → ℕ → Waiting → Waiting → Type 0) where
         }));
   }
 
--- a list that isn't there is finished
-finished_none : (how : Finish) → no_list ≡ finished how no_list
-finished_none ways.Keep = refl
-finished_none ways.Drop = refl
-finished_none ways.Clear = refl
-
-pub past_finished : (how : Finish) (row at : ℕ) (l : Lists) → l.first ≤ row
-    → length l.lists ≤ (row - l.first) * 64 + at
-    → IsChangedOn (row_to row at (at + 1)) (IsFinished how) l l
-past_finished how row at l from past = record {
-  first = refl;
-  len = refl;
-  inside = λ col up i.
-      let same_row : up ≡ row = omega (arith, i.top, i.bottom) in
-      let same : col ≡ at = omega (arith, i.left, i.right) in
-      let none : list_at l at row ≡ no_list =
-      list_from l at row from ∙ get_or_past l.lists ((row - l.first) * 64 + at) no_list past in
-      rw (same, same_row, none) (finished_none how);
-  outside = λ col up few out. refl;
-}
-
--- lists that aren't there have no operation that doesn't count
-pub none_counts : (l : Lists) → l.lists ≡ [] → AllCount l
-none_counts l none col row few = rw none (either (leb l.first row))
-  where
-    either : (t : Bool) → (cond t no_list no_list).more ≡ []
-    either true = refl
-    either false = refl
-
 -- a list that was finished has none
 finished_counts : (how : Finish) (w : Waiting) → (finished how w).more ≡ []
 finished_counts ways.Keep w = refl
@@ -293,36 +204,6 @@ pushed_same l new is col row few =
 -- a list of what counts alone
 abbrev pub counted : Waiting → Waiting
 counted w = record { ops = w.ops; more = [] }
-
--- copied lists
-module _ (l copy : Lists) (first : copy.first ≡ l.first)
-    (count : length copy.lists ≡ length l.lists)
-    (each : (k : ℕ) → k < length l.lists
-    → get_or copy.lists k no_list ≡ counted (get_or l.lists k no_list)) where
-  any : (k : ℕ) → get_or copy.lists k no_list ≡ counted (get_or l.lists k no_list)
-  any k =
-      ⊎_elim (each k) (λ past.
-      get_or_past copy.lists k no_list (omega (arith, count, past))
-      ∙ sym (ap counted (get_or_past l.lists k no_list past)))
-      (cases_lt k (length l.lists))
-
-  pub copied_list : (col row : ℕ) → list_at copy col row ≡ counted (list_at l col row)
-  copied_list col row =
-      ap (λ (n : ℕ). cond (leb n row) (get_or copy.lists ((row - n) * 64 + col) no_list) no_list)
-      first
-      ∙ ap (λ (w : Waiting). cond (leb l.first row) w no_list) (any ((row - l.first) * 64 + col))
-      ∙ either (leb l.first row) (get_or l.lists ((row - l.first) * 64 + col) no_list)
-    where
-      either : (t : Bool) (w : Waiting)
-          → cond t (counted w) no_list ≡ counted (cond t w no_list)
-      either true w = refl
-      either false w = refl
-
-  pub copied_same : HaveSame l copy
-  copied_same col row few = ap (λ (w : Waiting). w.ops) (copied_list col row)
-
-  pub copied_counts : AllCount copy
-  copied_counts col row few = ap (λ (w : Waiting). w.more) (copied_list col row)
 
 -- so many lists and one more
 pub grown : (xs : List Waiting) (w : Waiting) (n : ℕ) → length xs ≡ n

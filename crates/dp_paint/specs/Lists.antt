@@ -96,7 +96,8 @@ HaveSameLists old new = (col row : ℕ) → col < 64 → list_at new col row ≡
 -- the same lists stand outside an area
 abbrev pub StayOutside : CellArea → Lists → Lists → Type 0
 StayOutside area old new =
-    (col row : ℕ) → col < 64 → (IsInside area col row → ⊥) → list_at new col row ≡ list_at old col row
+    (col row : ℕ) → col < 64 → (IsInside area col row → ⊥)
+    → list_at new col row ≡ list_at old col row
 
 -- in an area, each list is related to the old one, and all others stay
 pub record IsChangedOn (area : CellArea) (change : ℕ → ℕ → Waiting → Waiting → Type 0)

@@ -1,7 +1,7 @@
 -- Operations on tiles, which wait until these are painted or read.
 use Rattle.std.specs.Prelude.{◌≡◌, ◌==◌, ℕ, ◌+◌, ◌*◌, ◌/◌, ◌%◌, ◌<◌, ◌≤◌, Bool}
 use Rattle.std.specs.Prelude.{◌&&◌, nat_le, nat_lt, if◌then◌else◌, Option, Some, None, ℤ, pos}
-use Rattle.std.specs.Prelude.{◌-ℤ◌, ◌≤ℤ◌, ◌<ℤ◌, List, [], ◌∷◌, length, fold}
+use Rattle.std.specs.Prelude.{◌-ℤ◌, ◌≤ℤ◌, ◌<ℤ◌, List, length, fold}
 use Rattle.std.specs.Int.{int_max, int_min}
 use Rattle.dp_blend.specs.Color.{Channels, fade, from8, of_argb}
 use Rattle.dp_blend.specs.Blending.{blend}

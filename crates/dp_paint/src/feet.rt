@@ -1,6 +1,6 @@
 //! The tiles that a command may change.
 
-ghost use Rattle.std.specs.Prelude.{◌≡◌, ◌+◌, ◌-◌, ◌*◌, ◌/◌, ◌<◌, ◌≤◌, ℕ, pos, ◌≤ℤ◌, ◌<ℤ◌};
+ghost use Rattle.std.specs.Prelude.{◌≡◌, ◌-◌, ◌*◌, ◌/◌, ◌<◌, ◌≤◌, ℕ, pos};
 ghost use Rattle.std.specs.Prelude.{true, Some, max};
 ghost use Rattle.dp_pixels.specs.declared.feet.Footprint.TheVariants.{Two};
 ghost use Rattle.dp_pixels.specs.Feet.{foot, is_in_foot, squares_of_foot};
@@ -14,6 +14,7 @@ use dp_pixels::{Footprint, Rect, foot};
 use dp_tile::CellArea;
 
 /// The rectangle of the foot of a command.
+#[inline(always)]
 fn foot_rect(command: &Draw) -> Rect
     requires { IsPainting command.now }
     ensures foot { foot_area (foot command.now) ≡ Some result }
@@ -41,6 +42,7 @@ pub(crate) fn move_rects(command: &Draw) -> (Rect, Rect)
 }
 
 /// The cells of a grid of so many columns and rows that a command may change.
+#[inline(always)]
 pub(crate) fn cells_of(command: &Draw, cols: u32, rows: u32) -> CellArea
     requires { IsPainting command.now }
     ensures across { result.left ≤ result.right }
@@ -74,6 +76,7 @@ fn joined(a: CellArea, b: CellArea) -> CellArea
 }
 
 /// An area of a grid of so many columns and rows that has all cells of the foot of a command.
+#[inline(always)]
 pub(crate) fn foot_cells(command: &Draw, cols: u32, rows: u32) -> CellArea
     requires { ChangesPixels command.now }
     ensures across { result.left ≤ result.right }

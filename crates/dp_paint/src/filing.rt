@@ -1,13 +1,15 @@
 //! Commands that wait on the tiles that they reach.
 
-ghost use Rattle.std.specs.Prelude.{◌≡◌, ◌+◌, ◌-◌, ◌*◌, ◌/◌, ◌<◌, ◌≤◌, ◌≤ℤ◌, ◌<ℤ◌, ◌-ℤ◌, ℕ, ℤ, pos};
-ghost use Rattle.std.specs.Prelude.{true, length, unsigned_abs, IfSome, IfNone, OnOk, OnErr, Some, None, ◌^◌};
+ghost use Rattle.std.specs.Prelude.{◌≡◌, ◌+◌, ◌-◌, ◌*◌, ◌/◌, ◌<◌, ◌≤◌, ◌≤ℤ◌, ◌-ℤ◌, ℕ, ℤ, pos};
+ghost use Rattle.std.specs.Prelude.{true, length, unsigned_abs, IfSome, IfNone, OnOk, OnErr, Some};
+ghost use Rattle.std.specs.Prelude.{None, ◌^◌};
 ghost use Rattle.dp_blend.specs.Color.{Channels, of_argb, premultiplied};
 ghost use Rattle.dp_pixels.specs.Commands.{IsDabs, pixel_after};
 ghost use Rattle.dp_pixels.specs.Strokes.{brush_of};
 ghost use Rattle.dp_pixels.specs.Rectangles.{is_in};
 ghost use Rattle.dp_paint.specs.Ops.{MayWait, tile_place};
-ghost use Rattle.dp_paint.specs.Lists.{AddsMore, AllCount, HaveSame, IsChangedOn, IsFiled, IsInside};
+ghost use Rattle.dp_paint.specs.Lists.{AddsMore, AllCount, HaveSame, IsChangedOn, IsFiled};
+ghost use Rattle.dp_paint.specs.Lists.{IsInside};
 ghost use Rattle.dp_paint.specs.Lists.{StayOutside};
 
 use crate::cells::{MAX_SIDE, tiles_met};

@@ -1,9 +1,11 @@
 //! Operations on one tile.
 
-ghost use Rattle.std.specs.Prelude.{◌≡◌, [], ◌∷◌, ℕ, ◌<◌, true, length, IfSome, pos, ◌+ℤ◌, ◌-ℤ◌, ◌≤ℤ◌, ◌<ℤ◌};
+ghost use Rattle.std.specs.Prelude.{◌≡◌, [], ◌∷◌, ℕ, ◌<◌, true, length, IfSome, pos, ◌+ℤ◌, ◌-ℤ◌};
+ghost use Rattle.std.specs.Prelude.{◌≤ℤ◌, ◌<ℤ◌};
 ghost use Rattle.dp_blend.specs.Color.{Channels, of_argb};
 ghost use Rattle.dp_paint.specs.Ops.{IsPackable, code_of, color_of_op, dab_in_tile, is_in_fill};
-ghost use Rattle.dp_paint.specs.Ops.{mode_coded, op_at, packed_dab, shape_code, shape_coded, tile_after};
+ghost use Rattle.dp_paint.specs.Ops.{mode_coded, op_at, packed_dab, shape_code, shape_coded};
+ghost use Rattle.dp_paint.specs.Ops.{tile_after};
 
 use dp_blend::{Mode, Pixel, blend, fade, from8, of_argb, rows_fill};
 use dp_pixels::{Brush, NearDab, Place, PlacedDab, Region, Shape, draw_dab};
@@ -160,6 +162,7 @@ impl TileOp {
     }
 
     /// Draws it on a tile.
+    #[inline(always)]
     pub(crate) fn draw(self, pixels: &mut [Pixel])
         requires { length pixels.old ≡ 4096 }
         ensures { pixels.new ≡ tile_after (self ∷ []) pixels.old }
@@ -377,6 +380,7 @@ impl PackedOp {
     }
 
     /// The operation.
+    #[inline(always)]
     pub(crate) fn unpacked(&self) -> TileOp
         ensures { result ≡ self.now }
     {

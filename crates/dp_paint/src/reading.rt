@@ -1,6 +1,6 @@
 //! What a canvas of tiles shows at any places.
 
-ghost use Rattle.std.specs.Prelude.{◌≡◌, ℕ, ◌+◌, ◌*◌, ◌<◌, ◌≤◌, ◌^◌, ◌<ℤ◌, ◌≤ℤ◌, ◌+ℤ◌, pos, true};
+ghost use Rattle.std.specs.Prelude.{◌≡◌, ℕ, ◌+◌, ◌<◌, ◌≤◌, ◌^◌, ◌<ℤ◌, ◌≤ℤ◌, ◌+ℤ◌, pos, true};
 ghost use Rattle.std.specs.Prelude.{length, replicate, unsigned_abs};
 ghost use Rattle.dp_blend.specs.Color.{clear};
 ghost use Rattle.dp_pixels.specs.Rectangles.{rect_at};

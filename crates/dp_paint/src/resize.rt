@@ -1,6 +1,6 @@
 //! Grids of a canvas that gets new sides.
 
-ghost use Rattle.std.specs.Prelude.{◌≡◌, ◌+◌, ◌*◌, ◌<◌, ◌≤◌, ◌^◌, ℕ, pos, ◌+ℤ◌, ◌-ℤ◌, true};
+ghost use Rattle.std.specs.Prelude.{◌≡◌, ◌+◌, ◌*◌, ◌<◌, ◌≤◌, ◌^◌, pos, ◌-ℤ◌, true};
 ghost use Rattle.std.specs.Prelude.{unsigned_abs, Some, IfOk};
 ghost use Rattle.dp_blend.specs.Color.{clear};
 ghost use Rattle.dp_pixels.specs.declared.resize.Resize.{Resize as Change};

@@ -1,3 +1,4 @@
+mod EachRecording
 mod Ends
 mod Headers
 mod Taken

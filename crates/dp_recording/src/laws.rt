@@ -8,7 +8,7 @@ ghost use Rattle.dp_recording.specs.declared.header.Profile.TheVariants.{Second}
 ghost use Rattle.dp_recording.specs.Headers.{HasNoHeader, IsHeader, IsShort, header_bytes};
 ghost use Rattle.dp_recording.specs.Recordings.{RecordingComesTo};
 
-use dp_entries::{Anywhere, FirstProfile, one_reading};
+use dp_entries::{Anywhere, FirstProfile, each_input_ends, one_reading};
 
 /// Bytes begin with one header at most, which tells one profile. More bytes after it change
 /// nothing. Bytes that are too few for a header begin with none; others that begin with none never
@@ -40,4 +40,13 @@ pub fn one_recording()
     one_header();
     one_reading::<FirstProfile>();
     one_reading::<Anywhere>();
+}
+
+/// It can't be that a recording comes to no end.
+pub fn each_recording_ends()
+    ensures { (input : List ℕ) → ¬ ((entries : List Entry) (end : RunEnd)
+        → ¬ RecordingComesTo input entries end) }
+{
+    each_input_ends::<FirstProfile>();
+    each_input_ends::<Anywhere>();
 }

@@ -9,6 +9,6 @@ mod reader;
 mod writer;
 
 pub use header::{HEADER, Header, HeaderError, Profile, read_header};
-pub use laws::{one_header, one_recording, the_header_is_one};
+pub use laws::{each_recording_ends, one_header, one_recording, the_header_is_one};
 pub use reader::{RecError, RecordingReader};
 pub use writer::put_header;

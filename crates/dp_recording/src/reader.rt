@@ -110,6 +110,7 @@ impl RecordingReader {
     /// # Errors
     ///
     /// Each as `RecError` says. After an error it gives the same error again, and reads nothing.
+    #[inline(always)]
     pub fn next<I: Source>(
         &mut self,
         alloc: Global,
@@ -157,6 +158,7 @@ impl RecordingReader {
 }
 
 /// Gives the next entry of a reader that is so far.
+#[inline(always)]
 fn go_on<I: Source>(
     alloc: Global,
     input: &mut I,
@@ -207,6 +209,7 @@ fn go_on<I: Source>(
 }
 
 /// Gives the next entry after the header.
+#[inline(always)]
 fn pull<I: Source>(
     alloc: Global,
     input: &mut I,

@@ -4,7 +4,7 @@ use dp_frame::Octets;
 use dp_messages::Msg;
 
 /// What a client does.
-#[derive(Debug, Drop)]
+#[derive(Drop)]
 pub enum Instruction {
     /// It says a message, which joins its unanswered sends and its uplink.
     Say(Msg),
@@ -21,7 +21,7 @@ pub enum Instruction {
 }
 
 /// What is printed of a client.
-#[derive(Clone, Copy, Debug, PartialEq, Eq)]
+#[derive(Clone, Copy)]
 pub enum CanvasKind {
     /// The picture of the entries that it has taken, with its unanswered sends.
     View,
@@ -34,7 +34,7 @@ pub enum CanvasKind {
 }
 
 /// What a line asks for. Clients are numbered from 1, in the order of their joins.
-#[derive(Debug, Drop)]
+#[derive(Drop)]
 pub enum Action {
     /// A user asks to join.
     Join {

@@ -3,7 +3,7 @@
 use dp_messages::Msg;
 
 /// What a line of a script of `join` asks of its client.
-#[derive(Debug, Drop)]
+#[derive(Drop)]
 pub enum JoinAction {
     /// It says a message, which joins its unanswered sends and goes out over the link.
     Say(Msg),

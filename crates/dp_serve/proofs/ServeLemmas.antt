@@ -112,6 +112,7 @@ module _ {W R T : Type 0} (see : Seen W R T) (start : Past) (most : ℕ) (laws :
           shut = closed.shut ∙ ap (λ (p : Past). p.shut) c.left;
           known = closed.known ∙ ap (λ (p : Past). p.known) c.left;
           count = closed.count ∙ ap (λ (p : Past). p.count) c.left;
+          read_faults = closed.read_faults ∙ ap (λ (p : Past). p.read_faults) c.left;
           reports = reports_are ∙ g.reports_are;
           store = store ∙ g.store;
           wire = λ e.
@@ -171,27 +172,30 @@ module _ {W R T : Type 0} (see : Seen W R T) (start : Past) (most : ℕ) where
   -- memory ran out before a worker began
   pub serves-nothing : (old new : List W) (left : Left) → new ≡ old → left.journal ≡ start.journal
       → left.shut ≡ start.shut → left.known ≡ start.known → left.count ≡ start.count
+      → left.read_faults ≡ start.read_faults
       → left.reports ≡ [] → left.memory ≡ true → left.store ≡ false → left.wire ≡ false
       → Serves see start most old new left
-  serves-nothing old new left same journal closed known count reports memory store wire = record {
-    log = [];
-    legal = tt;
-    parts = idle_parts old;
-    before = idle_before old;
-    after = idle_after old ∙ sym same;
-    each =
-        subst₂ (λ m w. EachFrom (IsPart see start [] most m w) 0 (idle_parts old)) (sym memory)
-        (sym wire) (idle_fits 0 old);
-    others = λ act h. absurd h;
-    names = subst AreDistinct (sym (idle_names old)) tt;
-    journal = journal ∙ sym (append-nil start.journal);
-    shut = closed;
-    known = known;
-    count = count;
-    reports = reports ∙ sym (idle_reports old);
-    store = store ∙ sym (idle_store old);
-    wire = λ e. absurd (true≢false (sym e ∙ wire));
-  }
+  serves-nothing old new left same journal closed known count read_faults reports memory store
+      wire = record {
+        log = [];
+        legal = tt;
+        parts = idle_parts old;
+        before = idle_before old;
+        after = idle_after old ∙ sym same;
+        each =
+            subst₂ (λ m w. EachFrom (IsPart see start [] most m w) 0 (idle_parts old)) (sym memory)
+            (sym wire) (idle_fits 0 old);
+        others = λ act h. absurd h;
+        names = subst AreDistinct (sym (idle_names old)) tt;
+        journal = journal ∙ sym (append-nil start.journal);
+        shut = closed;
+        known = known;
+        count = count;
+        read_faults = read_faults;
+        reports = reports ∙ sym (idle_reports old);
+        store = store ∙ sym (idle_store old);
+        wire = λ e. absurd (true≢false (sym e ∙ wire));
+      }
 
 -- ---- a bound
 

@@ -69,3 +69,4 @@ pub record ClosesTo (start : Past) (v : SeatView) (left : Left) : Type 0 where
   pub shut : left.shut ≡ last.shut
   pub known : left.known ≡ last.known
   pub count : left.count ≡ last.count
+  pub read_faults : left.read_faults ≡ last.read_faults

@@ -83,6 +83,7 @@ pub record Left : Type 0 where
   pub shut : List ShutAt
   pub known : Option (List Row)
   pub count : ℕ
+  pub read_faults : ℕ
   pub reports : List LinkReport
   pub memory : Bool
   pub store : Bool
@@ -105,6 +106,7 @@ pub record Serves {W R T : Type 0} (see : Seen W R T) (start : Past) (most : ℕ
   pub shut : left.shut ≡ (left_by start log).shut
   pub known : left.known ≡ (left_by start log).known
   pub count : left.count ≡ (left_by start log).count
+  pub read_faults : left.read_faults ≡ (left_by start log).read_faults
   pub reports : left.reports ≡ reports_of parts
   pub store : left.store ≡ list_any (λ part. has_store_fault (acts_of part.runs)) parts
   pub wire : left.wire ≡ true

@@ -69,7 +69,8 @@ pub fn serve<W: Wire + Send, K: Keeper + Send, G: Gate, R: Threads + Wait + Sync
           journal = result.journal;
           shut = result.shut;
           known = K.held result.keeper;
-          count = K.faults result.keeper;
+          count = K.put_faults result.keeper;
+          read_faults = K.read_faults result.keeper;
           reports = result.reports;
           memory = result.memory;
           store = result.store;
@@ -147,7 +148,8 @@ fn serve_nothing<W: Wire, K: Keeper>(
     wires: Vec<W>,
 ) -> Served<W, K>
     ensures parts { (K.held result.keeper ≡ session.known)
-        × (K.faults result.keeper ≡ session.count) × (result.journal ≡ session.journal)
+        × (K.put_faults result.keeper ≡ session.count)
+        × (K.read_faults result.keeper ≡ session.read_faults) × (result.journal ≡ session.journal)
         × (result.shut ≡ session.shut) }
     ensures wires { result.wires.items ≡ wires.items }
     ensures reports { result.reports ≡ [] }
@@ -181,7 +183,8 @@ fn finish<W: Wire, K: Keeper>(
       journal = result.journal;
       shut = result.shut;
       known = K.held result.keeper;
-      count = K.faults result.keeper;
+      count = K.put_faults result.keeper;
+      read_faults = K.read_faults result.keeper;
       reports = result.reports;
       memory = result.memory;
       store = result.store;

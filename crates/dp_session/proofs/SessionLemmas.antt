@@ -88,7 +88,7 @@ past-broken P new e (Ok given) first is h = subst (λ b. Serves b P e given new)
 
 module _ (P : Past) (l : SessionLog) (e : Event) (first_fault : Option ℕ)
     (known : Option (List Row))
-    (count : ℕ) (past : past_of l first_fault known count ≡ P)
+    (count reads : ℕ) (past : past_of l first_fault known count reads ≡ P)
     (not : (x : ℕ) → first_fault ≡ Some x → ⊥) where
   no_fault : P.first_fault ≡ None
   no_fault = ap (λ p. p.first_fault) (sym past) ∙ is-none first_fault not
@@ -113,51 +113,54 @@ module _ (P : Past) (l : SessionLog) (e : Event) (first_fault : Option ℕ)
       (Refuses P e Ended given new))
       (sym (ap (λ p. has_room p.journal e) (sym past) ∙ room)) h)
 
-  module _ (n : SessionLog) (later : Option (List Row)) (now : ℕ) (ready : Ready)
+  module _ (n : SessionLog) (later : Option (List Row)) (now reads_now : ℕ) (ready : Ready)
       (is : IsReady l e ready) where
     -- an event that was kept
     pub past-kept : (reply : Reply) → IsPut l e (Ok reply) n → later ≡ with_row ready.row known
-        → now ≡ count → Serves P.first_fault P e reply (past_of n first_fault later now)
-    past-kept reply put rows counts =
-        room-serves reply (past_of n first_fault later now) is.room
-        (subst (λ p. Accepts p e reply (past_of n first_fault later now)
-        ⊎ FailsFirst p e reply (past_of n first_fault later now)) past
-        (inl (record { reply = put.1; after = rw (put.0, rows, is.row, counts) refl })))
+        → now ≡ count → reads_now ≡ reads
+        → Serves P.first_fault P e reply (past_of n first_fault later now reads_now)
+    past-kept reply put rows counts others =
+        room-serves reply (past_of n first_fault later now reads_now) is.room
+        (subst (λ p. Accepts p e reply (past_of n first_fault later now reads_now)
+        ⊎ FailsFirst p e reply (past_of n first_fault later now reads_now)) past
+        (inl (record { reply = put.1; after = rw (put.0, rows, is.row, counts, others) refl })))
 
     -- the first fault
     pub past-failed : (first : ℕ) → IsPut l e (Err Failed) n
-        → (later ≡ known) ⊎ (later ≡ with_row ready.row known) → Rose count now → first ≡ now
-        → Serves P.first_fault P e (StoreFault first) (past_of n (Some first) later now)
-    past-failed first out rows rose first_is =
-        room-serves (StoreFault first) (past_of n (Some first) later now) is.room
-        (subst (λ p. Accepts p e (StoreFault first) (past_of n (Some first) later now)
-        ⊎ FailsFirst p e (StoreFault first) (past_of n (Some first) later now)) past
+        → (later ≡ known) ⊎ (later ≡ with_row ready.row known) → Rose count now
+        → reads_now ≡ reads → first ≡ now
+        → Serves P.first_fault P e (StoreFault first) (past_of n (Some first) later now reads_now)
+    past-failed first out rows rose others first_is =
+        room-serves (StoreFault first) (past_of n (Some first) later now reads_now) is.room
+        (subst (λ p. Accepts p e (StoreFault first) (past_of n (Some first) later now reads_now)
+        ⊎ FailsFirst p e (StoreFault first) (past_of n (Some first) later now reads_now)) past
         (inr (record {
           count = now;
           known = later;
           rose = rose;
           rows = subst (λ x. (later ≡ known) ⊎ (later ≡ with_row x known)) is.row rows;
           reply = ap StoreFault first_is;
-          after = rw (out, first_is) refl;
+          after = rw (out, others, first_is) refl;
         })))
 
 -- memory ran out in the store
 pub past-undone : (P : Past) (l n : SessionLog) (e : Event) (first_fault : Option ℕ)
-    (known later : Option (List Row)) (count now : ℕ)
-    → past_of l first_fault known count ≡ P → IsPut l e (Err Memory) n → later ≡ known
-    → now ≡ count → past_of n first_fault later now ≡ P
-past-undone P l n e first_fault known later count now past undone rows counts =
-    rw (undone, rows, counts) past
+    (known later : Option (List Row)) (count now reads reads_now : ℕ)
+    → past_of l first_fault known count reads ≡ P → IsPut l e (Err Memory) n → later ≡ known
+    → now ≡ count → reads_now ≡ reads → past_of n first_fault later now reads_now ≡ P
+past-undone P l n e first_fault known later count now reads reads_now past undone rows counts
+    others =
+    rw (undone, rows, counts, others) past
 
 -- ---- memory ran out
 
 -- the connection of a Close is quiet then
 pub quieted-is : (P : Past) (l n : SessionLog) (b : Bool) (e : Event) (conn : ℕ)
-    (first_fault : Option ℕ) (known : Option (List Row)) (count : ℕ)
-    → past_of l first_fault known count ≡ P → e ≡ event.Close conn
+    (first_fault : Option ℕ) (known : Option (List Row)) (count reads : ℕ)
+    → past_of l first_fault known count reads ≡ P → e ≡ event.Close conn
     → n ≡ record l { quiet = quiet_with (state_in l) conn l.quiet; room = b }
-    → past_of n first_fault known count ≡ quieted P e
-quieted-is P l n b e conn first_fault known count past is now = rw (is, now, ← past) refl
+    → past_of n first_fault known count reads ≡ quieted P e
+quieted-is P l n b e conn first_fault known count reads past is now = rw (is, now, ← past) refl
 
 -- nothing changes by another event
 pub quieted-other : (P : Past) (e : Event) → ((conn : ℕ) → e ≡ event.Close conn → ⊥)

@@ -10,14 +10,15 @@ use Rattle.dp_epochs.specs.Past.{Past, shut_with}
 use Rattle.dp_tables.specs.SessionLog.{SessionLog, state_in}
 
 -- the past of these tables, beside what else a session keeps
-abbrev pub past_of : SessionLog → Option ℕ → Option (List Row) → ℕ → Past
-past_of tables first_fault known count = record {
+abbrev pub past_of : SessionLog → Option ℕ → Option (List Row) → ℕ → ℕ → Past
+past_of tables first_fault known count read_faults = record {
   journal = tables.journal;
   shut = tables.shut;
   quiet = tables.quiet;
   first_fault = first_fault;
   known = known;
   count = count;
+  read_faults = read_faults;
 }
 
 -- by what became of the row: the event has been kept, it was left out, or nothing was done

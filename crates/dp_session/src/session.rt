@@ -34,7 +34,8 @@ impl<K: Keeper> Model for Session<K> {
 
     ghost Value = { Past };
 
-    ghost view = { λ s. past_of s.tables s.first_fault (K.held s.keeper) (K.faults s.keeper) };
+    ghost view = { λ s. past_of s.tables s.first_fault (K.held s.keeper) (K.put_faults s.keeper)
+        (K.read_faults s.keeper) };
 }
 
 /// Does what became of the row of an event that is ready.
@@ -73,7 +74,8 @@ fn put<K: Keeper>(
 ) -> Result<Reply, KeepError>
     requires { IsReady tables.old event.now ready }
     ensures rows { Puts (K.held keeper.old) ready.row result (K.held keeper.new) }
-    ensures count { Counts (K.faults keeper.old) result (K.faults keeper.new) }
+    ensures count { Counts (K.put_faults keeper.old) result (K.put_faults keeper.new) }
+    ensures others { K.read_faults keeper.new ≡ K.read_faults keeper.old }
     ensures outcome { IsPut tables.old event.now result tables.new }
 {
     let Ok(()) = tables.make_room() else {
@@ -93,7 +95,8 @@ impl<K: Keeper + Drop> Session<K> {
           quiet = [];
           first_fault = None;
           known = K.held keeper;
-          count = K.faults keeper;
+          count = K.put_faults keeper;
+          read_faults = K.read_faults keeper;
         }) }
     {
         let tables = Tables::new(alloc)?;
@@ -116,7 +119,8 @@ impl<K: Keeper> Session<K> {
     /// The store, the events that were kept, and the closings that were refused.
     pub fn into_parts(self) -> (K, Journal, Shut)
         ensures known { K.held result.0 ≡ self.known }
-        ensures count { K.faults result.0 ≡ self.count }
+        ensures count { K.put_faults result.0 ≡ self.count }
+        ensures read_faults { K.read_faults result.0 ≡ self.read_faults }
         ensures journal { result.1 ≡ self.journal }
         ensures shut { result.2 ≡ self.shut }
     {

@@ -10,10 +10,10 @@ use dp_machine::Machine;
 use std::alloc::AllocError;
 
 impl<K: Keeper> Session<K> {
-    /// How often the store has failed. It takes no memory.
+    /// How often a put has failed. It takes no memory.
     pub fn faults(&self) -> u64
         ensures count { result ≡ self.now.count }
-        ensures store { ((k : K) → K.faults k ≡ 0) → result ≡ 0 }
+        ensures store { ((k : K) → K.put_faults k ≡ 0) → result ≡ 0 }
     {
         self.keeper.count()
     }

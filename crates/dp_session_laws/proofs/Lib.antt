@@ -7,3 +7,6 @@ pub mod Given
 pub mod Replies
 pub mod Quiet
 pub mod ClosingLemmas
+pub mod Resumption
+pub mod KeptLemmas
+pub mod ServedEpochs

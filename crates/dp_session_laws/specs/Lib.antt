@@ -3,3 +3,4 @@ pub mod Feeds
 pub mod Logs
 pub mod Journals
 pub mod Closings
+pub mod Kept

@@ -341,7 +341,9 @@ struct Forgetful {}
 impl Keeper for Forgetful {
     ghost held = { λ k. None };
 
-    ghost faults = { λ k. 0 };
+    ghost put_faults = { λ k. 0 };
+
+    ghost read_faults = { λ k. 0 };
 
     fn put(&mut self, _row: &Row) -> Result<(), KeepError> {
         Ok(())

@@ -2,7 +2,7 @@
 use Rattle.std.proofs.Common.{◌≡◌, ℕ, ◌+◌, ◌-◌, ◌≤◌, Bool, true, false, if◌then◌else◌, List, []}
 use Rattle.std.proofs.Common.{◌∷◌}
 use Rattle.std.proofs.Common.{◌++◌, length, All, arith}
-use Rattle.std.proofs.Common.{Some, is_some, refl, sym, ap, subst, ◌∙◌, ⊎_elim}
+use Rattle.std.proofs.Common.{Option, None, Some, is_some, refl, sym, ap, subst, ◌∙◌, ⊎_elim}
 use Rattle.std.proofs.Common.{append-nil, append_assoc, length-append}
 use Rattle.std.specs.Prelude.{slice_set, slice_index_or}
 use Rattle.std.proofs.Math.ListN.{length-set}
@@ -27,11 +27,9 @@ use Rattle.dp_epochs.specs.Rows.{has_room}
 use Rattle.dp_epochs.specs.Past.{Past, state_after, state_of, kept, refused, answer_to, sure_step}
 use Rattle.dp_epochs.specs.Past.{sure_answer}
 use Rattle.dp_epochs.specs.Laws.{Continues, AreHistories, ShutBefore, shut_by}
-use Rattle.dp_lists.specs.Numbered.{numbered}
+use Rattle.dp_epochs.proofs.OpenConnections.{open_is_found, found_is_open, other_stays_open}
 use Rattle.dp_lists.proofs.Options.{option_both}
-use Rattle.dp_lists.proofs.Numbered.{number-found, numbered-other, numbered-same, numbered-old}
-use Rattle.dp_lists.proofs.Numbered.{numbered-new}
-use Rattle.dp_sim.proofs.OpenConnections.{open_some, open_found, some_open}
+use Rattle.dp_lists.proofs.Numbered.{numbered-same, numbered-old, numbered-new}
 
 -- no history loses an entry, and no epoch
 pub record Grows (s t : State) : Type 0 where
@@ -101,33 +99,38 @@ keeps-both s t u Stays h k = record {
   stay = λ n stays up. k.stay n stays (h.stay n stays up);
 }
 
+-- what is there
+there : {X : Type 0} (o : Option X) → is_some o ≡ true → (x : X) × (o ≡ Some x)
+there None h = cc
+there (Some x) h = (x, refl)
+
 -- a connection that was found open becomes another: the others stay open
 open-others : (cs : List Connection) (conn : ℕ) (c d : Connection) (n : ℕ)
     → open_in cs conn ≡ Some c → (n ≡ conn → ⊥)
     → is_some (open_in cs n) ≡ true → is_some (open_in (slice_set cs (conn - 1) d) n) ≡ true
 open-others cs conn c d n found ne up =
-    let o = open_some (numbered cs n) up in
-    let above = number-found cs conn c (open_found cs conn c found).0 in
-    some_open o.0 (numbered (slice_set cs (conn - 1) d) n)
-    (numbered-other cs conn n d above.0 ne ∙ o.1) o.2
+    let o = there (open_in cs n) up in
+    ap is_some (other_stays_open cs conn c d n o.0 found ne o.1)
 
 -- and it too, if the other is open
 open-all : (cs : List Connection) (conn : ℕ) (c d : Connection) (n : ℕ) → open_in cs conn ≡ Some c
     → is_open d ≡ true
     → is_some (open_in cs n) ≡ true → is_some (open_in (slice_set cs (conn - 1) d) n) ≡ true
 open-all cs conn c d n found high up =
+    let set = slice_set cs (conn - 1) d in
     ⊎_elim (λ (same : n ≡ conn).
-    subst (λ k. is_some (open_in (slice_set cs (conn - 1) d) k) ≡ true) (sym same)
-    (some_open d (numbered (slice_set cs (conn - 1) d) conn)
-    (numbered-same cs conn c d (open_found cs conn c found).0) high))
+    ap (λ k. is_some (open_in set k)) same
+    ∙ ap is_some (found_is_open set conn d
+    (numbered-same cs conn c d (open_is_found cs conn c found).0) high))
     (λ (ne : n ≡ conn → ⊥). open-others cs conn c d n found ne up)
     (cases_eq n conn)
 
 open-more : (cs : List Connection) (d : Connection) (n : ℕ) → is_some (open_in cs n) ≡ true
     → is_some (open_in (cs ++ d ∷ []) n) ≡ true
 open-more cs d n up =
-    let o = open_some (numbered cs n) up in
-    some_open o.0 (numbered (cs ++ d ∷ []) n) (numbered-old cs (d ∷ []) n o.0 o.1) o.2
+    let o = there (open_in cs n) up in
+    let h = open_is_found cs n o.0 o.1 in
+    ap is_some (found_is_open (cs ++ d ∷ []) n o.0 (numbered-old cs (d ∷ []) n o.0 h.0) h.1)
 
 -- ---- effects
 
@@ -167,8 +170,8 @@ effect-answers s e (Joined user next) cause =
       length-append s.connections (d ∷ []),
       refl,
       refl,
-      some_open d (numbered (s.connections ++ d ∷ []) (length s.connections + 1))
-          (numbered-new s.connections d) refl,
+      ap is_some (found_is_open (s.connections ++ d ∷ []) (length s.connections + 1) d
+          (numbered-new s.connections d) refl),
     )
 effect-answers s e (Left conn c next) cause =
     length-set s.connections (conn - 1) (record c { ending = ending.Left (here s) })

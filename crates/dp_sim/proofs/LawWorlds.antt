@@ -1,23 +1,21 @@
 -- Turns and worlds: what is true of a world stays so.
-use Rattle.std.proofs.Common.{◌≡◌, ℕ, suc, ◌+◌, ◌-◌, ◌<◌, ◌≤◌, ◌==◌, Bool, true, false}
-use Rattle.std.proofs.Common.{if◌then◌else◌, MatchBool}
-use Rattle.std.proofs.Common.{List, [], ◌∷◌, ◌++◌, length, take, fold, Option, None, Some}
-use Rattle.std.proofs.Common.{refl, sym, ap, subst, ◌∙◌, ⊎_elim, arith, length-append}
-use Rattle.std.specs.Prelude.{slice_set, IfSome, nat_lt, nat_le}
+use Rattle.std.proofs.Common.{◌≡◌, ◌⊎◌, ℕ, suc, ◌+◌, ◌-◌, ◌<◌, ◌≤◌, Bool, true, false}
+use Rattle.std.proofs.Common.{MatchBool}
+use Rattle.std.proofs.Common.{List, [], ◌∷◌, ◌++◌, length, take, fold, None, Some}
+use Rattle.std.proofs.Common.{refl, sym, ap, subst, ◌∙◌, ⊎_elim, inl, inr, arith, length-append}
+use Rattle.std.specs.Prelude.{IfSome, nat_lt, nat_le}
 use Rattle.std.specs.List.{slice_get, filter_map}
 use Rattle.dp_plain.specs.Commands.{draw_all}
 use Rattle.dp_replay.specs.Replay.{replay}
 use Rattle.std.proofs.Math.ListN.{length-set}
-use Rattle.std.proofs.lemmas.Bool.{cond_both, cases_eq, eq-eqb, ne_eqb, ltb-true}
+use Rattle.std.proofs.lemmas.Bool.{cond_both, cases_eq, ltb-true}
 use Rattle.std.proofs.lemmas.Bool.{and_parts}
-use Rattle.std.proofs.lemmas.Bool.{MatchBool-at_false}
 use Rattle.std.proofs.lemmas.List.{take-append-le}
 use Rattle.std.proofs.lemmas.Option.{slice_get_within}
 use Rattle.dp_messages.specs.declared.message.Msg.{Msg}
 use Rattle.dp_messages.specs.declared.message.Entry.{Entry}
-use Rattle.dp_messages.specs.Properties.{command_of, is_disconnect, marked}
+use Rattle.dp_messages.specs.Properties.{command_of, marked}
 use Rattle.dp_client.specs.Client as client
-use Rattle.dp_client.specs.Taking.{EntriesAreTaken, Takes}
 use Rattle.dp_epochs.specs.declared.event.Event.{Event}
 use Rattle.dp_epochs.specs.declared.event.Event.TheVariants as event
 use Rattle.dp_epochs.specs.declared.event.Reply.{Reply}
@@ -25,25 +23,27 @@ use Rattle.dp_epochs.specs.declared.event.Reply.TheVariants as reply
 use Rattle.dp_epochs.specs.Rows.{event_limit, row_bytes, byte_limit, row_of, has_room}
 use Rattle.dp_epochs.specs.State.{State, epoch_of, history_of}
 use Rattle.dp_epochs.specs.Past.{Past, state_of, kept, refused, sure_step, sure_answer}
-use Rattle.dp_epochs.specs.Laws.{IsHistory, ShutBefore}
+use Rattle.dp_epochs.specs.Laws.{ShutBefore}
 use Rattle.dp_schedule.specs.declared.action.Instruction.{Instruction}
-use Rattle.dp_schedule.specs.declared.action.Instruction.TheVariants.{Say, Up, Take, Reset}
-use Rattle.dp_schedule.specs.declared.action.Instruction.TheVariants.{Leave, Cut}
 use Rattle.dp_schedule.specs.declared.action.Action.{Action}
 use Rattle.dp_schedule.specs.declared.action.Action.TheVariants.{Join, Act, Show}
 use Rattle.dp_sim.specs.declared.participant.LinkState.{LinkState}
-use Rattle.dp_sim.specs.declared.participant.LinkState.TheVariants.{Connected, Leaving, Closed}
-use Rattle.dp_sim.specs.Exchanges.{Participant, Exchange, is_gone, disconnected, heard, uplink_sent}
-use Rattle.dp_sim.specs.Exchanges.{next_entry, took_next, done, exchanged}
+use Rattle.dp_sim.specs.declared.participant.LinkState.TheVariants.{Closed}
+use Rattle.dp_sim.specs.Exchanges.{Participant, Exchange, disconnected, heard, next_entry}
+use Rattle.dp_sim.specs.Exchanges.{took_next, exchanged}
 use Rattle.dp_sim.specs.World.{World, participant_of, new_participant, with_joined, joined}
 use Rattle.dp_sim.specs.World.{with_exchange, acted, after, first_world, world_after}
 use Rattle.dp_sim.specs.Invariant.{is_closed, IsParticipant, IsWorld}
 use Rattle.dp_sim.specs.Headline.{ShowsPrefix}
+use Rattle.dp_sim.specs.Moves.{Move, Rests, Queues, SendsFirst, TakesNext, Closes, IsMoveBy}
+use Rattle.dp_sim.specs.Moves.{queued_messages, forked_messages, link_after, with_queued}
+use Rattle.dp_sim.specs.Moves.{after_move, instruction_move}
 use Rattle.dp_lists.specs.Numbered.{numbered}
 use Rattle.dp_lists.proofs.Options.{option_both, at_some, if_some}
 use Rattle.dp_lists.proofs.Numbered.{number-found, numbered-other, numbered-same, numbered-either}
 use Rattle.dp_lists.proofs.Numbered.{take_one}
-use Rattle.dp_sim.proofs.OpenConnections.{live-is, mark-first, mark-next}
+use Rattle.dp_sim.proofs.Moves.{queued-runs, exchange-moved}
+use Rattle.dp_sim.proofs.Marks.{live-is, NextHere, NextLater, next-either}
 use Rattle.dp_sim.proofs.LawLemmas.{Grows, Keeps, OthersStay, IsOpen, keeps-all, keeps-fewer}
 use Rattle.dp_sim.proofs.LawLemmas.{keeps-both}
 use Rattle.dp_sim.proofs.LawLemmas.{Joins, Leading, keeps-say, keeps-close, joins-open}
@@ -57,40 +57,26 @@ pub record IsPast (past : Past) : Type 0 where
   pub before : ShutBefore past
   pub events : length past.journal ≤ event_limit
 
-step-first_fault : (past : Past) (e : Event) → (sure_step past e).first_fault ≡ past.first_fault
-step-first_fault past e =
+past-step : Leading → (past : Past) (e : Event) → IsPast past → IsPast (sure_step past e)
+past-step laws past e h =
     cond_both (has_room past.journal e) (kept past e) (refused past e)
-    (λ p. p.first_fault ≡ past.first_fault) (λ yes. refl) (λ no. refl)
-
-step-quiet : (past : Past) (e : Event) → (sure_step past e).quiet ≡ past.quiet
-step-quiet past e =
-    cond_both (has_room past.journal e) (kept past e) (refused past e) (λ p. p.quiet ≡ past.quiet)
-    (λ yes. refl) (λ no. refl)
-
-step-events : (past : Past) (e : Event) → length past.journal ≤ event_limit
-    → length (sure_step past e).journal ≤ event_limit
-step-events past e few =
-    cond_both (has_room past.journal e) (kept past e) (refused past e)
-    (λ p. length p.journal ≤ event_limit)
-    (λ room.
+    (λ p. ShutBefore p → IsPast p)
+    (λ room before.
     let below = and_parts (nat_lt (length past.journal) event_limit)
     (nat_le (row_bytes past.journal + length (row_of e)) byte_limit) room in
-    omega (
-      arith,
-      length-append past.journal (e ∷ []),
-      ltb-true (length past.journal) event_limit
-          below.0,
-    ))
-    (λ no. few)
-
-past-step : Leading → (past : Past) (e : Event) → IsPast past
-    → IsPast (sure_step past e)
-past-step laws past e h = record {
-  first_fault = step-first_fault past e ∙ h.first_fault;
-  quiet = step-quiet past e ∙ h.quiet;
-  before = laws.before past e h.before;
-  events = step-events past e h.events;
-}
+    record {
+      first_fault = h.first_fault;
+      quiet = h.quiet;
+      before = before;
+      events = omega (
+        arith,
+        length-append past.journal (e ∷ []),
+        ltb-true (length past.journal) event_limit below.0,
+      );
+    })
+    (λ no before.
+    record { first_fault = h.first_fault; quiet = h.quiet; before = before; events = h.events })
+    (laws.before past e h.before)
 
 -- ---- a client
 
@@ -141,33 +127,29 @@ participant-made s number participant fork uplink now running h = record {
 
 -- ---- taking
 
--- the client has taken a prefix of the history of its epoch
-record HasTaken (s : State) (c : client.State) : Type 0 where
-  pub began : c.joined_epoch ≤ c.epoch
-  pub known : c.epoch ≤ epoch_of s
-  pub few : length c.taken ≤ length (history_of s c.epoch)
-  pub prefix : c.taken ≡ take (length c.taken) (history_of s c.epoch)
-  pub entered : c.joined_epoch < c.epoch → 0 < length c.taken
+module _ (s : State) (number : ℕ) (p : Participant) (entry : Entry) (uplink : List Msg)
+    (h : IsParticipant s number p) where
+  abbrev c : client.State
+  c = p.state
 
-module _ (taking : EntriesAreTaken) (s : State) (c : client.State) (entry : Entry)
-    (h : HasTaken s c) (history : IsHistory (epoch_of s) s.live) where
-  takes : Takes c entry
-  takes = taking c entry (record { began = h.began; entered = h.entered })
+  -- what is true of the client in another state
+  abbrev Becomes : client.State → Type 0
+  Becomes d = IsParticipant s number (record p { state = d; uplink = uplink })
 
   -- the entry after those that are taken of the live epoch
-  took-here : c.epoch ≡ epoch_of s → slice_get s.live (length c.taken) ≡ Some entry
-      → HasTaken s (client.took c entry)
-  took-here here there =
+  took-here : NextHere s c entry → Becomes (client.took c entry)
+  took-here next =
       let all = history_of s c.epoch in
-      let of : IsHistory c.epoch s.live = subst (λ k. IsHistory k s.live) (sym here) history in
-      let new = takes.here (mark-next c.epoch s.live c.taken entry of there) in
       let at : slice_get all (length c.taken) ≡ Some entry =
-      ap (λ xs. slice_get xs (length c.taken)) (ap (history_of s) here ∙ live-is s) ∙ there in
+      ap (λ xs. slice_get xs (length c.taken)) (ap (history_of s) next.at ∙ live-is s)
+      ∙ next.there in
       let within : length c.taken < length all =
       slice_get_within all (length c.taken) entry at in
       let longer : length (c.taken ++ entry ∷ []) ≡ suc (length c.taken) =
       omega (arith, length-append c.taken (entry ∷ [])) in
-      subst (HasTaken s) (sym new.took) (record {
+      subst Becomes (sym next.takes.took) (record {
+        conn = h.conn;
+        running = h.running;
         began = h.began;
         known = h.known;
         few = omega (arith, longer, within);
@@ -178,34 +160,19 @@ module _ (taking : EntriesAreTaken) (s : State) (c : client.State) (entry : Entr
       })
 
   -- the mark of the live epoch, for a client of an earlier one
-  took-later : c.epoch < epoch_of s → slice_get s.live 0 ≡ Some entry
-      → HasTaken s (client.took c entry)
-  took-later before there =
-      let new = takes.later (epoch_of s) before
-      (mark-first (epoch_of s) s.live entry history there) in
-      let at : slice_get (history_of s (epoch_of s)) 0 ≡ Some entry =
-      ap (λ xs. slice_get xs 0) (live-is s) ∙ there in
-      subst (HasTaken s) (sym new.took) (record {
-        began = omega (arith, h.began, before);
+  took-later : NextLater s c entry → Becomes (client.took c entry)
+  took-later next =
+      let all = history_of s (epoch_of s) in
+      let at : slice_get all 0 ≡ Some entry = ap (λ xs. slice_get xs 0) (live-is s) ∙ next.there in
+      subst Becomes (sym next.takes.took) (record {
+        conn = h.conn;
+        running = h.running;
+        began = omega (arith, h.began, next.less);
         known = omega arith;
-        few = slice_get_within (history_of s (epoch_of s)) 0 entry at;
-        prefix = sym (take_one (history_of s (epoch_of s)) 0 entry at);
+        few = slice_get_within all 0 entry at;
+        prefix = sym (take_one all 0 entry at);
         entered = λ later. omega arith;
       })
-
-  -- the entry that comes next
-  took-taken : slice_get s.live (if c.epoch == epoch_of s then length c.taken else 0) ≡ Some entry
-      → HasTaken s (client.took c entry)
-  took-taken there =
-      ⊎_elim (λ (here : c.epoch ≡ epoch_of s).
-      took-here here
-      (sym (ap (λ b. slice_get s.live (if b then length c.taken else 0))
-      (eq-eqb c.epoch (epoch_of s) here)) ∙ there))
-      (λ (ne : c.epoch ≡ epoch_of s → ⊥).
-      took-later (omega (arith, ne, h.known))
-      (sym (ap (λ b. slice_get s.live (if b then length c.taken else 0))
-      (ne_eqb c.epoch (epoch_of s) ne)) ∙ there))
-      (cases_eq c.epoch (epoch_of s))
 
 -- ---- exchanges
 
@@ -264,83 +231,49 @@ heard-exchanged laws number t m rest h hp =
           waits;
     }
 
-up-exchanged : Leading → (number : ℕ) (t : Exchange) (uplink : List Msg) → IsPast t.past
-    → IsParticipant (state_of t.past) number t.participant
-    → KeepsExchange number t.past (uplink_sent t uplink)
-up-exchanged laws number t [] h hp = exchanged-participant number t t.participant h hp
-up-exchanged laws number t (m ∷ rest) h hp =
-    let taken = heard-exchanged laws number t m rest h hp in
-    cond_both (is_disconnect m) (disconnected (heard t m rest)) (heard t m rest)
-    (KeepsExchange number t.past)
-    (λ yes. exchanged-both number t.past (heard t m rest) (disconnected (heard t m rest)) taken
-    (disconnected-exchanged laws number (heard t m rest) taken.past taken.participant))
-    (λ no. taken)
-
-next-exchanged : Leading → (number : ℕ) (t : Exchange) (o : Option Entry) → IsPast t.past
-    → IsParticipant (state_of t.past) number t.participant → next_entry t ≡ o
-    → KeepsExchange number t.past (took_next t o)
-next-exchanged laws number t None h hp there =
-    exchanged-participant number t t.participant h hp
-next-exchanged laws number t (Some entry) h hp there =
+next-exchanged : Leading → (number : ℕ) (t : Exchange) (entry : Entry) → IsPast t.past
+    → IsParticipant (state_of t.past) number t.participant → next_entry t ≡ Some entry
+    → KeepsExchange number t.past (took_next t (Some entry))
+next-exchanged laws number t entry h hp there =
     let s = state_of t.past in
-    let c = t.participant.state in
-    let has : HasTaken s c =
-    record {
-      began = hp.began;
-      known = hp.known;
-      few = hp.few;
-      prefix = hp.prefix;
-      entered = hp.entered;
-    } in
-    let history : IsHistory (epoch_of s) s.live =
-    subst (IsHistory (epoch_of s)) (live-is s) (laws.marked t.past (epoch_of s) (omega arith)) in
-    let new = took-taken laws.taking s c entry has history there in
-    exchanged-participant number t (took_next t (Some entry)).participant h (record {
-      conn = hp.conn;
-      running = hp.running;
-      began = new.began;
-      known = new.known;
-      few = new.few;
-      prefix = new.prefix;
-      entered = new.entered;
-    })
+    let p = t.participant in
+    let q = (took_next t (Some entry)).participant in
+    exchanged-participant number t q h
+    (⊎_elim (took-here s number p entry q.uplink hp) (took-later s number p entry q.uplink hp)
+    (next-either laws.taking s p.state entry (laws.marked t.past)
+    (record { began = hp.began; entered = hp.entered }) hp.known there))
 
-done-exchanged : Leading → (number : ℕ) (t : Exchange) (instruction : Instruction) → IsPast t.past
-    → IsParticipant (state_of t.past) number t.participant
-    → is_closed t.participant.link ≡ false → KeepsExchange number t.past (done t instruction)
-done-exchanged laws number t (Say m) h hp here =
-    exchanged-participant number t (done t (Say m)).participant h
-    (participant-made (state_of t.past) number t.participant (t.participant.state.fork ++ m ∷ [])
-    (t.participant.uplink ++ m ∷ []) t.participant.link
-    hp.running hp)
-done-exchanged laws number t Up h hp here = up-exchanged laws number t t.participant.uplink h hp
-done-exchanged laws number t Take h hp here =
-    next-exchanged laws number t (next_entry t) h hp refl
-done-exchanged laws number t Reset h hp here =
-    exchanged-participant number t (done t Reset).participant h
-    (participant-made (state_of t.past) number t.participant t.participant.state.fork
-    (done t Reset).participant.uplink t.participant.link hp.running hp)
-done-exchanged laws number t Leave h hp here =
-    exchanged-participant number t (done t Leave).participant h
-    (participant-made (state_of t.past) number t.participant t.participant.state.fork
-    (done t Leave).participant.uplink Leaving
-    (MatchBool-at_false (Unit {0}) (IsOpen (state_of t.past) number) here hp.running) hp)
-done-exchanged laws number t Cut h hp here = disconnected-exchanged laws number t h hp
-
-not-gone : (p : LinkState) (d : Instruction) → is_gone p d ≡ false → is_closed p ≡ false
-not-gone Connected d h = refl
-not-gone Leaving d h = refl
-not-gone Closed d h = cc
+move-exchanged : Leading → (number : ℕ) (t : Exchange) (instruction : Instruction) (move : Move)
+    → IsPast t.past → IsParticipant (state_of t.past) number t.participant
+    → IsMoveBy t instruction move → KeepsExchange number t.past (after_move t move)
+move-exchanged laws number t instruction Rests h hp may =
+    exchanged-participant number t t.participant h hp
+move-exchanged laws number t instruction (Queues queued) h hp may =
+    let p = t.participant in
+    exchanged-participant number t (with_queued p queued) h
+    (participant-made (state_of t.past) number p (p.state.fork ++ forked_messages queued)
+    (p.uplink ++ queued_messages p queued) (link_after queued)
+    (subst (λ shut. MatchBool shut (Unit {0}) (IsOpen (state_of t.past) number))
+    (ap is_closed may.1 ∙ sym (queued-runs queued)) hp.running) hp)
+move-exchanged laws number t instruction (SendsFirst m rest) h hp may =
+    heard-exchanged laws number t m rest h hp
+move-exchanged laws number t instruction (TakesNext entry) h hp may =
+    next-exchanged laws number t entry h hp may.1
+move-exchanged laws number t instruction (Closes None) h hp may =
+    disconnected-exchanged laws number t h hp
+move-exchanged laws number t instruction (Closes (Some m)) h hp may =
+    let u = heard t m [] in
+    let told = heard-exchanged laws number t m [] h hp in
+    exchanged-both number t.past u (disconnected u) told
+    (disconnected-exchanged laws number u told.past told.participant)
 
 exchange-exchanged : Leading → (number : ℕ) (t : Exchange) (instruction : Instruction)
     → IsPast t.past → IsParticipant (state_of t.past) number t.participant
     → KeepsExchange number t.past (exchanged t instruction)
 exchange-exchanged laws number t instruction h hp =
-    cond_both (is_gone t.participant.link instruction) t (done t instruction)
-    (KeepsExchange number t.past)
-    (λ gone. exchanged-participant number t t.participant h hp)
-    (λ there. done-exchanged laws number t instruction h hp
-    (not-gone t.participant.link instruction there))
+    let is = exchange-moved t instruction in
+    subst (KeepsExchange number t.past) (sym is.made)
+    (move-exchanged laws number t instruction (instruction_move t instruction) h hp is.may)
 
 -- ---- worlds
 
@@ -365,45 +298,43 @@ world-made w h connections participants = record {
   participants = participants;
 }
 
+-- the client of a number after an exchange of one: that one, or another, which was so before
+pub exchanged-either : (w : World) (actor : ℕ) (participant : Participant) (t : Exchange)
+    (number : ℕ) (other : Participant) → participant_of w actor ≡ Some participant
+    → participant_of (with_exchange w actor t) number ≡ Some other
+    → ((number ≡ actor) × (other ≡ t.participant))
+    ⊎ ((number ≡ actor → ⊥) × (participant_of w number ≡ Some other))
+exchanged-either w actor participant t number other found is =
+    ⊎_elim (λ (same : number ≡ actor).
+    let there : Some t.participant ≡ Some other =
+    sym (numbered-same w.participants actor participant t.participant found)
+    ∙ sym (ap (participant_of (with_exchange w actor t)) same) ∙ is in
+    let it : other ≡ t.participant = cc in
+    inl (same, it))
+    (λ (ne : number ≡ actor → ⊥).
+    let above = number-found w.participants actor participant found in
+    inr (ne, sym (numbered-other w.participants actor number t.participant above.0 ne) ∙ is))
+    (cases_eq number actor)
+
 exchange-world : (w : World) (number : ℕ) (participant : Participant) (t : Exchange) → IsWorld w
     → participant_of w number ≡ Some participant
     → KeepsExchange number w.past t → IsWorld (with_exchange w number t)
 exchange-world w number participant t h found exchange =
+    let s = state_of w.past in
+    let u = state_of t.past in
     world-made (with_exchange w number t) exchange.past
     (exchange.keeps.count ∙ h.connections ∙ sym (length-set w.participants (number - 1)
     t.participant))
-    (λ n. if_some (numbered (slice_set w.participants (number - 1) t.participant) n)
-    (IsParticipant (state_of t.past) n)
-    (λ other is. ⊎_elim (λ (same : n ≡ number). acting n other is same)
-    (λ (ne : n ≡ number → ⊥). waiting n other is ne) (cases_eq n number)))
-  where
-    acting : (n : ℕ) (other : Participant) → numbered (slice_set w.participants (number - 1)
-        t.participant) n ≡ Some other → n ≡ number
-        → IsParticipant (state_of t.past) n other
-    acting n other is same =
-        let there : numbered (slice_set w.participants (number - 1) t.participant) number
-        ≡ Some other =
-        subst (λ k. numbered (slice_set w.participants (number - 1) t.participant) k ≡ Some other)
-        same is in
-        let e : Some t.participant ≡ Some other = sym (numbered-same w.participants number
-        participant t.participant found) ∙ there in
-        let it : t.participant ≡ other = cc in
-        subst (λ k. IsParticipant (state_of t.past) k other) (sym same)
-        (subst (IsParticipant (state_of t.past) number) it exchange.participant)
-
-    waiting : (n : ℕ) (other : Participant) → numbered (slice_set w.participants (number - 1)
-        t.participant) n ≡ Some other → (n ≡ number → ⊥)
-        → IsParticipant (state_of t.past) n other
-    waiting n other is ne =
-        let above = number-found w.participants number participant found in
-        let before : numbered w.participants n ≡ Some other =
-        sym (numbered-other w.participants number n t.participant above.0 ne) ∙ is in
-        let hp = at_some (numbered w.participants n) (IsParticipant (state_of w.past) n) other
-        (h.participants n) before in
-        participant-stays (state_of w.past) (state_of t.past) n other exchange.keeps.grows
-        (running-still (is_closed other.link) (IsOpen (state_of w.past) n)
-        (IsOpen (state_of t.past) n)
-        (exchange.keeps.stay n ne) hp.running) hp
+    (λ n. if_some (participant_of (with_exchange w number t) n) (IsParticipant u n)
+    (λ other is. ⊎_elim (λ (own : (n ≡ number) × (other ≡ t.participant)).
+    subst (λ k. IsParticipant u k other) (sym own.0)
+    (subst (IsParticipant u number) (sym own.1) exchange.participant))
+    (λ (far : (n ≡ number → ⊥) × (participant_of w n ≡ Some other)).
+    let hp = at_some (participant_of w n) (IsParticipant s n) other (h.participants n) far.1 in
+    participant-stays s u n other exchange.keeps.grows
+    (running-still (is_closed other.link) (IsOpen s n) (IsOpen u n) (exchange.keeps.stay n far.0)
+    hp.running) hp)
+    (exchanged-either w number participant t n other found is)))
 
 acted-world : Leading → (w : World) (number : ℕ) (instruction : Instruction) → IsWorld w
     → IsWorld (acted w number instruction)

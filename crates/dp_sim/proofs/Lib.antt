@@ -1,5 +1,6 @@
-pub mod OpenConnections
+pub mod Marks
 pub mod LawLemmas
+pub mod Moves
 pub mod LawWorlds
 pub mod LawForbidden
 pub mod LawDepths

@@ -2,5 +2,6 @@ pub mod Exchanges
 pub mod World
 pub mod Report
 pub mod Invariant
+pub mod Moves
 pub mod Calls
 pub mod Headline

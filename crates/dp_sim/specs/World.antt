@@ -24,8 +24,15 @@ pub record World : Type 0 where
 
 -- the past of a session to which nothing has come, over a store that never fails
 abbrev pub first_past : Past
-first_past =
-    record { journal = []; shut = []; quiet = []; first_fault = None; known = Some []; count = 0 }
+first_past = record {
+  journal = [];
+  shut = [];
+  quiet = [];
+  first_fault = None;
+  known = Some [];
+  count = 0;
+  read_faults = 0;
+}
 
 -- the world before the first line
 abbrev pub first_world : World

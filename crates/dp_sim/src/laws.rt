@@ -10,6 +10,7 @@ ghost use Rattle.dp_replay.specs.Replay.{replay, replay_from, depth_in_force};
 ghost use Rattle.dp_schedule.specs.declared.action.Action.{Action};
 ghost use Rattle.dp_sim.specs.World.{World, first_world, after, world_after};
 ghost use Rattle.dp_sim.specs.Invariant.{IsWorld};
+ghost use Rattle.dp_sim.specs.Moves.{InstructionsAreMoves};
 ghost use Rattle.dp_sim.specs.Headline.{Headline, ForbiddenChangesNothing};
 ghost use Rattle.dp_epochs.specs.State.{State};
 
@@ -35,6 +36,12 @@ pub fn worlds_stay_worlds()
     histories_are_marked();
     entries_are_taken();
 }
+
+/// What a client does by an instruction is at most one move: messages join its uplink, the session
+/// takes the first of them, the client takes the next entry, or its connection is closed.
+pub fn instructions_are_moves()
+    ensures { InstructionsAreMoves }
+{}
 
 /// In every state of a session a message that is answered Filtered changes no canvas and no right,
 /// whatever entries come after it.

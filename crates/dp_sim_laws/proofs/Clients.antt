@@ -1,22 +1,19 @@
 -- What is true of a client and the answers to its sends, and that its instructions keep it so.
 use Rattle.std.proofs.Common.{◌≡◌, ◌⊎◌, ℕ, suc, ◌+◌, ◌<◌, ◌≤◌, ◌==◌, Bool, true, false, ◌&&◌}
 use Rattle.std.proofs.Common.{◌||◌, if◌then◌else◌}
-use Rattle.std.proofs.Common.{List, [], ◌∷◌, ◌++◌, length, take, drop, map, Option, None, Some}
+use Rattle.std.proofs.Common.{List, [], ◌∷◌, ◌++◌, length, take, drop, Option, None, Some}
 use Rattle.std.proofs.Common.{is_some}
 use Rattle.std.proofs.Common.{refl, sym, ap, subst, ◌∙◌, ⊎_elim, inl, inr, arith, append-nil}
 use Rattle.std.proofs.Common.{append_assoc, length-append, add-one}
-use Rattle.std.specs.Prelude.{option_to_list, nat_lt}
+use Rattle.std.specs.Prelude.{nat_lt}
 use Rattle.std.specs.List.{slice_get, AllByRecursion}
-use Rattle.std.proofs.lemmas.Bool.{cases_Bool, cases_eq, eq-eqb, ne_eqb}
+use Rattle.std.proofs.lemmas.Bool.{cases_Bool, cases_eq, ne_eqb}
 use Rattle.std.proofs.lemmas.List.{drop-append-le}
-use Rattle.dp_msg_draw.specs.declared.draw.Draw.{Draw}
 use Rattle.dp_msg_meta.specs.declared.message.Control.TheVariants.{Disconnect, Ack}
-use Rattle.dp_snap.specs.Resets.{reset_messages}
 use Rattle.dp_snap.specs.Snapshot.{snapshot}
 use Rattle.dp_messages.specs.declared.message.Msg.{Msg}
 use Rattle.dp_messages.specs.declared.message.Msg.TheVariants as msg
 use Rattle.dp_messages.specs.declared.message.Entry.{Entry}
-use Rattle.dp_messages.specs.Messages.{kind_of}
 use Rattle.dp_messages.specs.Properties.{is_disconnect, is_filtered, marked, carried_by}
 use Rattle.dp_messages.specs.Properties.{carried_in}
 use Rattle.dp_messages.specs.Equality.{same_message}
@@ -30,20 +27,20 @@ use Rattle.dp_epochs.specs.declared.event.Event.TheVariants as event
 use Rattle.dp_epochs.specs.declared.event.Reply.{Reply}
 use Rattle.dp_epochs.specs.declared.event.Reply.TheVariants as reply
 use Rattle.dp_epochs.specs.State.{State, open_connection, has_acknowledged, epoch_of, history_of}
-use Rattle.dp_epochs.specs.Past.{state_of, sure_answer}
-use Rattle.dp_epochs.specs.Laws.{IsHistory, AreHistories, ShutBefore}
+use Rattle.dp_epochs.specs.Past.{state_of, sure_step}
+use Rattle.dp_epochs.specs.Laws.{ShutBefore}
 use Rattle.dp_schedule.specs.declared.action.Instruction.{Instruction}
-use Rattle.dp_schedule.specs.declared.action.Instruction.TheVariants.{Say, Up, Take, Reset}
-use Rattle.dp_schedule.specs.declared.action.Instruction.TheVariants.{Leave, Cut}
-use Rattle.dp_sim.specs.declared.participant.LinkState.{LinkState}
 use Rattle.dp_sim.specs.declared.participant.LinkState.TheVariants.{Connected, Leaving, Closed}
-use Rattle.dp_sim.specs.Exchanges.{Participant, Exchange, is_gone, disconnected, heard, uplink_sent}
-use Rattle.dp_sim.specs.Exchanges.{next_entry, acks, took_next, done, exchanged}
+use Rattle.dp_sim.specs.Exchanges.{Participant, Exchange, heard, next_entry, acks, took_next}
+use Rattle.dp_sim.specs.Exchanges.{reset_of, exchanged}
 use Rattle.dp_sim.specs.Invariant.{IsParticipant, IsSayable, is_closed}
-use Rattle.dp_sim.proofs.OpenConnections.{live-is, mark-first, mark-next}
-use Rattle.dp_sim_laws.specs.OwnSteps.{steps_of_instruction, steps_of_exchange}
-use Rattle.dp_sim_laws.specs.Tally.{Tally, no_sends, tally_step, tally_from, up_replies}
-use Rattle.dp_sim_laws.specs.Tally.{instruction_replies, exchange_replies}
+use Rattle.dp_sim.specs.Moves.{Queued, Saying, Resetting, Parting, Move, Rests, Queues, SendsFirst}
+use Rattle.dp_sim.specs.Moves.{TakesNext, Closes, queued_messages, forked_messages, link_after}
+use Rattle.dp_sim.specs.Moves.{with_queued, after_move, instruction_move, IsQueuedBy, IsMoveBy}
+use Rattle.dp_sim.proofs.Marks.{live-is, NextHere, NextLater, next-either}
+use Rattle.dp_sim_laws.specs.OwnSteps.{steps_of_move, steps_of_exchange}
+use Rattle.dp_sim_laws.specs.Tally.{Tally, no_sends, tally_step, tally_from, move_replies}
+use Rattle.dp_sim_laws.specs.Tally.{exchange_replies}
 use Rattle.dp_sim_laws.proofs.Answering.{answers_from, answers-append, answers-same}
 use Rattle.dp_sim_laws.proofs.Answering.{answers-before, answers-none, answers-push, answers-at}
 use Rattle.dp_sim_laws.proofs.Answering.{NoAnswers, AnswersTo, Answer, answer-both, answer-none}
@@ -51,7 +48,7 @@ use Rattle.dp_sim_laws.proofs.Answering.{FirstSend, first-of, split-at, drop-fir
 use Rattle.dp_sim_laws.proofs.Events.{HasPeople, IsServerFirst, Passes, Grown, NotThis, Unheard}
 use Rattle.dp_sim_laws.proofs.Events.{unheard-more, passes-not, passes-both, Hears, HeardHere}
 use Rattle.dp_sim_laws.proofs.Events.{is_ack, is_send, sends_of}
-use Rattle.dp_sim_laws.proofs.Events.{Leading, passes-say, passes-close, hears-say}
+use Rattle.dp_sim_laws.proofs.Events.{Leading, NotEnded, passes-say, passes-close, hears-say}
 use Rattle.dp_sim_laws.proofs.Uplinks.{due, hears_more, MayStand, HasNoEnd, stands-high, high-send}
 use Rattle.dp_sim_laws.proofs.Uplinks.{no-ack, all-later, all-push, due-first, hears-first}
 use Rattle.dp_sim_laws.proofs.Uplinks.{all-both, all-reset, reset-messages, due-reset, hears-reset}
@@ -186,46 +183,21 @@ holds-passes s u Others number p t people passes other h =
 
 -- ---- the events of an exchange
 
-up-passes : Leading → (t : Exchange) (uplink : List Msg) → ShutBefore t.past
-    → HasPeople (state_of t.past)
-    → NeverEnds (up_replies t uplink)
-    → Passes (state_of t.past) (NotThis t.participant.conn) (state_of (uplink_sent t uplink).past)
-up-passes laws t [] before people goes = passes-not (state_of t.past) (NotThis t.participant.conn)
-    people
-up-passes laws t (m ∷ rest) before people goes = by_leave (is_disconnect m) goes
-  where
-    by_leave : (b : Bool)
-        → NeverEnds (sure_answer t.past (event.Say t.participant.conn m)
-        ∷ (if b then sure_answer (heard t m rest).past (event.Close t.participant.conn) ∷ []
-        else []))
-        → Passes (state_of t.past) (NotThis t.participant.conn)
-        (state_of (if b then disconnected (heard t m rest) else heard t m rest).past)
-    by_leave true goes =
-        let one = passes-say laws t.past t.participant.conn m before goes.0 people in
-        passes-both (state_of t.past) (state_of (heard t m rest).past)
-        (state_of (disconnected (heard t m rest)).past)
-        (NotThis t.participant.conn) one
-        (passes-close laws (heard t m rest).past t.participant.conn
-        (laws.before t.past (event.Say t.participant.conn m) before) goes.1.0
-        one.people)
-    by_leave false goes = passes-say laws t.past t.participant.conn m before goes.0 people
-
-next-past : (t : Exchange) (o : Option Entry) → (took_next t o).past ≡ t.past
-next-past t None = refl
-next-past t (Some entry) = refl
-
-done-passes : Leading → (t : Exchange) (instruction : Instruction) → ShutBefore t.past
-    → HasPeople (state_of t.past)
-    → NeverEnds (instruction_replies t instruction)
-    → Passes (state_of t.past) (NotThis t.participant.conn) (state_of (done t instruction).past)
-done-passes laws t Up before people goes = up-passes laws t t.participant.uplink before people goes
-done-passes laws t Take before people goes =
-    subst (λ past. Passes (state_of t.past) (NotThis t.participant.conn) (state_of past))
-    (sym (next-past t (next_entry t)))
-    (passes-not (state_of t.past) (NotThis t.participant.conn) people)
-done-passes laws t Cut before people goes =
+move-passes : Leading → (t : Exchange) (move : Move) → ShutBefore t.past
+    → HasPeople (state_of t.past) → NeverEnds (move_replies t move)
+    → Passes (state_of t.past) (NotThis t.participant.conn) (state_of (after_move t move).past)
+move-passes laws t (SendsFirst m rest) before people goes =
+    passes-say laws t.past t.participant.conn m before goes.0 people
+move-passes laws t (Closes None) before people goes =
     passes-close laws t.past t.participant.conn before goes.0 people
-done-passes laws t instruction before people goes =
+move-passes laws t (Closes (Some m)) before people goes =
+    let e = event.Say t.participant.conn m in
+    let said = sure_step t.past e in
+    let one = passes-say laws t.past t.participant.conn m before goes.0 people in
+    passes-both (state_of t.past) (state_of said) (state_of (after_move t (Closes (Some m))).past)
+    (NotThis t.participant.conn) one
+    (passes-close laws said t.participant.conn (laws.before t.past e before) goes.1.0 one.people)
+move-passes laws t move before people goes =
     passes-not (state_of t.past) (NotThis t.participant.conn) people
 
 pub exchange-passes : Leading → (t : Exchange) (instruction : Instruction) → ShutBefore t.past
@@ -233,36 +205,10 @@ pub exchange-passes : Leading → (t : Exchange) (instruction : Instruction) →
     → NeverEnds (exchange_replies t instruction)
     → Passes (state_of t.past) (NotThis t.participant.conn)
     (state_of (exchanged t instruction).past)
-exchange-passes laws t instruction before people goes = by_gone
-    (is_gone t.participant.link instruction) goes
-  where
-    by_gone : (b : Bool) → NeverEnds (if b then [] else instruction_replies t instruction)
-        → Passes (state_of t.past) (NotThis t.participant.conn)
-        (state_of (if b then t else done t instruction).past)
-    by_gone true goes = passes-not (state_of t.past) (NotThis t.participant.conn) people
-    by_gone false goes = done-passes laws t instruction before people goes
-
--- ---- histories
-
--- the live history is that of the live epoch, so it begins with its mark and has no other
-live-history : (s : State) → AreHistories s → IsHistory (epoch_of s) s.live
-live-history s marked =
-    subst (IsHistory (epoch_of s)) (live-is s) (marked (epoch_of s) (omega arith))
-
--- the next entry, by whether the client is of the live epoch
-next-here : (s : State) (c : client.State) (o : Option Entry) → c.epoch ≡ epoch_of s
-    → slice_get s.live (if c.epoch == epoch_of s then length c.taken else 0) ≡ o
-    → slice_get s.live (length c.taken) ≡ o
-next-here s c o here is =
-    sym (ap (λ b. slice_get s.live (if b then length c.taken else 0))
-    (eq-eqb c.epoch (epoch_of s) here)) ∙ is
-
-next-lagging : (s : State) (c : client.State) (o : Option Entry) → c.epoch < epoch_of s
-    → slice_get s.live (if c.epoch == epoch_of s then length c.taken else 0) ≡ o
-    → slice_get s.live 0 ≡ o
-next-lagging s c o less is =
-    sym (ap (λ b. slice_get s.live (if b then length c.taken else 0))
-    (ne_eqb c.epoch (epoch_of s) (λ same. omega (arith, same, less)))) ∙ is
+exchange-passes laws t instruction before people goes =
+    subst (λ u. Passes (state_of t.past) (NotThis t.participant.conn) (state_of u.past))
+    (sym (laws.moves t instruction).made)
+    (move-passes laws t (instruction_move t instruction) before people goes)
 
 -- ---- taking
 
@@ -415,25 +361,31 @@ prefix-here : (s : State) (number : ℕ) (p : Participant) → IsParticipant s n
 prefix-here s number p hp at =
     hp.prefix ∙ ap (take (length p.state.taken)) (ap (history_of s) at ∙ live-is s)
 
+-- the entry that comes next
+next-of : Leading → (number : ℕ) (t : Exchange) (entry : Entry)
+    → IsParticipant (state_of t.past) number t.participant → next_entry t ≡ Some entry
+    → NextHere (state_of t.past) t.participant.state entry
+    ⊎ NextLater (state_of t.past) t.participant.state entry
+next-of laws number t entry hp there =
+    next-either laws.taking (state_of t.past) t.participant.state entry (laws.marked t.past)
+    (is-of (state_of t.past) number t.participant hp) hp.known there
+
 -- an entry of the client's epoch
 holds-took-here : Leading → (s : State) (number : ℕ) (p : Participant) (t : Tally) (entry : Entry)
-    → AreHistories s → IsParticipant s number p → is_closed p.link ≡ false
-    → p.state.epoch ≡ epoch_of s → slice_get s.live (length p.state.taken) ≡ Some entry
+    → IsParticipant s number p → is_closed p.link ≡ false → NextHere s p.state entry
     → Holds s number p t
     → Holds s number (took_with p (client.took p.state entry) (client.taken_of p.state entry).ack)
     (tally_step p.state t (Took entry))
-holds-took-here laws s number p t entry marked hp up at there h =
+holds-took-here laws s number p t entry hp up next h =
     let c = p.state in
-    let history = subst (λ n. IsHistory n s.live) (sym at) (live-history s marked) in
-    let is = (laws.taking c entry (is-of s number p hp)).here
-    (mark-next c.epoch s.live c.taken entry history there) in
+    let is = next.takes in
     let Goal : Option ℕ → client.State → Type 0 =
     λ ack d. Holds s number (took_with p d ack)
     (if is_some ack then no_sends else tally_if (is_own_answer c entry) t) in
     subst (λ ack. Goal ack (client.took c entry)) (sym is.ack)
     (subst (Goal None) (sym is.took)
     (holds-own laws s number p t entry (is_own_answer c entry) is.stays
-    (prefix-here s number p hp at) up at there refl h))
+    (prefix-here s number p hp next.at) up next.at next.there refl h))
 
 -- the mark of the live epoch, which is new to the client
 here-opened : (s : State) (connection : Connection) (p : Participant) (entry : Entry)
@@ -469,17 +421,17 @@ here-opened s connection p entry of less there stands endless h =
     carried-first (y ∷ live) x is = let same : y ≡ x = cc in
         sym (ap (λ z. carried_by z.msg) same)
 
-holds-took-later : Leading → (s : State) (number : ℕ) (p : Participant) (t : Tally) (entry : Entry)
-    → AreHistories s → IsParticipant s number p → is_closed p.link ≡ false
-    → p.state.epoch < epoch_of s → slice_get s.live 0 ≡ Some entry → Holds s number p t
+holds-took-later : (s : State) (number : ℕ) (p : Participant) (t : Tally) (entry : Entry)
+    → IsParticipant s number p → is_closed p.link ≡ false → NextLater s p.state entry
+    → Holds s number p t
     → Holds s number (took_with p (client.took p.state entry) (client.taken_of p.state entry).ack)
     (tally_step p.state t (Took entry))
-holds-took-later laws s number p t entry marked hp up less there h =
+holds-took-later s number p t entry hp up next h =
     let c = p.state in
     let e = epoch_of s in
     let of = is-of s number p hp in
-    let mark = mark-first e s.live entry (live-history s marked) there in
-    let is = (laws.taking c entry of).later e less mark in
+    let less : c.epoch < e = next.less in
+    let is = next.takes in
     let Goal : Option ℕ → client.State → Type 0 =
     λ ack d. Holds s number (took_with p d ack)
     (if is_some ack then no_sends else tally_if (is_own_answer c entry) t) in
@@ -497,7 +449,7 @@ holds-took-later laws s number p t entry marked hp up less there h =
             (all-later c.epoch e p.uplink (omega (arith, less)) live.stands) (omega arith);
         endless = λ on. all-push (λ m. is_disconnect m ≡ false) p.uplink (msg.Control (Ack e))
             (live.endless on) refl;
-        here = λ same. here-opened s live.connection p entry of less there live.stands
+        here = λ same. here-opened s live.connection p entry of less next.there live.stands
             live.endless (live.lags less);
         lags = λ below. absurd (omega (arith, below));
       };
@@ -505,74 +457,83 @@ holds-took-later laws s number p t entry marked hp up less there h =
     subst (λ ack. Goal ack (client.took c entry)) (sym is.ack)
     (subst (Goal (Some e)) (sym is.took) new)
 
-holds-next : Leading → (number : ℕ) (t : Exchange) (tally : Tally) (o : Option Entry)
+holds-next : Leading → (number : ℕ) (t : Exchange) (tally : Tally) (entry : Entry)
     → IsParticipant (state_of t.past) number t.participant → is_closed t.participant.link ≡ false
-    → next_entry t ≡ o → Holds (state_of t.past) number t.participant tally
-    → Holds (state_of (took_next t o).past) number (took_next t o).participant
-    (tally_from t.participant.state tally (map Took (option_to_list o)))
-holds-next laws number t tally None hp up there h = h
-holds-next laws number t tally (Some entry) hp up there h =
+    → next_entry t ≡ Some entry → Holds (state_of t.past) number t.participant tally
+    → Holds (state_of t.past) number (took_next t (Some entry)).participant
+    (tally_step t.participant.state tally (Took entry))
+holds-next laws number t tally entry hp up there h =
     let s = state_of t.past in
     let p = t.participant in
-    let marked = laws.marked t.past in
-    ⊎_elim (λ (at : p.state.epoch ≡ epoch_of s).
-    holds-took-here laws s number p tally entry marked hp up at
-    (next-here s p.state (Some entry) at there) h)
-    (λ (ne : p.state.epoch ≡ epoch_of s → ⊥).
-    let less : p.state.epoch < epoch_of s = omega (arith, ne, hp.known) in
-    holds-took-later laws s number p tally entry marked hp up less
-    (next-lagging s p.state (Some entry) less there) h)
-    (cases_eq p.state.epoch (epoch_of s))
-
--- ---- saying
-
-gone-say : (p : LinkState) (m : Msg) → is_gone p (Say m) ≡ false → p ≡ Connected
-gone-say Connected m h = refl
-gone-say Leaving m h = cc
-gone-say Closed m h = cc
-
-gone-reset : (p : LinkState) → is_gone p Reset ≡ false → p ≡ Connected
-gone-reset Connected h = refl
-gone-reset Leaving h = cc
-gone-reset Closed h = cc
-
-gone-leave : (p : LinkState) → is_gone p Leave ≡ false → p ≡ Connected
-gone-leave Connected h = refl
-gone-leave Leaving h = cc
-gone-leave Closed h = cc
-
-pub not-gone : (p : LinkState) (d : Instruction) → is_gone p d ≡ false → is_closed p ≡ false
-not-gone Connected d h = refl
-not-gone Leaving d h = refl
-not-gone Closed d h = cc
+    ⊎_elim (λ (next : NextHere s p.state entry).
+    holds-took-here laws s number p tally entry hp up next h)
+    (λ (next : NextLater s p.state entry).
+    holds-took-later s number p tally entry hp up next h)
+    (next-of laws number t entry hp there)
 
 -- ---- what joins the uplink
 
--- the client whose uplink more joins, with another fork and link
-abbrev queued_of : Participant → List Msg → List Msg → LinkState → Participant
-queued_of p fork more link = record p {
-  state = record p.state { fork = fork };
-  uplink = p.uplink ++ more;
-  link = link;
-}
-
--- these may join the uplink of a connected client, and of them those are sends to be answered
-record MayQueue (p : Participant) (more sends : List Msg) (link : LinkState) : Type 0 where
-  stands : AllByRecursion (MayStand p.state.epoch) more
-  endless : link ≡ Connected → HasNoEnd more
+-- what a connected client queues may stand there, and of it those that are said are to be answered
+record MayQueue (p : Participant) (queued : Queued) : Type 0 where
+  stands : AllByRecursion (MayStand p.state.epoch) (queued_messages p queued)
+  endless : link_after queued ≡ Connected → HasNoEnd (queued_messages p queued)
   dues : (epoch : ℕ) (ready : Bool) → hears_more epoch ready p.uplink ≡ true
-      → due epoch ready (p.uplink ++ more) ≡ due epoch ready p.uplink ++ sends
-  hears : (epoch : ℕ) (ready : Bool) → link ≡ Connected → hears_more epoch ready p.uplink ≡ true
-      → hears_more epoch ready (p.uplink ++ more) ≡ true
+      → due epoch ready (p.uplink ++ queued_messages p queued)
+      ≡ due epoch ready p.uplink ++ forked_messages queued
+  hears : (epoch : ℕ) (ready : Bool) → link_after queued ≡ Connected
+      → hears_more epoch ready p.uplink ≡ true
+      → hears_more epoch ready (p.uplink ++ queued_messages p queued) ≡ true
 
-module _ (s : State) (number : ℕ) (p : Participant) (t : Tally) (fork more sends : List Msg)
-    (link : LinkState) (on : p.link ≡ Connected) (may : MayQueue p more sends link) where
-  -- the tally with those sends
+may-queue : (p : Participant) (instruction : Instruction) (queued : Queued)
+    → IsQueuedBy instruction queued → IsSayable instruction → MayQueue p queued
+may-queue p instruction (Saying m) by may =
+    let send = high-send p.state.epoch m (subst IsSayable by may) in
+    record {
+      stands = (send.0, tt);
+      endless = λ still. (send.2, tt);
+      dues = λ epoch ready hears. due-push epoch ready p.uplink m hears send.1 send.2;
+      hears = λ epoch ready still hears. hears-push epoch ready p.uplink m hears send.2;
+    }
+may-queue p instruction Resetting by may =
+    let more = reset_of p in
+    let all = reset-messages (snapshot (client.confirmed p.state)) in
+    record {
+      stands = all-reset (MayStand p.state.epoch) more (λ m of. of.stands p.state.epoch) all;
+      endless = λ still. all-reset (λ m. is_disconnect m ≡ false) more (λ m of. of.endless) all;
+      dues = λ epoch ready hears. due-reset epoch ready p.uplink more all
+          ∙ sym (append-nil (due epoch ready p.uplink));
+      hears = λ epoch ready still hears. hears-reset epoch ready p.uplink more all hears;
+    }
+may-queue p instruction Parting by may =
+    let never : Leaving ≡ Connected → ⊥ = λ still. cc in
+    record {
+      stands = (tt, tt);
+      endless = λ still. absurd (never still);
+      dues = λ epoch ready hears. due-end epoch ready p.uplink (msg.Control (Disconnect 0)) refl
+          ∙ sym (append-nil (due epoch ready p.uplink));
+      hears = λ epoch ready still hears. absurd (never still);
+    }
+
+-- the tally with what is said
+queued-tally : (c : client.State) (t : Tally) (queued : Queued)
+    → tally_from c t (steps_of_move (Queues queued))
+    ≡ record t { sends = t.sends ++ forked_messages queued }
+queued-tally c t (Saying m) = refl
+queued-tally c t queued = ap (λ sends. record t { sends = sends }) (sym (append-nil t.sends))
+
+module _ (s : State) (number : ℕ) (p : Participant) (t : Tally) (queued : Queued)
+    (on : p.link ≡ Connected) (may : MayQueue p queued) where
+  abbrev more : List Msg
+  more = queued_messages p queued
+
+  abbrev sends : List Msg
+  sends = forked_messages queued
+
   abbrev sent_tally : Tally
   sent_tally = record t { sends = t.sends ++ sends }
 
   here-queued : (epoch : ℕ) (live : List Entry) (ready : Bool) → IsHere epoch live ready p t
-      → IsHere epoch live ready (queued_of p fork more link) sent_tally
+      → IsHere epoch live ready (with_queued p queued) sent_tally
   here-queued epoch live ready h = record {
     base = h.base;
     sent = h.sent;
@@ -584,12 +545,10 @@ module _ (s : State) (number : ℕ) (p : Participant) (t : Tally) (fork more sen
     more = λ still. may.hears epoch ready still (h.more on);
   }
 
-  holds-queued : fork ≡ p.state.fork ++ sends → Holds s number p t
-      → Holds s number (queued_of p fork more link) sent_tally
-  holds-queued now h = record {
+  holds-queued : Holds s number p t → Holds s number (with_queued p queued) sent_tally
+  holds-queued h = record {
     few = omega (arith, h.few, length-append t.sends sends);
-    fork = now ∙ ap (λ ms. ms ++ sends) h.fork
-        ∙ sym (drop-append-le t.answers t.sends sends h.few);
+    fork = ap (λ ms. ms ++ sends) h.fork ∙ sym (drop-append-le t.answers t.sends sends h.few);
     live = λ up.
         let l = h.live (ap is_closed on) in
         record {
@@ -605,59 +564,6 @@ module _ (s : State) (number : ℕ) (p : Participant) (t : Tally) (fork more sen
           lags = λ less. let b = l.lags less in record { late = b.late; unheard = b.unheard };
         };
   }
-
--- where none of them is to be answered
-holds-waiting : (s : State) (number : ℕ) (p : Participant) (t : Tally) (more : List Msg)
-    (link : LinkState) → p.link ≡ Connected → MayQueue p more [] link → Holds s number p t
-    → Holds s number (record p { uplink = p.uplink ++ more; link = link }) t
-holds-waiting s number p t more link on may h =
-    subst (λ sends. Holds s number (queued_of p p.state.fork more link)
-    (record t { sends = sends })) (append-nil t.sends)
-    (holds-queued s number p t p.state.fork more [] link on may (sym (append-nil p.state.fork)) h)
-
-holds-said : (s : State) (number : ℕ) (p : Participant) (t : Tally) (m : Msg) → p.link ≡ Connected
-    → 32 ≤ kind_of m
-    → Holds s number p t
-    → Holds s number (record p { state = client.said p.state m; uplink = p.uplink ++ m ∷ [] })
-    (record t { sends = t.sends ++ m ∷ [] })
-holds-said s number p t m on high h =
-    let send = high-send p.state.epoch m high in
-    holds-queued s number p t (p.state.fork ++ m ∷ []) (m ∷ []) (m ∷ []) p.link on (record {
-      stands = (send.0, tt);
-      endless = λ still. (send.2, tt);
-      dues = λ epoch ready hears. due-push epoch ready p.uplink m hears send.1 send.2;
-      hears = λ epoch ready still hears. hears-push epoch ready p.uplink m hears send.2;
-    }) refl h
-
-holds-reset : (s : State) (number : ℕ) (p : Participant) (t : Tally) (commands : List Draw)
-    → p.link ≡ Connected → Holds s number p t
-    → Holds s number (record p { uplink = p.uplink ++ reset_messages commands }) t
-holds-reset s number p t commands on h =
-    let more = reset_messages commands in
-    let all = reset-messages commands in
-    holds-waiting s number p t more p.link on (record {
-      stands = all-reset (MayStand p.state.epoch) more (λ m of. of.stands p.state.epoch) all;
-      endless = λ still. all-reset (λ m. is_disconnect m ≡ false) more (λ m of. of.endless) all;
-      dues = λ epoch ready hears. due-reset epoch ready p.uplink more all
-          ∙ sym (append-nil (due epoch ready p.uplink));
-      hears = λ epoch ready still hears. hears-reset epoch ready p.uplink more all hears;
-    }) h
-
-holds-leaving : (s : State) (number : ℕ) (p : Participant) (t : Tally) → p.link ≡ Connected
-    → Holds s number p t
-    → Holds s number (record p {
-      uplink = p.uplink ++ msg.Control (Disconnect 0) ∷ [];
-      link = Leaving;
-    }) t
-holds-leaving s number p t on h =
-    let leave = msg.Control (Disconnect 0) in
-    holds-waiting s number p t (leave ∷ []) Leaving on (record {
-      stands = (tt, tt);
-      endless = λ still. let not_so : Leaving ≡ Connected = still in cc;
-      dues = λ epoch ready hears. due-end epoch ready p.uplink leave refl
-          ∙ sym (append-nil (due epoch ready p.uplink));
-      hears = λ epoch ready still hears. let not_so : Leaving ≡ Connected = still in cc;
-    }) h
 
 -- a client that is closed
 holds-closed : (s u : State) (number : ℕ) (p : Participant) (t : Tally) (uplink : List Msg)
@@ -766,14 +672,20 @@ module _ (s u : State) (number : ℕ) (p : Participant) (t : Tally) (m : Msg) (r
     lags = lagging-after;
   }
 
-holds-up : Leading → (number : ℕ) (t : Exchange) (uplink : List Msg) (tally : Tally)
-    → ShutBefore t.past
+holds-heard : Leading → (number : ℕ) (t : Exchange) (m : Msg) (rest : List Msg) (tally : Tally)
+    → ShutBefore t.past → NotEnded t.past (event.Say t.participant.conn m)
     → HasPeople (state_of t.past) → IsParticipant (state_of t.past) number t.participant
-    → t.participant.uplink ≡ uplink
-    → NeverEnds (up_replies t uplink) → Holds (state_of t.past) number t.participant tally
-    → Holds (state_of (uplink_sent t uplink).past) number (uplink_sent t uplink).participant tally
-holds-up laws number t [] tally before people hp up goes h = h
-holds-up laws number t (m ∷ rest) tally before people hp up goes h = by_leave (is_disconnect m) refl
+    → t.participant.uplink ≡ m ∷ rest → is_disconnect m ≡ false
+    → Holds (state_of t.past) number t.participant tally
+    → Holds (state_of (heard t m rest).past) number (heard t m rest).participant tally
+holds-heard laws number t m rest tally before ends people hp up goes h = record {
+  few = h.few;
+  fork = h.fork;
+  live = λ here.
+      let l = h.live here in
+      live-heard (state_of t.past) (state_of (heard t m rest).past) number t.participant tally m
+      rest people up goes l (hears-it l);
+}
   where
     hears-it : (l : Live (state_of t.past) number t.participant tally)
         → Hears (state_of t.past) number l.connection m (state_of (heard t m rest).past)
@@ -784,48 +696,30 @@ holds-up laws number t (m ∷ rest) tally before people hp up goes h = by_leave 
         let there : open_connection s t.participant.conn ≡ Some l.connection =
         ap (open_connection s) hp.conn ∙ l.found in
         subst (λ n. Hears s n l.connection m (state_of (heard t m rest).past)) hp.conn
-        (hears-say laws t.past t.participant.conn m l.connection before goes.0 there high)
-
-    by_leave : (b : Bool) → is_disconnect m ≡ b
-        → Holds (state_of (if b then disconnected (heard t m rest) else heard t m rest).past) number
-        (if b then disconnected (heard t m rest) else heard t m rest).participant tally
-    by_leave true is =
-        holds-closed (state_of t.past) (state_of (disconnected (heard t m rest)).past) number
-        t.participant tally [] h
-    by_leave false is = record {
-      few = h.few;
-      fork = h.fork;
-      live = λ here.
-          let l = h.live here in
-          live-heard (state_of t.past) (state_of (heard t m rest).past) number t.participant tally m
-          rest people up is l (hears-it l);
-    }
+        (hears-say laws t.past t.participant.conn m l.connection before ends there high)
 
 -- ---- exchanges
 
-holds-done : Leading → (number : ℕ) (t : Exchange) (instruction : Instruction) (tally : Tally)
-    → ShutBefore t.past
+holds-moved : Leading → (number : ℕ) (t : Exchange) (instruction : Instruction) (move : Move)
+    (tally : Tally) → ShutBefore t.past
     → HasPeople (state_of t.past) → IsParticipant (state_of t.past) number t.participant
-    → is_gone t.participant.link instruction ≡ false → IsSayable instruction
-    → NeverEnds (instruction_replies t instruction)
+    → IsMoveBy t instruction move → IsSayable instruction → NeverEnds (move_replies t move)
     → Holds (state_of t.past) number t.participant tally
-    → Holds (state_of (done t instruction).past) number (done t instruction).participant
-    (tally_from t.participant.state tally (steps_of_instruction t instruction))
-holds-done laws number t (Say m) tally before people hp there may goes h =
-    holds-said (state_of t.past) number t.participant tally m (gone-say t.participant.link m there)
-    may h
-holds-done laws number t Up tally before people hp there may goes h =
-    holds-up laws number t t.participant.uplink tally before people hp refl goes h
-holds-done laws number t Take tally before people hp there may goes h =
-    holds-next laws number t tally (next_entry t) hp (not-gone t.participant.link Take there) refl h
-holds-done laws number t Reset tally before people hp there may goes h =
-    holds-reset (state_of t.past) number t.participant tally (snapshot
-    (client.confirmed t.participant.state)) (gone-reset t.participant.link there) h
-holds-done laws number t Leave tally before people hp there may goes h =
-    holds-leaving (state_of t.past) number t.participant tally (gone-leave t.participant.link there)
-    h
-holds-done laws number t Cut tally before people hp there may goes h =
-    holds-closed (state_of t.past) (state_of (disconnected t).past) number t.participant tally [] h
+    → Holds (state_of (after_move t move).past) number (after_move t move).participant
+    (tally_from t.participant.state tally (steps_of_move move))
+holds-moved laws number t instruction Rests tally before people hp is may goes h = h
+holds-moved laws number t instruction (Queues queued) tally before people hp is may goes h =
+    let s = state_of t.past in
+    let p = t.participant in
+    subst (Holds s number (with_queued p queued)) (sym (queued-tally p.state tally queued))
+    (holds-queued s number p tally queued is.1 (may-queue p instruction queued is.0 may) h)
+holds-moved laws number t instruction (SendsFirst m rest) tally before people hp is may goes h =
+    holds-heard laws number t m rest tally before goes.0 people hp is.1 is.2 h
+holds-moved laws number t instruction (TakesNext entry) tally before people hp is may goes h =
+    holds-next laws number t tally entry hp is.0 is.1 h
+holds-moved laws number t instruction (Closes last) tally before people hp is may goes h =
+    holds-closed (state_of t.past) (state_of (after_move t (Closes last)).past) number
+    t.participant tally [] h
 
 -- what holds of a client holds of it after its exchange
 pub holds-exchanged : Leading → (number : ℕ) (t : Exchange) (instruction : Instruction)
@@ -837,17 +731,11 @@ pub holds-exchanged : Leading → (number : ℕ) (t : Exchange) (instruction : I
     → Holds (state_of (exchanged t instruction).past) number (exchanged t instruction).participant
     (tally_from t.participant.state tally (steps_of_exchange t instruction))
 holds-exchanged laws number t instruction tally before people hp may goes h =
-    by_gone (is_gone t.participant.link instruction) refl goes
-  where
-    by_gone : (b : Bool) → is_gone t.participant.link instruction ≡ b
-        → NeverEnds (if b then [] else instruction_replies t instruction)
-        → Holds (state_of (if b then t else done t instruction).past) number
-        (if b then t else done t instruction).participant
-        (tally_from t.participant.state tally
-        (if b then [] else steps_of_instruction t instruction))
-    by_gone true is goes = h
-    by_gone false is goes =
-        holds-done laws number t instruction tally before people hp is may goes h
+    let is = laws.moves t instruction in
+    subst (λ u. Holds (state_of u.past) number u.participant
+    (tally_from t.participant.state tally (steps_of_exchange t instruction))) (sym is.made)
+    (holds-moved laws number t instruction (instruction_move t instruction) tally before people hp
+    is.may may goes h)
 
 -- ---- the next entry
 
@@ -891,15 +779,12 @@ next-kept laws number t tally entry people hp h up there lost =
     let s = state_of t.past in
     let p = t.participant in
     let l = h.live up in
-    ⊎_elim (λ (at : p.state.epoch ≡ epoch_of s).
+    ⊎_elim (λ (next : NextHere s p.state entry).
     kept-here laws (epoch_of s) s.live (has_acknowledged s l.connection) p tally entry
-    (prefix-here s number p hp at) (l.here at) h.fork (next-here s p.state (Some entry) at there)
-    lost)
-    (λ (ne : p.state.epoch ≡ epoch_of s → ⊥).
-    let less : p.state.epoch < epoch_of s = omega (arith, ne, hp.known) in
+    (prefix-here s number p hp next.at) (l.here next.at) h.fork next.there lost)
+    (λ (next : NextLater s p.state entry).
     let user : 1 ≤ p.state.user =
     omega (arith, l.user, people.connections.users number l.connection l.found) in
-    let strange = server-at p.state s.live entry user people.server
-    (next-lagging s p.state (Some entry) less there) in
+    let strange = server-at p.state s.live entry user people.server next.there in
     let e : Stranger ≡ Lost = sym strange ∙ lost in cc)
-    (cases_eq p.state.epoch (epoch_of s))
+    (next-of laws number t entry hp there)

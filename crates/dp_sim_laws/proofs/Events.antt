@@ -7,8 +7,7 @@ use Rattle.std.proofs.Common.{refl, sym, ap, subst, ◌∙◌, ⊎_elim, inl, in
 use Rattle.std.proofs.Common.{append_assoc, length-append}
 use Rattle.std.specs.Prelude.{slice_set}
 use Rattle.std.specs.List.{find, list_any, range_with_len, slice_get}
-use Rattle.std.specs.Option.{option_map_or}
-use Rattle.std.proofs.lemmas.Bool.{cases_eq, cases_Bool, cond_both, eq-eqb, eqb-true, or_parts}
+use Rattle.std.proofs.lemmas.Bool.{cases_eq, cases_Bool, cond_both, eq-eqb, or_parts}
 use Rattle.std.proofs.lemmas.Bool.{and_parts, le-leb, not-true, false≢true}
 use Rattle.dp_client.specs.Client.{may_answer}
 use Rattle.dp_client.specs.Taking.{EntriesAreTaken}
@@ -35,19 +34,21 @@ use Rattle.dp_epochs.specs.declared.event.Event.{Event}
 use Rattle.dp_epochs.specs.declared.event.Event.TheVariants as event
 use Rattle.dp_epochs.specs.declared.event.Reply.{Reply}
 use Rattle.dp_epochs.specs.declared.event.Reply.TheVariants as reply
-use Rattle.dp_epochs.specs.State.{State, first_state, acted, stays, noted, after_event, epoch_of}
-use Rattle.dp_epochs.specs.State.{here, entry_of, filtered_entry, epoch_opened, present_users}
+use Rattle.dp_epochs.specs.State.{State, first_state, noted, after_event, epoch_of}
+use Rattle.dp_epochs.specs.State.{here, entry_of, filtered_entry, present_users}
 use Rattle.dp_epochs.specs.State.{is_present, user_ids, free_id, new_connection, next_owner}
 use Rattle.dp_epochs.specs.Connections.{is_open}
 use Rattle.dp_epochs.specs.State.{open_in, open_connection, has_acknowledged}
-use Rattle.dp_epochs.specs.State.{judged, heard, decided, acted_by, says_by, fits_reset}
+use Rattle.dp_epochs.specs.State.{judged, heard, decided, fits_reset}
 use Rattle.dp_epochs.specs.State.{part_decided, may_begin, reset_of, sent_commands}
 use Rattle.dp_epochs.specs.Effects.{own_message, made, entries_of, ended_after, live_after}
 use Rattle.dp_epochs.specs.Effects.{connections_after, answer_of, IsStill, IsSaid}
-use Rattle.dp_epochs.specs.Effects.{IsEffect, EventsHaveEffects}
+use Rattle.dp_epochs.specs.Effects.{IsEffect, effect_by, EventsHaveEffects, EffectsAreMade}
+use Rattle.dp_epochs.specs.Effects.{DecisionsHaveEffects}
 use Rattle.dp_epochs.specs.Rows.{has_room}
 use Rattle.dp_epochs.specs.Past.{Past, state_of, kept, refused, answer_to, sure_step, sure_answer}
 use Rattle.dp_epochs.specs.Laws.{ShutBefore, AreHistories}
+use Rattle.dp_sim.specs.Moves.{InstructionsAreMoves}
 use Rattle.dp_lists.specs.Numbered.{numbered}
 use Rattle.dp_lists.proofs.Numbered.{number-found, numbered-same, numbered-old}
 use Rattle.dp_lists.proofs.Numbered.{numbered-either, numbered-new}
@@ -298,23 +299,8 @@ may-permitted : (h : List Entry) (user : ℕ) (m : Msg) → permitted h user m �
     → may_answer m ≡ true
 may-permitted h user (msg.Meta (meta.Join registered name)) may = cc
 may-permitted h user (msg.Meta meta.Leave) may = cc
-may-permitted h user (msg.Meta (meta.Owners ids)) may = refl
-may-permitted h user (msg.Meta (meta.Chat text)) may = refl
-may-permitted h user (msg.Meta (meta.Trusted ids)) may = refl
-may-permitted h user (msg.Meta (meta.ResetMark epoch carried)) may = refl
-may-permitted h user (msg.Meta (meta.Laser x y)) may = refl
-may-permitted h user (msg.Meta (meta.MovePointer x y)) may = refl
-may-permitted h user (msg.Meta (meta.UserAcl ids)) may = refl
-may-permitted h user (msg.Meta (meta.LayerAcl layer locked tier ids)) may = refl
-may-permitted h user (msg.Meta (meta.FeatureTiers tiers)) may = refl
 may-permitted h user (msg.Meta (meta.Filtered kind)) may = cc
-may-permitted h user (msg.Meta (meta.UndoDepth depth)) may = refl
-may-permitted h user (msg.Control m) may = refl
-may-permitted h user (msg.Part command) may = refl
-may-permitted h user msg.Point may = refl
-may-permitted h user (msg.Undo target redo) may = refl
-may-permitted h user (msg.Draw command) may = refl
-may-permitted h user (msg.Opaque kind body) may = refl
+may-permitted h user m may = refl
 
 -- the last of a test of two parts fails
 pub and_no : (a : Bool) → (a && false) ≡ false
@@ -325,12 +311,99 @@ or_no : (a : Bool) → (a || false) ≡ a
 or_no true = refl
 or_no false = refl
 
+-- ---- what a message is, by what becomes of it
+
+-- a send has a kind from 32 on
+abbrev pub IsHigh : Msg → Type 0
+IsHigh (msg.Control m) = Unit {0}
+IsHigh (msg.Part command) = Unit {0}
+IsHigh m = 32 ≤ kind_of m
+
+high-kind : (m : Msg) → IsHigh m → is_send m ≡ true → 32 ≤ kind_of m
+high-kind (msg.Control m) high send = cc
+high-kind (msg.Part command) high send = cc
+high-kind m high send = high
+
+low-kind : (m : Msg) → is_send m ≡ false → nat_le 32 (kind_of m) ≡ false
+low-kind (msg.Control (control.Hello name)) send = refl
+low-kind (msg.Control m) send = refl
+low-kind (msg.Part command) send = refl
+low-kind m send = cc
+
+-- What is ignored is no acknowledgement that counts, and no send of a connection that has taken up
+-- the epoch; that epoch is acknowledged; and what is placed is a send.
+abbrev pub IsOf : State → Connection → Msg → Decision → Type 0
+IsOf s c m decision.Ignore =
+    ((has_acknowledged s c || is_ack (epoch_of s) m) ≡ has_acknowledged s c)
+    × ((has_acknowledged s c && is_send m) ≡ false)
+IsOf s c m decision.Acknowledge = is_ack (epoch_of s) m ≡ true
+IsOf s c m decision.Place = is_send m ≡ true
+IsOf s c m other = Unit {0}
+
+ignored-ack : (a b : Bool) → (a && not b) ≡ false → (b || a) ≡ b
+ignored-ack true true is = refl
+ignored-ack true false is = cc
+ignored-ack false b is = or_no b
+
+module _ (s : State) (conn : ℕ) (c : Connection) where
+  asked-is : (m : Msg) (d : Decision) → is_ack (epoch_of s) m ≡ false → IsOf s c m d
+      → IsOf s c m (if has_acknowledged s c then d else decision.Ignore)
+  asked-is m d ack h =
+      cond_both (has_acknowledged s c) d decision.Ignore (IsOf s c m) (λ ready. h)
+      (λ late. (
+        ap (λ a. has_acknowledged s c || a) ack ∙ or_no (has_acknowledged s c),
+        ap (λ b. b && is_send m) late,
+      ))
+
+  part-is : (command : Draw) (o : Option (List Draw))
+      → IsOf s c (msg.Part command) (part_decided command o)
+  part-is command None = tt
+  part-is command (Some commands) =
+      cond_both (fits_reset commands command) decision.AddPart decision.DropReset
+      (IsOf s c (msg.Part command)) (λ fits. tt) (λ full. tt)
+
+  pub decided-is : (m : Msg) → IsOf s c m (decided s conn c m)
+  decided-is (msg.Control (control.Ping pong)) =
+      (or_no (has_acknowledged s c), and_no (has_acknowledged s c))
+  decided-is (msg.Control (control.Disconnect reason)) =
+      (or_no (has_acknowledged s c), and_no (has_acknowledged s c))
+  decided-is (msg.Control (control.Ack epoch)) =
+      let b = has_acknowledged s c in
+      cond_both (epoch == epoch_of s && not b) decision.Acknowledge decision.Ignore
+      (IsOf s c (msg.Control (control.Ack epoch)))
+      (λ yes. (and_parts (epoch == epoch_of s) (not b) yes).0)
+      (λ no. (ignored-ack (epoch == epoch_of s) b no, and_no b))
+  decided-is (msg.Control control.ResetBegin) =
+      let m = msg.Control control.ResetBegin in
+      asked-is m (heard s conn c m) refl
+      (cond_both (may_begin s conn c) decision.BeginReset decision.Filter (IsOf s c m) (λ yes. tt)
+      (λ no. tt))
+  decided-is (msg.Control control.ResetEnd) =
+      let m = msg.Control control.ResetEnd in
+      asked-is m (heard s conn c m) refl
+      (cond_both (is_some (reset_of s conn c)) decision.OpenEpoch decision.Filter (IsOf s c m)
+      (λ yes. tt) (λ no. tt))
+  decided-is (msg.Control m) = asked-is (msg.Control m) decision.Filter refl tt
+  decided-is (msg.Part command) =
+      asked-is (msg.Part command) (part_decided command (reset_of s conn c)) refl
+      (part-is command (reset_of s conn c))
+  decided-is m =
+      asked-is m (judged s c m) refl
+      (cond_both (permitted s.live c.user m) decision.Place decision.Filter (IsOf s c m)
+      (λ may. refl) (λ no. tt))
+
+-- ---- what a decision makes of the connection
+
 module _ (s : State) (conn : ℕ) (c : Connection) (m : Msg)
     (found : open_connection s conn ≡ Some c) where
+  -- the state after the effect of a decision
+  abbrev by_decision : Decision → State
+  by_decision d = noted s (made s (event.Say conn m) (effect_by conn c d))
+
   -- the epoch and the connection stay, and the history grows by entries that answer so
   hears-here : (u : State) (more : List Entry) → u.ended ≡ s.ended → u.connections ≡ s.connections
-      → u.live ≡ s.live ++ more → (has_acknowledged s c || is_ack (epoch_of s) m)
-      ≡ has_acknowledged s c
+      → u.live ≡ s.live ++ more
+      → (has_acknowledged s c || is_ack (epoch_of s) m) ≡ has_acknowledged s c
       → ((at n : ℕ) → at < n
       → Answer (answers_from c.user at n more) (sends_of (has_acknowledged s c) m))
       → Hears s conn c m u
@@ -348,29 +421,29 @@ module _ (s : State) (conn : ℕ) (c : Connection) (m : Msg)
     later = λ less. absurd (omega (arith, less, ap length ended));
   }
 
-  -- nothing is placed
-  hears-still : (u : State) → u.ended ≡ s.ended → u.connections ≡ s.connections → u.live ≡ s.live
-      → (has_acknowledged s c || is_ack (epoch_of s) m) ≡ has_acknowledged s c
-      → (has_acknowledged s c && is_send m) ≡ false → Hears s conn c m u
-  hears-still u ended connections live ready none =
-      hears-here u [] ended connections (live ∙ sym (append-nil s.live)) ready
-      (λ at n below. subst (λ b. Answer [] (if b then m ∷ [] else [])) (sym none) tt)
+  -- a connection that has taken up the epoch says what is no send
+  module _ (ready : has_acknowledged s c ≡ true) (send : is_send m ≡ false) where
+    ready-stays : (has_acknowledged s c || is_ack (epoch_of s) m) ≡ has_acknowledged s c
+    ready-stays = ap (λ b. b || is_ack (epoch_of s) m) ready ∙ sym ready
 
-  -- an entry stands in place of a message that is no send
-  hears-filtered : (u : State) → u.ended ≡ s.ended → u.connections ≡ s.connections
-      → u.live ≡ s.live ++ filtered_entry c.user m ∷ []
-      → is_ack (epoch_of s) m ≡ false → is_send m ≡ false → nat_le 32 (kind_of m) ≡ false
-      → Hears s conn c m u
-  hears-filtered u ended connections live ack send low =
-      let b = has_acknowledged s c in
-      let entry = filtered_entry c.user m in
-      hears-here u (entry ∷ []) ended connections live (ap (λ a. b || a) ack ∙ or_no b)
-      (λ at n below.
-      let none : answers_from c.user at n (entry ∷ []) ≡ [] =
-      answers-none c.user at n (entry ∷ []) (none-mute c.user entry [] low tt) in
-      let no : (b && is_send m) ≡ false = ap (λ a. b && a) send ∙ and_no b in
-      subst (λ ms. Answer ms (sends_of b m)) (sym none)
-      (subst (λ a. Answer [] (if a then m ∷ [] else [])) (sym no) tt))
+    no-sends : (ms : List Msg) → ms ≡ [] → Answer ms (sends_of (has_acknowledged s c) m)
+    no-sends ms none =
+        subst (λ ns. Answer ns (sends_of (has_acknowledged s c) m)) (sym none)
+        (subst (λ b. Answer [] (if b then m ∷ [] else []))
+        (sym (ap (λ a. has_acknowledged s c && a) send ∙ and_no (has_acknowledged s c))) tt)
+
+    hears-noted : (u : State) → u.ended ≡ s.ended → u.connections ≡ s.connections
+        → u.live ≡ s.live ++ [] → Hears s conn c m u
+    hears-noted u ended connections live =
+        hears-here u [] ended connections live ready-stays (λ at n below. no-sends [] refl)
+
+    hears-mute : (u : State) → u.ended ≡ s.ended → u.connections ≡ s.connections
+        → u.live ≡ s.live ++ filtered_entry c.user m ∷ [] → Hears s conn c m u
+    hears-mute u ended connections live =
+        let entry = filtered_entry c.user m in
+        hears-here u (entry ∷ []) ended connections live ready-stays
+        (λ at n below. no-sends (answers_from c.user at n (entry ∷ []))
+        (answers-none c.user at n (entry ∷ []) (none-mute c.user entry [] (low-kind m send) tt)))
 
   -- the user's own entry answers a send
   hears-answered : (u : State) (answer : Msg) → u.ended ≡ s.ended
@@ -390,15 +463,11 @@ module _ (s : State) (conn : ℕ) (c : Connection) (m : Msg)
       (subst (λ b. Answer (answer ∷ []) (if b then m ∷ [] else [])) (sym yes) (answers, tt)))
 
   -- the epoch is taken up
-  hears-takes : (epoch : ℕ) → m ≡ msg.Control (control.Ack epoch) → epoch ≡ epoch_of s
-      → has_acknowledged s c ≡ false
-      → Hears s conn c m (noted s (acted_by s conn c m decision.Acknowledge))
-  hears-takes epoch is here late =
+  hears-takes : is_ack (epoch_of s) m ≡ true → has_acknowledged s c ≡ false
+      → Hears s conn c m (by_decision decision.Acknowledge)
+  hears-takes ack late =
       let d : Connection = record c { acknowledged = epoch_of s } in
       let h = open_is_found s.connections conn c found in
-      let ack : is_ack (epoch_of s) m ≡ true =
-      ap (is_ack (epoch_of s)) is ∙ eq-eqb epoch (epoch_of s) here in
-      let send : is_send m ≡ false = ap is_send is in
       record {
         connection = d;
         found = found_is_open (slice_set s.connections (conn - 1) d) conn d
@@ -407,7 +476,7 @@ module _ (s : State) (conn : ℕ) (c : Connection) (m : Msg)
         epochs = omega arith;
         same = λ same. record {
           more = [];
-          live = sym (append-nil s.live);
+          live = refl;
           ready = eq-eqb (epoch_of s) (epoch_of s) refl
               ∙ sym (ap (λ b. b || is_ack (epoch_of s) m) late ∙ ack);
           answers = λ at n below. subst (λ b. Answer [] (if b then m ∷ [] else []))
@@ -417,9 +486,8 @@ module _ (s : State) (conn : ℕ) (c : Connection) (m : Msg)
       }
 
   -- the next epoch opens
-  hears-opened : (commands : List Draw) (answers : List Reply)
-      → Hears s conn c m (record (epoch_opened s commands) { answers = answers })
-  hears-opened commands answers = record {
+  hears-opened : Hears s conn c m (by_decision decision.OpenEpoch)
+  hears-opened = record {
     connection = c;
     found = found;
     user = refl;
@@ -427,150 +495,37 @@ module _ (s : State) (conn : ℕ) (c : Connection) (m : Msg)
     same = λ same. absurd (omega (arith, same, length-append s.ended (s.live ∷ [])));
     later = λ less. (
       refl,
-      λ user. unheard-opening user (epoch_of s + 1) s.live (present_users s) commands,
+      λ user. unheard-opening user (epoch_of s + 1) s.live (present_users s)
+          (sent_commands s.stream),
     );
   }
 
-  -- what is ignored, since the connection hasn't taken up the epoch
-  hears-ready : (d : Decision) → is_ack (epoch_of s) m ≡ false
-      → (has_acknowledged s c ≡ true → Hears s conn c m (noted s (acted_by s conn c m d)))
-      → Hears s conn c m (noted s (acted_by s conn c m
-      (if has_acknowledged s c then d else decision.Ignore)))
-  hears-ready d ack h =
-      cond_both (has_acknowledged s c) d decision.Ignore
-      (λ e. Hears s conn c m (noted s (acted_by s conn c m e)))
-      h
-      (λ late. hears-still (noted s (acted_by s conn c m decision.Ignore)) refl refl refl
-      (ap (λ a. has_acknowledged s c || a) ack ∙ or_no (has_acknowledged s c))
-      (ap (λ b. b && is_send m) late))
-
-  -- a send
-  hears-judged : is_ack (epoch_of s) m ≡ false → is_send m ≡ true → 32 ≤ kind_of m
-      → Hears s conn c m (noted s (acted_by s conn c m
-      (if has_acknowledged s c then judged s c m else decision.Ignore)))
-  hears-judged ack send high =
-      hears-ready (judged s c m) ack
-      (λ ready. cond_both (permitted s.live c.user m) decision.Place decision.Filter
-      (λ e. Hears s conn c m (noted s (acted_by s conn c m e)))
-      (λ may. hears-answered (noted s (acted_by s conn c m decision.Place)) m refl refl refl ready
-      send (may-permitted s.live c.user m may) (inr refl))
-      (λ no. hears-answered (noted s (acted_by s conn c m decision.Filter))
-      (msg.Meta (meta.Filtered (kind_of m))) refl refl refl ready send (le-leb 32 (kind_of m) high)
-      (inl refl)))
-
--- an acknowledgement, by whether it is that of the live epoch, and the connection has none
-hears-ack : (s : State) (conn : ℕ) (c : Connection) (epoch : ℕ)
-    → open_connection s conn ≡ Some c
-    → let m = msg.Control (control.Ack epoch) in
-    Hears s conn c m (noted s (acted_by s conn c m (decided s conn c m)))
-hears-ack s conn c epoch found =
-    let m = msg.Control (control.Ack epoch) in
-    let b = has_acknowledged s c in
-    let stays : (b || is_ack (epoch_of s) m) ≡ b
-    → Hears s conn c m (noted s (acted_by s conn c m decision.Ignore)) =
-    λ ready. hears-still s conn c m found (noted s (acted_by s conn c m decision.Ignore)) refl refl
-    refl ready (and_no b) in
-    cond_both (epoch == epoch_of s && not b) decision.Acknowledge decision.Ignore
-    (λ e. Hears s conn c m (noted s (acted_by s conn c m e)))
-    (λ yes.
-    let two = and_parts (epoch == epoch_of s) (not b) yes in
-    hears-takes s conn c m found epoch refl (eqb-true epoch (epoch_of s) two.0) (not-true b two.1))
-    (λ no.
-    ⊎_elim (λ (ready : b ≡ true). stays (ap (λ a. a || is_ack (epoch_of s) m) ready ∙ sym ready))
-    (λ (late : b ≡ false).
-    let other : (epoch == epoch_of s) ≡ false =
-    not_both (epoch == epoch_of s) b late no in
-    stays (ap (λ a. b || a) other ∙ or_no b))
-    (cases_Bool b))
-  where
-    not_both : (a b : Bool) → b ≡ false → (a && not b) ≡ false → a ≡ false
-    not_both true true late is = cc
-    not_both true false late is = cc
-    not_both false b late is = refl
-
--- a part, by the reset that it would join
-hears-part : (s : State) (conn : ℕ) (c : Connection) (command : Draw) (o : Option (List Draw))
-    → open_connection s conn ≡ Some c
-    → Hears s conn c (msg.Part command) (noted s (acted_by s conn c (msg.Part command)
-    (part_decided command o)))
-hears-part s conn c command None found =
-    hears-filtered s conn c (msg.Part command) found (noted s (acted_by s conn c (msg.Part command)
-    decision.Filter)) refl refl refl refl refl refl
-hears-part s conn c command (Some commands) found =
-    let m = msg.Part command in
-    let b = has_acknowledged s c in
-    cond_both (fits_reset commands command) decision.AddPart decision.DropReset
-    (λ e. Hears s conn c m (noted s (acted_by s conn c m e)))
-    (λ fits. hears-still s conn c m found (noted s (acted_by s conn c m decision.AddPart)) refl refl
-    refl (or_no b) (and_no b))
-    (λ full. hears-filtered s conn c m found (noted s (acted_by s conn c m decision.DropReset)) refl
-    refl refl refl refl refl)
-
--- a send has a kind from 32 on
-abbrev pub IsHigh : Msg → Type 0
-IsHigh (msg.Control m) = Unit {0}
-IsHigh (msg.Part command) = Unit {0}
-IsHigh m = 32 ≤ kind_of m
-
-hears-decided : (s : State) (conn : ℕ) (c : Connection) (m : Msg)
-    → open_connection s conn ≡ Some c → IsHigh m
-    → Hears s conn c m (noted s (acted_by s conn c m (decided s conn c m)))
-hears-decided s conn c (msg.Control (control.Ping pong)) found high =
-    let m = msg.Control (control.Ping pong) in
-    hears-still s conn c m found (noted s (acted_by s conn c m decision.Ignore)) refl refl refl
-    (or_no (has_acknowledged s c)) (and_no (has_acknowledged s c))
-hears-decided s conn c (msg.Control (control.Disconnect reason)) found high =
-    let m = msg.Control (control.Disconnect reason) in
-    hears-still s conn c m found (noted s (acted_by s conn c m decision.Ignore)) refl refl refl
-    (or_no (has_acknowledged s c)) (and_no (has_acknowledged s c))
-hears-decided s conn c (msg.Control (control.Ack epoch)) found high =
-    hears-ack s conn c epoch found
-hears-decided s conn c (msg.Control control.ResetBegin) found high =
-    let m = msg.Control control.ResetBegin in
-    hears-ready s conn c m found (heard s conn c m) refl
-    (λ ready. cond_both (may_begin s conn c) decision.BeginReset decision.Filter
-    (λ e. Hears s conn c m (noted s (acted_by s conn c m e)))
-    (λ yes. hears-still s conn c m found (noted s (acted_by s conn c m decision.BeginReset)) refl
-    refl refl (or_no (has_acknowledged s c)) (and_no (has_acknowledged s c)))
-    (λ no. hears-filtered s conn c m found (noted s (acted_by s conn c m decision.Filter)) refl refl
-    refl refl refl refl))
-hears-decided s conn c (msg.Control control.ResetEnd) found high =
-    let m = msg.Control control.ResetEnd in
-    hears-ready s conn c m found (heard s conn c m) refl
-    (λ ready. cond_both (is_some (reset_of s conn c)) decision.OpenEpoch decision.Filter
-    (λ e. Hears s conn c m (noted s (acted_by s conn c m e)))
-    (λ yes. hears-opened s conn c m found (sent_commands s.stream)
-    (s.answers ++ reply.Placed (epoch_of s + 1) 0 ∷ []))
-    (λ no. hears-filtered s conn c m found (noted s (acted_by s conn c m decision.Filter)) refl refl
-    refl refl refl refl))
-hears-decided s conn c (msg.Control (control.Hello name)) found high =
-    let m = msg.Control (control.Hello name) in
-    hears-ready s conn c m found decision.Filter refl
-    (λ ready. hears-filtered s conn c m found (noted s (acted_by s conn c m decision.Filter)) refl
-    refl refl refl refl refl)
-hears-decided s conn c (msg.Control (control.Welcome version user epoch at)) found high =
-    let m = msg.Control (control.Welcome version user epoch at) in
-    hears-ready s conn c m found decision.Filter refl
-    (λ ready. hears-filtered s conn c m found (noted s (acted_by s conn c m decision.Filter)) refl
-    refl refl refl refl refl)
-hears-decided s conn c (msg.Control (control.ResetFrom at)) found high =
-    let m = msg.Control (control.ResetFrom at) in
-    hears-ready s conn c m found decision.Filter refl
-    (λ ready. hears-filtered s conn c m found (noted s (acted_by s conn c m decision.Filter)) refl
-    refl refl refl refl refl)
-hears-decided s conn c (msg.Part command) found high =
-    let m = msg.Part command in
-    hears-ready s conn c m found (heard s conn c m) refl
-    (λ ready. hears-part s conn c command (reset_of s conn c) found)
-hears-decided s conn c m found high = hears-judged s conn c m found refl refl high
-
-hears-event : (s : State) (conn : ℕ) (c : Connection) (m : Msg)
-    → open_connection s conn ≡ Some c → IsHigh m
-    → Hears s conn c m (after_event s (event.Say conn m))
-hears-event s conn c m found high =
-    let is : acted s (event.Say conn m) ≡ acted_by s conn c m (decided s conn c m) =
-    ap (λ o. option_map_or (says_by s conn m) o (stays s reply.Ignored)) found in
-    subst (λ a. Hears s conn c m (noted s a)) (sym is) (hears-decided s conn c m found high)
+  hears-decision : (d : Decision) → IsHigh m → IsOf s c m d
+      → IsEffect s (event.Say conn m) (effect_by conn c d) → Hears s conn c m (by_decision d)
+  hears-decision decision.Ignore high is cause =
+      hears-here (by_decision decision.Ignore) [] refl refl refl is.0
+      (λ at n below. subst (λ b. Answer [] (if b then m ∷ [] else [])) (sym is.1) tt)
+  hears-decision decision.Acknowledge high is cause = hears-takes is cause.1
+  hears-decision decision.Place high is cause =
+      hears-answered (by_decision decision.Place) m refl refl refl cause.1 is
+      (may-permitted s.live c.user m cause.2) (inr refl)
+  hears-decision decision.Filter high is cause =
+      let u = by_decision decision.Filter in
+      ⊎_elim (λ (send : is_send m ≡ true).
+      hears-answered u (msg.Meta (meta.Filtered (kind_of m))) refl refl refl cause.1 send
+      (le-leb 32 (kind_of m) (high-kind m high send)) (inl refl))
+      (λ (other : is_send m ≡ false). hears-mute cause.1 other u refl refl refl)
+      (cases_Bool (is_send m))
+  hears-decision decision.BeginReset high is cause =
+      hears-noted cause.acknowledged (ap is_send cause.is) (by_decision decision.BeginReset) refl
+      refl refl
+  hears-decision decision.AddPart high is cause =
+      hears-noted cause.1.acknowledged (ap is_send cause.1.is) (by_decision decision.AddPart) refl
+      refl refl
+  hears-decision decision.DropReset high is cause =
+      hears-mute cause.1.acknowledged (ap is_send cause.1.is) (by_decision decision.DropReset) refl
+      refl refl
+  hears-decision decision.OpenEpoch high is cause = hears-opened
 
 -- ---- ids
 
@@ -815,6 +770,9 @@ effect-tells s e effect cause = tt
 
 -- the laws of sessions and of messages that are used
 pub record Leading : Type 0 where
+  pub moves : InstructionsAreMoves
+  pub decisions : DecisionsHaveEffects
+  pub effect_made : EffectsAreMade
   pub on_kept : (past : Past) (e : Event) → ShutBefore past
       → state_of (kept past e) ≡ after_event (state_of past) e
   pub before : (past : Past) (e : Event) → ShutBefore past → ShutBefore (sure_step past e)
@@ -866,9 +824,13 @@ pub hears-say : Leading → (past : Past) (conn : ℕ) (m : Msg) (c : Connection
     → NotEnded past (event.Say conn m) → open_connection (state_of past) conn ≡ Some c → IsHigh m
     → Hears (state_of past) conn c m (state_of (sure_step past (event.Say conn m)))
 hears-say laws past conn m c before goes found high =
-    subst (Hears (state_of past) conn c m)
-    (sym (step-kept laws past (event.Say conn m) before goes))
-    (hears-event (state_of past) conn c m found high)
+    let s = state_of past in
+    let d = decided s conn c m in
+    let cause = laws.decisions s conn c m found in
+    subst (Hears s conn c m)
+    (sym (step-kept laws past (event.Say conn m) before goes
+    ∙ ap (noted s) (laws.effect_made s (event.Say conn m) (effect_by conn c d) cause)))
+    (hears-decision s conn c m found d high (decided-is s conn c m) cause)
 
 pub opens-open : Leading → (past : Past) (name : List ℕ) (registered : Bool) → ShutBefore past
     → NotEnded past (event.Open name registered) → HasPeople (state_of past)

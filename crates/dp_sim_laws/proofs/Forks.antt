@@ -11,7 +11,7 @@ use Rattle.dp_messages.specs.declared.message.Msg.{Msg}
 use Rattle.dp_messages.specs.declared.message.Entry.{Entry}
 use Rattle.dp_messages.specs.Equality.{same_message}
 use Rattle.dp_client.specs.Client as client
-use Rattle.dp_client.specs.Client.{Step, Said, Took, after_step, after_steps, last_before, own_of}
+use Rattle.dp_client.specs.Client.{Step, after_step, after_steps, last_before, own_of}
 use Rattle.dp_client.specs.Taking.{EntriesAreTaken}
 use Rattle.dp_fork.specs.declared.own.Own.TheVariants.{Lost}
 use Rattle.dp_epochs.specs.declared.event.Event.{Event}
@@ -20,7 +20,7 @@ use Rattle.dp_epochs.specs.declared.event.Reply.{Reply}
 use Rattle.dp_epochs.specs.declared.event.Reply.TheVariants as reply
 use Rattle.dp_epochs.specs.State.{open_connection, after_event}
 use Rattle.dp_epochs.specs.Past.{Past, state_of, kept, sure_step, sure_answer}
-use Rattle.dp_epochs.specs.Effects.{EventsHaveEffects}
+use Rattle.dp_epochs.specs.Effects.{EventsHaveEffects, DecisionsHaveEffects, EffectsAreMade}
 use Rattle.dp_epochs.specs.Laws.{AreHistories, ShutBefore}
 use Rattle.dp_schedule.specs.declared.action.Instruction.{Instruction}
 use Rattle.dp_schedule.specs.declared.action.Instruction.TheVariants.{Take}
@@ -31,6 +31,8 @@ use Rattle.dp_sim.specs.World.{World, participant_of, new_participant, with_join
 use Rattle.dp_sim.specs.World.{with_exchange, acted, after, first_world, world_after}
 use Rattle.dp_sim.specs.Report.{along}
 use Rattle.dp_sim.specs.Invariant.{IsWorld, IsParticipant, IsSayable, SaysNoControl}
+use Rattle.dp_sim.specs.Moves.{InstructionsAreMoves}
+use Rattle.dp_sim.proofs.Moves.{not-gone}
 use Rattle.dp_sim_laws.specs.OwnSteps.{exchange_of, next_of, steps_of_exchange, own_step, own_steps}
 use Rattle.dp_sim_laws.specs.OwnSteps.{welcome_of, GoesBy}
 use Rattle.dp_sim_laws.specs.Tally.{Tally, no_sends, tally_step, tally_from, tally_of}
@@ -46,7 +48,7 @@ use Rattle.dp_sim_laws.proofs.Answering.{answers_from, Answer}
 use Rattle.dp_sim_laws.proofs.Events.{HasPeople, first-people, Everyone, NotThis, Passes, Opens}
 use Rattle.dp_sim_laws.proofs.Events.{Welcomes, Leading, opens-open}
 use Rattle.dp_sim_laws.proofs.Clients.{NeverEnds, Holds, holds-passes, exchange-passes}
-use Rattle.dp_sim_laws.proofs.Clients.{holds-exchanged, not-gone, next-kept}
+use Rattle.dp_sim_laws.proofs.Clients.{holds-exchanged, next-kept}
 
 -- ---- tallies
 
@@ -188,7 +190,8 @@ holds-own laws w number participant instruction steps h found may goes p is =
     t.participant found) ∙ is in
     let same : t.participant ≡ p = cc in
     let tally = tally-more participant.state t.participant.state steps more
-    (h.goes.some participant found) (exchange-steps (exchange_of w participant) instruction) in
+    (h.goes.some participant found)
+    (exchange-steps laws.moves (exchange_of w participant) instruction) in
     subst (λ q. Holds (state_of t.past) number q (tally_of q.state (steps ++ more))) same
     (subst (Holds (state_of t.past) number t.participant) (sym tally)
     (holds-exchanged laws number (exchange_of w participant) instruction
@@ -264,25 +267,30 @@ pub record Staying : Type 0 where
   pub first : IsWorld first_world
   pub stays : (w : World) (action : Action) → IsWorld w → IsWorld (after w action)
 
-pub staying : ((past : Past) (e : Event) → ShutBefore past
+pub staying : InstructionsAreMoves → DecisionsHaveEffects → EffectsAreMade
+    → ((past : Past) (e : Event) → ShutBefore past
     → state_of (kept past e) ≡ after_event (state_of past) e)
     → ((past : Past) (e : Event) → ShutBefore past → ShutBefore (sure_step past e))
     → EventsHaveEffects → ((past : Past) → AreHistories (state_of past))
     → ((m n : Msg) → IsTrue (same_message m n) ↔ (m ≡ n)) → EntriesAreTaken
     → IsWorld first_world
     → ((w : World) (action : Action) → IsWorld w → IsWorld (after w action)) → Staying
-staying on_kept before effects marked equality taking first stays = record {
-  leading = record {
-    on_kept = on_kept;
-    before = before;
-    effects = effects;
-    marked = marked;
-    same = λ m. (equality m m).1 refl;
-    taking = taking;
-  };
-  first = first;
-  stays = stays;
-}
+staying moves decisions effect_made on_kept before effects marked equality taking first stays =
+    record {
+      leading = record {
+        moves = moves;
+        decisions = decisions;
+        effect_made = effect_made;
+        on_kept = on_kept;
+        before = before;
+        effects = effects;
+        marked = marked;
+        same = λ m. (equality m m).1 refl;
+        taking = taking;
+      };
+      first = first;
+      stays = stays;
+    }
 
 good-after : Staying → (w : World) (number : ℕ) (action : Action) (steps : List Step)
     → Good w number steps
@@ -294,7 +302,7 @@ good-after laws w number action steps h may goes =
     record {
       world = world;
       people = leaves.people;
-      goes = goes-after w number action steps h.goes;
+      goes = goes-after laws.leading.moves w number action steps h.goes;
       holds = leaves.holds;
     }
 

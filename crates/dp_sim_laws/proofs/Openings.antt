@@ -32,7 +32,7 @@ use Rattle.dp_sim_laws.specs.Spelled.{AreSpelledEntries}
 -- ---- lists
 
 -- an item of a list in which each item does
-get-all : {X : Type 0} (P : X → Type 0) (xs : List X) (i : ℕ) → All P xs
+pub get-all : {X : Type 0} (P : X → Type 0) (xs : List X) (i : ℕ) → All P xs
     → IfSome (slice_get xs i) P
 get-all P [] i each = tt
 get-all P (x ∷ xs) zero each = All-head P x xs each

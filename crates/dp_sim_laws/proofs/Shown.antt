@@ -90,7 +90,7 @@ module _ (laws : Resetting) (before later : List Action) (number epoch : ℕ) (s
   opened : OpenedWith epoch commands
       (state_of (fold after (after start (Act number Reset)) later).past)
   opened =
-      queued laws.leading laws.speaking.stays number epoch h.rest later
+      queued laws.leading laws.speaking.moves laws.speaking.stays number epoch h.rest later
       (after start (Act number Reset)) commands sent sender.uplink []
       (laws.speaking.stays start (Act number Reset) started) sent-found
       (ap is_closed h.connected) refl

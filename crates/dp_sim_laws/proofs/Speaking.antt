@@ -1,11 +1,11 @@
 -- In a world whose clients say what has a spelling, all that comes to the session has one.
-use Rattle.std.proofs.Common.{◌≡◌, ℕ, zero, suc, ◌+◌, ◌^◌, ◌<◌, ◌≤◌, ◌==◌}
+use Rattle.std.proofs.Common.{◌≡◌, ℕ, ◌+◌, ◌^◌, ◌<◌, ◌≤◌, ◌==◌}
 use Rattle.std.proofs.Common.{if◌then◌else◌}
 use Rattle.std.proofs.Common.{List, [], ◌∷◌, length, map, fold, Option, None, Some}
-use Rattle.std.proofs.Common.{refl, sym, subst, ◌∙◌, ⊎_elim, arith}
+use Rattle.std.proofs.Common.{sym, subst, ⊎_elim, arith}
 use Rattle.std.specs.Prelude.{All, IfSome}
 use Rattle.std.specs.List.{slice_get}
-use Rattle.std.proofs.lemmas.Bool.{cond_both, cases_eq}
+use Rattle.std.proofs.lemmas.Bool.{cond_both}
 use Rattle.std.proofs.lemmas.List.Elements.{All-nil, All-cons, All-head, All-tail, All-append}
 use Rattle.std.proofs.lemmas.List.Elements.{All-push, All-map, All-take, All-weaker}
 use Rattle.dp_msg_draw.specs.declared.draw.Draw.{Draw}
@@ -16,7 +16,7 @@ use Rattle.dp_messages.specs.declared.message.Msg.{Msg}
 use Rattle.dp_messages.specs.declared.message.Msg.TheVariants as msg
 use Rattle.dp_messages.specs.declared.message.Entry.{Entry}
 use Rattle.dp_messages.specs.Messages.{HasSpelling}
-use Rattle.dp_messages.specs.Properties.{is_disconnect, marked}
+use Rattle.dp_messages.specs.Properties.{marked}
 use Rattle.dp_replay.specs.Replay.{replay}
 use Rattle.dp_client.specs.Client as client
 use Rattle.dp_epochs.specs.declared.event.Event.{Event}
@@ -28,24 +28,26 @@ use Rattle.dp_epochs.specs.State.{epoch_of, history_of}
 use Rattle.dp_epochs.specs.Past.{Past, state_of, kept, refused, sure_step, sure_answer}
 use Rattle.dp_epochs.specs.Laws.{ShutBefore}
 use Rattle.dp_schedule.specs.declared.action.Instruction.{Instruction}
-use Rattle.dp_schedule.specs.declared.action.Instruction.TheVariants.{Say, Up, Take, Reset}
-use Rattle.dp_schedule.specs.declared.action.Instruction.TheVariants.{Leave, Cut}
 use Rattle.dp_schedule.specs.declared.action.Action.{Action}
 use Rattle.dp_schedule.specs.declared.action.Action.TheVariants.{Join, Act, Show}
 use Rattle.dp_snap.specs.Snapshot.{snapshot}
 use Rattle.dp_snap.specs.Spelled.{IsSpelled}
 use Rattle.dp_snap.specs.Resets.{reset_messages}
-use Rattle.dp_sim.specs.Exchanges.{Participant, Exchange, is_gone, disconnected, heard, uplink_sent}
-use Rattle.dp_sim.specs.Exchanges.{next_entry, acks, took_next, done, exchanged}
+use Rattle.dp_sim.specs.Exchanges.{Participant, Exchange, next_entry, acks, took_next, exchanged}
+use Rattle.dp_sim.specs.Moves.{Queued, Saying, Resetting, Parting, Move, Rests, Queues, SendsFirst}
+use Rattle.dp_sim.specs.Moves.{TakesNext, Closes, queued_messages, after_move, instruction_move}
+use Rattle.dp_sim.specs.Moves.{IsQueuedBy, IsMoveBy, InstructionsAreMoves}
 use Rattle.dp_sim.specs.World.{World, participant_of, new_participant, with_joined, after}
 use Rattle.dp_sim.specs.World.{first_world, world_after, with_exchange}
 use Rattle.dp_sim.specs.Invariant.{IsWorld, IsParticipant}
-use Rattle.dp_sim.proofs.OpenConnections.{live-is}
+use Rattle.dp_sim.proofs.LawWorlds.{exchanged-either}
+use Rattle.dp_sim.proofs.Marks.{live-is}
 use Rattle.dp_lists.specs.Numbered.{numbered}
 use Rattle.dp_lists.proofs.Options.{at_some, option_either}
-use Rattle.dp_lists.proofs.Numbered.{number-found, numbered-other, numbered-same, numbered-either}
+use Rattle.dp_lists.proofs.Numbered.{number-found, numbered-either}
 use Rattle.dp_sim_laws.specs.OwnSteps.{exchange_of}
 use Rattle.dp_sim_laws.specs.Spelled.{AreSpelledEntries, IsSpelledEvent, IsSpelledSay, SaysSpelled}
+use Rattle.dp_sim_laws.proofs.Openings.{get-all}
 use Rattle.dp_sim_laws.proofs.Walks.{MayAct, action-keeps}
 
 -- each message has a spelling
@@ -60,6 +62,7 @@ pub record Speaks (w : World) : Type 0 where
 
 -- the laws that are used
 pub record Speaking : Type 0 where
+  pub moves : InstructionsAreMoves
   pub first : IsWorld first_world
   pub stays : (w : World) (action : Action) → IsWorld w → IsWorld (after w action)
   pub before : (past : Past) (e : Event) → ShutBefore past → ShutBefore (sure_step past e)
@@ -104,39 +107,23 @@ ack-at (Some epoch) c small =
     (λ first. All-nil HasSpelling)
     (λ later. All-cons HasSpelling (msg.Control (Ack epoch)) [] small (All-nil HasSpelling))
 
-get-spelled : (entries : List Entry) (i : ℕ) (entry : Entry) → AreSpelledEntries entries
-    → slice_get entries i ≡ Some entry → HasSpelling entry.msg
-get-spelled [] i entry each is = cc
-get-spelled (x ∷ xs) zero entry each is =
-    let same : x ≡ entry = cc in
-    subst (λ e. HasSpelling e.msg) same (All-head (λ (e : Entry). HasSpelling e.msg) x xs each)
-get-spelled (x ∷ xs) (suc i) entry each is =
-    get-spelled xs i entry (All-tail (λ (e : Entry). HasSpelling e.msg) x xs each) is
-
 module _ (laws : Speaking) (t : Exchange) (number : ℕ) (few : length t.past.journal ≤ event_limit)
     (journal : All IsSpelledEvent t.past.journal)
     (hp : IsParticipant (state_of t.past) number t.participant)
     (sent : AreSent t.participant.uplink) where
-  next-sent : (o : Option Entry) → next_entry t ≡ o → AreSent (took_next t o).participant.uplink
-  next-sent None there = sent
-  next-sent (Some entry) there =
+  next-sent : (entry : Entry) → next_entry t ≡ Some entry
+      → AreSent (took_next t (Some entry)).participant.uplink
+  next-sent entry there =
       let s = state_of t.past in
       let at = if t.participant.state.epoch == epoch_of s
       then length t.participant.state.taken else 0 in
       let live = subst AreSpelledEntries (live-is s)
       (laws.histories t.past (epoch_of s) journal few) in
-      let spelled = get-spelled s.live at entry live there in
+      let spelled = at_some (slice_get s.live at) (λ (e : Entry). HasSpelling e.msg) entry
+      (get-all (λ (e : Entry). HasSpelling e.msg) s.live at live) there in
       All-append HasSpelling t.participant.uplink
       (acks (client.taken_of t.participant.state entry).ack) sent
       (ack-at (marked entry.msg) t.participant.state (ack-marked entry.msg spelled))
-
-  up-sent : (uplink : List Msg) → t.participant.uplink ≡ uplink
-      → AreSent (uplink_sent t uplink).participant.uplink
-  up-sent [] is = sent
-  up-sent (m ∷ rest) is =
-      cond_both (is_disconnect m) (disconnected (heard t m rest)) (heard t m rest)
-      (λ u. AreSent u.participant.uplink) (λ yes. All-nil HasSpelling)
-      (λ no. All-tail HasSpelling m rest (subst AreSent is sent))
 
   -- what the client has taken has a spelling
   pub taken-spelled : AreSpelledEntries t.participant.state.taken
@@ -146,24 +133,33 @@ module _ (laws : Speaking) (t : Exchange) (number : ℕ) (few : length t.past.jo
       (All-take (λ (e : Entry). HasSpelling e.msg) (length t.participant.state.taken) history
       (laws.histories t.past t.participant.state.epoch journal few))
 
-  done-sent : (instruction : Instruction) → IsSpelledSay instruction
-      → AreSent (done t instruction).participant.uplink
-  done-sent (Say m) spelled = All-push HasSpelling t.participant.uplink m sent spelled
-  done-sent Up spelled = up-sent t.participant.uplink refl
-  done-sent Take spelled = next-sent (next_entry t) refl
-  done-sent Reset spelled =
-      let commands = snapshot (client.confirmed t.participant.state) in
-      All-append HasSpelling t.participant.uplink (reset_messages commands) sent
-      (reset-sent commands (laws.snapshots t.participant.state.taken taken-spelled))
-  done-sent Leave spelled =
-      All-push HasSpelling t.participant.uplink (msg.Control (Disconnect 0)) sent (omega arith)
-  done-sent Cut spelled = All-nil HasSpelling
+  queued-sent : (instruction : Instruction) (queued : Queued) → IsQueuedBy instruction queued
+      → IsSpelledSay instruction → AreSent (queued_messages t.participant queued)
+  queued-sent instruction (Saying m) is spelled =
+      All-cons HasSpelling m [] (subst IsSpelledSay is spelled) (All-nil HasSpelling)
+  queued-sent instruction Resetting is spelled =
+      reset-sent (snapshot (client.confirmed t.participant.state))
+      (laws.snapshots t.participant.state.taken taken-spelled)
+  queued-sent instruction Parting is spelled =
+      All-cons HasSpelling (msg.Control (Disconnect 0)) [] (omega arith) (All-nil HasSpelling)
+
+  move-sent : (instruction : Instruction) (move : Move) → IsMoveBy t instruction move
+      → IsSpelledSay instruction → AreSent (after_move t move).participant.uplink
+  move-sent instruction Rests is spelled = sent
+  move-sent instruction (Queues queued) is spelled =
+      All-append HasSpelling t.participant.uplink (queued_messages t.participant queued) sent
+      (queued-sent instruction queued is.0 spelled)
+  move-sent instruction (SendsFirst m rest) is spelled =
+      All-tail HasSpelling m rest (subst AreSent is.1 sent)
+  move-sent instruction (TakesNext entry) is spelled = next-sent entry is.1
+  move-sent instruction (Closes last) is spelled = All-nil HasSpelling
 
   exchange-sent : (instruction : Instruction) → IsSpelledSay instruction
       → AreSent (exchanged t instruction).participant.uplink
   exchange-sent instruction spelled =
-      cond_both (is_gone t.participant.link instruction) t (done t instruction)
-      (λ u. AreSent u.participant.uplink) (λ gone. sent) (λ there. done-sent instruction spelled)
+      let is = laws.moves t instruction in
+      subst (λ u. AreSent u.participant.uplink) (sym is.made)
+      (move-sent instruction (instruction_move t instruction) is.may spelled)
 
 -- ---- worlds
 
@@ -186,26 +182,19 @@ module _ (laws : Speaking) (w : World) (world : IsWorld w) (h : Speaks w) where
       (λ v. participant_of v number ≡ Some p → AreSent p.uplink)
       (λ q found is.
       let t = exchange_of w q in
-      let u = (exchanged t instruction).participant in
+      let u = exchanged t instruction in
       let hq = at_some (participant_of w client) (IsParticipant (state_of w.past) client) q
       (world.participants client) found in
-      let above = number-found w.participants client q found in
-      ⊎_elim (λ (same : number ≡ client).
-      let there : Some u ≡ Some p =
-      sym (numbered-same w.participants client q u found)
-      ∙ subst (λ n. numbered (with_exchange w client (exchanged t instruction)).participants n
-      ≡ Some p) same is in
-      let it : u ≡ p = cc in
-      subst (λ x. AreSent x.uplink) it
+      ⊎_elim (λ (own : (number ≡ client) × (p ≡ u.participant)).
+      subst (λ x. AreSent x.uplink) (sym own.1)
       (exchange-sent laws t client world.events h.journal hq (h.uplinks client q found) instruction
       spelled))
-      (λ (ne : number ≡ client → ⊥).
-      h.uplinks number p (sym (numbered-other w.participants client number u above.0 ne) ∙ is))
-      (cases_eq number client))
+      (λ (far : (number ≡ client → ⊥) × (participant_of w number ≡ Some p)).
+      h.uplinks number p far.1)
+      (exchanged-either w client q u number p found is))
       (λ none is. h.uplinks number p is)
 
-  may-act : (action : Action) → MayAct (λ past. All IsSpelledEvent past.journal) IsSpelledEvent
-      laws.before journal-step w action
+  may-act : (action : Action) → MayAct IsSpelledEvent w action
   may-act (Join name registered) = tt
   may-act (Act client instruction) = λ p found. (
     All-weaker HasSpelling (λ m. IsSpelledEvent (event.Say p.conn m)) (λ m is. is) p.uplink
@@ -224,8 +213,8 @@ module _ (laws : Speaking) (w : World) (world : IsWorld w) (h : Speaks w) where
 
   pub speaks-after : (action : Action) → SaysSpelled action → Speaks (after w action)
   speaks-after action spelled = record {
-    journal = action-keeps (λ past. All IsSpelledEvent past.journal) IsSpelledEvent laws.before
-        journal-step w action world.before (may-act action) h.journal;
+    journal = action-keeps laws.moves (λ past. All IsSpelledEvent past.journal) IsSpelledEvent
+        laws.before journal-step w action world.before (may-act action) h.journal;
     uplinks = uplinks-after action spelled;
   }
 

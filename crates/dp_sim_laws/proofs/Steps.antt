@@ -2,13 +2,12 @@
 use Rattle.std.proofs.Common.{◌≡◌, ℕ, ◌+◌, ◌==◌, Bool, true, false, if◌then◌else◌}
 use Rattle.std.proofs.Common.{List, [], ◌∷◌, ◌++◌, length, fold, map, Option, None, Some}
 use Rattle.std.proofs.Common.{refl, sym, ap, subst, ◌∙◌, ⊎_elim, append-nil, append_assoc}
-use Rattle.std.specs.Prelude.{option_to_list, IfSome}
+use Rattle.std.specs.Prelude.{IfSome}
 use Rattle.std.specs.Option.{option_map_or}
 use Rattle.std.proofs.lemmas.Bool.{cond_both, cases_eq, eq-eqb, ne_eqb}
 use Rattle.std.proofs.lemmas.List.Sums.{fold-append}
-use Rattle.dp_messages.specs.declared.message.Msg.{Msg}
 use Rattle.dp_messages.specs.declared.message.Entry.{Entry}
-use Rattle.dp_messages.specs.Properties.{is_disconnect, marked}
+use Rattle.dp_messages.specs.Properties.{marked}
 use Rattle.dp_client.specs.Client as client
 use Rattle.dp_client.specs.Client.{Step, Said, Took, is_first_mark, after_step, after_steps}
 use Rattle.dp_epochs.specs.declared.event.Event.TheVariants as event
@@ -16,15 +15,15 @@ use Rattle.dp_epochs.specs.declared.event.Reply.{Reply}
 use Rattle.dp_epochs.specs.declared.event.Reply.TheVariants as reply
 use Rattle.dp_epochs.specs.Past.{Past, sure_step, sure_answer}
 use Rattle.dp_schedule.specs.declared.action.Instruction.{Instruction}
-use Rattle.dp_schedule.specs.declared.action.Instruction.TheVariants.{Up, Take}
 use Rattle.dp_schedule.specs.declared.action.Action.{Action}
 use Rattle.dp_schedule.specs.declared.action.Action.TheVariants.{Join, Act, Show}
-use Rattle.dp_sim.specs.Exchanges.{Participant, Exchange, is_gone, disconnected, heard, uplink_sent}
-use Rattle.dp_sim.specs.Exchanges.{next_entry, took_next, done, exchanged}
+use Rattle.dp_sim.specs.Exchanges.{Participant, Exchange, exchanged}
+use Rattle.dp_sim.specs.Moves.{Queued, Saying, Move, Queues, forked_messages, with_queued}
+use Rattle.dp_sim.specs.Moves.{after_move, instruction_move, InstructionsAreMoves}
 use Rattle.dp_sim.specs.World.{World, participant_of, new_participant, with_joined, joined}
 use Rattle.dp_sim.specs.World.{with_exchange, acted, after, first_world, world_after}
 use Rattle.dp_sim.specs.Report.{along}
-use Rattle.dp_sim_laws.specs.OwnSteps.{exchange_of, steps_of_instruction, steps_of_exchange}
+use Rattle.dp_sim_laws.specs.OwnSteps.{exchange_of, steps_of_move, steps_of_exchange}
 use Rattle.dp_sim_laws.specs.OwnSteps.{own_step, own_steps}
 use Rattle.dp_sim_laws.specs.OwnSteps.{welcome_of, GoesBy}
 use Rattle.dp_lists.specs.Numbered.{numbered}
@@ -61,36 +60,23 @@ goes-more c d steps more goes is =
 
 -- ---- an exchange
 
-next-steps : (t : Exchange) (o : Option Entry)
-    → (took_next t o).participant.state ≡ after_steps t.participant.state
-    (map Took (option_to_list o))
-next-steps t None = refl
-next-steps t (Some entry) = refl
+queued-steps : (p : Participant) (queued : Queued) → (with_queued p queued).state
+    ≡ after_steps p.state (map Said (forked_messages queued))
+queued-steps p (Saying m) = refl
+queued-steps p queued = ap (λ fork. record p.state { fork = fork }) (append-nil p.state.fork)
 
-pub up-state : (t : Exchange) (uplink : List Msg) → (uplink_sent t uplink).participant.state
-    ≡ t.participant.state
-up-state t [] = refl
-up-state t (m ∷ rest) =
-    cond_both (is_disconnect m) (disconnected (heard t m rest)) (heard t m rest)
-    (λ u. u.participant.state ≡ t.participant.state)
-    (λ yes. refl) (λ no. refl)
-
-done-steps : (t : Exchange) (instruction : Instruction) → (done t instruction).participant.state
-    ≡ after_steps t.participant.state (steps_of_instruction t instruction)
-done-steps t Up = up-state t t.participant.uplink
-done-steps t Take = next-steps t (next_entry t)
-done-steps t instruction = refl
+move-steps : (t : Exchange) (move : Move) → (after_move t move).participant.state
+    ≡ after_steps t.participant.state (steps_of_move move)
+move-steps t (Queues queued) = queued-steps t.participant queued
+move-steps t move = refl
 
 -- an exchange leads where its steps do
-pub exchange-steps : (t : Exchange) (instruction : Instruction)
+pub exchange-steps : InstructionsAreMoves → (t : Exchange) (instruction : Instruction)
     → (exchanged t instruction).participant.state ≡ after_steps t.participant.state
     (steps_of_exchange t instruction)
-exchange-steps t instruction = by_gone (is_gone t.participant.link instruction)
-  where
-    by_gone : (b : Bool) → (if b then t else done t instruction).participant.state
-        ≡ after_steps t.participant.state (if b then [] else steps_of_instruction t instruction)
-    by_gone true = refl
-    by_gone false = done-steps t instruction
+exchange-steps moves t instruction =
+    ap (λ u. u.participant.state) (moves t instruction).made
+    ∙ move-steps t (instruction_move t instruction)
 
 -- ---- worlds
 
@@ -157,10 +143,10 @@ goes-exchanged w number participant t steps more found is h =
           is);
     }
 
-goes-acted : (w : World) (number actor : ℕ) (instruction : Instruction) (steps : List Step)
-    → Goes w number steps
+goes-acted : InstructionsAreMoves → (w : World) (number actor : ℕ) (instruction : Instruction)
+    (steps : List Step) → Goes w number steps
     → Goes (acted w actor instruction) number (steps ++ own_step number w (Act actor instruction))
-goes-acted w number actor instruction steps h = by_participant (participant_of w actor) refl
+goes-acted moves w number actor instruction steps h = by_participant (participant_of w actor) refl
   where
     by_participant : (o : Option Participant) → participant_of w actor ≡ o
         → Goes (option_map_or (λ participant. with_exchange w actor
@@ -179,7 +165,7 @@ goes-acted w number actor instruction steps h = by_participant (participant_of w
         ++ steps_of_exchange (exchange_of w participant) instruction)) same
         (goes-exchanged w number participant t steps (steps_of_exchange (exchange_of w participant)
         instruction) (ap (participant_of w) same ∙ found)
-        (exchange-steps (exchange_of w participant) instruction) h)))
+        (exchange-steps moves (exchange_of w participant) instruction) h)))
         (λ (ne : number ≡ actor → ⊥).
         subst (λ b. Goes (with_exchange w actor t) number
         (steps ++ (if b then steps_of_exchange (exchange_of w participant) instruction else [])))
@@ -189,15 +175,17 @@ goes-acted w number actor instruction steps h = by_participant (participant_of w
         (cases_eq number actor)
 
 -- so after an action
-pub goes-after : (w : World) (number : ℕ) (action : Action) (steps : List Step)
-    → Goes w number steps
+pub goes-after : InstructionsAreMoves → (w : World) (number : ℕ) (action : Action)
+    (steps : List Step) → Goes w number steps
     → Goes (after w action) number (steps ++ own_step number w action)
-goes-after w number (Join name registered) steps h =
+goes-after moves w number (Join name registered) steps h =
     subst (Goes (joined w registered name) number) (sym (append-nil steps))
     (goes-joined w (sure_step w.past (event.Open name registered))
     (sure_answer w.past (event.Open name registered)) number steps h)
-goes-after w number (Act actor instruction) steps h = goes-acted w number actor instruction steps h
-goes-after w number (Show actor kind) steps h = subst (Goes w number) (sym (append-nil steps)) h
+goes-after moves w number (Act actor instruction) steps h =
+    goes-acted moves w number actor instruction steps h
+goes-after moves w number (Show actor kind) steps h =
+    subst (Goes w number) (sym (append-nil steps)) h
 
 pub goes-first : (number : ℕ) → Goes first_world number []
 goes-first number = record {
@@ -206,22 +194,22 @@ goes-first number = record {
       ≡ Some participant = found.1 in cc;
 }
 
-goes-along : (w : World) (number : ℕ) (actions : List Action) (steps : List Step)
-    → Goes w number steps
+goes-along : InstructionsAreMoves → (w : World) (number : ℕ) (actions : List Action)
+    (steps : List Step) → Goes w number steps
     → Goes (fold after w actions) number (steps ++ along (own_step number) w actions)
-goes-along w number [] steps h = subst (Goes w number) (sym (append-nil steps)) h
-goes-along w number (action ∷ actions) steps h =
+goes-along moves w number [] steps h = subst (Goes w number) (sym (append-nil steps)) h
+goes-along moves w number (action ∷ actions) steps h =
     subst (Goes (fold after w (action ∷ actions)) number)
     (append_assoc steps (own_step number w action) (along (own_step number) (after w action)
     actions))
-    (goes-along (after w action) number actions (steps ++ own_step number w action)
-    (goes-after w number action steps h))
+    (goes-along moves (after w action) number actions (steps ++ own_step number w action)
+    (goes-after moves w number action steps h))
 
 -- each client of a world after a schedule is where its own steps lead
-pub goes-by : (actions : List Action) (number : ℕ)
+pub goes-by : InstructionsAreMoves → (actions : List Action) (number : ℕ)
     → IfSome (participant_of (world_after actions) number)
     (λ participant. GoesBy participant.state (own_steps number actions))
-goes-by actions number =
-    let h = goes-along first_world number actions [] (goes-first number) in
+goes-by moves actions number =
+    let h = goes-along moves first_world number actions [] (goes-first number) in
     if_some (participant_of (world_after actions) number)
     (λ participant. GoesBy participant.state (own_steps number actions)) h.some

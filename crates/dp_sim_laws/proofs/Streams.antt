@@ -1,19 +1,21 @@
 -- What a session makes of the messages of a reset: the commands that it has of it so far.
 use Rattle.std.proofs.Common.{◌≡◌, ℕ, ◌+◌, ◌==◌, Bool, true, false, if◌then◌else◌}
-use Rattle.std.proofs.Common.{List, [], ◌∷◌, ◌++◌, Option, None, Some, is_some}
+use Rattle.std.proofs.Common.{List, [], ◌∷◌, ◌++◌, Option, None, Some}
 use Rattle.std.proofs.Common.{refl, sym, ap, subst, ◌∙◌, arith, append-nil, append_assoc}
 use Rattle.std.proofs.Common.{length-append}
-use Rattle.std.proofs.lemmas.Bool.{cond_both, eqb-true}
+use Rattle.std.proofs.lemmas.Bool.{cond_both, eqb-true, false≢true}
 use Rattle.std.specs.Option.{option_map}
 use Rattle.std.proofs.lemmas.Option.{same_Some}
 use Rattle.dp_msg_draw.specs.declared.draw.Draw.{Draw}
 use Rattle.dp_msg_meta.specs.declared.message.Control.TheVariants.{ResetBegin, ResetEnd}
+use Rattle.dp_messages.specs.declared.message.Msg.{Msg}
 use Rattle.dp_messages.specs.declared.message.Msg.TheVariants as msg
 use Rattle.dp_messages.specs.declared.message.Entry.{Entry}
 use Rattle.dp_acl.specs.Opening.{opening}
 use Rattle.dp_acl.specs.Rights.{is_operator}
 use Rattle.dp_epochs.specs.declared.connection.Connection.{Connection}
 use Rattle.dp_epochs.specs.declared.connection.Ending.TheVariants as ending
+use Rattle.dp_epochs.specs.declared.decision.Decision.{Decision}
 use Rattle.dp_epochs.specs.declared.decision.Decision.TheVariants as decision
 use Rattle.dp_epochs.specs.declared.event.Event.{Event}
 use Rattle.dp_epochs.specs.declared.event.Event.TheVariants as event
@@ -22,12 +24,10 @@ use Rattle.dp_epochs.specs.declared.event.Reply.TheVariants as reply
 use Rattle.dp_epochs.specs.State.{State, Stream, noted, after_shut, epoch_of}
 use Rattle.dp_epochs.specs.State.{history_of, open_connection, with_connection, first_stream}
 use Rattle.dp_epochs.specs.State.{with_command, with_part, sent_commands, stream_without}
-use Rattle.dp_epochs.specs.State.{commands_by, reset_of, fits_reset}
-use Rattle.dp_epochs.specs.State.{part_decided, has_acknowledged, may_begin}
-use Rattle.dp_epochs.specs.State.{present_users}
+use Rattle.dp_epochs.specs.State.{commands_by, decided, present_users}
 use Rattle.dp_epochs.specs.declared.effect.Effect.{Effect}
-use Rattle.dp_epochs.specs.declared.effect.Effect.TheVariants.{Nothing, TakesUp, Placed, Filtered}
-use Rattle.dp_epochs.specs.declared.effect.Effect.TheVariants.{Joined, Left, Began, Added, Dropped}
+use Rattle.dp_epochs.specs.declared.effect.Effect.TheVariants.{Nothing, TakesUp, Placed}
+use Rattle.dp_epochs.specs.declared.effect.Effect.TheVariants.{Left, Began, Added, Dropped}
 use Rattle.dp_epochs.specs.declared.effect.Effect.TheVariants.{Reopened}
 use Rattle.dp_epochs.specs.Effects.{own_message, made, stream_after, answer_of, IsStill}
 use Rattle.dp_epochs.specs.Effects.{IsEffect}
@@ -37,7 +37,8 @@ use Rattle.dp_epochs.specs.Past.{sure_answer}
 use Rattle.dp_epochs.specs.Laws.{Continues, ShutBefore, shut_by}
 use Rattle.dp_lists.proofs.Options.{option_both}
 use Rattle.dp_sim.proofs.LawLemmas.{Leading}
-use Rattle.dp_sim.proofs.OpenConnections.{live-is}
+use Rattle.dp_sim.proofs.Marks.{live-is}
+use Rattle.dp_sim_laws.proofs.Events.{IsOf, decided-is}
 
 -- ---- the reset that is being sent
 
@@ -142,30 +143,10 @@ module _ (laws : Leading) where
 
 -- ---- the messages of a reset
 
-begin-decides : (a b : Bool)
-    → (if a then (if b then decision.BeginReset else decision.Filter) else decision.Ignore)
-    ≡ decision.Acknowledge → ⊥
-begin-decides true true is = cc
-begin-decides true false is = cc
-begin-decides false b is = cc
-
-fit-decides : (b : Bool) → (if b then decision.AddPart else decision.DropReset)
-    ≡ decision.Acknowledge → ⊥
-fit-decides true is = cc
-fit-decides false is = cc
-
-part-decides : (a : Bool) (command : Draw) (o : Option (List Draw))
-    → (if a then part_decided command o else decision.Ignore) ≡ decision.Acknowledge → ⊥
-part-decides true command None is = cc
-part-decides true command (Some commands) is = fit-decides (fits_reset commands command) is
-part-decides false command o is = cc
-
-end-decides : (a b : Bool)
-    → (if a then (if b then decision.OpenEpoch else decision.Filter) else decision.Ignore)
-    ≡ decision.Place → ⊥
-end-decides true true is = cc
-end-decides true false is = cc
-end-decides false b is = cc
+-- what a message is of which that became
+of-decided : (s : State) (conn : ℕ) (c : Connection) (m : Msg) (d : Decision)
+    → decided s conn c m ≡ d → IsOf s c m d
+of-decided s conn c m d is = subst (IsOf s c m) is (decided-is s conn c m)
 
 -- nothing that is done is answered Noted, or Placed
 still-not : (s : State) (e : Event) (answer r : Reply) → IsStill s e answer → answer ≡ r
@@ -180,18 +161,14 @@ begin-effect conn s (Nothing answer) cause is =
     absurd (still-not s (event.Say conn (msg.Control ResetBegin)) answer reply.Noted cause is
     (λ never. never))
 begin-effect conn s (TakesUp other c) cause is =
-    absurd (begin-decides (has_acknowledged s c) (may_begin s other c) cause.0.decided)
-begin-effect conn s (Placed other c) cause is = λ sent now own. cc
-begin-effect conn s (Filtered other c) cause is = λ sent now own. cc
-begin-effect conn s (Joined user next) cause is = λ sent now own. cc
-begin-effect conn s (Left other c next) cause is = λ sent now own. cc
+    absurd (false≢true (of-decided s other c (msg.Control ResetBegin) decision.Acknowledge
+    cause.0.decided))
 begin-effect conn s (Began other c) cause is =
     λ sent now own. sym (ap (λ st. st.commands) (same_Some (first_stream other) sent now))
 begin-effect conn s (Added other c) cause is =
     let never : msg.Control ResetBegin ≡ msg.Part cause.0 = cause.1.is in
     λ sent now own. cc
-begin-effect conn s (Dropped other c) cause is = λ sent now own. cc
-begin-effect conn s (Reopened other c) cause is = λ sent now own. cc
+begin-effect conn s effect cause is = λ sent now own. cc
 
 part-effect : (conn : ℕ) (commands : List Draw) (command : Draw) (s : State) (effect : Effect)
     → IsEffect s (event.Say conn (msg.Part command)) effect → answer_of s effect ≡ reply.Noted
@@ -202,11 +179,8 @@ part-effect conn commands command s (Nothing answer) cause is h =
     absurd (still-not s (event.Say conn (msg.Part command)) answer reply.Noted cause is
     (λ never. never))
 part-effect conn commands command s (TakesUp other c) cause is h =
-    absurd (part-decides (has_acknowledged s c) command (reset_of s other c) cause.0.decided)
-part-effect conn commands command s (Placed other c) cause is h = λ sent now own. cc
-part-effect conn commands command s (Filtered other c) cause is h = λ sent now own. cc
-part-effect conn commands command s (Joined user next) cause is h = λ sent now own. cc
-part-effect conn commands command s (Left other c next) cause is h = λ sent now own. cc
+    absurd (false≢true (of-decided s other c (msg.Part command) decision.Acknowledge
+    cause.0.decided))
 part-effect conn commands command s (Began other c) cause is h =
     let never : msg.Part command ≡ msg.Control ResetBegin = cause.is in
     λ sent now own. cc
@@ -221,8 +195,7 @@ part-effect conn commands command s (Added other c) cause is h =
     sym (ap (λ st. st.commands)
     (same_Some (with_command command fit.stream) sent (sym after ∙ now)))
     ∙ ap (λ list. list ++ command ∷ []) so_far
-part-effect conn commands command s (Dropped other c) cause is h = λ sent now own. cc
-part-effect conn commands command s (Reopened other c) cause is h = λ sent now own. cc
+part-effect conn commands command s effect cause is h = λ sent now own. cc
 
 -- ---- the epoch that opens
 
@@ -272,16 +245,11 @@ end-effect : (conn epoch : ℕ) (commands : List Draw) (s : State) (effect : Eff
 end-effect conn epoch commands s (Nothing answer) cause is h =
     absurd (still-not s (event.Say conn (msg.Control ResetEnd)) answer (reply.Placed epoch 0) cause
     is (λ never. never))
-end-effect conn epoch commands s (TakesUp other c) cause is h = cc
 end-effect conn epoch commands s (Placed other c) cause is h =
-    absurd (end-decides (has_acknowledged s c) (is_some (reset_of s other c)) cause.0.decided)
-end-effect conn epoch commands s (Filtered other c) cause is h = cc
-end-effect conn epoch commands s (Joined user next) cause is h = cc
+    absurd (false≢true (of-decided s other c (msg.Control ResetEnd) decision.Place
+    cause.0.decided))
 end-effect conn epoch commands s (Left other c next) cause is h =
     let came : event.Say conn (msg.Control ResetEnd) ≡ event.Close other = cause.came in cc
-end-effect conn epoch commands s (Began other c) cause is h = cc
-end-effect conn epoch commands s (Added other c) cause is h = cc
-end-effect conn epoch commands s (Dropped other c) cause is h = cc
 end-effect conn epoch commands s (Reopened other c) cause is h =
     let e = event.Say conn (msg.Control ResetEnd) in
     let came : e ≡ event.Say other (msg.Control ResetEnd) = cause.1.said.came in
@@ -293,6 +261,7 @@ end-effect conn epoch commands s (Reopened other c) cause is h =
     let same = sent-owned other commands cause.0 s.stream owned those.1 in
     subst (λ l. OpenedWith epoch l (noted s (made s e (Reopened other c)))) same
     (reopened-opened epoch s e other c at)
+end-effect conn epoch commands s effect cause is h = cc
 
 module _ (laws : Leading) where
   -- the begin is noted

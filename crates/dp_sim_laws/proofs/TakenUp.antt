@@ -1,7 +1,7 @@
 -- A reset that is taken up opens its epoch with its commands.
-use Rattle.std.proofs.Common.{◌≡◌, ◌⊎◌, ℕ, zero, suc, Bool, true, false}
+use Rattle.std.proofs.Common.{◌≡◌, ◌⊎◌, ℕ, zero, suc, true, false}
 use Rattle.std.proofs.Common.{if◌then◌else◌, List, [], ◌∷◌, ◌++◌, length, drop, map, fold}
-use Rattle.std.proofs.Common.{Option, None, Some, refl, sym, ap, subst, ◌∙◌, ⊎_elim, inl, inr}
+use Rattle.std.proofs.Common.{None, Some, refl, sym, ap, subst, ◌∙◌, ⊎_elim, inl, inr}
 use Rattle.std.proofs.Common.{append-nil, append_assoc}
 use Rattle.std.specs.Option.{option_map_or}
 use Rattle.std.proofs.lemmas.Bool.{cases_eq, eq-eqb, ne_eqb}
@@ -9,7 +9,6 @@ use Rattle.dp_msg_draw.specs.declared.draw.Draw.{Draw}
 use Rattle.dp_msg_meta.specs.declared.message.Control.TheVariants.{ResetBegin, ResetEnd}
 use Rattle.dp_messages.specs.declared.message.Msg.{Msg}
 use Rattle.dp_messages.specs.declared.message.Msg.TheVariants as msg
-use Rattle.dp_messages.specs.declared.message.Entry.{Entry}
 use Rattle.dp_messages.specs.Properties.{is_disconnect}
 use Rattle.dp_client.specs.Client as client
 use Rattle.dp_epochs.specs.declared.event.Event.{Event}
@@ -19,22 +18,24 @@ use Rattle.dp_epochs.specs.declared.event.Reply.TheVariants as reply
 use Rattle.dp_epochs.specs.Past.{Past, state_of, sure_step, sure_answer}
 use Rattle.dp_epochs.specs.Laws.{ShutBefore}
 use Rattle.dp_schedule.specs.declared.action.Instruction.{Instruction}
-use Rattle.dp_schedule.specs.declared.action.Instruction.TheVariants.{Say, Up, Take, Reset}
-use Rattle.dp_schedule.specs.declared.action.Instruction.TheVariants.{Leave, Cut}
 use Rattle.dp_schedule.specs.declared.action.Action.{Action}
 use Rattle.dp_schedule.specs.declared.action.Action.TheVariants.{Join, Act, Show}
 use Rattle.dp_sim.specs.declared.participant.LinkState.{LinkState}
 use Rattle.dp_sim.specs.declared.participant.LinkState.TheVariants.{Connected, Leaving, Closed}
-use Rattle.dp_sim.specs.Exchanges.{Participant, Exchange, is_gone, disconnected, heard, uplink_sent}
-use Rattle.dp_sim.specs.Exchanges.{next_entry, acks, took_next, done, exchanged}
+use Rattle.dp_sim.specs.Exchanges.{Participant, Exchange, is_gone, heard, acks, took_next, done}
+use Rattle.dp_sim.specs.Exchanges.{exchanged}
+use Rattle.dp_sim.specs.Moves.{Move, Rests, Queues, SendsFirst, TakesNext, Closes, queued_messages}
+use Rattle.dp_sim.specs.Moves.{message_sent, after_move, done_move, instruction_move, IsMoveBy}
+use Rattle.dp_sim.specs.Moves.{InstructionsAreMoves}
+use Rattle.dp_sim.proofs.Moves.{queued-runs}
 use Rattle.dp_sim.specs.World.{World, participant_of, after, with_exchange}
 use Rattle.dp_sim.specs.Invariant.{IsWorld, IsParticipant, is_closed}
 use Rattle.dp_sim.proofs.LawLemmas.{Leading}
 use Rattle.dp_lists.proofs.Options.{at_some}
 use Rattle.dp_lists.proofs.Numbered.{numbered-same}
 use Rattle.dp_sim_laws.specs.OwnSteps.{exchange_of}
-use Rattle.dp_sim_laws.specs.Resets.{next_answer, sent_answer, client_answer, own_answer}
-use Rattle.dp_sim_laws.specs.Resets.{own_answers}
+use Rattle.dp_sim_laws.specs.Tally.{said_reply}
+use Rattle.dp_sim_laws.specs.Resets.{client_answer, own_answer, own_answers}
 use Rattle.dp_sim_laws.proofs.Walks.{MayAct, action-keeps, other-stays, own-becomes}
 use Rattle.dp_sim_laws.proofs.Streams.{Owns, IsNotBy, step-owned, OpenedWith, step-opened}
 use Rattle.dp_sim_laws.proofs.Streams.{begin-noted, part-noted, end-placed}
@@ -58,48 +59,29 @@ module _ (t : Exchange) (Goal : Exchange → List Reply → Type 0)
     (ends : (u : Exchange) (answers : List Reply) → is_closed u.participant.link ≡ true
     → IsEnd t.participant.uplink answers → Goal u answers)
     (up : is_closed t.participant.link ≡ false) where
-  stays-so : Goal t []
-  stays-so = waits t [] refl (sym (append-nil t.participant.uplink)) up
-
-  up-move : (uplink : List Msg) → t.participant.uplink ≡ uplink
-      → Goal (uplink_sent t uplink) (next_answer t uplink)
-  up-move [] is = stays-so
-  up-move (m ∷ rest) is = by_leave (is_disconnect m) refl
-    where
-      r : Reply
-      r = sure_answer t.past (event.Say t.participant.conn m)
-
-      by_leave : (b : Bool) → is_disconnect m ≡ b
-          → Goal (if b then disconnected (heard t m rest) else heard t m rest) (r ∷ [])
-      by_leave true leaves =
-          ends (disconnected (heard t m rest)) (r ∷ []) refl
-          (inr (m, rest, r, is, leaves, refl))
-      by_leave false goes = hears m rest is goes
-
-  take-move : (o : Option Entry) → Goal (took_next t o) []
-  take-move None = stays-so
-  take-move (Some entry) =
+  move-goal : (instruction : Instruction) (move : Move) → IsMoveBy t instruction move
+      → Goal (after_move t move) (said_reply t (message_sent move))
+  move-goal instruction Rests is = waits t [] refl (sym (append-nil t.participant.uplink)) up
+  move-goal instruction (Queues queued) is =
+      waits (after_move t (Queues queued)) (queued_messages t.participant queued) refl refl
+      (queued-runs queued)
+  move-goal instruction (SendsFirst m rest) is = hears m rest is.1 is.2
+  move-goal instruction (TakesNext entry) is =
       waits (took_next t (Some entry)) (acks (client.taken_of t.participant.state entry).ack) refl
       refl up
-
-  done-move : (instruction : Instruction) → Goal (done t instruction) (sent_answer t instruction)
-  done-move (Say m) = waits (done t (Say m)) (m ∷ []) refl refl up
-  done-move Up = up-move t.participant.uplink refl
-  done-move Take = take-move (next_entry t)
-  done-move Reset = waits (done t Reset) _ refl refl up
-  done-move Leave = waits (done t Leave) _ refl refl refl
-  done-move Cut = ends (disconnected t) [] refl (inl refl)
+  move-goal instruction (Closes None) is = ends (after_move t (Closes None)) [] refl (inl refl)
+  move-goal instruction (Closes (Some m)) is =
+      let r = sure_answer t.past (event.Say t.participant.conn m) in
+      ends (after_move t (Closes (Some m))) (r ∷ []) refl
+      (inr (m, is.1.0, r, is.1.1, is.1.2, refl))
 
   -- what it makes of the uplink, and what is answered
-  own-move : (instruction : Instruction)
+  own-move : InstructionsAreMoves → (instruction : Instruction)
       → Goal (exchanged t instruction) (client_answer t instruction)
-  own-move instruction = by_gone (is_gone t.participant.link instruction)
-    where
-      by_gone : (b : Bool)
-          → Goal (if b then t else done t instruction)
-          (if b then [] else sent_answer t instruction)
-      by_gone true = stays-so
-      by_gone false = done-move instruction
+  own-move moves instruction =
+      let is = moves t instruction in
+      subst (λ u. Goal u (client_answer t instruction)) (sym is.made)
+      (move-goal instruction (instruction_move t instruction) is.may)
 
 -- ---- one action
 
@@ -138,7 +120,7 @@ pub with-own : (w : World) (number : ℕ) (p : Participant) (t : Exchange)
     → participant_of (with_exchange w number t) number ≡ Some t.participant
 with-own w number p t found = numbered-same w.participants number p t.participant found
 
-module _ (P : Past → Type 0) (number : ℕ)
+module _ (moves : InstructionsAreMoves) (P : Past → Type 0) (number : ℕ)
     (before : (past : Past) (e : Event) → ShutBefore past → ShutBefore (sure_step past e))
     (step : (past : Past) (e : Event) → ShutBefore past → IsNotBy number e → P past
     → P (sure_step past e))
@@ -157,7 +139,7 @@ module _ (P : Past → Type 0) (number : ℕ)
     → Goal v answers) where
   may-other : (action : Action)
       → ((instruction : Instruction) → action ≡ Act number instruction → ⊥)
-      → MayAct P (IsNotBy number) before step w action
+      → MayAct (IsNotBy number) w action
   may-other (Join name registered) other = tt
   may-other (Act actor instruction) other = λ q there.
       let hq = at_some (participant_of w actor) (IsParticipant (state_of w.past) actor) q
@@ -190,7 +172,7 @@ module _ (P : Past → Type 0) (number : ℕ)
       refl up (ap (λ n. sure_step w.past (event.Say n m)) hp.conn)))
       (λ u answers shut end.
       ends (with_exchange w number u) u.participant answers (with-own w number p u found) shut end)
-      up instruction)))
+      up moves instruction)))
 
   act-move : (action : Action) → Goal (after w action) (own_answer number w action)
   act-move action =
@@ -201,8 +183,8 @@ module _ (P : Past → Type 0) (number : ℕ)
       subst (Goal (after w action)) (sym (other-silent number w action other))
       (waits (after w action) p [] (other-stays w action number p found other)
       (sym (append-nil p.uplink)) up
-      (action-keeps P (IsNotBy number) before step w action world.before (may-other action other)
-      holds)))
+      (action-keeps moves P (IsNotBy number) before step w action world.before
+      (may-other action other) holds)))
       (own-or-other number action)
 
 -- ---- a closed client is answered nothing
@@ -226,7 +208,8 @@ module _ (number : ℕ) (p : Participant) (shut : is_closed p.link ≡ true) whe
             ∙ ap (λ u. participant_of (with_exchange w number u) number) same
             ∙ with-own w number p t found,
         own-answered number w p instruction found
-            ∙ ap (λ b. if b then [] else sent_answer t instruction) gone,
+            ∙ ap (λ b. said_reply t (message_sent
+            (if b then Rests else done_move t instruction))) gone,
       )
 
   closed-act : (w : World) (action : Action) → participant_of w number ≡ Some p
@@ -277,7 +260,7 @@ not-leaving (command ∷ todo) behind m rest is leaves =
     let same : msg.Part command ≡ m = cc in
     let no : false ≡ true = ap is_disconnect same ∙ leaves in cc
 
-module _ (laws : Leading)
+module _ (laws : Leading) (moves : InstructionsAreMoves)
     (stays : (w : World) (action : Action) → IsWorld w → IsWorld (after w action))
     (number epoch : ℕ) where
   -- what stays true of the opened epoch along actions
@@ -287,12 +270,11 @@ module _ (laws : Leading)
   opened-along commands w [] world h = h
   opened-along commands w (action ∷ actions) world h =
       opened-along commands (after w action) actions (stays w action world)
-      (action-keeps (λ past. OpenedWith epoch commands (state_of past)) (λ e. Unit {0}) laws.before
-      (step-opened laws epoch commands) w action world.before (may w action) h)
+      (action-keeps moves (λ past. OpenedWith epoch commands (state_of past)) (λ e. Unit {0})
+      laws.before (step-opened laws epoch commands) w action world.before (may w action) h)
     where
       may : (w : World) (action : Action)
-          → MayAct (λ past. OpenedWith epoch commands (state_of past)) (λ e. Unit {0}) laws.before
-          (step-opened laws epoch commands) w action
+          → MayAct (λ e. Unit {0}) w action
       may w (Join name registered) = tt
       may w (Act actor instruction) = λ q there. (λ k d within. tt, tt)
       may w (Show actor kind) = tt
@@ -312,7 +294,7 @@ module _ (laws : Leading)
     sending [] w so_far todo p behind world found up uplink owns are =
         absurd (some-answer todo epoch rest are)
     sending (action ∷ actions) w so_far todo p behind world found up uplink owns are =
-        act-move (λ past. Owns number so_far (state_of past).stream) number laws.before
+        act-move moves (λ past. Owns number so_far (state_of past).stream) number laws.before
         (step-owned laws number so_far) w world p found up owns
         (λ v answers. IsWorld v
         → answers ++ own_answers number v actions ≡ rest_answers todo epoch rest
@@ -389,8 +371,8 @@ module _ (laws : Leading)
             others)
 
     -- the same, where the reset stands on the uplink after other messages
-    abbrev Queues : List Action → Type 0
-    Queues actions =
+    abbrev SendsAfter : List Action → Type 0
+    SendsAfter actions =
         (w : World) (commands : List Draw) (p : Participant) (ahead behind : List Msg) → IsWorld w
         → participant_of w number ≡ Some p → is_closed p.link ≡ false
         → p.uplink ≡ ahead ++ msg.Control ResetBegin ∷ rest_messages commands behind
@@ -398,13 +380,13 @@ module _ (laws : Leading)
         ≡ reply.Noted ∷ rest_answers commands epoch rest
         → OpenedWith epoch commands (state_of (fold after w actions).past)
 
-    pub queued : (actions : List Action) → Queues actions
+    pub queued : (actions : List Action) → SendsAfter actions
     queued [] w commands p ahead behind world found up uplink are =
         let no : [] ≡ reply.Noted ∷ rest_answers commands epoch rest =
         sym (drop-none (length ahead)) ∙ are in cc
     queued (action ∷ actions) w commands p ahead behind world found up uplink are =
-        act-move (λ past. Unit {0}) number laws.before (λ past e shut far h. tt) w world p found up
-        tt
+        act-move moves (λ past. Unit {0}) number laws.before (λ past e shut far h. tt) w world p
+        found up tt
         (λ v answers. IsWorld v
         → drop (length ahead) (answers ++ own_answers number v actions)
         ≡ reply.Noted ∷ rest_answers commands epoch rest
@@ -456,7 +438,7 @@ module _ (laws : Leading)
                 let no : [] ≡ reply.Noted ∷ rest_answers commands epoch rest =
                 sym (ap (λ ms. drop (length ms) (r ∷ [])) is ∙ drop-none (length front)) ∙ are in cc
 
-        hear : Queues actions → Sends actions → (v : World) (q : Participant) (m : Msg)
+        hear : SendsAfter actions → Sends actions → (v : World) (q : Participant) (m : Msg)
             (after_it front : List Msg)
             → ahead ≡ front → participant_of v number ≡ Some q
             → ahead ++ msg.Control ResetBegin ∷ rest_messages commands behind ≡ m ∷ after_it

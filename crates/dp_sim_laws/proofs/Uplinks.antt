@@ -51,13 +51,7 @@ stands-later epoch later m le h = h
 pub high-send : (epoch : ℕ) (m : Msg) → 32 ≤ kind_of m
     → MayStand epoch m × (is_send m ≡ true) × (is_disconnect m ≡ false)
 high-send epoch (msg.Control (control.Hello name)) high = absurd (omega arith)
-high-send epoch (msg.Control (control.Disconnect reason)) high = absurd (omega arith)
-high-send epoch (msg.Control (control.Ping pong)) high = absurd (omega arith)
-high-send epoch (msg.Control (control.Ack other)) high = absurd (omega arith)
-high-send epoch (msg.Control (control.Welcome version user other at)) high = absurd (omega arith)
-high-send epoch (msg.Control control.ResetBegin) high = absurd (omega arith)
-high-send epoch (msg.Control control.ResetEnd) high = absurd (omega arith)
-high-send epoch (msg.Control (control.ResetFrom at)) high = absurd (omega arith)
+high-send epoch (msg.Control m) high = absurd (omega arith)
 high-send epoch (msg.Part command) high = absurd (omega arith)
 high-send epoch m high = (high, refl, refl)
 
@@ -66,13 +60,6 @@ pub no-ack : (epoch later : ℕ) (m : Msg) → epoch < later → MayStand epoch 
     → is_ack later m ≡ false
 no-ack epoch later (msg.Control (control.Ack other)) less h =
     ne_eqb other later (λ same. omega (arith, same, less, h))
-no-ack epoch later (msg.Control (control.Hello name)) less h = refl
-no-ack epoch later (msg.Control (control.Disconnect reason)) less h = refl
-no-ack epoch later (msg.Control (control.Ping pong)) less h = refl
-no-ack epoch later (msg.Control (control.Welcome version user other at)) less h = refl
-no-ack epoch later (msg.Control control.ResetBegin) less h = refl
-no-ack epoch later (msg.Control control.ResetEnd) less h = refl
-no-ack epoch later (msg.Control (control.ResetFrom at)) less h = refl
 no-ack epoch later m less h = refl
 
 -- ---- all of them

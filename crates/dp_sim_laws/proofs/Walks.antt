@@ -1,14 +1,10 @@
 -- What holds of the session's past through an action, where each event that may come keeps it; and
 -- what an action leaves of one client.
-use Rattle.std.proofs.Common.{◌≡◌, ℕ, Bool, true, false, if◌then◌else◌}
-use Rattle.std.proofs.Common.{List, [], ◌∷◌, Option, None, Some}
-use Rattle.std.proofs.Common.{sym, ap, ◌∙◌}
+use Rattle.std.proofs.Common.{◌≡◌, ℕ, List, ◌∷◌, None, Some, sym, ap, subst, ◌∙◌}
 use Rattle.std.specs.Prelude.{All}
 use Rattle.std.specs.Option.{option_map_or}
 use Rattle.std.proofs.lemmas.List.Elements.{All-head}
 use Rattle.dp_messages.specs.declared.message.Msg.{Msg}
-use Rattle.dp_messages.specs.declared.message.Entry.{Entry}
-use Rattle.dp_messages.specs.Properties.{is_disconnect}
 use Rattle.dp_epochs.specs.declared.event.Event.{Event}
 use Rattle.dp_epochs.specs.declared.event.Event.TheVariants as event
 use Rattle.dp_epochs.specs.declared.event.Reply.{Reply}
@@ -16,11 +12,11 @@ use Rattle.dp_epochs.specs.declared.event.Reply.TheVariants as reply
 use Rattle.dp_epochs.specs.Past.{Past, sure_step, sure_answer}
 use Rattle.dp_epochs.specs.Laws.{ShutBefore}
 use Rattle.dp_schedule.specs.declared.action.Instruction.{Instruction}
-use Rattle.dp_schedule.specs.declared.action.Instruction.TheVariants.{Up, Take, Cut}
 use Rattle.dp_schedule.specs.declared.action.Action.{Action}
 use Rattle.dp_schedule.specs.declared.action.Action.TheVariants.{Join, Act, Show}
-use Rattle.dp_sim.specs.Exchanges.{Participant, Exchange, is_gone, disconnected, heard, uplink_sent}
-use Rattle.dp_sim.specs.Exchanges.{next_entry, took_next, done, exchanged}
+use Rattle.dp_sim.specs.Exchanges.{Participant, Exchange, exchanged}
+use Rattle.dp_sim.specs.Moves.{Move, SendsFirst, Closes, IsMoveBy, after_move, instruction_move}
+use Rattle.dp_sim.specs.Moves.{InstructionsAreMoves}
 use Rattle.dp_sim.specs.World.{World, participant_of, with_joined, after, with_exchange}
 use Rattle.dp_lists.specs.Numbered.{numbered}
 use Rattle.dp_lists.proofs.Options.{option_either}
@@ -29,61 +25,49 @@ use Rattle.dp_sim_laws.specs.OwnSteps.{exchange_of}
 
 -- ---- the session
 
-module _ (P : Past → Type 0) (May : Event → Type 0)
+-- each message of the uplink may come, and the Close
+abbrev pub MaySend : (Event → Type 0) → Participant → Type 0
+MaySend May p = All (λ m. May (event.Say p.conn m)) p.uplink × May (event.Close p.conn)
+
+-- the events of the action may come
+abbrev pub MayAct : (Event → Type 0) → World → Action → Type 0
+MayAct May w (Join name registered) = May (event.Open name registered)
+MayAct May w (Act client instruction) =
+    (p : Participant) → participant_of w client ≡ Some p → MaySend May p
+MayAct May w (Show client kind) = Unit {0}
+
+module _ (moves : InstructionsAreMoves) (P : Past → Type 0) (May : Event → Type 0)
     (before : (past : Past) (e : Event) → ShutBefore past → ShutBefore (sure_step past e))
     (step : (past : Past) (e : Event) → ShutBefore past → May e → P past → P (sure_step past e))
   where
-    -- each message of the uplink may come, and the Close
-    abbrev pub MaySend : Participant → Type 0
-    MaySend p = All (λ m. May (event.Say p.conn m)) p.uplink × May (event.Close p.conn)
+    first-may : (p : Participant) (m : Msg) (rest : List Msg) → MaySend May p → p.uplink ≡ m ∷ rest
+        → May (event.Say p.conn m)
+    first-may p m rest may is =
+        All-head (λ n. May (event.Say p.conn n)) m rest
+        (subst (All (λ n. May (event.Say p.conn n))) is may.0)
 
-    up-keeps : (t : Exchange) (uplink : List Msg) → ShutBefore t.past
-        → All (λ m. May (event.Say t.participant.conn m)) uplink
-        → May (event.Close t.participant.conn) → P t.past → P (uplink_sent t uplink).past
-    up-keeps t [] shut each close h = h
-    up-keeps t (m ∷ rest) shut each close h = by_leave (is_disconnect m)
-      where
-        e : Event
-        e = event.Say t.participant.conn m
-
-        told : P (sure_step t.past e)
-        told = step t.past e shut
-            (All-head (λ n. May (event.Say t.participant.conn n)) m rest each) h
-
-        by_leave : (b : Bool)
-            → P (if b then disconnected (heard t m rest) else heard t m rest).past
-        by_leave true =
-            step (sure_step t.past e) (event.Close t.participant.conn) (before t.past e shut) close
-            told
-        by_leave false = told
-
-    take-keeps : (t : Exchange) (o : Option Entry) → P t.past → P (took_next t o).past
-    take-keeps t None h = h
-    take-keeps t (Some entry) h = h
-
-    done-keeps : (t : Exchange) (instruction : Instruction) → ShutBefore t.past
-        → MaySend t.participant → P t.past → P (done t instruction).past
-    done-keeps t Up shut may h = up-keeps t t.participant.uplink shut may.0 may.1 h
-    done-keeps t Take shut may h = take-keeps t (next_entry t) h
-    done-keeps t Cut shut may h = step t.past (event.Close t.participant.conn) shut may.1 h
-    done-keeps t instruction shut may h = h
+    move-keeps : (t : Exchange) (instruction : Instruction) (move : Move) → ShutBefore t.past
+        → IsMoveBy t instruction move → MaySend May t.participant → P t.past
+        → P (after_move t move).past
+    move-keeps t instruction (SendsFirst m rest) shut is may h =
+        step t.past (event.Say t.participant.conn m) shut (first-may t.participant m rest may is.1)
+        h
+    move-keeps t instruction (Closes None) shut is may h =
+        step t.past (event.Close t.participant.conn) shut may.1 h
+    move-keeps t instruction (Closes (Some m)) shut is may h =
+        let e = event.Say t.participant.conn m in
+        step (sure_step t.past e) (event.Close t.participant.conn) (before t.past e shut) may.1
+        (step t.past e shut (first-may t.participant m is.1.0 may is.1.1) h)
+    move-keeps t instruction move shut is may h = h
 
     exchange-keeps : (t : Exchange) (instruction : Instruction) → ShutBefore t.past
-        → MaySend t.participant → P t.past → P (exchanged t instruction).past
-    exchange-keeps t instruction shut may h = by_gone (is_gone t.participant.link instruction)
-      where
-        by_gone : (b : Bool) → P (if b then t else done t instruction).past
-        by_gone true = h
-        by_gone false = done-keeps t instruction shut may h
+        → MaySend May t.participant → P t.past → P (exchanged t instruction).past
+    exchange-keeps t instruction shut may h =
+        let is = moves t instruction in
+        subst (λ u. P u.past) (sym is.made)
+        (move-keeps t instruction (instruction_move t instruction) shut is.may may h)
 
-    -- the events of the action may come
-    abbrev pub MayAct : World → Action → Type 0
-    MayAct w (Join name registered) = May (event.Open name registered)
-    MayAct w (Act client instruction) =
-        (p : Participant) → participant_of w client ≡ Some p → MaySend p
-    MayAct w (Show client kind) = Unit {0}
-
-    pub action-keeps : (w : World) (action : Action) → ShutBefore w.past → MayAct w action
+    pub action-keeps : (w : World) (action : Action) → ShutBefore w.past → MayAct May w action
         → P w.past → P (after w action).past
     action-keeps w (Join name registered) shut may h =
         step w.past (event.Open name registered) shut may h

@@ -1,15 +1,14 @@
 -- A client's own steps along a schedule: what it said and took since its Welcome.
-use Rattle.std.specs.Prelude.{◌≡◌, ℕ, ◌==◌, if◌then◌else◌, Option, None, option_to_list, List, []}
-use Rattle.std.specs.Prelude.{◌∷◌, map}
+use Rattle.std.specs.Prelude.{◌≡◌, ℕ, ◌==◌, if◌then◌else◌, Option, None, List, [], ◌∷◌, map}
 use Rattle.std.specs.Option.{option_map_or}
 use Rattle.dp_messages.specs.declared.message.Entry.{Entry}
 use Rattle.dp_client.specs.Client.{State, Step, Said, Took, welcomed, after_steps}
 use Rattle.dp_schedule.specs.declared.action.Instruction.{Instruction}
-use Rattle.dp_schedule.specs.declared.action.Instruction.TheVariants.{Say, Up, Take, Reset}
-use Rattle.dp_schedule.specs.declared.action.Instruction.TheVariants.{Leave, Cut}
+use Rattle.dp_schedule.specs.declared.action.Instruction.TheVariants.{Take}
 use Rattle.dp_schedule.specs.declared.action.Action.{Action}
 use Rattle.dp_schedule.specs.declared.action.Action.TheVariants.{Join, Act, Show}
 use Rattle.dp_sim.specs.Exchanges.{Participant, Exchange, is_gone, next_entry}
+use Rattle.dp_sim.specs.Moves.{Move, Queues, TakesNext, forked_messages, instruction_move}
 use Rattle.dp_sim.specs.World.{World, first_world, participant_of}
 use Rattle.dp_sim.specs.Report.{along}
 
@@ -22,19 +21,15 @@ abbrev pub next_of : World → Participant → Option Entry
 next_of w participant = if is_gone participant.link Take then None
     else next_entry (exchange_of w participant)
 
--- the steps that an instruction is, which the client still does
-abbrev pub steps_of_instruction : Exchange → Instruction → List Step
-steps_of_instruction t (Say m) = Said m ∷ []
-steps_of_instruction t Take = map Took (option_to_list (next_entry t))
-steps_of_instruction t Up = []
-steps_of_instruction t Reset = []
-steps_of_instruction t Leave = []
-steps_of_instruction t Cut = []
+-- the steps that a move is
+abbrev pub steps_of_move : Move → List Step
+steps_of_move (Queues queued) = map Said (forked_messages queued)
+steps_of_move (TakesNext entry) = Took entry ∷ []
+steps_of_move other = []
 
 -- the steps that an instruction of a client is
 abbrev pub steps_of_exchange : Exchange → Instruction → List Step
-steps_of_exchange t instruction = if is_gone t.participant.link instruction then []
-    else steps_of_instruction t instruction
+steps_of_exchange t instruction = steps_of_move (instruction_move t instruction)
 
 -- the steps that an action is of the client of a number
 abbrev pub own_step : ℕ → World → Action → List Step

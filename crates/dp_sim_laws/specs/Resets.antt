@@ -4,44 +4,32 @@ use Rattle.std.specs.Prelude.{length, drop, map}
 use Rattle.std.specs.Option.{option_map_or}
 use Rattle.std.specs.Prelude.{Some}
 use Rattle.dp_msg_draw.specs.declared.draw.Draw.{Draw}
-use Rattle.dp_messages.specs.declared.message.Msg.{Msg}
 use Rattle.dp_messages.specs.declared.message.Entry.{Entry}
 use Rattle.dp_messages.specs.Properties.{carried_in}
 use Rattle.dp_plain.specs.Board.{Board}
 use Rattle.dp_plain.specs.Commands.{draw}
 use Rattle.dp_replay.specs.Replay.{replay_from, depth_in_force}
 use Rattle.dp_client.specs.Client as client
-use Rattle.dp_epochs.specs.declared.event.Event.TheVariants as event
 use Rattle.dp_epochs.specs.declared.event.Reply.{Reply}
 use Rattle.dp_epochs.specs.declared.event.Reply.TheVariants as reply
-use Rattle.dp_epochs.specs.Past.{sure_answer}
 use Rattle.dp_schedule.specs.declared.action.Instruction.{Instruction}
-use Rattle.dp_schedule.specs.declared.action.Instruction.TheVariants.{Up, Reset}
+use Rattle.dp_schedule.specs.declared.action.Instruction.TheVariants.{Reset}
 use Rattle.dp_schedule.specs.declared.action.Action.{Action}
 use Rattle.dp_schedule.specs.declared.action.Action.TheVariants.{Act}
 use Rattle.dp_snap.specs.Snapshot.{snapshot}
 use Rattle.dp_sim.specs.declared.participant.LinkState.TheVariants.{Connected}
-use Rattle.dp_sim.specs.Exchanges.{Participant, Exchange, is_gone}
+use Rattle.dp_sim.specs.Exchanges.{Participant, Exchange}
+use Rattle.dp_sim.specs.Moves.{message_sent, instruction_move}
 use Rattle.dp_sim.specs.World.{World, after, world_after, participant_of}
 use Rattle.dp_sim.specs.Report.{along}
 use Rattle.dp_sim_laws.specs.OwnSteps.{exchange_of}
+use Rattle.dp_sim_laws.specs.Tally.{said_reply}
 
 -- ---- what the session answers to the messages of one client
 
--- the answer to the next message of an uplink, if there is one
-abbrev pub next_answer : Exchange → List Msg → List Reply
-next_answer t [] = []
-next_answer t (m ∷ rest) = sure_answer t.past (event.Say t.participant.conn m) ∷ []
-
--- the answer to the message that an instruction sends, if it sends one
-abbrev pub sent_answer : Exchange → Instruction → List Reply
-sent_answer t Up = next_answer t t.participant.uplink
-sent_answer t other = []
-
--- the same of the client of a number, where it still does that
+-- the answer to the message that the session takes by an instruction of a client, if it takes one
 abbrev pub client_answer : Exchange → Instruction → List Reply
-client_answer t instruction =
-    if is_gone t.participant.link instruction then [] else sent_answer t instruction
+client_answer t instruction = said_reply t (message_sent (instruction_move t instruction))
 
 -- the answer to the message of the client of a number that the session takes by an action
 abbrev pub own_answer : ℕ → World → Action → List Reply

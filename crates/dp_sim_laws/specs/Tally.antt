@@ -1,20 +1,19 @@
 -- How many of its sends a client has seen answered.
-use Rattle.std.specs.Prelude.{◌≢◌, ℕ, ◌+◌, if◌then◌else◌, is_some, List, [], ◌∷◌, ◌++◌}
+use Rattle.std.specs.Prelude.{◌≢◌, ℕ, ◌+◌, if◌then◌else◌, is_some, Option, None, Some}
+use Rattle.std.specs.Prelude.{List, [], ◌∷◌, ◌++◌}
 use Rattle.std.specs.List.{All}
 use Rattle.std.specs.Option.{option_map_or}
 use Rattle.dp_messages.specs.declared.message.Msg.{Msg}
-use Rattle.dp_messages.specs.Properties.{is_disconnect}
 use Rattle.dp_client.specs.Client.{State, Step, Said, Took, after_step, is_own_answer, taken_of}
 use Rattle.dp_epochs.specs.declared.event.Event.TheVariants as event
 use Rattle.dp_epochs.specs.declared.event.Reply.{Reply}
 use Rattle.dp_epochs.specs.declared.event.Reply.TheVariants.{Ended}
 use Rattle.dp_epochs.specs.Past.{sure_answer}
 use Rattle.dp_schedule.specs.declared.action.Instruction.{Instruction}
-use Rattle.dp_schedule.specs.declared.action.Instruction.TheVariants.{Say, Up, Take, Reset}
-use Rattle.dp_schedule.specs.declared.action.Instruction.TheVariants.{Leave, Cut}
 use Rattle.dp_schedule.specs.declared.action.Action.{Action}
 use Rattle.dp_schedule.specs.declared.action.Action.TheVariants.{Join, Act, Show}
-use Rattle.dp_sim.specs.Exchanges.{Exchange, is_gone, heard}
+use Rattle.dp_sim.specs.Exchanges.{Exchange}
+use Rattle.dp_sim.specs.Moves.{Move, Closes, message_sent, past_with, instruction_move}
 use Rattle.dp_sim.specs.World.{World, first_world, participant_of}
 use Rattle.dp_sim.specs.Report.{along}
 use Rattle.dp_sim.specs.Invariant.{SaysNoControl}
@@ -47,26 +46,20 @@ tally_of c steps = tally_from (welcome_of c) no_sends steps
 
 -- ---- schedules in which the session never ends
 
--- the replies to the events of the next message of an uplink
-abbrev pub up_replies : Exchange → List Msg → List Reply
-up_replies t [] = []
-up_replies t (m ∷ rest) =
-    sure_answer t.past (event.Say t.participant.conn m)
-    ∷ (if is_disconnect m then sure_answer (heard t m rest).past (event.Close t.participant.conn)
-    ∷ [] else [])
+-- the reply to a message of the client, if there is one
+abbrev pub said_reply : Exchange → Option Msg → List Reply
+said_reply t None = []
+said_reply t (Some m) = sure_answer t.past (event.Say t.participant.conn m) ∷ []
 
--- the replies to the events of an instruction that the client still does
-abbrev pub instruction_replies : Exchange → Instruction → List Reply
-instruction_replies t (Say m) = []
-instruction_replies t Up = up_replies t t.participant.uplink
-instruction_replies t Take = []
-instruction_replies t Reset = []
-instruction_replies t Leave = []
-instruction_replies t Cut = sure_answer t.past (event.Close t.participant.conn) ∷ []
+-- the replies to the events of a move
+abbrev pub move_replies : Exchange → Move → List Reply
+move_replies t (Closes last) =
+    said_reply t last ++ sure_answer (past_with t last) (event.Close t.participant.conn) ∷ []
+move_replies t move = said_reply t (message_sent move)
 
+-- the replies to the events of an instruction of a client
 abbrev pub exchange_replies : Exchange → Instruction → List Reply
-exchange_replies t instruction = if is_gone t.participant.link instruction then []
-    else instruction_replies t instruction
+exchange_replies t instruction = move_replies t (instruction_move t instruction)
 
 -- the replies to the events of an action
 abbrev pub replies : World → Action → List Reply

@@ -19,10 +19,11 @@ ghost use Rattle.dp_sim_laws.specs.Tally.{IsUnended, tally_of};
 use dp_acl::spelled_ids_are_in_order;
 use dp_client::entries_are_taken;
 use dp_epochs::{
-    epochs_rise, events_have_effects, histories_are_marked, histories_grow, steps_lead_on,
+    decisions_have_effects, effects_are_made, epochs_rise, events_have_effects,
+    histories_are_marked, histories_grow, steps_lead_on,
 };
 use dp_messages::one_equality;
-use dp_sim::{openings_go_on, worlds_stay_worlds};
+use dp_sim::{instructions_are_moves, openings_go_on, worlds_stay_worlds};
 use dp_snap_laws::{snapshots_are_spelled, snapshots_replay};
 
 /// After every schedule each client is where its own steps since its Welcome lead.
@@ -30,7 +31,9 @@ pub fn clients_go_by_their_steps()
     ensures { (actions : List Action) (number : ℕ)
         → IfSome (participant_of (world_after actions) number)
         (λ participant. GoesBy participant.state (own_steps number actions)) }
-{}
+{
+    instructions_are_moves();
+}
 
 /// After a schedule of such messages as lines say, in which no event was answered Ended, a client's
 /// fork is its sends without the first n, n the number of own answers that it has taken.
@@ -44,6 +47,9 @@ pub fn forks_are_plain()
         let tally = tally_of participant.state (own_steps number actions) in
         participant.state.fork ≡ drop tally.answers tally.sends) }
 {
+    instructions_are_moves();
+    decisions_have_effects();
+    effects_are_made();
     worlds_stay_worlds();
     steps_lead_on();
     events_have_effects();
@@ -59,6 +65,9 @@ pub fn no_fork_is_lost()
         IfSome (next_of (world_after actions) participant)
         (λ entry. own_of participant.state entry ≢ Lost)) }
 {
+    instructions_are_moves();
+    decisions_have_effects();
+    effects_are_made();
     worlds_stay_worlds();
     steps_lead_on();
     events_have_effects();
@@ -85,6 +94,7 @@ pub fn schedules_are_spelled()
     ensures events { (actions : List Action) → All SaysSpelled actions
         → All IsSpelledEvent (world_after actions).past.journal }
 {
+    instructions_are_moves();
     worlds_stay_worlds();
     steps_lead_on();
     histories_are_spelled();
@@ -101,6 +111,7 @@ pub fn resets_show_the_senders_canvas()
         (λ participant. participant.state.epoch ≡ epoch
         → GoesOnFrom (confirmed sender.state) participant.state) }
 {
+    instructions_are_moves();
     worlds_stay_worlds();
     steps_lead_on();
     events_have_effects();

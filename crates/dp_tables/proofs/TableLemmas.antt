@@ -826,6 +826,7 @@ past_in l = record {
   first_fault = None;
   known = None;
   count = 0;
+  read_faults = 0;
 }
 
 last-history : (ended : List (List Entry)) (live : List Entry)

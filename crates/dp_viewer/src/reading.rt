@@ -145,6 +145,7 @@ pub(crate) fn read_recording<I: Source, D: Ledger, T: Ledger>(
 }
 
 /// Shows the next entry where it is one of the first so many, of which `due` are left, or of all.
+#[inline(always)]
 fn show_due<D: Ledger, T: Ledger>(
     alloc: Global,
     board: &mut ShownBoard,

@@ -29,7 +29,7 @@ use std::sync::Wait;
 use std::thread::Threads;
 
 /// How a link ended, whether memory ran out on it, and whether the store failed in one of its acts.
-#[derive(Clone, Copy, Debug)]
+#[derive(Clone, Copy)]
 pub(crate) struct LinkEnd {
     pub(crate) conn: Option<u32>,
     pub(crate) up: UpEnd,

@@ -22,7 +22,7 @@ use std::sync::Wait;
 use std::thread::Threads;
 
 /// What a worker did.
-#[derive(Drop, Debug)]
+#[derive(Drop)]
 pub struct Worked {
     /// A report of each link that it served, in order.
     pub reports: Vec<LinkReport>,

@@ -1,4 +1,4 @@
-use Rattle.std.proofs.Common.{SFits, arith, w64}
+use Rattle.std.proofs.Common.{arith, w64}
 use Rattle.std.proofs.lemmas.Int.{clamps, ints, to_z-of_z}
 use Rattle.dp_paint.proofs.cells.tiles_met.Goals as goal
 

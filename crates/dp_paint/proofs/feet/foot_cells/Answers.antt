@@ -16,6 +16,7 @@ returns-in-MoveRect-clause-all c = λ x y in_x in_y is.
     ⊎_elim
     (λ t. in_joined c.cells_in.result c.joined.result (x / 64) (y / 64) j.left.0 j.right.0 j.top.0
     j.bottom.0 (c.cells_in.ensures.all x y in_x in_y t))
-    (λ f. in_joined c.cells_in-in-MoveRect.result c.joined.result (x / 64) (y / 64) j.left.1 j.right.1
-    j.top.1 j.bottom.1 (c.cells_in-in-MoveRect.ensures.all x y in_x in_y (rw f at either)))
+    (λ f. in_joined c.cells_in-in-MoveRect.result c.joined.result (x / 64) (y / 64) j.left.1
+    j.right.1 j.top.1 j.bottom.1 (c.cells_in-in-MoveRect.ensures.all x y in_x in_y
+    (rw f at either)))
     (cases_Bool (is_in from (pos x) (pos y)))

@@ -1,4 +1,4 @@
-use Rattle.std.proofs.Common.{◌≡◌, ◌+◌, ◌*◌, ◌≤◌, List, ◌∙◌, ap, arith, length, map, refl, sym, take}
+use Rattle.std.proofs.Common.{◌+◌, ◌*◌, ◌≤◌, List, ◌∙◌, ap, arith, length, map, refl, sym, take}
 use Rattle.std.specs.Prelude.{pos}
 use Rattle.std.proofs.lemmas.Bool.{false_from_ne_true}
 use Rattle.std.proofs.lemmas.List.{length-map, take_all}

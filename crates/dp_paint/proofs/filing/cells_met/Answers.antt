@@ -17,9 +17,11 @@ returns-clause-all c = λ col row i j is in_x in_y t.
     let y0 = inside.y0 in
     let y1 = inside.y1 in
     let across = (rw (to_z-of_z w64 r.x0 fx0, to_z-of_z w64 r.x1 fx1) at
-    c.tiles_met-left.ensures.all) col is.left is.right (omega (arith, ints, x0, x1)) (omega (arith, ints, x0, in_x))
+    c.tiles_met-left.ensures.all) col is.left is.right (omega (arith, ints, x0, x1))
+    (omega (arith, ints, x0, in_x))
     (omega (arith, ints, x1)) in
     let down = (rw (to_z-of_z w64 r.y0 fy0, to_z-of_z w64 r.y1 fy1) at
-    c.tiles_met-top.ensures.all) row is.top is.bottom (omega (arith, ints, y0, y1)) (omega (arith, ints, y0, in_y))
+    c.tiles_met-top.ensures.all) row is.top is.bottom (omega (arith, ints, y0, y1))
+    (omega (arith, ints, y0, in_y))
     (omega (arith, ints, y1)) in
     record { left = across.0; right = across.1; top = down.0; bottom = down.1 }

@@ -26,14 +26,16 @@ returns-in-Ok-clause-counts c =
 
 pub returns-in-Err-clause-same : goal.returns-in-Err-clause-same
 returns-in-Err-clause-same c = λ col row few.
-    dropped_same c.args.area c.add_command.new.lists c.finish-in-Err.new.self c.finish-in-Err.ensures col row
+    dropped_same c.args.area c.add_command.new.lists c.finish-in-Err.new.self
+    c.finish-in-Err.ensures col row
     few
     ∙ c.in-Err.ensures.same col row few
     ∙ ap (λ (w : Waiting). w.ops) (c.in_ok-grow.ensures.same col row few)
 
 pub returns-in-Err-clause-counts : goal.returns-in-Err-clause-counts
 returns-in-Err-clause-counts c =
-    all_counts c.args.area Drop c.add_command.new.lists c.finish-in-Err.new.self c.finish-in-Err.ensures
+    all_counts c.args.area Drop c.add_command.new.lists c.finish-in-Err.new.self
+    c.finish-in-Err.ensures
     (λ col row few out.
     ap (λ (w : Waiting). w.more) (c.in-Err.ensures.others col row few out
     ∙ c.in_ok-grow.ensures.same col row few)

@@ -11,7 +11,8 @@ pub returns-then-is_err : goal.returns-then-is_err
 returns-then-is_err g c =
     let n = c.serve_nothing.ensures in
     serves-nothing _ c.args.session _ c.args.wires.items c.serve_nothing.result.wires.items _
-    n.wires n.parts.2 n.parts.3 n.parts.0 n.parts.1 n.reports n.flags.0 n.flags.1 n.flags.2
+    n.wires n.parts.3 n.parts.4 n.parts.0 n.parts.1 n.parts.2 n.reports n.flags.0 n.flags.1
+    n.flags.2
 
 pub run_all-flags-requires-clause-start : goal.run_all-flags-requires-clause-start
 run_all-flags-requires-clause-start g c κs within =
@@ -42,6 +43,7 @@ returns-in-Err g c =
     let n = c.serve_nothing-in-Err.ensures in
     let is = c.in-Err.ensures.err in
     serves-nothing _ c.args.session _ c.args.wires.items c.serve_nothing-in-Err.result.wires.items
-    _ n.wires (n.parts.2 ∙ ap (λ (p : Past). p.journal) is)
-    (n.parts.3 ∙ ap (λ (p : Past). p.shut) is) (n.parts.0 ∙ ap (λ (p : Past). p.known) is)
-    (n.parts.1 ∙ ap (λ (p : Past). p.count) is) n.reports n.flags.0 n.flags.1 n.flags.2
+    _ n.wires (n.parts.3 ∙ ap (λ (p : Past). p.journal) is)
+    (n.parts.4 ∙ ap (λ (p : Past). p.shut) is) (n.parts.0 ∙ ap (λ (p : Past). p.known) is)
+    (n.parts.1 ∙ ap (λ (p : Past). p.count) is)
+    (n.parts.2 ∙ ap (λ (p : Past). p.read_faults) is) n.reports n.flags.0 n.flags.1 n.flags.2

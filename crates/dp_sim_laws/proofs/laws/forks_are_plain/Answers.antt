@@ -5,7 +5,8 @@ pub returns-clause-few : goal.returns-clause-few
 returns-clause-few c =
     let worlds = c.worlds_stay_worlds.ensures in
     let steps = c.steps_lead_on.ensures in
-    few-answers (staying steps.kept steps.before c.events_have_effects.ensures
+    few-answers (staying c.instructions_are_moves.ensures c.decisions_have_effects.ensures
+    c.effects_are_made.ensures steps.kept steps.before c.events_have_effects.ensures
     c.histories_are_marked.ensures c.one_equality.ensures
     c.entries_are_taken.ensures worlds.first worlds.stays)
 
@@ -13,6 +14,7 @@ pub returns-clause-fork : goal.returns-clause-fork
 returns-clause-fork c =
     let worlds = c.worlds_stay_worlds.ensures in
     let steps = c.steps_lead_on.ensures in
-    fork-plain (staying steps.kept steps.before c.events_have_effects.ensures
+    fork-plain (staying c.instructions_are_moves.ensures c.decisions_have_effects.ensures
+    c.effects_are_made.ensures steps.kept steps.before c.events_have_effects.ensures
     c.histories_are_marked.ensures c.one_equality.ensures
     c.entries_are_taken.ensures worlds.first worlds.stays)

@@ -14,6 +14,7 @@ returns c = shown (record {
     taking = c.entries_are_taken.ensures;
   };
   speaking = record {
+    moves = c.instructions_are_moves.ensures;
     first = c.worlds_stay_worlds.ensures.first;
     stays = c.worlds_stay_worlds.ensures.stays;
     before = c.steps_lead_on.ensures.before;

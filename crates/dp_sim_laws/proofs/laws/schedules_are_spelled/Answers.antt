@@ -6,6 +6,7 @@ pub returns-clause-entries : goal.returns-clause-entries
 returns-clause-entries c = λ actions epoch each.
     let w = world_after actions in
     let h = spoken (record {
+      moves = c.instructions_are_moves.ensures;
       first = c.worlds_stay_worlds.ensures.first;
       stays = c.worlds_stay_worlds.ensures.stays;
       before = c.steps_lead_on.ensures.before;
@@ -17,6 +18,7 @@ returns-clause-entries c = λ actions epoch each.
 pub returns-clause-events : goal.returns-clause-events
 returns-clause-events c = λ actions each.
     (spoken (record {
+      moves = c.instructions_are_moves.ensures;
       first = c.worlds_stay_worlds.ensures.first;
       stays = c.worlds_stay_worlds.ensures.stays;
       before = c.steps_lead_on.ensures.before;

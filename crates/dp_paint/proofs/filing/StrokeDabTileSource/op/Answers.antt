@@ -18,4 +18,5 @@ returns-clause-drawn c = λ i j p in_x in_y.
       to_z-of_z w16 c.from_tile-2.result y,
       rw (to_z-of_z w64 dab.at.x at_x) at c.from_tile.ensures,
       rw (to_z-of_z w64 dab.at.y at_y) at c.from_tile-2.ensures,
-    ) (dab_moved dab size.fits c.args.col c.args.row i j in_x in_y s.shape s.mode (of_argb s.color) p)
+    ) (dab_moved dab size.fits c.args.col c.args.row i j in_x in_y s.shape s.mode
+    (of_argb s.color) p)

@@ -1,4 +1,4 @@
-use Rattle.std.proofs.Common.{◌∙◌, ap, refl, sym}
+use Rattle.std.proofs.Common.{◌∙◌, ap, refl}
 use Rattle.dp_paint.specs.Lists.{Lists}
 use Rattle.dp_paint.proofs.Layers.{all_painted, no_lists, same_layer}
 use Rattle.dp_paint.proofs.layer.DeferredGrid.make_room.Goals as goal

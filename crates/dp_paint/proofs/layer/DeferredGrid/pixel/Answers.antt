@@ -1,6 +1,6 @@
-use Rattle.std.proofs.Common.{◌%◌, ◌≤◌, ◌∙◌, List, ap, length, sym, arith}
+use Rattle.std.proofs.Common.{◌%◌, ◌≤◌, ◌∙◌, ap, length, arith}
 use Rattle.dp_paint.specs.declared.op.TileOp.{TileOp}
-use Rattle.dp_paint.specs.Ops.{op_at, ops_at}
+use Rattle.dp_paint.specs.Ops.{op_at}
 use Rattle.dp_paint.proofs.Ops.{ops_next}
 use Rattle.dp_paint.proofs.Layers.{pixel_of_layer}
 use Rattle.dp_paint.proofs.layer.DeferredGrid.pixel.Goals as goal

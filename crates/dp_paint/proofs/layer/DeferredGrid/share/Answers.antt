@@ -1,4 +1,3 @@
-use Rattle.std.proofs.Common.{◌≡◌, ◌∙◌, ap, sym}
 use Rattle.dp_paint.proofs.Layers.{same_layer, same_pixels}
 use Rattle.dp_paint.proofs.layer.DeferredGrid.share.Goals as goal
 

@@ -1,4 +1,4 @@
-use Rattle.std.proofs.Common.{◌≡◌, [], Some, sym}
+use Rattle.std.proofs.Common.{◌≡◌, [], Some}
 use Rattle.dp_pixels.specs.Tiles.{ShowsTile}
 use Rattle.dp_tile.specs.Tiles.{cell_at, tile_of}
 use Rattle.dp_paint.proofs.Ops.{shows_none}

@@ -1,4 +1,4 @@
-use Rattle.std.proofs.Common.{◌≡◌, ◌∙◌, ap, sym}
+use Rattle.std.proofs.Common.{◌∙◌, ap, sym}
 use Rattle.std.proofs.lemmas.Result.{on_err_weaker, on_ok_weaker}
 use Rattle.dp_paint.specs.Lists.{LayerOf}
 use Rattle.dp_paint.proofs.Layers.{filed_layer, layer_after, same_layer, same_pixels}

@@ -1,4 +1,4 @@
-use Rattle.std.proofs.Common.{List, [], ◌∷◌, ◌++◌, ap, length, ◌∙◌}
+use Rattle.std.proofs.Common.{[], ◌∷◌, ◌++◌, ap, length, ◌∙◌}
 use Rattle.dp_paint.specs.Lists.{Lists, Waiting}
 use Rattle.dp_paint.proofs.Waits.{grown, pushed_same}
 use Rattle.dp_paint.proofs.lists.TileLists.grow.Goals as goal

@@ -11,7 +11,9 @@ use Rattle.dp_paint.proofs.RowLemmas.{row_changes, row_stays}
 use Rattle.dp_blend.proofs.Parts.{pixel_of_part}
 use Rattle.dp_paint.proofs.movement.Moved.lay_source.Goals as goal
 use Rattle.dp_paint.proofs.movement.Moved.lay_source.Goals.{else-has_row-via-else-has_row}
-use Rattle.dp_paint.proofs.movement.Moved.lay_source.Goals.{else-has_row-via-then-has_row+else-start-end}
+use Rattle.dp_paint.proofs.movement.Moved.lay_source.Goals.{
+  else-has_row-via-then-has_row+else-start-end,
+}
 
 -- a place so many after another one
 at_place : (x z : ℤ) (start i : ℕ) → z ≡ x +ℤ pos start → z +ℤ pos i ≡ x +ℤ pos (start + i)

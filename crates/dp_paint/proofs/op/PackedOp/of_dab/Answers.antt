@@ -13,5 +13,6 @@ returns c =
     dab_packed d _ _ c.raised.result c.raised-2.result c.shape_code.result c.code_of.result
     (rw (to_z-of_z w16 d.x x) at c.raised.ensures.value) c.raised.ensures.few
     (rw (to_z-of_z w16 d.y y) at c.raised-2.ensures.value) c.raised-2.ensures.few
-    size.fits opacity.fits c.shape_code.ensures.value c.shape_code.ensures.few c.code_of.ensures.value
+    size.fits opacity.fits c.shape_code.ensures.value c.shape_code.ensures.few
+    c.code_of.ensures.value
     c.code_of.ensures.few c.requires.4 refl refl

@@ -1,4 +1,4 @@
-use Rattle.std.proofs.Common.{◌∙◌, refl, sym}
+use Rattle.std.proofs.Common.{refl}
 use Rattle.dp_paint.proofs.Ops.{dab_pixel}
 use Rattle.dp_paint.proofs.op.TileDab.pixel_after.Goals as goal
 

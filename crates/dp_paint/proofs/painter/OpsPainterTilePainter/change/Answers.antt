@@ -1,4 +1,4 @@
-use Rattle.std.proofs.Common.{◌≡◌, ap, refl, rules, sym, ◌∙◌}
+use Rattle.std.proofs.Common.{◌≡◌, ap, rules, sym, ◌∙◌}
 use Rattle.dp_paint.specs.Ops.{tile_after}
 use Rattle.dp_paint.proofs.Layers.{known_none}
 use Rattle.dp_paint.proofs.Ops.{tile_becomes, tile_none}

@@ -26,7 +26,7 @@ returns-in_err-ready-clause-err g c = on-err c.from_residual.result _ refl
 pub returns-in_default-2-clause-served : goal.returns-in_default-2-clause-served
 returns-in_default-2-clause-served g c =
     past-ended c.args.self.now c.self.inside.tables c.args.event.now c.self.inside.first_fault _ _
-    c.self.view_is c.in_default.not-Some c.refuse-in_default-2.new.self c.refuse-in_default-2.result
+    _ c.self.view_is c.in_default.not-Some c.refuse-in_default-2.new.self c.refuse-in_default-2.result
     (none-of c.in_ok-ready.field-0 _ _ c.in_default-2.not-Some c.in_ok-ready.ensures)
     c.refuse-in_default-2.ensures.refused
 
@@ -40,8 +40,9 @@ pub returns-in-Ok-clause-served : goal.returns-in-Ok-clause-served
 returns-in-Ok-clause-served g c =
     let ready = rw c.in-Some-2.is at c.in_ok-ready.ensures in
     past-kept c.args.self.now c.self.inside.tables c.args.event.now c.self.inside.first_fault _ _
-    c.self.view_is c.in_default.not-Some c.put.new.tables _ _ c.in-Some-2.ready ready
+    _ c.self.view_is c.in_default.not-Some c.put.new.tables _ _ _ c.in-Some-2.ready ready
     c.in-Ok.reply c.in-Ok.ensures.outcome c.in-Ok.ensures.rows c.in-Ok.ensures.count
+    c.put.ensures.others
 
 pub returns-in-Err-Memory-clause-err : goal.returns-in-Err-Memory-clause-err
 returns-in-Err-Memory-clause-err g c =
@@ -49,7 +50,7 @@ returns-in-Err-Memory-clause-err g c =
     let rows = rw c.in-Err-Memory.field-0-is at c.in-Err-Memory.ensures.rows in
     let counts = rw c.in-Err-Memory.field-0-is at c.in-Err-Memory.ensures.count in
     past-undone c.args.self.now c.self.inside.tables c.put.new.tables c.args.event.now
-    c.self.inside.first_fault _ _ _ _ c.self.view_is undone rows counts
+    c.self.inside.first_fault _ _ _ _ _ _ c.self.view_is undone rows counts c.put.ensures.others
 
 pub returns-in-Err-Failed-clause-served : goal.returns-in-Err-Failed-clause-served
 returns-in-Err-Failed-clause-served g c =
@@ -58,5 +59,5 @@ returns-in-Err-Failed-clause-served g c =
     let rows = rw c.in-Err-Failed.field-0-is at c.in-Err-Failed.ensures.rows in
     let rose = rw c.in-Err-Failed.field-0-is at c.in-Err-Failed.ensures.count in
     past-failed c.args.self.now c.self.inside.tables c.args.event.now c.self.inside.first_fault _ _
-    c.self.view_is c.in_default.not-Some c.put.new.tables _ _ c.in-Some-2.ready ready
-    c.count-count.result out rows rose c.count-count.ensures
+    _ c.self.view_is c.in_default.not-Some c.put.new.tables _ _ _ c.in-Some-2.ready ready
+    c.count-count.result out rows rose c.put.ensures.others c.count-count.ensures

@@ -14,7 +14,7 @@ returns-in-Ok g c = c.in-Ok.ensures.served
 pub returns-in-Close : goal.returns-in-Close
 returns-in-Close g c =
     quieted-is c.args.self.now c.self.inside.tables c.quieten.new.self _ c.args.event.now
-    c.in-Close.conn c.self.inside.first_fault _ _ (c.self.view_is ∙ c.in-Err.ensures.err)
+    c.in-Close.conn c.self.inside.first_fault _ _ _ (c.self.view_is ∙ c.in-Err.ensures.err)
     c.in-Close.is c.quieten.ensures
 
 pub returns-in_default : goal.returns-in_default

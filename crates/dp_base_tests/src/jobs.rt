@@ -1,0 +1,73 @@
+//! Jobs that run at the same time.
+
+ghost use Rattle.std.specs.Prelude.{◌≡◌, ◌+◌, ◌<◌};
+
+use dp_par::{Job, par_each};
+use dp_wire::Gate;
+use std::process::Abort;
+use std::sync::atomic::{AtomicU64, Ordering};
+use std::thread;
+use std::thread::Threads;
+
+/// What counts its runs.
+#[derive(Clone, Copy, Debug, PartialEq, Eq)]
+struct Counts {
+    runs: u32,
+}
+
+impl Job for Counts {
+    ghost ready = { λ job. job.runs < 100 };
+
+    ghost leaves = { λ old new. new.runs ≡ old.runs + 1 };
+
+    fn run(&mut self) {
+        self.runs += 1;
+    }
+}
+
+/// How many turns a job is held for.
+const TURNS: u64 = 200_000;
+
+/// A gate at which job 0 is held until job 4 has passed, or for so many turns.
+#[derive(Drop)]
+struct Held {
+    passed: AtomicU64,
+    gave_up: AtomicU64,
+}
+
+impl Gate for Held {
+    fn pass(&self, who: u32, _n: u64) {
+        if who == 4 {
+            self.passed.store(1, Ordering::SeqCst);
+        }
+        if who == 0 {
+            for _ in 0..TURNS {
+                if self.passed.load(Ordering::SeqCst) == 1 {
+                    return;
+                }
+                thread::yield_now();
+            }
+            self.gave_up.store(1, Ordering::SeqCst);
+        }
+    }
+}
+
+/// Runs eight jobs on so many workers, and says whether the gate gave up.
+fn gives_up<R: Threads + Sync + Abort>(rt: &R, workers: u32) -> bool {
+    let gate = Held {
+        passed: AtomicU64::new(0),
+        gave_up: AtomicU64::new(0),
+    };
+    let mut jobs = [Counts { runs: 6 }; 8];
+    par_each(rt, workers, &gate, &mut jobs);
+    assert_eq!(rt; jobs, [Counts { runs: 7 }; 8]);
+    gate.gave_up.load(Ordering::SeqCst) == 1
+}
+
+/// Two pieces of four jobs run at the same time, and on one worker one after the other.
+#[test]
+fn pieces_run_at_the_same_time(rt: HostRuntime) {
+    assert!(rt; !gives_up(&rt, 2));
+    assert!(rt; gives_up(&rt, 1));
+    assert!(rt; gives_up(&rt, 0));
+}
