@@ -107,8 +107,8 @@ HasHeadline bytes =
     → Headline (world_after actions)
 
 -- The unanswered sends of each client, after the first lines of an input of these bytes, however
--- many. They are its sends since its Welcome, or its last mark of a reset, without the first n. Here
--- n is how many own answers it has taken since. No event of the lines may be answered Ended.
+-- many. They are its sends since its Welcome, or its last mark of a reset, without the first n.
+-- Here n is how many own answers it has taken since. No event of the lines may be answered Ended.
 abbrev pub HasPlainForks : List ℕ → Type 0
 HasPlainForks bytes =
     (done after : List Line) (actions : List Action) (number : ℕ)

@@ -1,5 +1,5 @@
-//! The tests of the crates at the base, in a crate of their own: so each of them is proved once, and
-//! not once more with its tests.
+//! The tests of the crates at the base, in a crate of their own: so each of them is proved once,
+//! and not once more with its tests.
 #![tactic(auto)]
 
 #[cfg(test)]

@@ -1,11 +1,13 @@
-//! The tests of boards, rollbacks, forks and snapshots, in a crate of their own: so each crate of
-//! these is proved once, and not once more with its tests.
+//! The tests of boards, rollbacks, forks, screens and snapshots, in a crate of their own: so each
+//! crate of these is proved once, and not once more with its tests.
 #![tactic(auto)]
 
 #[cfg(test)]
 mod forks;
 #[cfg(test)]
 mod rollbacks;
+#[cfg(test)]
+mod screens;
 #[cfg(test)]
 mod snapshots;
 #[cfg(test)]

@@ -8,8 +8,8 @@ use dp_recording::{
 use std::alloc::Global;
 use std::process::Abort;
 
-/// An undo point, an undo and a chat of user 1, at the places 30, 34 and 40, and a frame of which no
-/// message is.
+/// An undo point, an undo and a chat of user 1, at the places 30, 34 and 40, and a frame of which
+/// no message is.
 const FRAMES: [u8; 20] = [
     0x00, 0x00, 0x80, 0x01, 0x00, 0x02, 0xff, 0x01, 0x00, 0x00, 0x00, 0x02, 0x23, 0x01, 0x68, 0x69,
     0x00, 0x00, 0x14, 0x01,

@@ -37,7 +37,8 @@ one-say one bytes conn other m n s t =
     let kind : s.kind ≡ t.kind = cc (conns.1) in
     let payload : s.payload ≡ t.payload = cc (conns.1) in
     let said : RowSays s.first s.kind s.payload n = rw (first, kind, payload) t.said in
-    ap (λ c. Say c m) conns.0 ∙ ap (Say other) (one-said one s.first s.kind s.payload m n s.said said)
+    ap (λ c. Say c m) conns.0
+    ∙ ap (Say other) (one-said one s.first s.kind s.payload m n s.said said)
 
 -- the first byte of a Say's row is no other event's
 begins : (first kind : ℕ) (payload : List ℕ) (m : Msg) → RowSays first kind payload m

@@ -9,9 +9,9 @@ use std::alloc::Global;
 use std::process::Abort;
 use std::sync::Wait;
 
-/// What the peer sends, the length of the pieces in which it comes and in which it is taken, and the
-/// numbers of the read and of the write that fail, or 0. Then how the link ends, how many events
-/// were kept, how many closings were refused, and what the peer is sent.
+/// What the peer sends, the length of the pieces in which it comes and in which it is taken, and
+/// the numbers of the read and of the write that fail, or 0. Then how the link ends, how many
+/// events were kept, how many closings were refused, and what the peer is sent.
 #[derive(Drop)]
 struct Row {
     bytes: &'static [u8],

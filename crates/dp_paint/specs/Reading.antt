@@ -7,12 +7,12 @@ use Rattle.dp_blend.specs.declared.modes.Mode.TheVariants.{Normal}
 use Rattle.dp_blend.specs.Canvas.{below, canvas_of}
 use Rattle.dp_blend.proofs.Canvas.{length-canvas_of}
 use Rattle.dp_msg_draw.specs.declared.draw.Draw.{Draw}
-use Rattle.dp_msg_draw.specs.declared.draw.Draw.TheVariants.{CanvasResize, MoveRect}
+use Rattle.dp_msg_draw.specs.declared.draw.Draw.TheVariants.{MoveRect}
 use Rattle.dp_pixels.specs.Commands.{pixel_of}
 use Rattle.dp_pixels.specs.Rectangles.{is_in}
 use Rattle.dp_pixels.specs.declared.rect.Rect.{Rect}
 use Rattle.dp_pixels.specs.declared.resize.Resize.{Resize}
-use Rattle.dp_pixels.specs.Resizes.{IsResizeOf, pixels_resized}
+use Rattle.dp_pixels.specs.Resizes.{pixels_resized}
 use Rattle.dp_tile.specs.declared.area.CellArea.{CellArea}
 use Rattle.dp_tile.specs.Areas.{IsPaintedOn}
 use Rattle.dp_tile.specs.Tiles.{TileGrid, grid_pixels}
@@ -31,12 +31,6 @@ ChangesPixels command = IsPainting command
 -- the pixel at a place of a canvas whose tiles are those of a grid, clear past the canvas
 abbrev pub shown : ℕ → ℕ → TileGrid → ℤ → ℤ → Channels
 shown width height g = pixel_of width height (grid_pixels width height g)
-
--- the command is a resize of a canvas of these sides, to new ones that are sides
-abbrev pub IsResizeBy : ℕ → ℕ → Draw → Resize → Type 0
-IsResizeBy width height (CanvasResize top right bottom left) r =
-    IsResizeOf width height top right bottom left r
-IsResizeBy width height _ r = ⊥
 
 -- a grid is what a resize makes of another one
 pub record IsResized (r : Resize) (old new : TileGrid) : Type 0 where

@@ -21,6 +21,6 @@ mod rows;
 
 pub use blank::blank_grid;
 pub use layer::DeferredGrid;
-pub use movement::{move_in_place, move_one};
-pub use paint::{paint_in_place, paint_one};
-pub use resize::{resize_grid, resized_grid};
+pub use movement::move_in_place;
+pub use paint::paint_in_place;
+pub use resize::resized_grid;

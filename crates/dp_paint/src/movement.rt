@@ -3,7 +3,7 @@
 ghost use Rattle.std.specs.Prelude.{◌≡◌, ℕ, ℤ, ◌+◌, ◌*◌, ◌<◌, ◌≤◌, ◌^◌, ◌≤ℤ◌, ◌<ℤ◌, ◌+ℤ◌, ◌-ℤ◌};
 ghost use Rattle.std.specs.Prelude.{true, false, pos};
 ghost use Rattle.std.specs.Prelude.{map, length, slice_index_or, unsigned_abs};
-ghost use Rattle.std.specs.Prelude.{IfOk, OnOk, OnErr};
+ghost use Rattle.std.specs.Prelude.{OnOk, OnErr};
 ghost use Rattle.dp_blend.specs.Color.{Channels, clear};
 ghost use Rattle.dp_blend.specs.Blending.{blend};
 ghost use Rattle.dp_blend.specs.Canvas.{below};
@@ -399,27 +399,4 @@ pub fn move_in_place<T: Ledger>(
             Err(refused)
         }
     }
-}
-
-/// The grid after a MoveRect. It shares the tiles that the command doesn't change, and no tile is
-/// made for a cell that shows nothing.
-pub fn move_one<T: Ledger>(
-    grid: &Grid,
-    width: u32,
-    height: u32,
-    command: &Draw,
-    tiles: &mut Steps<T>,
-) -> Result<Grid, AllocError>
-    requires grid { IsGridOf width height grid.now }
-    requires command { IsMove command.now }
-    ensures grid { IfOk result (IsGridOf width height) }
-    ensures pixels { IfOk result (λ moved. grid_pixels width height moved
-        ≡ pixels_after width height command.now (grid_pixels width height grid.now)) }
-    ensures tiles_rise { tiles.old ≤ tiles.new }
-    ensures few_tiles { tiles.new ≤ tiles.old + reach command.now }
-    ensures few_shown { IfOk result (λ moved. tiles.new ≤ tiles.old + 2 * cells_shown moved) }
-{
-    let mut moved = grid.share()?;
-    move_in_place(&mut moved, width, height, command, tiles)?;
-    Ok(moved)
 }

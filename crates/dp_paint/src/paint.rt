@@ -1,6 +1,6 @@
 //! Commands that are painted on a grid.
 
-ghost use Rattle.std.specs.Prelude.{◌≡◌, ◌+◌, ◌*◌, ◌/◌, ◌≤◌, ◌<◌, ℕ, pos, true, IfOk, OnOk, OnErr};
+ghost use Rattle.std.specs.Prelude.{◌≡◌, ◌+◌, ◌*◌, ◌/◌, ◌≤◌, ◌<◌, ℕ, pos, true, OnOk, OnErr};
 ghost use Rattle.dp_pixels.specs.Commands.{IsDabs, pixels_after};
 ghost use Rattle.dp_pixels.specs.Feet.{foot, is_in_foot, reach};
 ghost use Rattle.dp_tile.specs.Areas.{IsPaintedOn, is_in_cells};
@@ -143,25 +143,4 @@ pub fn paint_in_place<T: Ledger>(
         height,
     };
     grid.paint_area(area, &painter, tiles)
-}
-
-/// The grid after a command. It shares the tiles that the command doesn't change.
-pub fn paint_one<T: Ledger>(
-    grid: &Grid,
-    width: u32,
-    height: u32,
-    command: &Draw,
-    tiles: &mut Steps<T>,
-) -> Result<Grid, AllocError>
-    requires grid { IsGridOf width height grid.now }
-    requires command { IsPainting command.now }
-    ensures grid { IfOk result (IsGridOf width height) }
-    ensures pixels { IfOk result (λ painted. grid_pixels width height painted
-        ≡ pixels_after width height command.now (grid_pixels width height grid.now)) }
-    ensures tiles_rise { tiles.old ≤ tiles.new }
-    ensures few_tiles { tiles.new ≤ tiles.old + reach command.now }
-{
-    let mut painted = grid.share()?;
-    paint_in_place(&mut painted, width, height, command, tiles)?;
-    Ok(painted)
 }

@@ -3,17 +3,15 @@
 ghost use Rattle.std.specs.Prelude.{◌≡◌, ◌+◌, ◌*◌, ◌<◌, ◌≤◌, ◌^◌, pos, ◌-ℤ◌, true};
 ghost use Rattle.std.specs.Prelude.{unsigned_abs, Some, IfOk};
 ghost use Rattle.dp_blend.specs.Color.{clear};
-ghost use Rattle.dp_pixels.specs.declared.resize.Resize.{Resize as Change};
 ghost use Rattle.dp_pixels.specs.Tiles.{tiles_along};
 ghost use Rattle.dp_tile.specs.Tiles.{cells_shown};
 ghost use Rattle.dp_paint.specs.Painting.{IsGridOf};
-ghost use Rattle.dp_paint.specs.Reading.{IsResizeBy, IsResized};
+ghost use Rattle.dp_paint.specs.Reading.{IsResized};
 
 use crate::blank::blank_grid;
 use crate::reading::Shown;
 use crate::rows::{RowPainter, RowSource};
 use dp_blend::Pixel;
-use dp_msg_draw::Draw;
 use dp_pixels::Resize;
 use dp_steps::Steps;
 use dp_tile::{CellArea, Grid, TileChange, an_area_shows_at_most_its_grid};
@@ -116,36 +114,4 @@ pub fn resized_grid<T: Ledger>(
     resized.paint_each(all, &painter, tiles)?;
     resized.known();
     Ok(resized)
-}
-
-/// The grid after a CanvasResize that has an effect on a canvas of these sides.
-pub fn resize_grid<T: Ledger>(
-    grid: &Grid,
-    width: u32,
-    height: u32,
-    command: &Draw,
-    tiles: &mut Steps<T>,
-) -> Result<Grid, AllocError>
-    requires grid { IsGridOf width height grid.now }
-    requires effect { (change : Change) × IsResizeBy width height command.now change }
-    ensures resized { IfOk result (λ resized. (change : Change)
-        × IsResizeBy width height command.now change × IsResized change grid.now resized) }
-    ensures tiles_rise { tiles.old ≤ tiles.new }
-    ensures few_tiles { (change : Change) → IsResizeBy width height command.now change
-        → tiles.new ≤ tiles.old + tiles_along change.new_height * tiles_along change.new_width }
-    ensures few_shown { IfOk result (λ resized. tiles.new ≤ tiles.old + cells_shown resized) }
-{
-    let Draw::CanvasResize {
-        top,
-        right,
-        bottom,
-        left,
-    } = command
-    else {
-        unreachable!()
-    };
-    match Resize::of_sides(width, height, *top, *right, *bottom, *left) {
-        Some(change) => resized_grid(grid, change, tiles),
-        None => unreachable!(),
-    }
 }

@@ -41,6 +41,84 @@ const BLUE: Option<[u16; 4]> = Some([0, 0, 32768, 32768]);
 
 const CLEAR: Option<[u16; 4]> = Some([0, 0, 0, 0]);
 
+const GREEN: Option<[u16; 4]> = Some([0, 32768, 0, 32768]);
+
+const WHITE: Option<[u16; 4]> = Some([32768; 4]);
+
+/// A canvas of 66 by 3.
+const STRIP: &[u8] = b"\x81\0\0\0\0\0\0\0B\0\0\0\x03\0\0\0\0";
+
+/// A white pixel at (1, 1).
+const DOT: &[u8] = b"\x89\x01\x01\x01\0\0\0\x01\0\0\0\x01\0\0\0\x01\0\0\0\x01\xff\xff\xff\xff";
+
+/// A canvas of three tiles by two, the last of which are 2 wide and 6 high.
+const SIX_TILES: &[u8] = b"\x81\0\0\0\0\0\0\0\x82\0\0\0F\0\0\0\0";
+
+/// A red fill from (60, 60) on, 10 by 8, on four tiles.
+const FILL_CORNERS: &[u8] = b"\x89\x01\x01\x01\0\0\0<\0\0\0<\0\0\0\x0a\0\0\0\x08\xff\xff\0\0";
+
+/// Two square dabs in blue, 4 by 4, from (62, 62) and from (124, 62) on.
+const DABS_ACROSS: &[u8] = b"\x96\x01\x01\0\0\0@\0\0\0@\0\0\xff\x01\0\0\x04\xff>\0\x04\xff";
+
+/// A round dab in green: x from 127 to 129, y from -1 to 1.
+const DAB_AT_THE_TOP: &[u8] = b"\x95\x01\x01\0\0\0\x80\0\0\0\0\0\xff\0\x01\0\0\x03\xff";
+
+/// An image of 2 by 1 from (63, 0) on: red and blue.
+const IMAGE_ACROSS: &[u8] =
+    b"\x88\x01\x01\x01\0\0\0?\0\0\0\0\0\0\0\x02\0\0\0\x01\xff\xff\0\0\xff\0\0\xff";
+
+/// A fill that erases (64, 0).
+const ERASED: &[u8] = b"\x89\x01\x01\0\0\0\0@\0\0\0\0\0\0\0\x01\0\0\0\x01\xff\xff\0\0";
+
+/// The pixels from (60, 60) on, 4 by 4, go to (66, 2).
+const MOVED: &[u8] = b"\x98\x01\x01\0\0\0<\0\0\0<\0\0\0\x04\0\0\0\x04\0\0\0B\0\0\0\x02";
+
+/// A white fill from (0, 63) on, 2 by 2.
+const FILL_DOWN: &[u8] = b"\x89\x01\x01\x01\0\0\0\0\0\0\0?\0\0\0\x02\0\0\0\x02\xff\xff\xff\xff";
+
+/// The last tile, in green.
+const TILE: &[u8] = b"\x92\x01\x01\0\x02\0\x01\0\0\0\0\0\x80\0\0\0\x80\0";
+
+/// A square dab that erases from (128, 64) on, 2 by 2.
+const DAB_THAT_ERASES: &[u8] = b"\x96\x01\x01\0\0\0\x81\0\0\0A\0\0\0\0\0\0\x02\xff";
+
+/// The pixels from (64, 64) on, 2 by 2, go to (-1, -1).
+const MOVED_PAST: &[u8] =
+    b"\x98\x01\x01\0\0\0@\0\0\0@\0\0\0\x02\0\0\0\x02\xff\xff\xff\xff\xff\xff\xff\xff";
+
+/// Round dabs in red at (1, 63) and (1, 64).
+const DABS_DOWN: &[u8] = b"\x95\x01\x01\0\0\0\x01\0\0\0?\xff\0\0\x01\0\0\x01\xff\0\x01\x01\xff";
+
+/// A white pixel at (127, 64), by Replace.
+const PIXEL: &[u8] = b"\x88\x01\x01\xff\0\0\0\x7f\0\0\0@\0\0\0\x01\0\0\0\x01\xff\xff\xff\xff";
+
+/// A clear pixel on each of the tiles changes nothing. What waits on the tile is painted before it.
+const SETTLES_0: &[u8] = b"\x88\x01\x01\x01\0\0\0\0\0\0\0\0\0\0\0\x01\0\0\0\x01\0\0\0\0";
+
+const SETTLES_1: &[u8] = b"\x88\x01\x01\x01\0\0\0@\0\0\0\0\0\0\0\x01\0\0\0\x01\0\0\0\0";
+
+const SETTLES_2: &[u8] = b"\x88\x01\x01\x01\0\0\0\x80\0\0\0\0\0\0\0\x01\0\0\0\x01\0\0\0\0";
+
+const SETTLES_3: &[u8] = b"\x88\x01\x01\x01\0\0\0\0\0\0\0@\0\0\0\x01\0\0\0\x01\0\0\0\0";
+
+const SETTLES_4: &[u8] = b"\x88\x01\x01\x01\0\0\0@\0\0\0@\0\0\0\x01\0\0\0\x01\0\0\0\0";
+
+const SETTLES_5: &[u8] = b"\x88\x01\x01\x01\0\0\0\x80\0\0\0@\0\0\0\x01\0\0\0\x01\0\0\0\0";
+
+/// Ten places after all of these.
+const PLACES: &[(u16, u32, u32, Option<[u16; 4]>)] = &[
+    (0x0101, 60, 60, CLEAR),
+    (0x0101, 66, 2, RED),
+    (0x0101, 69, 5, BLUE),
+    (0x0101, 64, 0, CLEAR),
+    (0x0101, 0, 0, BLUE),
+    (0x0101, 66, 66, RED),
+    (0x0101, 1, 64, RED),
+    (0x0101, 127, 64, WHITE),
+    (0x0101, 129, 0, GREEN),
+    (0x0101, 128, 66, GREEN),
+];
+
 /// The channels of a pixel.
 fn channels(pixel: Pixel) -> [u16; 4] {
     [pixel.r(), pixel.g(), pixel.b(), pixel.a()]
@@ -87,9 +165,9 @@ fn looks_so<B: BoardView>(rt: &impl Abort, board: &B, case: &Case) {
     }
 }
 
-/// Rows of layers and groups, with commands on layers that have effect and that don't; then commands
-/// on pixels, one of each kind.
-static CASES: [Case; 7] = [
+/// Rows of layers and groups, with commands on layers that have effect and that don't; commands on
+/// pixels, one of each kind; and several on tiles.
+static CASES: [Case; 13] = [
     Case {
         commands: &[],
         sides: (0, 0),
@@ -208,6 +286,137 @@ static CASES: [Case; 7] = [
             (0x0101, 1, 0, RED),
             (0x0101, 2, 0, BLUE),
         ],
+    },
+    // A fill goes past the canvas.
+    Case {
+        commands: &[
+            STRIP,
+            LAYER,
+            b"\x89\x01\x01\x01\0\0\0<\0\0\0\x01\0\0\0\x0a\0\0\0\x02\xff\xff\xff\xff",
+        ],
+        sides: (66, 3),
+        background: 0,
+        rows: &[(0x0101, 0)],
+        pixels: &[
+            (0x0101, 59, 1, CLEAR),
+            (0x0101, 60, 1, WHITE),
+            (0x0101, 65, 2, WHITE),
+            (0x0101, 66, 2, None),
+        ],
+    },
+    // A pixel moves to another tile.
+    Case {
+        commands: &[
+            STRIP,
+            LAYER,
+            DOT,
+            b"\x98\x01\x01\0\0\0\x01\0\0\0\x01\0\0\0\x01\0\0\0\x01\0\0\0A\0\0\0\x02",
+        ],
+        sides: (66, 3),
+        background: 0,
+        rows: &[(0x0101, 0)],
+        pixels: &[
+            (0x0101, 1, 1, CLEAR),
+            (0x0101, 65, 2, WHITE),
+            (0x0101, 64, 2, CLEAR),
+        ],
+    },
+    // The canvas grows by a column of tiles on the left, and by 1 above.
+    Case {
+        commands: &[STRIP, LAYER, DOT, b"\x81\0\0\0\x01\0\0\0\0\0\0\0\0\0\0\0@"],
+        sides: (130, 4),
+        background: 0,
+        rows: &[(0x0101, 0)],
+        pixels: &[(0x0101, 1, 1, CLEAR), (0x0101, 65, 2, WHITE)],
+    },
+    // Twelve commands that meet several tiles, some of which wait. In three orders each tile is
+    // painted by what waits there.
+    // The tiles are painted at the end, one after the other.
+    Case {
+        commands: &[
+            SIX_TILES,
+            LAYER,
+            FILL_CORNERS,
+            DABS_ACROSS,
+            DAB_AT_THE_TOP,
+            IMAGE_ACROSS,
+            ERASED,
+            MOVED,
+            FILL_DOWN,
+            TILE,
+            DAB_THAT_ERASES,
+            MOVED_PAST,
+            DABS_DOWN,
+            PIXEL,
+            SETTLES_0,
+            SETTLES_1,
+            SETTLES_2,
+            SETTLES_3,
+            SETTLES_4,
+            SETTLES_5,
+        ],
+        sides: (130, 70),
+        background: 0,
+        rows: &[(0x0101, 0)],
+        pixels: PLACES,
+    },
+    // The last tile is painted first.
+    Case {
+        commands: &[
+            SIX_TILES,
+            LAYER,
+            FILL_CORNERS,
+            DABS_ACROSS,
+            DAB_AT_THE_TOP,
+            IMAGE_ACROSS,
+            ERASED,
+            MOVED,
+            FILL_DOWN,
+            TILE,
+            DAB_THAT_ERASES,
+            MOVED_PAST,
+            DABS_DOWN,
+            PIXEL,
+            SETTLES_5,
+            SETTLES_4,
+            SETTLES_3,
+            SETTLES_2,
+            SETTLES_1,
+            SETTLES_0,
+        ],
+        sides: (130, 70),
+        background: 0,
+        rows: &[(0x0101, 0)],
+        pixels: PLACES,
+    },
+    // Those of the middle column are painted half way, and the others at the end, by columns.
+    Case {
+        commands: &[
+            SIX_TILES,
+            LAYER,
+            FILL_CORNERS,
+            DABS_ACROSS,
+            DAB_AT_THE_TOP,
+            IMAGE_ACROSS,
+            ERASED,
+            MOVED,
+            SETTLES_4,
+            SETTLES_1,
+            FILL_DOWN,
+            TILE,
+            DAB_THAT_ERASES,
+            MOVED_PAST,
+            DABS_DOWN,
+            PIXEL,
+            SETTLES_2,
+            SETTLES_5,
+            SETTLES_0,
+            SETTLES_3,
+        ],
+        sides: (130, 70),
+        background: 0,
+        rows: &[(0x0101, 0)],
+        pixels: PLACES,
     },
 ];
 

@@ -61,8 +61,8 @@ bad-rest one before other rows n row e f c may b =
           (ap (λ x. before ++ x ∷ c) (sym same) ∙ sym (append_assoc before (e ∷ []) c)) b.bad;
     }
 
-pub not-bad : OneEvent → (before : List Event) (rows : List Row) (j : List Event) (n : ℕ) (row : Row)
-    (c : List Event) → StandAfter before rows j → BadAfter before rows n row c → ⊥
+pub not-bad : OneEvent → (before : List Event) (rows : List Row) (j : List Event) (n : ℕ)
+    (row : Row) (c : List Event) → StandAfter before rows j → BadAfter before rows n row c → ⊥
 not-bad one before [] j n row c s b = let wrong = b.at in cc
 not-bad one before (other ∷ rows) [] n row c s b = s
 not-bad one before (other ∷ rows) (e ∷ j) zero row [] s b =
@@ -70,7 +70,8 @@ not-bad one before (other ∷ rows) (e ∷ j) zero row [] s b =
 not-bad one before (other ∷ rows) (e ∷ j) zero row (f ∷ c) s b = b.front
 not-bad one before (other ∷ rows) (e ∷ j) (suc n) row [] s b = b.front
 not-bad one before (other ∷ rows) (e ∷ j) (suc n) row (f ∷ c) s b =
-    not-bad one (before ++ e ∷ []) rows j n row c s.1 (bad-rest one before other rows n row e f c s.0 b)
+    not-bad one (before ++ e ∷ []) rows j n row c s.1
+    (bad-rest one before other rows n row e f c s.0 b)
 
 pub one-bad : OneEvent → (before : List Event) (rows : List Row) (m n : ℕ) (r s : Row)
     (c d : List Event) → BadAfter before rows m r c → BadAfter before rows n s d

@@ -14,7 +14,8 @@ use Rattle.dp_epochs.specs.State.{with_connection}
 use Rattle.dp_epochs.specs.Past.{Journalled, RefusedClose, shut_at, interleaved, after_item}
 
 shut-histories : (s : State) (conn : ℕ) (o : Option Connection)
-    → histories (option_map_or (λ c. with_connection s conn (record c { ending = ending.Shut })) o s)
+    → histories
+    (option_map_or (λ c. with_connection s conn (record c { ending = ending.Shut })) o s)
     ≡ histories s
 shut-histories s conn None = refl
 shut-histories s conn (Some c) = refl

@@ -67,4 +67,5 @@ forbidden-nothing others rights effects s conn m epoch at is =
     let e = event.Say conn m in
     let h = effects s e in
     subst (λ a. ChangesNothing s.live a.state.live) (sym h.made)
-    (effect-nothing others rights s e h.effect h.cause epoch at (ap (λ a. a.reply) (sym h.made) ∙ is))
+    (effect-nothing others rights s e h.effect h.cause epoch at
+    (ap (λ a. a.reply) (sym h.made) ∙ is))

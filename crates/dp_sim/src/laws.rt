@@ -76,8 +76,8 @@ pub fn openings_go_on()
 
 /// After every schedule each client has taken a prefix of the history of its epoch; its confirmed
 /// canvas is that prefix replayed, and its view the same with its unanswered sends drawn after it.
-/// A message that is not permitted changes no canvas and no right: what is answered Filtered doesn't,
-/// and no history holds an entry that its user was not permitted to send.
+/// A message that is not permitted changes no canvas and no right: what is answered Filtered
+/// doesn't, and no history holds an entry that its user was not permitted to send.
 pub fn headline()
     ensures { (actions : List Action) → Headline (world_after actions) }
 {

@@ -1,7 +1,9 @@
 use Rattle.dp_boards_tests.proofs.snapshots.snapshots.Given as goal
 
 abbrev pub ghosts-check_snapshots-D-Ledger : goal.ghosts-check_snapshots-D-Ledger
-ghosts-check_snapshots-D-Ledger g a = record { name = a.draw_blank.name; parts = a.draw_blank.parts }
+ghosts-check_snapshots-D-Ledger g a =
+    record { name = a.draw_blank.name; parts = a.draw_blank.parts }
 
 abbrev pub ghosts-check_snapshots-T-Ledger : goal.ghosts-check_snapshots-T-Ledger
-ghosts-check_snapshots-T-Ledger g a = record { name = a.tile_blank.name; parts = a.tile_blank.parts }
+ghosts-check_snapshots-T-Ledger g a =
+    record { name = a.tile_blank.name; parts = a.tile_blank.parts }

@@ -6,7 +6,9 @@ use Rattle.dp_tile.proofs.Areas.{get_or-part, length-part}
 use Rattle.dp_paint.proofs.Ops.{none_filled, rows_filled}
 use Rattle.dp_paint.proofs.op.TileFill.draw.Goals as goal
 use Rattle.dp_paint.proofs.op.TileFill.draw.Goals.{else-left-right-via-else-left-right}
-use Rattle.dp_paint.proofs.op.TileFill.draw.Goals.{else-left-right-via-then-left-right+else-top-bottom}
+use Rattle.dp_paint.proofs.op.TileFill.draw.Goals.{
+  else-left-right-via-then-left-right+else-top-bottom,
+}
 
 pub returns-then-top-bottom : goal.returns-then-top-bottom
 returns-then-top-bottom c =

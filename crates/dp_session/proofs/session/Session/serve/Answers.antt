@@ -26,7 +26,8 @@ returns-in_err-ready-clause-err g c = on-err c.from_residual.result _ refl
 pub returns-in_default-2-clause-served : goal.returns-in_default-2-clause-served
 returns-in_default-2-clause-served g c =
     past-ended c.args.self.now c.self.inside.tables c.args.event.now c.self.inside.first_fault _ _
-    _ c.self.view_is c.in_default.not-Some c.refuse-in_default-2.new.self c.refuse-in_default-2.result
+    _ c.self.view_is c.in_default.not-Some c.refuse-in_default-2.new.self
+    c.refuse-in_default-2.result
     (none-of c.in_ok-ready.field-0 _ _ c.in_default-2.not-Some c.in_ok-ready.ensures)
     c.refuse-in_default-2.ensures.refused
 
