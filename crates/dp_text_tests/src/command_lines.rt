@@ -1,7 +1,11 @@
 //! Word lists of each kind, and the devices that they want.
 
 use Wanted::*;
-use dp_words::{CommandLine, Devices, LocalCommand, read_words, wanted};
+use dp_lines::long_number;
+use dp_words::{
+    CommandLine, Devices, Form, Kind, LocalCommand, program_of, read_words,
+    several_words_are_found, wanted,
+};
 use std::alloc::Global;
 use std::process::Abort;
 
@@ -159,5 +163,71 @@ fn devices_of_lines(rt: HostRuntime) {
         let words = words_of(&rt, alloc, line);
         let devices = wanted(alloc, &words).expect(&rt, "memory");
         assert!(rt; is_device(&devices, dials, count, at), "{line}");
+    }
+}
+
+/// Forms of the test's own: the last words of one are several, and the other's number has 64 bits.
+static FORMS: [Form; 2] = [
+    Form {
+        name: "seek",
+        params: &[("every", Kind::Word), ("places", Kind::Words)],
+    },
+    Form {
+        name: "drill",
+        params: &[("seed", Kind::Named { required: true })],
+    },
+];
+
+/// Words that are separated by bars, a name, and the numbers that it is given, if it is given any.
+static NUMBERS: [(&str, &str, Option<&[u64]>); 14] = [
+    ("seek|5|7", "every", Some(&[5])),
+    ("seek|5|7", "places", Some(&[7])),
+    ("seek|5|7|0|7", "places", Some(&[7, 0, 7])),
+    (
+        "seek|5|18446744073709551615|1",
+        "places",
+        Some(&[u64::MAX, 1]),
+    ),
+    ("drill|--seed|0", "seed", Some(&[0])),
+    ("drill|--seed=4294967296", "seed", Some(&[4_294_967_296])),
+    (
+        "drill|--seed|18446744073709551615",
+        "seed",
+        Some(&[u64::MAX]),
+    ),
+    ("seek|5", "places", None),
+    ("seek", "places", None),
+    ("seek|5|7|x", "places", None),
+    ("drill", "seed", None),
+    ("drill|--seed|18446744073709551616", "seed", None),
+    ("drill|--seed|07", "seed", None),
+    ("drill|--seed|1|2", "seed", None),
+];
+
+/// The numbers of 64 bits that the words give to a name, where they are words of a form.
+fn numbers_of(rt: &impl Abort, alloc: Global, line: &str, id: &str) -> Option<Vec<u64>> {
+    let words = words_of(rt, alloc, line);
+    let program = program_of(alloc, "test", &FORMS).expect(rt, "memory");
+    let matches = program.try_get_matches_from(&words).ok()?;
+    let (_, given) = matches.subcommand()?;
+    let mut numbers = Vec::new(alloc);
+    for word in given.get_strs(id)? {
+        let number = long_number(word.as_bytes())?;
+        numbers.push(number).expect(rt, "memory");
+    }
+    Some(numbers)
+}
+
+#[test]
+fn forms_of_a_table(rt: HostRuntime) {
+    several_words_are_found();
+    for (line, id, wanted) in NUMBERS {
+        let numbers = numbers_of(&rt, rt.alloc(), line, id);
+        let same = match (&numbers, wanted) {
+            (Some(numbers), Some(wanted)) => numbers.as_slice() == wanted,
+            (None, None) => true,
+            _ => false,
+        };
+        assert!(rt; same, "{line}");
     }
 }
