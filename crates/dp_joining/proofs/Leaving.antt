@@ -38,7 +38,7 @@ use Rattle.dp_joining.specs.Outcomes.{AllAsk, BeginsWith, EndsByLink, EndsByScri
 use Rattle.dp_joining.specs.Outcomes.{JoinComesTo, JoinOutcome, link_end}
 use Rattle.dp_script.specs.Limits.{lines_limit}
 use Rattle.dp_joining.specs.Outcomes.{script_outcome}
-use Rattle.dp_joining.specs.Partings.{IsSilent, IsParting, SaysFarewell}
+use Rattle.dp_joining.specs.Partings.{IsSilent, TakesLeave, SaysFarewell}
 use Rattle.dp_joining.specs.Scripts.{GoesTo, HasDone, HasEnded, IsBegun, StopsAlong, progress_text}
 use Rattle.dp_joining.specs.Scripts.{progress_written}
 use Rattle.dp_joining.specs.Steps.{Began, FaultMatchesStop, HasGiven, IsFaultless, Seen, Shows}
@@ -429,7 +429,7 @@ module _ {M O D T : Type 0} (see : M → O → Seen) where
           → IsWelcome name link first (at start) welcome
           → ScriptLeaves IsJoinStep (HasDone see) (HasEnded see) lines_limit input left start now
           ended
-          → IsParting (at now).written sent before after (at now).client.user ended end
+          → TakesLeave (at now).written sent before after (at now).client.user ended end
           → JoinLeaves name over end
       leaves_of Done before after end is (at_end, done, has, comes) parts =
           says_farewell done before after end at_end is has comes parts
@@ -560,7 +560,7 @@ module _ {M O D T : Type 0} (see : M → O → Seen) where
           → ScriptLeaves IsJoinStep (HasDone see) (HasEnded see) lines_limit input left start now
           ended
           → FaultMatchesInput before after ended
-          → IsParting (at now).written sent (at now).write_faults sink user ended end
+          → TakesLeave (at now).written sent (at now).write_faults sink user ended end
           → FaultMatchesJoin counted counts end
       fault_matches_of input left link sent Done user end is (at_end, done, has, comes) fault
           parts =

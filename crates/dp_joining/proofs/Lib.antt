@@ -10,4 +10,5 @@ pub mod Starting
 pub mod Prefixes
 pub mod Unique
 pub mod OneOutcome
+pub mod EachOutcome
 pub mod RunGiven

@@ -28,13 +28,13 @@ pub record IsSilent (old now : Option (List ℕ)) (before after : ℕ) (due end 
 
 -- What is written to the link after the lines, and how the run ends: where all lines are done, the
 -- client says that it leaves.
-abbrev pub IsParting : Option (List ℕ) → Option (List ℕ) → ℕ → ℕ → ℕ → ScriptEnd JoinStop → RunEnd
-    → Type 0
-IsParting old now before after user Done end = SaysFarewell old now before after user end
-IsParting old now before after user (BadLine n) end =
+abbrev pub TakesLeave : Option (List ℕ) → Option (List ℕ) → ℕ → ℕ → ℕ → ScriptEnd JoinStop
+    → RunEnd → Type 0
+TakesLeave old now before after user Done end = SaysFarewell old now before after user end
+TakesLeave old now before after user (BadLine n) end =
     IsSilent old now before after (run.BadLine n) end
-IsParting old now before after user ReadFault end = IsSilent old now before after run.ReadFault end
-IsParting old now before after user Long end = IsSilent old now before after run.Long end
-IsParting old now before after user Memory end = IsSilent old now before after run.Memory end
-IsParting old now before after user (Ended stop) end =
+TakesLeave old now before after user ReadFault end = IsSilent old now before after run.ReadFault end
+TakesLeave old now before after user Long end = IsSilent old now before after run.Long end
+TakesLeave old now before after user Memory end = IsSilent old now before after run.Memory end
+TakesLeave old now before after user (Ended stop) end =
     IsSilent old now before after (end_of stop) end

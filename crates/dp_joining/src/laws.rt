@@ -4,9 +4,9 @@ ghost use Rattle.std.specs.Prelude.{◌≡◌, ℕ, List};
 ghost use Rattle.dp_joining.specs.Outcomes.{JoinComesTo, JoinOutcome};
 
 use crate::join_standing::JoinStanding;
-use dp_entries::{Standing, one_reading};
+use dp_entries::{Standing, each_input_ends, one_reading};
 use dp_frame::one_first_frame;
-use dp_lines::{StepRule, one_end};
+use dp_lines::{StepRule, further_step, one_end};
 use dp_schedule::one_join_action;
 
 /// The lines of a script, for laws of lines.
@@ -30,4 +30,13 @@ pub fn one_outcome()
     one_end::<ScriptLines>();
     one_reading::<JoinStanding>();
     JoinStanding::one_standing();
+}
+
+/// It can't be that a script and a link come to no outcome.
+pub fn each_outcome()
+    ensures { (name input link : List ℕ)
+        → ¬ ((outcome : JoinOutcome) → ¬ JoinComesTo name input link outcome) }
+{
+    further_step::<ScriptLines>();
+    each_input_ends::<JoinStanding>();
 }

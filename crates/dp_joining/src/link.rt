@@ -4,7 +4,7 @@ ghost use Rattle.std.specs.Prelude.{◌≡◌, ℕ, ◌≤◌, List, length};
 ghost use Rattle.std.specs.declared.option.Option.{Option};
 ghost use Rattle.dp_messages.specs.declared.message.Entry.{Entry as Item};
 ghost use Rattle.dp_joining.specs.Leaves.{FaultMatchesJoin, IsWelcome, JoinLeaves};
-ghost use Rattle.dp_joining.specs.Partings.{IsParting, SaysFarewell};
+ghost use Rattle.dp_joining.specs.Partings.{TakesLeave, SaysFarewell};
 ghost use Rattle.dp_joining.specs.Steps.{IsReady, Seen, seen, source_of};
 
 use crate::greeting::{Greeting, greet};
@@ -175,8 +175,8 @@ fn do_script<I: Source, O: Sink, R: Source + Drop, S: Sink + Drop, D: Ledger, T:
 
 /// Says that the client leaves, where all lines are done. How the run ends.
 fn leave<R: Source, S: Sink>(joiner: &mut Joiner<R, S>, ended: ScriptEnd<JoinStop>) -> RunEnd
-    ensures parts { IsParting (S.held joiner.old.tx) (S.held joiner.new.tx) (S.faults joiner.old.tx)
-        (S.faults joiner.new.tx) joiner.old.client.user ended result }
+    ensures parts { TakesLeave (S.held joiner.old.tx) (S.held joiner.new.tx)
+        (S.faults joiner.old.tx) (S.faults joiner.new.tx) joiner.old.client.user ended result }
     ensures source { joiner.new.rx ≡ joiner.old.rx }
 {
     match ended {

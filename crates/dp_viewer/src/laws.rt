@@ -6,8 +6,8 @@ ghost use Rattle.dp_lines.specs.declared.run_end.RunEnd.{RunEnd};
 ghost use Rattle.dp_recording.specs.Recordings.{RecordingComesTo};
 ghost use Rattle.dp_viewer.specs.Ways.{ReplayComesTo};
 
-use dp_entries::{Anywhere, one_reading};
-use dp_recording::one_recording;
+use dp_entries::{Anywhere, each_input_ends, one_reading};
+use dp_recording::{each_recording_ends, one_recording};
 
 /// For `replay` an input comes to at most one end, with one list of entries: so the answer that it
 /// is due is one.
@@ -29,4 +29,20 @@ pub fn one_play()
         → RecordingComesTo input entries end → RecordingComesTo input others other → end ≡ other }
 {
     one_recording();
+}
+
+/// For `replay` it can't be that an input comes to no end.
+pub fn each_replay_ends()
+    ensures { (input : List ℕ)
+        → ¬ ((entries : List Entry) (end : RunEnd) → ¬ ReplayComesTo input entries end) }
+{
+    each_input_ends::<Anywhere>();
+}
+
+/// The same for `play`.
+pub fn each_play_ends()
+    ensures { (input : List ℕ)
+        → ¬ ((entries : List Entry) (end : RunEnd) → ¬ RecordingComesTo input entries end) }
+{
+    each_recording_ends();
 }

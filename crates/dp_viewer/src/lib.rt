@@ -5,5 +5,5 @@ mod laws;
 mod pictures;
 mod reading;
 
-pub use laws::{one_play, one_replay};
+pub use laws::{each_play_ends, each_replay_ends, one_play, one_replay};
 pub use pictures::{run_play, run_replay};
