@@ -4,9 +4,11 @@
 #![tactic(auto)]
 
 mod laws;
+mod resume;
 mod session;
 mod sure;
 
 pub use dp_tables::Page;
 pub use laws::sessions_cross_threads;
+pub use resume::{ResumeError, ResumeFault};
 pub use session::Session;

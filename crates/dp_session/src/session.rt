@@ -24,8 +24,8 @@ use std::marker::Model;
 #[derive(Drop)]
 pub struct Session<K: Keeper> {
     pub(crate) keeper: K,
-    tables: Tables,
-    first_fault: Option<u64>,
+    pub(crate) tables: Tables,
+    pub(crate) first_fault: Option<u64>,
 }
 
 impl<K: Keeper> Model for Session<K> {

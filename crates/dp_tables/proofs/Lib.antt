@@ -5,3 +5,4 @@ pub mod PageLemmas
 pub mod CauseLemmas
 pub mod QuietLemmas
 pub mod ReadLemmas
+pub mod ReplayLemmas

@@ -4,7 +4,7 @@ use Rattle.std.proofs.Common.{cond, not}
 use Rattle.std.proofs.Common.{nat_lt, nat_le, if◌then◌else◌, is_some, unwrap_or}
 use Rattle.std.proofs.Common.{List, [], ◌∷◌, ◌++◌, length, set, map, All, Option, None, Some}
 use Rattle.std.proofs.Common.{append_assoc, refl, sym, ap, subst, ◌∙◌, ⊎_elim, arith, length-append}
-use Rattle.std.specs.Prelude.{option_to_list, slice_index_or, slice_set}
+use Rattle.std.specs.Prelude.{option_to_list, slice_index_or, slice_set, vec_len, vec_capacity}
 use Rattle.std.specs.List.{slice_get, cons_option, list_any, sum_by}
 use Rattle.std.specs.Option.{option_map, option_map_or}
 use Rattle.std.proofs.lemmas.List.{map-append, length-map}
@@ -33,7 +33,6 @@ use Rattle.dp_history.specs.declared.item.HistoryItem.{HistoryItem}
 use Rattle.dp_history.specs.declared.item.HistoryItem.TheVariants as item
 use Rattle.dp_tables.specs.declared.ready.Supply.{Supply}
 use Rattle.dp_tables.specs.declared.ready.Supply.TheVariants.{Entries, Opens}
-use Rattle.dp_tables.specs.declared.ready.Ready.{Ready}
 use Rattle.dp_epochs.specs.declared.connection.Ending.TheVariants as ending
 use Rattle.dp_epochs.specs.declared.connection.Place.{Place}
 use Rattle.dp_epochs.specs.declared.decision.Decision.TheVariants as decision
@@ -68,7 +67,7 @@ use Rattle.dp_tables.specs.Inside.{is_ready, ledger_of, seen, AreTables}
 use Rattle.dp_tables.specs.Ready.{own_entries, own_items, SaysOwn, opens_epoch, supplied, IsSupply}
 use Rattle.dp_tables.specs.Ready.{items_after, IsWithSupply, AreFramesWith, epoch_with, marks_after}
 use Rattle.dp_tables.specs.Ready.{opens_after, quiet_after, closed_in, unmarked, is_sender}
-use Rattle.dp_tables.specs.Ready.{owner_after, parts_after, bytes_after, IsReady}
+use Rattle.dp_tables.specs.Ready.{owner_after, parts_after, bytes_after, MayKeep}
 use Rattle.dp_lists.proofs.Numbered.{number-found}
 use Rattle.dp_history.proofs.Ranges.{lists-user, find_user-passes}
 use Rattle.dp_tables.proofs.Holders.{any-marked, mark-set_same, mark-set_other, marks-adds}
@@ -144,6 +143,11 @@ own_entries_kept journal (e ∷ entries) =
 own-few : (e : Event) (effect : Effect) → length (own_entries e effect) ≤ 1
 own-few e (Placed conn c) = omega arith
 own-few e effect = omega arith
+
+pub own-alike : (n : ℕ) (e : Event) (effect : Effect)
+    → length (own_items n effect) ≡ length (own_entries e effect)
+own-alike n e (Placed conn c) = refl
+own-alike n e effect = refl
 
 -- what the event says is kept so, if it is placed
 own-placed : (journal : List Event) (e : Event) (effect : Effect) → SaysOwn e effect
@@ -795,6 +799,12 @@ ledger-is a b journal shut quiet room =
 -- ---- an event was kept
 
 -- where memory is ready, there is room for two entries
+pub ready-live : (t : Inside) → is_ready t ≡ true → vec_len t.live + 2 ≤ vec_capacity t.live
+ready-live t ready =
+    let parts = and_parts _ (nat_le 2 t.rights.room) ready in
+    leb-true (vec_len t.live + 2) (vec_capacity t.live)
+    (and_parts _ (nat_le (vec_len t.live + 2) (vec_capacity t.live)) parts.0).1
+
 pub ready-rights : (t : Inside) → is_ready t ≡ true → 2 ≤ t.rights.room
 ready-rights t ready = leb-true 2 t.rights.room (and_parts _ (nat_le 2 t.rights.room) ready).1
 
@@ -857,26 +867,27 @@ epoch-fits few t are =
     omega (arith, few (past_in (ledger_of t)), are.of.epoch, are.events)
 
 -- what keeping an event makes of the tables
-pub record IsKept (old : Inside) (ready : Ready) (new : Inside) : Type 0 where
-  pub journal : new.journal.items ≡ old.journal.items ++ ready.event ∷ []
-  pub bytes : new.row_bytes ≡ old.row_bytes + length ready.row.bytes
+pub record IsKept (old : Inside) (e : Event) (effect : Effect) (supply : Supply) (row_length : ℕ)
+    (new : Inside) : Type 0 where
+  pub journal : new.journal.items ≡ old.journal.items ++ e ∷ []
+  pub bytes : new.row_bytes ≡ old.row_bytes + row_length
   pub shut : new.shut.items ≡ old.shut.items
   pub connections : new.connections.items
-      ≡ connections_at (here (state_in (ledger_of old))) old.connections.items ready.effect
-  pub quiet : new.quiet.items ≡ quiet_after ready.effect old.quiet.items
-  pub epoch : new.epoch ≡ epoch_with ready.supply old.epoch
+      ≡ connections_at (here (state_in (ledger_of old))) old.connections.items effect
+  pub quiet : new.quiet.items ≡ quiet_after effect old.quiet.items
+  pub epoch : new.epoch ≡ epoch_with supply old.epoch
   pub live : new.live.items
-      ≡ items_after (own_items (length old.journal.items) ready.effect) ready.supply old.live.items
+      ≡ items_after (own_items (length old.journal.items) effect) supply old.live.items
   pub stands : StandsFor new.rights
-      (live_after (state_in (ledger_of old)) ready.event ready.effect)
-  pub present : new.present ≡ marks_after ready.effect old.present
-  pub opens : new.opens ≡ opens_after (length old.journal.items) ready.effect old.opens
-  pub owner : new.owner ≡ owner_after ready.effect old.owner
+      (live_after (state_in (ledger_of old)) e effect)
+  pub present : new.present ≡ marks_after effect old.present
+  pub opens : new.opens ≡ opens_after (length old.journal.items) effect old.opens
+  pub owner : new.owner ≡ owner_after effect old.owner
   pub parts : new.parts.items
-      ≡ parts_after (length old.journal.items) ready.effect old.owner old.parts.items
+      ≡ parts_after (length old.journal.items) effect old.owner old.parts.items
   pub part_bytes : new.part_bytes
-      ≡ bytes_after (length ready.row.bytes - 6) ready.effect old.owner old.part_bytes
-  pub frames : AreFramesWith ready.supply old.frames new.frames
+      ≡ bytes_after (row_length - 6) effect old.owner old.part_bytes
+  pub frames : AreFramesWith supply old.frames new.frames
 
 -- the frames that were made are those of the live history's first entries, or there are none
 frames-kept : (journal : List Event) (s : State) (e : Event) (effect : Effect) (supply : Supply)
@@ -906,15 +917,14 @@ size-is e row_length is conn command came =
 -- the tables after an event that was kept
 pub tables-kept : (leads : (past : Past) (e : Event) → ShutBefore past
     → state_of (kept past e) ≡ after_event (state_of past) e)
-    → ((s : State) → JoinsStay s) → EffectsAreMade → (old new : Inside) (ready : Ready)
-    → AreTables old → IsReady (ledger_of old) ready.event ready → IsKept old ready new
-    → AreTables new
+    → ((s : State) → JoinsStay s) → EffectsAreMade → (old new : Inside) (e : Event)
+    (effect : Effect) (supply : Supply) (row_length : ℕ) → AreTables old
+    → MayKeep (ledger_of old) e effect supply row_length
+    → IsKept old e effect supply row_length new → AreTables new
 unfolding past_in
-tables-kept leads joins made_law old new ready are is keeps =
-    let e = ready.event in
-    let effect = ready.effect in
+tables-kept leads joins made_law old new e effect supply row_length are is keeps =
     let s = state_in (ledger_of old) in
-    let row : length ready.row.bytes ≡ length (row_of e) = ap (λ r. length r.bytes) is.row in
+    let row : row_length ≡ length (row_of e) = is.long in
     let limits : (nat_lt (length old.journal.items) event_limit ≡ true)
     × (nat_le (row_bytes old.journal.items + length (row_of e)) byte_limit ≡ true) = and_parts _
     _ is.room in
@@ -926,14 +936,14 @@ tables-kept leads joins made_law old new ready are is keeps =
     let after : Seen = record {
       journal = old.journal.items ++ e ∷ [];
       connections = connections_after s effect;
-      epoch = epoch_with ready.supply old.epoch;
-      live = items_after (own_items (length old.journal.items) effect) ready.supply old.live.items;
+      epoch = epoch_with supply old.epoch;
+      live = items_after (own_items (length old.journal.items) effect) supply old.live.items;
       rights = new.rights;
       present = marks_after effect old.present;
       opens = opens_after (length old.journal.items) effect old.opens;
       owner = owner_after effect old.owner;
       parts = parts_after (length old.journal.items) effect old.owner old.parts.items;
-      part_bytes = bytes_after (length ready.row.bytes - 6) effect old.owner old.part_bytes;
+      part_bytes = bytes_after (row_length - 6) effect old.owner old.part_bytes;
     }
     in
     let seen_is : seen new ≡ after = cc in
@@ -943,12 +953,12 @@ tables-kept leads joins made_law old new ready are is keeps =
     ∙ leads (past_in (ledger_of old)) e are.before in
     record {
       of = subst (λ x. AreOf x (seen new)) (sym state_is) (subst (AreOf (after_event s e))
-          (sym seen_is) (AreOf-kept s (seen old) are.of (joins s) made_law e effect ready.supply
-          new.rights (length ready.row.bytes - 6) is.effect is.supply keeps.stands
-          (size-is e (length ready.row.bytes) row)));
+          (sym seen_is) (AreOf-kept s (seen old) are.of (joins s) made_law e effect supply
+          new.rights (row_length - 6) is.does is.places keeps.stands
+          (size-is e row_length row)));
       before = subst (λ x. All (λ (y : ShutAt). y.n ≤ length new.journal.items) x) (sym keeps.shut)
           (λ k d lt. omega (arith, are.before k d lt, more, ap length keeps.journal));
-      bytes = keeps.bytes ∙ ap (λ n. n + length ready.row.bytes) are.bytes
+      bytes = keeps.bytes ∙ ap (λ n. n + row_length) are.bytes
           ∙ ap (λ n. row_bytes old.journal.items + n) row
           ∙ sym (sum_by_push (λ event. length (row_of event)) old.journal.items e)
           ∙ sym (ap row_bytes keeps.journal);
@@ -969,9 +979,9 @@ tables-kept leads joins made_law old new ready are is keeps =
           ∙ flags-after (here s) effect old.quiet.items old.connections.items are.flags
           ∙ sym (ap length keeps.connections);
       frames = subst (AreWritten new.frames)
-          (sym (ap (λ a. a.state.live) (made_law s e effect is.effect))
+          (sym (ap (λ a. a.state.live) (made_law s e effect is.does))
           ∙ sym (ap (λ x. x.live) state_is))
-          (frames-kept old.journal.items s e effect ready.supply old.frames new.frames is.supply
+          (frames-kept old.journal.items s e effect supply old.frames new.frames is.places
           keeps.frames are.frames);
     }
 

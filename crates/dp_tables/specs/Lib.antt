@@ -3,3 +3,4 @@ pub mod Tables
 pub mod Ready
 pub mod Inside
 pub mod Pages
+pub mod Replay

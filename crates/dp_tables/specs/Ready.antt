@@ -152,6 +152,15 @@ bytes_after size other owner bytes = bytes
 
 -- ---- what is ready
 
+-- The event may be kept after these: it does this, it places this beside what it says, its row has
+-- this length, and there is room for it.
+pub record MayKeep (ledger : SessionLog) (e : Event) (effect : Effect) (supply : Supply)
+    (row_length : ℕ) : Type 0 where
+  pub does : IsEffect (state_in ledger) e effect
+  pub places : IsSupply ledger.journal (state_in ledger) e effect supply
+  pub long : row_length ≡ length (row_of e)
+  pub room : has_room ledger.journal e ≡ true
+
 -- the event is ready to be kept after these, by what it does
 pub record IsReady (ledger : SessionLog) (e : Event) (ready : Ready) : Type 0 where
   pub event : ready.event ≡ e

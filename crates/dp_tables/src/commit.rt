@@ -31,7 +31,8 @@ ghost use Rattle.dp_tables.specs.Tables.{flagged};
 ghost use Rattle.dp_tables.specs.Ready.{own_entries, own_items, SaysOwn, supplied, items_after};
 ghost use Rattle.dp_tables.specs.Ready.{IsWithSupply, AreFramesWith, epoch_with, IsThere};
 ghost use Rattle.dp_tables.specs.Ready.{marks_after, opens_after, quiet_after, closed_in, unmarked};
-ghost use Rattle.dp_tables.specs.Ready.{is_sender, owner_after, parts_after, bytes_after, IsReady};
+ghost use Rattle.dp_tables.specs.Ready.{is_sender, owner_after, parts_after, bytes_after, MayKeep};
+ghost use Rattle.dp_tables.specs.Ready.{IsReady};
 
 use crate::ready::{Ready, Supply};
 use crate::tables::{Tables, open_connection};
@@ -291,28 +292,48 @@ impl Tables {
         } }
         ensures reply { result ≡ (acted (state_in self.old) ready.event).reply }
     {
-        steps_lead_on();
-        joins_stay();
-        epochs_are_few();
-        effects_are_made();
         let Ready {
             event,
             effect,
             supply,
             row,
         } = ready;
+        let row_length = row.bytes.as_slice().len() as u64;
+        self.keep_made(event, effect, supply, row_length)
+    }
+
+    /// Keeps an event that does this, with what was made ahead, and gives its answer. Its row has
+    /// this length. It takes no memory.
+    pub(crate) fn keep_made(
+        &mut self,
+        event: Event,
+        effect: Effect,
+        supply: Supply,
+        row_length: u64,
+    ) -> Reply
+        requires room { self.old.room ≡ true }
+        requires made { MayKeep self.old event effect supply row_length }
+        ensures kept { self.new ≡ record self.old {
+          journal = self.old.journal ++ event ∷ [];
+          room = self.new.room;
+        } }
+        ensures reply { result ≡ (acted (state_in self.old) event).reply }
+    {
+        steps_lead_on();
+        joins_stay();
+        epochs_are_few();
+        effects_are_made();
         let here = self.here();
         let reply = effect.reply(here, self.connections.len() as u32);
         let n = self.journal.len() as u32;
-        let row_bytes = row.bytes.as_slice().len() as u64;
-        self.row_bytes += row_bytes;
+        self.row_bytes += row_length;
         follow(
             &mut self.owner,
             &mut self.parts,
             &mut self.part_bytes,
             effect,
             n,
-            row_bytes.saturating_sub(6),
+            row_length.saturating_sub(6),
         );
         make(
             &mut self.connections,

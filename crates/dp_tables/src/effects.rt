@@ -153,7 +153,7 @@ impl Tables {
     }
 
     /// What the event, whose row has this length, does to the session.
-    fn effect(&self, event: &Event, row: usize) -> Result<Effect, AllocError>
+    pub(crate) fn effect(&self, event: &Event, row: usize) -> Result<Effect, AllocError>
         requires { row ≡ length (row_of event.now) }
         ensures { IfOk result (IsEffect (state_in self.now) event.now) }
     {
@@ -170,7 +170,7 @@ impl Tables {
     }
 
     /// What the event, which does this, places beside what it says.
-    fn supply(&self, event: &Event, effect: Effect) -> Result<Supply, AllocError>
+    pub(crate) fn supply(&self, event: &Event, effect: Effect) -> Result<Supply, AllocError>
         requires { IsEffect (state_in self.now) event.now effect }
         ensures { IfOk result (IsSupply self.now.journal (state_in self.now) event.now effect) }
     {

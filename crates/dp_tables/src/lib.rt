@@ -7,6 +7,7 @@ mod commit;
 mod effects;
 mod pages;
 mod ready;
+mod replay;
 mod resets;
 mod tables;
 

@@ -240,7 +240,7 @@ impl Tables {
     }
 
     /// How many events were kept.
-    pub(crate) fn events(&self) -> u64
+    pub fn events(&self) -> u64
         ensures { result ≡ length self.now.journal }
     {
         self.journal.len() as u64
