@@ -65,13 +65,9 @@ module _ (s : Streams) where
       ⊎ ((status ≡ 4) × (s.read_now ≡ s.read) × Rose s.written s.written_now)
       ⊎ ((status ≢ 3) × (status ≢ 4) × (s.read_now ≡ s.read) × (s.written_now ≡ s.written))
 
-  tells-run : (end : RunEnd) → Matches s end → Tells (status_of end)
-  tells-run ReadFault counts = inl (refl, counts.0)
-  tells-run WriteFault counts = inr (inl (refl, counts.0, counts.1))
-  tells-run _ counts = inr (inr (λ e. omega (arith, e), λ e. omega (arith, e), counts.0, counts.1))
-
   tells-ending : (ending : Ending) → Counted s ending → Tells (code_of ending)
-  tells-ending (Run end) counts = tells-run end counts
+  tells-ending (Run ReadFault) counts = inl (refl, counts.0)
+  tells-ending (Run WriteFault) counts = inr (inl (refl, counts.0, counts.1))
   tells-ending _ counts =
       inr (inr (λ e. omega (arith, e), λ e. omega (arith, e), counts.0, counts.1))
 

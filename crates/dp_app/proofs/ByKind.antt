@@ -153,12 +153,7 @@ pub has-wires : {A W : Type 0} (words : List (String A)) (wires : List W) (addr 
     (workers : ℕ) (conns : Option ℕ) (service : Service)
     → Asks words (Listen addr workers conns service) → length wires ≡ workers
     → HasWires words wires
-has-wires words wires addr workers conns service asks same = (
-  addr,
-  conns,
-  service,
-  subst (λ (n : ℕ). Asks words (Listen addr n conns service)) (sym same) asks,
-)
+has-wires words wires addr workers conns service asks same = (addr, conns, service, rw same asks)
 
 -- ---- of each kind
 
@@ -186,10 +181,8 @@ module _ {W R T : Type 0} (see : Wires W R T) where
   kind-failed runs words (Local command) e asks h =
       absurd ((runs command).alone e.streams.input e.streams.left e.streams.old e.streams.new
       h.leaves)
-  kind-failed runs words (Join addr name) e asks h = inl (
-    ((addr, name, asks), has-wire see name e LinkFault h),
-    dial-failed see name e h,
-  )
+  kind-failed runs words (Join addr name) e asks h =
+      inl (((addr, name, asks), has-wire see name e LinkFault h), dial-failed see name e h)
   kind-failed runs words (Listen addr workers conns service) e asks h = inr (
     has-wires words e.old addr workers conns service asks h.0,
     server-failed see conns e h.1.served,

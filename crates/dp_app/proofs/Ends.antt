@@ -59,6 +59,32 @@ pub for-known : {P : List ℕ → Type 0} (o : Option (List ℕ))
 for-known None each = tt
 for-known (Some bytes) each = each bytes refl
 
+-- ---- what is due is one answer
+
+-- a command is due one answer
+one-of : AreRuns → OneOutcome → (command : CommandLine) (bytes : List ℕ)
+    (link : Option (List ℕ)) (a b : Answer)
+    → DueOf command bytes link a → DueOf command bytes link b → a ≡ b
+one-of runs joins (Local command) bytes link a b x y = (runs command).one bytes a b x y
+one-of runs joins (Join addr name) bytes None a b x y = x ∙ sym y
+one-of runs joins (Join addr name) bytes (Some link) a b x y =
+    x.2 ∙ ap (λ (o : JoinOutcome). answer_of o.end o.text)
+    (joins name bytes link x.0 y.0 x.1 y.1) ∙ sym y.2
+one-of runs joins (Listen addr workers conns service) bytes link a b x y = x ∙ sym y
+
+one-due : OneCommand → AreRuns → OneOutcome → {A : Type 0} (words : List (String A))
+    (bytes : List ℕ) (link : Option (List ℕ)) (a b : Answer)
+    → IsDue words bytes link a → IsDue words bytes link b → a ≡ b
+one-due law runs joins words bytes link a b (inl x) (inl y) =
+    one-of runs joins x.0 bytes link a b x.2
+    (subst (λ (c : CommandLine). DueOf c bytes link b)
+    (law (map string_bytes words) y.0 x.0 y.1 x.1) y.2)
+one-due law runs joins words bytes link a b (inl x) (inr y) = absurd (y.0 (x.0, x.1))
+one-due law runs joins words bytes link a b (inr x) (inl y) = absurd (x.0 (y.0, y.1))
+one-due law runs joins words bytes link a b (inr x) (inr y) = x.1 ∙ sym y.1
+
+-- ---- how the program ends
+
 module _ {A W R T : Type 0} (see : Wires W R T) (words : List (String A)) (e : Effects W) where
   -- what the command that the words ask for leaves
   pub words-end : (command : CommandLine) (ending : Ending) → Asks words command
@@ -175,12 +201,9 @@ module _ {A W R T : Type 0} (see : Wires W R T) (words : List (String A)) (e : E
       asked NoLink h command asks has = absurd (has
           (subst (λ (c : CommandLine). LacksWires c e.old) (same h.0 command h.1 asks) h.2))
       asked NoWords h command asks has = inr (refl, h)
-      asked (Run end) h command asks has = inl (
-        end,
-        refl,
-        subst
-            (λ (c : CommandLine). KindLeaves see c e end) (same h.0 command h.1 asks) h.2,
-      )
+      asked (Run end) h command asks has =
+          let run = subst (λ (c : CommandLine). KindLeaves see c e end)
+          (same h.0 command h.1 asks) h.2 in inl (end, refl, run)
 
       pub ends-of : AreRuns → (ending : Ending) → EndsWords see words e ending → Tells ending
           → (command : LocalCommand) → Asks words (Local command)
@@ -200,11 +223,8 @@ module _ {A W R T : Type 0} (see : Wires W R T) (words : List (String A)) (e : E
       pub joins-of : (ending : Ending) → EndsWords see words e ending → Tells ending
           → (addr name : List ℕ) → Asks words (Join addr name) → e.old ≢ []
           → HasJoined see name e dold dnew before now status
-      joins-of ending h says addr name asks some = record {
-        ending = ending;
-        joins = asked ending h (Join addr name) asks some;
-        says = says;
-      }
+      joins-of ending h says addr name asks some =
+          record { ending = ending; joins = asked ending h (Join addr name) asks some; says = says }
 
       pub serves-of : (ending : Ending) → EndsWords see words e ending → Tells ending
           → (addr : List ℕ) (conns : Option ℕ) (service : Service)
@@ -247,36 +267,25 @@ module _ {A W R T : Type 0} (see : Wires W R T) (words : List (String A)) (e : E
         let x : [] ≡ gets.wire ∷ gets.others = sym none ∙ gets.first in absurd cc
     due-link (Listen addr workers conns service) bytes link none gets = refl
 
-    -- nothing failed, and memory sufficed
-    pub record IsFair : Type 0 where
-      pub served : ¬ HasWires words e.old
-      pub read : ¬ Rose e.streams.read e.streams.read_now
-      pub written : ¬ Rose e.streams.written e.streams.written_now
-      pub memory : status ≢ 7
-      pub joined : HasLink words e.old → status ≢ 5
-
-    fair-end : IsFair → (command : CommandLine) (end : RunEnd) → KindLeaves see command e end
-        → status ≡ status_of end → end ≢ LinkFault → IsUnfailed end
-    fair-end fair command end h is link =
-        is-unfailed e.streams end (kind-matches see command e end h) fair.read fair.written
-        (λ x. fair.memory (is ∙ x)) link
-
     nothing-given : (bytes : List ℕ) (link : Option (List ℕ)) (answer : Answer)
         → IsDue words bytes link answer → answer.text ≡ [] → IsUntouched e
         → status ≡ answer.status → Appends dold dnew answer.line → Given bytes link
-    nothing-given bytes link answer due empty same code line = (
-      answer,
-      due,
-      record {
-        status = code;
-        text = subst (λ (text : List ℕ). Appends e.streams.old e.streams.new text) (sym empty)
-            (appends_nothing e.streams.old e.streams.new same.streams.1);
-        line = line;
-      },
-    )
+    nothing-given bytes link answer due empty same code line =
+        let text = subst (λ (text : List ℕ). Appends e.streams.old e.streams.new text) (sym empty)
+        (appends_nothing e.streams.old e.streams.new same.streams.1) in
+        (answer, due, record { status = code; text = text; line = line })
 
-    module _ (runs : AreRuns) (fair : IsFair) (bytes : List ℕ)
+    -- where nothing failed, and memory sufficed
+    module _ (runs : AreRuns) (served : ¬ HasWires words e.old)
+        (read : ¬ Rose e.streams.read e.streams.read_now)
+        (written : ¬ Rose e.streams.written e.streams.written_now) (memory : status ≢ 7)
+        (joined : HasLink words e.old → status ≢ 5) (bytes : List ℕ)
         (known : e.streams.input ≡ Some bytes) where
+      fair-end : (command : CommandLine) (end : RunEnd) → KindLeaves see command e end
+          → status ≡ status_of end → end ≢ LinkFault → IsUnfailed end
+      fair-end command end h is link = is-unfailed e.streams end (kind-matches see command e end h)
+          read written (λ x. memory (is ∙ x)) link
+
       kind-given : (command : CommandLine) (link : Option (List ℕ)) (end : RunEnd)
           → Asks words command → KindLeaves see command e end → GetsLink see words e.old link
           → status ≡ status_of end → Appends dold dnew (line_of end) → Given bytes link
@@ -288,7 +297,7 @@ module _ {A W R T : Type 0} (see : Wires W R T) (words : List (String A)) (e : E
           let given = law.given bytes e.streams.left e.streams.old e.streams.new end
           (subst (λ (o : Option (List ℕ)). (run_of command).leaves o e.streams.left
           e.streams.old e.streams.new end) known h.leaves)
-          (fair-end fair (Local command) end h code alone) in (
+          (fair-end (Local command) end h code alone) in (
             answer_of end given.0,
             inl (Local command, asks, given.1),
             record { status = code; text = given.2; line = line },
@@ -297,9 +306,9 @@ module _ {A W R T : Type 0} (see : Wires W R T) (words : List (String A)) (e : E
           absurd (gets ((addr, name, asks), has-wire see name e end h))
       kind-given (Join addr name) (Some link) end asks h gets code line =
           let has : HasLink words e.old = ((addr, name, asks), has-wire see name e end h) in
-          let linked : end ≢ LinkFault = λ is. fair.joined has (code ∙ ap status_of is) in
+          let linked : end ≢ LinkFault = λ is. joined has (code ∙ ap status_of is) in
           let given = joins-given see name e end h bytes link gets known
-          (fair-end fair (Join addr name) end h code linked) in (
+          (fair-end (Join addr name) end h code linked) in (
             answer_of given.0.end given.0.text,
             inl (Join addr name, asks, (given.0, given.1, refl)),
             record {
@@ -309,7 +318,7 @@ module _ {A W R T : Type 0} (see : Wires W R T) (words : List (String A)) (e : E
             },
           )
       kind-given (Listen addr workers conns service) link end asks h gets code line = absurd
-          (fair.served (has-wires words e.old addr workers conns service asks h.0))
+          (served (has-wires words e.old addr workers conns service asks h.0))
 
       ending-given : (link : Option (List ℕ)) (ending : Ending) → EndsWords see words e ending
           → GetsLink see words e.old link → status ≡ code_of ending
@@ -318,64 +327,37 @@ module _ {A W R T : Type 0} (see : Wires W R T) (words : List (String A)) (e : E
           nothing-given bytes link usage_answer (inr (h.0, refl)) refl h.1 code line
       ending-given link NoLink h gets code line = nothing-given bytes link no_link_answer
           (inl (h.0, h.1, due-link h.0 bytes link h.2 gets)) refl h.3 code line
-      ending-given link NoWords h gets code line = absurd (fair.memory code)
+      ending-given link NoWords h gets code line = absurd (memory code)
       ending-given link (Run end) h gets code line =
           kind-given h.0 link end h.1 h.2 gets code line
 
-    pub complete : AreRuns → (ending : Ending) → EndsWords see words e ending → Tells ending
-        → ¬ HasWires words e.old → ¬ Rose e.streams.read e.streams.read_now
+    -- where nothing failed and memory sufficed, and the bytes are known
+    abbrev pub Fair : (List ℕ → Option (List ℕ) → Type 0) → Type 0
+    Fair P =
+        ¬ HasWires words e.old → ¬ Rose e.streams.read e.streams.read_now
         → ¬ Rose e.streams.written e.streams.written_now → ¬ Rose before now → status ≢ 7
         → (HasLink words e.old → status ≢ 5)
         → IfSome e.streams.input (λ bytes. (link : Option (List ℕ))
-        → GetsLink see words e.old link → Given bytes link)
-    complete runs ending h (inr failed) never read written diag memory joined =
+        → GetsLink see words e.old link → P bytes link)
+
+    -- what follows of an answer that is due and given
+    fair : {P : List ℕ → Option (List ℕ) → Type 0}
+        → ((bytes : List ℕ) (link : Option (List ℕ)) → Given bytes link → P bytes link)
+        → AreRuns → (ending : Ending) → EndsWords see words e ending → Tells ending → Fair P
+    fair each runs ending h (inr failed) = λ never read written diag memory joined.
         absurd (diag failed.1)
-    complete runs ending h (inl says) never read written diag memory joined =
-        for-known e.streams.input (λ bytes known link gets. ending-given runs (record {
-          served = never;
-          read = read;
-          written = written;
-          memory = memory;
-          joined = joined;
-        }) bytes known link ending h gets says.0 says.1)
+    fair each runs ending h (inl says) = λ never read written diag memory joined.
+        for-known e.streams.input (λ bytes known link gets. each bytes link (ending-given runs never
+        read written memory joined bytes known link ending h gets says.0 says.1))
 
--- ---- what is due is one answer
+    pub complete : AreRuns → (ending : Ending) → EndsWords see words e ending → Tells ending
+        → Fair Given
+    complete = fair (λ bytes link given. given)
 
--- a command is due one answer
-one-of : AreRuns → OneOutcome → (command : CommandLine) (bytes : List ℕ)
-    (link : Option (List ℕ)) (a b : Answer)
-    → DueOf command bytes link a → DueOf command bytes link b → a ≡ b
-one-of runs joins (Local command) bytes link a b x y = (runs command).one bytes a b x y
-one-of runs joins (Join addr name) bytes None a b x y = x ∙ sym y
-one-of runs joins (Join addr name) bytes (Some link) a b x y =
-    x.2 ∙ ap (λ (o : JoinOutcome). answer_of o.end o.text)
-    (joins name bytes link x.0 y.0 x.1 y.1) ∙ sym y.2
-one-of runs joins (Listen addr workers conns service) bytes link a b x y = x ∙ sym y
-
-one-due : OneCommand → AreRuns → OneOutcome → {A : Type 0} (words : List (String A))
-    (bytes : List ℕ) (link : Option (List ℕ)) (a b : Answer)
-    → IsDue words bytes link a → IsDue words bytes link b → a ≡ b
-one-due law runs joins words bytes link a b (inl x) (inl y) =
-    one-of runs joins x.0 bytes link a b x.2
-    (subst (λ (c : CommandLine). DueOf c bytes link b)
-    (law (map string_bytes words) y.0 x.0 y.1 x.1) y.2)
-one-due law runs joins words bytes link a b (inl x) (inr y) = absurd (y.0 (x.0, x.1))
-one-due law runs joins words bytes link a b (inr x) (inl y) = absurd (x.0 (y.0, y.1))
-one-due law runs joins words bytes link a b (inr x) (inr y) = x.1 ∙ sym y.1
-
--- what is due is given where what is given is due
-pub exact : OneCommand → AreRuns → OneOutcome → {A W R T : Type 0} (see : Wires W R T)
-    (words : List (String A)) (wires : List W) (told old new dold dnew : Option (List ℕ))
-    (status : ℕ)
-    → IfSome told (λ bytes. (link : Option (List ℕ)) → GetsLink see words wires link
-    → (answer : Answer) × IsDue words bytes link answer
-    × IsGiven answer status old new dold dnew)
-    → IfSome told (λ bytes. (link : Option (List ℕ)) → GetsLink see words wires link
-    → (answer : Answer) → IsDue words bytes link answer
-    → IsGiven answer status old new dold dnew)
-exact law runs joins see words wires None old new dold dnew status h = tt
-exact law runs joins see words wires (Some bytes) old new dold dnew status h =
-    λ link gets answer due.
-    let given = h link gets in
-    subst (λ (a : Answer). IsGiven a status old new dold dnew)
-    (one-due law runs joins words bytes link given.0 answer given.1 due) given.2
+    pub exact : OneCommand → OneOutcome → AreRuns → (ending : Ending)
+        → EndsWords see words e ending → Tells ending
+        → Fair (λ bytes link. (answer : Answer) → IsDue words bytes link answer
+        → IsGiven answer status e.streams.old e.streams.new dold dnew)
+    exact law joins runs = fair (λ bytes link given answer due.
+        subst (λ (a : Answer). IsGiven a status e.streams.old e.streams.new dold dnew)
+        (one-due law runs joins words bytes link given.0 answer given.1 due) given.2) runs

@@ -19,7 +19,6 @@ returns g c =
     c.args.input.now c.run_words-ending.new.input c.args.output.now c.run_words-ending.new.output in
     let tells = tells-all both _ _ _ _ _ _ (counted _ words _ _ ends) says in
     let told-of = g.I.Source.left c.args.input.now in
-    let given = complete _ words _ _ _ _ _ _ runs _ ends says in
     record {
       other_words = other-words _ words _ _ _ _ _ _ _ ends says;
       no_link = no-link _ words _ _ _ _ _ _ one _ ends says;
@@ -33,9 +32,8 @@ returns g c =
       due = λ world.
           let run = ends-of _ words _ _ _ _ _ _ one runs _ ends says World world in
           due-of c.reports_are_due.ensures told-of _ _ _ run.0 run.1;
-      complete = given;
-      exact = λ never read write diag memory joined. exact one runs c.one_outcome.ensures _ words _
-          told-of _ _ _ _ _ (given never read write diag memory joined);
+      complete = complete _ words _ _ _ _ _ _ runs _ ends says;
+      exact = exact _ words _ _ _ _ _ _ one c.one_outcome.ensures runs _ ends says;
       usage = usage _ words _ _ _ _ _ _ _ ends says;
       lacks = lacks _ words _ _ _ _ _ _ _ ends says;
       link_fault = link-fault _ words _ _ _ _ _ _ runs _ ends says;
