@@ -7,3 +7,5 @@ mod join;
 mod running;
 #[cfg(test)]
 mod serve;
+#[cfg(test)]
+mod together;

@@ -5,7 +5,7 @@ ghost use Rattle.std.specs.Prelude.{◌≡◌, ◌<◌};
 use dp_app::{Outcome, drawpile};
 use dp_io::{MemSink, MemSource, Sink, Source};
 use dp_steps::Steps;
-use dp_wire::{Gate, MemWire, OpenGate};
+use dp_wire::{Gate, MemWire, OpenGate, Wire};
 use std::alloc::{AllocError, Global};
 use std::marker::Brand;
 use std::sync::Wait;
@@ -58,7 +58,7 @@ pub fn run<R: Threads + Wait + Sync>(
         Vec::from_slice(alloc, faults.output)?,
     )?;
     let mut diag = MemSink::new(alloc, 1000, piece, Vec::from_slice(alloc, faults.diag)?)?;
-    let wires = Vec::new(alloc);
+    let wires: Vec<MemWire> = Vec::new(alloc);
     let outcome = outcome_of(
         rt,
         alloc,
@@ -86,30 +86,30 @@ pub fn words_of(alloc: Global, text: &str) -> Result<Vec<String>, AllocError> {
 }
 
 /// Runs the program on these wires with new counters, and a gate that holds nobody.
-pub fn outcome_of<R: Threads + Wait + Sync, I: Source, O: Sink, E: Sink>(
+pub fn outcome_of<R: Threads + Wait + Sync, I: Source, O: Sink, E: Sink, W: Wire + Send>(
     rt: &R,
     alloc: Global,
     words: &[String],
     input: &mut I,
     output: &mut O,
     diag: &mut E,
-    wires: Vec<MemWire>,
-) -> Outcome<MemWire, ()> {
+    wires: Vec<W>,
+) -> Outcome<W, ()> {
     gated(rt, alloc, words, input, output, diag, wires, &OpenGate)
 }
 
 /// The same with a gate.
-pub fn gated<R: Threads + Wait + Sync, I: Source, O: Sink, E: Sink, G: Gate>(
+pub fn gated<R: Threads + Wait + Sync, I: Source, O: Sink, E: Sink, W: Wire + Send, G: Gate>(
     rt: &R,
     alloc: Global,
     words: &[String],
     input: &mut I,
     output: &mut O,
     diag: &mut E,
-    wires: Vec<MemWire>,
+    wires: Vec<W>,
     gate: &G,
-) -> Outcome<MemWire, ()> {
-    counted::<_, _, _, _, _, Brand, Brand>(
+) -> Outcome<W, ()> {
+    counted::<_, _, _, _, _, _, Brand, Brand>(
         rt,
         alloc,
         words,
@@ -124,18 +124,27 @@ pub fn gated<R: Threads + Wait + Sync, I: Source, O: Sink, E: Sink, G: Gate>(
 }
 
 /// Runs the program with counters over these blanks.
-fn counted<R: Threads + Wait + Sync, I: Source, O: Sink, E: Sink, G: Gate, D: Ledger, T: Ledger>(
+fn counted<
+    R: Threads + Wait + Sync,
+    I: Source,
+    O: Sink,
+    E: Sink,
+    W: Wire + Send,
+    G: Gate,
+    D: Ledger,
+    T: Ledger,
+>(
     rt: &R,
     alloc: Global,
     words: &[String],
     input: &mut I,
     output: &mut O,
     diag: &mut E,
-    wires: Vec<MemWire>,
+    wires: Vec<W>,
     gate: &G,
     draws: Blank,
     tiles: Blank,
-) -> Outcome<MemWire, ()>
+) -> Outcome<W, ()>
     requires draws { (draws.name ≡ D.name) × (draws.parts ≡ D.parts) × (0 < draws.parts) }
     requires tiles { (tiles.name ≡ T.name) × (tiles.parts ≡ T.parts) × (0 < tiles.parts) }
 {
