@@ -3,4 +3,6 @@
 #![tactic(auto)]
 
 #[cfg(test)]
+mod resuming;
+#[cfg(test)]
 mod tests;

@@ -16,7 +16,7 @@ use std::process::Abort;
 /// What happens to a session: a user asks to join under a name, or the connection of a number says
 /// something or is closed. `Part` is a command that belongs to a reset.
 #[derive(Clone, Copy, Debug)]
-enum Deed {
+pub(crate) enum Deed {
     Open(&'static [u8]),
     Point(u32),
     Owners(u32),
@@ -50,7 +50,7 @@ fn message(alloc: Global, deed: Deed) -> Msg {
 }
 
 /// The event.
-fn event(rt: &impl Abort, alloc: Global, deed: Deed) -> Event {
+pub(crate) fn event(rt: &impl Abort, alloc: Global, deed: Deed) -> Event {
     match deed {
         Open(name) => Event::Open {
             name: octets(rt, alloc, name),
