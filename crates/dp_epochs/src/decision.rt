@@ -1,7 +1,7 @@
 //! What becomes of a message.
 
 /// What becomes of a message that an open connection says.
-#[derive(Clone, Copy, Debug)]
+#[derive(Clone, Copy)]
 pub enum Decision {
     /// Nothing.
     Ignore,

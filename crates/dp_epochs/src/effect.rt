@@ -9,7 +9,7 @@ use crate::event::Reply;
 
 /// What an event does to a session. The event itself stands beside it, so that no message is
 /// copied.
-#[derive(Clone, Copy, Debug)]
+#[derive(Clone, Copy)]
 pub enum Effect {
     /// It is answered so, and nothing else.
     Nothing(Reply),

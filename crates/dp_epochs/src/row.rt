@@ -8,11 +8,15 @@ use crate::reading::{CLOSE, OPEN, SAY};
 use dp_messages::put_payload;
 use std::alloc::{AllocError, Global};
 
+/// Room for most rows, which is made at once.
+const ROOM: usize = 48;
+
 /// The bytes of the row of the event.
 pub fn make_row(alloc: Global, event: &Event) -> Result<Vec<u8>, AllocError>
     ensures { IfOk result (λ bytes. bytes.items ≡ row_of event.now) }
 {
     let mut bytes = Vec::new(alloc);
+    bytes.reserve(ROOM)?;
     match event {
         Event::Open { name, registered } => {
             bytes.extend_from_slice(&[OPEN, u8::from(*registered)])?;

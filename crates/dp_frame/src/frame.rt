@@ -75,7 +75,7 @@ impl Frame {
 }
 
 /// A frame whose payload lies elsewhere.
-#[derive(Drop, Debug)]
+#[derive(Drop)]
 pub struct FrameView<'a> {
     kind: u8,
     user: u8,

@@ -45,7 +45,7 @@ entry_in journal (Joined event user) =
     unwrap_or (join_of user (slice_get journal event)) (entry_of user msg.Point)
 entry_in journal (Command event) =
     option_map_or command_entry (part_of (slice_get journal event)) (entry_of 0 msg.Point)
-entry_in journal (Server entry) = entry
+entry_in journal (Server entry) = entry.value
 
 -- the event by which it is kept stands in the journal
 abbrev pub IsIn : List Event → HistoryItem → Type 0

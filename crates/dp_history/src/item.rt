@@ -17,7 +17,7 @@ use dp_msg_meta::{Meta, Text};
 use std::alloc::{AllocError, Global};
 
 /// An entry of the history. What was said is kept once, in the journal.
-#[derive(Debug, Drop)]
+#[derive(Drop)]
 pub enum HistoryItem {
     /// The user said the message of this event of the journal.
     Said { event: u32, user: u8 },
@@ -26,7 +26,7 @@ pub enum HistoryItem {
     /// The command of the part of a reset that is this event of the journal.
     Command { event: u32 },
     /// An entry that no event says.
-    Server(Entry),
+    Server(Box<Entry>),
 }
 
 /// The name as a text, if it is a name.
@@ -153,6 +153,26 @@ pub fn put_item(
     put_entry(&entry, out)
 }
 
+/// Adds the frame of the message that the event says.
+fn append_said(
+    journal: &[Event],
+    event: u32,
+    user: u8,
+    frames: &mut FrameLog,
+) -> Result<(), AllocError>
+    requires { IsSay (slice_get journal.now event) }
+    ensures ok { OnOk result ((entries : List Piece) → AreFramesOf frames.old entries
+        → AreFramesOf frames.new
+        (entries ++ entry_of user (message_of (slice_get journal.now event)) ∷ [])) }
+    ensures err { OnErr result ((entries : List Piece) → AreFramesOf frames.old entries
+        → AreFramesOf frames.new entries) }
+{
+    match journal.get(event as usize) {
+        Some(Event::Say { msg, .. }) => frames.append(user, msg),
+        _ => unreachable!(),
+    }
+}
+
 /// Adds the frame of an entry that is kept beside the journal.
 fn append_item(
     alloc: Global,
@@ -166,8 +186,14 @@ fn append_item(
     ensures err { OnErr result ((entries : List Piece) → AreFramesOf frames.old entries
         → AreFramesOf frames.new entries) }
 {
-    let entry = entry(alloc, journal, item)?;
-    frames.append(&entry)
+    match item {
+        HistoryItem::Said { event, user } => append_said(journal, *event, *user, frames),
+        HistoryItem::Server(entry) => frames.append(entry.user, &entry.msg),
+        _ => {
+            let entry = entry(alloc, journal, item)?;
+            frames.append(entry.user, &entry.msg)
+        }
+    }
 }
 
 /// Makes the frame of the entry at a place, if there is one.

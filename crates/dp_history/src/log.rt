@@ -6,7 +6,7 @@ ghost use Rattle.dp_messages.specs.declared.message.Entry.{Entry as Piece};
 ghost use Rattle.dp_history.specs.Frames.{AreFramesOf, IsShort, frames_of};
 
 use dp_lists::{prefix_of, rest_of};
-use dp_messages::{Entry, put_entry};
+use dp_messages::{Msg, put_message};
 use std::alloc::{AllocError, Global};
 use std::marker::Model;
 
@@ -76,14 +76,14 @@ impl FrameLog {
     /// # Errors
     ///
     /// The frames are those that there were.
-    pub fn append(&mut self, entry: &Entry) -> Result<(), AllocError>
+    pub fn append(&mut self, user: u8, msg: &Msg) -> Result<(), AllocError>
         ensures ok { OnOk result ((entries : List Piece) → AreFramesOf self.old entries
-            → AreFramesOf self.new (entries ++ entry.now ∷ [])) }
+            → AreFramesOf self.new (entries ++ record { user = user; msg = msg.now } ∷ [])) }
         ensures err { OnErr result ((entries : List Piece) → AreFramesOf self.old entries
             → AreFramesOf self.new entries) }
     {
         self.ends.reserve(1)?;
-        put_entry(entry, &mut self.bytes)?;
+        put_message(user, msg, &mut self.bytes)?;
         self.ends.push_reserved(self.bytes.len());
         Ok(())
     }

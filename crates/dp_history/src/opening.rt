@@ -20,7 +20,7 @@ use dp_msg_meta::Meta;
 use std::alloc::{AllocError, Global};
 
 /// The history with which an epoch opens, as it is kept, and the rights after it.
-#[derive(Debug, Drop)]
+#[derive(Drop)]
 pub struct Opening {
     pub live: Vec<HistoryItem>,
     /// Apart, since it is large: few plans open an epoch.
@@ -43,7 +43,8 @@ impl Opening {
             → Holds journal self.old history → Holds journal self.new (history ++ entry ∷ [])) }
     {
         self.rights.note(&entry)?;
-        self.live.push(HistoryItem::Server(entry))?;
+        let kept = Box::new(*self.live.allocator(), entry)?;
+        self.live.push(HistoryItem::Server(kept))?;
         Ok(())
     }
 

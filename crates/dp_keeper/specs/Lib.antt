@@ -1,2 +1,3 @@
 pub mod Store
 pub mod FailingStore
+pub mod Log

@@ -2,6 +2,7 @@
 #![tactic(auto)]
 
 mod keeper;
+mod log;
 mod memory;
 mod row;
 mod sure;

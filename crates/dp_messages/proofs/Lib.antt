@@ -3,3 +3,4 @@ pub mod OneMessage
 pub mod Refusals
 pub mod Comparing
 pub mod KindSeventy
+pub mod Headers

@@ -2,7 +2,8 @@
 //!
 //! The rule: docs/protocol.md, "Messages".
 
-ghost use Rattle.std.specs.Prelude.{◌≡◌, ◌++◌, IfOk, OnOk, OnErr};
+ghost use Rattle.std.specs.Prelude.{◌≡◌, ◌+◌, ◌/◌, ◌%◌, ◌<◌, ◌++◌, IfOk, OnOk, OnErr};
+ghost use Rattle.std.specs.Prelude.{slice_set, vec_len};
 ghost use Rattle.dp_fields.specs.Fields.{one_byte};
 ghost use Rattle.dp_msg_draw.specs.Payloads.{draw_kind, draw_payload};
 ghost use Rattle.dp_messages.specs.declared.message.Entry.{Entry as Item};
@@ -103,16 +104,36 @@ pub fn put_entry(entry: &Entry, out: &mut Vec<u8>) -> Result<(), AllocError>
     ensures ok { OnOk result (out.new.items ≡ out.old.items ++ entry_bytes entry.now) }
     ensures err { OnErr result (out.new.items ≡ out.old.items) }
 {
-    let mut payload = Vec::new(*out.allocator());
-    put_payload(&entry.msg, &mut payload)?;
-    let len = payload.len();
-    let header = [
-        (len / 256 % 256) as u8,
-        (len % 256) as u8,
-        entry.msg.kind(),
-        entry.user,
-    ];
-    out.reserve(header.len() + payload.len())?;
-    out.extend_from_slice(&header)?;
-    out.extend_from_slice(&payload)
+    put_message(entry.user, &entry.msg, out)
+}
+
+/// Puts a length into a header that begins at a place.
+fn set_length(out: &mut Vec<u8>, start: usize, len: usize)
+    requires { start + 1 < vec_len out.old }
+    ensures { out.new.items ≡ slice_set
+        (slice_set out.old.items start (len / 256 % 256)) (start + 1) (len % 256) }
+{
+    out[start] = (len / 256 % 256) as u8;
+    out[start + 1] = (len % 256) as u8;
+}
+
+/// Adds the bytes of the frame of a message that this user says, at the end.
+///
+/// # Errors
+///
+/// Where memory runs out. `out` is then as it was.
+pub fn put_message(user: u8, msg: &Msg, out: &mut Vec<u8>) -> Result<(), AllocError>
+    ensures ok { OnOk result (out.new.items
+        ≡ out.old.items ++ entry_bytes (record { user = user; msg = msg.now })) }
+    ensures err { OnErr result (out.new.items ≡ out.old.items) }
+{
+    let head = out.len();
+    out.extend_from_slice(&[0, 0, msg.kind(), user])?;
+    let start = out.len();
+    if let Err(error) = put_payload(msg, out) {
+        out.truncate(head);
+        return Err(error);
+    }
+    set_length(out, head, out.len() - start);
+    Ok(())
 }

@@ -9,7 +9,7 @@ mod laws;
 mod message;
 
 pub use decoder::{DecodeError, decode, read_message};
-pub use encoder::{encode, put_entry, put_payload};
+pub use encoder::{encode, put_entry, put_message, put_payload};
 pub use equality::same;
 pub use first_profile::lifted_kind;
 pub use laws::{

@@ -4,7 +4,7 @@ use Rattle.std.proofs.Common.{cond, not}
 use Rattle.std.proofs.Common.{nat_lt, nat_le, if◌then◌else◌, is_some, unwrap_or}
 use Rattle.std.proofs.Common.{List, [], ◌∷◌, ◌++◌, length, set, map, All, Option, None, Some}
 use Rattle.std.proofs.Common.{append_assoc, refl, sym, ap, subst, ◌∙◌, ⊎_elim, arith, length-append}
-use Rattle.std.specs.Prelude.{option_to_list, slice_index_or, slice_set, vec_len, vec_capacity}
+use Rattle.std.specs.Prelude.{slice_index_or, slice_set, vec_len, vec_capacity}
 use Rattle.std.specs.List.{slice_get, cons_option, list_any, sum_by}
 use Rattle.std.specs.Option.{option_map, option_map_or}
 use Rattle.std.proofs.lemmas.List.{map-append, length-map}
@@ -65,6 +65,8 @@ use Rattle.dp_history.specs.Users.{IsJoinedBy, AreJoined}
 use Rattle.dp_tables.specs.Tables.{is_holder, MarksHolders, Seen, AreOf}
 use Rattle.dp_tables.specs.Inside.{is_ready, ledger_of, seen, AreTables}
 use Rattle.dp_tables.specs.Ready.{own_entries, own_items, SaysOwn, opens_epoch, supplied, IsSupply}
+use Rattle.dp_tables.specs.Ready.{unboxed, server_items}
+use Rattle.std.specs.Global.{Box}
 use Rattle.dp_tables.specs.Ready.{items_after, IsWithSupply, AreFramesWith, epoch_with, marks_after}
 use Rattle.dp_tables.specs.Ready.{opens_after, quiet_after, closed_in, unmarked, is_sender}
 use Rattle.dp_tables.specs.Ready.{owner_after, parts_after, bytes_after, MayKeep}
@@ -129,15 +131,24 @@ entries-later journal more (i ∷ live) said =
     (entries-later journal more live (All-tail (IsIn journal) i live said))
 
 -- entries of the server's own are themselves
-own_entries_kept : (journal : List Event) (entries : List Entry)
-    → (map (entry_in journal) (map item.Server entries) ≡ entries)
-    × All (IsIn journal) (map item.Server entries)
-own_entries_kept journal [] = (refl, All-nil (IsIn journal))
-own_entries_kept journal (e ∷ entries) =
-    let h = own_entries_kept journal entries in (
-      ap (λ xs. e ∷ xs) h.0,
-      All-cons (IsIn journal) (item.Server e) (map item.Server entries) tt
-          h.1,
+server_kept : (journal : List Event) (entry : Option (Box Entry))
+    → (map (entry_in journal) (server_items entry) ≡ unboxed entry)
+    × All (IsIn journal) (server_items entry)
+server_kept journal None = (refl, All-nil (IsIn journal))
+server_kept journal (Some e) =
+    (refl, All-cons (IsIn journal) (item.Server e) [] tt (All-nil (IsIn journal)))
+
+own_entries_kept : (journal : List Event) (first second : Option (Box Entry))
+    → (map (entry_in journal) (server_items first ++ server_items second)
+    ≡ unboxed first ++ unboxed second)
+    × All (IsIn journal) (server_items first ++ server_items second)
+own_entries_kept journal first second =
+    let a = server_kept journal first in
+    let b = server_kept journal second in (
+      map-append (entry_in journal) (server_items first) (server_items second)
+          ∙ ap (λ xs. xs ++ map (entry_in journal) (server_items second)) a.0
+          ∙ ap (λ xs. unboxed first ++ xs) b.0,
+      All-append (IsIn journal) (server_items first) (server_items second) a.1 b.1,
     )
 
 own-few : (e : Event) (effect : Effect) → length (own_entries e effect) ≤ 1
@@ -195,23 +206,22 @@ module _ (journal : List Event) (s : State) (e : Event) (effect : Effect)
       × All (IsIn J) (items_after (own_items (length journal) effect) supply live)
   items-kept live (Entries first second) supply is said =
       let own = own-placed journal e effect (says-own s e effect cause) in
-      let list = option_to_list first ++ option_to_list second in
-      let ahead = own_entries_kept J list in
-      let more = own_items (length journal) effect ++ map item.Server list in (
+      let list = server_items first ++ server_items second in
+      let ahead = own_entries_kept J first second in
+      let more = own_items (length journal) effect ++ list in (
         map-append (entry_in J) live more
             ∙ ap (λ xs. xs ++ map (entry_in J) more)
             (entries-later journal (e ∷ []) live said ∙ is)
             ∙ ap (λ xs. s.live ++ xs)
-            (map-append (entry_in J) (own_items (length journal) effect) (map item.Server list)
-            ∙ ap (λ xs. xs ++ map (entry_in J) (map item.Server list)) own.0
+            (map-append (entry_in J) (own_items (length journal) effect) list
+            ∙ ap (λ xs. xs ++ map (entry_in J) list) own.0
             ∙ ap (λ xs. own_entries e effect ++ xs) ahead.0
             ∙ supply.1)
             ∙ sym (live-more s e effect supply.0).0,
         All-append (IsIn J) live more
             (All-weaker (IsIn journal) (IsIn J) (λ i h. (entry-later journal (e ∷ []) i h).1) live
             said)
-            (All-append (IsIn J) (own_items (length journal) effect) (map item.Server list) own.1
-            ahead.1),
+            (All-append (IsIn J) (own_items (length journal) effect) list own.1 ahead.1),
       )
   items-kept live (Opens opening) supply is said = (
     entries-later journal (e ∷ []) opening.live.items supply.1.said ∙ supply.1.entries,
@@ -232,15 +242,14 @@ module _ (journal : List Event) (s : State) (e : Event) (effect : Effect)
   next-is (Entries first second) supply =
       (live-more s e effect supply.0).0
       ∙ ap (λ xs. s.live ++ xs) (sym supply.1)
-      ∙ sym (append_assoc s.live (own_entries e effect)
-      (option_to_list first ++ option_to_list second))
+      ∙ sym (append_assoc s.live (own_entries e effect) (unboxed first ++ unboxed second))
   next-is (Opens opening) supply = supply.1
 
   -- the event places few entries
   pub supply-few : (supply : Supply) → IsSupply journal s e effect supply
       → length (own_entries e effect) + length (supplied supply) ≤ 2
   supply-few (Entries first second) supply =
-      let list = option_to_list first ++ option_to_list second in
+      let list = unboxed first ++ unboxed second in
       omega (
         arith,
         length-append (own_entries e effect) list,
@@ -718,19 +727,18 @@ written-on frames history more are = record {
 }
 
 -- the tables of a session to which nothing has come
-pub tables-first : (t : Inside) → t.journal.items ≡ [] → t.shut.items ≡ []
-    → t.connections.items ≡ []
-    → t.quiet.items ≡ [] → t.live.items ≡ item.Server (server_entry (ResetMark 0 0)) ∷ []
-    → t.row_bytes ≡ 0
+pub tables-first : (t : Inside) (begun : Box Entry) → begun.value ≡ server_entry (ResetMark 0 0)
+    → t.journal.items ≡ [] → t.shut.items ≡ [] → t.connections.items ≡ [] → t.quiet.items ≡ []
+    → t.live.items ≡ item.Server begun ∷ [] → t.row_bytes ≡ 0
     → StandsFor t.rights first_state.live → t.present ≡ replicate 256 false → t.epoch ≡ 0
     → t.opens ≡ replicate 256 0 → t.owner ≡ None → t.parts.items ≡ [] → t.part_bytes ≡ 0
     → AreFramesOf t.frames [] → AreTables t
-tables-first t ej es ec eq el eb stands ep ee eo eu ek ez none =
+tables-first t begun is_mark ej es ec eq el eb stands ep ee eo eu ek ez none =
     let first : Seen = record {
       journal = [];
       connections = [];
       epoch = 0;
-      live = item.Server (server_entry (ResetMark 0 0)) ∷ [];
+      live = item.Server begun ∷ [];
       rights = t.rights;
       present = t.present;
       opens = t.opens;
@@ -755,9 +763,8 @@ tables-first t ej es ec eq el eb stands ep ee eo eu ek ez none =
               none = λ no_one. refl;
             };
             table = refl;
-            entries = refl;
-            said = All-cons (IsIn []) (item.Server (server_entry (ResetMark 0 0))) [] tt
-                (All-nil (IsIn []));
+            entries = ap (λ e. e ∷ []) is_mark;
+            said = All-cons (IsIn []) (item.Server begun) [] tt (All-nil (IsIn []));
             stands = stands;
             ids = ap length ep ∙ length-replicate 256 false;
             marks = λ user small. sym (ap (λ b. cond {A = ℕ} b 1 0)

@@ -1,7 +1,8 @@
 -- What is ready to be kept of an event, and what keeping it makes of the tables.
 use Rattle.std.specs.Prelude.{◌≡◌, ℕ, ◌+◌, ◌-◌, ◌==◌, Bool, true, false, []}
-use Rattle.std.specs.Prelude.{if◌then◌else◌, Option, None, Some, option_to_list}
-use Rattle.std.specs.Prelude.{List, ◌∷◌, ◌++◌, length, map, slice_set}
+use Rattle.std.specs.Prelude.{if◌then◌else◌, Option, None, Some}
+use Rattle.std.specs.Prelude.{List, ◌∷◌, ◌++◌, length, slice_set}
+use Rattle.std.specs.Global.{Box}
 use Rattle.dp_messages.specs.declared.message.Entry.{Entry}
 use Rattle.dp_epochs.specs.declared.connection.Connection.{Connection}
 use Rattle.dp_epochs.specs.declared.connection.Ending.TheVariants as ending
@@ -44,30 +45,39 @@ abbrev pub opens_epoch : Effect → Bool
 opens_epoch (Reopened conn connection) = true
 opens_epoch other = false
 
+-- the entry in a box, if there is one
+abbrev pub unboxed : Option (Box Entry) → List Entry
+unboxed None = []
+unboxed (Some entry) = entry.value ∷ []
+
+-- as it is kept
+abbrev pub server_items : Option (Box Entry) → List HistoryItem
+server_items None = []
+server_items (Some entry) = item.Server entry ∷ []
+
 -- the entries that were made ahead
 abbrev pub supplied : Supply → List Entry
-supplied (Entries first second) = option_to_list first ++ option_to_list second
+supplied (Entries first second) = unboxed first ++ unboxed second
 supplied (Opens opening) = []
 
 -- this is what the event places beside what it says
 abbrev pub IsSupply : List Event → State → Event → Effect → Supply → Type 0
 IsSupply journal s e effect (Entries first second) =
     (opens_epoch effect ≡ false)
-    × (own_entries e effect ++ (option_to_list first ++ option_to_list second)
-    ≡ entries_of e effect)
+    × (own_entries e effect ++ (unboxed first ++ unboxed second) ≡ entries_of e effect)
 IsSupply journal s e effect (Opens opening) =
     (opens_epoch effect ≡ true) × Holds journal opening (live_after s e effect)
 
 -- the live history as it is kept, with the event's own entry and what was made ahead
 abbrev pub items_after : List HistoryItem → Supply → List HistoryItem → List HistoryItem
 items_after own (Entries first second) live =
-    live ++ (own ++ map item.Server (option_to_list first ++ option_to_list second))
+    live ++ (own ++ (server_items first ++ server_items second))
 items_after own (Opens opening) live = opening.live.items
 
 -- the live history is this with what was made ahead, or begins anew with that
 abbrev pub IsWithSupply : List Event → Supply → List Entry → List Entry → Type 0
 IsWithSupply journal (Entries first second) history next =
-    next ≡ history ++ (option_to_list first ++ option_to_list second)
+    next ≡ history ++ (unboxed first ++ unboxed second)
 IsWithSupply journal (Opens opening) history next = Holds journal opening next
 
 -- the frames that were made stay, or there are none

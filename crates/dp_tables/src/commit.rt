@@ -12,7 +12,6 @@ ghost use Rattle.std.specs.Prelude.{
   [],
   List,
   Some,
-  map,
   length,
   option_to_list,
   vec_len,
@@ -29,6 +28,7 @@ ghost use Rattle.dp_history.specs.Items.{IsSay};
 ghost use Rattle.dp_tables.specs.SessionLog.{state_in};
 ghost use Rattle.dp_tables.specs.Tables.{flagged};
 ghost use Rattle.dp_tables.specs.Ready.{own_entries, own_items, SaysOwn, supplied, items_after};
+ghost use Rattle.dp_tables.specs.Ready.{unboxed, server_items};
 ghost use Rattle.dp_tables.specs.Ready.{IsWithSupply, AreFramesWith, epoch_with, IsThere};
 ghost use Rattle.dp_tables.specs.Ready.{marks_after, opens_after, quiet_after, closed_in, unmarked};
 ghost use Rattle.dp_tables.specs.Ready.{is_sender, owner_after, parts_after, bytes_after, MayKeep};
@@ -95,16 +95,15 @@ fn own_item(event: u32, effect: Effect) -> Option<HistoryItem>
 }
 
 /// Places an entry, if there is one.
-fn place_server(live: &mut Vec<HistoryItem>, rights: &mut Rights, entry: Option<Entry>)
-    requires live { vec_len live.old + length (option_to_list entry) ≤ vec_capacity live.old }
-    requires rights { length (option_to_list entry) ≤ rights.old.room }
-    ensures live { live.new.items
-        ≡ live.old.items ++ map HistoryItem.Server (option_to_list entry) }
+fn place_server(live: &mut Vec<HistoryItem>, rights: &mut Rights, entry: Option<Box<Entry>>)
+    requires live { vec_len live.old + length (unboxed entry) ≤ vec_capacity live.old }
+    requires rights { length (unboxed entry) ≤ rights.old.room }
+    ensures live { live.new.items ≡ live.old.items ++ server_items entry }
     ensures stands { (history : List Piece) → StandsFor rights.old history
-        → StandsFor rights.new (history ++ option_to_list entry) }
-    ensures len { vec_len live.new ≡ vec_len live.old + length (option_to_list entry) }
+        → StandsFor rights.new (history ++ unboxed entry) }
+    ensures len { vec_len live.new ≡ vec_len live.old + length (unboxed entry) }
     ensures capacity { vec_capacity live.new ≡ vec_capacity live.old }
-    ensures room { rights.old.room ≤ rights.new.room + length (option_to_list entry) }
+    ensures room { rights.old.room ≤ rights.new.room + length (unboxed entry) }
 {
     if let Some(entry) = entry {
         rights.note_reserved(&entry);

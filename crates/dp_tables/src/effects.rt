@@ -9,7 +9,7 @@ ghost use Rattle.dp_epochs.specs.Effects.{own_message, IsEffect};
 ghost use Rattle.dp_epochs.specs.Rows.{has_room, row_of};
 ghost use Rattle.dp_history.specs.Items.{IsSay};
 ghost use Rattle.dp_tables.specs.SessionLog.{state_in};
-ghost use Rattle.dp_tables.specs.Ready.{IsReady, IsSupply};
+ghost use Rattle.dp_tables.specs.Ready.{IsReady, IsSupply, unboxed};
 
 use crate::ready::{Ready, Supply};
 use crate::tables::Tables;
@@ -49,6 +49,16 @@ fn filtered(event: &Event, user: u8) -> Entry
         },
         _ => unreachable!(),
     }
+}
+
+/// The entry, if there is one, in a box.
+fn boxed(alloc: Global, entry: Option<Entry>) -> Result<Option<Box<Entry>>, AllocError>
+    ensures { IfOk result (λ found. unboxed found ≡ option_to_list entry) }
+{
+    Ok(match entry {
+        Some(entry) => Some(Box::new(alloc, entry)?),
+        None => None,
+    })
 }
 
 impl Tables {
@@ -178,24 +188,27 @@ impl Tables {
         Ok(match effect {
             Effect::Filtered { connection, .. } | Effect::Dropped { connection, .. } => {
                 Supply::Entries {
-                    first: Some(filtered(event, connection.user)),
+                    first: boxed(alloc, Some(filtered(event, connection.user)))?,
                     second: None,
                 }
             }
             Effect::Joined { user, next } => Supply::Entries {
-                first: join_entry(alloc, event, user)?,
-                second: owner_entry(alloc, next)?,
+                first: boxed(alloc, join_entry(alloc, event, user)?)?,
+                second: boxed(alloc, owner_entry(alloc, next)?)?,
             },
             Effect::Left {
                 connection,
                 next,
                 ..
             } => Supply::Entries {
-                first: Some(Entry {
-                    user: connection.user,
-                    msg: Msg::Meta(Meta::Leave),
-                }),
-                second: owner_entry(alloc, next)?,
+                first: boxed(
+                    alloc,
+                    Some(Entry {
+                        user: connection.user,
+                        msg: Msg::Meta(Meta::Leave),
+                    }),
+                )?,
+                second: boxed(alloc, owner_entry(alloc, next)?)?,
             },
             Effect::Reopened { .. } => Supply::Opens(self.open_epoch()?),
             _ => Supply::Entries {

@@ -48,7 +48,7 @@ use std::alloc::{AllocError, Global};
 const PAGE: usize = 1 << 10;
 
 /// Entries that were put as frames: so many of an epoch, from this place on.
-#[derive(Clone, Copy, Debug, PartialEq, Eq)]
+#[derive(Clone, Copy, PartialEq, Eq)]
 pub struct Page {
     pub epoch: u32,
     pub at: u32,
@@ -56,7 +56,7 @@ pub struct Page {
 }
 
 /// What is due of the live history: from a place on up to another.
-#[derive(Clone, Copy, Debug)]
+#[derive(Clone, Copy)]
 pub(crate) struct Due {
     pub(crate) epoch: u32,
     pub(crate) at: u32,

@@ -6,23 +6,31 @@ use dp_keeper::Row;
 use dp_messages::Entry;
 
 /// What an event places, beside what it says, made before it is kept.
-#[derive(Debug, Drop)]
+#[derive(Drop)]
 pub(crate) enum Supply {
     /// Up to two entries.
     Entries {
-        first: Option<Entry>,
-        second: Option<Entry>,
+        first: Option<Box<Entry>>,
+        second: Option<Box<Entry>>,
     },
     /// The history with which the next epoch opens.
     Opens(Opening),
 }
 
 /// An event that is ready to be kept: what it does, what it places, and its row.
-#[derive(Debug, Drop)]
+#[derive(Drop)]
 pub struct Ready {
     pub(crate) event: Event,
     pub(crate) effect: Effect,
     pub(crate) supply: Supply,
     /// The row that is to be put before the event is kept.
     pub row: Row,
+}
+
+/// The event of a kept row: what it does, and what it places.
+#[derive(Drop)]
+pub(crate) struct Ahead {
+    pub(crate) event: Event,
+    pub(crate) effect: Effect,
+    pub(crate) supply: Supply,
 }

@@ -5,8 +5,9 @@
 ghost use Rattle.std.specs.Prelude.{◌≡◌, ◌↔◌, [], IsTrue, IfOk, OnErr, MatchOption};
 ghost use Rattle.dp_epochs.specs.Resumed.{MayNotStand, MayStand, NamesGiven};
 ghost use Rattle.dp_tables.specs.SessionLog.{state_in};
-ghost use Rattle.dp_tables.specs.Replay.{Replays};
+ghost use Rattle.dp_tables.specs.Replay.{Replays, IsAhead};
 
+use crate::ready::Ahead;
 use crate::tables::Tables;
 use dp_epochs::{Event, read_row, rows_spell_events};
 use dp_keeper::Row;
@@ -49,6 +50,27 @@ impl Tables {
         }
     }
 
+    /// What is made ahead of the event of a row of this number and these bytes, if it may stand
+    /// next.
+    fn ahead(&self, n: u64, bytes: &[u8]) -> Result<Option<Ahead>, AllocError>
+        requires { self.now.shut ≡ [] }
+        ensures { IfOk result (λ found. MatchOption found
+            (MayNotStand self.now.journal (record { n = n; bytes = bytes.now }))
+            (IsAhead self.now (record { n = n; bytes = bytes.now }))) }
+    {
+        rows_spell_events();
+        let Some(event) = self.next_event(n, bytes)? else {
+            return Ok(None);
+        };
+        let effect = self.effect(&event, bytes.len())?;
+        let supply = self.supply(&event, effect)?;
+        Ok(Some(Ahead {
+            event,
+            effect,
+            supply,
+        }))
+    }
+
     /// Keeps the event of a row of this number and these bytes, if it may stand next.
     fn keep_row(&mut self, n: u64, bytes: &[u8]) -> Result<bool, AllocError>
         requires { self.old.shut ≡ [] }
@@ -57,14 +79,16 @@ impl Tables {
         ensures err { OnErr result (self.new ≡ record self.old { room = self.new.room }) }
     {
         rows_spell_events();
-        let Some(event) = self.next_event(n, bytes)? else {
+        let Some(ahead) = self.ahead(n, bytes)? else {
             return Ok(false);
         };
-        let length = bytes.len();
-        let effect = self.effect(&event, length)?;
-        let supply = self.supply(&event, effect)?;
         self.make_room()?;
-        self.keep_made(event, effect, supply, length as u64);
+        let Ahead {
+            event,
+            effect,
+            supply,
+        } = ahead;
+        self.keep_made(event, effect, supply, bytes.len() as u64);
         Ok(true)
     }
 

@@ -181,7 +181,8 @@ impl Tables {
         let mut rights = Rights::new(alloc);
         rights.note(&mark)?;
         let mut live = Vec::new(alloc);
-        live.push(HistoryItem::Server(mark))?;
+        let kept = Box::new(alloc, mark)?;
+        live.push(HistoryItem::Server(kept))?;
         Ok(Tables {
             journal: Vec::new(alloc),
             row_bytes: 0,

@@ -1,13 +1,12 @@
 use Rattle.std.proofs.Common.{◌≡◌, ◌++◌, sym, subst, ◌∙◌, append_assoc}
-use Rattle.std.specs.Prelude.{option_to_list}
 use Rattle.dp_acl.specs.Table.{StandsFor}
-use Rattle.dp_tables.specs.Ready.{IsWithSupply}
+use Rattle.dp_tables.specs.Ready.{unboxed, IsWithSupply}
 use Rattle.dp_tables.proofs.commit.place.Goals as goal
 
 pub returns-after-own-clause-stands : goal.returns-after-own-clause-stands
 returns-after-own-clause-stands c = λ journal history next stands given.
-    let first = option_to_list c.in-Entries.first in
-    let second = option_to_list c.in-Entries.second in
+    let first = unboxed c.in-Entries.first in
+    let second = unboxed c.in-Entries.second in
     let is : next ≡ history ++ (first ++ second) =
     subst (λ p. IsWithSupply journal p history next) c.in-Entries.is given in
     subst (StandsFor c.place_server-in-Entries.new.rights)

@@ -1,4 +1,4 @@
-use Rattle.std.proofs.Common.{refl, sym, subst}
+use Rattle.std.proofs.Common.{sym, subst}
 use Rattle.dp_acl.specs.Table.{StandsFor}
 use Rattle.dp_history.specs.declared.item.HistoryItem.TheVariants as item
 use Rattle.dp_history.proofs.ItemLemmas.{holds-one}
@@ -6,6 +6,7 @@ use Rattle.dp_history.proofs.opening.Opening.add.Goals as goal
 
 pub returns : goal.returns
 returns c = λ journal history h.
-    holds-one journal c.args.self.now _ history (item.Server c.args.entry) c.args.entry h
-    c.in_ok-push.ensures.items refl tt (c.in_ok-note.ensures.stands history
+    holds-one journal c.args.self.now _ history (item.Server c.in_ok-kept.kept) c.args.entry
+    h c.in_ok-push.ensures.items c.in_ok-kept.ensures.ok tt
+    (c.in_ok-note.ensures.stands history
     (subst (λ r. StandsFor r history) (sym c.deref_mut.ensures.value) h.stands))
