@@ -3,4 +3,3 @@ pub mod Frames
 pub mod OneReading
 pub mod Reading
 pub mod Refused
-pub mod TakenParts

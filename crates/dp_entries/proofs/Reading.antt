@@ -11,7 +11,7 @@ use Rattle.std.specs.Io.KnownBytes.{Consumes, Keeps, IsAtEnd}
 use Rattle.dp_io.specs.Pieces.{TookPieces}
 use Rattle.dp_io.proofs.Pieces.{all_taken, counted_first, cut_short, first_taken, kept_taken}
 use Rattle.dp_io.proofs.Pieces.{nothing_taken, parts_of, piece_taken}
-use Rattle.dp_entries.proofs.TakenParts.{took_all, took_last}
+use Rattle.dp_lines.proofs.TakenParts.{took_all, took_last}
 use Rattle.dp_frame.specs.Frames.{FrameParts, IsFrame, spelling, HoldsNoFrame}
 use Rattle.dp_split.specs.Stream.{Stream}
 use Rattle.dp_messages.specs.declared.message.Entry.{Entry}

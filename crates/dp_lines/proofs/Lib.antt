@@ -6,3 +6,4 @@ pub mod Pieces
 pub mod Readings
 pub mod Scanning
 pub mod Seen
+pub mod TakenParts

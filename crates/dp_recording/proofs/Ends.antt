@@ -1,7 +1,6 @@
 -- What a recording comes to, in two cases.
-use Rattle.std.proofs.Common.{◌≡◌, ◌⊎◌, ℕ, List, [], Option, Some, None, Result, Ok, Err, IfNone}
-use Rattle.std.proofs.Common.{IfOk, IfSome, ap₂, inl, inr, refl, subst, sym, ◌∙◌}
-use Rattle.std.proofs.lemmas.Option.{none-some}
+use Rattle.std.proofs.Common.{◌≡◌, ◌⊎◌, ℕ, List, [], Option, Some, None, IfNone, IfSome, ap₂, inl}
+use Rattle.std.proofs.Common.{inr, refl, subst, sym, ◌∙◌}
 use Rattle.dp_messages.specs.declared.message.Entry.{Entry}
 use Rattle.dp_lines.specs.declared.run_end.RunEnd.{RunEnd}
 use Rattle.dp_lines.specs.declared.run_end.RunEnd.TheVariants as run
@@ -10,13 +9,10 @@ use Rattle.dp_entries.specs.declared.ends.ReadEnd.{ReadEnd}
 use Rattle.dp_entries.specs.declared.ends.ReadEnd.TheVariants as read
 use Rattle.dp_entries.specs.Input.{ComesTo}
 use Rattle.dp_entries.specs.Reading.{EndsReading}
-use Rattle.dp_recording.specs.declared.reader.RecError.{RecError}
-use Rattle.dp_recording.specs.declared.reader.RecError.TheVariants.{BadHeader, Truncated, Message}
-use Rattle.dp_recording.specs.declared.reader.RecError.TheVariants.{ReadFault, Long, Memory}
 use Rattle.dp_recording.specs.declared.header.Profile.{Profile}
 use Rattle.dp_recording.specs.declared.header.Profile.TheVariants.{First, Second}
 use Rattle.dp_recording.specs.Headers.{HasNoHeader, IsHeader}
-use Rattle.dp_recording.specs.Recordings.{EndsEarly, EndsRecording, RecordingComesTo, error_of}
+use Rattle.dp_recording.specs.Recordings.{EndsRecording, RecordingComesTo, error_of}
 use Rattle.dp_recording.specs.Recordings.{HasReadAfter, HasReadOf, cause_in, stands_in}
 use Rattle.dp_recording.specs.declared.reader.Phase.TheVariants.{Finished}
 use Rattle.dp_entries.specs.Reader.{Reader}
@@ -84,10 +80,6 @@ one-part part header reading input entries others end other (inr x) (inr y) =
 
 -- ---- what is said where there is none
 
-pub none-holds : {X P : Type 0} (o : Option X) → o ≡ None → IfNone o P → P
-none-holds None e said = said
-none-holds (Some x) e said = absurd (none-some x (sym e))
-
 pub none-weaker : {X P Q : Type 0} (o : Option X) → (P → Q) → IfNone o P → IfNone o Q
 none-weaker None f said = f said
 none-weaker (Some x) f said = said
@@ -98,17 +90,6 @@ some-weaker None f said = said
 some-weaker (Some x) f said = f x said
 
 -- ---- how reading ends
-
--- before the header was whole
-pub early-ends : (input : List ℕ) (left : Option (List ℕ)) (entries : List Entry) (error : RecError)
-    → entries ≡ []
-    → EndsEarly input left error → EndsRecording input left entries error
-early-ends input left entries BadHeader none ends = ((none, ends.0), inl ends.1)
-early-ends input left entries ReadFault none ends = inl ends
-early-ends input left entries Memory none ends = tt
-early-ends input left entries (Truncated at) none ends = absurd ends
-early-ends input left entries (Message at why) none ends = absurd ends
-early-ends input left entries Long none ends = absurd ends
 
 -- after a header
 pub late-ends : (input : List ℕ) (left : Option (List ℕ)) (entries : List Entry)

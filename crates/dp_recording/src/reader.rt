@@ -192,19 +192,41 @@ fn go_on<I: Source>(
     ensures later { I.faults input.old ≤ I.faults input.new }
 {
     match phase {
-        Phase::New => match open(alloc, input) {
-            Ok(reading) => {
-                *phase = reading;
-                pull(alloc, input, phase)
-            }
-            Err(error) => {
-                *phase = Phase::Failed(error);
-                Err(error)
-            }
+        Phase::New => match start(alloc, input, phase) {
+            Ok(()) => pull(alloc, input, phase),
+            Err(error) => Err(error),
         },
         Phase::Lifting(_) | Phase::Reading(_) => pull(alloc, input, phase),
         Phase::Finished => Ok(None),
         Phase::Failed(error) => Err(*error),
+    }
+}
+
+/// Reads the header. (A `Phase` that is made where entries are pulled costs time at each of them.)
+#[inline(never)]
+fn start<I: Source>(alloc: Global, input: &mut I, phase: &mut Phase) -> Result<(), RecError>
+    ensures begun { OnOk result ((bytes : List ℕ) → I.left input.old ≡ Some bytes
+        → HasReadOf bytes (I.left input.new) [] phase.new) }
+    ensures reading { OnOk result (IsReading phase.new) }
+    ensures limit { OnOk result (limit_of phase.new ≡ stream_limit) }
+    ensures goes_on { OnOk result (GoesOn phase.new) }
+    ensures ends { IfErr result (λ error. (bytes : List ℕ) → I.left input.old ≡ Some bytes
+        → EndsEarly bytes (I.left input.new) error) }
+    ensures inside { IfErr result (EndsWithInput (I.left input.new)) }
+    ensures failed { IfErr result (λ error. phase.new ≡ Failed error) }
+    ensures kept { OnOk result (I.faults input.new ≡ I.faults input.old) }
+    ensures fault { IfErr result (FaultMatchesError (I.faults input.old) (I.faults input.new)) }
+    ensures later { I.faults input.old ≤ I.faults input.new }
+{
+    match open(alloc, input) {
+        Ok(reading) => {
+            *phase = reading;
+            Ok(())
+        }
+        Err(error) => {
+            *phase = Phase::Failed(error);
+            Err(error)
+        }
     }
 }
 
@@ -243,29 +265,40 @@ fn pull<I: Source>(
         Phase::Lifting(reader) => match reader.next(alloc, input) {
             Ok(Some(entry)) => Ok(Some(entry)),
             Ok(None) => {
-                *phase = Phase::Finished;
+                finish(phase);
                 Ok(None)
             }
-            Err(end) => {
-                let error = error_of(end);
-                *phase = Phase::Failed(error);
-                Err(error)
-            }
+            Err(end) => Err(fail(phase, end)),
         },
         Phase::Reading(reader) => match reader.next(alloc, input) {
             Ok(Some(entry)) => Ok(Some(entry)),
             Ok(None) => {
-                *phase = Phase::Finished;
+                finish(phase);
                 Ok(None)
             }
-            Err(end) => {
-                let error = error_of(end);
-                *phase = Phase::Failed(error);
-                Err(error)
-            }
+            Err(end) => Err(fail(phase, end)),
         },
         _ => Ok(None),
     }
+}
+
+/// The recording came to its end.
+#[inline(never)]
+fn finish(phase: &mut Phase)
+    ensures { phase.new ≡ Finished }
+{
+    *phase = Phase::Finished;
+}
+
+/// Reading its entries ended so.
+#[inline(never)]
+fn fail(phase: &mut Phase, end: ReadEnd<DecodeError>) -> RecError
+    ensures value { result ≡ error_of end }
+    ensures failed { phase.new ≡ Failed result }
+{
+    let error = error_of(end);
+    *phase = Phase::Failed(error);
+    error
 }
 
 /// Why a recording gives no entry whose entries ended so.

@@ -9,7 +9,7 @@ use Rattle.std.specs.Io.KnownBytes.{Consumes, Keeps, IsAtEnd}
 use Rattle.dp_io.specs.Pieces.{TookPieces}
 use Rattle.dp_io.proofs.Pieces.{all_taken, cut_short, kept_taken, last_taken, more_taken}
 use Rattle.dp_io.proofs.Pieces.{none_taken, nothing_taken, parts_of}
-use Rattle.dp_script.proofs.TakenParts.{took_all, took_last}
+use Rattle.dp_lines.proofs.TakenParts.{took_all, took_last}
 use Rattle.dp_lines.specs.declared.line.Line.{Line}
 use Rattle.dp_lines.specs.Ends.{AreSteps, seen}
 use Rattle.dp_lines.specs.Held.{Held, IsLeft, NextIsLong, ended_from, lines_from}

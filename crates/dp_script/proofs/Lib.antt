@@ -1,5 +1,4 @@
 pub mod Called
 pub mod Lines
 pub mod Reading
-pub mod TakenParts
 pub mod Leaving

@@ -12,7 +12,7 @@ returns-in-Ok-None-clause-done g c =
 
 pub returns-in-Err-clause-ends : goal.returns-in-Err-clause-ends
 returns-in-Err-clause-ends g c =
-    rw c.in-Lifting.is (λ bytes entries h. rw c.error_of-error.ensures
+    rw c.in-Lifting.is (λ bytes entries h. rw c.fail.ensures.value
     (late-ended First bytes (g.I.Source.left c.next.new.input) entries c.in-Lifting.reader
     c.in-Err.end h (c.in-Err.ensures.ends bytes entries h.3)))
 
@@ -26,6 +26,6 @@ returns-in-Ok-None-next-clause-done g c =
 
 pub returns-in-Err-next-clause-ends : goal.returns-in-Err-next-clause-ends
 returns-in-Err-next-clause-ends g c =
-    rw c.in-Reading.is (λ bytes entries h. rw c.error_of-error-in-Err-next.ensures
+    rw c.in-Reading.is (λ bytes entries h. rw c.fail-in-Err-next.ensures.value
     (late-ended Second bytes (g.I.Source.left c.next-in-Reading.new.input) entries
     c.in-Reading.reader c.in-Err-next.end h (c.in-Err-next.ensures.ends bytes entries h.3)))
