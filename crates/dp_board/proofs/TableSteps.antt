@@ -1,6 +1,6 @@
 -- Steps of the table of strokes.
 use Rattle.std.proofs.Common.{◌≡◌, ℕ, ◌+◌, ◌-◌, ◌<◌, ◌≤◌, List, [], ◌∷◌, ◌++◌}
-use Rattle.std.proofs.Common.{length, drop, Option, Some, None, refl, sym, arith, min, inl, inr}
+use Rattle.std.proofs.Common.{length, Option, Some, None, refl, sym, arith, min, inl, inr}
 use Rattle.std.proofs.Common.{subst}
 use Rattle.std.specs.List.{fold, All}
 use Rattle.std.specs.Option.{IfSome}

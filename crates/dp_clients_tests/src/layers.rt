@@ -63,7 +63,7 @@ fn shared_rows_change_apart(rt: HostRuntime) {
     let other = tree.remake(contents).expect(&rt, "memory");
     let held = [11, 13, 20].map(|id| other.content(id).copied());
     assert_eq!(rt; held, [Some(1), Some(2), Some(3)]);
-    assert_eq!(rt; other.rows(), tree.rows());
+    assert!(rt; other.rows() == tree.rows());
     let delete = Draw::LayerDelete { id: 10 };
     assert!(rt; tree.delete(&delete).expect(&rt, "memory"));
     assert_eq!(rt; (tree.rows().len(), other.rows().len()), (2, 6));

@@ -2,3 +2,4 @@ pub mod Bands
 pub mod Composed
 pub mod Prefixes
 pub mod Rows
+mod Jobs

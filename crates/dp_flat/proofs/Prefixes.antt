@@ -1,5 +1,5 @@
 -- What a sink holds after several pieces of a text, the last of them perhaps in part.
-use Rattle.std.proofs.Common.{◌≡◌, ℕ, List, ◌++◌, Ok, Err, OnOk, subst}
+use Rattle.std.proofs.Common.{◌≡◌, ℕ, List, ◌++◌, Ok, Err, OnOk, OnErr, subst}
 use Rattle.std.proofs.Common.{sym}
 use Rattle.std.proofs.Common.{ap, ◌∙◌}
 use Rattle.std.proofs.lemmas.List.{append_assoc}
@@ -61,3 +61,8 @@ pub last_cut : (a b c : Option (List ℕ)) (piece last text : List ℕ) → Grow
     → GrowsByPrefix b c last → GrowsByPrefix a c text
 last_cut a b c piece last text before is some = before_cut a b c piece text before
     (subst (GrowsByPrefix b c) is some)
+
+-- what holds however a call ended holds where it failed
+pub where_failed : {T E : Type 0} (X : Type 0) (result : Result T E) → X → OnErr result X
+where_failed X (Err e) is = is
+where_failed X (Ok done) is = tt

@@ -3,14 +3,15 @@ use Rattle.std.specs.Prelude.{◌≡◌, ℕ, ◌+◌, ◌*◌, ◌/◌, ◌<◌
 use Rattle.std.specs.Prelude.{Bool, true, Option, Some, None, codes, decimal, slice_index}
 use Rattle.std.specs.Prelude.{slice_index_or}
 use Rattle.std.specs.List.{flat_map}
+use Rattle.dp_blend.specs.Canvas.{canvas_of}
 use Rattle.dp_blend.specs.White.{rgb}
 use Rattle.dp_pixels.specs.Tiles.{tile_x, tile_y}
 use Rattle.dp_plain.specs.Board.{Board}
-use Rattle.dp_plain.specs.Picture.{seen}
+use Rattle.dp_plain.specs.Picture.{head, seen}
 use Rattle.dp_flat.specs.declared.text.Format.{Format}
 use Rattle.dp_flat.specs.declared.text.Format.TheVariants.{P6, P3}
 use Rattle.dp_flat.specs.Composed.{seen_row}
-use Rattle.dp_flat.specs.Texts.{pixel_text_of}
+use Rattle.dp_flat.specs.Texts.{GrowsBefore, name_of, pixel_text_of}
 
 -- the text of the bytes of a pixel in the format
 abbrev pub rgb_text : Format → List ℕ → List ℕ
@@ -46,3 +47,10 @@ abbrev pub IsLine : Format → Board → ℕ → Bool → List ℕ → Type 0
 IsLine format board row known text =
     known ≡ true → (y : ℕ) → y / 64 ≡ row → y < board.height
     → text ≡ flat_map (pixel_text_of format) (seen_row board y)
+
+-- of the text of a board's picture the head and so many rows were written, but for the piece
+abbrev pub HasRows : Format → Board → Option (List ℕ) → Option (List ℕ) → List ℕ → ℕ → Type 0
+HasRows format board old new piece count =
+    GrowsBefore old new piece
+    (head (name_of format) board.width board.height
+    ++ flat_map (pixel_text_of format) (canvas_of board.width count (seen board)))

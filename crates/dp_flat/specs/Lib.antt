@@ -3,3 +3,4 @@ pub mod Composed
 pub mod Ends
 pub mod Texts
 pub mod Tones
+pub mod Jobs

@@ -13,6 +13,7 @@ mod picture;
 mod pixel;
 mod text;
 mod tone;
+mod workers;
 
-pub use picture::{PictureEnd, write_p3, write_p6};
+pub use picture::{PictureEnd, write_p3, write_p6, write_p6_by};
 pub use pixel::flatten;

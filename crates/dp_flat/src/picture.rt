@@ -2,7 +2,8 @@
 //!
 //! The rule: docs/protocol.md, "The picture".
 
-ghost use Rattle.std.specs.Prelude.{◌≡◌, ◌+◌, ◌*◌, ◌/◌, ◌<◌, ◌≤◌, [], ◌++◌, length};
+ghost use Rattle.std.specs.Prelude.{◌≡◌, ◌+◌, ◌*◌, ◌/◌, ◌<◌, ◌≤◌, [], ◌++◌, length, List, ℕ};
+ghost use Rattle.std.specs.Prelude.{Option, min, true};
 ghost use Rattle.std.specs.Prelude.{IsErrOf, OnOk, OnErr};
 ghost use Rattle.std.specs.List.{flat_map};
 ghost use Rattle.std.specs.Io.KnownBytes.{Appends, Keeps};
@@ -11,9 +12,10 @@ ghost use Rattle.dp_io.specs.Faults.{HasCause, any_fault};
 ghost use Rattle.dp_io.specs.Streams.{GrowsByPrefix};
 ghost use Rattle.dp_pixels.specs.Tiles.{tiles_along};
 ghost use Rattle.dp_plain.specs.Picture.{p3, p6, picture_text};
-ghost use Rattle.dp_flat.specs.Bands.{IsBand, IsLine, chunk_pixels, rgb_text};
+ghost use Rattle.dp_flat.specs.Bands.{HasRows, IsBand, IsLine, chunk_pixels, rgb_text};
 ghost use Rattle.dp_flat.specs.Composed.{IsDeep, seen_row};
 ghost use Rattle.dp_flat.specs.Ends.{is_sink_fault};
+ghost use Rattle.dp_flat.specs.Jobs.{AreJobsOf};
 ghost use Rattle.dp_flat.specs.Texts.{GrowsBefore, name_of, pixel_text_of};
 
 use crate::band::{BLACK, Rgb, draw_band, tiles_along};
@@ -22,10 +24,13 @@ use crate::text::{
     CHUNK_BYTES, Format, PIECE_BYTES, Piece, SolidText, head_of, push_all, push_chunk, push_solid,
 };
 use crate::tone::{BUFFER, SIDE};
+use crate::workers::{BandJob, make_jobs, make_ready, next_slot};
 use dp_blend::Pixel;
 use dp_io::{Failed, Sink, put_all};
 use dp_plain::BoardView;
+use dp_wire::Gate;
 use std::alloc::{AllocError, Global};
+use std::thread::Threads;
 
 /// Why a picture was not written.
 #[derive(Clone, Copy, Debug, PartialEq, Eq)]
@@ -102,6 +107,36 @@ pub fn write_p3<V: BoardView, S: Sink>(
     write_picture(alloc, Format::P3, board, out)
 }
 
+/// Writes the picture of the board as a P6 file. So many workers draw a row of tiles each at the
+/// same time, where 0 is 1. A row of tiles passes the gate by its place among those that are drawn
+/// with it. A piece of at most 49152 bytes is written at a time.
+///
+/// # Errors
+///
+/// `Memory` where memory is refused, of which each worker needs as much as `write_p6`: nothing was
+/// written. `Failed` where the sink failed: a prefix of the file was written.
+pub fn write_p6_by<R: Threads + Sync, V: BoardView + Sync, S: Sink, G: Gate>(
+    rt: &R,
+    alloc: Global,
+    workers: u32,
+    gate: &G,
+    board: &V,
+    out: &mut S,
+) -> Result<(), PictureEnd>
+    ensures written { OnOk result
+        (Appends (S.held out.old) (S.held out.new) (p6 (V.board board.now))) }
+    ensures prefix { GrowsByPrefix (S.held out.old) (S.held out.new) (p6 (V.board board.now)) }
+    ensures memory { IsErrOf result PictureEnd.Memory → Keeps (S.held out.old) (S.held out.new) }
+    ensures memory_uncounted { IsErrOf result PictureEnd.Memory
+        → S.faults out.new ≡ S.faults out.old }
+    ensures cause { HasCause is_sink_fault (S.faults out.old) (S.faults out.new) result }
+{
+    let rows = tiles_along(board.height());
+    let mut jobs = make_jobs(alloc, board, workers.min(rows).max(1))?;
+    put_by(rt, gate, Format::P6, board, &mut jobs, out)?;
+    Ok(())
+}
+
 /// Writes the picture of the board in the format.
 fn write_picture<V: BoardView, S: Sink>(
     alloc: Global,
@@ -159,22 +194,119 @@ fn put_picture<V: BoardView, S: Sink>(
 {
     let (width, height) = (board.width(), board.height());
     let mut solid = SolidText::new(format, BLACK);
+    let mut piece = Piece::new();
+    push_all(head_of(format, width, height).as_bytes(), &mut piece);
+    for row in 0..tiles_along(height) {
+        draw_band(board, depth, row, memory, colors, bytes);
+        put_band(
+            format, board, row, colors, bytes, &mut solid, &mut piece, out,
+        )?;
+    }
+    put_all(out, piece.as_slice())
+}
+
+/// Writes the picture of the board in the format, its rows of tiles drawn in the jobs.
+fn put_by<R: Threads + Sync, V: BoardView + Sync, S: Sink, G: Gate>(
+    rt: &R,
+    gate: &G,
+    format: Format,
+    board: &V,
+    jobs: &mut [BandJob<'_, V>],
+    out: &mut S,
+) -> Result<(), Failed>
+    requires { AreJobsOf (V.board board.now) jobs.old }
+    ensures written { OnOk result (Appends (S.held out.old) (S.held out.new)
+        (picture_text (name_of format) (pixel_text_of format) (V.board board.now))) }
+    ensures prefix { GrowsByPrefix (S.held out.old) (S.held out.new)
+        (picture_text (name_of format) (pixel_text_of format) (V.board board.now)) }
+    ensures cause { HasCause any_fault (S.faults out.old) (S.faults out.new) result }
+{
+    let (width, height) = (board.width(), board.height());
+    let mut solid = SolidText::new(format, BLACK);
+    let mut piece = Piece::new();
+    push_all(head_of(format, width, height).as_bytes(), &mut piece);
+    let mut slot = 0;
+    for row in 0..tiles_along(height) {
+        make_ready(rt, gate, board, jobs, row, slot);
+        put_job(format, board, row, &jobs[slot], &mut solid, &mut piece, out)?;
+        slot = next_slot(slot, jobs.len());
+    }
+    put_all(out, piece.as_slice())
+}
+
+/// Adds the text of a row of tiles that is drawn in a job to the piece, and writes the piece where
+/// it is full.
+fn put_job<V: BoardView, S: Sink>(
+    format: Format,
+    board: &V,
+    row: u32,
+    job: &BandJob<'_, V>,
+    solid: &mut SolidText,
+    piece: &mut Piece,
+    out: &mut S,
+) -> Result<(), Failed>
+    requires inside { row * 64 < (V.board board.now).height }
+    requires board { job.now.board ≡ V.board board.now }
+    requires row { job.now.row ≡ row }
+    requires drawn { job.now.drawn ≡ true }
+    ensures before { OnOk result ((start : Option (List ℕ))
+        → HasRows format (V.board board.now) start (S.held out.old) piece.old.items (row * 64)
+        → HasRows format (V.board board.now) start (S.held out.new) piece.new.items
+        (min (row * 64 + 64) (V.board board.now).height)) }
+    ensures prefix { OnErr result ((start : Option (List ℕ))
+        → HasRows format (V.board board.now) start (S.held out.old) piece.old.items (row * 64)
+        → GrowsByPrefix start (S.held out.new)
+        (picture_text (name_of format) (pixel_text_of format) (V.board board.now))) }
+    ensures cause { HasCause any_fault (S.faults out.old) (S.faults out.new) result }
+{
+    put_band(
+        format,
+        board,
+        row,
+        job.colors(),
+        job.bytes(),
+        solid,
+        piece,
+        out,
+    )
+}
+
+/// Adds the text of a row of tiles to the piece, and writes the piece where it is full.
+fn put_band<V: BoardView, S: Sink>(
+    format: Format,
+    board: &V,
+    row: u32,
+    colors: &[Option<Rgb>],
+    bytes: &[Rgb],
+    solid: &mut SolidText,
+    piece: &mut Piece,
+    out: &mut S,
+) -> Result<(), Failed>
+    requires inside { row * 64 < (V.board board.now).height }
+    requires colors { length colors.now ≡ tiles_along (V.board board.now).width }
+    requires bytes { length bytes.now ≡ BUFFER * tiles_along (V.board board.now).width }
+    requires band { IsBand (V.board board.now) row colors.now bytes.now }
+    ensures before { OnOk result ((start : Option (List ℕ))
+        → HasRows format (V.board board.now) start (S.held out.old) piece.old.items (row * 64)
+        → HasRows format (V.board board.now) start (S.held out.new) piece.new.items
+        (min (row * 64 + 64) (V.board board.now).height)) }
+    ensures prefix { OnErr result ((start : Option (List ℕ))
+        → HasRows format (V.board board.now) start (S.held out.old) piece.old.items (row * 64)
+        → GrowsByPrefix start (S.held out.new)
+        (picture_text (name_of format) (pixel_text_of format) (V.board board.now))) }
+    ensures cause { HasCause any_fault (S.faults out.old) (S.faults out.new) result }
+{
+    let height = board.height();
     let mut line = Line {
         text: Piece::new(),
         is_known: false,
     };
-    let mut piece = Piece::new();
-    push_all(head_of(format, width, height).as_bytes(), &mut piece);
-    for y in 0..height {
-        if y % SIDE == 0 {
-            draw_band(board, depth, y / SIDE, memory, colors, bytes);
-            line.renew(format, board, y / SIDE, colors, bytes, &mut solid);
-        }
-        put_next(
-            format, board, y, &line, colors, bytes, &mut solid, &mut piece, out,
-        )?;
+    line.renew(format, board, row, colors, bytes, solid);
+    let end = (row * SIDE + SIDE).min(height);
+    for y in row * SIDE..end {
+        put_next(format, board, y, &line, colors, bytes, solid, piece, out)?;
     }
-    put_all(out, piece.as_slice())
+    Ok(())
 }
 
 /// The text of each row of pixels of a row of tiles, where it is known that all are the same.

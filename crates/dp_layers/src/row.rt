@@ -6,7 +6,7 @@ use dp_msg_draw::Title;
 use std::alloc::AllocError;
 
 /// A row of the list of layers: a paint layer, or a group of layers.
-#[derive(Debug, Drop, PartialEq)]
+#[derive(Drop, PartialEq)]
 pub struct LayerRow {
     /// Its id, which is not 0.
     pub id: u16,

@@ -25,13 +25,13 @@ use Rattle.dp_pixels.proofs.Rectangles.{is_in-true, is_in_by}
 use Rattle.dp_tile.specs.declared.area.CellArea.{CellArea}
 use Rattle.dp_tile.specs.Areas.{IsPaintedOn, is_in_cells}
 use Rattle.dp_tile.specs.Tiles.{TileGrid, cell_at, clear_grid, grid_pixel, grid_pixels}
-use Rattle.dp_tile.specs.Tiles.{tile_of}
+use Rattle.dp_tile.specs.Tiles.{tile_of, tile_pixels}
 use Rattle.dp_tile.proofs.Tiles.{pixel-tile_of}
 use Rattle.dp_paint.specs.declared.op.TileOp.{TileOp}
 use Rattle.dp_paint.specs.declared.lists.Finish.TheVariants.{Clear}
 use Rattle.dp_paint.specs.Painting.{IsGridOf, IsPainting}
 use Rattle.dp_paint.specs.Reading.{IsResized}
-use Rattle.dp_paint.specs.Ops.{MayWait, ops_at, tile_after, tile_pixels}
+use Rattle.dp_paint.specs.Ops.{MayWait, ops_at, tile_after}
 use Rattle.dp_paint.specs.Lists.{HaveSame, IsChangedOn, IsFiled, IsFinished, IsInside, LayerOf}
 use Rattle.dp_paint.specs.Lists.{Lists, Waiting, layer_pixels, listed_at, no_list}
 use Rattle.dp_paint.specs.Lists.{waiting_pixel}

@@ -24,7 +24,7 @@ use Rattle.dp_pixels.specs.Commands.{dab_blended}
 use Rattle.dp_pixels.specs.Rectangles.{canvas_rect, is_in}
 use Rattle.dp_pixels.specs.Regions.{IsPainted, on_canvas}
 use Rattle.dp_pixels.proofs.Rectangles.{is_in_by}
-use Rattle.dp_tile.specs.Tiles.{tile_of}
+use Rattle.dp_tile.specs.Tiles.{tile_of, tile_pixels}
 use Rattle.dp_tile.specs.Areas.{with_part}
 use Rattle.dp_tile.proofs.Areas.{get_or-after, get_or-before, get_or-inside, length-with_part}
 use Rattle.dp_tile.proofs.Tiles.{length-tile_of, pixel-tile_of}
@@ -34,7 +34,7 @@ use Rattle.dp_paint.specs.declared.op.TileOp.{TileOp}
 use Rattle.dp_paint.specs.declared.op.TileOp.TheVariants.{Fill, Dab}
 use Rattle.dp_paint.specs.Ops.{code_of, dab_in_tile, is_in_fill, length-tile_after}
 use Rattle.dp_paint.specs.Ops.{mode_coded, op_at, ops_at, packed_dab, packed_fill, shape_code}
-use Rattle.dp_paint.specs.Ops.{shape_coded, tile_after, tile_pixels}
+use Rattle.dp_paint.specs.Ops.{shape_coded, tile_after}
 
 -- ---- a tile after operations
 

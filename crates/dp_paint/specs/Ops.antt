@@ -1,6 +1,6 @@
 -- Operations on tiles, which wait until these are painted or read.
 use Rattle.std.specs.Prelude.{◌≡◌, ◌==◌, ℕ, ◌+◌, ◌*◌, ◌/◌, ◌%◌, ◌<◌, ◌≤◌, Bool}
-use Rattle.std.specs.Prelude.{◌&&◌, nat_le, nat_lt, if◌then◌else◌, Option, Some, None, ℤ, pos}
+use Rattle.std.specs.Prelude.{◌&&◌, nat_le, nat_lt, if◌then◌else◌, ℤ, pos}
 use Rattle.std.specs.Prelude.{◌-ℤ◌, ◌≤ℤ◌, ◌<ℤ◌, List, length, fold}
 use Rattle.std.specs.Int.{int_max, int_min}
 use Rattle.dp_blend.specs.Color.{Channels, fade, from8, of_argb}
@@ -16,7 +16,6 @@ use Rattle.dp_pixels.specs.declared.dabs.PlacedDab.{PlacedDab}
 use Rattle.dp_pixels.specs.declared.dabs.Shape.{Shape}
 use Rattle.dp_pixels.specs.declared.dabs.Shape.TheVariants.{Round, Square}
 use Rattle.dp_pixels.specs.Commands.{dab_blended, pixel_after}
-use Rattle.dp_tile.specs.Tiles.{tile_of}
 use Rattle.dp_paint.specs.declared.op.TileFill.{TileFill}
 use Rattle.dp_paint.specs.declared.op.TileDab.{TileDab}
 use Rattle.dp_paint.specs.declared.op.TileOp.{TileOp}
@@ -132,11 +131,6 @@ MayWait (FillRect layer mode x y w h color) = Unit {0}
 MayWait (DabsRound layer x y r g b mode dabs) = Unit {0}
 MayWait (DabsSquare layer x y r g b mode dabs) = Unit {0}
 MayWait _ = ⊥
-
--- the pixels of a tile that is of one colour, if one is given, and else has these
-abbrev pub tile_pixels : Option Channels → List Channels → List Channels
-tile_pixels (Some p) pixels = tile_of p
-tile_pixels None pixels = pixels
 
 -- a tile has 4096 pixels after operations
 pub length-tile_after : (ops : List TileOp) (pixels : List Channels)

@@ -7,9 +7,9 @@ ghost use Rattle.dp_blend.specs.Color.{Channels, of_argb};
 ghost use Rattle.dp_blend.specs.Blending.{blend, mode_numbered};
 ghost use Rattle.dp_pixels.specs.Rectangles.{rect_at};
 ghost use Rattle.dp_tile.specs.Painters.{KnownChange};
-ghost use Rattle.dp_tile.specs.Tiles.{tile_of};
+ghost use Rattle.dp_tile.specs.Tiles.{tile_of, tile_pixels};
 ghost use Rattle.dp_paint.specs.Painting.{IsTileWithin, length-tile_drawn, tile_drawn};
-ghost use Rattle.dp_paint.specs.Ops.{length-tile_after, ops_at, tile_after, tile_pixels};
+ghost use Rattle.dp_paint.specs.Ops.{length-tile_after, ops_at, tile_after};
 ghost use Rattle.dp_paint.specs.Lists.{listed_at};
 
 use crate::fetch::{Fill, read_tile};

@@ -10,3 +10,5 @@ mod painting;
 mod pictures;
 #[cfg(test)]
 mod tiles;
+#[cfg(test)]
+mod workers;

@@ -18,7 +18,7 @@ const RED: u32 = 0xffff_0000;
 
 const BLUE: u32 = 0xff00_00ff;
 
-fn resize(right: i32, bottom: i32) -> Draw {
+pub(crate) fn resize(right: i32, bottom: i32) -> Draw {
     Draw::CanvasResize {
         top: 0,
         right,
@@ -27,7 +27,7 @@ fn resize(right: i32, bottom: i32) -> Draw {
     }
 }
 
-fn create(alloc: Global, id: u16, parent: u16, group: bool) -> Draw {
+pub(crate) fn create(alloc: Global, id: u16, parent: u16, group: bool) -> Draw {
     Draw::LayerCreate {
         id,
         parent,
@@ -58,7 +58,7 @@ fn attr(id: u16, opacity: u8, mode: u8, hidden: bool) -> Draw {
 }
 
 /// The board that commands make.
-fn board_of<D: Ledger, T: Ledger>(
+pub(crate) fn board_of<D: Ledger, T: Ledger>(
     rt: &impl Abort,
     alloc: Global,
     commands: &[Draw],

@@ -6,6 +6,7 @@ pub mod Around
 pub mod Images
 pub mod SpanLemmas
 pub mod Discs
+pub mod Roots
 pub mod Regions
 pub mod Merges
 pub mod TileLemmas

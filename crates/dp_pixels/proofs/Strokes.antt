@@ -22,7 +22,7 @@ use Rattle.dp_pixels.specs.Commands.{IsDabs, dab_blended, dabs_blended, pixel_af
 use Rattle.dp_pixels.specs.Commands.{stroked}
 use Rattle.dp_pixels.specs.Regions.{IsPainted, on_canvas}
 use Rattle.dp_pixels.proofs.Regions.{painted_same, painted_then}
-use Rattle.dp_pixels.specs.Near.{IsNear}
+use Rattle.dp_pixels.specs.Near.{IsPlaceNear}
 use Rattle.dp_pixels.specs.Dabs.{dab_covers, int_sum, placed_dabs}
 
 -- the sum of the numbers of the first dabs
@@ -71,7 +71,7 @@ sum_of-more f dabs k within =
 pub record IsLast (left top : ℤ) (dabs : List Dab) (k : ℕ) (last : Place) : Type 0 where
   pub x : last.x ≡ left +ℤ int_sum (map (λ (dab : Dab). dab.dx) (take k dabs))
   pub y : last.y ≡ top +ℤ int_sum (map (λ (dab : Dab). dab.dy) (take k dabs))
-  pub near : IsNear (2 ^ 32 + 128 * k) last
+  pub near : IsPlaceNear (2 ^ 32 + 128 * k) last
 
 -- the dab after the last one is the last of one dab more
 pub last_more : (left top : ℤ) (dabs : List Dab) (k : ℕ) (last : Place) (placed : PlacedDab)

@@ -4,7 +4,7 @@ ghost use Rattle.std.specs.Prelude.{◌≡◌, ◌<◌, ◌≤◌, ◌^◌, ◌+
 ghost use Rattle.std.specs.Prelude.{map, IfOk};
 ghost use Rattle.std.specs.List.{list_any};
 ghost use Rattle.std.specs.Option.{option_map_or};
-ghost use Rattle.dp_pixels.specs.Near.{IsNear};
+ghost use Rattle.dp_pixels.specs.Near.{IsPlaceNear};
 ghost use Rattle.dp_pixels.specs.Dabs.{dab_rect, dab_covers, is_in_disc, placed_dabs};
 ghost use Rattle.dp_pixels.specs.Commands.{dabs_blended};
 ghost use Rattle.dp_pixels.specs.Feet.{around};
@@ -16,7 +16,7 @@ use dp_msg_draw::Dab;
 use std::alloc::{AllocError, Global};
 
 /// The shape of a dab.
-#[derive(Clone, Copy, Debug, PartialEq, Eq)]
+#[derive(Clone, Copy, PartialEq, Eq)]
 pub enum Shape {
     /// The cells of the square that are in the disc of the dab's diameter.
     Round,
@@ -25,7 +25,7 @@ pub enum Shape {
 }
 
 /// A dab where it stands.
-#[derive(Clone, Copy, Debug, PartialEq, Eq)]
+#[derive(Clone, Copy, PartialEq, Eq)]
 pub struct PlacedDab {
     /// The middle of its square of cells.
     pub at: Place,
@@ -40,7 +40,7 @@ pub struct PlacedDab {
 #[derive(Clone, Copy)]
 pub struct NearDab {
     pub dab: PlacedDab,
-    ghost near: { IsNear (2 ^ 39) dab.at },
+    ghost near: { IsPlaceNear (2 ^ 39) dab.at },
 }
 
 impl NearDab {
@@ -55,7 +55,7 @@ impl NearDab {
 impl PlacedDab {
     /// The dab, moved by its difference from the place of the one before it.
     pub(crate) fn placed_after(last: Place, dab: Dab) -> PlacedDab
-        requires { IsNear (2 ^ 40) last }
+        requires { IsPlaceNear (2 ^ 40) last }
         ensures value { result
             ≡ record {
               at = record { x = last.x +ℤ dab.dx; y = last.y +ℤ dab.dy };
@@ -77,7 +77,7 @@ impl PlacedDab {
 
     /// The square of its cells.
     pub(crate) fn rect(self) -> Rect
-        requires { IsNear (2 ^ 39) self.at }
+        requires { IsPlaceNear (2 ^ 39) self.at }
         ensures { result ≡ dab_rect self }
     {
         let half = (self.size / 2) as i64;
@@ -90,7 +90,7 @@ impl PlacedDab {
 
     /// Whether it covers a place.
     fn covers(self, shape: Shape, place: Place) -> bool
-        requires { IsNear (2 ^ 39) self.at }
+        requires { IsPlaceNear (2 ^ 39) self.at }
         ensures { result ≡ dab_covers shape self place.x place.y }
     {
         let cells = self.rect();
@@ -135,7 +135,7 @@ pub(crate) struct DabRun<'a> {
     pub shape: Shape,
     pub at: Place,
     pub dabs: &'a [Dab],
-    ghost near: { IsNear (2 ^ 32) at },
+    ghost near: { IsPlaceNear (2 ^ 32) at },
     ghost short: { length dabs.now ≤ 16380 },
 }
 

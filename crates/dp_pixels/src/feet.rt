@@ -1,6 +1,7 @@
 //! The feet of commands: where each may change a layer, and where it reads it.
 
 ghost use Rattle.std.specs.Prelude.{◌≡◌, ◌==◌, ◌*◌, pos, if◌then◌else◌};
+ghost use Rattle.dp_pixels.specs.declared.feet.Footprint.TheVariants.{Area, Two};
 ghost use Rattle.dp_pixels.specs.Feet.{feet_meet, foot, greatest_canvas, meets_area, on_greatest};
 ghost use Rattle.dp_pixels.specs.Rectangles.{rect_at};
 
@@ -10,7 +11,7 @@ use crate::stroke::dabs_bounds;
 use dp_msg_draw::Draw;
 
 /// The foot of a command: where it may change a layer, and where it reads it.
-#[derive(Clone, Copy, Debug, PartialEq, Eq)]
+#[derive(Clone, Copy, PartialEq, Eq)]
 pub enum Footprint {
     /// A rectangle of a layer.
     Area { layer: u16, rect: Rect },
@@ -20,18 +21,19 @@ pub enum Footprint {
     All,
 }
 
-/// The rectangle of the foot of PutTile.
+/// The foot of PutTile.
 #[inline]
-fn tiles_rect(col: u16, row: u16, repeat: u16) -> Rect
-    ensures { result ≡ (if repeat == 0
+fn foot_of_tiles(layer: u16, col: u16, row: u16, repeat: u16) -> Footprint
+    ensures { result ≡ Area layer (if repeat == 0
         then on_greatest (rect_at (pos (col * 64)) (pos (row * 64)) 64 64)
         else greatest_canvas) }
 {
-    if repeat == 0 {
+    let rect = if repeat == 0 {
         rect_of(col as u32 * 64, row as u32 * 64, 64, 64).on_greatest()
     } else {
         Rect::canvas(4096, 4096)
-    }
+    };
+    Footprint::Area { layer, rect }
 }
 
 /// The rectangle of this corner and these sides, as far as it is on the greatest canvas.
@@ -44,6 +46,30 @@ fn target_rect(x: i32, y: i32, w: u32, h: u32) -> Rect
         y: y as i64,
     };
     Rect::at(corner, w, h).on_greatest()
+}
+
+/// The foot of MoveRect.
+#[inline]
+fn foot_of_move(layer: u16, sx: u32, sy: u32, w: u32, h: u32, tx: i32, ty: i32) -> Footprint
+    ensures { result ≡ Two layer (on_greatest (rect_at (pos sx) (pos sy) w h))
+        (on_greatest (rect_at tx ty w h)) }
+{
+    Footprint::Two {
+        layer,
+        from: rect_of(sx, sy, w, h).on_greatest(),
+        to: target_rect(tx, ty, w, h),
+    }
+}
+
+/// A rectangle of a layer, as far as it is on the greatest canvas.
+#[inline(always)]
+fn area_of(layer: u16, rect: Rect) -> Footprint
+    ensures { result ≡ Area layer (on_greatest rect) }
+{
+    Footprint::Area {
+        layer,
+        rect: rect.on_greatest(),
+    }
 }
 
 /// The foot of a command. It takes no memory.
@@ -67,24 +93,17 @@ pub fn foot(command: &Draw) -> Footprint
             w,
             h,
             ..
-        } => Footprint::Area {
-            layer: *layer,
-            rect: rect_of(*x, *y, *w, *h).on_greatest(),
-        },
+        } => area_of(*layer, rect_of(*x, *y, *w, *h)),
         Draw::PutTile {
             layer,
             col,
             row,
             repeat,
             ..
-        } => Footprint::Area {
-            layer: *layer,
-            rect: tiles_rect(*col, *row, *repeat),
-        },
-        Draw::DabsRound { layer, .. } | Draw::DabsSquare { layer, .. } => Footprint::Area {
-            layer: *layer,
-            rect: dabs_bounds(command).on_greatest(),
-        },
+        } => foot_of_tiles(*layer, *col, *row, *repeat),
+        Draw::DabsRound { layer, .. } | Draw::DabsSquare { layer, .. } => {
+            area_of(*layer, dabs_bounds(command))
+        }
         Draw::MoveRect {
             layer,
             sx,
@@ -93,11 +112,7 @@ pub fn foot(command: &Draw) -> Footprint
             h,
             tx,
             ty,
-        } => Footprint::Two {
-            layer: *layer,
-            from: rect_of(*sx, *sy, *w, *h).on_greatest(),
-            to: target_rect(*tx, *ty, *w, *h),
-        },
+        } => foot_of_move(*layer, *sx, *sy, *w, *h, *tx, *ty),
         _ => Footprint::All,
     }
 }

@@ -4,7 +4,7 @@ ghost use Rattle.std.specs.Prelude.{◌≡◌, ◌≤◌, ◌+◌, ◌*◌, ◌^
 ghost use Rattle.dp_blend.specs.Color.{clear};
 ghost use Rattle.dp_blend.specs.Blending.{blend};
 ghost use Rattle.dp_blend.specs.declared.modes.Mode.{Mode as BlendMode};
-ghost use Rattle.dp_pixels.specs.Near.{IsNear};
+ghost use Rattle.dp_pixels.specs.Near.{IsPlaceNear};
 ghost use Rattle.dp_pixels.specs.Rectangles.{is_in, rect_at};
 ghost use Rattle.dp_pixels.specs.Commands.{image_index};
 
@@ -19,7 +19,7 @@ pub(crate) struct Patch<'a> {
     pub w: u32,
     pub h: u32,
     pub pixels: &'a [Pixel],
-    ghost near: { IsNear (2 ^ 32) corner },
+    ghost near: { IsPlaceNear (2 ^ 32) corner },
     ghost whole: { length pixels.now ≡ w * h },
 }
 

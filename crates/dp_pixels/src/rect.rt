@@ -5,7 +5,7 @@ ghost use Rattle.std.specs.Int.{int_max, int_min};
 ghost use Rattle.dp_pixels.specs.Feet.{on_greatest};
 ghost use Rattle.dp_pixels.specs.Rectangles.{canvas_rect, clipped, is_in, joined, rect_at};
 ghost use Rattle.dp_pixels.specs.Rectangles.{share_place};
-ghost use Rattle.dp_pixels.specs.Near.{IsNear};
+ghost use Rattle.dp_pixels.specs.Near.{IsPlaceNear};
 
 /// The greatest length of a side, in pixels.
 const MAX_SIDE: i64 = 4096;
@@ -20,7 +20,7 @@ pub struct Place {
 }
 
 /// A rectangle of places: those from `x0` on before `x1`, and from `y0` on before `y1`.
-#[derive(Clone, Copy, Debug, PartialEq, Eq)]
+#[derive(Clone, Copy, PartialEq, Eq)]
 pub struct Rect {
     pub x0: i64,
     pub y0: i64,
@@ -40,7 +40,7 @@ impl Rect {
     /// The rectangle with its left upper corner at a place, w wide and h high.
     #[inline]
     pub(crate) fn at(corner: Place, w: u32, h: u32) -> Rect
-        requires { IsNear (2 ^ 40) corner }
+        requires { IsPlaceNear (2 ^ 40) corner }
         ensures { result ≡ rect_at corner.x corner.y w h }
     {
         Rect {

@@ -18,7 +18,7 @@ use dp_msg_draw::Draw;
 use std::alloc::{AllocError, Global};
 
 /// How dabs are drawn.
-#[derive(Clone, Copy, Debug, PartialEq, Eq)]
+#[derive(Clone, Copy, PartialEq, Eq)]
 pub struct Brush {
     pub shape: Shape,
     pub mode: Mode,

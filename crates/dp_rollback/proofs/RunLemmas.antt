@@ -23,7 +23,7 @@ use Rattle.dp_rollback.specs.declared.kept.Mark.{Mark}
 use Rattle.dp_rollback.specs.Kept.{marked, drawn_among, commands_among}
 use Rattle.dp_rollback.specs.Rollback.{PointSave, Rolled}
 use Rattle.dp_rollback.specs.Moves.{IsRedrawn, kept_from, save_of, saves_after}
-use Rattle.dp_rollback.specs.Runs.{Running, IsRun, IsFinished, LeavesFew, run_to, saved_anew}
+use Rattle.dp_rollback.specs.Runs.{Running, IsRunning, IsDrawnAnew, LeavesFew, run_to, saved_anew}
 use Rattle.dp_rollback.specs.Runs.{save_anew}
 use Rattle.dp_rollback.proofs.StandLemmas.{fold-drawn, take-more}
 
@@ -33,8 +33,8 @@ pub IsRun-more : {B Op : Type 0} → (draw : B → Op → B) (kept : List (KeptA
     → new.at - old.start ≤ length kept
     → new.board ≡ fold draw old.board (drawn_among (map (marked mark)
     (slice_range kept (old.at - old.start) (new.at - old.start))))
-    → (from : B) → IsRun draw (map (marked mark) kept) from old
-    → IsRun draw (map (marked mark) kept) from new
+    → (from : B) → IsRunning draw (map (marked mark) kept) from old
+    → IsRunning draw (map (marked mark) kept) from new
 IsRun-more draw kept mark old new begun later start inside made from is =
     let all = map (marked mark) kept in
     let a : ℕ = old.at - old.start in
@@ -117,7 +117,7 @@ CountsFew-part weight kept a b draws draws' draws'' tiles tiles' tiles'' le coun
 
 -- the savepoint of a Point, where it has come to that
 pub saved-run : {B Op : Type 0} → (draw : B → Op → B) (kept : List (KeptAct Op)) (from old : B)
-    (run : Running B) (n : ℕ) → IsRun draw kept from run → (run.start < n → run.at ≡ n)
+    (run : Running B) (n : ℕ) → IsRunning draw kept from run → (run.start < n → run.at ≡ n)
     → (if nat_lt run.start n then run.board else old) ≡ saved_anew draw kept run.start from n old
 saved-run draw kept from old run n is at = by_test (nat_lt run.start n) refl
   where
@@ -152,7 +152,7 @@ saves-more draw kept start from olds news i old board within is so_far made =
 
 -- with the acts that are left, all are drawn
 pub run-rest : {B Op : Type 0} → (draw : B → Op → B) (kept : List (KeptAct Op)) (mark : Mark)
-    (from : B) (run : Running B) → IsRun draw (map (marked mark) kept) from run
+    (from : B) (run : Running B) → IsRunning draw (map (marked mark) kept) from run
     → fold draw run.board (drawn_among (map (marked mark) (drop (run.at - run.start) kept)))
     ≡ fold draw from (drawn_among (map (marked mark) kept))
 run-rest draw kept mark from run is =
@@ -172,7 +172,7 @@ slice-from xs ys a b same at =
 
 -- at its start it has drawn nothing
 pub IsRun-begins : {B Op : Type 0} → (draw : B → Op → B) (kept : List (KeptAct Op)) (from : B)
-    (run : Running B) → run.at ≡ run.start → run.board ≡ from → IsRun draw kept from run
+    (run : Running B) → run.at ≡ run.start → run.board ≡ from → IsRunning draw kept from run
 IsRun-begins draw kept from run begun board =
     let none : 0 ≡ run.at - run.start = omega (arith, begun) in
     record {
@@ -186,7 +186,7 @@ pub IsRedrawn-run : {B Op : Type 0} → (draw : B → Op → B) (r : Rolled B Op
     (kept : List (KeptAct Op)) (save : PointSave B) (old_saves : List (PointSave B)) (board : B)
     (saves : List (PointSave B)) → kept ≡ kept_from r mark → old_saves ≡ r.saves
     → Contains r.saves save → save.point ≡ mark.group
-    → IsFinished draw (map (marked mark) kept) save.board mark.group old_saves board saves
+    → IsDrawnAnew draw (map (marked mark) kept) save.board mark.group old_saves board saves
     → IsRedrawn draw r mark board saves
 IsRedrawn-run draw r mark kept save old_saves board saves kept_is saves_are begun point finished =
     let from = save.board in
@@ -194,9 +194,9 @@ IsRedrawn-run draw r mark kept save old_saves board saves kept_is saves_are begu
       from = from;
       begun = subst (λ p. Contains r.saves (record { point = p; board = from })) point begun;
       finished =
-          subst (λ xs. IsFinished draw (map (marked mark) xs) from mark.group r.saves board saves)
+          subst (λ xs. IsDrawnAnew draw (map (marked mark) xs) from mark.group r.saves board saves)
           kept_is
-          (subst (λ xs. IsFinished draw (map (marked mark) kept) from mark.group xs board saves)
+          (subst (λ xs. IsDrawnAnew draw (map (marked mark) kept) from mark.group xs board saves)
           saves_are finished);
     }
 

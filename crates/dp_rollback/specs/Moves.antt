@@ -16,7 +16,7 @@ use Rattle.dp_rollback.specs.declared.kept.KeptAct.{KeptAct}
 use Rattle.dp_rollback.specs.declared.kept.Mark.{Mark}
 use Rattle.dp_rollback.specs.Kept.{marked, commands_among}
 use Rattle.dp_rollback.specs.Rollback.{PointSave, Rolled, Next, IsInOrder, put_on, change_in}
-use Rattle.dp_rollback.specs.Runs.{IsFinished}
+use Rattle.dp_rollback.specs.Runs.{IsDrawnAnew}
 
 -- the mark of an act that moves the group
 abbrev pub mark_by : {Op : Type 0} → UserAct Op → ℕ → Mark
@@ -40,7 +40,7 @@ pub record IsRedrawn {B Op : Type 0} (draw : B → Op → B) (r : Rolled B Op) (
     (board : B) (saves : List (PointSave B)) : Type 0 where
   pub from : B
   pub begun : Contains r.saves (record { point = mark.group; board = from })
-  pub finished : IsFinished draw (map (marked mark) (kept_from r mark)) from mark.group r.saves
+  pub finished : IsDrawnAnew draw (map (marked mark) (kept_from r mark)) from mark.group r.saves
       board saves
 
 -- the board has the command of an act, where it is one, and all savepoints stay

@@ -29,7 +29,7 @@ save_anew draw kept start from save =
     record save { board = saved_anew draw kept start from save.point save.board }
 
 -- the acts up to the position that it has come to are drawn
-pub record IsRun {B Op : Type 0} (draw : B → Op → B) (kept : List (KeptAct Op)) (from : B)
+pub record IsRunning {B Op : Type 0} (draw : B → Op → B) (kept : List (KeptAct Op)) (from : B)
     (run : Running B) : Type 0 where
   pub begun : run.start ≤ run.at
   pub within : run.at - run.start ≤ length kept
@@ -44,7 +44,7 @@ pub record LeavesFew {Op : Type 0} (weight : Op → ℕ) (kept : List (KeptAct O
       ≤ tiles + sum_by weight (commands_among (drop before kept))
 
 -- all acts are drawn from the savepoint `from` on, and the savepoints of later Points are made anew
-pub record IsFinished {B Op : Type 0} (draw : B → Op → B) (kept : List (KeptAct Op)) (from : B)
+pub record IsDrawnAnew {B Op : Type 0} (draw : B → Op → B) (kept : List (KeptAct Op)) (from : B)
     (start : ℕ) (old_saves : List (PointSave B)) (board : B) (saves : List (PointSave B))
     : Type 0 where
   pub drawn : board ≡ fold draw from (drawn_among kept)

@@ -7,7 +7,7 @@ ghost use Rattle.std.specs.List.Sorted.{IsNonDecreasing};
 ghost use Rattle.dp_board.specs.Counts.{CountsFew};
 ghost use Rattle.dp_rollback.specs.Kept.{marked, commands_among};
 ghost use Rattle.dp_rollback.specs.Rollback.{points_of};
-ghost use Rattle.dp_rollback.specs.Runs.{IsRun, IsFinished, LeavesFew, save_anew};
+ghost use Rattle.dp_rollback.specs.Runs.{IsRunning, IsDrawnAnew, LeavesFew, save_anew};
 
 use crate::kept::{KeptAct, Mark};
 use crate::redraw::redraw;
@@ -59,8 +59,8 @@ impl<B: Board> Run<B> {
         ensures start { self.new.start ≡ self.old.start }
         ensures at { OnOk result (self.new.at ≡ max self.old.at position) }
         ensures run { OnOk result ((from : B)
-            → IsRun B.drawn (map (marked mark) kept.now) from self.old
-            → IsRun B.drawn (map (marked mark) kept.now) from self.new) }
+            → IsRunning B.drawn (map (marked mark) kept.now) from self.old
+            → IsRunning B.drawn (map (marked mark) kept.now) from self.new) }
         ensures counts { CountsFew B.weight
             (commands_among (drop (self.old.at - self.old.start) kept.now)) draws.old draws.new
             tiles.old tiles.new }
@@ -121,10 +121,10 @@ impl<B: Board> Run<B> {
         ensures begun { OnOk result (self.new.start ≤ self.new.at) }
         ensures inside { OnOk result (self.new.at - self.new.start ≤ length kept.now) }
         ensures run { OnOk result ((from : B)
-            → IsRun B.drawn (map (marked mark) kept.now) from self.old
-            → IsRun B.drawn (map (marked mark) kept.now) from self.new) }
+            → IsRunning B.drawn (map (marked mark) kept.now) from self.old
+            → IsRunning B.drawn (map (marked mark) kept.now) from self.new) }
         ensures saves { IfOk result (λ saves. (from : B)
-            → IsRun B.drawn (map (marked mark) kept.now) from self.old → saves.items
+            → IsRunning B.drawn (map (marked mark) kept.now) from self.old → saves.items
             ≡ map (save_anew B.drawn (map (marked mark) kept.now) self.old.start from) old.now) }
         ensures counts { CountsFew B.weight (commands_among kept.now) draws.old draws.new
             tiles.old tiles.new }
@@ -163,8 +163,8 @@ impl<B: Board> Run<B> {
         requires within { All (λ point. point - self.start ≤ length kept.now)
             (points_of saves.now) }
         ensures redrawn { IfOk result (λ made. (from : B)
-            → IsRun B.drawn (map (marked mark) kept.now) from self
-            → IsFinished B.drawn (map (marked mark) kept.now) from self.start saves.now made.0
+            → IsRunning B.drawn (map (marked mark) kept.now) from self
+            → IsDrawnAnew B.drawn (map (marked mark) kept.now) from self.start saves.now made.0
             made.1.items) }
         ensures counts { CountsFew B.weight (commands_among kept.now) draws.old draws.new
             tiles.old tiles.new }

@@ -12,7 +12,7 @@ use Rattle.dp_msg_draw.specs.declared.draw.TileContent.{TileContent}
 use Rattle.dp_msg_draw.specs.declared.draw.Draw.TheVariants.{PutTile}
 use Rattle.dp_plain.proofs.Canvas.{canvas_of-more, pieces_more}
 use Rattle.dp_snap.specs.Tiles.{pixels_of_tile, shown_of, content_of_tile}
-use Rattle.dp_snap.specs.Snapshot.{put_of}
+use Rattle.dp_snap.specs.Snapshot.{put_of_tile}
 use Rattle.std.specs.Prelude.{pos, min, nat_lt}
 use Rattle.std.proofs.lemmas.Bool.{cases_lt, lt-ltb, and_left, and_right}
 use Rattle.std.proofs.lemmas.Bool.Decides.{nat_tests}
@@ -92,7 +92,7 @@ tile_more f tile row y n whole in_tile all above is =
 pub put_is : (w h id : ℕ) (pixels : List Channels) (row col : ℕ) (tile : List Channels)
     (cols rows : ℕ) (found : Option TileContent) → tile ≡ pixels_of_tile w h pixels col row
     → cols ≡ shown_of w col → rows ≡ shown_of h row → found ≡ content_of_tile cols rows tile
-    → put_of w h id pixels row col
+    → put_of_tile w h id pixels row col
     ≡ option_map_or (λ content. PutTile id col row 0 content ∷ []) found []
 put_is w h id pixels row col tile cols rows found tile_is cols_is rows_is is =
     let all : found ≡ content_of_tile (shown_of w col) (shown_of h row)

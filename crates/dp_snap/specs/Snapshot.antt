@@ -50,8 +50,8 @@ attrs_of row =
     else draws.LayerAttr row.id row.opacity row.mode row.hidden ∷ []
 
 -- PutTile of the tile at a column and a row of a layer with these pixels, where it isn't clear
-abbrev pub put_of : ℕ → ℕ → ℕ → List Channels → ℕ → ℕ → List Draw
-put_of width height id pixels row col =
+abbrev pub put_of_tile : ℕ → ℕ → ℕ → List Channels → ℕ → ℕ → List Draw
+put_of_tile width height id pixels row col =
     option_map_or (λ content. draws.PutTile id col row 0 content ∷ [])
     (content_of_tile (shown_of width col) (shown_of height row)
     (pixels_of_tile width height pixels col row)) []
@@ -59,7 +59,7 @@ put_of width height id pixels row col =
 -- PutTile of the tiles of a layer with these pixels, by their numbers
 abbrev pub puts_of : ℕ → ℕ → ℕ → List Channels → List Draw
 puts_of width height id pixels =
-    flat_map (λ row. flat_map (put_of width height id pixels row) (below (tiles_along width)))
+    flat_map (λ row. flat_map (put_of_tile width height id pixels row) (below (tiles_along width)))
     (below (tiles_along height))
 
 -- those of a row of the board; a group has none

@@ -9,7 +9,7 @@ ghost use Rattle.dp_layers.specs.Rows.{layers_of};
 ghost use Rattle.dp_pixels.specs.Tiles.{tiles_along};
 ghost use Rattle.dp_plain.specs.Board.{HasPixels, IsBoard};
 ghost use Rattle.dp_plain.specs.Picture.{pixels_of};
-ghost use Rattle.dp_snap.specs.Snapshot.{layer_puts, put_of, puts_of, snapshot};
+ghost use Rattle.dp_snap.specs.Snapshot.{layer_puts, put_of_tile, puts_of, snapshot};
 ghost use Rattle.dp_snap.specs.Spelled.{IsSpelled};
 
 use crate::commands::Commands;
@@ -115,7 +115,7 @@ fn put_tiles<V: BoardView>(
     requires inside { row < 64 }
     requires whole { length tile.old ≡ 4096 }
     ensures { OnOk result (commands.new ≡ commands.old
-        ++ flat_map (put_of (V.board canvas.now).width (V.board canvas.now).height id
+        ++ flat_map (put_of_tile (V.board canvas.now).width (V.board canvas.now).height id
         (pixels_of (V.board canvas.now) id) row)
         (below (tiles_along (V.board canvas.now).width))) }
 {
@@ -138,7 +138,7 @@ fn put_tile<V: BoardView>(
     requires inside { (row < 64) × (col < 64) }
     requires whole { length tile.old ≡ 4096 }
     ensures { OnOk result (commands.new ≡ commands.old
-        ++ put_of (V.board canvas.now).width (V.board canvas.now).height id
+        ++ put_of_tile (V.board canvas.now).width (V.board canvas.now).height id
         (pixels_of (V.board canvas.now) id) row col) }
 {
     read_tile(canvas, id, col, row, tile);

@@ -23,7 +23,7 @@ use Rattle.dp_plain.specs.Commands.{draw, with_change}
 use Rattle.dp_plain.specs.Picture.{pixels_of}
 use Rattle.dp_plain.proofs.Rows.{content_itself}
 use Rattle.dp_snap.specs.Tiles.{content_of_tile, pixels_of_tile, shown_of}
-use Rattle.dp_snap.specs.Snapshot.{put_of, puts_of, layer_puts}
+use Rattle.dp_snap.specs.Snapshot.{put_of_tile, puts_of, layer_puts}
 use Rattle.dp_snap_laws.proofs.Lists.{NonePasses, All-middle, map_one, before_away, after_away}
 use Rattle.dp_snap_laws.proofs.Making.{with_rows, blank}
 use Rattle.dp_snap_laws.proofs.Puts.{puts_give}
@@ -44,8 +44,9 @@ All-flat_map P f (x ∷ xs) each =
 puts_are : (w h id : ℕ) (pixels : List Channels) → All (IsPutOf id) (puts_of w h id pixels)
 puts_are w h id pixels =
     All-flat_map (IsPutOf id)
-    (λ row. flat_map (put_of w h id pixels row) (below (tiles_along w))) (below (tiles_along h))
-    (λ row. All-flat_map (IsPutOf id) (put_of w h id pixels row) (below (tiles_along w))
+    (λ row. flat_map (put_of_tile w h id pixels row) (below (tiles_along w)))
+    (below (tiles_along h))
+    (λ row. All-flat_map (IsPutOf id) (put_of_tile w h id pixels row) (below (tiles_along w))
     (λ col. one row col (content_of_tile (shown_of w col) (shown_of h row)
     (pixels_of_tile w h pixels col row))))
   where

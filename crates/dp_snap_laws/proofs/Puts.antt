@@ -25,7 +25,7 @@ use Rattle.dp_pixels.proofs.Rectangles.{is_in_by}
 use Rattle.dp_pixels.proofs.TileLaws.{between}
 use Rattle.dp_snap.specs.Tiles.{is_same, tile_pixel, pixels_of_tile, shown_of, on_canvas}
 use Rattle.dp_snap.specs.Tiles.{content_of_tile}
-use Rattle.dp_snap.specs.Snapshot.{put_of, puts_of}
+use Rattle.dp_snap.specs.Snapshot.{put_of_tile, puts_of}
 use Rattle.dp_snap.proofs.Tests.{same_is_equal, canvas_at}
 use Rattle.dp_snap.proofs.Parts.{pixel_of-inside}
 use Rattle.dp_snap_laws.proofs.Lists.{fold-flat_map}
@@ -72,12 +72,12 @@ module _ (w h id : ℕ) (pixels : List Channels) where
 
   -- the pixels after the tile of a row and a column
   abbrev put : ℕ → ℕ → List Channels → List Channels
-  put row col q = fold paint q (put_of w h id pixels row col)
+  put row col q = fold paint q (put_of_tile w h id pixels row col)
 
   -- those after a row of tiles
   abbrev put_row : ℕ → List Channels → List Channels
   put_row row q =
-      fold paint q (flat_map (put_of w h id pixels row) (below (tiles_along w)))
+      fold paint q (flat_map (put_of_tile w h id pixels row) (below (tiles_along w)))
 
   length-painted : (ops : List Draw) (q : List Channels) → length q ≡ w * h
       → length (fold paint q ops) ≡ w * h
@@ -302,7 +302,7 @@ module _ (w h id : ℕ) (pixels : List Channels) where
       -- a row of tiles, one after the other
       row_is : (row : ℕ) (q : List Channels)
           → put_row row q ≡ after_steps (put row) (tiles_along w) 0 (tiles_along w) q
-      row_is row q = fold-flat_map paint (put_of w h id pixels row) q (below (tiles_along w))
+      row_is row q = fold-flat_map paint (put_of_tile w h id pixels row) q (below (tiles_along w))
 
       row_opens : (row : ℕ) (q : List Channels) → row < tiles_along h → Open q
           → Open (put_row row q)
@@ -329,7 +329,7 @@ module _ (w h id : ℕ) (pixels : List Channels) where
       all_put q was_open =
           subst Reached
           (sym (fold-flat_map paint
-          (λ row. flat_map (put_of w h id pixels row) (below (tiles_along w))) q
+          (λ row. flat_map (put_of_tile w h id pixels row) (below (tiles_along w))) q
           (below (tiles_along h))))
           (steps_reach put_row (tiles_along h) Open Reached (y / 64) row_opens row_keeps row_hits 0
           (tiles_along h) q (omega arith) (omega arith) (omega arith) was_open)

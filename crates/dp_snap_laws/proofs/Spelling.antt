@@ -1,5 +1,5 @@
 -- The commands of a snapshot have a spelling, where those that made the board have one.
-use Rattle.std.proofs.Common.{◌≡◌, ◌==◌, ℕ, zero, suc, ◌+◌, ◌*◌, ◌^◌, ◌<◌, ◌≤◌, Bool, true, false}
+use Rattle.std.proofs.Common.{◌≡◌, ◌==◌, ℕ, zero, suc, ◌+◌, ◌*◌, ◌^◌, ◌<◌, ◌≤◌, Bool}
 use Rattle.std.proofs.Common.{not, List, [], ◌∷◌, ◌++◌, length, map, Option, None, Some, refl}
 use Rattle.std.proofs.Common.{sym, ◌∙◌, arith}
 use Rattle.std.specs.Prelude.{ℤ, pos, ◌+ℤ◌, ◌&&◌, All, IfSome, unwrap_or, if◌then◌else◌}
@@ -40,7 +40,8 @@ use Rattle.dp_snap.specs.Spelled.{IsSpelled}
 use Rattle.dp_snap.specs.Tiles.{is_same, tile_pixel, pixels_of_tile, shown_of, on_canvas}
 use Rattle.dp_snap.specs.Tiles.{content_of_tile}
 use Rattle.dp_snap.specs.Snapshot.{side_commands, background_commands, create_of, moves_after}
-use Rattle.dp_snap.specs.Snapshot.{is_as_created, attrs_of, put_of, puts_of, layer_puts, snapshot}
+use Rattle.dp_snap.specs.Snapshot.{is_as_created, attrs_of, put_of_tile, puts_of, layer_puts}
+use Rattle.dp_snap.specs.Snapshot.{snapshot}
 use Rattle.dp_snap.proofs.Sizes.{short_content}
 use Rattle.dp_snap.proofs.Tests.{equal_tile}
 
@@ -288,9 +289,9 @@ module _ (board : Board) (whole : IsBoard board) (has : HasPixels board)
   layer_spelled : (id : ℕ) (pixels : List Channels) → id < 2 ^ 16 → All IsPixel pixels
       → All IsSpelled (puts_of board.width board.height id pixels)
   layer_spelled id pixels in_id each =
-      numbers_each IsSpelled (λ row. flat_map (put_of board.width board.height id pixels row)
+      numbers_each IsSpelled (λ row. flat_map (put_of_tile board.width board.height id pixels row)
       (below (tiles_along board.width))) 0 (tiles_along board.height)
-      (λ row in_row. numbers_each IsSpelled (put_of board.width board.height id pixels row) 0
+      (λ row in_row. numbers_each IsSpelled (put_of_tile board.width board.height id pixels row) 0
       (tiles_along board.width)
       (λ col in_col.
       let tile = pixels_of_tile board.width board.height pixels col row in

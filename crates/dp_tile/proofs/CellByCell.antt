@@ -1,6 +1,6 @@
 -- Areas that are painted cell by cell, and how many of their cells show something.
-use Rattle.std.proofs.Common.{◌≡◌, ℕ, zero, suc, ◌+◌, ◌-◌, ◌*◌, ◌<◌, ◌≤◌, ◌≢◌, List, ◌∷◌, length}
-use Rattle.std.proofs.Common.{get_or, set, take, ap, sym, ◌∙◌, subst, refl, arith}
+use Rattle.std.proofs.Common.{◌≡◌, ℕ, zero, suc, ◌+◌, ◌-◌, ◌*◌, ◌<◌, ◌≤◌, ◌≢◌, List, length}
+use Rattle.std.proofs.Common.{get_or, take, ap, sym, ◌∙◌, subst, refl, arith}
 use Rattle.std.proofs.Common.{Bool, true, false, cond, ◌&&◌, ◌⊎◌, inl, inr, ⊎_elim}
 use Rattle.std.specs.Prelude.{nat_le, nat_lt, Result, OnOk}
 use Rattle.std.proofs.Common.{Ok, Err}

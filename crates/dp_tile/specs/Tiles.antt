@@ -1,8 +1,8 @@
 -- A tile is a square of 64 by 64 pixels, seen as their list: row by row from the top, each row from
 -- the left. A grid is tiles in columns and rows.
 use Rattle.std.specs.Prelude.{◌≡◌, ℕ, ◌+◌, ◌*◌, ◌/◌, ◌%◌, ◌≤◌, List, length, replicate}
-use Rattle.std.specs.Prelude.{[], map, slice_index_or, slice_set, All, Option, Bool, not, ◌==◌}
-use Rattle.std.specs.Prelude.{◌&&◌, count_by, if◌then◌else◌}
+use Rattle.std.specs.Prelude.{[], map, slice_index_or, slice_set, All, Option, Some, None, Bool}
+use Rattle.std.specs.Prelude.{not, ◌==◌, ◌&&◌, count_by, if◌then◌else◌}
 use Rattle.std.specs.List.{flat_map, list_any}
 use Rattle.std.specs.Option.{ForSome}
 use Rattle.dp_blend.specs.Color.{Channels, clear}
@@ -16,10 +16,15 @@ tile_of p = replicate 4096 p
 abbrev pub IsOfColor : Option Channels → List Channels → Type 0
 IsOfColor color pixels = ForSome color (λ p. pixels ≡ tile_of p)
 
--- a tile has 4096 pixels, all of one colour where it is marked with that
-pub record IsTile (color : Option Channels) (pixels : List Channels) : Type 0 where
-  pub count : length pixels ≡ 4096
-  pub marked : IsOfColor color pixels
+-- the pixels of a tile that is of one colour, if one is given, and else has these
+abbrev pub tile_pixels : Option Channels → List Channels → List Channels
+tile_pixels (Some p) pixels = tile_of p
+tile_pixels None pixels = pixels
+
+-- a tile has room for its 4096 pixels, and holds them where it isn't of one colour
+pub record IsTile (color : Option Channels) (room : ℕ) (held : List Channels) : Type 0 where
+  pub enough : 4096 ≤ room
+  pub count : length (tile_pixels color held) ≡ 4096
 
 -- tiles in columns and rows: row by row from the top, each row from the left. Each cell is the list
 -- of its pixels, so the value doesn't tell a tile that isn't there from a clear one.

@@ -1,6 +1,7 @@
 //! The place of one tile, which slots of several grids may have in common.
 
 ghost use Rattle.std.specs.Prelude.{◌≡◌, ◌+◌, ◌<◌, ◌≤◌, length, IfOk, IfSome, IfNone, OnOk, OnErr};
+ghost use Rattle.std.specs.Vec.{vec_capacity};
 ghost use Rattle.dp_blend.specs.Color.{clear};
 ghost use Rattle.dp_blend.specs.Canvas.{part_of_row, pixel_at};
 ghost use Rattle.dp_blend.specs.Stretches.{IsStretch};
@@ -145,7 +146,8 @@ impl Slot {
 
     // A list of its pixels.
     fn pixels(&self, alloc: Global) -> Result<Vec<Pixel>, AllocError>
-        ensures { IfOk result (λ pixels. pixels.items ≡ self.now) }
+        ensures same { IfOk result (λ pixels. pixels.items ≡ self.now) }
+        ensures room { IfOk result (λ pixels. 4096 ≤ vec_capacity pixels) }
     {
         match &self.tile {
             None => solid_pixels(alloc, Pixel::CLEAR),
@@ -264,7 +266,8 @@ fn slot_of<T: Ledger>(
     palette: &mut Palette,
     tiles: &mut Steps<T>,
 ) -> Result<Slot, AllocError>
-    requires { length pixels.items ≡ 4096 }
+    requires count { length pixels.items ≡ 4096 }
+    requires room { 4096 ≤ vec_capacity pixels }
     ensures same { IfOk result (λ slot. slot ≡ pixels.items) }
     ensures tiles_rise { tiles.old ≤ tiles.new }
     ensures one_tile { tiles.new ≤ tiles.old + 1 }

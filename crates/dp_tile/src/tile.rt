@@ -2,11 +2,12 @@
 
 ghost use Rattle.std.specs.Prelude.{◌≡◌, ◌+◌, ◌*◌, ◌<◌, ◌≤◌, length, slice_set, IfNone, IfOk};
 ghost use Rattle.std.specs.Prelude.{IfSome, OnOk, OnErr, true};
+ghost use Rattle.std.specs.Vec.{vec_capacity};
 ghost use Rattle.dp_blend.specs.Color.{clear};
 ghost use Rattle.dp_blend.specs.Canvas.{pixel_at};
 ghost use Rattle.dp_blend.specs.Stretches.{IsStretch};
 ghost use Rattle.dp_blend.specs.Canvas.{part_of_row};
-ghost use Rattle.dp_tile.specs.Tiles.{IsOfColor, shows, tile_of};
+ghost use Rattle.dp_tile.specs.Tiles.{IsOfColor, shows, tile_of, tile_pixels};
 
 use crate::painter::TilePainter;
 use dp_blend::{Pixel, Stretch};
@@ -22,8 +23,8 @@ pub const SIDE: usize = 64;
 const COUNT: usize = SIDE * SIDE;
 
 /// A square of 64 by 64 pixels. It is seen as their list, row by row from the top, each row from
-/// the left. Where it is known to be of one colour, it is marked with that. None is built without
-/// being counted.
+/// the left. Where it is known to be of one colour, it is marked with that, and what it holds
+/// doesn't count. Its room is taken when it is made. None is built without being counted.
 #[derive(Drop)]
 pub struct Tile {
     pixels: Vec<Pixel>,
@@ -33,14 +34,15 @@ pub struct Tile {
 
 impl Model for Tile {
     ghost use Rattle.std.specs.Prelude.{List};
+    ghost use Rattle.std.specs.Vec.{vec_capacity};
     ghost use Rattle.dp_blend.specs.Color.{Channels};
-    ghost use Rattle.dp_tile.specs.Tiles.{IsTile};
+    ghost use Rattle.dp_tile.specs.Tiles.{IsTile, tile_pixels};
 
     ghost Value = { List Channels };
 
-    ghost view = { λ t. t.pixels.items };
+    ghost view = { λ t. tile_pixels t.color t.pixels.items };
 
-    ghost invariant = { λ t. IsTile t.color t.pixels.items };
+    ghost invariant = { λ t. IsTile t.color (vec_capacity t.pixels) t.pixels.items };
 }
 
 impl Tile {
@@ -63,7 +65,7 @@ impl Tile {
         ensures one_tile { OnOk result (tiles.new ≡ tiles.old + 1) }
         ensures err { OnErr result (tiles.new ≡ tiles.old) }
     {
-        let pixels = solid_pixels(alloc, p)?;
+        let pixels = Vec::with_capacity(alloc, COUNT)?;
         Ok(Tile {
             pixels,
             color: Some(p),
@@ -77,17 +79,15 @@ impl Tile {
         ensures one_tile { OnOk result (tiles.new ≡ tiles.old + 1) }
         ensures err { OnErr result (tiles.new ≡ tiles.old) }
     {
-        let pixels = Vec::from_slice(alloc, &self.pixels)?;
-        Ok(Tile {
-            pixels,
-            color: self.color,
-            counted: tiles.tick(),
-        })
+        let mut tile = Tile::blank(alloc, tiles)?;
+        tile.become_like(self);
+        Ok(tile)
     }
 
     // A tile of these pixels.
     pub(crate) fn of<T: Ledger>(pixels: Vec<Pixel>, tiles: &mut Steps<T>) -> Tile
-        requires { length pixels.items ≡ 4096 }
+        requires count { length pixels.items ≡ 4096 }
+        requires room { 4096 ≤ vec_capacity pixels }
         ensures same { result ≡ pixels.items }
         ensures one_tile { tiles.new ≡ tiles.old + 1 }
     {
@@ -100,9 +100,24 @@ impl Tile {
 
     // A list of its pixels.
     pub(crate) fn pixels(&self, alloc: Global) -> Result<Vec<Pixel>, AllocError>
-        ensures { IfOk result (λ pixels. pixels.items ≡ self.now) }
+        ensures same { IfOk result (λ pixels. pixels.items ≡ self.now) }
+        ensures room { IfOk result (λ pixels. 4096 ≤ vec_capacity pixels) }
     {
-        Vec::from_slice(alloc, &self.pixels)
+        match self.color {
+            Some(p) => solid_pixels(alloc, p),
+            None => copied(alloc, &self.pixels),
+        }
+    }
+
+    /// Takes the pixels of another tile. It takes no memory.
+    pub fn become_like(&mut self, other: &Tile)
+        ensures { self.new ≡ other.now }
+    {
+        let Tile { pixels, color, .. } = self;
+        *color = other.color;
+        if other.color.is_none() {
+            copy_over(&other.pixels, pixels);
+        }
     }
 
     /// A tile has 4096 pixels.
@@ -125,10 +140,13 @@ impl Tile {
         ensures color { IfSome result (λ p. self.now ≡ tile_of p) }
         ensures pixels { IfNone result (pixels.new ≡ self.now) }
     {
-        if self.color.is_none() {
-            pixels.copy_from_slice(&self.pixels);
+        match self.color {
+            Some(p) => Some(p),
+            None => {
+                pixels.copy_from_slice(&self.pixels);
+                None
+            }
         }
-        self.color
     }
 
     /// The pixel at a place.
@@ -137,7 +155,10 @@ impl Tile {
         requires y { y < 64 }
         ensures { result ≡ pixel_at 64 self.now x y }
     {
-        self.pixels[y * SIDE + x]
+        match self.color {
+            Some(p) => p,
+            None => self.pixels[y * SIDE + x],
+        }
     }
 
     /// Writes the pixel at a place.
@@ -146,8 +167,10 @@ impl Tile {
         requires y { y < 64 }
         ensures { self.new ≡ slice_set self.old (y * 64 + x) p }
     {
-        self.color = None;
-        self.pixels[y * SIDE + x] = p;
+        let Tile { pixels, color, .. } = self;
+        fill_up(*color, pixels);
+        *color = None;
+        pixels[y * SIDE + x] = p;
     }
 
     // A part of the row y: so many pixels from x on.
@@ -165,18 +188,73 @@ impl Tile {
         }
     }
 
-    // Paints the pixels, of the tile at a column and a row.
+    /// Paints the pixels, of the tile at a column and a row. It takes no memory.
     #[inline(never)]
-    pub(crate) fn paint<P: TilePainter>(&mut self, col: u32, row: u32, painter: &P)
+    pub fn paint<P: TilePainter>(&mut self, col: u32, row: u32, painter: &P)
         requires col { col < 64 }
         requires row { row < 64 }
         ensures painted { self.new ≡ P.painted painter.now col row self.old }
         ensures count { length self.new ≡ 4096 }
     {
         let Tile { pixels, color, .. } = self;
+        fill_up(*color, pixels);
         *color = None;
         painter.paint(col, row, pixels);
     }
+
+    /// Marks it with its colour, where all its pixels are of one, and gives that. It takes no
+    /// memory.
+    pub fn mark(&mut self) -> Option<Pixel>
+        ensures same { self.new ≡ self.old }
+        ensures color { IsOfColor result self.new }
+        ensures shows { IfNone result (shows self.new ≡ true) }
+    {
+        if self.color.is_none() {
+            self.color = color_of(&self.pixels);
+        }
+        self.color
+    }
+}
+
+// Has a list hold the pixels of a tile that is of one colour, if one is given, and else has them.
+fn fill_up(color: Option<Pixel>, pixels: &mut Vec<Pixel>)
+    requires { 4096 ≤ vec_capacity pixels.old }
+    ensures pixels { pixels.new.items ≡ tile_pixels color pixels.old.items }
+    ensures room { 4096 ≤ vec_capacity pixels.new }
+{
+    let Some(p) = color else {
+        return;
+    };
+    pixels.clear();
+    match pixels.resize(COUNT, p) {
+        Ok(()) => {}
+        Err(_) => {}
+    }
+}
+
+// Has a list hold the pixels of another.
+fn copy_over(from: &[Pixel], pixels: &mut Vec<Pixel>)
+    requires count { length from.now ≡ 4096 }
+    requires room { 4096 ≤ vec_capacity pixels.old }
+    ensures pixels { pixels.new.items ≡ from.now }
+    ensures room { 4096 ≤ vec_capacity pixels.new }
+{
+    pixels.clear();
+    match pixels.extend_from_slice(from) {
+        Ok(()) => {}
+        Err(_) => {}
+    }
+}
+
+// A list of these pixels.
+fn copied(alloc: Global, from: &[Pixel]) -> Result<Vec<Pixel>, AllocError>
+    requires { length from.now ≡ 4096 }
+    ensures same { IfOk result (λ pixels. pixels.items ≡ from.now) }
+    ensures room { IfOk result (λ pixels. 4096 ≤ vec_capacity pixels) }
+{
+    let mut pixels = Vec::with_capacity(alloc, COUNT)?;
+    copy_over(from, &mut pixels);
+    Ok(pixels)
 }
 
 // The colour of all pixels, if they are of one.
@@ -198,6 +276,7 @@ pub(crate) fn color_of(pixels: &[Pixel]) -> Option<Pixel>
 pub(crate) fn solid_pixels(alloc: Global, p: Pixel) -> Result<Vec<Pixel>, AllocError>
     ensures solid { IfOk result (λ pixels. pixels.items ≡ tile_of p) }
     ensures count { IfOk result (λ pixels. length pixels.items ≡ 4096) }
+    ensures room { IfOk result (λ pixels. 4096 ≤ vec_capacity pixels) }
 {
     let mut pixels = Vec::with_capacity(alloc, COUNT)?;
     pixels.resize(COUNT, p)?;

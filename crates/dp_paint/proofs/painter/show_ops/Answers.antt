@@ -1,6 +1,7 @@
 use Rattle.std.proofs.Common.{[], ◌∷◌, ap, ◌∙◌}
 use Rattle.dp_paint.specs.declared.op.TileOp.{TileOp}
-use Rattle.dp_paint.specs.Ops.{tile_after, tile_pixels}
+use Rattle.dp_tile.specs.Tiles.{tile_pixels}
+use Rattle.dp_paint.specs.Ops.{tile_after}
 use Rattle.dp_paint.proofs.Ops.{length-tile_pixels, none_after, tile_next}
 use Rattle.dp_paint.proofs.painter.show_ops.Goals as goal
 

@@ -1,5 +1,6 @@
 use Rattle.std.proofs.Common.{◌≡◌, length, take}
-use Rattle.dp_paint.specs.Ops.{tile_after, tile_pixels}
+use Rattle.dp_tile.specs.Tiles.{tile_pixels}
+use Rattle.dp_paint.specs.Ops.{tile_after}
 use Rattle.dp_paint.proofs.painter.show_ops.Given as goal
 
 -- the operations before the index are drawn

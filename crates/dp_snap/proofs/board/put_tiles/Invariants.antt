@@ -2,7 +2,7 @@ use Rattle.std.proofs.Common.{◌≡◌, ◌++◌, length}
 use Rattle.std.specs.List.{flat_map}
 use Rattle.dp_blend.specs.Canvas.{below}
 use Rattle.dp_plain.specs.Picture.{pixels_of}
-use Rattle.dp_snap.specs.Snapshot.{put_of}
+use Rattle.dp_snap.specs.Snapshot.{put_of_tile}
 use Rattle.dp_snap.proofs.board.put_tiles.Given as goal
 
 -- the tiles before the column
@@ -12,6 +12,6 @@ invariant-loop-col g l =
     record {
       whole : length l.tile ≡ 4096;
       puts : l.commands ≡ l.initial.commands
-          ++ flat_map (put_of board.width board.height l.id (pixels_of board l.id) l.row)
+          ++ flat_map (put_of_tile board.width board.height l.id (pixels_of board l.id) l.row)
           (below l.col);
     }

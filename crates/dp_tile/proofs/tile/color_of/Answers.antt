@@ -1,4 +1,4 @@
-use Rattle.std.proofs.Common.{◌∙◌, ◌<◌, sym, arith}
+use Rattle.std.proofs.Common.{◌∙◌, sym, arith}
 use Rattle.std.proofs.lemmas.List.{ext_get_or}
 use Rattle.dp_blend.specs.Color.{clear}
 use Rattle.dp_tile.proofs.Tiles.{length-tile_of, pixel-tile_of}

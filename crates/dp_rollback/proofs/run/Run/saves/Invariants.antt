@@ -2,7 +2,7 @@ use Rattle.std.proofs.Common.{◌≡◌, ℕ, ◌+◌, ◌-◌, ◌<◌, ◌≤�
 use Rattle.std.specs.List.{sum_by}
 use Rattle.dp_rollback.specs.Kept.{marked, commands_among}
 use Rattle.dp_rollback.specs.Rollback.{points_of}
-use Rattle.dp_rollback.specs.Runs.{IsRun, save_anew}
+use Rattle.dp_rollback.specs.Runs.{IsRunning, save_anew}
 use Rattle.dp_rollback.proofs.run.Run.saves.Given as goal
 
 -- the savepoints so far, and what is left to draw
@@ -14,10 +14,10 @@ invariant-loop-save g l = record {
   next : (j d : ℕ) → l.save-index ≤ j → j < length l.old
       → l.self.at ≤ max l.fn.self.start (get_or (points_of l.old) j d);
   run : (from : g.row.B.Denot)
-      → IsRun g.B.Board.drawn (map (marked l.mark) l.kept) from l.fn.self
-      → IsRun g.B.Board.drawn (map (marked l.mark) l.kept) from l.self;
+      → IsRunning g.B.Board.drawn (map (marked l.mark) l.kept) from l.fn.self
+      → IsRunning g.B.Board.drawn (map (marked l.mark) l.kept) from l.self;
   saves : (from : g.row.B.Denot)
-      → IsRun g.B.Board.drawn (map (marked l.mark) l.kept) from l.fn.self
+      → IsRunning g.B.Board.drawn (map (marked l.mark) l.kept) from l.fn.self
       → l.saves.items ≡ map (save_anew g.B.Board.drawn (map (marked l.mark) l.kept)
       l.fn.self.start from) (take l.save-index l.old);
   draws_rise : l.fn.draws ≤ l.draws;

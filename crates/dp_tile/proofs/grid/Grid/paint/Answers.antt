@@ -1,4 +1,4 @@
-use Rattle.std.proofs.Common.{◌∙◌, ◌≤◌, ◌<◌, ap, sym, subst, arith}
+use Rattle.std.proofs.Common.{◌∙◌, ◌<◌, ap, sym, subst, arith}
 use Rattle.std.proofs.lemmas.Result.{on_ok_weaker}
 use Rattle.dp_tile.specs.Tiles.{TileGrid, cell_at, grid_of_rows, tiles_for}
 use Rattle.dp_tile.proofs.CellByCell.{both_ok, cell_same}

@@ -1,5 +1,5 @@
-use Rattle.std.proofs.Common.{◌≡◌, ◌<◌, ◌≤◌, ◌-◌, ◌+◌, ◌*◌, arith}
-use Rattle.dp_tile.proofs.CellByCell.{area_begins, area_done, area_next, area_shown_next}
+use Rattle.std.proofs.Common.{◌≡◌, ◌≤◌, ◌-◌, ◌+◌, arith}
+use Rattle.dp_tile.proofs.CellByCell.{area_begins, area_next, area_shown_next}
 use Rattle.dp_tile.proofs.grid.Grid.paint_each.Goals as goal
 
 pub loop-row-init : goal.loop-row-init

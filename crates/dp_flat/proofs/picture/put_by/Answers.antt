@@ -1,0 +1,61 @@
+-- Each row of tiles stands after those above, and the last piece ends the text.
+use Rattle.std.proofs.Common.{◌≡◌, ◌+◌, ◌-◌, ◌*◌, ◌∙◌, min, subst, arith}
+use Rattle.dp_plain.specs.Picture.{head}
+use Rattle.dp_flat.specs.Bands.{HasRows}
+use Rattle.dp_flat.specs.Jobs.{AreDrawnFrom}
+use Rattle.dp_flat.specs.Texts.{name_of, pixel_text_of}
+use Rattle.dp_flat.proofs.Prefixes.{last_written, last_cut}
+use Rattle.dp_flat.proofs.Rows.{text_all}
+use Rattle.dp_flat.proofs.picture.put_by.Goals as goal
+
+pub returns-in_err-put_job-clause-prefix : goal.returns-in_err-put_job-clause-prefix
+returns-in_err-put_job-clause-prefix g c =
+    let board = g.V.BoardView.board c.args.board.now in
+    let held = g.S.Sink.held in
+    let here : min (c.loop-row.row * 64) board.height ≡ c.loop-row.row * 64 = omega arith in
+    c.in_err-put_job.ensures.prefix (held c.args.out.now)
+    (subst (HasRows c.args.format board (held c.args.out.now) (held c.loop-row.out)
+    c.loop-row.piece.items) here c.loop-row.invariant.before)
+
+pub loop-row-preserved : goal.loop-row-preserved
+loop-row-preserved g c =
+    let board = g.V.BoardView.board c.args.board.now in
+    let held = g.S.Sink.held in
+    let row = c.loop-row.row in
+    let here : min (row * 64) board.height ≡ row * 64 = omega arith in
+    let next : min (row * 64 + 64) board.height ≡ min ((row + 1) * 64) board.height =
+    omega arith in
+    let slot = c.next_slot-slot.result in
+    record {
+      before = subst (HasRows c.args.format board (held c.args.out.now) (held c.put_job.new.out)
+          c.put_job.new.piece.items) next
+          (c.in_ok-put_job.ensures.before (held c.args.out.now)
+          (subst (HasRows c.args.format board (held c.args.out.now) (held c.loop-row.out)
+          c.loop-row.piece.items) here c.loop-row.invariant.before));
+      kept = c.in_ok-put_job.ensures.cause.kept ∙ c.loop-row.invariant.kept;
+      jobs = c.make_ready.ensures.jobs;
+      slot = omega arith;
+      inside = omega arith;
+      drawn = λ some.
+          let after : slot ≡ c.loop-row.slot + 1 = c.next_slot-slot.ensures.next some in
+          let same : row - c.loop-row.slot ≡ row + 1 - slot = omega (arith, after) in
+          subst (λ k. AreDrawnFrom k board c.make_ready.new.jobs) same c.make_ready.ensures.drawn;
+    }
+
+pub returns-clause-written : goal.returns-clause-written
+returns-clause-written g c =
+    let board = g.V.BoardView.board c.args.board.now in
+    let all : min (c.loop-row.row * 64) board.height ≡ board.height = omega arith in
+    last_written _ _ _ _ _ _ c.put_all.result (text_all _ _ (pixel_text_of c.args.format) board
+    (min (c.loop-row.row * 64) board.height)
+    (head (name_of c.args.format) board.width board.height) _ all c.loop-row.invariant.before)
+    c.as_slice.ensures.value c.put_all.ensures.written
+
+pub returns-clause-prefix : goal.returns-clause-prefix
+returns-clause-prefix g c =
+    let board = g.V.BoardView.board c.args.board.now in
+    let all : min (c.loop-row.row * 64) board.height ≡ board.height = omega arith in
+    last_cut _ _ _ _ _ _ (text_all _ _ (pixel_text_of c.args.format) board
+    (min (c.loop-row.row * 64) board.height)
+    (head (name_of c.args.format) board.width board.height) _ all c.loop-row.invariant.before)
+    c.as_slice.ensures.value c.put_all.ensures.prefix

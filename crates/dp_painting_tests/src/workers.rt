@@ -1,0 +1,117 @@
+//! Pictures whose rows of tiles are drawn by workers.
+
+ghost use Rattle.std.specs.Prelude.{◌≡◌, ◌<◌};
+
+use crate::pictures::{board_of, create, resize};
+use dp_flat::{write_p6, write_p6_by};
+use dp_io::MemSink;
+use dp_msg_draw::Draw;
+use dp_plain::PlainBoard;
+use dp_steps::Steps;
+use dp_wire::Gate;
+use std::alloc::Global;
+use std::marker::Brand;
+use std::process::Abort;
+use std::sync::atomic::{AtomicU64, Ordering};
+use std::sync::ledger::{Blank, Ledger};
+use std::thread;
+use std::thread::Threads;
+
+/// How often the first row of tiles looks whether the second one has passed before it gives up.
+const TURNS: u32 = 200_000;
+
+/// A gate that holds the first of the rows of tiles that are drawn together until the second one
+/// has passed.
+#[derive(Drop)]
+struct Held {
+    passed: AtomicU64,
+    gave_up: AtomicU64,
+}
+
+impl Gate for Held {
+    fn pass(&self, who: u32, _n: u64) {
+        if who == 1 {
+            self.passed.store(1, Ordering::SeqCst);
+        }
+        if who == 0 {
+            for _ in 0..TURNS {
+                if self.passed.load(Ordering::SeqCst) == 1 {
+                    return;
+                }
+                thread::yield_now();
+            }
+            self.gave_up.store(1, Ordering::SeqCst);
+        }
+    }
+}
+
+/// A rectangle of a colour, on the layer 1.
+fn fill(x: u32, y: u32, w: u32, h: u32, color: u32) -> Draw {
+    Draw::FillRect {
+        layer: 1,
+        mode: 1,
+        x,
+        y,
+        w,
+        h,
+        color,
+    }
+}
+
+/// Has so many workers draw a picture of these bytes. Says whether the gate gave up.
+fn gives_up<R: Threads + Sync + Abort>(
+    rt: &R,
+    alloc: Global,
+    board: &PlainBoard,
+    workers: u32,
+    want: &[u8],
+) -> bool {
+    let gate = Held {
+        passed: AtomicU64::new(0),
+        gave_up: AtomicU64::new(0),
+    };
+    let mut sink = MemSink::new(alloc, 60_000, 60_000, Vec::new(alloc)).expect(rt, "memory");
+    assert_eq!(rt;
+        write_p6_by(rt, alloc, workers, &gate, board, &mut sink),
+        Ok(())
+    );
+    assert_eq!(rt; sink.as_slice(), want);
+    gate.gave_up.load(Ordering::SeqCst) == 1
+}
+
+/// A picture of three rows of tiles, the last one cut, by some numbers of workers. Two of them are
+/// drawn at the same time where there are two workers or more.
+fn check_workers<R: Threads + Sync + Abort, D: Ledger, T: Ledger>(
+    rt: &R,
+    alloc: Global,
+    draw_blank: Blank,
+    tile_blank: Blank,
+)
+    requires draws { (draw_blank.name ≡ D.name) × (draw_blank.parts ≡ D.parts)
+        × (0 < draw_blank.parts) }
+    requires tiles { (tile_blank.name ≡ T.name) × (tile_blank.parts ≡ T.parts)
+        × (0 < tile_blank.parts) }
+{
+    let mut draws = Steps::<D>::new(draw_blank);
+    let mut tiles = Steps::<T>::new(tile_blank);
+    let commands = [
+        resize(70, 130),
+        create(alloc, 1, 0, false),
+        fill(3, 5, 66, 70, 0xff12_3456),
+        fill(0, 100, 70, 29, 0x8065_4321),
+    ];
+    let board = board_of(rt, alloc, &commands, &mut draws, &mut tiles);
+    let mut sink = MemSink::new(alloc, 60_000, 60_000, Vec::new(alloc)).expect(rt, "memory");
+    assert_eq!(rt; write_p6(alloc, &board, &mut sink), Ok(()));
+    let want = sink.as_slice();
+    assert_eq!(rt; want.len(), 14 + 70 * 130 * 3);
+    assert!(rt; gives_up(rt, alloc, &board, 0, want));
+    assert!(rt; gives_up(rt, alloc, &board, 1, want));
+    assert!(rt; !gives_up(rt, alloc, &board, 2, want));
+    assert!(rt; !gives_up(rt, alloc, &board, 7, want));
+}
+
+#[test]
+fn pictures_by_workers(rt: HostRuntime) {
+    check_workers::<HostRuntime, Brand, Brand>(&rt, rt.alloc(), Blank::new(1), Blank::new(1));
+}
