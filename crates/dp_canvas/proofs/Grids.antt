@@ -1,5 +1,5 @@
 -- Grids as the pixels of a layer.
-use Rattle.std.proofs.Common.{◌≡◌, ℕ, ◌+◌, ◌*◌, ◌/◌, ◌%◌, ◌<◌, ◌≤◌, refl, ap, sym, ◌∙◌}
+use Rattle.std.proofs.Common.{◌≡◌, ℕ, ◌+◌, ◌*◌, ◌/◌, ◌%◌, ◌<◌, ◌≤◌, ap, sym, ◌∙◌}
 use Rattle.std.proofs.Common.{arith}
 use Rattle.std.proofs.Common.{replicate, ⊎_elim}
 use Rattle.std.proofs.Common.{Result, Ok, Err, OnOk}
@@ -8,10 +8,6 @@ use Rattle.std.proofs.lemmas.List.{get_or-replicate, get_or_past, length-replica
 use Rattle.dp_blend.specs.Color.{clear}
 use Rattle.dp_blend.specs.Canvas.{canvas_of, part_of_row, pixel_at}
 use Rattle.dp_blend.proofs.Canvas.{canvas_of-same, pixel_at-canvas_of}
-use Rattle.dp_msg_draw.specs.declared.draw.Draw.{Draw}
-use Rattle.dp_msg_draw.specs.declared.draw.Draw.TheVariants as draws
-use Rattle.dp_pixels.specs.Feet.{reach}
-use Rattle.dp_plain.specs.Weights.{board_weight}
 use Rattle.dp_tile.specs.Tiles.{TileGrid, cell_at, clear_grid, grid_pixel, grid_pixels}
 use Rattle.dp_tile.specs.Tiles.{part_of_grid, tile_of}
 use Rattle.dp_blend.proofs.Parts.{parts_same}
@@ -42,22 +38,6 @@ part_of_pixels w h g x y n within inside =
     parts_same (λ i. grid_pixel g (x + i) y) (λ i. pixel_at w (grid_pixels w h g) (x + i) y) n
     (λ i few. sym (pixel_at-canvas_of w h (grid_pixel g) (x + i) y (omega (arith, within, few))
     inside))
-
--- the tiles that a command may make
-pub board_reach : (op : Draw) → board_weight 4096 reach op ≡ reach op
-board_reach (draws.CanvasResize top right bottom left) = refl
-board_reach (draws.Background color) = refl
-board_reach (draws.LayerCreate id parent group title) = refl
-board_reach (draws.LayerAttr id opacity mode hidden) = refl
-board_reach (draws.LayerTitle id title) = refl
-board_reach (draws.LayerMove id parent above) = refl
-board_reach (draws.LayerDelete id) = refl
-board_reach (draws.PutImage layer mode x y w h colors) = refl
-board_reach (draws.FillRect layer mode x y w h color) = refl
-board_reach (draws.PutTile layer col row repeat content) = refl
-board_reach (draws.DabsRound layer x y r g b mode dabs) = refl
-board_reach (draws.DabsSquare layer x y r g b mode dabs) = refl
-board_reach (draws.MoveRect layer sx sy w h tx ty) = refl
 
 -- where two things hold of a success, a third one does that follows from them
 pub on_ok_both : {T E : Type 0} (r : Result T E) (P Q R : Type 0) → (P → Q → R) → OnOk r P

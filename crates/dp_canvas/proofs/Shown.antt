@@ -4,7 +4,7 @@ use Rattle.std.specs.Prelude.{Option, Some, None, IfSome, IfNone}
 use Rattle.dp_blend.specs.Color.{Channels}
 use Rattle.dp_pixels.specs.Tiles.{ShowsTile}
 use Rattle.dp_tile.specs.Tiles.{IsOfColor, TileGrid, cell_at, grid_pixels, tile_of}
-use Rattle.dp_paint.specs.Ops.{tile_pixels}
+use Rattle.dp_tile.specs.Tiles.{tile_pixels}
 use Rattle.dp_paint.proofs.Layers.{shows_grid}
 
 -- a tile that was read has the pixels of its cell

@@ -9,6 +9,7 @@ ghost use Rattle.dp_plain.specs.Commands.{draw};
 ghost use Rattle.dp_tile.specs.Tiles.{grid_pixels};
 
 use crate::tiled::TiledPixels;
+use dp_blank::BlankBoard;
 use dp_blend::Pixel;
 use dp_board::Board;
 use dp_layers::LayerRow;
@@ -104,6 +105,14 @@ impl Board for Canvas {
 
     fn laws() {
         LayeredBoard::<TiledPixels>::laws();
+    }
+}
+
+impl BlankBoard for Canvas {
+    ghost blank = { empty_board };
+
+    fn blank(alloc: Global) -> Result<Canvas, AllocError> {
+        Ok(Canvas::new(alloc))
     }
 }
 

@@ -1,2 +1,3 @@
-pub mod Forks
+pub mod Drawing
+pub mod Few
 pub mod Taking

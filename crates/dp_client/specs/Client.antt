@@ -10,7 +10,8 @@ use Rattle.dp_messages.specs.Equality.{same_message}
 use Rattle.dp_messages.specs.Properties.{carried_in, command_of, is_filtered, marked}
 use Rattle.dp_plain.specs.Board.{Board}
 use Rattle.dp_plain.specs.Commands.{draw_all}
-use Rattle.dp_replay.specs.Replay.{replay}
+use Rattle.dp_msg_draw.specs.declared.draw.Draw.{Draw}
+use Rattle.dp_replay.specs.Replay.{replay, replay_on}
 use Rattle.dp_fork.specs.declared.own.Own.{Own}
 use Rattle.dp_fork.specs.declared.own.Own.TheVariants.{Stranger, Echo, Dropped, Lost}
 use Rattle.dp_client.specs.declared.client.Taken.{Taken}
@@ -136,3 +137,10 @@ confirmed s = replay s.taken
 -- the view: the confirmed canvas with the fork's commands drawn in order
 abbrev pub view : State → Board
 view s = draw_all (confirmed s) (filter_map command_of s.fork)
+
+-- the same two on a board of any kind, from a blank one on
+abbrev pub confirmed_on : {B : Type 0} → (B → Draw → B) → B → State → B
+confirmed_on draw blank s = replay_on draw blank s.taken
+
+abbrev pub view_on : {B : Type 0} → (B → Draw → B) → B → State → B
+view_on draw blank s = fold draw (confirmed_on draw blank s) (filter_map command_of s.fork)

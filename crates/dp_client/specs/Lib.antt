@@ -1,2 +1,4 @@
 pub mod Client
 pub mod Taking
+pub mod Drawn
+pub mod Due

@@ -1,11 +1,12 @@
 -- How a client greets its server.
 use Rattle.std.proofs.Common.{◌≡◌, ◌⊎◌, inl, inr, ℕ, true, false, Bool, ◌||◌, List, [], ◌∷◌}
 use Rattle.std.proofs.Common.{◌++◌, length}
-use Rattle.std.proofs.Common.{refl, ap, arith, if◌then◌else◌}
-use Rattle.std.specs.Prelude.{Option, Some, None, IfSome, IsTrue}
+use Rattle.std.proofs.Common.{refl, sym, ap, subst, arith, if◌then◌else◌, Ok, Err}
+use Rattle.std.specs.Prelude.{Option, Some, None, IfSome, IfOk, IfErr, IsTrue}
+use Rattle.std.specs.declared.result.Result.{Result}
 use Rattle.std.specs.Option.{option_map_or}
 use Rattle.std.specs.Io.KnownBytes.{Appends}
-use Rattle.dp_client.specs.Client.{welcomed}
+use Rattle.dp_client.specs.Client.{State, welcomed}
 use Rattle.dp_entries.specs.Input.{StandFor}
 use Rattle.dp_entries.specs.Reader.{HasRead, Reader}
 use Rattle.dp_frame.specs.Frames.{FrameParts}
@@ -94,6 +95,41 @@ no_welcome left old now first begun reads none other = record {
   fault = reads.kept;
 }
 
+-- the client is welcomed where there is memory for it
+pub welcomes_where : {E : Type 0} (r : Result State E) (left : Option (List ℕ)) (old now : Source)
+    (first : Entry) (user epoch at : ℕ) → IfSome left (λ bytes. HasGiven old bytes [])
+    → ReadsOn old now (first ∷ [])
+    → ((name : List ℕ) → greeted name first.msg ≡ Some (newcomer (welcomed user epoch at) name))
+    → IfOk r (λ client. client ≡ welcomed user epoch at) → IfOk r (Welcomes left old.faults now)
+welcomes_where (Err e) left old now first user epoch at begun reads welcome is = tt
+welcomes_where (Ok client) left old now first user epoch at begun reads welcome is =
+    subst (Welcomes left old.faults now) (sym is)
+    (welcomes left old now first user epoch at begun reads welcome)
+
+begins_with_nothing : (left : Option (List ℕ)) → IfSome left (λ bytes. BeginsWith bytes [])
+begins_with_nothing None = tt
+begins_with_nothing (Some bytes) = record {
+  frames = [];
+  more = bytes;
+  each = tt;
+  stand = tt;
+  whole = refl;
+  counts = omega arith;
+}
+
+-- memory ran out after the Welcome
+pub memory_stops : {C : Type 0} (r : Result C JoinStop) (left : Option (List ℕ))
+    (old now : Source) (es : List Entry) → ReadsOn old now es → IfErr r (λ stop. stop ≡ Memory)
+    → IfErr r (NoWelcome left old.faults now.faults)
+memory_stops (Ok client) left old now es reads is = tt
+memory_stops (Err stop) left old now es reads is =
+    subst (NoWelcome left old.faults now.faults) (sym is) (record {
+      given = [];
+      waits = λ name actions. refl;
+      reads = begins_with_nothing left;
+      fault = reads.kept;
+    })
+
 -- a message that is passed over, or closes the link, greets nobody
 none_greeted : (name : List ℕ) (m : Msg) → (is_disconnect m ≡ true) ⊎ (is_ping m ≡ true)
     → greeted name m ≡ None
@@ -138,17 +174,6 @@ known_shows None old given stop begun reads = tt
 known_shows (Some bytes) old given stop begun reads = reads bytes [] begun refl
 
 -- ---- the Hello
-
-begins_with_nothing : (left : Option (List ℕ)) → IfSome left (λ bytes. BeginsWith bytes [])
-begins_with_nothing None = tt
-begins_with_nothing (Some bytes) = record {
-  frames = [];
-  more = bytes;
-  each = tt;
-  stand = tt;
-  whole = refl;
-  counts = omega arith;
-}
 
 -- memory ran out before the Hello
 pub hello_refused : (name : List ℕ) (left held : Option (List ℕ)) (source sink : ℕ)

@@ -16,7 +16,7 @@ use std::alloc::{AllocError, Global};
 pub(crate) const CHAT_LIMIT: usize = 64;
 
 /// What a user has said.
-#[derive(Debug, Drop)]
+#[derive(Drop)]
 pub(crate) struct ChatLine {
     pub user: u8,
     pub text: Text,

@@ -16,11 +16,11 @@ use crate::pulling::pull;
 use crate::sending::send;
 use crate::stops::{JoinStop, LinkCause};
 use circular_buffer::HeapCircularBuffer;
-use dp_client::Client;
 use dp_entries::EntryReader;
 use dp_io::{Sink, Source};
 use dp_messages::Msg;
 use dp_msg_meta::{Control, NameBytes, Text};
+use dp_showing::CanvasClient;
 use std::alloc::Global;
 
 /// How many bytes of a link count: 1 GiB.
@@ -29,7 +29,7 @@ const LINK_LIMIT: u64 = 1 << 30;
 /// A client that a server has welcomed, with the reader of the link's further entries.
 #[derive(Drop)]
 pub(crate) struct Greeting {
-    pub client: Client,
+    pub client: CanvasClient,
     pub chats: HeapCircularBuffer<ChatLine>,
     pub reader: EntryReader<JoinStanding>,
 }
@@ -77,7 +77,7 @@ fn welcomed<R: Source>(
     alloc: Global,
     reader: &mut EntryReader<JoinStanding>,
     rx: &mut R,
-) -> Result<Client, JoinStop>
+) -> Result<CanvasClient, JoinStop>
     requires readable { IsReadable (source_at R.left R.faults reader.old rx.old) }
     requires begun { IfSome (R.left rx.old) (λ bytes.
         HasGiven (source_at R.left R.faults reader.old rx.old) bytes []) }
@@ -88,9 +88,19 @@ fn welcomed<R: Source>(
 {
     let first = pull(alloc, reader, rx)?;
     match welcome_of(&first.msg) {
-        Some(welcome) => Ok(Client::new(alloc, welcome.user, welcome.epoch, welcome.at)),
+        Some(welcome) => client_of(alloc, welcome),
         None => Err(JoinStop::NoEntry(LinkCause::Closed)),
     }
+}
+
+/// A client that was welcomed so.
+fn client_of(alloc: Global, welcome: Welcome) -> Result<CanvasClient, JoinStop>
+    ensures ok { IfOk result (λ client.
+        client ≡ welcomed welcome.user welcome.epoch welcome.at) }
+    ensures memory { IfErr result (λ stop. stop ≡ JoinStop.Memory) }
+{
+    let client = CanvasClient::new(alloc, welcome.user, welcome.epoch, welcome.at)?;
+    Ok(client)
 }
 
 /// What the message says, where it is a Welcome.

@@ -26,13 +26,12 @@ use crate::pulling::pull;
 use crate::sending::{send, send_entry, send_reset};
 use crate::stops::JoinStop;
 use circular_buffer::HeapCircularBuffer;
-use dp_client::Client;
 use dp_entries::EntryReader;
 use dp_io::{Sink, Source};
 use dp_messages::{Entry, Msg};
 use dp_msg_meta::Control;
 use dp_schedule::{JoinAction, ReportLine};
-use dp_showing::Shown;
+use dp_showing::{CanvasClient, Shown};
 use dp_snap::snapshot;
 use dp_steps::Steps;
 use std::alloc::Global;
@@ -42,7 +41,7 @@ use std::sync::ledger::Ledger;
 #[derive(Drop)]
 pub(crate) struct Joiner<R, S> {
     pub alloc: Global,
-    pub client: Client,
+    pub client: CanvasClient,
     pub chats: HeapCircularBuffer<ChatLine>,
     pub reader: EntryReader<JoinStanding>,
     pub rx: R,
@@ -72,18 +71,24 @@ impl<R: Source, S: Sink> Joiner<R, S> {
             action) }
     {
         match action {
-            JoinAction::Say(msg) => self.say(msg, output),
-            JoinAction::Take { count } => self.take(count, output),
-            JoinAction::View => self.show(Shown::View, output, draws, tiles),
-            JoinAction::Confirmed => self.show(Shown::Confirmed, output, draws, tiles),
-            JoinAction::Snapshot => self.show(Shown::Snapshot, output, draws, tiles),
-            JoinAction::Reset => self.reset(output, draws, tiles),
+            JoinAction::Say(msg) => self.say(msg, output, draws, tiles),
+            JoinAction::Take { count } => self.take(count, output, draws, tiles),
+            JoinAction::View => self.show(Shown::View, output),
+            JoinAction::Confirmed => self.show(Shown::Confirmed, output),
+            JoinAction::Snapshot => self.show(Shown::Snapshot, output),
+            JoinAction::Reset => self.reset(output),
             JoinAction::Chat => self.print_chats(output),
         }
     }
 
     /// Says a message: it goes out over the link first.
-    fn say<O: Sink>(&mut self, msg: Msg, output: &mut O) -> Result<(), JoinStop>
+    fn say<O: Sink, D: Ledger, T: Ledger>(
+        &mut self,
+        msg: Msg,
+        output: &mut O,
+        draws: &mut Steps<D>,
+        tiles: &mut Steps<T>,
+    ) -> Result<(), JoinStop>
         requires { 32 ≤ kind_of msg }
         ensures ok { OnOk result (Moves
             (seen R.left R.faults S.held S.faults O.held O.faults self.old output.old)
@@ -100,13 +105,19 @@ impl<R: Source, S: Sink> Joiner<R, S> {
         let user = self.client.user();
         let entry = Entry { user, msg };
         send_entry(self.alloc, &entry, &mut self.tx)?;
-        self.client.say(&entry.msg)?;
+        self.client.say(&entry.msg, draws, tiles)?;
         let line = ReportLine::Said(self.client.pending_len());
         print_line(self.alloc, line, output)
     }
 
     /// Takes so many entries of the link.
-    fn take<O: Sink>(&mut self, count: u32, output: &mut O) -> Result<(), JoinStop>
+    fn take<O: Sink, D: Ledger, T: Ledger>(
+        &mut self,
+        count: u32,
+        output: &mut O,
+        draws: &mut Steps<D>,
+        tiles: &mut Steps<T>,
+    ) -> Result<(), JoinStop>
         requires { IsReady self.old.client (source_of R.left R.faults self.old) }
         ensures ready { OnOk result
             (IsReady self.new.client (source_of R.left R.faults self.new)) }
@@ -121,13 +132,19 @@ impl<R: Source, S: Sink> Joiner<R, S> {
     {
         for _taken in 0..count {
             let entry = self.next_entry()?;
-            self.take_entry(&entry, output)?;
+            self.take_entry(&entry, output, draws, tiles)?;
         }
         Ok(())
     }
 
     /// Takes an entry. Where it opens an epoch, the Ack goes out over the link first.
-    fn take_entry<O: Sink>(&mut self, entry: &Entry, output: &mut O) -> Result<(), JoinStop>
+    fn take_entry<O: Sink, D: Ledger, T: Ledger>(
+        &mut self,
+        entry: &Entry,
+        output: &mut O,
+        draws: &mut Steps<D>,
+        tiles: &mut Steps<T>,
+    ) -> Result<(), JoinStop>
         requires { length self.old.client.taken < 2 ^ 32 - 1 }
         ensures ok { OnOk result (Moves
             (seen R.left R.faults S.held S.faults O.held O.faults self.old output.old)
@@ -143,7 +160,7 @@ impl<R: Source, S: Sink> Joiner<R, S> {
         ensures rx { self.new.rx ≡ self.old.rx }
     {
         let user = self.client.user();
-        let taken = self.client.take(entry)?;
+        let taken = self.client.take(entry, draws, tiles)?;
         self.acknowledge(user, taken.ack)?;
         self.keep_chat(entry)?;
         let line = ReportLine::Took {
@@ -208,13 +225,7 @@ impl<R: Source, S: Sink> Joiner<R, S> {
     }
 
     /// Prints what is shown of the client.
-    fn show<O: Sink, D: Ledger, T: Ledger>(
-        &self,
-        shown: Shown,
-        output: &mut O,
-        draws: &mut Steps<D>,
-        tiles: &mut Steps<T>,
-    ) -> Result<(), JoinStop>
+    fn show<O: Sink>(&self, shown: Shown, output: &mut O) -> Result<(), JoinStop>
         ensures ok { OnOk result (Moves
             (seen R.left R.faults S.held S.faults O.held O.faults self.now output.old)
             (seen R.left R.faults S.held S.faults O.held O.faults self.now output.new)
@@ -224,16 +235,11 @@ impl<R: Source, S: Sink> Joiner<R, S> {
             (seen R.left R.faults S.held S.faults O.held O.faults self.now output.new)
             (λ j. printed j (shown_text shown j.client))) }
     {
-        print_shown(self.alloc, &self.client, shown, output, draws, tiles)
+        print_shown(self.alloc, &self.client, shown, output)
     }
 
     /// Sends the confirmed canvas as a reset.
-    fn reset<O: Sink, D: Ledger, T: Ledger>(
-        &mut self,
-        output: &mut O,
-        draws: &mut Steps<D>,
-        tiles: &mut Steps<T>,
-    ) -> Result<(), JoinStop>
+    fn reset<O: Sink>(&mut self, output: &mut O) -> Result<(), JoinStop>
         ensures ok { OnOk result (Moves
             (seen R.left R.faults S.held S.faults O.held O.faults self.old output.old)
             (seen R.left R.faults S.held S.faults O.held O.faults self.new output.new)
@@ -247,8 +253,7 @@ impl<R: Source, S: Sink> Joiner<R, S> {
         ensures rx { self.new.rx ≡ self.old.rx }
     {
         let user = self.client.user();
-        let board = self.client.confirmed(draws, tiles)?;
-        let commands = snapshot(self.alloc, &board)?;
+        let commands = snapshot(self.alloc, self.client.confirmed())?;
         let commands = commands.as_slice();
         send_reset(self.alloc, user, commands, &mut self.tx)?;
         print_sent(self.alloc, commands.len() + 2, output)

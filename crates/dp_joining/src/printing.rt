@@ -11,15 +11,12 @@ ghost use Rattle.dp_showing.specs.Showing.{shown_text};
 use crate::chats::{ChatLine, chats_text};
 use crate::stops::JoinStop;
 use circular_buffer::HeapCircularBuffer;
-use dp_client::Client;
 use dp_flat::PictureEnd;
 use dp_io::{Failed, Sink, put_all};
 use dp_schedule::ReportLine;
-use dp_showing::{Shown, show};
-use dp_steps::Steps;
+use dp_showing::{CanvasClient, Shown, show};
 use itoa::Buffer;
 use std::alloc::{AllocError, Global};
-use std::sync::ledger::Ledger;
 
 /// Prints the bytes.
 fn put_output<O: Sink>(bytes: &[u8], output: &mut O) -> Result<(), JoinStop>
@@ -36,13 +33,11 @@ fn put_output<O: Sink>(bytes: &[u8], output: &mut O) -> Result<(), JoinStop>
 }
 
 /// Prints what is shown of a client.
-pub(crate) fn print_shown<O: Sink, D: Ledger, T: Ledger>(
+pub(crate) fn print_shown<O: Sink>(
     alloc: Global,
-    client: &Client,
+    client: &CanvasClient,
     shown: Shown,
     output: &mut O,
-    draws: &mut Steps<D>,
-    tiles: &mut Steps<T>,
 ) -> Result<(), JoinStop>
     ensures written { OnOk result
         (Appends (O.held output.old) (O.held output.new) (shown_text shown client.now)) }
@@ -52,7 +47,7 @@ pub(crate) fn print_shown<O: Sink, D: Ledger, T: Ledger>(
     ensures fault { IfErr result
         (FaultMatchesPrinting (O.faults output.old) (O.faults output.new)) }
 {
-    match show(alloc, client, shown, output, draws, tiles) {
+    match show(alloc, client, shown, output) {
         Ok(()) => Ok(()),
         Err(PictureEnd::Failed) => Err(JoinStop::WriteFault),
         Err(PictureEnd::Memory) => Err(JoinStop::Memory),

@@ -3,4 +3,6 @@
 
 mod replay;
 
-pub use replay::{UNDO_DEPTH, act_of, act_of_entry, is_command, plain_replay, replay_on, show_on};
+pub use replay::{
+    UNDO_DEPTH, act_of, act_of_entry, act_of_message, is_command, plain_replay, replay_on, show_on,
+};

@@ -7,7 +7,8 @@ ghost use Rattle.std.specs.List.{after_last, fold};
 ghost use Rattle.dp_board.specs.Commands.{command_of, commands, drawn_commands};
 ghost use Rattle.dp_board.specs.Counts.{CountsFew};
 ghost use Rattle.dp_replay.specs.Kinds.{kind_of_entry};
-ghost use Rattle.dp_replay.specs.Replay.{act_of, act_of_meta, user_act_of, is_command, is_mark};
+ghost use Rattle.dp_replay.specs.Replay.{act_of, act_of_message, act_of_meta, user_act_of};
+ghost use Rattle.dp_replay.specs.Replay.{is_command, is_mark};
 ghost use Rattle.dp_replay.specs.Replay.{moved_user, undo_depth, shown, shown_on, replay_on};
 
 use dp_board::{Act, Board, UserAct, commands_do_not_count, drawn_flags, each_act_has_a_flag};
@@ -26,17 +27,23 @@ pub const UNDO_DEPTH: u32 = 30;
 pub fn act_of(entry: &Entry) -> Result<Act<Draw>, AllocError>
     ensures { IfOk result (λ act. act ≡ act_of entry.now) }
 {
-    let user = entry.user;
-    Ok(match &entry.msg {
+    act_of_message(entry.user, &entry.msg)
+}
+
+/// What a message of a sender does to strokes, with a copy of its command.
+pub fn act_of_message(sender: u8, msg: &Msg) -> Result<Act<Draw>, AllocError>
+    ensures { IfOk result (λ act. act ≡ act_of_message sender msg.now) }
+{
+    Ok(match msg {
         Msg::Point => Act::Point,
         Msg::Undo {
             target,
             redo: false,
         } => Act::Undo {
-            who: moved_user(user, *target),
+            who: moved_user(sender, *target),
         },
         Msg::Undo { target, redo: true } => Act::Redo {
-            who: moved_user(user, *target),
+            who: moved_user(sender, *target),
         },
         Msg::Draw(command) => Act::Draw(command.copy()?),
         Msg::Meta(meta) => act_of_meta(meta),

@@ -9,4 +9,4 @@ mod showing;
 mod snapshot;
 mod text;
 
-pub use showing::{Shown, show};
+pub use showing::{CanvasClient, Shown, show};

@@ -9,12 +9,14 @@ ghost use Rattle.dp_showing.specs.Showing.{shown_text};
 
 use crate::recording::write_recording;
 use crate::snapshot::write_snapshot;
+use dp_canvas::Canvas;
 use dp_client::Client;
 use dp_flat::{PictureEnd, write_p3};
 use dp_io::Sink;
-use dp_steps::Steps;
 use std::alloc::Global;
-use std::sync::ledger::Ledger;
+
+/// A client that draws on canvases.
+pub type CanvasClient = Client<Canvas>;
 
 /// What is shown of a client.
 #[derive(Clone, Copy)]
@@ -29,7 +31,8 @@ pub enum Shown {
     Recording,
 }
 
-/// Writes what is shown of a client. A snapshot and a recording are written a frame at a time.
+/// Writes what is shown of a client, which draws nothing. A snapshot and a recording are written a
+/// frame at a time.
 ///
 /// # Errors
 ///
@@ -37,13 +40,11 @@ pub enum Shown {
 /// written then.
 ///
 /// The rule: docs/protocol.md, "Showing a client".
-pub fn show<O: Sink, D: Ledger, T: Ledger>(
+pub fn show<O: Sink>(
     alloc: Global,
-    client: &Client,
+    client: &CanvasClient,
     shown: Shown,
     output: &mut O,
-    draws: &mut Steps<D>,
-    tiles: &mut Steps<T>,
 ) -> Result<(), PictureEnd>
     ensures written { OnOk result
         (Appends (O.held output.old) (O.held output.new) (shown_text shown client.now)) }
@@ -54,18 +55,9 @@ pub fn show<O: Sink, D: Ledger, T: Ledger>(
     ensures cause { HasCause is_sink_fault (O.faults output.old) (O.faults output.new) result }
 {
     match shown {
-        Shown::View => {
-            let board = client.view(draws, tiles)?;
-            write_p3(alloc, &board, output)
-        }
-        Shown::Confirmed => {
-            let board = client.confirmed(draws, tiles)?;
-            write_p3(alloc, &board, output)
-        }
-        Shown::Snapshot => {
-            let board = client.confirmed(draws, tiles)?;
-            write_snapshot(alloc, &board, output)
-        }
+        Shown::View => write_p3(alloc, client.view(), output),
+        Shown::Confirmed => write_p3(alloc, client.confirmed(), output),
+        Shown::Snapshot => write_snapshot(alloc, client.confirmed(), output),
         Shown::Recording => write_recording(alloc, client.taken(), output),
     }
 }

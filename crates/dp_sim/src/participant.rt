@@ -31,7 +31,6 @@ ghost use Rattle.dp_sim.specs.Invariant.{IsSayable};
 ghost use Rattle.dp_sim.specs.Calls.{exchange, took_entry, CanTake, CanAct};
 
 use crate::reply_line::{cut_line, left_line, said_line};
-use dp_client::Client;
 use dp_epochs::{Answer, Entries, Event, Query, Reply};
 use dp_keeper::SureKeeper;
 use dp_machine::Machine;
@@ -40,6 +39,7 @@ use dp_msg_draw::Draw;
 use dp_msg_meta::Control;
 use dp_schedule::{Instruction, ReportLine};
 use dp_session::Session;
+use dp_showing::CanvasClient;
 use dp_snap::snapshot;
 use dp_steps::Steps;
 use std::alloc::{AllocError, Global};
@@ -48,7 +48,7 @@ use std::marker::Model;
 use std::sync::ledger::Ledger;
 
 /// Whether a client still sends.
-#[derive(Clone, Copy, Debug, PartialEq, Eq)]
+#[derive(Clone, Copy, PartialEq, Eq)]
 pub enum LinkState {
     /// It does.
     Connected,
@@ -63,7 +63,7 @@ pub enum LinkState {
 #[derive(Drop)]
 pub struct Participant {
     conn: u32,
-    client: Client,
+    client: CanvasClient,
     uplink: VecDeque<Msg>,
     link: LinkState,
 }
@@ -103,19 +103,25 @@ fn put_parts(uplink: &mut VecDeque<Msg>, commands: &[Draw]) -> Result<(), AllocE
 
 impl Participant {
     /// A client that has joined.
-    pub(crate) fn new(alloc: Global, conn: u32, user: u8, epoch: u32, at: u32) -> Participant
-        ensures { result ≡ new_participant conn user epoch at }
+    pub(crate) fn new(
+        alloc: Global,
+        conn: u32,
+        user: u8,
+        epoch: u32,
+        at: u32,
+    ) -> Result<Participant, AllocError>
+        ensures { IfOk result (λ participant. participant ≡ new_participant conn user epoch at) }
     {
-        Participant {
+        Ok(Participant {
             conn,
-            client: Client::new(alloc, user, epoch, at),
+            client: CanvasClient::new(alloc, user, epoch, at)?,
             uplink: VecDeque::new(alloc),
             link: LinkState::Connected,
-        }
+        })
     }
 
     /// What it has taken and said.
-    pub(crate) fn client(&self) -> &Client
+    pub(crate) fn client(&self) -> &CanvasClient
         ensures { result.now ≡ self.now.state }
     {
         &self.client
@@ -136,7 +142,12 @@ impl Participant {
     }
 
     /// The client says a message.
-    fn say(&mut self, msg: &Msg) -> Result<ReportLine, AllocError>
+    fn say<D: Ledger, T: Ledger>(
+        &mut self,
+        msg: &Msg,
+        draws: &mut Steps<D>,
+        tiles: &mut Steps<T>,
+    ) -> Result<ReportLine, AllocError>
         requires { 32 ≤ kind_of msg.now }
         ensures line { IfOk result (λ line. line ≡ report.Said (length self.old.state.fork + 1)) }
         ensures ok { OnOk result (self.new ≡ record self.old {
@@ -144,7 +155,7 @@ impl Participant {
           uplink = self.old.uplink ++ msg.now ∷ [];
         }) }
     {
-        self.client.say(msg)?;
+        self.client.say(msg, draws, tiles)?;
         self.uplink.push_back(msg.copy()?)?;
         Ok(ReportLine::Said(self.client.pending_len()))
     }
@@ -204,7 +215,12 @@ impl Participant {
     }
 
     /// The client takes the entry that comes next, if there is one.
-    fn take(&mut self, session: &Session<SureKeeper>) -> Result<ReportLine, AllocError>
+    fn take<D: Ledger, T: Ledger>(
+        &mut self,
+        session: &Session<SureKeeper>,
+        draws: &mut Steps<D>,
+        tiles: &mut Steps<T>,
+    ) -> Result<ReportLine, AllocError>
         requires { CanTake session.now self.old }
         ensures line { IfOk result (λ line. line
             ≡ next_taken_line (exchange session.now self.old)
@@ -215,18 +231,23 @@ impl Participant {
     {
         let entries = self.pull(session)?;
         match entries.as_slice().first() {
-            Some(entry) => self.take_entry(entry),
+            Some(entry) => self.take_entry(entry, draws, tiles),
             None => Ok(ReportLine::Nothing),
         }
     }
 
     /// The client takes the entry, and an Ack that is due joins the uplink.
-    fn take_entry(&mut self, entry: &Entry) -> Result<ReportLine, AllocError>
+    fn take_entry<D: Ledger, T: Ledger>(
+        &mut self,
+        entry: &Entry,
+        draws: &mut Steps<D>,
+        tiles: &mut Steps<T>,
+    ) -> Result<ReportLine, AllocError>
         requires { length self.old.state.taken < 2 ^ 32 - 1 }
         ensures line { IfOk result (λ line. line ≡ took_line (taken_of self.old.state entry.now)) }
         ensures ok { OnOk result (self.new ≡ took_entry self.old entry.now) }
     {
-        let taken = self.client.take(entry)?;
+        let taken = self.client.take(entry, draws, tiles)?;
         if let Some(epoch) = taken.ack {
             self.uplink.push_back(Msg::Control(Control::Ack { epoch }))?;
         }
@@ -237,17 +258,11 @@ impl Participant {
     }
 
     /// A reset to what the client has taken joins the uplink.
-    fn reset<D: Ledger, T: Ledger>(
-        &mut self,
-        alloc: Global,
-        draws: &mut Steps<D>,
-        tiles: &mut Steps<T>,
-    ) -> Result<ReportLine, AllocError>
+    fn reset(&mut self, alloc: Global) -> Result<ReportLine, AllocError>
         ensures line { IfOk result (λ line. line ≡ report.Sent (length (reset_of self.old))) }
         ensures ok { OnOk result (self.new ≡ with_sent self.old (reset_of self.old)) }
     {
-        let board = self.client.confirmed(draws, tiles)?;
-        let commands = snapshot(alloc, &board)?;
+        let commands = snapshot(alloc, self.client.confirmed())?;
         self.send_reset(commands.as_slice())
     }
 
@@ -309,10 +324,10 @@ impl Participant {
             return Ok(ReportLine::Gone);
         }
         match instruction {
-            Instruction::Say(msg) => self.say(msg),
+            Instruction::Say(msg) => self.say(msg, draws, tiles),
             Instruction::Up => self.up(session),
-            Instruction::Take => self.take(session),
-            Instruction::Reset => self.reset(alloc, draws, tiles),
+            Instruction::Take => self.take(session, draws, tiles),
+            Instruction::Reset => self.reset(alloc),
             Instruction::Leave => self.leave(),
             Instruction::Cut => self.cut(session),
         }

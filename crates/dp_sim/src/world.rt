@@ -10,12 +10,12 @@ ghost use Rattle.dp_sim.specs.Invariant.{IsWorld, IsSayable};
 
 use crate::laws::worlds_stay_worlds;
 use crate::participant::{Participant, serve};
-use dp_client::Client;
 use dp_epochs::{Event, Reply, histories_are_short};
 use dp_frame::Octets;
 use dp_keeper::{Rows, SureKeeper};
 use dp_schedule::{Instruction, ReportLine};
 use dp_session::Session;
+use dp_showing::CanvasClient;
 use dp_steps::Steps;
 use std::alloc::{AllocError, Global};
 use std::marker::Model;
@@ -76,7 +76,7 @@ impl World {
                 epoch,
                 at,
             } => {
-                let participant = Participant::new(self.alloc, conn, user, epoch, at);
+                let participant = Participant::new(self.alloc, conn, user, epoch, at)?;
                 self.participants.push(participant)?;
                 ReportLine::Joined {
                     client: conn,
@@ -157,7 +157,7 @@ impl World {
     }
 
     /// What the client of this number has taken and said.
-    pub fn client(&self, client: u32) -> &Client
+    pub fn client(&self, client: u32) -> &CanvasClient
         requires { IsSome (participant_of self.now client) }
         ensures { IfSome (participant_of self.now client)
             (λ participant. result.now ≡ participant.state) }

@@ -137,19 +137,12 @@ impl WorldRun {
                 let line = self.world.act(client, &instruction, draws, tiles)?;
                 put_line(self.alloc, line, output)
             }
-            Action::Show { client, kind } => self.show(client, kind, output, draws, tiles),
+            Action::Show { client, kind } => self.show(client, kind, output),
         }
     }
 
     /// Writes what is printed of the client of this number.
-    fn show<O: Sink, D: Ledger, T: Ledger>(
-        &self,
-        client: u32,
-        kind: CanvasKind,
-        output: &mut O,
-        draws: &mut Steps<D>,
-        tiles: &mut Steps<T>,
-    ) -> Result<(), PictureEnd>
+    fn show<O: Sink>(&self, client: u32, kind: CanvasKind, output: &mut O) -> Result<(), PictureEnd>
         requires { IsSome (participant_of self.now.world client) }
         ensures written { OnOk result (Appends (O.held output.old) (O.held output.new)
             (printed self.now.world (Shows client kind))) }
@@ -160,7 +153,7 @@ impl WorldRun {
         ensures cause { HasCause is_sink_fault (O.faults output.old) (O.faults output.new) result }
     {
         let client = self.world.client(client);
-        show(self.alloc, client, shown_of(kind), output, draws, tiles)
+        show(self.alloc, client, shown_of(kind), output)
     }
 }
 

@@ -5,36 +5,36 @@ use Rattle.dp_showing.specs.Showing.{recording_text, shown_text}
 use Rattle.dp_showing.proofs.Pieces.{prefix_is, written_is}
 use Rattle.dp_showing.proofs.showing.show.Goals as goal
 
-pub returns-in_ok-board-in-View-clause-written : goal.returns-in_ok-board-in-View-clause-written
-returns-in_ok-board-in-View-clause-written g c =
-    written_is c.write_p3.result _ _ (p3 c.in_ok-board-in-View.board)
+pub returns-in-View-clause-written : goal.returns-in-View-clause-written
+returns-in-View-clause-written g c =
+    written_is c.write_p3.result _ _ (p3 c.view.result.now)
     (shown_text c.args.shown c.args.client.now)
-    (ap p3 c.in_ok-board-in-View.ensures
+    (ap p3 c.view.ensures
     ∙ ap (λ (s : Shown). shown_text s c.args.client.now) (sym c.in-View.is))
     c.write_p3.ensures.written
 
-pub returns-in_ok-board-in-View-clause-prefix : goal.returns-in_ok-board-in-View-clause-prefix
-returns-in_ok-board-in-View-clause-prefix g c =
-    prefix_is _ _ (p3 c.in_ok-board-in-View.board) (shown_text c.args.shown c.args.client.now)
-    (ap p3 c.in_ok-board-in-View.ensures
+pub returns-in-View-clause-prefix : goal.returns-in-View-clause-prefix
+returns-in-View-clause-prefix g c =
+    prefix_is _ _ (p3 c.view.result.now) (shown_text c.args.shown c.args.client.now)
+    (ap p3 c.view.ensures
     ∙ ap (λ (s : Shown). shown_text s c.args.client.now) (sym c.in-View.is))
     c.write_p3.ensures.prefix
 
-pub returns-in_ok-board-in-Confirmed-clause-written :
-    goal.returns-in_ok-board-in-Confirmed-clause-written
-returns-in_ok-board-in-Confirmed-clause-written g c =
-    written_is c.write_p3-in-Confirmed.result _ _ (p3 c.in_ok-board-in-Confirmed.board)
+pub returns-in-Confirmed-clause-written :
+    goal.returns-in-Confirmed-clause-written
+returns-in-Confirmed-clause-written g c =
+    written_is c.write_p3-in-Confirmed.result _ _ (p3 c.confirmed.result.now)
     (shown_text c.args.shown c.args.client.now)
-    (ap p3 c.in_ok-board-in-Confirmed.ensures
+    (ap p3 c.confirmed.ensures
     ∙ ap (λ (s : Shown). shown_text s c.args.client.now) (sym c.in-Confirmed.is))
     c.write_p3-in-Confirmed.ensures.written
 
-pub returns-in_ok-board-in-Confirmed-clause-prefix :
-    goal.returns-in_ok-board-in-Confirmed-clause-prefix
-returns-in_ok-board-in-Confirmed-clause-prefix g c =
-    prefix_is _ _ (p3 c.in_ok-board-in-Confirmed.board)
+pub returns-in-Confirmed-clause-prefix :
+    goal.returns-in-Confirmed-clause-prefix
+returns-in-Confirmed-clause-prefix g c =
+    prefix_is _ _ (p3 c.confirmed.result.now)
     (shown_text c.args.shown c.args.client.now)
-    (ap p3 c.in_ok-board-in-Confirmed.ensures
+    (ap p3 c.confirmed.ensures
     ∙ ap (λ (s : Shown). shown_text s c.args.client.now) (sym c.in-Confirmed.is))
     c.write_p3-in-Confirmed.ensures.prefix
 

@@ -14,26 +14,12 @@ use Rattle.dp_joining.proofs.Moving.{fails_first, fails_last, fails_memory, grow
 use Rattle.dp_joining.proofs.Moving.{reset_length, resets_adds, resets_leads}
 use Rattle.dp_joining.proofs.joiner.Joiner.reset.Goals as goal
 
-pub returns-in_err-board-clause-err : goal.returns-in_err-board-clause-err
-returns-in_err-board-clause-err g c =
-    let see = seen g.R.Source.left g.R.Source.faults g.S.Sink.held g.S.Sink.faults g.O.Sink.held
-    g.O.Sink.faults in
-    let old = see c.args.self.now c.args.output.now in
-    let p = err_from_is_err_and c.from_residual.result c.from_residual.ensures.1 in
-    rw (p.1, p.2) (fails_memory old old
-    (λ (j : Joining). reset_by j (reset_messages (snapshot (confirmed j.client)))) _ _
-    (resets_adds old c.user-user.result
-    (length (reset_messages (snapshot (confirmed old.client))))
-    (reset_messages (snapshot (confirmed old.client))) c.user-user.ensures refl refl)
-    (grows_not old.written _) refl (record { print = refl; write = refl; read = refl }))
-
 pub returns-in_err-commands-clause-err : goal.returns-in_err-commands-clause-err
 returns-in_err-commands-clause-err g c =
     let see = seen g.R.Source.left g.R.Source.faults g.S.Sink.held g.S.Sink.faults g.O.Sink.held
     g.O.Sink.faults in
     let old = see c.args.self.now c.args.output.now in
-    let p = err_from_is_err_and c.from_residual-in_err-commands.result
-    c.from_residual-in_err-commands.ensures.1 in
+    let p = err_from_is_err_and c.from_residual.result c.from_residual.ensures.1 in
     rw (p.1, p.2) (fails_memory old old
     (λ (j : Joining). reset_by j (reset_messages (snapshot (confirmed j.client)))) _ _
     (resets_adds old c.user-user.result
@@ -49,7 +35,7 @@ returns-in_err-send_reset-clause-err g c =
     let commands = c.as_slice-commands.result.now in
     let is : commands ≡ snapshot (confirmed old.client) =
     c.as_slice-commands.ensures ∙ c.in_ok-commands.ensures.snapshot
-    ∙ ap snapshot c.in_ok-board.ensures in
+    ∙ ap snapshot c.confirmed.ensures in
     let adds = resets_adds old c.user-user.result (length commands + 2) (reset_messages commands)
     c.user-user.ensures (sym (reset_length commands)) (ap reset_messages is) in
     let p = err_from_is_err_and c.from_residual-in_err-send_reset.result
@@ -67,7 +53,7 @@ returns-clause-ok g c =
     let commands = c.as_slice-commands.result.now in
     let is : commands ≡ snapshot (confirmed old.client) =
     c.as_slice-commands.ensures ∙ c.in_ok-commands.ensures.snapshot
-    ∙ ap snapshot c.in_ok-board.ensures in
+    ∙ ap snapshot c.confirmed.ensures in
     let adds = resets_adds old c.user-user.result (length commands + 2) (reset_messages commands)
     c.user-user.ensures (sym (reset_length commands)) (ap reset_messages is) in
     let now = see (record c.args.self.now { tx = c.send_reset.new.tx }) c.print_sent.new.output in
@@ -84,7 +70,7 @@ returns-clause-err g c =
     let commands = c.as_slice-commands.result.now in
     let is : commands ≡ snapshot (confirmed old.client) =
     c.as_slice-commands.ensures ∙ c.in_ok-commands.ensures.snapshot
-    ∙ ap snapshot c.in_ok-board.ensures in
+    ∙ ap snapshot c.confirmed.ensures in
     let adds = resets_adds old c.user-user.result (length commands + 2) (reset_messages commands)
     c.user-user.ensures (sym (reset_length commands)) (ap reset_messages is) in
     fails_last c.print_sent.result old
