@@ -11,13 +11,17 @@ use Rattle.dp_app.specs.declared.ending.Ending.TheVariants.{Run}
 use Rattle.dp_app.specs.Answer.{SaysLine, status_of}
 use Rattle.dp_app.specs.Endings.{Streams, code_of, ending_line}
 use Rattle.dp_app.specs.Runs.{IsReadWhole, IsUnfailed}
-use Rattle.dp_app.proofs.ByKind.{Matches}
+use Rattle.dp_app.proofs.ByKind.{Counted, Matches}
 
 -- ---- statuses of runs
 
 pub not-refused : (end : RunEnd) → (status_of end ≢ 1) × (status_of end ≢ 13)
 not-refused Done = (λ e. omega (arith, e), λ e. omega (arith, e))
 not-refused _ = (λ e. omega (arith, e), λ e. omega (arith, e))
+
+pub not-stored : (end : RunEnd) → (status_of end ≢ 6) × (status_of end ≢ 14)
+not-stored Done = (λ e. omega (arith, e), λ e. omega (arith, e))
+not-stored _ = (λ e. omega (arith, e), λ e. omega (arith, e))
 
 pub is-link-fault : (end : RunEnd) → status_of end ≡ 5 → end ≡ LinkFault
 is-link-fault LinkFault e = refl
@@ -51,11 +55,6 @@ not-fault status h = (λ e. grind (arith, h, e), λ e. grind (arith, h, e))
 abbrev pub Said : Option (List ℕ) → Option (List ℕ) → ℕ → ℕ → ℕ → Ending → Type 0
 Said dold dnew before now status ending =
     SaysLine (code_of ending) (ending_line ending) dold dnew before now status
-
--- what the counts of the input and the output do where the program ends so
-abbrev pub Counted : Streams → Ending → Type 0
-Counted s (Run end) = Matches s end
-Counted s _ = (s.read_now ≡ s.read) × (s.written_now ≡ s.written)
 
 module _ (s : Streams) where
   -- what a status says of the counts where diag didn't fail: 3, 4, or another

@@ -1,4 +1,5 @@
 pub mod Answering
 pub mod ByKind
+pub mod Digits
 pub mod Ends
 pub mod LocalRuns

@@ -60,8 +60,8 @@ pub record Answer : Type 0 where
   pub line : List ℕ
 
 -- the answer of a run that ends so, with this text
-abbrev pub answer_of : RunEnd → List ℕ → Answer
-answer_of end text = record { status = status_of end; text = text; line = line_of end }
+abbrev pub answer_for : RunEnd → List ℕ → Answer
+answer_for end text = record { status = status_of end; text = text; line = line_of end }
 
 -- the answer to words that are no command
 abbrev pub usage_answer : Answer

@@ -5,7 +5,7 @@ use Rattle.dp_joining.specs.Outcomes.{JoinComesTo, JoinOutcome}
 use Rattle.dp_wire.specs.Links.{Links}
 use Rattle.dp_words.specs.declared.command_line.CommandLine.{CommandLine}
 use Rattle.dp_words.specs.declared.command_line.CommandLine.TheVariants.{Local, Join, Listen}
-use Rattle.dp_app.specs.Answer.{Answer, answer_of, no_link_answer, usage_answer}
+use Rattle.dp_app.specs.Answer.{Answer, answer_for, no_link_answer, usage_answer}
 use Rattle.dp_app.specs.Commands.{Asks, HasLink, IsCommand}
 use Rattle.dp_app.specs.Endings.{Wires}
 use Rattle.dp_app.specs.Runs.{run_of}
@@ -17,7 +17,7 @@ DueOf (Local command) input link answer = (run_of command).due input answer
 DueOf (Join addr name) input None answer = answer ≡ no_link_answer
 DueOf (Join addr name) input (Some link) answer =
     (outcome : JoinOutcome) × JoinComesTo name input link outcome
-    × (answer ≡ answer_of outcome.end outcome.text)
+    × (answer ≡ answer_for outcome.end outcome.text)
 DueOf (Listen addr workers conns service) input link answer = answer ≡ no_link_answer
 
 -- The answer that the words, the input's bytes and the link's are due: that of the command for

@@ -5,7 +5,7 @@ use Rattle.dp_lines.specs.declared.run_end.RunEnd.{RunEnd}
 use Rattle.dp_app.specs.declared.ending.Ending.{Ending}
 use Rattle.dp_app.specs.declared.ending.Ending.TheVariants.{NoWords, Run}
 use Rattle.dp_app.specs.Answer.{SaysLine}
-use Rattle.dp_app.specs.Endings.{Effects, IsUntouched, KeepsNothing, Streams, Wires, code_of}
+use Rattle.dp_app.specs.Endings.{Effects, NothingIsDone, KeepsNothing, Streams, Wires, code_of}
 use Rattle.dp_app.specs.Endings.{ending_line}
 
 -- the streams as a run over a link sees them
@@ -39,5 +39,5 @@ pub record HasJoined {W R T : Type 0} (see : Wires W R T) (name : List ℕ) (e :
     (diag said : Option (List ℕ)) (before now status : ℕ) : Type 0 where
   pub ending : Ending
   pub joins : ((end : RunEnd) × (ending ≡ Run end) × JoinsOn see name e end)
-      ⊎ ((ending ≡ NoWords) × IsUntouched e)
+      ⊎ ((ending ≡ NoWords) × NothingIsDone e)
   pub says : SaysLine (code_of ending) (ending_line ending) diag said before now status

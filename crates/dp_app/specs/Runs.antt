@@ -17,7 +17,7 @@ use Rattle.dp_words.specs.declared.command_line.LocalCommand.{LocalCommand}
 use Rattle.dp_words.specs.declared.command_line.LocalCommand.TheVariants.{Replay, World, Play}
 use Rattle.dp_world.specs.RunEnds.{WorldLeaves, lines_end_of}
 use Rattle.dp_world.specs.Schedule.{WorldComesTo}
-use Rattle.dp_app.specs.Answer.{Answer, answer_of}
+use Rattle.dp_app.specs.Answer.{Answer, answer_for}
 
 -- A command on an input and an output: the answer that an input of these bytes is due, what a run
 -- leaves that ends so, and whether it reads its input to the end.
@@ -55,13 +55,15 @@ IsReadWhole (BadMessage n) left = ⊤
 IsReadWhole Closed left = ⊤
 IsReadWhole BadHeader left = ⊤
 
--- Each input is due one answer, and it is given where nothing failed. A run that reads its input
--- reads all of it where its end says so. It has begun with nothing, and it has no link.
-pub record IsRun (run : Run) : Type 0 where
+-- Each input is due one answer, and it is given where nothing failed; it can't be that it is due
+-- none. A run that reads its input reads all of it where its end says so. It has begun with
+-- nothing, and it has no link.
+pub record IsLocalRun (run : Run) : Type 0 where
   pub given : (bytes : List ℕ) (left old new : Option (List ℕ)) (end : RunEnd)
       → run.leaves (Some bytes) left old new end → IsUnfailed end
-      → (text : List ℕ) × run.due bytes (answer_of end text) × Appends old new text
+      → (text : List ℕ) × run.due bytes (answer_for end text) × Appends old new text
   pub one : (bytes : List ℕ) (a b : Answer) → run.due bytes a → run.due bytes b → a ≡ b
+  pub some : (bytes : List ℕ) → ¬ ((a : Answer) → ¬ run.due bytes a)
   pub whole : (input left old new : Option (List ℕ)) (end : RunEnd)
       → run.leaves input left old new end → run.reads → IsReadWhole end left
   pub begun : (input left old new : Option (List ℕ)) → Keeps old new
@@ -74,7 +76,7 @@ pub record IsRun (run : Run) : Type 0 where
 abbrev pub picture_run : Way → Run
 picture_run way = record {
   due = λ bytes answer. (entries : List Entry) × (end : RunEnd) × way.comes bytes entries end
-      × (answer ≡ answer_of end (picture_text way entries end));
+      × (answer ≡ answer_for end (picture_text way entries end));
   leaves = PictureLeaves way;
   reads = ⊤;
 }
@@ -86,7 +88,7 @@ abbrev pub world_run : Run
 world_run = record {
   due = λ bytes answer. (done : List Line) × (actions : List Action) × (end : LinesEnd)
       × WorldComesTo bytes done actions end
-      × (answer ≡ answer_of (lines_end_of end) (report actions));
+      × (answer ≡ answer_for (lines_end_of end) (report actions));
   leaves = WorldLeaves;
   reads = ⊤;
 }

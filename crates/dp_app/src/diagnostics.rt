@@ -1,11 +1,12 @@
 //! The lines that are said on diag.
 
-ghost use Rattle.std.specs.Prelude.{◌≡◌, ◌≤◌, ◌++◌, length, codes, decimal, OnOk};
+ghost use Rattle.std.specs.Prelude.{◌≡◌, ◌≤◌, ◌++◌, ◌∷◌, [], length, decimal, OnOk};
 ghost use Rattle.std.specs.Io.KnownBytes.{Appends};
 ghost use Rattle.dp_io.specs.Faults.{HasCause, any_fault};
 ghost use Rattle.dp_io.specs.Streams.{GrowsByPrefix};
 ghost use Rattle.dp_app.specs.Answer.{line_of, SaysLine};
-ghost use Rattle.dp_app.specs.Endings.{code_of, ending_line};
+ghost use Rattle.dp_app.specs.Endings.{bad_row_line, code_of, ending_line};
+ghost use Rattle.dp_lines.specs.Hexadecimal.{hex_text};
 
 use crate::ending::Ending;
 use crate::status::status_of;
@@ -15,8 +16,8 @@ use dp_lines::RunEnd;
 use itoa::Buffer;
 
 /// Says how the program ended, and answers its status: 4 where diag fails.
-pub(crate) fn say<E: Sink>(diag: &mut E, ending: Ending) -> u8
-    ensures says { SaysLine (code_of ending) (ending_line ending)
+pub(crate) fn say<E: Sink>(diag: &mut E, ending: &Ending) -> u8
+    ensures says { SaysLine (code_of ending.now) (ending_line ending.now)
         (E.held diag.old) (E.held diag.new) (E.faults diag.old) (E.faults diag.new) result }
     ensures later { E.faults diag.old ≤ E.faults diag.new }
 {
@@ -27,20 +28,23 @@ pub(crate) fn say<E: Sink>(diag: &mut E, ending: Ending) -> u8
 }
 
 /// The program's status where it ends so.
-fn code_of(ending: Ending) -> u8
-    ensures { result ≡ code_of ending }
+fn code_of(ending: &Ending) -> u8
+    ensures { result ≡ code_of ending.now }
 {
     match ending {
         Ending::Usage => 1,
         Ending::NoLink => 13,
         Ending::NoWords => status_of(RunEnd::Memory),
-        Ending::Run(end) => status_of(end),
+        Ending::Run(end) => status_of(*end),
+        Ending::StoreFault => 6,
+        Ending::BadRow { .. } => 14,
     }
 }
 
-fn put_ending<E: Sink>(diag: &mut E, ending: Ending) -> Result<(), Failed>
-    ensures line { OnOk result (Appends (E.held diag.old) (E.held diag.new) (ending_line ending)) }
-    ensures prefix { GrowsByPrefix (E.held diag.old) (E.held diag.new) (ending_line ending) }
+fn put_ending<E: Sink>(diag: &mut E, ending: &Ending) -> Result<(), Failed>
+    ensures line { OnOk result
+        (Appends (E.held diag.old) (E.held diag.new) (ending_line ending.now)) }
+    ensures prefix { GrowsByPrefix (E.held diag.old) (E.held diag.new) (ending_line ending.now) }
     ensures cause { HasCause any_fault (E.faults diag.old) (E.faults diag.new) result }
 {
     match ending {
@@ -50,8 +54,42 @@ fn put_ending<E: Sink>(diag: &mut E, ending: Ending) -> Result<(), Failed>
         ),
         Ending::NoLink => put_all(diag, b"no link\n"),
         Ending::NoWords => put_line(diag, RunEnd::Memory),
-        Ending::Run(end) => put_line(diag, end),
+        Ending::Run(end) => put_line(diag, *end),
+        Ending::StoreFault => put_all(diag, b"store fault\n"),
+        Ending::BadRow { n, row } => put_bad_row(diag, *n, row.bytes.as_slice()),
     }
+}
+
+fn put_bad_row<E: Sink>(diag: &mut E, n: u64, bytes: &[u8]) -> Result<(), Failed>
+    ensures line { OnOk result
+        (Appends (E.held diag.old) (E.held diag.new) (bad_row_line n bytes.now)) }
+    ensures prefix { GrowsByPrefix (E.held diag.old) (E.held diag.new)
+        (bad_row_line n bytes.now) }
+    ensures cause { HasCause any_fault (E.faults diag.old) (E.faults diag.new) result }
+{
+    put_all(diag, place_line("bad row ", n, " ").as_bytes())?;
+    put_digits(diag, bytes)?;
+    put_all(diag, b"\n")
+}
+
+/// Puts bytes as hexadecimal digits. It takes no memory.
+fn put_digits<E: Sink>(diag: &mut E, bytes: &[u8]) -> Result<(), Failed>
+    ensures line { OnOk result (Appends (E.held diag.old) (E.held diag.new) (hex_text bytes.now)) }
+    ensures prefix { GrowsByPrefix (E.held diag.old) (E.held diag.new) (hex_text bytes.now) }
+    ensures cause { HasCause any_fault (E.faults diag.old) (E.faults diag.new) result }
+{
+    for byte in bytes {
+        put_all(diag, &digits_of(*byte))?;
+    }
+    Ok(())
+}
+
+/// The two digits of a byte.
+fn digits_of(byte: u8) -> [u8; 2]
+    ensures { result ≡ hex_text (byte ∷ []) }
+{
+    let digits = b"0123456789abcdef";
+    [digits[(byte / 16) as usize], digits[(byte % 16) as usize]]
 }
 
 fn put_line<E: Sink>(diag: &mut E, end: RunEnd) -> Result<(), Failed>
@@ -62,29 +100,32 @@ fn put_line<E: Sink>(diag: &mut E, end: RunEnd) -> Result<(), Failed>
     match end {
         RunEnd::Done => Ok(()),
         RunEnd::BadLine(number) => {
-            put_all(diag, place_line("bad line ", u64::from(number)).as_bytes())
+            put_all(
+                diag,
+                place_line("bad line ", u64::from(number), "\n").as_bytes(),
+            )
         }
         RunEnd::ReadFault => put_all(diag, b"read fault\n"),
         RunEnd::WriteFault => put_all(diag, b"write fault\n"),
         RunEnd::LinkFault => put_all(diag, b"link fault\n"),
         RunEnd::Memory => put_all(diag, b"out of memory\n"),
         RunEnd::Long => put_all(diag, b"input too long\n"),
-        RunEnd::Truncated(at) => put_all(diag, place_line("truncated at ", at).as_bytes()),
-        RunEnd::BadMessage(at) => put_all(diag, place_line("bad message at ", at).as_bytes()),
+        RunEnd::Truncated(at) => put_all(diag, place_line("truncated at ", at, "\n").as_bytes()),
+        RunEnd::BadMessage(at) => put_all(diag, place_line("bad message at ", at, "\n").as_bytes()),
         RunEnd::Closed => put_all(diag, b"link closed\n"),
         RunEnd::BadHeader => put_all(diag, b"bad header\n"),
     }
 }
 
-/// The words, and then the place in decimal, as a line.
-fn place_line(words: &str, at: u64) -> ArrayString<96>
-    requires { length words.now ≤ 32 }
-    ensures { result.bytes ≡ words.now ++ decimal at ++ codes "\n" }
+/// The words, and then the place in decimal, and what is after it.
+fn place_line(words: &str, at: u64, after: &str) -> ArrayString<96>
+    requires { (length words.now ≤ 32) × (length after.now ≤ 32) }
+    ensures { result.bytes ≡ words.now ++ decimal at ++ after.now }
 {
     let mut digits = Buffer::new();
     let mut line = ArrayString::new();
     line.push_str(words);
     line.push_str(digits.format(at));
-    line.push_str("\n");
+    line.push_str(after);
     line
 }

@@ -1,9 +1,10 @@
 //! The ways in which the program ends.
 
+use dp_keeper::Row;
 use dp_lines::RunEnd;
 
 /// A way in which the program ends.
-#[derive(Clone, Copy, Debug, PartialEq, Eq)]
+#[derive(Debug, Drop)]
 pub(crate) enum Ending {
     /// The words are no command.
     Usage,
@@ -13,4 +14,8 @@ pub(crate) enum Ending {
     NoWords,
     /// A run of the command ended so.
     Run(RunEnd),
+    /// The store failed.
+    StoreFault,
+    /// This row, at this place of the store, may not stand there.
+    BadRow { n: u64, row: Row },
 }

@@ -3,7 +3,9 @@
 ghost use Rattle.std.specs.Prelude.{◌≡◌, ◌≢◌, ◌⊎◌, ◌<◌, ◌≤◌, [], ℕ, List, Option, IfSome};
 ghost use Rattle.std.specs.Prelude.{length};
 ghost use Rattle.std.specs.Io.KnownBytes.{Keeps, IsAtEnd};
+ghost use Rattle.dp_hall.specs.Names.{AreDistinct};
 ghost use Rattle.dp_io.specs.Faults.{Rose};
+ghost use Rattle.dp_serve_laws.specs.Reported.{reported};
 ghost use Rattle.dp_lines.specs.declared.run_end.RunEnd.{RunEnd};
 ghost use Rattle.dp_lines.specs.declared.run_end.RunEnd.TheVariants.{Memory};
 ghost use Rattle.dp_words.specs.declared.command_line.CommandLine.{CommandLine};
@@ -17,20 +19,22 @@ ghost use Rattle.dp_app.specs.Answer.{SaysNoLink, SaysUsage};
 ghost use Rattle.dp_app.specs.Commands.{AskAndLack, AskForLocal, Asks, HasLink, HasLinks, HasWires};
 ghost use Rattle.dp_app.specs.Commands.{IsCommand, IsWorld, LacksWires};
 ghost use Rattle.dp_app.specs.Due.{GetsLink, IsDue};
-ghost use Rattle.dp_app.specs.Endings.{KeepsNothing, effects, kept, streams, wire_seen};
+ghost use Rattle.dp_app.specs.Endings.{KeepsNothing, effects, kept, stores, streams, wire_seen};
 ghost use Rattle.dp_app.specs.Faults.{AskAndFailed};
 ghost use Rattle.dp_app.specs.Joins.{HasJoined};
 ghost use Rattle.dp_app.specs.Kinds.{Reads};
 ghost use Rattle.dp_app.specs.Runs.{run_of};
-ghost use Rattle.dp_app.specs.Servers.{HasServed};
+ghost use Rattle.dp_app.specs.Servers.{HasServed, HasBadRow};
 
 use crate::diagnostics::say;
 use crate::laws::local_commands_are_runs;
 use crate::running::{Ran, run_words};
 use dp_epochs::{Journal, Shut};
 use dp_io::{Sink, Source};
-use dp_joining::one_outcome;
+use dp_joining::{each_outcome, one_outcome};
+use dp_keeper::Keeper;
 use dp_serve::Reports;
+use dp_serve_laws::{reports_name_distinct_connections, store_faults_are_counted};
 use dp_sim::headline;
 use dp_steps::Steps;
 use dp_wire::{Gate, Wire};
@@ -61,16 +65,16 @@ pub struct Outcome<W, K> {
 
 /// The program: its words after its name, its input, its output, where it says why it ended, and
 /// the wires on which it may dial or that hand out the links of a server (`wanted` of dp_words says
-/// which it needs). The keeper comes back as it was: no command stores anything yet. The gate is
-/// passed by the workers of a server, outside the session's turn. The work on its canvas is
-/// counted. Nothing else is read or written.
+/// which it needs). A server resumes the session of the keeper's rows, and keeps its events there.
+/// The gate is passed by the workers of a server, outside the session's turn. The work on its
+/// canvas is counted. Nothing else is read or written.
 pub fn drawpile<
     R: Threads + Wait + Sync,
     I: Source,
     O: Sink,
     E: Sink,
     W: Wire + Send,
-    K,
+    K: Keeper + Send,
     G: Gate,
     D: Ledger,
     T: Ledger,
@@ -120,18 +124,23 @@ pub fn drawpile<
     ensures joins { (addr name : List ℕ) → Asks words.now (Join addr name) → wires.items ≢ []
         → HasJoined (wire_seen W.links W.faults W.Rx.left W.Rx.faults W.Tx.held W.Tx.faults)
         name (effects (streams I.left I.faults O.held O.faults input.old input.new output.old
-        output.new) wires.items result.wires.items (kept result.journal result.shut result.reports))
+        output.new) wires.items result.wires.items
+        (stores K.held K.put_faults K.read_faults keeper result.keeper)
+        (kept result.journal result.shut result.reports))
         (E.held diag.old) (E.held diag.new) (E.faults diag.old) (E.faults diag.new)
         result.status }
 
-    // `serve` runs a worker for each wire. What is left of the wires, and what was kept and
-    // reported, is what serving a new session over them leaves; the input and the output aren't
-    // touched. Or memory ran out before there was a session.
+    // `serve` resumes the session of the keeper's rows, and runs a worker for each wire. What is
+    // left of the wires and of the keeper, and what was kept and reported, is what serving that
+    // session over them leaves. Or the session can't be resumed: the store failed, one of its rows
+    // may not stand, or memory ran out. The input and the output aren't touched.
     ensures serves { (addr : List ℕ) (conns : Option ℕ) (service : Service)
         → Asks words.now (Listen addr (length wires.items) conns service)
         → HasServed (wire_seen W.links W.faults W.Rx.left W.Rx.faults W.Tx.held W.Tx.faults)
         conns (effects (streams I.left I.faults O.held O.faults input.old input.new output.old
-        output.new) wires.items result.wires.items (kept result.journal result.shut result.reports))
+        output.new) wires.items result.wires.items
+        (stores K.held K.put_faults K.read_faults keeper result.keeper)
+        (kept result.journal result.shut result.reports))
         (E.held diag.old) (E.held diag.new) (E.faults diag.old) (E.faults diag.new)
         result.status }
 
@@ -147,6 +156,11 @@ pub fn drawpile<
     // can't be that an input is due none.
     ensures due { IsWorld words.now → IfSome (I.left input.old) (λ bytes.
         GrowsByDue bytes (O.held output.old) (O.held output.new)) }
+
+    // Whatever the input and the link hold, it can't be that no answer is due.
+    ensures some_due { ¬ HasWires words.now wires.items
+        → (bytes : List ℕ) (link : Option (List ℕ))
+        → ¬ ((answer : Answer) → ¬ IsDue words.now bytes link answer) }
 
     // Where nothing failed and memory sufficed, an answer is given that the words, the input's
     // bytes and those of the link of `join` are due, and they are due no other. (What `serve` does
@@ -181,6 +195,11 @@ pub fn drawpile<
     ensures link_fault { result.status ≡ 5
         → AskAndFailed (wire_seen W.links W.faults W.Rx.left W.Rx.faults W.Tx.held W.Tx.faults)
         words.now wires.items result.wires.items }
+    ensures store_fault { result.status ≡ 6 → HasWires words.now wires.items
+        × (Rose (K.put_faults keeper) (K.put_faults result.keeper)
+        ⊎ Rose (K.read_faults keeper) (K.read_faults result.keeper)) }
+    ensures bad_row { result.status ≡ 14
+        → HasWires words.now wires.items × HasBadRow (K.held keeper) }
     ensures untouched { ¬ AskForLocal words.now → ¬ HasLink words.now wires.items
         → Keeps (I.left input.old) (I.left input.new) × Keeps (O.held output.old)
         (O.held output.new) }
@@ -188,8 +207,9 @@ pub fn drawpile<
         → (I.faults input.new ≡ I.faults input.old) × (O.faults output.new ≡ O.faults output.old) }
     ensures nothing_kept { ¬ HasWires words.now wires.items
         → KeepsNothing (kept result.journal result.shut result.reports) }
+    ensures distinct { AreDistinct (reported result.reports) }
     ensures wires_stay { ¬ HasLinks words.now wires.items → result.wires.items ≡ wires.items }
-    ensures keeper_stays { result.keeper ≡ keeper }
+    ensures keeper_stays { ¬ HasWires words.now wires.items → result.keeper ≡ keeper }
     ensures to_end { (command : CommandLine) → Asks words.now command → Reads command
         → (result.status ≡ 0) ⊎ (result.status ≡ 9)
         → IsAtEnd (I.left input.new) }
@@ -211,17 +231,23 @@ pub fn drawpile<
     one_command_line();
     local_commands_are_runs();
     one_outcome();
+    each_outcome();
     headline();
     forks_of_lines_are_plain();
     reports_are_due();
+    store_faults_are_counted::<W, W::Rx, W::Tx>();
+    reports_name_distinct_connections::<W, W::Rx, W::Tx>();
     let Ran {
         ending,
         wires,
+        keeper,
         journal,
         shut,
         reports,
-    } = run_words(rt, alloc, words, input, output, wires, gate, draws, tiles);
-    let status = say(diag, ending);
+    } = run_words(
+        rt, alloc, words, input, output, wires, keeper, gate, draws, tiles,
+    );
+    let status = say(diag, &ending);
     Outcome {
         status,
         wires,

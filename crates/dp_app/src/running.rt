@@ -1,11 +1,13 @@
 //! Running what the words ask for.
 
-ghost use Rattle.std.specs.Prelude.{◌≡◌, ◌≤◌, ℕ, List, length};
+ghost use Rattle.std.specs.Prelude.{◌≡◌, ◌≢◌, ◌≤◌, ℕ, List, Option, length};
 ghost use Rattle.dp_lines.specs.RunEnds.{FaultMatchesEnd};
 ghost use Rattle.dp_words.specs.CommandLines.{FitsLimits};
-ghost use Rattle.dp_words.specs.declared.command_line.CommandLine.TheVariants.{Join};
-ghost use Rattle.dp_app.specs.Endings.{Kept, KeepsNothing, effects, kept, streams};
-ghost use Rattle.dp_app.specs.Endings.{wire_seen};
+ghost use Rattle.dp_words.specs.declared.command_line.CommandLine.TheVariants.{Join, Listen};
+ghost use Rattle.dp_words.specs.declared.command_line.Service.{Service};
+ghost use Rattle.dp_app.specs.Commands.{HasWires};
+ghost use Rattle.dp_app.specs.Endings.{Kept, KeepsNothing, Stores, StoreStays, effects, kept};
+ghost use Rattle.dp_app.specs.Endings.{stores, streams, wire_seen};
 ghost use Rattle.dp_app.specs.Kinds.{EndsCommand, EndsWords};
 ghost use Rattle.dp_app.specs.Runs.{run_of};
 
@@ -14,6 +16,7 @@ use crate::server::run_server;
 use dp_epochs::{Journal, Shut};
 use dp_io::{Sink, Source};
 use dp_joining::run_join;
+use dp_keeper::Keeper;
 use dp_lines::RunEnd;
 use dp_msg_meta::Text;
 use dp_serve::Reports;
@@ -27,26 +30,29 @@ use std::sync::Wait;
 use std::sync::ledger::Ledger;
 use std::thread::Threads;
 
-/// How the program ended, the wires, and what a server left beside them.
+/// How the program ended, the wires, the keeper, and what a server left beside them.
 #[derive(Drop)]
-pub(crate) struct Ran<W> {
+pub(crate) struct Ran<W, K> {
     pub(crate) ending: Ending,
     pub(crate) wires: Vec<W>,
+    pub(crate) keeper: K,
     pub(crate) journal: Journal,
     pub(crate) shut: Shut,
     pub(crate) reports: Reports,
 }
 
-impl<W> Ran<W> {
+impl<W, K> Ran<W, K> {
     /// There was no server.
-    pub(crate) fn without(alloc: Global, ending: Ending, wires: Vec<W>) -> Ran<W>
+    pub(crate) fn without(alloc: Global, ending: Ending, wires: Vec<W>, keeper: K) -> Ran<W, K>
         ensures ending { result.ending ≡ ending }
         ensures wires { result.wires ≡ wires }
+        ensures keeper { result.keeper ≡ keeper }
         ensures nothing { KeepsNothing (kept result.journal result.shut result.reports) }
     {
         Ran {
             ending,
             wires,
+            keeper,
             journal: Journal::new(alloc),
             shut: Shut::new(alloc),
             reports: Reports::new(alloc),
@@ -60,6 +66,7 @@ pub(crate) fn run_words<
     I: Source,
     O: Sink,
     W: Wire + Send,
+    K: Keeper + Send,
     G: Gate,
     D: Ledger,
     T: Ledger,
@@ -70,25 +77,28 @@ pub(crate) fn run_words<
     input: &mut I,
     output: &mut O,
     wires: Vec<W>,
+    keeper: K,
     gate: &G,
     draws: &mut Steps<D>,
     tiles: &mut Steps<T>,
-) -> Ran<W>
+) -> Ran<W, K>
     ensures ends { EndsWords
         (wire_seen W.links W.faults W.Rx.left W.Rx.faults W.Tx.held W.Tx.faults)
         words.now
         (effects (streams I.left I.faults O.held O.faults input.old input.new output.old output.new)
-        wires.items result.wires.items (kept result.journal result.shut result.reports))
-        result.ending }
+        wires.items result.wires.items
+        (stores K.held K.put_faults K.read_faults keeper result.keeper)
+        (kept result.journal result.shut result.reports)) result.ending }
+    ensures keeper { ¬ HasWires words.now wires.items → result.keeper ≡ keeper }
     ensures input_later { I.faults input.old ≤ I.faults input.new }
     ensures output_later { O.faults output.old ≤ O.faults output.new }
 {
     match read_words(alloc, words) {
         Ok(Some(command)) => run_command(
-            rt, alloc, &command, input, output, wires, gate, draws, tiles,
+            rt, alloc, &command, input, output, wires, keeper, gate, draws, tiles,
         ),
-        Ok(None) => Ran::without(alloc, Ending::Usage, wires),
-        Err(AllocError) => Ran::without(alloc, Ending::NoWords, wires),
+        Ok(None) => Ran::without(alloc, Ending::Usage, wires, keeper),
+        Err(AllocError) => Ran::without(alloc, Ending::NoWords, wires, keeper),
     }
 }
 
@@ -98,6 +108,7 @@ fn run_command<
     I: Source,
     O: Sink,
     W: Wire + Send,
+    K: Keeper + Send,
     G: Gate,
     D: Ledger,
     T: Ledger,
@@ -108,34 +119,39 @@ fn run_command<
     input: &mut I,
     output: &mut O,
     wires: Vec<W>,
+    keeper: K,
     gate: &G,
     draws: &mut Steps<D>,
     tiles: &mut Steps<T>,
-) -> Ran<W>
+) -> Ran<W, K>
     requires { FitsLimits command.now }
     ensures ends { EndsCommand
         (wire_seen W.links W.faults W.Rx.left W.Rx.faults W.Tx.held W.Tx.faults)
         command.now
         (effects (streams I.left I.faults O.held O.faults input.old input.new output.old output.new)
-        wires.items result.wires.items (kept result.journal result.shut result.reports))
-        result.ending }
+        wires.items result.wires.items
+        (stores K.held K.put_faults K.read_faults keeper result.keeper)
+        (kept result.journal result.shut result.reports)) result.ending }
+    ensures keeper { ((addr : List ℕ) (conns : Option ℕ) (service : Service)
+        → command.now ≢ Listen addr (length wires.items) conns service)
+        → result.keeper ≡ keeper }
     ensures input_later { I.faults input.old ≤ I.faults input.new }
     ensures output_later { O.faults output.old ≤ O.faults output.new }
 {
     match command {
         CommandLine::Local(command) => {
             let end = run_local(alloc, command, input, output, draws, tiles);
-            Ran::without(alloc, Ending::Run(end), wires)
+            Ran::without(alloc, Ending::Run(end), wires, keeper)
         }
         CommandLine::Join { addr: _, name } => {
-            run_link(alloc, name, input, output, wires, draws, tiles)
+            run_link(alloc, name, input, output, wires, keeper, draws, tiles)
         }
         CommandLine::Listen {
             addr: _,
             workers,
             conns,
             service: _,
-        } => run_server(rt, alloc, wires, *workers, *conns, gate),
+        } => run_server(rt, alloc, wires, keeper, *workers, *conns, gate),
     }
 }
 
@@ -163,28 +179,31 @@ fn run_local<I: Source, O: Sink, D: Ledger, T: Ledger>(
 }
 
 /// Joins a session over the first of the wires, where there is one, and gives the wires back.
-fn run_link<I: Source, O: Sink, W: Wire, D: Ledger, T: Ledger>(
+fn run_link<I: Source, O: Sink, W: Wire, K: Keeper, D: Ledger, T: Ledger>(
     alloc: Global,
     name: &Text,
     input: &mut I,
     output: &mut O,
     wires: Vec<W>,
+    keeper: K,
     draws: &mut Steps<D>,
     tiles: &mut Steps<T>,
-) -> Ran<W>
+) -> Ran<W, K>
     requires { length name.now ≤ 32 }
     ensures ends { (addr : List ℕ) → EndsCommand
         (wire_seen W.links W.faults W.Rx.left W.Rx.faults W.Tx.held W.Tx.faults)
         (Join addr name.now)
         (effects (streams I.left I.faults O.held O.faults input.old input.new output.old output.new)
-        wires.items result.wires.items (kept result.journal result.shut result.reports))
-        result.ending }
+        wires.items result.wires.items
+        (stores K.held K.put_faults K.read_faults keeper result.keeper)
+        (kept result.journal result.shut result.reports)) result.ending }
+    ensures keeper { result.keeper ≡ keeper }
     ensures input_later { I.faults input.old ≤ I.faults input.new }
     ensures output_later { O.faults output.old ≤ O.faults output.new }
 {
     let mut wires = wires;
     let ending = join_first(alloc, name, input, output, &mut wires, draws, tiles);
-    Ran::without(alloc, ending, wires)
+    Ran::without(alloc, ending, wires, keeper)
 }
 
 /// Joins a session over the first of the wires, where there is one.
@@ -198,11 +217,12 @@ fn join_first<I: Source, O: Sink, W: Wire, D: Ledger, T: Ledger>(
     tiles: &mut Steps<T>,
 ) -> Ending
     requires { length name.now ≤ 32 }
-    ensures ends { (addr : List ℕ) (nothing : Kept) → KeepsNothing nothing → EndsCommand
+    ensures ends { (addr : List ℕ) (store : Stores) (nothing : Kept) → StoreStays store
+        → KeepsNothing nothing → EndsCommand
         (wire_seen W.links W.faults W.Rx.left W.Rx.faults W.Tx.held W.Tx.faults)
         (Join addr name.now)
         (effects (streams I.left I.faults O.held O.faults input.old input.new output.old output.new)
-        wires.old wires.new nothing) result }
+        wires.old wires.new store nothing) result }
     ensures input_later { I.faults input.old ≤ I.faults input.new }
     ensures output_later { O.faults output.old ≤ O.faults output.new }
 {

@@ -4,6 +4,8 @@
 #[cfg(test)]
 mod join;
 #[cfg(test)]
+mod kept;
+#[cfg(test)]
 mod running;
 #[cfg(test)]
 mod serve;

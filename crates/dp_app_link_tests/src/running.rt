@@ -3,6 +3,7 @@
 use dp_app::Outcome;
 use dp_app_runs::{gated, words_of};
 use dp_io::{MemSink, MemSource};
+use dp_keeper::SureKeeper;
 use dp_lines::hex_of;
 use dp_link::{DownEnd, UpEnd};
 use dp_wire::{Gate, MemWire};
@@ -77,7 +78,7 @@ impl Gate for Held {
 }
 
 /// The list of a number, or none where it is 0.
-fn numbers(rt: &impl Abort, alloc: Global, n: u64) -> Vec<u64> {
+pub fn numbers(rt: &impl Abort, alloc: Global, n: u64) -> Vec<u64> {
     let mut list = Vec::new(alloc);
     if n > 0 {
         list.push(n).expect(rt, "memory");
@@ -96,7 +97,7 @@ fn link_of(rt: &impl Abort, alloc: Global, link: &Coming) -> (MemSource, MemSink
 }
 
 /// A wire with these links to come.
-fn wire_of(rt: &impl Abort, alloc: Global, links: &[Coming], fails: u64) -> MemWire {
+pub fn wire_of(rt: &impl Abort, alloc: Global, links: &[Coming], fails: u64) -> MemWire {
     let mut pairs = Vec::new(alloc);
     for link in links {
         pairs.push(link_of(rt, alloc, link)).expect(rt, "memory");
@@ -115,7 +116,7 @@ fn wires_of(rt: &impl Abort, alloc: Global, row: &Row) -> Vec<MemWire> {
 }
 
 /// Looks at the reports of links, and at their connections where the gate held nobody.
-fn check_ends(rt: &impl Abort, left: &Outcome<MemWire, ()>, row: &Row) {
+fn check_ends(rt: &impl Abort, left: &Outcome<MemWire, SureKeeper>, row: &Row) {
     assert_eq!(rt; left.reports.len(), row.ends.len());
     for (k, (worker, link, conn, up, down)) in row.ends.iter().enumerate() {
         let report = left.reports.get(k).expect(rt, "a report");

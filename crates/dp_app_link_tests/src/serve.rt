@@ -4,14 +4,14 @@ use crate::running::{Coming, Row, check};
 use dp_link::{DownEnd, GreetEnd, UpEnd};
 
 /// `Hello ann` and the Chat `hi`.
-const ANN: Coming = Coming {
+pub const ANN: Coming = Coming {
     bytes: "00030000616e6e000223006869",
     piece: 64,
     fails: 0,
 };
 
 /// `Hello bob` and the Chat `yo`.
-const BOB: Coming = Coming {
+pub const BOB: Coming = Coming {
     bytes: "00030000626f6200022300796f",
     piece: 64,
     fails: 0,

@@ -4,6 +4,7 @@ ghost use Rattle.std.specs.Prelude.{◌≡◌, ◌<◌};
 
 use dp_app::{Outcome, drawpile};
 use dp_io::{MemSink, MemSource, Sink, Source};
+use dp_keeper::{Keeper, MemKeeper, Rows, SureKeeper};
 use dp_steps::Steps;
 use dp_wire::{Gate, MemWire, OpenGate, Wire};
 use std::alloc::{AllocError, Global};
@@ -85,7 +86,7 @@ pub fn words_of(alloc: Global, text: &str) -> Result<Vec<String>, AllocError> {
     Ok(words)
 }
 
-/// Runs the program on these wires with new counters, and a gate that holds nobody.
+/// Runs the program on these wires with new counters, a new store, and a gate that holds nobody.
 pub fn outcome_of<R: Threads + Wait + Sync, I: Source, O: Sink, E: Sink, W: Wire + Send>(
     rt: &R,
     alloc: Global,
@@ -94,7 +95,7 @@ pub fn outcome_of<R: Threads + Wait + Sync, I: Source, O: Sink, E: Sink, W: Wire
     output: &mut O,
     diag: &mut E,
     wires: Vec<W>,
-) -> Outcome<W, ()> {
+) -> Outcome<W, SureKeeper> {
     gated(rt, alloc, words, input, output, diag, wires, &OpenGate)
 }
 
@@ -108,8 +109,48 @@ pub fn gated<R: Threads + Wait + Sync, I: Source, O: Sink, E: Sink, W: Wire + Se
     diag: &mut E,
     wires: Vec<W>,
     gate: &G,
-) -> Outcome<W, ()> {
-    counted::<_, _, _, _, _, _, Brand, Brand>(
+) -> Outcome<W, SureKeeper> {
+    let keeper = SureKeeper::new(Rows::new(alloc));
+    branded(rt, alloc, words, input, output, diag, wires, keeper, gate)
+}
+
+/// The same over a store, with a gate that holds nobody.
+pub fn outcome_over<R: Threads + Wait + Sync, I: Source, O: Sink, E: Sink, W: Wire + Send>(
+    rt: &R,
+    alloc: Global,
+    words: &[String],
+    input: &mut I,
+    output: &mut O,
+    diag: &mut E,
+    wires: Vec<W>,
+    keeper: MemKeeper,
+) -> Outcome<W, MemKeeper> {
+    branded(
+        rt, alloc, words, input, output, diag, wires, keeper, &OpenGate,
+    )
+}
+
+/// Runs the program with new counters.
+fn branded<
+    R: Threads + Wait + Sync,
+    I: Source,
+    O: Sink,
+    E: Sink,
+    W: Wire + Send,
+    K: Keeper + Send,
+    G: Gate,
+>(
+    rt: &R,
+    alloc: Global,
+    words: &[String],
+    input: &mut I,
+    output: &mut O,
+    diag: &mut E,
+    wires: Vec<W>,
+    keeper: K,
+    gate: &G,
+) -> Outcome<W, K> {
+    counted::<_, _, _, _, _, _, _, Brand, Brand>(
         rt,
         alloc,
         words,
@@ -117,6 +158,7 @@ pub fn gated<R: Threads + Wait + Sync, I: Source, O: Sink, E: Sink, W: Wire + Se
         output,
         diag,
         wires,
+        keeper,
         gate,
         Blank::new(1),
         Blank::new(1),
@@ -130,6 +172,7 @@ fn counted<
     O: Sink,
     E: Sink,
     W: Wire + Send,
+    K: Keeper + Send,
     G: Gate,
     D: Ledger,
     T: Ledger,
@@ -141,26 +184,17 @@ fn counted<
     output: &mut O,
     diag: &mut E,
     wires: Vec<W>,
+    keeper: K,
     gate: &G,
     draws: Blank,
     tiles: Blank,
-) -> Outcome<W, ()>
+) -> Outcome<W, K>
     requires draws { (draws.name ≡ D.name) × (draws.parts ≡ D.parts) × (0 < draws.parts) }
     requires tiles { (tiles.name ≡ T.name) × (tiles.parts ≡ T.parts) × (0 < tiles.parts) }
 {
     let mut draws = Steps::<D>::new(draws);
     let mut tiles = Steps::<T>::new(tiles);
     drawpile(
-        rt,
-        alloc,
-        words,
-        input,
-        output,
-        diag,
-        wires,
-        (),
-        gate,
-        &mut draws,
-        &mut tiles,
+        rt, alloc, words, input, output, diag, wires, keeper, gate, &mut draws, &mut tiles,
     )
 }

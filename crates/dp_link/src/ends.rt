@@ -3,7 +3,7 @@
 use dp_epochs::Reply;
 
 /// Who has joined over a link.
-#[derive(Clone, Copy, Debug, PartialEq, Eq)]
+#[derive(Clone, Copy, PartialEq, Eq)]
 pub struct Greeting {
     /// The number of the connection.
     pub conn: u32,

@@ -64,7 +64,7 @@ pub fn greet<W: Wait, K: Keeper, R: Source, S: Sink, G: Gate>(
 }
 
 /// How greeting ended, and what came of its last act, if there was one.
-#[derive(Clone, Copy, Debug)]
+#[derive(Clone, Copy)]
 pub struct GreetRun {
     pub end: Result<Greeting, GreetEnd>,
     pub last: Option<Result<Reply, AllocError>>,

@@ -8,7 +8,7 @@ use dp_session::{Page, Session};
 use std::alloc::AllocError;
 
 /// Where the next entry for a peer stands.
-#[derive(Clone, Copy, Debug)]
+#[derive(Clone, Copy)]
 pub(crate) struct Cursor {
     pub epoch: u32,
     pub at: u32,
@@ -16,7 +16,7 @@ pub(crate) struct Cursor {
 
 /// What is asked for a peer, and the page that came of it, with its frames. Their bytes are used
 /// again for each page.
-#[derive(Debug, Drop)]
+#[derive(Drop)]
 pub(crate) struct Asked {
     pub conn: u32,
     pub cursor: Cursor,

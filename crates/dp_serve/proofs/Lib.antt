@@ -4,3 +4,4 @@ pub mod Making
 pub mod PartLemmas
 pub mod GatherLemmas
 pub mod ServeLemmas
+pub mod ClosingLemmas

@@ -1,5 +1,5 @@
 -- What was gathered and what closing the hall left are a session that was served.
-use Rattle.std.proofs.Common.{◌≡◌, ◌⊎◌, ℕ, ◌+◌, ◌-◌, ◌^◌, ◌<◌, ◌≤◌, Bool, true, false, List, []}
+use Rattle.std.proofs.Common.{◌≡◌, ℕ, ◌+◌, ◌-◌, ◌^◌, ◌<◌, ◌≤◌, Bool, true, false, List, []}
 use Rattle.std.proofs.Common.{◌∷◌, ◌++◌, map, Option, None, Some, unwrap_or, refl, sym, ap, subst}
 use Rattle.std.proofs.Common.{subst₂, ◌∙◌, ⊎_elim, inl, inr, append-nil, true≢false, arith}
 use Rattle.std.specs.Prelude.{if◌then◌else◌}

@@ -20,7 +20,7 @@ use dp_wire::Wire;
 use dp_worker::{LinkReport, Worked};
 
 /// What workers note beside their reports.
-#[derive(Clone, Copy, Debug)]
+#[derive(Clone, Copy)]
 pub(crate) struct Flags {
     pub(crate) memory: bool,
     pub(crate) store: bool,

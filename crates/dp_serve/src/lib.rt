@@ -4,6 +4,7 @@
 //! The rule: docs/protocol.md, "The server".
 #![tactic(auto)]
 
+mod closings;
 mod gather;
 mod jobs;
 mod reports;

@@ -9,7 +9,7 @@ use std::marker::Model;
 
 /// Reports, by rising worker and then by rising link. They are kept as one list for each worker, so
 /// that gathering them takes no memory. Contracts see them as one list.
-#[derive(Debug, Drop)]
+#[derive(Drop)]
 pub struct Reports {
     lists: Vec<Vec<LinkReport>>,
 }

@@ -7,10 +7,12 @@ ghost use Rattle.dp_epochs.specs.Laws.{ShutBefore};
 ghost use Rattle.dp_worker.specs.Links.{link_seen};
 ghost use Rattle.dp_worker.specs.Works.{most_links};
 ghost use Rattle.dp_serve.specs.Serving.{Serves};
+ghost use Rattle.dp_serve.specs.Closings.{ServesOn};
 ghost use Rattle.dp_serve.specs.Gathering.{Gathers, IsFirst, ClosesTo};
 ghost use Rattle.dp_serve.specs.Reports.{all_reports};
 
 use crate::Reports;
+use crate::closings::{broke, close_open, ran_out};
 use crate::gather::{Flags, gather};
 use crate::jobs::{Job, make_jobs, run_jobs};
 use dp_epochs::{Journal, Shut};
@@ -45,12 +47,67 @@ pub struct Served<W, K: Keeper> {
     pub wire: bool,
 }
 
-/// Serves a session: a worker for each wire, all at the same time, each until it has served so many
-/// links (2^32 - 1 where no number is given), none is to come, or its wire fails. It waits for all
-/// of them. Each link that a wire handed out is handed back.
+/// Serves a session. The connections that are open are closed first, by rising number, up to the
+/// first Close that is refused. Then there is a worker for each wire, all at the same time, each
+/// until it has served so many links (2^32 - 1 where no number is given), none is to come, or its
+/// wire fails. It waits for all of them. Each link that a wire handed out is handed back.
 ///
 /// Where memory runs out, a worker ends or doesn't begin, and `memory` says so.
 pub fn serve<W: Wire + Send, K: Keeper + Send, G: Gate, R: Threads + Wait + Sync>(
+    rt: &R,
+    alloc: Global,
+    session: Session<K>,
+    wires: Vec<W>,
+    conns: Option<u32>,
+    gate: &G,
+) -> Served<W, K>
+    requires few { length wires.items ≤ 64 }
+    requires sound { ShutBefore session }
+    ensures { ServesOn (record {
+      links = W.links;
+      faults = W.faults;
+      link = link_seen W.Rx.left W.Rx.faults W.Tx.held W.Tx.faults;
+    }) session (most_links conns) wires.items result.wires.items
+        (record {
+          journal = result.journal;
+          shut = result.shut;
+          known = K.held result.keeper;
+          count = K.put_faults result.keeper;
+          read_faults = K.read_faults result.keeper;
+          reports = result.reports;
+          memory = result.memory;
+          store = result.store;
+          wire = result.wire;
+        }) }
+{
+    let mut session = session;
+    let refusal = close_open(&mut session);
+    let ran_out = ran_out(refusal);
+    let broke = broke(refusal);
+    let Served {
+        wires,
+        keeper,
+        journal,
+        shut,
+        reports,
+        memory,
+        store,
+        wire,
+    } = serve_wires(rt, alloc, session, wires, conns, gate);
+    Served {
+        wires,
+        keeper,
+        journal,
+        shut,
+        reports,
+        memory: memory || ran_out,
+        store: store || broke,
+        wire,
+    }
+}
+
+/// Serves a session as it is: a worker for each wire.
+fn serve_wires<W: Wire + Send, K: Keeper + Send, G: Gate, R: Threads + Wait + Sync>(
     rt: &R,
     alloc: Global,
     session: Session<K>,

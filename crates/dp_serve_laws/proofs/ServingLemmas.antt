@@ -40,7 +40,7 @@ module _ {R T : Type 0} where
 abbrev act_gives : LogEntry → List ℕ
 act_gives act = given_by act.outcome
 
-seat-in : (name : Option (List ℕ)) (log : List LogEntry) (act : LogEntry)
+pub seat-in : (name : Option (List ℕ)) (log : List LogEntry) (act : LogEntry)
     → IsIn act (acts_by name log)
     → IsIn act log × (name ≡ Some act.by)
 seat-in None log act h = absurd h
@@ -53,7 +53,7 @@ seat-distinct None log d = tt
 seat-distinct (Some name) log d = distinct-entries act_gives name log d
 
 module _ {W R T : Type 0} where
-  part-from : (P : ℕ → Part W R T → Type 0) (who : ℕ) (parts : List (Part W R T))
+  pub part-from : (P : ℕ → Part W R T → Type 0) (who : ℕ) (parts : List (Part W R T))
       (part : Part W R T) → EachFrom P who parts → IsIn part parts → (n : ℕ) × P n part
   part-from P who [] part all h = absurd h
   part-from P who (first ∷ parts) part all (inl e) = (who, subst (P who) (sym e) all.0)

@@ -6,4 +6,7 @@
 
 mod laws;
 
-pub use laws::{acts_of_connections, reports_name_distinct_connections};
+pub use laws::{
+    acts_of_connections, closings_go_on, reports_name_distinct_connections,
+    store_faults_are_counted,
+};

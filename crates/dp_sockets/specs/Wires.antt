@@ -18,7 +18,7 @@ dialing = record { is_listening = false; faults = 0 }
 abbrev pub AreFor : Devices → List TcpState → Type 0
 AreFor Nothing wires = wires ≡ []
 AreFor (Dial addr) wires = wires ≡ dialing ∷ []
-AreFor (Listen addr workers) wires =
+AreFor (Listen addr workers journal) wires =
     (wires ≡ []) ⊎ ((length wires ≡ workers) × All (λ wire. wire ≡ listening) wires)
 
 -- the wires are those of the devices that the words want

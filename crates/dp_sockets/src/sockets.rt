@@ -33,7 +33,11 @@ fn wires_of<N: Net<Listener = TcpListener, Stream = TcpStream> + Copy + Drop>(
     match devices {
         Devices::Nothing => {}
         Devices::Dial { addr } => wires.push(TcpWire::dialer(net, alloc, addr.as_str())?)?,
-        Devices::Listen { addr, workers } => {
+        Devices::Listen {
+            addr,
+            workers,
+            journal: _,
+        } => {
             match TcpWire::listen(net, alloc, addr.as_str(), *workers) {
                 Ok(listening) => return Ok(listening),
                 Err(WireError::Failed) => {}

@@ -3,7 +3,7 @@
 use Wanted::*;
 use dp_lines::long_number;
 use dp_words::{
-    CommandLine, Devices, Form, Kind, LocalCommand, program_of, read_words,
+    CommandLine, Devices, Form, Kind, LocalCommand, Service, Word, program_of, read_words,
     several_words_are_found, wanted,
 };
 use std::alloc::Global;
@@ -16,12 +16,12 @@ enum Wanted {
     World,
     Play(Option<u32>),
     Join(&'static str, &'static str),
-    Serve(&'static str, u32, Option<u32>),
+    Serve(&'static str, u32, Option<u32>, Option<&'static str>),
     Bad,
 }
 
 /// Words that are separated by bars, and the command line that they are.
-const LINES: [(&str, Wanted); 55] = [
+const LINES: [(&str, Wanted); 59] = [
     ("replay", Replay),
     ("replay|--", Replay),
     ("world", World),
@@ -36,12 +36,30 @@ const LINES: [(&str, Wanted); 55] = [
         "join|a|12345678901234567890123456789012",
         Join("a", "12345678901234567890123456789012"),
     ),
-    ("serve|a:1|--workers|2", Serve("a:1", 2, None)),
-    ("serve|a:1|--workers=2|--conns=1", Serve("a:1", 2, Some(1))),
-    ("serve|--conns|3|--workers|1|a:1", Serve("a:1", 1, Some(3))),
+    ("serve|a:1|--workers|2", Serve("a:1", 2, None, None)),
+    (
+        "serve|a:1|--workers=2|--conns=1",
+        Serve("a:1", 2, Some(1), None),
+    ),
+    (
+        "serve|--conns|3|--workers|1|a:1",
+        Serve("a:1", 1, Some(3), None),
+    ),
     (
         "serve|a:1|--workers|64|--conns|4294967295",
-        Serve("a:1", 64, Some(4_294_967_295)),
+        Serve("a:1", 64, Some(4_294_967_295), None),
+    ),
+    (
+        "serve|a:1|--workers|2|--journal|b",
+        Serve("a:1", 2, None, Some("b")),
+    ),
+    (
+        "serve|--journal=./b.db|a:1|--conns|1|--workers|2",
+        Serve("a:1", 2, Some(1), Some("./b.db")),
+    ),
+    (
+        "serve|a:1|--workers|2|--journal|",
+        Serve("a:1", 2, None, Some("")),
     ),
     ("", Bad),
     ("paint", Bad),
@@ -80,6 +98,7 @@ const LINES: [(&str, Wanted); 55] = [
     ("serve|a:1|--workers|2|--conns|03", Bad),
     ("serve|a:1|--workers|2|--conns|4294967296", Bad),
     ("serve|a:1|--workers|2|--journal", Bad),
+    ("serve|a:1|--workers|2|--journal|b|--journal|b", Bad),
     ("--help", Bad),
     ("help", Bad),
     ("play|--version", Bad),
@@ -104,6 +123,15 @@ fn is_wanted_local(command: &LocalCommand, wanted: Wanted) -> bool {
     }
 }
 
+/// Whether there is such a word, or none.
+fn is_word(word: &Option<Word>, wanted: Option<&str>) -> bool {
+    match (word, wanted) {
+        (Some(word), Some(wanted)) => word.as_str() == wanted,
+        (None, None) => true,
+        _ => false,
+    }
+}
+
 /// Whether a command line is the one that is wanted.
 fn is_wanted(line: &Option<CommandLine>, wanted: Wanted) -> bool {
     match (line, wanted) {
@@ -118,11 +146,13 @@ fn is_wanted(line: &Option<CommandLine>, wanted: Wanted) -> bool {
                     addr,
                     workers,
                     conns,
-                    service: _,
+                    service: Service::Session { journal },
                 },
             ),
-            Serve(at, count, links),
-        ) => addr.as_str() == at && *workers == count && *conns == links,
+            Serve(at, count, links, file),
+        ) => {
+            addr.as_str() == at && *workers == count && *conns == links && is_word(journal, file)
+        }
         _ => false,
     }
 }
@@ -139,12 +169,20 @@ fn each_kind_of_line(rt: HostRuntime) {
     assert!(rt; read.is_none());
 }
 
-/// Whether these devices are a dial, or some wires, at an address, or none.
-fn is_device(devices: &Devices, dials: bool, count: u32, at: &str) -> bool {
+/// Whether these devices are a dial, or some wires, at an address, with such a file, or none.
+fn is_device(devices: &Devices, dials: bool, count: u32, at: &str, file: Option<&str>) -> bool {
     match devices {
         Devices::Dial { addr } => dials && addr.as_str() == at,
-        Devices::Listen { addr, workers } => {
-            !dials && count > 0 && *workers == count && addr.as_str() == at
+        Devices::Listen {
+            addr,
+            workers,
+            journal,
+        } => {
+            !dials
+                && count > 0
+                && *workers == count
+                && addr.as_str() == at
+                && is_word(journal, file)
         }
         Devices::Nothing => !dials && count == 0,
     }
@@ -153,16 +191,23 @@ fn is_device(devices: &Devices, dials: bool, count: u32, at: &str) -> bool {
 #[test]
 fn devices_of_lines(rt: HostRuntime) {
     let alloc = rt.alloc();
-    for (line, dials, count, at) in [
-        ("join|a:1|ann", true, 0, "a:1"),
-        ("serve|a:1|--workers|2|--conns|3", false, 2, "a:1"),
-        ("play|--at|3", false, 0, ""),
-        ("join|a:1", false, 0, ""),
-        ("serve|a:1|--workers|0", false, 0, ""),
+    for (line, dials, count, at, file) in [
+        ("join|a:1|ann", true, 0, "a:1", None),
+        ("serve|a:1|--workers|2|--conns|3", false, 2, "a:1", None),
+        (
+            "serve|a:1|--journal|b|--workers|2",
+            false,
+            2,
+            "a:1",
+            Some("b"),
+        ),
+        ("play|--at|3", false, 0, "", None),
+        ("join|a:1", false, 0, "", None),
+        ("serve|a:1|--workers|0|--journal|b", false, 0, "", None),
     ] {
         let words = words_of(&rt, alloc, line);
         let devices = wanted(alloc, &words).expect(&rt, "memory");
-        assert!(rt; is_device(&devices, dials, count, at), "{line}");
+        assert!(rt; is_device(&devices, dials, count, at, file), "{line}");
     }
 }
 

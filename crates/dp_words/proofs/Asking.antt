@@ -64,8 +64,8 @@ serve-one one rows a b x y =
     let addr-is : x.0 ≡ y.0 = some-same x.3 y.3 in
     let workers-are : x.1 ≡ y.1 = one-workers one _ x.1 y.1 x.4 y.4 in
     let conns-are : x.2 ≡ y.2 = one-at one _ x.2 y.2 x.5 y.5 in
-    let a-is : a ≡ Listen x.0 x.1 x.2 Session = x.7 in
-    let b-is : b ≡ Listen y.0 y.1 y.2 Session = y.7 in
+    let a-is : a ≡ Listen x.0 x.1 x.2 (Session (first_of (codes "journal") rows)) = x.7 in
+    let b-is : b ≡ Listen y.0 y.1 y.2 (Session (first_of (codes "journal") rows)) = y.7 in
     cc
 
 -- ---- words ask for one thing

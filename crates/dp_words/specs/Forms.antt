@@ -43,17 +43,17 @@ join_form = record {
       × (line ≡ Join addr user);
 }
 
--- `serve ADDR --workers N [--conns K]`
+-- `serve ADDR --workers N [--conns K] [--journal FILE]`
 abbrev pub serve_form : Form
 serve_form = record {
   name = codes "serve";
   params = (codes "addr", Word) ∷ (codes "workers", Named true) ∷ (codes "conns", Named false)
-      ∷ [];
+      ∷ (codes "journal", Named false) ∷ [];
   asks = λ rows line. (addr : Text) × (workers : ℕ) × (conns : Option ℕ)
       × (first_of (codes "addr") rows ≡ Some addr)
       × HasWorkers (first_of (codes "workers") rows) workers
       × HasAt (first_of (codes "conns") rows) conns × IsConns conns
-      × (line ≡ Listen addr workers conns Session);
+      × (line ≡ Listen addr workers conns (Session (first_of (codes "journal") rows)));
 }
 
 abbrev pub forms : List Form

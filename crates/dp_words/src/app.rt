@@ -33,6 +33,7 @@ static FORMS: [Form; 5] = [
             ("addr", Word),
             ("workers", Named { required: true }),
             ("conns", Named { required: false }),
+            ("journal", Named { required: false }),
         ],
     },
 ];

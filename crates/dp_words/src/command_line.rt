@@ -1,6 +1,6 @@
 //! Command lines.
 
-use crate::address::Address;
+use crate::word::Word;
 use dp_msg_meta::Text;
 
 /// What the program is asked for, by what that needs.
@@ -10,13 +10,13 @@ pub enum CommandLine {
     Local(LocalCommand),
     /// A script on the input, for a client of this name at the server at `addr`.
     Join {
-        addr: Address,
+        addr: Word,
         name: Text,
     },
     /// A server at `addr` with so many workers, from 1 to 64. Each worker ends after `conns`
     /// links, at least 1, or goes on where there is no such number.
     Listen {
-        addr: Address,
+        addr: Word,
         workers: u32,
         conns: Option<u32>,
         service: Service,
@@ -37,6 +37,6 @@ pub enum LocalCommand {
 /// What a server serves.
 #[derive(Debug, Drop)]
 pub enum Service {
-    /// One session.
-    Session,
+    /// One session, whose rows are kept in this file, or in memory where there is none.
+    Session { journal: Option<Word> },
 }

@@ -3,9 +3,9 @@
 ghost use Rattle.std.specs.Prelude.{◌≡◌, map, string_bytes, IfOk};
 ghost use Rattle.dp_words.specs.Wanted.{Wants, devices_of};
 
-use crate::address::Address;
-use crate::command_line::CommandLine;
+use crate::command_line::{CommandLine, Service};
 use crate::parser::read_words;
+use crate::word::Word;
 use std::alloc::{AllocError, Global};
 
 /// What is to be made before the program runs, beside its input and its outputs.
@@ -14,9 +14,16 @@ pub enum Devices {
     /// Nothing.
     Nothing,
     /// A link to the server at this address.
-    Dial { addr: Address },
-    /// So many wires that hand out the links that are made to this address.
-    Listen { addr: Address, workers: u32 },
+    Dial {
+        addr: Word,
+    },
+    /// So many wires that hand out the links that are made to this address, and a store of rows in
+    /// this file, where there is one.
+    Listen {
+        addr: Word,
+        workers: u32,
+        journal: Option<Word>,
+    },
 }
 
 /// The devices that the words want. Words that are no command line want none.
@@ -40,7 +47,14 @@ fn devices_of(line: CommandLine) -> Devices
             addr,
             workers,
             conns: _,
-            service: _,
-        } => Devices::Listen { addr, workers },
+            service,
+        } => {
+            let Service::Session { journal } = service;
+            Devices::Listen {
+                addr,
+                workers,
+                journal,
+            }
+        }
     }
 }

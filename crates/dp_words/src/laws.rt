@@ -32,10 +32,13 @@ pub fn some_command_lines()
     ensures join { AsksFor (codes "join" ∷ codes "localhost:7" ∷ codes "ann" ∷ [])
         (Join (codes "localhost:7") (codes "ann")) }
     ensures serve { AsksFor (codes "serve" ∷ codes "localhost:7" ∷ codes "--workers" ∷ codes "2"
-        ∷ []) (Listen (codes "localhost:7") 2 None Session) }
+        ∷ []) (Listen (codes "localhost:7") 2 None (Session None)) }
     ensures serve_conns { AsksFor (codes "serve" ∷ codes "localhost:7" ∷ codes "--workers"
         ∷ codes "64" ∷ codes "--conns" ∷ codes "1" ∷ [])
-        (Listen (codes "localhost:7") 64 (Some 1) Session) }
+        (Listen (codes "localhost:7") 64 (Some 1) (Session None)) }
+    ensures serve_journal { AsksFor (codes "serve" ∷ codes "localhost:7" ∷ codes "--workers"
+        ∷ codes "2" ∷ codes "--journal" ∷ codes "a.db" ∷ [])
+        (Listen (codes "localhost:7") 2 None (Session (Some (codes "a.db")))) }
     ensures no_workers { ¬ IsCommandLine (codes "serve" ∷ codes "localhost:7" ∷ []) }
     ensures no_word { ¬ IsCommandLine [] }
     ensures another_word { ¬ IsCommandLine (codes "paint" ∷ []) }

@@ -8,9 +8,9 @@ ghost use Rattle.dp_words.specs.CommandLines.{AsksBy, AsksFor, AsksIn, FitsLimit
 ghost use Rattle.dp_words.specs.Forms.{join_form, play_form, serve_form};
 ghost use Rattle.dp_words.specs.Values.{HasAt, HasWorkers, IsConns};
 
-use crate::address::Address;
 use crate::app::drawpile_of;
 use crate::command_line::{CommandLine, LocalCommand, Service};
+use crate::word::{Word, word_of};
 use clap::ArgMatches;
 use clap::error::ErrorKind;
 use dp_lines::{number, one_number};
@@ -95,7 +95,7 @@ fn joined(alloc: Global, given: &ArgMatches) -> Result<Option<CommandLine>, Allo
     if name.is_empty() || name.len() > 32 {
         return Ok(None);
     }
-    let addr = Address::from_str(alloc, addr)?;
+    let addr = Word::from_str(alloc, addr)?;
     let name = Text::from_str(alloc, name)?;
     Ok(Some(CommandLine::Join { addr, name }))
 }
@@ -114,12 +114,13 @@ fn served(alloc: Global, given: &ArgMatches) -> Result<Option<CommandLine>, Allo
     let (Some(workers), Some(conns)) = (workers_of(given), conns_of(given)) else {
         return Ok(None);
     };
-    let addr = Address::from_str(alloc, addr)?;
+    let addr = Word::from_str(alloc, addr)?;
+    let journal = word_of(alloc, value_of(given, "journal"))?;
     Ok(Some(CommandLine::Listen {
         addr,
         workers,
         conns,
-        service: Service::Session,
+        service: Service::Session { journal },
     }))
 }
 

@@ -3,7 +3,7 @@
 use dp_link::{DownEnd, UpEnd};
 
 /// How a link of a worker's wire ended.
-#[derive(Clone, Copy, Debug, PartialEq, Eq)]
+#[derive(Clone, Copy, PartialEq, Eq)]
 pub struct LinkReport {
     /// The number of the worker.
     pub worker: u32,

@@ -1,11 +1,11 @@
 -- Each clause, of how the words ended and of what was said.
-use Rattle.std.proofs.Common.{rules}
 use Rattle.dp_words.specs.declared.command_line.LocalCommand.TheVariants.{World}
 use Rattle.dp_app.specs.Endings.{streams}
 use Rattle.dp_app.proofs.Answering.{read-rose, tells-all, told, unfailed, write-rose}
 use Rattle.dp_app.proofs.Ends.{complete, counted, due-of, ends-of, exact, for-known, joins-of}
 use Rattle.dp_app.proofs.Ends.{lacks, link-fault, no-link, nothing-kept, other-words, serves-of}
-use Rattle.dp_app.proofs.Ends.{to-end, untouched, usage, wires-stay}
+use Rattle.dp_app.proofs.Ends.{bad-row, distinct, some-due, store-fault, to-end, untouched, usage}
+use Rattle.dp_app.proofs.Ends.{wires-stay}
 use Rattle.dp_app.proofs.program.drawpile.Goals as goal
 
 pub returns : goal.returns
@@ -32,6 +32,7 @@ returns g c =
       due = λ world.
           let run = ends-of _ words _ _ _ _ _ _ one runs _ ends says World world in
           due-of c.reports_are_due.ensures told-of _ _ _ run.0 run.1;
+      some_due = λ never bytes link. some-due runs c.each_outcome.ensures words bytes link;
       complete = complete _ words _ _ _ _ _ _ runs _ ends says;
       exact = exact _ words _ _ _ _ _ _ one c.one_outcome.ensures runs _ ends says;
       usage = usage _ words _ _ _ _ _ _ _ ends says;
@@ -42,8 +43,13 @@ returns g c =
       uncounted = λ none never.
           let same = untouched _ words _ _ ends none never in (same.2, same.3);
       nothing_kept = nothing-kept _ words _ _ ends;
+      distinct = distinct _ words _ (λ start most old new left.
+          c.reports_name_distinct_connections.ensures.on _ start most old new left) _ ends;
       wires_stay = wires-stay _ words _ _ ends;
-      keeper_stays = search rules;
+      keeper_stays = c.run_words-ending.ensures.keeper;
+      store_fault = store-fault _ words _ _ _ _ _ _ (λ start most old new left.
+          c.store_faults_are_counted.ensures _ start most old new left) _ ends says;
+      bad_row = bad-row _ words _ _ _ _ _ _ _ ends says;
       to_end = to-end _ words _ _ _ _ _ _ one runs _ ends says;
       fault_told = λ command. told both _ _ _ tells;
       unfailed = λ command. unfailed both _ _ _ tells;

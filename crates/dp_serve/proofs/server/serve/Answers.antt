@@ -1,49 +1,41 @@
-use Rattle.std.proofs.Common.{◌∙◌, ap, subst, sym}
-use Rattle.dp_hall.proofs.LawLemmas.{back-close}
-use Rattle.dp_epochs.specs.Laws.{ShutBefore}
-use Rattle.dp_epochs.specs.Past.{Past}
-use Rattle.dp_worker.proofs.LinkLemmas.{FeedLaws}
-use Rattle.dp_serve.specs.Reports.{all_reports}
-use Rattle.dp_serve.proofs.ServeLemmas.{serves-of, serves-nothing}
+use Rattle.std.proofs.Common.{◌≡◌, ◌∙◌, ◌||◌}
+use Rattle.dp_worker.specs.Serving.{is_last_failed, is_last_store_fault}
+use Rattle.dp_serve.specs.Serving.{Left}
+use Rattle.dp_serve.proofs.ClosingLemmas.{as-other, raised, with-flags}
 use Rattle.dp_serve.proofs.server.serve.Goals as goal
+use Rattle.dp_serve.proofs.server.serve.Goals.{else-memory, else-store, then-memory, then-store}
 
-pub returns-then-is_err : goal.returns-then-is_err
-returns-then-is_err g c =
-    let n = c.serve_nothing.ensures in
-    serves-nothing _ c.args.session _ c.args.wires.items c.serve_nothing.result.wires.items _
-    n.wires n.parts.3 n.parts.4 n.parts.0 n.parts.1 n.parts.2 n.reports n.flags.0 n.flags.1
-    n.flags.2
-
-pub run_all-flags-requires-clause-start : goal.run_all-flags-requires-clause-start
-run_all-flags-requires-clause-start g c κs within =
-    subst ShutBefore (sym c.in-Ok.ensures.start) c.requires.sound
-
-pub finish-requires-clause-alone : goal.finish-requires-clause-alone
-finish-requires-clause-alone g c κs within =
-    let h = c.run_all-flags.ensures.gathers in
-    back-close c.run_all-flags.new.seat.view h.name h.back
-
-pub returns-in-Ok : goal.returns-in-Ok
-returns-in-Ok g c =
-    let laws : FeedLaws = record {
-      grows = c.sessions_go_on.ensures.grows;
-      feeds = c.feeds_go_on.ensures;
-      gone = c.gone_goes_on.ensures;
+pub returns : goal.returns
+returns g c =
+    let served = c.serve_wires-wires.result in
+    let refusal = c.close_open-refusal.result in
+    let memory_is : c.if-memory.result ≡ served.memory || is_last_failed refusal =
+    elim c.if-memory.branch [
+      | then-memory w ↦ raised _ _ _ w.if-memory.true w.result-is
+      | else-memory w ↦ as-other _ _ _ w.if-memory.false
+          (w.result-is ∙ c.ran_out-ran_out.ensures)
+    ] in
+    let store_is : c.if-store.result ≡ served.store || is_last_store_fault refusal =
+    elim c.if-store.branch [
+      | then-store w ↦ raised _ _ _ w.if-store.true w.result-is
+      | else-store w ↦ as-other _ _ _ w.if-store.false (w.result-is ∙ c.broke-broke.ensures)
+    ] in
+    let rest : Left = record {
+      journal = served.journal;
+      shut = served.shut;
+      known = g.K.Keeper.held served.keeper;
+      count = g.K.Keeper.put_faults served.keeper;
+      read_faults = g.K.Keeper.read_faults served.keeper;
+      reports = served.reports;
+      memory = served.memory;
+      store = served.store;
+      wire = served.wire;
     } in
-    let done = c.finish.ensures in
-    let all = c.run_all-flags in
-    serves-of _ c.in-Ok.hall.start _ laws c.journals_are_logs.ensures
-    (subst ShutBefore (sym c.in-Ok.ensures.start) c.requires.sound) c.args.session
-    all.new.seat.view c.args.wires.items all.new.wires.items c.finish.result.wires.items
-    (all_reports all.new.lists.items) all.result _ c.in-Ok.ensures.start done.wires
-    all.ensures.gathers done.closes done.reports done.flags.0 done.flags.1 done.flags.2
-
-pub returns-in-Err : goal.returns-in-Err
-returns-in-Err g c =
-    let n = c.serve_nothing-in-Err.ensures in
-    let is = c.in-Err.ensures.err in
-    serves-nothing _ c.args.session _ c.args.wires.items c.serve_nothing-in-Err.result.wires.items
-    _ n.wires (n.parts.3 ∙ ap (λ (p : Past). p.journal) is)
-    (n.parts.4 ∙ ap (λ (p : Past). p.shut) is) (n.parts.0 ∙ ap (λ (p : Past). p.known) is)
-    (n.parts.1 ∙ ap (λ (p : Past). p.count) is)
-    (n.parts.2 ∙ ap (λ (p : Past). p.read_faults) is) n.reports n.flags.0 n.flags.1 n.flags.2
+    record {
+      refusal = refusal;
+      closed = c.close_open-refusal.new.session;
+      closes = c.close_open-refusal.ensures.closes;
+      rest = rest;
+      serves = c.serve_wires-wires.ensures;
+      left_is = with-flags rest _ _ _ _ memory_is store_is;
+    }

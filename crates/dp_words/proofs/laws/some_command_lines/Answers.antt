@@ -68,6 +68,22 @@ returns-clause-serve_conns c = (
   ),
 )
 
+pub returns-clause-serve_journal : goal.returns-clause-serve_journal
+unfolding clap_on_literals digits
+returns-clause-serve_journal c = (
+  refl,
+  (
+    codes "localhost:7",
+    2,
+    None,
+    refl,
+    (record { fits = lit< tt; text = refl }, lit≤ tt, lit≤ tt),
+    tt,
+    tt,
+    refl,
+  ),
+)
+
 pub returns-clause-no_workers : goal.returns-clause-no_workers
 unfolding clap_on_literals
 returns-clause-no_workers c = faulty (codes "serve" ∷ codes "localhost:7" ∷ []) 0 refl
