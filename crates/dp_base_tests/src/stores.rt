@@ -1,9 +1,7 @@
-//! Rows in pages, a store whose listed calls fail, and one in a file.
+//! Rows in pages, and a store whose listed calls fail.
 
 use dp_keeper::{KeepError, Keeper, MemKeeper, Row, RowBytes, Rows, SureKeeper};
-use dp_keeper_sql::{SqlKeeper, stores_cross_threads};
 use std::alloc::Global;
-use std::fs;
 use std::process::Abort;
 
 /// The row of a number, which has one byte.
@@ -65,35 +63,4 @@ fn listed_calls_fail(rt: HostRuntime) {
     assert_eq!(rt; keeper.rows(0, 1).err(), Some(KeepError::Failed));
     assert_eq!(rt; keeper.count(), 2);
     check(&rt, keeper.held(), &[0, 2, 3]);
-}
-
-// Put, with a number that is there already, and then left without closing it.
-#[test]
-fn rows_in_a_file(rt: HostRuntime) {
-    stores_cross_threads();
-    let alloc = rt.alloc();
-    let _ = fs::remove_dir_all(&rt, "rows_in_a_file");
-    fs::create_dir(&rt, "rows_in_a_file").expect(&rt, "a folder");
-    let path = "rows_in_a_file/rows.db";
-    let mut keeper = SqlKeeper::new(&rt, path).expect(&rt, "a new file");
-    put_and_read(&rt, alloc, &mut keeper);
-    assert_eq!(rt; SqlKeeper::new(&rt, path).err(), Some(KeepError::Failed));
-    assert_eq!(rt; keeper.put(&row(&rt, alloc, 1)), Err(KeepError::Failed));
-    assert_eq!(rt; keeper.count(), 1);
-}
-
-// A file that is put into, closed and opened again.
-#[test]
-fn a_file_that_is_opened_again(rt: HostRuntime) {
-    let alloc = rt.alloc();
-    let _ = fs::remove_dir_all(&rt, "a_file_that_is_opened_again");
-    fs::create_dir(&rt, "a_file_that_is_opened_again").expect(&rt, "a folder");
-    let path = "a_file_that_is_opened_again/rows.db";
-    for n in 0..3 {
-        let mut keeper = SqlKeeper::new(&rt, path).expect(&rt, "the file");
-        assert_eq!(rt; keeper.put(&row(&rt, alloc, n)), Ok(()));
-        let page = keeper.rows(0, 9).expect(&rt, "a page");
-        check(&rt, &page, [0, 1, 2].get(..=n as usize).unwrap_or_default());
-        assert_eq!(rt; keeper.close(), Ok(()));
-    }
 }

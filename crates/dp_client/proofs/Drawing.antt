@@ -1,5 +1,6 @@
 -- What stands drawn of a client, as it says and takes.
-use Rattle.std.proofs.Common.{◌≡◌, ℕ, Bool, true, false, List, [], ◌∷◌, ◌++◌, map, drop, take, refl, sym}
+use Rattle.std.proofs.Common.{◌≡◌, ℕ, Bool, true, false, List, [], ◌∷◌, ◌++◌, map, drop, take}
+use Rattle.std.proofs.Common.{refl, sym}
 use Rattle.std.proofs.Common.{ap, ◌∙◌, subst}
 use Rattle.std.specs.Prelude.{Option, None, Some, option_to_list}
 use Rattle.std.specs.List.{filter_map, flat_map, fold}
@@ -22,7 +23,7 @@ use Rattle.dp_fork.specs.Fork.{Answers, commands_in, left_by}
 use Rattle.dp_replay.specs.Replay.{act_of, act_of_message, act_of_meta, undo_depth, user_act_of}
 use Rattle.dp_screen.specs.Screen.{IsScreenOf, ScreenGoesOn, Screened}
 use Rattle.dp_client.specs.Client.{fork_after}
-use Rattle.dp_client.specs.Drawn.{IsDrawn}
+use Rattle.dp_client.specs.Drawn.{HasDrawn}
 
 -- ---- messages as acts
 
@@ -64,18 +65,6 @@ commands_same user [] = refl
 commands_same user (m ∷ rest) =
     one_more user m rest (command_of m) refl (commands_same user rest)
 
--- a mark is no act
-pub mark_is_other : (user epoch : ℕ) (m : Msg) → marked m ≡ Some epoch
-    → act_of_message user m ≡ act.Other
-mark_is_other user epoch msg.Point is = absurd (cc (is))
-mark_is_other user epoch (msg.Undo target redo) is = absurd (cc (is))
-mark_is_other user epoch (msg.Draw command) is = absurd (cc (is))
-mark_is_other user epoch (msg.Control m) is = absurd (cc (is))
-mark_is_other user epoch (msg.Meta (ResetMark other carried)) is = refl
-mark_is_other user epoch (msg.Meta m) is = absurd (cc (is))
-mark_is_other user epoch (msg.Part command) is = absurd (cc (is))
-mark_is_other user epoch (msg.Opaque kind body) is = absurd (cc (is))
-
 -- ---- what an answer leaves
 
 drop_mapped : {X Y : Type 0} (f : X → Y) (xs : List X) → drop 1 (map f xs) ≡ map f (drop 1 xs)
@@ -116,16 +105,16 @@ acted entry x is = ap (λ (a : Act Draw). record { user = entry.user; act = a })
 
 module _ {B : Type 0} (is_board : B → Type 0) (draw : B → Draw → B) (blank : B) where
   pub drawn_same : (user : ℕ) (taken taken' : List Entry) (fork fork' : List Msg)
-      (s s' : Screened B Draw) → IsDrawn is_board draw blank user taken fork s
+      (s s' : Screened B Draw) → HasDrawn is_board draw blank user taken fork s
       → taken' ≡ taken → fork' ≡ fork → s' ≡ s
-      → IsDrawn is_board draw blank user taken' fork' s'
+      → HasDrawn is_board draw blank user taken' fork' s'
   drawn_same user taken taken' fork fork' s s' of t f e = rw (t, f, e) of
 
   -- a screen that has just begun
   pub drawn_anew : (user : ℕ) (taken : List Entry) (fork : List Msg) (blank' : B)
       (acts : List (UserAct Draw)) (s : Screened B Draw) → blank' ≡ blank
       → acts ≡ map user_act_of taken → IsScreenOf is_board draw blank' undo_depth acts s
-      → s.fork.acts ≡ [] → fork ≡ [] → IsDrawn is_board draw blank user taken fork s
+      → s.fork.acts ≡ [] → fork ≡ [] → HasDrawn is_board draw blank user taken fork s
   drawn_anew user taken fork blank' acts s is all of none empty = record {
     screen = subst (λ (x : B). IsScreenOf is_board draw x undo_depth (map user_act_of taken) s) is
         (subst (λ (xs : List (UserAct Draw)). IsScreenOf is_board draw blank' undo_depth xs s) all
@@ -135,12 +124,12 @@ module _ {B : Type 0} (is_board : B → Type 0) (draw : B → Draw → B) (blank
 
   -- a message more is said
   pub drawn_said : (user : ℕ) (taken : List Entry) (fork fork' : List Msg) (m : Msg)
-      (said : Act Draw) (s s' : Screened B Draw) → IsDrawn is_board draw blank user taken fork s
+      (said : Act Draw) (s s' : Screened B Draw) → HasDrawn is_board draw blank user taken fork s
       → ((blank : B) (depth : ℕ) (acts : List (UserAct Draw))
       → IsScreenOf is_board draw blank depth acts s
       → IsScreenOf is_board draw blank depth acts s')
       → s'.fork.acts ≡ s.fork.acts ++ said ∷ [] → said ≡ act_of_message user m
-      → fork' ≡ fork ++ m ∷ [] → IsDrawn is_board draw blank user taken fork' s'
+      → fork' ≡ fork ++ m ∷ [] → HasDrawn is_board draw blank user taken fork' s'
   drawn_said user taken fork fork' m said s s' of goes more is now = record {
     screen = goes blank undo_depth (map user_act_of taken) of.screen;
     pending = more
@@ -153,12 +142,12 @@ module _ {B : Type 0} (is_board : B → Type 0) (draw : B → Draw → B) (blank
   -- an entry more is taken
   pub drawn_took : (user : ℕ) (taken taken' : List Entry) (fork fork' : List Msg) (entry : Entry)
       (a : UserAct Draw) (own : Own) (s s' : Screened B Draw)
-      → IsDrawn is_board draw blank user taken fork s
+      → HasDrawn is_board draw blank user taken fork s
       → ScreenGoesOn is_board draw a own s s' → s'.fork.acts ≡ left_by own s.fork.acts
       → a ≡ user_act_of entry
       → Answers own (act_of entry) (map (act_of_message user) fork)
       → taken' ≡ taken ++ entry ∷ [] → fork' ≡ fork_after own fork
-      → IsDrawn is_board draw blank user taken' fork' s'
+      → HasDrawn is_board draw blank user taken' fork' s'
   drawn_took user taken taken' fork fork' entry a own s s' of goes left is answers now fork_now =
       let answers' : Answers own a.act s.fork.acts =
       subst (λ (acts : List (Act Draw)). Answers own a.act acts) (sym of.pending)
@@ -168,7 +157,8 @@ module _ {B : Type 0} (is_board : B → Type 0) (draw : B → Draw → B) (blank
       ap (map user_act_of) now ∙ map-append user_act_of taken (entry ∷ [])
       ∙ ap (λ (x : UserAct Draw). map user_act_of taken ++ x ∷ []) (sym is) in
       record {
-        screen = subst (λ (xs : List (UserAct Draw)). IsScreenOf is_board draw blank undo_depth xs s')
+        screen = subst
+            (λ (xs : List (UserAct Draw)). IsScreenOf is_board draw blank undo_depth xs s')
             (sym acts) (goes blank undo_depth (map user_act_of taken) of.screen answers');
         pending = left ∙ ap (left_by own) of.pending
             ∙ left_mapped own (act_of_message user) fork

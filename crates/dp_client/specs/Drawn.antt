@@ -7,7 +7,7 @@ use Rattle.dp_replay.specs.Replay.{act_of_message, undo_depth, user_act_of}
 use Rattle.dp_screen.specs.Screen.{IsScreenOf, Screened}
 
 -- a screen shows what was taken, and on it what the user has said that isn't answered
-pub record IsDrawn {B : Type 0} (is_board : B → Type 0) (draw : B → Draw → B) (blank : B)
+pub record HasDrawn {B : Type 0} (is_board : B → Type 0) (draw : B → Draw → B) (blank : B)
     (user : ℕ) (taken : List Entry) (fork : List Msg) (s : Screened B Draw) : Type 0 where
   pub screen : IsScreenOf is_board draw blank undo_depth (map user_act_of taken) s
   pub pending : s.fork.acts ≡ map (act_of_message user) fork

@@ -16,8 +16,8 @@ use Rattle.dp_screen.specs.Due as screen
 use Rattle.dp_client.specs.Client.{State, own_of}
 
 -- what an entry that is no mark may draw on both boards, where this says which commands are apart:
--- on the confirmed one its own command, or where it moves a group those from the point of that group
--- on; and what it has drawn anew on that of the fork
+-- on the confirmed one its own command, or if it moves a group those from the point of that group on;
+-- and what it has drawn anew on that of the fork
 abbrev pub entry_due : (Draw → Draw → Bool) → State → Entry → List Draw
 entry_due apart s entry =
     screen.due apart undo_depth (map user_act_of s.taken) (user_act_of entry) (own_of s entry)
@@ -33,8 +33,8 @@ abbrev pub due_on : (Draw → Draw → Bool) → State → Entry → List Draw
 due_on apart s entry = due_at (marked entry.msg) apart s entry
 
 -- on a canvas, where commands are apart whose feet don't meet
-abbrev pub due : State → Entry → List Draw
-due = due_on are_apart
+abbrev pub canvas_due : State → Entry → List Draw
+canvas_due = due_on are_apart
 
 -- what a message may draw that is said: its command
 abbrev pub said_due : Msg → List Draw
@@ -43,16 +43,16 @@ said_due m = option_to_list (command_of m)
 -- ---- laws
 
 -- an echo that moves no group may draw one command at most
-abbrev pub EchoIsDueOne : Type 0
-EchoIsDueOne =
+abbrev pub EchoDrawsOne : Type 0
+EchoDrawsOne =
     (apart : Draw → Draw → Bool) (s : State) (entry : Entry) → own_of s entry ≡ Echo
     → moved_by undo_depth (map user_act_of s.taken) (user_act_of entry) ≡ None
     → length (due_on apart s entry) ≤ 1
 
 -- a stranger's command that is apart from each of the fork's may be drawn on each board, and no
 -- other may
-abbrev pub ApartIsDueTwice : Type 0
-ApartIsDueTwice =
+abbrev pub ApartDrawsTwice : Type 0
+ApartDrawsTwice =
     (apart : Draw → Draw → Bool) (s : State) (user : ℕ) (op : Draw)
     → own_of s (record { user = user; msg = msg.Draw op }) ≡ Stranger
     → is_apart apart op (filter_map command_of s.fork) ≡ true
@@ -60,8 +60,8 @@ ApartIsDueTwice =
 
 -- an entry that moves a group may draw at most as many commands as there are entries from the point
 -- of that group on, and those of the fork
-abbrev pub MoveIsDueFew : Type 0
-MoveIsDueFew =
+abbrev pub MoveDrawsFew : Type 0
+MoveDrawsFew =
     (apart : Draw → Draw → Bool) (s : State) (entry : Entry) (group : ℕ)
     → moved_by undo_depth (map user_act_of s.taken) (user_act_of entry) ≡ Some group
     → length (due_on apart s entry) ≤ (length s.taken - group) + length s.fork

@@ -3,7 +3,8 @@
 ghost use Rattle.std.specs.Prelude.{◌≡◌, ◌-◌, ◌^◌, ◌<◌, ◌≤◌, length, map, [], ◌∷◌, Some, None};
 ghost use Rattle.std.specs.Prelude.{take, IsTrue, IfOk, OnOk, OnErr};
 ghost use Rattle.dp_board.specs.Counts.{CountsFew};
-ghost use Rattle.dp_client.specs.Client.{answered, welcomed, own_of, last_before, is_own_answer, said, took};
+ghost use Rattle.dp_client.specs.Client.{answered, welcomed, own_of, last_before};
+ghost use Rattle.dp_client.specs.Client.{is_own_answer, said, took};
 ghost use Rattle.dp_client.specs.Client.{taken_of, confirmed_on, view_on, fork_after};
 ghost use Rattle.dp_client.specs.Taking.{with_mark};
 ghost use Rattle.dp_board.specs.declared.act.Act.TheVariants.{Other};
@@ -55,7 +56,7 @@ pub struct Client<B: Board<Op = Draw> + BlankBoard> {
 
 impl<B: Board<Op = Draw> + BlankBoard> Model for Client<B> {
     ghost use Rattle.dp_client.specs.Client.{State};
-    ghost use Rattle.dp_client.specs.Drawn.{IsDrawn};
+    ghost use Rattle.dp_client.specs.Drawn.{HasDrawn};
 
     ghost Value = { State };
 
@@ -69,7 +70,7 @@ impl<B: Board<Op = Draw> + BlankBoard> Model for Client<B> {
     } };
 
     ghost invariant = { λ c.
-        IsDrawn B.is_board B.drawn B.blank c.user c.taken.items c.fork.items c.screen };
+        HasDrawn B.is_board B.drawn B.blank c.user c.taken.items c.fork.items c.screen };
 }
 
 /// What an own answer is to a fork.

@@ -1,6 +1,6 @@
 //! Laws of the definitions. The functions do nothing: their contracts are the laws.
 
-ghost use Rattle.dp_client.specs.Due.{ApartIsDueTwice, EchoIsDueOne, MoveIsDueFew};
+ghost use Rattle.dp_client.specs.Due.{ApartDrawsTwice, EchoDrawsOne, MoveDrawsFew};
 ghost use Rattle.dp_client.specs.Taking.{EntriesAreTaken};
 
 use dp_msg_draw::Draw;
@@ -15,9 +15,9 @@ pub fn entries_are_taken()
 /// stranger's command that is apart from the fork's two. One that moves a group may draw as many as
 /// there are entries from the point of that group on, and those of the fork.
 pub fn few_are_due()
-    ensures echo { EchoIsDueOne }
-    ensures apart { ApartIsDueTwice }
-    ensures moved { MoveIsDueFew }
+    ensures echo { EchoDrawsOne }
+    ensures apart { ApartDrawsTwice }
+    ensures moved { MoveDrawsFew }
 {
     dp_screen::few_are_due::<Draw>();
 }

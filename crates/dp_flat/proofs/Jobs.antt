@@ -8,11 +8,6 @@ use Rattle.std.proofs.lemmas.List.Elements.{All-nil, All-cons}
 use Rattle.dp_plain.specs.Board.{Board}
 use Rattle.dp_flat.specs.Jobs.{AreDrawnFrom, AreFrom, AreJobsOf, DrawnBand, IsDrawn}
 
--- jobs need nothing to be run
-pub all_ready : (jobs : List DrawnBand) → All (λ _. ⊤) jobs
-all_ready [] = All-nil (λ _. ⊤)
-all_ready (job ∷ jobs) = All-cons (λ _. ⊤) job jobs tt (all_ready jobs)
-
 -- one job more of the board
 pub pushed : (board : Board) (jobs : List DrawnBand) (job : DrawnBand)
     → ((k : ℕ) (d : DrawnBand) → k < length jobs → (get_or jobs k d).board ≡ board)

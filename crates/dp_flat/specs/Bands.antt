@@ -11,7 +11,7 @@ use Rattle.dp_plain.specs.Picture.{head, seen}
 use Rattle.dp_flat.specs.declared.text.Format.{Format}
 use Rattle.dp_flat.specs.declared.text.Format.TheVariants.{P6, P3}
 use Rattle.dp_flat.specs.Composed.{seen_row}
-use Rattle.dp_flat.specs.Texts.{GrowsBefore, name_of, pixel_text_of}
+use Rattle.dp_flat.specs.Texts.{GrowsBefore, magic_of, pixel_text_of}
 
 -- the text of the bytes of a pixel in the format
 abbrev pub rgb_text : Format → List ℕ → List ℕ
@@ -52,5 +52,5 @@ IsLine format board row known text =
 abbrev pub HasRows : Format → Board → Option (List ℕ) → Option (List ℕ) → List ℕ → ℕ → Type 0
 HasRows format board old new piece count =
     GrowsBefore old new piece
-    (head (name_of format) board.width board.height
+    (head (magic_of format) board.width board.height
     ++ flat_map (pixel_text_of format) (canvas_of board.width count (seen board)))

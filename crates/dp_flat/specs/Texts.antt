@@ -9,9 +9,9 @@ use Rattle.dp_flat.specs.declared.text.Format.{Format}
 use Rattle.dp_flat.specs.declared.text.Format.TheVariants.{P6, P3}
 
 -- the first line of a text in the format
-abbrev pub name_of : Format → List ℕ
-name_of P6 = codes "P6\n"
-name_of P3 = codes "P3\n"
+abbrev pub magic_of : Format → List ℕ
+magic_of P6 = codes "P6\n"
+magic_of P3 = codes "P3\n"
 
 -- the text of a pixel in the format
 abbrev pub pixel_text_of : Format → Channels → List ℕ

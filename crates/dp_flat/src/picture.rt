@@ -16,7 +16,7 @@ ghost use Rattle.dp_flat.specs.Bands.{HasRows, IsBand, IsLine, chunk_pixels, rgb
 ghost use Rattle.dp_flat.specs.Composed.{IsDeep, seen_row};
 ghost use Rattle.dp_flat.specs.Ends.{is_sink_fault};
 ghost use Rattle.dp_flat.specs.Jobs.{AreJobsOf};
-ghost use Rattle.dp_flat.specs.Texts.{GrowsBefore, name_of, pixel_text_of};
+ghost use Rattle.dp_flat.specs.Texts.{GrowsBefore, magic_of, pixel_text_of};
 
 use crate::band::{BLACK, Rgb, draw_band, tiles_along};
 use crate::compose::{LEVELS, depth_of};
@@ -145,9 +145,9 @@ fn write_picture<V: BoardView, S: Sink>(
     out: &mut S,
 ) -> Result<(), PictureEnd>
     ensures written { OnOk result (Appends (S.held out.old) (S.held out.new)
-        (picture_text (name_of format) (pixel_text_of format) (V.board board.now))) }
+        (picture_text (magic_of format) (pixel_text_of format) (V.board board.now))) }
     ensures prefix { GrowsByPrefix (S.held out.old) (S.held out.new)
-        (picture_text (name_of format) (pixel_text_of format) (V.board board.now)) }
+        (picture_text (magic_of format) (pixel_text_of format) (V.board board.now)) }
     ensures memory { IsErrOf result PictureEnd.Memory → Keeps (S.held out.old) (S.held out.new) }
     ensures memory_uncounted { IsErrOf result PictureEnd.Memory
         → S.faults out.new ≡ S.faults out.old }
@@ -187,9 +187,9 @@ fn put_picture<V: BoardView, S: Sink>(
     requires colors { length colors.old ≡ tiles_along (V.board board.now).width }
     requires bytes { length bytes.old ≡ BUFFER * tiles_along (V.board board.now).width }
     ensures written { OnOk result (Appends (S.held out.old) (S.held out.new)
-        (picture_text (name_of format) (pixel_text_of format) (V.board board.now))) }
+        (picture_text (magic_of format) (pixel_text_of format) (V.board board.now))) }
     ensures prefix { GrowsByPrefix (S.held out.old) (S.held out.new)
-        (picture_text (name_of format) (pixel_text_of format) (V.board board.now)) }
+        (picture_text (magic_of format) (pixel_text_of format) (V.board board.now)) }
     ensures cause { HasCause any_fault (S.faults out.old) (S.faults out.new) result }
 {
     let (width, height) = (board.width(), board.height());
@@ -216,9 +216,9 @@ fn put_by<R: Threads + Sync, V: BoardView + Sync, S: Sink, G: Gate>(
 ) -> Result<(), Failed>
     requires { AreJobsOf (V.board board.now) jobs.old }
     ensures written { OnOk result (Appends (S.held out.old) (S.held out.new)
-        (picture_text (name_of format) (pixel_text_of format) (V.board board.now))) }
+        (picture_text (magic_of format) (pixel_text_of format) (V.board board.now))) }
     ensures prefix { GrowsByPrefix (S.held out.old) (S.held out.new)
-        (picture_text (name_of format) (pixel_text_of format) (V.board board.now)) }
+        (picture_text (magic_of format) (pixel_text_of format) (V.board board.now)) }
     ensures cause { HasCause any_fault (S.faults out.old) (S.faults out.new) result }
 {
     let (width, height) = (board.width(), board.height());
@@ -256,7 +256,7 @@ fn put_job<V: BoardView, S: Sink>(
     ensures prefix { OnErr result ((start : Option (List ℕ))
         → HasRows format (V.board board.now) start (S.held out.old) piece.old.items (row * 64)
         → GrowsByPrefix start (S.held out.new)
-        (picture_text (name_of format) (pixel_text_of format) (V.board board.now))) }
+        (picture_text (magic_of format) (pixel_text_of format) (V.board board.now))) }
     ensures cause { HasCause any_fault (S.faults out.old) (S.faults out.new) result }
 {
     put_band(
@@ -293,7 +293,7 @@ fn put_band<V: BoardView, S: Sink>(
     ensures prefix { OnErr result ((start : Option (List ℕ))
         → HasRows format (V.board board.now) start (S.held out.old) piece.old.items (row * 64)
         → GrowsByPrefix start (S.held out.new)
-        (picture_text (name_of format) (pixel_text_of format) (V.board board.now))) }
+        (picture_text (magic_of format) (pixel_text_of format) (V.board board.now))) }
     ensures cause { HasCause any_fault (S.faults out.old) (S.faults out.new) result }
 {
     let height = board.height();

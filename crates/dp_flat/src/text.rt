@@ -5,7 +5,7 @@ ghost use Rattle.std.specs.List.{flat_map};
 ghost use Rattle.arrayvec.specs.ArrayVec.{array_vec_len};
 ghost use Rattle.dp_plain.specs.Picture.{head};
 ghost use Rattle.dp_flat.specs.Bands.{chunk_pixels, rgb_text};
-ghost use Rattle.dp_flat.specs.Texts.{name_of};
+ghost use Rattle.dp_flat.specs.Texts.{magic_of};
 
 use crate::band::Rgb;
 use arrayvec::{ArrayString, ArrayVec};
@@ -38,7 +38,7 @@ pub(crate) enum Format {
 impl Format {
     /// The first line of a text in the format.
     fn name(self) -> &'static str
-        ensures value { result.now ≡ name_of self }
+        ensures value { result.now ≡ magic_of self }
         ensures short { length result.now ≤ 3 }
     {
         match self {
@@ -50,7 +50,7 @@ impl Format {
 
 /// The head of a picture of this width and height.
 pub(crate) fn head_of(format: Format, width: u32, height: u32) -> ArrayString<96>
-    ensures { result.bytes ≡ head (name_of format) width height }
+    ensures { result.bytes ≡ head (magic_of format) width height }
 {
     let mut digits = Buffer::new();
     let mut head = ArrayString::new();

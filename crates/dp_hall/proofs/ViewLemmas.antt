@@ -264,21 +264,3 @@ module _ {E O M : Type 0} (may : M → E → O → M → Type 0) where
         stays_sound v sound,
         sound_now (split_right v) refl refl sound.legal.0 sound.legal.1 here,
       )
-
-  -- the seat of the start
-  pub first_sound : (m : M) → IsSound may (first_view {E = E} {O = O} m)
-  first_sound m = record {
-    live = refl;
-    rests = refl;
-    alone = refl;
-    legal = (m, refl, tt);
-    seen_known = le_refl 0;
-    mine = refl;
-    distinct = ((λ h. h), tt);
-    fresh = λ k more inside. absurd (no_child k more inside);
-    counted = refl;
-  }
-    where
-      no_child : (k : ℕ) (more : List ℕ) → IsIn (k ∷ more) ([] ∷ []) → ⊥
-      no_child k more (inl e) = absurd (cc (e))
-      no_child k more (inr h) = h

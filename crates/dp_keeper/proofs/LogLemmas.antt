@@ -7,7 +7,7 @@ use Rattle.std.proofs.lemmas.List.{length-take}
 use Rattle.std.specs.List.{slice_get}
 use Rattle.std.specs.Option.{option_map_or}
 use Rattle.dp_keeper.specs.declared.log.Mark.{Mark}
-use Rattle.dp_keeper.specs.Log.{row_at, rows_from, end_of, RiseTo}
+use Rattle.dp_keeper.specs.Log.{row_at, rows_from, log_end, RiseTo}
 
 -- ---- a row more
 
@@ -60,7 +60,7 @@ one-off n = omega (arith)
 
 -- where the rows after a first one end
 end-next : (at : ℕ) (mark : Mark) (marks : List Mark)
-    → end_of at (mark ∷ marks) ≡ end_of mark.end marks
+    → log_end at (mark ∷ marks) ≡ log_end mark.end marks
 end-next at mark [] = refl
 end-next at mark (next ∷ marks) =
     ap (λ k. option_map_or (λ m. m.end) (slice_get (mark ∷ next ∷ marks) k) at)
@@ -70,7 +70,7 @@ end-next at mark (next ∷ marks) =
     (sym (one-off (length marks)))
 
 rows-after : (bytes : List ℕ) (at n : ℕ) (marks : List Mark)
-    → rows_from bytes (end_of at (take n marks)) (drop n marks) ≡ drop n (rows_from bytes at marks)
+    → rows_from bytes (log_end at (take n marks)) (drop n marks) ≡ drop n (rows_from bytes at marks)
 rows-after bytes at zero marks = refl
 rows-after bytes at (suc n) [] = refl
 rows-after bytes at (suc n) (mark ∷ marks) =
@@ -86,10 +86,10 @@ rows-first bytes at (suc n) (mark ∷ marks) =
 
 -- the rows from a place on, at most so many
 pub rows-cut : (bytes : List ℕ) (from most : ℕ) (marks : List Mark)
-    → rows_from bytes (end_of 0 (take from marks)) (take most (drop from marks))
+    → rows_from bytes (log_end 0 (take from marks)) (take most (drop from marks))
     ≡ take most (drop from (rows_from bytes 0 marks))
 rows-cut bytes from most marks =
-    rows-first bytes (end_of 0 (take from marks)) most (drop from marks)
+    rows-first bytes (log_end 0 (take from marks)) most (drop from marks)
     ∙ ap (take most) (rows-after bytes 0 from marks)
 
 -- ---- pages over two lists

@@ -14,8 +14,8 @@ rows_from bytes at [] = []
 rows_from bytes at (mark ∷ marks) = row_at bytes at mark ∷ rows_from bytes mark.end marks
 
 -- where the last of these rows ends, if the first one begins at a place
-abbrev pub end_of : ℕ → List Mark → ℕ
-end_of at marks = option_map_or (λ mark. mark.end) (slice_get marks (length marks - 1)) at
+abbrev pub log_end : ℕ → List Mark → ℕ
+log_end at marks = option_map_or (λ mark. mark.end) (slice_get marks (length marks - 1)) at
 
 -- the ends rise from a place on, up to the last
 abbrev pub RiseTo : ℕ → ℕ → List Mark → Type 0

@@ -1,7 +1,7 @@
 //! Rows, one after another in one list of bytes.
 
 ghost use Rattle.std.specs.Prelude.{◌≡◌, ◌∷◌, ◌++◌, [], take, drop, OnOk, OnErr, IfOk};
-ghost use Rattle.dp_keeper.specs.Log.{row_at, rows_from, end_of};
+ghost use Rattle.dp_keeper.specs.Log.{row_at, rows_from, log_end};
 
 use crate::row::{Row, RowBytes, Rows};
 use dp_lists::{prefix_of, rest_of};
@@ -35,8 +35,8 @@ impl Model for RowLog {
 }
 
 /// Where the last of these rows ends.
-fn end_of(marks: &[Mark]) -> usize
-    ensures { result ≡ end_of 0 marks.now }
+fn log_end(marks: &[Mark]) -> usize
+    ensures { result ≡ log_end 0 marks.now }
 {
     match marks.last() {
         Some(mark) => mark.end,
@@ -111,7 +111,7 @@ impl RowLog {
     ) -> Result<(), AllocError>
         ensures { OnOk result (page.new ≡ page.old ++ take most (drop from self.now)) }
     {
-        let start = end_of(prefix_of(&self.marks, from));
+        let start = log_end(prefix_of(&self.marks, from));
         let marks = prefix_of(rest_of(&self.marks, from), most);
         put_rows(*self.bytes.allocator(), &self.bytes, start, marks, page)
     }

@@ -10,6 +10,9 @@ use crate::tails::{put_colors, put_content, put_dabs, put_title};
 use dp_fields::Field;
 use std::alloc::AllocError;
 
+/// Room for the payloads of most messages, which is made at once.
+const ROOM: usize = 48;
+
 /// Puts a message's fields at the end. Where memory runs out, some of their bytes may stand there.
 #[rattlefmt::skip]
 fn put_draw(m: &Draw, out: &mut Vec<u8>) -> Result<(), AllocError>
@@ -58,6 +61,7 @@ pub fn write_draw(m: &Draw, out: &mut Vec<u8>) -> Result<(), AllocError>
     ensures err { OnErr result (out.new.items ≡ out.old.items) }
 {
     let mut payload = Vec::new(*out.allocator());
+    payload.reserve(ROOM)?;
     put_draw(m, &mut payload)?;
     out.extend_from_slice(&payload)
 }

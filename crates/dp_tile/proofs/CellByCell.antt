@@ -243,43 +243,6 @@ module _ (painted : Painted) (area : CellArea) (old : TileGrid) where
         (other_row col k (λ same. absurd (omega (arith, same, to, order)))
         (omega (arith, below, across, wide))))))
 
-  -- all rows were painted
-  pub area_done : (new : TileGrid) → IsUpTo painted area area.bottom old new
-      → IsPaintedOn area painted old new
-  area_done new all =
-      record {
-        cols = all.cols;
-        rows = all.rows;
-        cells = λ col row in_cols in_rows.
-            by_test (is_in_cells area col row) (cell_at new col row)
-            (painted col row (cell_at old col row)) (cell_at old col row)
-            (λ yes.
-            let most = and_parts (nat_le area.left col && nat_lt col area.right
-            && nat_le area.top row) (nat_lt row area.bottom) yes in
-            let three = and_parts (nat_le area.left col && nat_lt col area.right)
-            (nat_le area.top row) most.0 in
-            let two = and_parts (nat_le area.left col) (nat_lt col area.right) three.0 in
-            all.inside col row (leb-true area.left col two.0) (ltb-true col area.right two.1)
-            (leb-true area.top row three.1) (ltb-true row area.bottom most.1))
-            (λ no. ⊎_elim (λ less. all.before col row less)
-            (λ from. ⊎_elim
-            (λ to. ⊎_elim (λ over. all.above col row over in_cols)
-            (λ top. ⊎_elim (λ bottom. absurd (false≢true (sym no ∙ (rw (
-              le-leb area.left col from,
-              lt-ltb col area.right to,
-              le-leb area.top row top,
-              lt-ltb row area.bottom bottom,
-            ) refl))))
-            (λ under. all.below col row under in_cols) (cases_lt row area.bottom))
-            (cases_lt row area.top))
-            (λ past. all.after col row past in_cols) (cases_lt col area.right))
-            (cases_lt col area.left));
-      } where
-        by_test : (b : Bool) (x y z : List Channels) → (b ≡ true → x ≡ y) → (b ≡ false → x ≡ z)
-            → x ≡ cond b y z
-        by_test true x y z is_true is_false = is_true refl
-        by_test false x y z is_true is_false = is_false refl
-
 -- ---- the same cells
 
 pub shown_same : (area : CellArea) (g other : TileGrid)

@@ -36,8 +36,8 @@ with_params app [] = app
 with_params app (param ∷ rest) = with_params (with_rule app (rule_for param)) rest
 
 -- the command of these words
-abbrev pub command_of : Words → App
-command_of words = with_params (new_app words.0) words.1
+abbrev pub command_for : Words → App
+command_for words = with_params (new_app words.0) words.1
 
 -- what stands before the commands: no name of the program, no help, and a command has to be there
 abbrev pub bare_program : Text → App
@@ -52,7 +52,7 @@ bare_program name = on_top (λ top. record top {
 abbrev pub with_commands : App → List Words → App
 with_commands app [] = app
 with_commands app (words ∷ rest) =
-    with_commands (with_subcommand app (command_of words).top) rest
+    with_commands (with_subcommand app (command_for words).top) rest
 
 -- the program of this name with commands of these words
 abbrev pub program_with : Text → List Words → App

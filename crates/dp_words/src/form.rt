@@ -3,7 +3,7 @@
 ghost use Rattle.std.specs.Prelude.{◌≡◌, false, map, IfOk};
 ghost use Rattle.clap.specs.Words.{app_of, rule_of};
 ghost use Rattle.clap.specs.declared.builder.command.Command.TheViews.{out-Command};
-ghost use Rattle.dp_words.specs.Program.{bare_program, command_of, program_with, rule_for};
+ghost use Rattle.dp_words.specs.Program.{bare_program, command_for, program_with, rule_for};
 ghost use Rattle.dp_words.specs.Program.{words_of};
 
 use clap::{Arg, Command};
@@ -38,7 +38,7 @@ pub fn program_of<'a>(
 {
     let mut program = bare_of(alloc, name);
     for form in forms {
-        program = program.subcommand(command_of(alloc, form)?)?;
+        program = program.subcommand(command_for(alloc, form)?)?;
     }
     Ok(program)
 }
@@ -55,8 +55,8 @@ fn bare_of<'a>(alloc: Global, name: &'static str) -> Command<'a>
 }
 
 /// The command of a form.
-fn command_of<'a>(alloc: Global, form: &Form) -> Result<Command<'a>, AllocError>
-    ensures app { IfOk result (λ made. app_of made ≡ command_of (words_of form.now)) }
+fn command_for<'a>(alloc: Global, form: &Form) -> Result<Command<'a>, AllocError>
+    ensures app { IfOk result (λ made. app_of made ≡ command_for (words_of form.now)) }
     ensures plain { IfOk result (λ made. (out-Command made).has_globals ≡ false) }
 {
     let mut command = Command::new(alloc, form.name);

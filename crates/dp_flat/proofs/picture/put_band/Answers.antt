@@ -5,7 +5,7 @@ use Rattle.dp_blend.specs.Canvas.{canvas_of}
 use Rattle.dp_plain.specs.Picture.{head, seen}
 use Rattle.dp_flat.specs.Bands.{HasRows}
 use Rattle.dp_flat.specs.Composed.{seen_row}
-use Rattle.dp_flat.specs.Texts.{GrowsBefore, name_of, pixel_text_of}
+use Rattle.dp_flat.specs.Texts.{GrowsBefore, magic_of, pixel_text_of}
 use Rattle.dp_flat.proofs.Bands.{band_same, line_same}
 use Rattle.dp_flat.proofs.Prefixes.{before_on, before_failed, where_failed}
 use Rattle.dp_flat.proofs.Rows.{text_more, text_failed}
@@ -30,7 +30,7 @@ returns-in_err-put_next-clause-prefix g c =
     let board = g.V.BoardView.board c.args.board.now in
     let held = g.S.Sink.held in
     let text = pixel_text_of c.args.format in
-    let prefix = head (name_of c.args.format) board.width board.height in
+    let prefix = head (magic_of c.args.format) board.width board.height in
     where_failed _ c.from_residual.result
     (λ start has.
     text_failed start (held c.put_next.new.out) text board c.loop-y.y prefix (omega arith)
@@ -45,7 +45,7 @@ loop-y-preserved g c =
     let y = c.loop-y.y in
     let held = g.S.Sink.held in
     let text = pixel_text_of c.args.format in
-    let prefix = head (name_of c.args.format) board.width board.height in
+    let prefix = head (magic_of c.args.format) board.width board.height in
     record {
       before = λ start has.
           subst (GrowsBefore start (held c.put_next.new.out) c.put_next.new.piece.items)

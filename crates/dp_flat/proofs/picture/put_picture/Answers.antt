@@ -2,7 +2,7 @@
 use Rattle.std.proofs.Common.{◌≡◌, ◌+◌, ◌*◌, ◌∙◌, min, subst, arith}
 use Rattle.dp_plain.specs.Picture.{head}
 use Rattle.dp_flat.specs.Bands.{HasRows}
-use Rattle.dp_flat.specs.Texts.{name_of, pixel_text_of}
+use Rattle.dp_flat.specs.Texts.{magic_of, pixel_text_of}
 use Rattle.dp_flat.proofs.Prefixes.{last_written, last_cut}
 use Rattle.dp_flat.proofs.Rows.{text_all}
 use Rattle.dp_flat.proofs.picture.put_picture.Goals as goal
@@ -39,7 +39,7 @@ returns-clause-written g c =
     let all : min (c.loop-row.row * 64) board.height ≡ board.height = omega arith in
     last_written _ _ _ _ _ _ c.put_all.result (text_all _ _ (pixel_text_of c.args.format) board
     (min (c.loop-row.row * 64) board.height)
-    (head (name_of c.args.format) board.width board.height) _ all c.loop-row.invariant.before)
+    (head (magic_of c.args.format) board.width board.height) _ all c.loop-row.invariant.before)
     c.as_slice.ensures.value c.put_all.ensures.written
 
 pub returns-clause-prefix : goal.returns-clause-prefix
@@ -48,5 +48,5 @@ returns-clause-prefix g c =
     let all : min (c.loop-row.row * 64) board.height ≡ board.height = omega arith in
     last_cut _ _ _ _ _ _ (text_all _ _ (pixel_text_of c.args.format) board
     (min (c.loop-row.row * 64) board.height)
-    (head (name_of c.args.format) board.width board.height) _ all c.loop-row.invariant.before)
+    (head (magic_of c.args.format) board.width board.height) _ all c.loop-row.invariant.before)
     c.as_slice.ensures.value c.put_all.ensures.prefix

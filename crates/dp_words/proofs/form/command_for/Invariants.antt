@@ -2,7 +2,7 @@ use Rattle.std.proofs.Common.{◌≡◌, drop, false, map}
 use Rattle.clap.specs.Words.{app_of}
 use Rattle.clap.specs.declared.builder.command.Command.TheViews.{out-Command}
 use Rattle.dp_words.specs.Program.{param_of, with_params}
-use Rattle.dp_words.proofs.form.command_of.Given as goal
+use Rattle.dp_words.proofs.form.command_for.Given as goal
 
 -- with the words and options that are left it is the whole command
 abbrev pub invariant-loop-param : goal.invariant-loop-param
