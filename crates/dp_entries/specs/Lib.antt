@@ -1,5 +1,6 @@
 pub mod Anywhere
 pub mod Ends
 pub mod Input
+pub mod Onward
 pub mod Reader
 pub mod Reading

@@ -1,5 +1,5 @@
 -- A reader of entries, and what was read so far.
-use Rattle.std.specs.Prelude.{◌≡◌, ℕ, ◌+◌, ◌-◌, ◌<◌, ◌↔◌, Bool, IsTrue, List, ◌++◌, length}
+use Rattle.std.specs.Prelude.{◌≡◌, ℕ, ◌+◌, ◌-◌, ◌<◌, ◌≤◌, ◌↔◌, Bool, IsTrue, List, ◌++◌, length}
 use Rattle.std.specs.Prelude.{Option, Some, if◌then◌else◌}
 use Rattle.std.specs.List.{AllByRecursion, flat_map}
 use Rattle.dp_frame.specs.Frames.{FrameParts, IsFrame, spelling}
@@ -26,6 +26,22 @@ room_of reader = reader.limit - reader.first - reader.stream.at - length reader.
 -- a number that falls with each piece
 abbrev pub measure_of : Reader → ℕ
 measure_of reader = if reader.over then 0 else room_of reader + 1
+
+-- what it holds is within the bytes that count
+abbrev pub HoldsWithin : Reader → Type 0
+HoldsWithin reader = reader.first + reader.stream.at + length reader.stream.held ≤ reader.limit
+
+-- their first frame begins at one byte, and as many bytes count
+pub record SameSource (old new : Reader) : Type 0 where
+  pub first : new.first ≡ old.first
+  pub limit : new.limit ≡ old.limit
+
+-- and as many bytes were taken as frames; neither has ended, or both have
+pub record SamePlace (old new : Reader) : Type 0 where
+  pub first : new.first ≡ old.first
+  pub limit : new.limit ≡ old.limit
+  pub at : new.stream.at ≡ old.stream.at
+  pub ended : new.ended ≡ old.ended
 
 -- the bytes are this many frames that stand for the entries, and then what the splitter holds
 pub record Follows (MayStand : ℕ → FrameParts → Entry → Type 0) (bytes : List ℕ)

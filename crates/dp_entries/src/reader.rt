@@ -11,8 +11,12 @@ ghost use Rattle.dp_messages.specs.declared.message.Entry.{Entry as Item};
 ghost use Rattle.dp_lines.specs.declared.run_end.RunEnd.TheVariants as run;
 ghost use Rattle.dp_entries.specs.Input.{ComesTo};
 ghost use Rattle.dp_entries.specs.Ends.{IsRefusal, refused_at};
-ghost use Rattle.dp_entries.specs.Reader.{HasRead, measure_of, room_of};
+ghost use Rattle.dp_entries.specs.Reader.{HasRead, HoldsWithin, SamePlace, SameSource};
+ghost use Rattle.dp_entries.specs.Reader.{measure_of, room_of};
 ghost use Rattle.dp_entries.specs.Reading.{FaultMatchesReadEnd, EndsReading, EndsWithInput};
+ghost use Rattle.dp_entries.specs.Onward.{AreBytes, EndsOn, ReachesFew, ReadOn, HaltsOn};
+ghost use Rattle.dp_entries.specs.Onward.{most_in_piece};
+ghost use Rattle.dp_split.specs.Stream.{Stream};
 
 use crate::{ReadEnd, Refusal, Standing};
 use dp_io::{Failed, Source};
@@ -79,6 +83,43 @@ impl<S: Standing> EntryReader<S> {
         }
     }
 
+    /// A reader that begins with what a splitter holds. Of its stream so many bytes count, with
+    /// those that were taken as frames before.
+    pub fn resume(splitter: Splitter, limit: u64) -> Self
+        requires { splitter.at + length splitter.held ≤ limit }
+        ensures first { result.first ≡ 0 }
+        ensures limit { result.limit ≡ limit }
+        ensures stream { result.stream ≡ splitter }
+        ensures not_over { ¬ IsTrue result.over }
+        ensures not_ended { ¬ IsTrue result.ended }
+        ensures begun { (source : Option (List ℕ))
+            → ReadOn S.may_stand source source splitter [] result }
+    {
+        EntryReader {
+            splitter,
+            first: 0,
+            limit,
+            count: 0,
+            over: false,
+            ended: false,
+            standing: PhantomData,
+        }
+    }
+
+    /// The splitter, with what it holds.
+    pub fn into_splitter(self) -> Splitter
+        ensures { result ≡ self.stream }
+    {
+        self.splitter
+    }
+
+    /// Whether a whole frame is held: where one is, the next entry comes without a read.
+    pub fn holds_frame(&self) -> bool
+        ensures { IsTrue result ↔ (¬ HoldsNoFrame self.now.stream.held) }
+    {
+        self.splitter.peek_frame().is_some()
+    }
+
     /// Gives the next entry; `None` where the input ends after a whole frame. It reads pieces of at
     /// most 4096 bytes, and only where no whole frame is held. After `None` and after an error it
     /// has ended: it gives `None` from then on, and reads nothing.
@@ -101,10 +142,8 @@ impl<S: Standing> EntryReader<S> {
             → HasRead S.may_stand bytes (I.left input.new) (entries ++ entry ∷ []) self.new)) }
         ensures further { IfOk result (λ next. IfSome next (λ _.
             self.old.stream.at < self.new.stream.at)) }
-        ensures within { self.new.first + self.new.stream.at + length self.new.stream.held
-            ≤ self.new.limit }
-        ensures first { self.new.first ≡ self.old.first }
-        ensures limit { self.new.limit ≡ self.old.limit }
+        ensures within { HoldsWithin self.new }
+        ensures source { SameSource self.old self.new }
 
         // Where there is none, the input came to its end, or reading it ended so.
         ensures at_end { ¬ IsTrue self.old.ended → IfOk result (λ next.
@@ -118,6 +157,23 @@ impl<S: Standing> EntryReader<S> {
             → EndsReading S.may_stand S.is_cause self.old.first self.old.limit bytes
             (I.left input.new) entries end) }
         ensures inside { IfErr result (EndsWithInput (I.left input.new)) }
+
+        // The same of what was read from a stream on.
+        ensures goes_on { IfOk result (λ next. IfSome next (λ entry.
+            (source : Option (List ℕ)) (start : Stream) (entries : List Item)
+            → ReadOn S.may_stand source (I.left input.old) start entries self.old
+            → ReadOn S.may_stand source (I.left input.new) start (entries ++ entry ∷ [])
+            self.new)) }
+        ensures goes_to_end { ¬ IsTrue self.old.ended → IfOk result (λ next. IfNone next
+            ((source : Option (List ℕ)) (start : Stream) (entries : List Item)
+            → ReadOn S.may_stand source (I.left input.old) start entries self.old
+            → EndsOn S.may_stand self.old.limit source (I.left input.new) start entries)) }
+        ensures stops { IfErr result (λ end.
+            (source : Option (List ℕ)) (start : Stream) (entries : List Item)
+            → ReadOn S.may_stand source (I.left input.old) start entries self.old
+            → HaltsOn S.may_stand S.is_cause self.old.limit source (I.left input.new) start entries
+            self.new.stream.held end) }
+        ensures few { ReachesFew self.old.stream self.new.stream }
 
         // It has ended then, and stays so.
         ensures not_ended { IfOk result (λ next. OnSome next (¬ IsTrue self.new.ended)) }
@@ -163,14 +219,17 @@ impl<S: Standing> EntryReader<S> {
             (entries : List Item) → length bytes.now ≤ 4096 → Consumes left rest bytes.now
             → HasRead S.may_stand input left entries self.old
             → HasRead S.may_stand input rest entries self.new) }
+        ensures goes_on { OnOk result ((source left rest : Option (List ℕ)) (start : Stream)
+            (entries : List Item) → Consumes left rest bytes.now
+            → ReadOn S.may_stand source left start entries self.old
+            → ReadOn S.may_stand source rest start entries self.new) }
         ensures further { OnOk result (0 < length bytes.now
             → measure_of self.new < measure_of self.old) }
-        ensures first { self.new.first ≡ self.old.first }
-        ensures limit { self.new.limit ≡ self.old.limit }
-        ensures at { self.new.stream.at ≡ self.old.stream.at }
-        ensures ended { self.new.ended ≡ self.old.ended }
-        ensures within { self.new.first + self.new.stream.at + length self.new.stream.held
-            ≤ self.new.limit }
+        ensures place { SamePlace self.old self.new }
+        ensures within { HoldsWithin self.new }
+        ensures bytes { AreBytes self.old.stream.held → AreBytes self.new.stream.held }
+        ensures more { length self.new.stream.held
+            ≤ length self.old.stream.held + length bytes.now }
         ensures err { OnErr result (self.new ≡ self.old) }
     {
         match self.feed(bytes) {
@@ -210,12 +269,24 @@ impl<S: Standing> EntryReader<S> {
             → EndsReading S.may_stand S.is_cause self.old.first self.old.limit bytes
             (I.left input.new) entries end) }
         ensures inside { IfErr result (EndsWithInput (I.left input.new)) }
-        ensures within { self.new.first + self.new.stream.at + length self.new.stream.held
-            ≤ self.new.limit }
-        ensures first { self.new.first ≡ self.old.first }
-        ensures limit { self.new.limit ≡ self.old.limit }
-        ensures at { self.new.stream.at ≡ self.old.stream.at }
-        ensures ended { self.new.ended ≡ self.old.ended }
+        ensures within { HoldsWithin self.new }
+        ensures place { SamePlace self.old self.new }
+
+        // The same of what was read from a stream on.
+        ensures goes_on { OnOk result ((source : Option (List ℕ)) (start : Stream)
+            (entries : List Item)
+            → ReadOn S.may_stand source (I.left input.old) start entries self.old
+            → ReadOn S.may_stand source (I.left input.new) start entries self.new) }
+        ensures goes_to_end { IfOk result (λ more. ¬ IsTrue more
+            → (source : Option (List ℕ)) (start : Stream) (entries : List Item)
+            → ReadOn S.may_stand source (I.left input.old) start entries self.old
+            → EndsOn S.may_stand self.old.limit source (I.left input.new) start entries) }
+        ensures stops { IfErr result (λ end.
+            (source : Option (List ℕ)) (start : Stream) (entries : List Item)
+            → ReadOn S.may_stand source (I.left input.old) start entries self.old
+            → HaltsOn S.may_stand S.is_cause self.old.limit source (I.left input.new) start entries
+            self.new.stream.held end) }
+        ensures few { ReachesFew self.old.stream self.new.stream }
 
         // A fault is answered where the count of the input's faults rose, and else it stays.
         ensures kept { OnOk result (I.faults input.new ≡ I.faults input.old) }
@@ -248,11 +319,9 @@ impl<S: Standing> EntryReader<S> {
             → HasRead S.may_stand bytes left entries self.old
             → HasRead S.may_stand bytes left (entries ++ entry ∷ []) self.new) }
         ensures further { OnOk result (self.old.stream.at < self.new.stream.at) }
-        ensures first { self.new.first ≡ self.old.first }
-        ensures limit { self.new.limit ≡ self.old.limit }
+        ensures source { SameSource self.old self.new }
         ensures ended { self.new.ended ≡ self.old.ended }
-        ensures within { self.new.first + self.new.stream.at + length self.new.stream.held
-            ≤ self.new.limit }
+        ensures within { HoldsWithin self.new }
         ensures err { OnErr result (self.new ≡ self.old) }
         ensures ends { IfErr result (λ end.
             (bytes : List ℕ) (left : Option (List ℕ)) (entries : List Item)
@@ -260,6 +329,17 @@ impl<S: Standing> EntryReader<S> {
             → EndsReading S.may_stand S.is_cause self.old.first self.old.limit bytes left entries
             end) }
         ensures refused { IfErr result IsRefusal }
+        ensures goes_on { IfOk result (λ entry.
+            (source left : Option (List ℕ)) (start : Stream) (entries : List Item)
+            → ReadOn S.may_stand source left start entries self.old
+            → ReadOn S.may_stand source left start (entries ++ entry ∷ []) self.new) }
+        ensures stops { IfErr result (λ end.
+            (source left : Option (List ℕ)) (start : Stream) (entries : List Item)
+            → ReadOn S.may_stand source left start entries self.old
+            → HaltsOn S.may_stand S.is_cause self.old.limit source left start entries
+            self.new.stream.held end) }
+        ensures count { self.new.stream.at + length self.new.stream.held
+            ≡ self.old.stream.at + length self.old.stream.held }
     {
         S::one_standing();
         let judged = match self.splitter.peek_frame() {
@@ -280,8 +360,7 @@ impl<S: Standing> EntryReader<S> {
     #[inline(never)]
     fn read_piece<I: Source>(&mut self, input: &mut I) -> Result<bool, ReadEnd<S::Cause>>
         requires none { HoldsNoFrame self.old.stream.held }
-        requires within { self.old.first + self.old.stream.at + length self.old.stream.held
-            ≤ self.old.limit }
+        requires within { HoldsWithin self.old }
         ensures read { OnOk result ((bytes : List ℕ) (entries : List Item)
             → HasRead S.may_stand bytes (I.left input.old) entries self.old
             → HasRead S.may_stand bytes (I.left input.new) entries self.new) }
@@ -290,17 +369,26 @@ impl<S: Standing> EntryReader<S> {
         ensures same { IfOk result (λ more. ¬ IsTrue more → self.new ≡ self.old) }
         ensures at_end { IfOk result (λ more. ¬ IsTrue more → IsAtEnd (I.left input.new)) }
         ensures not_over { OnOk result (¬ IsTrue self.old.over) }
-        ensures within { self.new.first + self.new.stream.at + length self.new.stream.held
-            ≤ self.new.limit }
-        ensures first { self.new.first ≡ self.old.first }
-        ensures limit { self.new.limit ≡ self.old.limit }
-        ensures ended { self.new.ended ≡ self.old.ended }
-        ensures at { self.new.stream.at ≡ self.old.stream.at }
+        ensures within { HoldsWithin self.new }
+        ensures place { SamePlace self.old self.new }
         ensures ends { IfErr result (λ end. (bytes : List ℕ) (entries : List Item)
             → HasRead S.may_stand bytes (I.left input.old) entries self.old
             → EndsReading S.may_stand S.is_cause self.old.first self.old.limit bytes
             (I.left input.new) entries end) }
         ensures at_input { IfErr result (EndsWithInput (I.left input.new)) }
+        ensures goes_on { OnOk result ((source : Option (List ℕ)) (start : Stream)
+            (entries : List Item)
+            → ReadOn S.may_stand source (I.left input.old) start entries self.old
+            → ReadOn S.may_stand source (I.left input.new) start entries self.new) }
+        ensures stops { IfErr result (λ end.
+            (source : Option (List ℕ)) (start : Stream) (entries : List Item)
+            → ReadOn S.may_stand source (I.left input.old) start entries self.old
+            → HaltsOn S.may_stand S.is_cause self.old.limit source (I.left input.new) start entries
+            self.new.stream.held end) }
+        ensures bytes { AreBytes self.old.stream.held → AreBytes self.new.stream.held }
+        ensures few { AreBytes self.old.stream.held
+            → self.new.stream.at + length self.new.stream.held
+            ≤ self.old.stream.at + most_in_piece }
         ensures kept { OnOk result (I.faults input.new ≡ I.faults input.old) }
         ensures fault { IfErr result
             (FaultMatchesReadEnd (I.faults input.old) (I.faults input.new)) }
@@ -328,15 +416,11 @@ impl<S: Standing> EntryReader<S> {
         ensures held { OnOk result (self.new.stream.held
             ≡ self.old.stream.held ++ take (room_of self.old) bytes.now) }
         ensures over { OnOk result (IsTrue self.new.over ↔ (room_of self.old < length bytes.now)) }
-        ensures at { self.new.stream.at ≡ self.old.stream.at }
+        ensures small { AreBytes bytes.now }
+        ensures place { SamePlace self.old self.new }
         ensures count { self.new.count ≡ self.old.count }
-        ensures first { self.new.first ≡ self.old.first }
-        ensures limit { self.new.limit ≡ self.old.limit }
-        ensures ended { self.new.ended ≡ self.old.ended }
-        ensures before { self.old.first + self.old.stream.at + length self.old.stream.held
-            ≤ self.old.limit }
-        ensures within { self.new.first + self.new.stream.at + length self.new.stream.held
-            ≤ self.new.limit }
+        ensures before { HoldsWithin self.old }
+        ensures within { HoldsWithin self.new }
         ensures err { OnErr result (self.new ≡ self.old) }
     {
         let counted = bytes.len().min(self.room());
@@ -356,8 +440,7 @@ impl<S: Standing> EntryReader<S> {
     fn check_end(&self) -> Result<(), ReadEnd<S::Cause>>
         requires none { HoldsNoFrame self.now.stream.held }
         requires not_over { ¬ IsTrue self.now.over }
-        requires within { self.now.first + self.now.stream.at + length self.now.stream.held
-            ≤ self.now.limit }
+        requires within { HoldsWithin self.now }
         requires fits { self.now.limit < 2 ^ 64 }
         ensures done { OnOk result ((bytes : List ℕ) (left : Option (List ℕ))
             (entries : List Item) → IsAtEnd left
@@ -370,6 +453,14 @@ impl<S: Standing> EntryReader<S> {
             end) }
         ensures inside { IfErr result (λ end. (left : Option (List ℕ)) → IsAtEnd left
             → EndsWithInput left end × ((count : ℕ) → FaultMatchesReadEnd count count end)) }
+        ensures goes_to_end { OnOk result ((source left : Option (List ℕ)) (start : Stream)
+            (entries : List Item) → ReadOn S.may_stand source left start entries self.now
+            → EndsOn S.may_stand self.now.limit source left start entries) }
+        ensures stops { IfErr result (λ end.
+            (source left : Option (List ℕ)) (start : Stream) (entries : List Item)
+            → ReadOn S.may_stand source left start entries self.now
+            → HaltsOn S.may_stand S.is_cause self.now.limit source left start entries
+            self.now.stream.held end) }
     {
         if self.splitter.rest_len() == 0 {
             Ok(())

@@ -1,7 +1,6 @@
 pub mod FirstFrame
 pub mod Hearing
 pub mod PageLemmas
-pub mod PieceLemmas
 pub mod SeenLemmas
 pub mod SendLemmas
 pub mod Steps

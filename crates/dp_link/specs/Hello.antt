@@ -1,6 +1,6 @@
 -- What greeting a painter does: what was read, what was acted and what the peer took, by how it
 -- ended.
-use Rattle.std.specs.Prelude.{◌≡◌, ◌⊎◌, ℕ, ◌+◌, false, List, [], ◌∷◌, length, Option, None, Some}
+use Rattle.std.specs.Prelude.{◌≡◌, ◌⊎◌, ℕ, ◌+◌, false, List, [], ◌∷◌, length, Option, Some}
 use Rattle.std.specs.Prelude.{Result, Ok, Err, ⊤}
 use Rattle.std.specs.Io.KnownBytes.{Appends, Consumes, Keeps}
 use Rattle.std.specs.declared.alloc.AllocError.{AllocError}
@@ -129,29 +129,16 @@ FaultMatchesHello (Err greet.Memory) read_old read write_old write =
 
 -- ---- parts of it
 
--- the name of a Hello whose frame begins at this byte
-abbrev pub NameOf : Result (List ℕ) GreetEnd → Msg → ℕ → Type 0
-NameOf (Ok name) m start = m ≡ msg.Control (Hello name)
-NameOf (Err (greet.BadMessage at)) m start =
-    (at ≡ start) × ((name : List ℕ) → ¬ (m ≡ msg.Control (Hello name)))
-NameOf (Err greet.Memory) m start = ⊤
-NameOf (Err greet.ReadFault) m start = ⊥
-NameOf (Err greet.End) m start = ⊥
-NameOf (Err (greet.Refused reply)) m start = ⊥
-NameOf (Err greet.WriteFault) m start = ⊥
-
--- taking the name of the Hello in the first frame that is held, if that is whole
-abbrev pub TakesName : Result (Option (List ℕ)) GreetEnd → Stream → Stream → Type 0
-TakesName (Ok (Some name)) old new =
-    BeginsWithHello old.held name new.held
-    × (new.at + length new.held ≡ old.at + length old.held)
-TakesName (Ok None) old new = HoldsNoFrame old.held × (new ≡ old)
-TakesName (Err (greet.BadMessage at)) old new = BeginsWithoutHello old.held × (at ≡ old.at)
-TakesName (Err greet.Memory) old new = ⊤
-TakesName (Err greet.ReadFault) old new = ⊥
-TakesName (Err greet.End) old new = ⊥
-TakesName (Err (greet.Refused reply)) old new = ⊥
-TakesName (Err greet.WriteFault) old new = ⊥
+-- the name of the Hello that the first message of a link is
+abbrev pub NameOf : Result (List ℕ) GreetEnd → Msg → Type 0
+NameOf (Ok name) m = m ≡ msg.Control (Hello name)
+NameOf (Err (greet.BadMessage at)) m =
+    (at ≡ 0) × ((name : List ℕ) → ¬ (m ≡ msg.Control (Hello name)))
+NameOf (Err greet.Memory) m = ⊤
+NameOf (Err greet.ReadFault) m = ⊥
+NameOf (Err greet.End) m = ⊥
+NameOf (Err (greet.Refused reply)) m = ⊥
+NameOf (Err greet.WriteFault) m = ⊥
 
 -- reading the name of the Hello of a link, by how it ended
 abbrev pub NamesBy : Result (List ℕ) GreetEnd → List ℕ → Stream → Type 0

@@ -2,6 +2,6 @@ pub mod Acts
 pub mod Answers
 pub mod Bytes
 pub mod Hello
-pub mod Pieces
+pub mod Reading
 pub mod Saying
 pub mod Sending

@@ -1,5 +1,5 @@
 -- What the messages of a link lead to.
-use Rattle.std.specs.Prelude.{◌≡◌, ◌⊎◌, ℕ, ◌+◌, ◌-◌, ◌<◌, ◌≤◌, Bool, true, false, IsTrue, ◌↔◌}
+use Rattle.std.specs.Prelude.{◌≡◌, ◌⊎◌, ℕ, ◌+◌, ◌-◌, ◌<◌, ◌≤◌, Bool, true, false}
 use Rattle.std.specs.Prelude.{List, [], ◌∷◌, ◌++◌, length, take, Option, Result, Ok, Err, IsErr, ⊤}
 use Rattle.std.specs.List.{AllByRecursion, flat_map}
 use Rattle.std.specs.Io.KnownBytes.{Consumes}
@@ -18,6 +18,10 @@ use Rattle.dp_link.specs.declared.ends.UpEnd.TheVariants as up
 use Rattle.dp_link.specs.Acts.{SeatView, IsAct, ActsOnce}
 use Rattle.dp_session_laws.specs.Logs.{ReplyOrMemory, LogEntry}
 use Rattle.dp_link.specs.Bytes.{BeginsWithNoMessage}
+use Rattle.dp_messages.specs.declared.message.Entry.{Entry}
+use Rattle.dp_entries.specs.Anywhere.{StandsAnywhere}
+use Rattle.dp_entries.specs.Onward.{ReadOn}
+use Rattle.dp_entries.specs.Reader.{Reader}
 use Rattle.dp_io.specs.Limits.{stream_limit}
 
 -- ---- the messages that are said
@@ -154,61 +158,36 @@ FaultMatchesUp up.Memory before now = now ≡ before
 
 -- ---- parts of it
 
--- The end comes from a message that is held: it ended the link, or the frame spells none.
-abbrev pub RestHeld : UpEnd → Stream → List ℕ → Type 0
-RestHeld (up.BadMessage at) stream rest =
-    BeginsWithNoMessage rest × (at + length rest ≡ stream.at + length stream.held)
-RestHeld up.Left stream rest = ⊤
-RestHeld (up.Refused answer) stream rest = ⊤
-RestHeld up.Memory stream rest = ⊤
-RestHeld other stream rest = ⊥
-
 -- how a Say of which that came ends a link, by whether it was a Disconnect
-abbrev pub EndsBy : Result Bool UpEnd → ReplyOrMemory → Bool → Type 0
-EndsBy (Ok more) outcome leaves = (more ≡ true) × MayGoOn outcome × (leaves ≡ false)
+abbrev pub EndsBy : Result Unit UpEnd → ReplyOrMemory → Bool → Type 0
+EndsBy (Ok done) outcome leaves = MayGoOn outcome × (leaves ≡ false)
 EndsBy (Err up.Left) outcome leaves = MayGoOn outcome × (leaves ≡ true)
 EndsBy (Err (up.Refused answer)) outcome leaves = (outcome ≡ Ok answer) × (stops answer ≡ true)
 EndsBy (Err up.Memory) outcome leaves = IsErr outcome
 EndsBy (Err other) outcome leaves = ⊥
 
 -- a message was said, and that is how it ends the link, if it does
-pub record SaysOne (v w : SeatView) (conn : ℕ) (m : Msg) (result : Result Bool UpEnd)
+pub record SaysOne (v w : SeatView) (conn : ℕ) (m : Msg) (result : Result Unit UpEnd)
     : Type 0 where
   pub outcome : ReplyOrMemory
   pub acts : ActsOnce v (Say conn m) outcome w
   pub ends : EndsBy result outcome (is_disconnect m)
 
--- By what came of it: all went on so far, and the rest is held; or it ended so.
-abbrev pub HeldBy : {T : Type 0} → Result T UpEnd → Stream → Stream → ℕ → List Msg → List LogEntry
-    → List ℕ → Type 0
-HeldBy (Ok value) old new conn messages says rest =
-    AreSaid conn messages says × (rest ≡ new.held)
-    × (new.at + length new.held ≡ old.at + length old.held)
-HeldBy (Err end) old new conn messages says rest =
-    SaidBy end conn messages says × RestHeld end old rest
+-- the messages of entries
+abbrev pub messages_of : List Entry → List Msg
+messages_of [] = []
+messages_of (entry ∷ entries) = entry.msg ∷ messages_of entries
 
--- messages that are held were said
-pub record SaysHeld {T : Type 0} (v w : SeatView) (old new : Stream) (conn : ℕ)
-    (result : Result T UpEnd) : Type 0 where
-  pub messages : List Msg
-  pub rest : List ℕ
+-- The messages that a reader gave were said, and all went on. It began with this stream, of a link
+-- with this unread now.
+pub record SaidSoFar (v w : SeatView) (left unread : Option (List ℕ)) (start : Stream)
+    (link : Reader) (conn : ℕ) : Type 0 where
+  pub entries : List Entry
   pub says : List LogEntry
-  pub heard : SpellFirst old.held messages rest
+  pub given : ReadOn StandsAnywhere left unread start entries link
+  pub limit : link.limit ≡ stream_limit
   pub goes : Continues v says w
-  pub by : HeldBy result old new conn messages says rest
-
--- the messages of the bytes that were read so far were said, and all went on
-pub record SaidSoFar (v w : SeatView) (left unread : Option (List ℕ)) (old new : Stream) (conn : ℕ)
-    (over : Bool) : Type 0 where
-  pub read : List ℕ
-  pub messages : List Msg
-  pub says : List LogEntry
-  pub read_is : Consumes left unread read
-  pub heard : SpellFirst (counted old read) messages new.held
-  pub goes : Continues v says w
-  pub said : AreSaid conn messages says
-  pub place : new.at + length new.held ≡ old.at + length (counted old read)
-  pub others : IsTrue over ↔ (stream_limit < given_count old read)
+  pub said : AreSaid conn (messages_of entries) says
 
 -- the same up to the end of the link
 pub record SaidToEnd (v w : SeatView) (left unread : Option (List ℕ)) (stream : Stream) (conn : ℕ)
@@ -222,3 +201,14 @@ pub record SaidToEnd (v w : SeatView) (left unread : Option (List ℕ)) (stream 
   pub goes : Continues v says w
   pub said : SaidBy end conn messages says
   pub rests : RestBy end stream read rest
+
+-- by what came of the next message: it was said, and all went on; or the link ended so
+abbrev pub SaysNext : Result Unit UpEnd → SeatView → SeatView → Option (List ℕ) → Option (List ℕ)
+    → Stream → Reader → ℕ → Type 0
+SaysNext (Ok done) v w left unread start link conn = SaidSoFar v w left unread start link conn
+SaysNext (Err end) v w left unread start link conn = SaidToEnd v w left unread start conn end
+
+-- the count of faults of the link's source after it
+abbrev pub FaultMatchesSay : Result Unit UpEnd → ℕ → ℕ → Type 0
+FaultMatchesSay (Ok done) before now = now ≡ before
+FaultMatchesSay (Err end) before now = FaultMatchesUp end before now

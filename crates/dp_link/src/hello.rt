@@ -7,14 +7,13 @@ ghost use Rattle.dp_hall.specs.Calls.{IsOf};
 ghost use Rattle.dp_io.specs.Limits.{stream_limit};
 ghost use Rattle.dp_link.specs.Acts.{ActsOnce, SeatView, last_outcome};
 ghost use Rattle.dp_link.specs.Answers.{reason_of, OpensWith};
-ghost use Rattle.dp_link.specs.Hello.{Greets, FaultMatchesHello, Answers, ReadsName, TakesName};
+ghost use Rattle.dp_link.specs.Hello.{Greets, FaultMatchesHello, Answers, ReadsName};
 ghost use Rattle.dp_link.specs.Hello.{NameOf, Welcomes, RefusesBy, FaultMatchesRefusal};
 ghost use Rattle.dp_link.specs.Hello.{FaultMatchesWelcome};
 
 use crate::acting::act_once;
 use crate::answers::{put_goodbye, put_welcome, reason_of};
-use crate::messages::{BadFrame, take_message};
-use crate::pieces::{PieceEnd, read_piece};
+use crate::reading::{greet_end_of, reader_of};
 use crate::{GreetEnd, Greeting};
 use dp_epochs::{Event, Reply};
 use dp_frame::Octets;
@@ -103,7 +102,8 @@ pub fn run_greet<W: Wait, K: Keeper, R: Source, S: Sink, G: Gate>(
     }
 }
 
-/// Reads until a whole frame is held, and takes the name of the Hello that it carries.
+/// Reads the first message of a link, and gives the name of the Hello that it is. What was read
+/// after it is held.
 fn read_name<R: Source>(alloc: Global, rx: &mut R, split: &mut Splitter) -> Result<Octets, GreetEnd>
     requires fresh { split.old ≡ record { held = []; at = 0 } }
     ensures reads { ReadsName (R.left rx.old) (R.left rx.new) split.new result }
@@ -111,50 +111,31 @@ fn read_name<R: Source>(alloc: Global, rx: &mut R, split: &mut Splitter) -> Resu
     ensures at_end { result ≡ Err GreetEnd.End → IsAtEnd (R.left rx.new) }
     ensures fault { FaultMatchesHello result (R.faults rx.old) (R.faults rx.new) 0 0 }
 {
-    'pieces: loop {
-        match take_name(alloc, split)? {
-            Some(name) => return Ok(name),
-            None => match read_piece(rx, split) {
-                Ok(_) => {}
-                Err(PieceEnd::ReadFault) => return Err(GreetEnd::ReadFault),
-                Err(PieceEnd::End) => return Err(GreetEnd::End),
-                Err(PieceEnd::Memory) => return Err(GreetEnd::Memory),
-            },
-        }
-    }
-}
-
-/// Takes the first frame that is held, if it is whole, and gives the name of the Hello that it
-/// carries.
-fn take_name(alloc: Global, split: &mut Splitter) -> Result<Option<Octets>, GreetEnd>
-    ensures { TakesName result split.old split.new }
-{
     one_answer();
-    let start = split.at();
-    match take_message(alloc, split) {
-        Ok(None) => Ok(None),
-        Ok(Some(entry)) => match name_in(alloc, entry, start) {
-            Ok(name) => Ok(Some(name)),
-            Err(end) => Err(end),
-        },
-        Err(BadFrame::At(at)) => Err(GreetEnd::BadMessage { at }),
-        Err(BadFrame::Memory) => Err(GreetEnd::Memory),
+    let mut link = reader_of(alloc, split);
+    match link.next(alloc, rx) {
+        Ok(Some(entry)) => {
+            *split = link.into_splitter();
+            name_in(alloc, entry)
+        }
+        Ok(None) => Err(GreetEnd::End),
+        Err(end) => Err(greet_end_of(&end)),
     }
 }
 
-/// The name of the Hello that an entry is, whose frame begins at this byte.
-fn name_in(alloc: Global, entry: Entry, start: u64) -> Result<Octets, GreetEnd>
-    ensures { NameOf result entry.msg start }
+/// The name of the Hello that the first entry of a link is.
+fn name_in(alloc: Global, entry: Entry) -> Result<Octets, GreetEnd>
+    ensures { NameOf result entry.msg }
 {
-    name_of(alloc, &entry.msg, start)
+    name_of(alloc, &entry.msg)
 }
 
 /// The same of its message.
-fn name_of(alloc: Global, msg: &Msg, start: u64) -> Result<Octets, GreetEnd>
-    ensures { NameOf result msg.now start }
+fn name_of(alloc: Global, msg: &Msg) -> Result<Octets, GreetEnd>
+    ensures { NameOf result msg.now }
 {
     let Msg::Control(Control::Hello { name }) = msg else {
-        return Err(GreetEnd::BadMessage { at: start });
+        return Err(GreetEnd::BadMessage { at: 0 });
     };
     let mut bytes = Octets::new(alloc);
     match bytes.append(name.as_slice()) {

@@ -10,9 +10,8 @@ mod down;
 mod ends;
 mod hello;
 mod laws;
-mod messages;
 mod pages;
-mod pieces;
+mod reading;
 mod up;
 
 pub use down::pump_down;

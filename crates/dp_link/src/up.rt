@@ -1,24 +1,26 @@
 //! What a painter says is acted on the hall of the session.
 
-ghost use Rattle.std.specs.Prelude.{◌≡◌, ◌+◌, ◌<◌, ◌≤◌, Err, IfOk, IsTrue, IsFalse, length};
+ghost use Rattle.std.specs.Prelude.{◌≡◌, ◌+◌, ◌<◌, ◌≤◌, ℕ, List, Err, OnOk, IsTrue, length};
+ghost use Rattle.std.specs.declared.option.Option.{Option};
 ghost use Rattle.std.specs.Io.KnownBytes.{IsAtEnd};
-ghost use Rattle.dp_frame.specs.Frames.{HoldsNoFrame};
 ghost use Rattle.dp_hall.specs.Calls.{IsOf};
-ghost use Rattle.dp_link.specs.Acts.{ActsOnce};
+ghost use Rattle.dp_split.specs.Stream.{Stream};
+ghost use Rattle.dp_entries.specs.Reader.{HoldsWithin, SameSource};
+ghost use Rattle.dp_link.specs.Acts.{ActsOnce, SeatView};
 ghost use Rattle.dp_session_laws.specs.Logs.{ReplyOrMemory as Came};
 ghost use Rattle.dp_io.specs.Limits.{stream_limit};
-ghost use Rattle.dp_link.specs.Saying.{SaysAll, SaysHeld, SaidToEnd, FaultMatchesUp, EndsBy};
-ghost use Rattle.dp_link.specs.Saying.{SaysOne};
+ghost use Rattle.dp_link.specs.Saying.{SaysAll, SaysNext, SaidSoFar, SaidToEnd, EndsBy};
+ghost use Rattle.dp_link.specs.Saying.{FaultMatchesSay, FaultMatchesUp, SaysOne};
 
 use crate::UpEnd;
 use crate::acting::{act_once, act_silently};
-use crate::messages::{BadFrame, take_message};
-use crate::pieces::{PieceEnd, read_piece};
+use crate::reading::{reader_of, up_end_of};
+use dp_entries::{Anywhere, EntryReader};
 use dp_epochs::{Event, Reply};
 use dp_hall::{Hall, Seat, calls_add_up};
 use dp_io::Source;
 use dp_keeper::Keeper;
-use dp_messages::{Entry, Msg};
+use dp_messages::{Entry, Msg, one_answer};
 use dp_session::Session;
 use dp_split::Splitter;
 use dp_wire::Gate;
@@ -78,11 +80,26 @@ pub fn run_up<W: Wait, K: Keeper, R: Source, G: Gate>(
     ensures fault { FaultMatchesUp result.end (R.faults rx.old) (R.faults rx.new) }
 {
     calls_add_up::<Event, Result<Reply, AllocError>, Session<K>>();
-    let mut acts = 1;
-    let end = say_all(rt, alloc, hall, seat, rx, split, conn, who, &mut acts, gate);
-    let n = next_act(&mut acts);
+    let mut speaker = Speaker {
+        conn,
+        who,
+        acts: 1,
+        gate,
+    };
+    let end = say_all(rt, alloc, hall, seat, rx, split, &mut speaker);
+    let n = next_act(&mut speaker.acts);
     let close = act_once(rt, hall, seat, &Event::Close { conn }, who, n, gate);
     UpRun { end, close }
+}
+
+/// Who speaks over a link: its connection and its worker, with the number of the last act, after
+/// each of which the worker passes the gate.
+#[derive(Drop)]
+struct Speaker<'a, G> {
+    conn: u32,
+    who: u32,
+    acts: u64,
+    gate: &'a G,
 }
 
 /// The number of the next act of a link.
@@ -91,7 +108,7 @@ fn next_act(acts: &mut u64) -> u64 {
     *acts
 }
 
-/// Says the messages of a link to its end.
+/// Says the messages of a link to its end, and wakes those who wait for acts before each read.
 fn say_all<W: Wait, K: Keeper, R: Source, G: Gate>(
     rt: &W,
     alloc: Global,
@@ -99,116 +116,72 @@ fn say_all<W: Wait, K: Keeper, R: Source, G: Gate>(
     seat: &mut Seat<Session<K>>,
     rx: &mut R,
     split: &mut Splitter,
-    conn: u32,
-    who: u32,
-    acts: &mut u64,
-    gate: &G,
+    speaker: &mut Speaker<'_, G>,
 ) -> UpEnd
     requires of { IsOf hall.now seat.old }
     requires within { split.old.at + length split.old.held ≤ stream_limit }
     ensures of { IsOf hall.now seat.new }
     ensures says { SaidToEnd seat.old.view seat.new.view
-        (R.left rx.old) (R.left rx.new) split.old conn result }
+        (R.left rx.old) (R.left rx.new) split.old speaker.old.conn result }
     ensures at_end { result ≡ UpEnd.End → IsAtEnd (R.left rx.new) }
     ensures fault { FaultMatchesUp result (R.faults rx.old) (R.faults rx.new) }
 {
     calls_add_up::<Event, Result<Reply, AllocError>, Session<K>>();
-    let mut over = false;
-    'pieces: loop {
-        match act_held_and_wake(rt, alloc, hall, seat, split, conn, who, acts, gate) {
-            Ok(()) if over => return UpEnd::Long,
-            Ok(()) => match read_piece(rx, split) {
-                Ok(more) => over = more,
-                Err(PieceEnd::ReadFault) => return UpEnd::ReadFault,
-                Err(PieceEnd::End) => return UpEnd::End,
-                Err(PieceEnd::Memory) => return UpEnd::Memory,
-            },
+    let mut link = reader_of(alloc, split);
+    let mut woken = speaker.acts;
+    'messages: loop {
+        wake_before_read(hall, &link, speaker.acts, &mut woken);
+        match say_next(rt, alloc, hall, seat, rx, &mut link, speaker) {
+            Ok(()) => {}
             Err(end) => return end,
         }
     }
 }
 
-/// Says the messages that are held, until no whole frame is, and then wakes those who wait for acts
-/// if there was one.
-fn act_held_and_wake<W: Wait, K: Keeper, G: Gate>(
-    rt: &W,
-    alloc: Global,
+/// Wakes those who wait for acts where the next message wants a read, if there were acts since they
+/// were woken last.
+fn wake_before_read<K: Keeper>(
     hall: &Hall<Session<K>>,
-    seat: &mut Seat<Session<K>>,
-    split: &mut Splitter,
-    conn: u32,
-    who: u32,
-    acts: &mut u64,
-    gate: &G,
-) -> Result<(), UpEnd>
-    requires { IsOf hall.now seat.old }
-    ensures of { IsOf hall.now seat.new }
-    ensures says { SaysHeld seat.old.view seat.new.view split.old split.new conn result }
-    ensures none { IfOk result (λ _. HoldsNoFrame split.new.held) }
-{
-    let before = *acts;
-    let said = say_held(rt, alloc, hall, seat, split, conn, who, acts, gate);
-    if *acts != before {
+    link: &EntryReader<Anywhere>,
+    acts: u64,
+    woken: &mut u64,
+) {
+    if acts != *woken && !link.holds_frame() {
         hall.wake();
+        *woken = acts;
     }
-    said
 }
 
-/// Says the messages that are held, until no whole frame is. It wakes nobody.
-fn say_held<W: Wait, K: Keeper, G: Gate>(
+/// Says the next message of a link. It wakes nobody.
+fn say_next<W: Wait, K: Keeper, R: Source, G: Gate>(
     rt: &W,
     alloc: Global,
     hall: &Hall<Session<K>>,
     seat: &mut Seat<Session<K>>,
-    split: &mut Splitter,
-    conn: u32,
-    who: u32,
-    acts: &mut u64,
-    gate: &G,
+    rx: &mut R,
+    link: &mut EntryReader<Anywhere>,
+    speaker: &mut Speaker<'_, G>,
 ) -> Result<(), UpEnd>
-    requires { IsOf hall.now seat.old }
+    requires of { IsOf hall.now seat.old }
+    requires going { ¬ IsTrue link.old.ended }
     ensures of { IsOf hall.now seat.new }
-    ensures says { SaysHeld seat.old.view seat.new.view split.old split.new conn result }
-    ensures none { IfOk result (λ _. HoldsNoFrame split.new.held) }
+    ensures says { (v : SeatView) (left : Option (List ℕ)) (start : Stream)
+        → SaidSoFar v seat.old.view left (R.left rx.old) start link.old speaker.old.conn
+        → SaysNext result v seat.new.view left (R.left rx.new) start link.new speaker.old.conn }
+    ensures conn { speaker.new.conn ≡ speaker.old.conn }
+    ensures going { OnOk result (¬ IsTrue link.new.ended) }
+    ensures further { OnOk result (link.old.stream.at < link.new.stream.at) }
+    ensures within { HoldsWithin link.new }
+    ensures source { SameSource link.old link.new }
+    ensures at_end { result ≡ Err UpEnd.End → IsAtEnd (R.left rx.new) }
+    ensures fault { FaultMatchesSay result (R.faults rx.old) (R.faults rx.new) }
 {
     calls_add_up::<Event, Result<Reply, AllocError>, Session<K>>();
-    'messages: loop {
-        match say_next(rt, alloc, hall, seat, split, conn, who, acts, gate) {
-            Ok(true) => {}
-            Ok(false) => return Ok(()),
-            Err(end) => return Err(end),
-        }
-    }
-}
-
-/// Says the next message that is held, if a whole frame is. Whether it was.
-fn say_next<W: Wait, K: Keeper, G: Gate>(
-    rt: &W,
-    alloc: Global,
-    hall: &Hall<Session<K>>,
-    seat: &mut Seat<Session<K>>,
-    split: &mut Splitter,
-    conn: u32,
-    who: u32,
-    acts: &mut u64,
-    gate: &G,
-) -> Result<bool, UpEnd>
-    requires { IsOf hall.now seat.old }
-    ensures of { IsOf hall.now seat.new }
-    ensures says { SaysHeld seat.old.view seat.new.view split.old split.new conn result }
-    ensures none { IfOk result (λ said. IsFalse said → HoldsNoFrame split.new.held) }
-    ensures shorter { IfOk result (λ said. IsTrue said
-        → length split.new.held < length split.old.held) }
-{
-    calls_add_up::<Event, Result<Reply, AllocError>, Session<K>>();
-    match take_message(alloc, split) {
-        Ok(Some(entry)) => {
-            let n = next_act(acts);
-            say_entry(rt, hall, seat, conn, entry, who, n, gate)
-        }
-        Ok(None) => Ok(false),
-        Err(BadFrame::At(at)) => Err(UpEnd::BadMessage { at }),
-        Err(BadFrame::Memory) => Err(UpEnd::Memory),
+    one_answer();
+    match link.next(alloc, rx) {
+        Ok(Some(entry)) => say_entry(rt, hall, seat, entry, speaker),
+        Ok(None) => Err(UpEnd::End),
+        Err(end) => Err(up_end_of(&end)),
     }
 }
 
@@ -217,19 +190,17 @@ fn say_entry<W: Wait, K: Keeper, G: Gate>(
     rt: &W,
     hall: &Hall<Session<K>>,
     seat: &mut Seat<Session<K>>,
-    conn: u32,
     entry: Entry,
-    who: u32,
-    n: u64,
-    gate: &G,
-) -> Result<bool, UpEnd>
+    speaker: &mut Speaker<'_, G>,
+) -> Result<(), UpEnd>
     requires { IsOf hall.now seat.old }
     ensures of { IsOf hall.now seat.new }
-    ensures says { SaysOne seat.old.view seat.new.view conn entry.msg result }
+    ensures conn { speaker.new.conn ≡ speaker.old.conn }
+    ensures says { SaysOne seat.old.view seat.new.view speaker.old.conn entry.msg result }
 {
     let Entry { msg, user: _ } = entry;
     let leaves = msg.is_disconnect();
-    let outcome = say(rt, hall, seat, conn, msg, who, n, gate);
+    let outcome = say(rt, hall, seat, msg, speaker);
     end_of_say(outcome, leaves)
 }
 
@@ -238,22 +209,22 @@ fn say<W: Wait, K: Keeper, G: Gate>(
     rt: &W,
     hall: &Hall<Session<K>>,
     seat: &mut Seat<Session<K>>,
-    conn: u32,
     msg: Msg,
-    who: u32,
-    n: u64,
-    gate: &G,
+    speaker: &mut Speaker<'_, G>,
 ) -> Result<Reply, AllocError>
     requires { IsOf hall.now seat.old }
     ensures of { IsOf hall.now seat.new }
-    ensures acts { ActsOnce seat.old.view (Event.Say conn msg) result seat.new.view }
+    ensures conn { speaker.new.conn ≡ speaker.old.conn }
+    ensures acts { ActsOnce seat.old.view (Event.Say speaker.old.conn msg) result seat.new.view }
 {
+    let n = next_act(&mut speaker.acts);
+    let conn = speaker.conn;
     let event = Event::Say { conn, msg };
-    act_silently(rt, hall, seat, &event, who, n, gate)
+    act_silently(rt, hall, seat, &event, speaker.who, n, speaker.gate)
 }
 
 /// How a Say of which that came ends a link, if it does.
-fn end_of_say(outcome: Result<Reply, AllocError>, leaves: bool) -> Result<bool, UpEnd>
+fn end_of_say(outcome: Result<Reply, AllocError>, leaves: bool) -> Result<(), UpEnd>
     ensures { EndsBy result outcome leaves }
 {
     match outcome {
@@ -261,6 +232,6 @@ fn end_of_say(outcome: Result<Reply, AllocError>, leaves: bool) -> Result<bool, 
         Ok(Reply::Ended) => Err(UpEnd::Refused(Reply::Ended)),
         Ok(Reply::StoreFault { count }) => Err(UpEnd::Refused(Reply::StoreFault { count })),
         Ok(_) if leaves => Err(UpEnd::Left),
-        Ok(_) => Ok(true),
+        Ok(_) => Ok(()),
     }
 }

@@ -1,5 +1,5 @@
 -- What a recording comes to, in two cases.
-use Rattle.std.proofs.Common.{◌≡◌, ◌⊎◌, ℕ, List, [], Option, Some, None, IfNone, IfSome, ap₂, inl}
+use Rattle.std.proofs.Common.{◌≡◌, ◌⊎◌, ℕ, List, [], Option, ap₂, inl}
 use Rattle.std.proofs.Common.{inr, refl, subst, sym, ◌∙◌}
 use Rattle.dp_messages.specs.declared.message.Entry.{Entry}
 use Rattle.dp_lines.specs.declared.run_end.RunEnd.{RunEnd}
@@ -77,17 +77,6 @@ one-part part header reading input entries others end other (inr x) (inr y) =
     (subst (λ len. ComesTo (stands_in x.0) len stream_limit input others other) same.1
     (subst (λ profile. ComesTo (stands_in profile) y.1 stream_limit input others other) same.0
     y.3))
-
--- ---- what is said where there is none
-
-pub none-weaker : {X P Q : Type 0} (o : Option X) → (P → Q) → IfNone o P → IfNone o Q
-none-weaker None f said = f said
-none-weaker (Some x) f said = said
-
-pub some-weaker : {X : Type 0} {P Q : X → Type 0} (o : Option X) → ((x : X) → P x → Q x)
-    → IfSome o P → IfSome o Q
-some-weaker None f said = said
-some-weaker (Some x) f said = f x said
 
 -- ---- how reading ends
 

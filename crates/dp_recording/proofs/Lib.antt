@@ -1,4 +1,5 @@
 mod EachRecording
 mod Ends
 mod Headers
+mod Pulled
 mod Taken

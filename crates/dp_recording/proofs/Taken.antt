@@ -82,7 +82,3 @@ pub began : (bytes : List ℕ) (left new : Option (List ℕ)) (entries : List En
     → HasReadOf bytes left entries New → HasReadOf bytes new entries reading
 began bytes left new entries reading begun h =
     subst (λ es. HasReadOf bytes new es reading) (sym h.1) (begun bytes h.0)
-
-pub so-far : {p q : Phase} (bytes : List ℕ) (left : Option (List ℕ)) (entries : List Entry) → p ≡ q
-    → HasReadOf bytes left entries q → HasReadOf bytes left entries p
-so-far bytes left entries e h = subst (HasReadOf bytes left entries) (sym e) h

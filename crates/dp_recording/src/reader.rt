@@ -1,20 +1,15 @@
 //! Reading a recording.
 
-ghost use Rattle.std.specs.Prelude.{◌≡◌, ◌<◌, ◌≤◌, ◌⊎◌, ℕ, List, [], ◌∷◌, ◌++◌, length, Err, Some};
-ghost use Rattle.std.specs.Prelude.{IfOk, IfErr, IfSome, IfNone, IsTrue, None, Ok, OnOk, OnSome};
-ghost use Rattle.std.specs.Prelude.{Option};
-ghost use Rattle.std.specs.Io.KnownBytes.{IsAtEnd};
-ghost use Rattle.dp_messages.specs.declared.message.Entry.{Entry as Item};
-ghost use Rattle.dp_recording.specs.declared.reader.RecError.{RecError as Error};
+ghost use Rattle.std.specs.Prelude.{◌≡◌, ◌<◌, ◌≤◌, ℕ, List, [], length, IfOk, IfErr, IsTrue, OnOk};
+ghost use Rattle.std.specs.Prelude.{Option, Some};
 ghost use Rattle.dp_recording.specs.declared.reader.RecError.TheVariants.{Memory};
 ghost use Rattle.dp_recording.specs.declared.reader.Phase.TheVariants.{New, Finished};
 ghost use Rattle.dp_recording.specs.declared.reader.Phase.TheVariants.{Failed};
 ghost use Rattle.dp_recording.specs.Headers.{IsHeader, IsShort};
-ghost use Rattle.dp_recording.specs.Recordings.{FaultMatchesError, EndsEarly, EndsRecording};
-ghost use Rattle.dp_recording.specs.Recordings.{HasReadAfter, HasReadOf};
-ghost use Rattle.dp_recording.specs.Recordings.{EndsWithInput, GoesOn, HoldsHeader, IsReading};
-ghost use Rattle.dp_recording.specs.Recordings.{end_of, error_of, limit_of};
-ghost use Rattle.dp_recording.specs.Recordings.{measure_of};
+ghost use Rattle.dp_recording.specs.Pulled.{AnswersAgain, BeginsReading, PullsNext, StopsEarly};
+ghost use Rattle.dp_recording.specs.Recordings.{FaultMatchesError, EndsEarly, EndsWithInput};
+ghost use Rattle.dp_recording.specs.Recordings.{GoesOn, HasReadAfter, HasReadOf, HoldsHeader};
+ghost use Rattle.dp_recording.specs.Recordings.{IsReading, end_of, error_of, limit_of};
 ghost use Rattle.dp_io.specs.Limits.{stream_limit};
 
 use crate::header::{Header, HeaderError, Profile, read_header};
@@ -116,41 +111,10 @@ impl RecordingReader {
         alloc: Global,
         input: &mut I,
     ) -> Result<Option<Entry>, RecError>
-        // What was read goes on by the entry that is given.
-        ensures given { IfOk result (λ next. IfSome next (λ entry.
-            (bytes : List ℕ) (entries : List Item)
-            → HasReadOf bytes (I.left input.old) entries self.old
-            → HasReadOf bytes (I.left input.new) (entries ++ entry ∷ []) self.new)) }
-
-        // Where there is none, the recording came to its end, or reading it ended so.
-        ensures done { IfOk result (λ next. IfNone next ((bytes : List ℕ) (entries : List Item)
-            → HasReadOf bytes (I.left input.old) entries self.old
-            → HasReadOf bytes (I.left input.new) entries Finished)) }
-        ensures ends { IfErr result (λ error. (bytes : List ℕ) (entries : List Item)
-            → HasReadOf bytes (I.left input.old) entries self.old
-            → EndsRecording bytes (I.left input.new) entries error) }
-
-        ensures further { IfOk result (λ next. IfSome next (λ _.
-            measure_of self.new < measure_of self.old)) }
-
-        // Before that it goes on, and it stops at the input's end, where that is the cause.
-        ensures goes_on { IfOk result (λ next. OnSome next (GoesOn self.new)) }
-        ensures at_end { GoesOn self.old → IfOk result (λ next.
-            IfNone next (IsAtEnd (I.left input.new))) }
-        ensures inside { GoesOn self.old → IfErr result (EndsWithInput (I.left input.new)) }
-
-        // It stays so, and reads nothing then.
-        ensures finished { IfOk result (λ next. IfNone next (self.new ≡ Finished)) }
-        ensures failed { IfErr result (λ error. self.new ≡ Failed error) }
-        ensures again { (error : Error) → self.old ≡ Failed error → (result ≡ Err error)
-            × (I.left input.new ≡ I.left input.old) × (I.faults input.new ≡ I.faults input.old) }
-        ensures none { self.old ≡ Finished → (result ≡ Ok None)
-            × (I.left input.new ≡ I.left input.old) × (I.faults input.new ≡ I.faults input.old) }
-
-        // A fault is answered where the count of the input's faults rose, and else it stays.
-        ensures kept { OnOk result (I.faults input.new ≡ I.faults input.old) }
-        ensures fault { IfErr result (λ error. (self.old ≡ Failed error)
-            ⊎ FaultMatchesError (I.faults input.old) (I.faults input.new) error) }
+        ensures pulled { PullsNext (I.left input.old) (I.left input.new) (I.faults input.old)
+            (I.faults input.new) self.old self.new result }
+        ensures again { AnswersAgain (I.left input.old) (I.left input.new) (I.faults input.old)
+            (I.faults input.new) self.old result }
         ensures later { I.faults input.old ≤ I.faults input.new }
     {
         go_on(alloc, input, &mut self.phase)
@@ -164,31 +128,10 @@ fn go_on<I: Source>(
     input: &mut I,
     phase: &mut Phase,
 ) -> Result<Option<Entry>, RecError>
-    ensures given { IfOk result (λ next. IfSome next (λ entry.
-        (bytes : List ℕ) (entries : List Item)
-        → HasReadOf bytes (I.left input.old) entries phase.old
-        → HasReadOf bytes (I.left input.new) (entries ++ entry ∷ []) phase.new)) }
-    ensures done { IfOk result (λ next. IfNone next ((bytes : List ℕ) (entries : List Item)
-        → HasReadOf bytes (I.left input.old) entries phase.old
-        → HasReadOf bytes (I.left input.new) entries Finished)) }
-    ensures ends { IfErr result (λ error. (bytes : List ℕ) (entries : List Item)
-        → HasReadOf bytes (I.left input.old) entries phase.old
-        → EndsRecording bytes (I.left input.new) entries error) }
-    ensures further { IfOk result (λ next. IfSome next (λ _.
-        measure_of phase.new < measure_of phase.old)) }
-    ensures goes_on { IfOk result (λ next. OnSome next (GoesOn phase.new)) }
-    ensures at_end { GoesOn phase.old → IfOk result (λ next.
-        IfNone next (IsAtEnd (I.left input.new))) }
-    ensures inside { GoesOn phase.old → IfErr result (EndsWithInput (I.left input.new)) }
-    ensures finished { IfOk result (λ next. IfNone next (phase.new ≡ Finished)) }
-    ensures failed { IfErr result (λ error. phase.new ≡ Failed error) }
-    ensures again { (error : Error) → phase.old ≡ Failed error → (result ≡ Err error)
-        × (I.left input.new ≡ I.left input.old) × (I.faults input.new ≡ I.faults input.old) }
-    ensures none { phase.old ≡ Finished → (result ≡ Ok None)
-        × (I.left input.new ≡ I.left input.old) × (I.faults input.new ≡ I.faults input.old) }
-    ensures kept { OnOk result (I.faults input.new ≡ I.faults input.old) }
-    ensures fault { IfErr result (λ error. (phase.old ≡ Failed error)
-        ⊎ FaultMatchesError (I.faults input.old) (I.faults input.new) error) }
+    ensures pulled { PullsNext (I.left input.old) (I.left input.new) (I.faults input.old)
+        (I.faults input.new) phase.old phase.new result }
+    ensures again { AnswersAgain (I.left input.old) (I.left input.new) (I.faults input.old)
+        (I.faults input.new) phase.old result }
     ensures later { I.faults input.old ≤ I.faults input.new }
 {
     match phase {
@@ -205,17 +148,11 @@ fn go_on<I: Source>(
 /// Reads the header. (A `Phase` that is made where entries are pulled costs time at each of them.)
 #[inline(never)]
 fn start<I: Source>(alloc: Global, input: &mut I, phase: &mut Phase) -> Result<(), RecError>
-    ensures begun { OnOk result ((bytes : List ℕ) → I.left input.old ≡ Some bytes
-        → HasReadOf bytes (I.left input.new) [] phase.new) }
-    ensures reading { OnOk result (IsReading phase.new) }
-    ensures limit { OnOk result (limit_of phase.new ≡ stream_limit) }
-    ensures goes_on { OnOk result (GoesOn phase.new) }
-    ensures ends { IfErr result (λ error. (bytes : List ℕ) → I.left input.old ≡ Some bytes
-        → EndsEarly bytes (I.left input.new) error) }
-    ensures inside { IfErr result (EndsWithInput (I.left input.new)) }
+    ensures begun { OnOk result (BeginsReading (I.left input.old) (I.left input.new)
+        (I.faults input.old) (I.faults input.new) phase.new) }
+    ensures ends { IfErr result (StopsEarly (I.left input.old) (I.left input.new)
+        (I.faults input.old) (I.faults input.new)) }
     ensures failed { IfErr result (λ error. phase.new ≡ Failed error) }
-    ensures kept { OnOk result (I.faults input.new ≡ I.faults input.old) }
-    ensures fault { IfErr result (FaultMatchesError (I.faults input.old) (I.faults input.new)) }
     ensures later { I.faults input.old ≤ I.faults input.new }
 {
     match open(alloc, input) {
@@ -238,27 +175,8 @@ fn pull<I: Source>(
     phase: &mut Phase,
 ) -> Result<Option<Entry>, RecError>
     requires { IsReading phase.old }
-    ensures given { IfOk result (λ next. IfSome next (λ entry.
-        (bytes : List ℕ) (entries : List Item)
-        → HasReadOf bytes (I.left input.old) entries phase.old
-        → HasReadOf bytes (I.left input.new) (entries ++ entry ∷ []) phase.new)) }
-    ensures done { IfOk result (λ next. IfNone next ((bytes : List ℕ) (entries : List Item)
-        → HasReadOf bytes (I.left input.old) entries phase.old
-        → HasReadOf bytes (I.left input.new) entries Finished)) }
-    ensures ends { IfErr result (λ error. (bytes : List ℕ) (entries : List Item)
-        → HasReadOf bytes (I.left input.old) entries phase.old
-        → EndsRecording bytes (I.left input.new) entries error) }
-    ensures further { IfOk result (λ next. IfSome next (λ _.
-        (measure_of phase.new < measure_of phase.old)
-        × (measure_of phase.new ≤ limit_of phase.old))) }
-    ensures goes_on { IfOk result (λ next. OnSome next (GoesOn phase.new)) }
-    ensures at_end { GoesOn phase.old → IfOk result (λ next.
-        IfNone next (IsAtEnd (I.left input.new))) }
-    ensures inside { IfErr result (EndsWithInput (I.left input.new)) }
-    ensures finished { IfOk result (λ next. IfNone next (phase.new ≡ Finished)) }
-    ensures failed { IfErr result (λ error. phase.new ≡ Failed error) }
-    ensures kept { OnOk result (I.faults input.new ≡ I.faults input.old) }
-    ensures fault { IfErr result (FaultMatchesError (I.faults input.old) (I.faults input.new)) }
+    ensures pulled { PullsNext (I.left input.old) (I.left input.new) (I.faults input.old)
+        (I.faults input.new) phase.old phase.new result }
     ensures later { I.faults input.old ≤ I.faults input.new }
 {
     match phase {
@@ -316,16 +234,10 @@ fn error_of(end: ReadEnd<DecodeError>) -> RecError
 
 /// Reads the header of an input. What comes after it is read by the profile that it tells.
 fn open<I: Source>(alloc: Global, input: &mut I) -> Result<Phase, RecError>
-    ensures begun { IfOk result (λ reading. (bytes : List ℕ) → I.left input.old ≡ Some bytes
-        → HasReadOf bytes (I.left input.new) [] reading) }
-    ensures reading { IfOk result IsReading }
-    ensures ends { IfErr result (λ error. (bytes : List ℕ) → I.left input.old ≡ Some bytes
-        → EndsEarly bytes (I.left input.new) error) }
-    ensures limit { IfOk result (λ reading. limit_of reading ≡ stream_limit) }
-    ensures goes_on { IfOk result GoesOn }
-    ensures inside { IfErr result (EndsWithInput (I.left input.new)) }
-    ensures kept { OnOk result (I.faults input.new ≡ I.faults input.old) }
-    ensures fault { IfErr result (FaultMatchesError (I.faults input.old) (I.faults input.new)) }
+    ensures begun { IfOk result (BeginsReading (I.left input.old) (I.left input.new)
+        (I.faults input.old) (I.faults input.new)) }
+    ensures ends { IfErr result (StopsEarly (I.left input.old) (I.left input.new)
+        (I.faults input.old) (I.faults input.new)) }
     ensures later { I.faults input.old ≤ I.faults input.new }
 {
     let mut held = Vec::new(alloc);

@@ -11,13 +11,16 @@ use Rattle.dp_recording.specs.declared.reader.Phase.TheVariants.{New, Finished, 
 use Rattle.dp_recording.specs.declared.reader.RecError.{RecError}
 use Rattle.dp_recording.specs.declared.reader.RecError.TheVariants.{BadHeader, Truncated, Message}
 use Rattle.dp_recording.specs.declared.reader.RecError.TheVariants.{ReadFault, Long, Memory}
-use Rattle.dp_recording.specs.Recordings.{FaultMatchesError, EndsRecording, GoesOn, HasReadOf}
-use Rattle.dp_recording.specs.Recordings.{end_of}
+use Rattle.dp_recording.specs.Pulled.{IsOfCall}
+use Rattle.dp_recording.specs.Recordings.{EndsRecording, EndsWithInput, FaultMatchesError, GoesOn}
+use Rattle.dp_recording.specs.Recordings.{HasReadOf, end_of}
+use Rattle.std.specs.Io.KnownBytes.{IsAtEnd}
 use Rattle.dp_msg_draw.specs.declared.draw.Draw.{Draw}
 use Rattle.dp_plain.specs.Board.{Board}
 use Rattle.dp_trailing.specs.Trailing.{Trailing}
 use Rattle.dp_viewer.specs.Ways.{first_of, play_way}
-use Rattle.dp_viewer.specs.Reading.{AreDue, EndsReading, FaultMatchesWay, TrailsShown}
+use Rattle.dp_viewer.specs.Reading.{AreDue, EndsReading, FaultMatchesWay, ReadsToEnd}
+use Rattle.dp_viewer.specs.Reading.{TrailsShown}
 
 -- What was read of an input whose bytes are known, of which those are left: the board trails what
 -- the first entries show, so many or all, of those that a reader gave, and `due` are left to show.
@@ -116,10 +119,26 @@ fault_matches-of at before now Long fault = fault
 fault_matches-of at before now Memory fault = fault
 
 -- a reader that goes on blames what it answers
-pub fault_matches-going : (at : Option ℕ) (before now : ℕ) (old : Phase) (error : RecError)
-    → GoesOn old
-    → (old ≡ Failed error) ⊎ FaultMatchesError before now error
-    → FaultMatchesWay (play_way at) before now (end_of error)
-fault_matches-going at before now old error going (inl failed) = absurd (subst GoesOn failed going)
-fault_matches-going at before now old error going (inr fault) =
-    fault_matches-of at before now error fault
+pub fault_matches-going : (at : Option ℕ) (now : Option (List ℕ)) (before after : ℕ) (old : Phase)
+    (error : RecError) → GoesOn old → (old ≡ Failed error) ⊎ IsOfCall now before after error
+    → FaultMatchesWay (play_way at) before after (end_of error)
+fault_matches-going at now before after old error going (inl failed) =
+    absurd (subst GoesOn failed going)
+fault_matches-going at now before after old error going (inr cause) =
+    fault_matches-of at before after error cause.fault
+
+at_end-of : (now : Option (List ℕ)) (error : RecError) → EndsWithInput now error
+    → ReadsToEnd (end_of error) → IsAtEnd now
+at_end-of now BadHeader inside to_end = absurd to_end
+at_end-of now (Truncated n) inside to_end = inside
+at_end-of now (Message n why) inside to_end = absurd to_end
+at_end-of now ReadFault inside to_end = absurd to_end
+at_end-of now Long inside to_end = absurd to_end
+at_end-of now Memory inside to_end = absurd to_end
+
+-- and where it answers that the input ended inside a frame, it has read to its end
+pub at_end-going : (now : Option (List ℕ)) (before after : ℕ) (old : Phase) (error : RecError)
+    → GoesOn old → (old ≡ Failed error) ⊎ IsOfCall now before after error
+    → ReadsToEnd (end_of error) → IsAtEnd now
+at_end-going now before after old error going (inl failed) = absurd (subst GoesOn failed going)
+at_end-going now before after old error going (inr cause) = at_end-of now error cause.inside

@@ -36,7 +36,7 @@ use Rattle.dp_worker.specs.Links.{has_store_fault}
 use Rattle.dp_worker.specs.Serving.{Serves, Talks, Pumps, is_store_end, is_last_failed}
 use Rattle.dp_worker.specs.Serving.{is_last_store_fault}
 use Rattle.dp_link.proofs.PageLemmas.{appends-none, grows-all}
-use Rattle.dp_link.proofs.PieceLemmas.{consumes-none}
+use Rattle.std.proofs.KnownBytes.{Consumes-nil}
 use Rattle.dp_worker.proofs.FlagLemmas.{greet-flags, says-flags}
 use Rattle.dp_worker.proofs.SeatLemmas.{works-both, works-calls, works-pair}
 
@@ -309,7 +309,7 @@ talks-left start v w greeting stream before close end back feed once conn up_is 
       rest = counted stream [];
       says = [];
       close = once.act;
-      read_is = consumes-none before.left;
+      read_is = Consumes-nil before.left;
       heard = record { frames = []; each = tt; spelled = tt; whole = refl };
       acts_are = refl;
       closes = once.is;

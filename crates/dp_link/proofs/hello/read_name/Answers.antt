@@ -1,40 +1,49 @@
-use Rattle.std.proofs.Common.{◌∙◌, sym, subst, ap, arith, length}
-use Rattle.dp_frame.specs.Frames.{HoldsNoFrame}
-use Rattle.dp_split.specs.Stream.{Stream}
-use Rattle.dp_link.proofs.PieceLemmas.{HoldsRead, reads-more, reads-lost}
+use Rattle.std.proofs.Common.{◌∙◌, []}
+use Rattle.dp_link.proofs.FirstFrame.{few-first, from-fresh, name-read, name-ends, name-stops}
+use Rattle.dp_link.proofs.FirstFrame.{not-long}
 use Rattle.dp_link.proofs.hello.read_name.Goals as goal
 
-pub pieces-preserved : goal.pieces-preserved
-pieces-preserved g c =
-    let n = rw c.in-None.is at c.in_ok-name.ensures in
+pub returns-in-Ok-Some-clause-reads : goal.returns-in-Ok-Some-clause-reads
+returns-in-Ok-Some-clause-reads g c =
     let left = g.R.Source.left c.args.rx.now in
-    let unread = g.R.Source.left c.pieces.rx in
-    let held = subst (λ (s : Stream). HoldsRead left unread s) (sym n.1) c.pieces.invariant.held in
-    let none = subst (λ (s : Stream). HoldsNoFrame s.held) (sym n.1) n.0 in
-    record {
-      held =
-          (reads-more left unread (g.R.Source.left c.read_piece.new.rx) c.take_name.new.split
-          c.read_piece.new.split c.in-Ok.field-0 held none c.in-Ok.ensures.read).0;
-      kept = c.in-Ok.ensures.fault ∙ c.pieces.invariant.kept;
-    }
+    let link = c.reader_of-link.result in
+    let begun = from-fresh c.requires.fresh (c.reader_of-link.ensures.begun left) in
+    let given = rw c.in-Ok-Some.field-0-is at c.in-Ok-Some.ensures.goes_on in
+    let few =
+    few-first link.stream c.next.new.self.stream
+    (c.reader_of-link.ensures.stream ∙ c.requires.fresh) c.next.ensures.few in
+    rw c.into_splitter.ensures
+    (name-read (given left _ [] begun)
+    (c.next.ensures.source.limit ∙ c.reader_of-link.ensures.limit) few c.name_in.result
+    c.one_answer.ensures.entry c.name_in.ensures)
 
-pub pieces-smaller : goal.pieces-smaller
-pieces-smaller g c =
-    let n = rw c.in-None.is at c.in_ok-name.ensures in
+pub returns-in-Ok-None-clause-reads : goal.returns-in-Ok-None-clause-reads
+returns-in-Ok-None-clause-reads g c =
     let left = g.R.Source.left c.args.rx.now in
-    let unread = g.R.Source.left c.pieces.rx in
-    let held = subst (λ (s : Stream). HoldsRead left unread s) (sym n.1) c.pieces.invariant.held in
-    let none = subst (λ (s : Stream). HoldsNoFrame s.held) (sym n.1) n.0 in
-    let more =
-    reads-more left unread (g.R.Source.left c.read_piece.new.rx) c.take_name.new.split
-    c.read_piece.new.split c.in-Ok.field-0 held none c.in-Ok.ensures.read in
-    omega (arith, more.0.short, more.1, ap (λ (s : Stream). length s.held) n.1)
+    let link = c.reader_of-link.result in
+    let begun = from-fresh c.requires.fresh (c.reader_of-link.ensures.begun left) in
+    let ends =
+    rw c.in-Ok-None.field-0-is at c.in-Ok-None.ensures.goes_to_end c.reader_of-link.ensures.going in
+    name-ends left (g.R.Source.left c.next.new.input) link.limit c.reader_of-link.new.split
+    c.reader_of-link.ensures.limit (ends left _ [] begun)
 
-pub returns-in-Err-Memory-clause-reads : goal.returns-in-Err-Memory-clause-reads
-returns-in-Err-Memory-clause-reads g c =
-    let n = rw c.in-None.is at c.in_ok-name.ensures in
+pub returns-in-Err-clause-reads : goal.returns-in-Err-clause-reads
+returns-in-Err-clause-reads g c =
     let left = g.R.Source.left c.args.rx.now in
-    let unread = g.R.Source.left c.pieces.rx in
-    let held = subst (λ (s : Stream). HoldsRead left unread s) (sym n.1) c.pieces.invariant.held in
-    reads-lost left unread (g.R.Source.left c.read_piece.new.rx) c.take_name.new.split
-    c.read_piece.new.split held (rw c.in-Err-Memory.field-0-is at c.in-Err-Memory.ensures.read)
+    let link = c.reader_of-link.result in
+    let begun = from-fresh c.requires.fresh (c.reader_of-link.ensures.begun left) in
+    name-stops left (g.R.Source.left c.next.new.input) link.limit c.reader_of-link.new.split
+    c.next.new.self.stream.held c.in-Err.end c.greet_end_of.result c.one_answer.ensures.either
+    c.reader_of-link.ensures.limit (c.in-Err.ensures.stops left _ [] begun)
+    c.greet_end_of.ensures
+
+pub greet_end_of-requires : goal.greet_end_of-requires
+greet_end_of-requires g c =
+    let left = g.R.Source.left c.args.rx.now in
+    let link = c.reader_of-link.result in
+    let begun = from-fresh c.requires.fresh (c.reader_of-link.ensures.begun left) in
+    let few =
+    few-first link.stream c.next.new.self.stream
+    (c.reader_of-link.ensures.stream ∙ c.requires.fresh) c.next.ensures.few in
+    not-long left (g.R.Source.left c.next.new.input) link.limit c.next.new.self.stream c.in-Err.end
+    c.reader_of-link.ensures.limit few (c.in-Err.ensures.stops left _ [] begun)

@@ -1,25 +1,16 @@
-use Rattle.std.proofs.lemmas.Result.{IfErr-weaker, IfOk-weaker}
-use Rattle.dp_recording.proofs.Ends.{none-weaker, some-weaker}
-use Rattle.dp_recording.proofs.Taken.{began}
+use Rattle.dp_recording.proofs.Pulled.{again-new, pulls-after, stops-early}
 use Rattle.dp_recording.proofs.reader.go_on.Goals as goal
 
-pub returns-in-Ok-clause-given : goal.returns-in-Ok-clause-given
-returns-in-Ok-clause-given g c =
+pub returns-in-Ok-clause-pulled : goal.returns-in-Ok-clause-pulled
+returns-in-Ok-clause-pulled g c =
     rw c.in-New.is
-    (IfOk-weaker c.pull.result _ _ (λ next. some-weaker next (λ entry said bytes entries h.
-    said bytes entries (began bytes _ _ entries c.start.new.phase c.in-Ok.ensures.begun h)))
-    c.pull.ensures.given)
+    (pulls-after _ _ _ _ _ _ c.start.new.phase _ c.pull.result c.in-Ok.ensures.begun
+    c.pull.ensures.pulled)
 
-pub returns-in-Ok-clause-done : goal.returns-in-Ok-clause-done
-returns-in-Ok-clause-done g c =
-    rw c.in-New.is
-    (IfOk-weaker c.pull.result _ _ (λ next. none-weaker next (λ said bytes entries h.
-    said bytes entries (began bytes _ _ entries c.start.new.phase c.in-Ok.ensures.begun h)))
-    c.pull.ensures.done)
+pub returns-in-Ok-clause-again : goal.returns-in-Ok-clause-again
+returns-in-Ok-clause-again g c = rw c.in-New.is (again-new _ _ _ _ c.pull.result)
 
-pub returns-in-Ok-clause-ends : goal.returns-in-Ok-clause-ends
-returns-in-Ok-clause-ends g c =
+pub returns-in-Err-clause-pulled : goal.returns-in-Err-clause-pulled
+returns-in-Err-clause-pulled g c =
     rw c.in-New.is
-    (IfErr-weaker c.pull.result _ _ (λ error said bytes entries h.
-    said bytes entries (began bytes _ _ entries c.start.new.phase c.in-Ok.ensures.begun h))
-    c.pull.ensures.ends)
+    (stops-early _ _ _ _ _ c.in-Err.error c.in-Err.ensures.ends c.in-Err.ensures.failed)

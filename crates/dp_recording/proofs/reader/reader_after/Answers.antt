@@ -23,11 +23,11 @@ returns-in-Ok-clause-begun g c = λ bytes left h.
     (rest-is-small held profile len header h) in
     let read = c.in-Ok.ensures.read bytes (Some (rest ++ h.untaken)) (Some h.untaken) [] small refl
     begun in
-    let first = c.in-Ok.ensures.first ∙ c.new-reader.ensures.first in (
+    let first = c.in-Ok.ensures.place.first ∙ c.new-reader.ensures.first in (
       subst (IsHeader bytes profile) (sym first)
           (subst (λ t. IsHeader t profile len) (sym h.whole)
           (goes-on held h.untaken profile len header)),
-      c.in-Ok.ensures.limit ∙ c.new-reader.ensures.limit,
-      subst (λ b. IsTrue b → ⊥) (sym c.in-Ok.ensures.ended) c.new-reader.ensures.not_ended,
+      c.in-Ok.ensures.place.limit ∙ c.new-reader.ensures.limit,
+      subst (λ b. IsTrue b → ⊥) (sym c.in-Ok.ensures.place.ended) c.new-reader.ensures.not_ended,
       subst (λ o. HasRead g.S.Standing.may_stand bytes o [] c.push.new.self) (sym h.left_is) read,
     )

@@ -29,8 +29,10 @@ entries-preserved g c =
           c.fill.new.self c.take.new.self
           (λ bytes es had. c.in-Ok.ensures.given bytes (g.I.Source.left c.fill.new.input) es had)
           shown filled;
-      first = c.take.ensures.first ∙ c.fill.ensures.first ∙ c.entries.invariant.first;
-      limit = c.take.ensures.limit ∙ c.fill.ensures.limit ∙ c.entries.invariant.limit;
+      first =
+          c.take.ensures.source.first ∙ c.fill.ensures.place.first ∙ c.entries.invariant.first;
+      limit =
+          c.take.ensures.source.limit ∙ c.fill.ensures.place.limit ∙ c.entries.invariant.limit;
       kept = c.in-Ok-true.ensures.kept ∙ c.entries.invariant.kept;
     }
 
@@ -58,7 +60,7 @@ returns-in-Err-take-clause-told g c =
     rw c.run_end-end-in-Err-take.ensures
     (told_end (g.I.Source.left c.args.input.now) (g.I.Source.left c.fill.new.input)
     (g.I.Source.left c.fill.new.input) c.entries.board c.fill.new.self c.in-Err-take.why
-    (c.fill.ensures.first ∙ c.entries.invariant.first)
-    (c.fill.ensures.limit ∙ c.entries.invariant.limit)
+    (c.fill.ensures.place.first ∙ c.entries.invariant.first)
+    (c.fill.ensures.place.limit ∙ c.entries.invariant.limit)
     (λ bytes es had. c.in-Err-take.ensures.ends bytes (g.I.Source.left c.fill.new.input) es had)
     filled)

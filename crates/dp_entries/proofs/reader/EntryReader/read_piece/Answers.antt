@@ -4,6 +4,7 @@ use Rattle.std.proofs.lemmas.Bool.{false≢true}
 use Rattle.std.proofs.lemmas.List.{length-take}
 use Rattle.dp_entries.specs.Reader.{Reader}
 use Rattle.dp_entries.proofs.Reading.{reads_nothing, ends_fault, ends_long}
+use Rattle.dp_entries.proofs.Onward.{few_held, few_more, on_lost}
 use Rattle.dp_entries.proofs.reader.EntryReader.read_piece.Goals as goal
 
 not_over : {b over : Bool} → b ≡ false → b ≡ over → ¬ IsTrue over
@@ -49,3 +50,36 @@ pub returns-in-Ok-push-clause-further : goal.returns-in-Ok-push-clause-further
 returns-in-Ok-push-clause-further g c = λ yes.
     c.in-Ok-push.ensures.further
     (omega (arith, length-take c.in-Ok.count c.read.new.buf, c.in-Ok.ensures.bound))
+
+pub returns-then-self-clause-few : goal.returns-then-self-clause-few
+returns-then-self-clause-few g c = λ small.
+    few_held c.args.self.now.stream.at c.args.self.now.stream.held small c.requires.none
+
+pub returns-in-Err-clause-few : goal.returns-in-Err-clause-few
+returns-in-Err-clause-few g c = λ small.
+    few_held c.args.self.now.stream.at c.args.self.now.stream.held small c.requires.none
+
+pub returns-then-count-eq0-clause-few : goal.returns-then-count-eq0-clause-few
+returns-then-count-eq0-clause-few g c = λ small.
+    few_held c.args.self.now.stream.at c.args.self.now.stream.held small c.requires.none
+
+pub returns-in-Ok-push-clause-few : goal.returns-in-Ok-push-clause-few
+returns-in-Ok-push-clause-few g c =
+    few_more (length (take c.in-Ok.count c.read.new.buf)) c.args.self.now.stream
+    c.push.new.self.stream c.requires.none c.push.ensures.more
+    (omega (arith, length-take c.in-Ok.count c.read.new.buf, c.in-Ok.ensures.bound))
+    c.push.ensures.place.at
+
+pub returns-in-Err-push-clause-few : goal.returns-in-Err-push-clause-few
+returns-in-Err-push-clause-few g c =
+    few_more (length (take c.in-Ok.count c.read.new.buf)) c.args.self.now.stream
+    c.push.new.self.stream c.requires.none c.push.ensures.more
+    (omega (arith, length-take c.in-Ok.count c.read.new.buf, c.in-Ok.ensures.bound))
+    c.push.ensures.place.at
+
+pub returns-in-Err-push-clause-stops : goal.returns-in-Err-push-clause-stops
+returns-in-Err-push-clause-stops g c = λ source start entries h.
+    on_lost h g.S.Standing.is_cause (g.I.Source.left c.read.new.self)
+    (take c.in-Ok.count c.read.new.buf) c.push.new.self.stream.held
+    (not_over c.if-self.false (ap (λ (r : Reader). r.over) c.self.view_is))
+    c.in-Ok.ensures.bytes.0

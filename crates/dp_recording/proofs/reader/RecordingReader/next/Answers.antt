@@ -1,14 +1,10 @@
-use Rattle.std.proofs.lemmas.Result.{IfOk-weaker}
-use Rattle.dp_recording.proofs.Ends.{none-weaker, some-weaker}
-use Rattle.dp_recording.proofs.Taken.{so-far}
+use Rattle.dp_recording.proofs.Pulled.{again-so, pulls-so}
 use Rattle.dp_recording.proofs.reader.RecordingReader.next.Goals as goal
 
-pub returns-clause-given : goal.returns-clause-given
-returns-clause-given g c =
-    IfOk-weaker c.go_on.result _ _ (λ next. some-weaker next (λ entry said bytes entries h.
-    said bytes entries (so-far bytes _ entries c.self.view_is h))) c.go_on.ensures.given
+pub returns-clause-pulled : goal.returns-clause-pulled
+returns-clause-pulled g c =
+    pulls-so _ _ _ _ _ _ _ c.go_on.result c.self.view_is c.go_on.ensures.pulled
 
-pub returns-clause-done : goal.returns-clause-done
-returns-clause-done g c =
-    IfOk-weaker c.go_on.result _ _ (λ next. none-weaker next (λ said bytes entries h.
-    said bytes entries (so-far bytes _ entries c.self.view_is h))) c.go_on.ensures.done
+pub returns-clause-again : goal.returns-clause-again
+returns-clause-again g c =
+    again-so _ _ _ _ _ _ c.go_on.result c.self.view_is c.go_on.ensures.again
