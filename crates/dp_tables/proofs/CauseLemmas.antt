@@ -1,6 +1,6 @@
 -- The causes of effects, by the tables.
 use Rattle.std.proofs.Common.{◌≡◌, ℕ, ◌-◌, ◌<◌, Bool, true, false, not, ◌&&◌, if◌then◌else◌}
-use Rattle.std.proofs.Common.{List, ◌∷◌, set, Option, None, Some, refl, sym, ap, ◌∙◌}
+use Rattle.std.proofs.Common.{List, set, Option, None, Some, refl, sym, ap, ◌∙◌}
 use Rattle.std.specs.List.{list_any, find}
 use Rattle.dp_msg_meta.specs.declared.message.Meta.TheVariants.{Leave}
 use Rattle.dp_messages.specs.declared.message.Msg.TheVariants as msg
@@ -9,9 +9,9 @@ use Rattle.dp_acl.specs.Laws.{OperatorsStay}
 use Rattle.dp_epochs.specs.declared.connection.Connection.{Connection}
 use Rattle.dp_epochs.specs.declared.connection.Ending.TheVariants as ending
 use Rattle.dp_epochs.specs.declared.event.Event.TheVariants as event
-use Rattle.dp_epochs.specs.Effects.{IsOpenAt, IsJoin, IsLeave}
+use Rattle.dp_epochs.specs.Effects.{IsJoin, IsLeave}
 use Rattle.dp_epochs.specs.State.{State, here, entry_of, is_name, is_present, free_id, user_ids}
-use Rattle.dp_epochs.specs.State.{left, open_connection, owner_on_join, owner_on_leave}
+use Rattle.dp_epochs.specs.State.{left, open_connection, owner_on_leave}
 use Rattle.dp_epochs.specs.State.{present_users}
 use Rattle.dp_epochs.proofs.OpenConnections.{open_is_found}
 use Rattle.dp_history.specs.Users.{mark, first_operator, next_operator}

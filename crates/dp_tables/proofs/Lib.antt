@@ -6,3 +6,4 @@ pub mod CauseLemmas
 pub mod QuietLemmas
 pub mod ReadLemmas
 pub mod ReplayLemmas
+pub mod KeepLemmas

@@ -1,6 +1,6 @@
 -- Which rows may stand next.
 use Rattle.std.proofs.Common.{◌≡◌, ℕ, ◌+◌, ◌&&◌, nat_lt, nat_le, true, false, List, [], ◌∷◌}
-use Rattle.std.proofs.Common.{Option, None, Some, MatchOption, Result, Ok, Err, OnErr}
+use Rattle.std.proofs.Common.{Option, None, Some, MatchOption}
 use Rattle.std.proofs.Common.{◌++◌, length, refl, sym, ap, subst, ◌∙◌}
 use Rattle.dp_keeper.specs.declared.row.Row.{Row}
 use Rattle.dp_epochs.specs.declared.effect.Effect.{Effect}
@@ -19,11 +19,6 @@ pub none-found : {X : Type 0} (o : Option X) (A : Type 0) (B : X → Type 0)
     → ((x : X) → o ≡ Some x → ⊥) → MatchOption o A B → A
 none-found None A B not h = h
 none-found (Some x) A B not h = absurd (not x refl)
-
--- a fact holds of an error, too
-pub on-err : {T E : Type 0} (r : Result T E) (P : Type 0) → P → OnErr r P
-on-err (Ok x) P p = tt
-on-err (Err e) P p = p
 
 -- a row that spells an event is as long as the one that is written for it
 abbrev pub OneLength : Type 0

@@ -5,7 +5,7 @@ use Rattle.std.proofs.Common.{nat_lt, nat_le, if◌then◌else◌, is_some, unwr
 use Rattle.std.proofs.Common.{List, [], ◌∷◌, ◌++◌, length, set, map, All, Option, None, Some}
 use Rattle.std.proofs.Common.{append_assoc, refl, sym, ap, subst, ◌∙◌, ⊎_elim, arith, length-append}
 use Rattle.std.specs.Prelude.{slice_index_or, slice_set, vec_len, vec_capacity}
-use Rattle.std.specs.List.{slice_get, cons_option, list_any, sum_by}
+use Rattle.std.specs.List.{slice_get, cons_option, sum_by}
 use Rattle.std.specs.Option.{option_map, option_map_or}
 use Rattle.std.proofs.lemmas.List.{map-append, length-map}
 use Rattle.std.proofs.lemmas.List.Elements.{All-head, All-tail, All-append, All-cons, All-nil}
@@ -14,17 +14,17 @@ use Rattle.std.proofs.Math.ListN.{length-set, replicate}
 use Rattle.std.proofs.lemmas.List.{get_or-replicate, get_or_past, length-replicate}
 use Rattle.std.proofs.lemmas.List.{get_or-set_same, get_or-set_other}
 use Rattle.std.proofs.lemmas.List.Sums.{sum_by_push}
-use Rattle.std.proofs.lemmas.Bool.{cases_lt, cases_eq, cases_Bool, ltb-true, leb-true, and_parts}
+use Rattle.std.proofs.lemmas.Bool.{cases_lt, cases_eq, ltb-true, leb-true, and_parts}
 use Rattle.std.proofs.lemmas.Bool.{false≢true}
 use Rattle.dp_msg_draw.specs.declared.draw.Draw.{Draw}
-use Rattle.dp_msg_meta.specs.declared.message.Meta.TheVariants.{Join, ResetMark}
+use Rattle.dp_msg_meta.specs.declared.message.Meta.TheVariants.{Join}
 use Rattle.dp_messages.specs.declared.message.Msg.{Msg}
 use Rattle.dp_messages.specs.declared.message.Msg.TheVariants as msg
 use Rattle.dp_messages.specs.Messages.{payload_of}
 use Rattle.dp_messages.specs.declared.message.Entry.{Entry}
 use Rattle.dp_acl.specs.LookBack.{lists}
 use Rattle.dp_acl.specs.Table.{Kept, StandsFor}
-use Rattle.dp_acl.specs.Opening.{server_entry, command_entry, last_join, part_limit}
+use Rattle.dp_acl.specs.Opening.{command_entry, last_join, part_limit}
 use Rattle.dp_acl.specs.Opening.{opening_limit}
 use Rattle.dp_epochs.specs.declared.connection.Connection.{Connection}
 use Rattle.dp_epochs.specs.declared.event.Event.{Event}
@@ -52,10 +52,12 @@ use Rattle.dp_epochs.specs.State.{history_of, here, new_connection, open_connect
 use Rattle.dp_epochs.specs.State.{with_connection, stream_without}
 use Rattle.dp_epochs.specs.declared.event.ShutAt.{ShutAt}
 use Rattle.dp_tables.specs.declared.tables.Tables.TheInside.{Inside}
-use Rattle.dp_epochs.specs.Rows.{row_of, row_bytes, event_limit, byte_limit, has_room}
+use Rattle.dp_epochs.specs.Rows.{row_of, row_bytes, event_limit, byte_limit}
 use Rattle.dp_epochs.specs.Past.{Past, state_after, state_of, kept, refused}
 use Rattle.dp_epochs.specs.Laws.{ShutBefore, shut_by}
 use Rattle.dp_history.specs.Frames.{Frames, AreFramesOf, AreWritten}
+use Rattle.dp_history.specs.declared.opening.Opening.{Opening}
+use Rattle.dp_history.specs.Openings.{Holds}
 use Rattle.dp_tables.specs.SessionLog.{SessionLog, state_in}
 use Rattle.dp_history.specs.Items.{message_of, IsSay, part_of, join_of, entry_in, IsIn}
 use Rattle.dp_history.specs.Users.{mark}
@@ -151,7 +153,7 @@ own_entries_kept journal first second =
       All-append (IsIn journal) (server_items first) (server_items second) a.1 b.1,
     )
 
-own-few : (e : Event) (effect : Effect) → length (own_entries e effect) ≤ 1
+pub own-few : (e : Event) (effect : Effect) → length (own_entries e effect) ≤ 1
 own-few e (Placed conn c) = omega arith
 own-few e effect = omega arith
 
@@ -727,19 +729,19 @@ written-on frames history more are = record {
 }
 
 -- the tables of a session to which nothing has come
-pub tables-first : (t : Inside) (begun : Box Entry) → begun.value ≡ server_entry (ResetMark 0 0)
+pub tables-first : (t : Inside) (begun : Opening) → Holds [] begun first_state.live
     → t.journal.items ≡ [] → t.shut.items ≡ [] → t.connections.items ≡ [] → t.quiet.items ≡ []
-    → t.live.items ≡ item.Server begun ∷ [] → t.row_bytes ≡ 0
-    → StandsFor t.rights first_state.live → t.present ≡ replicate 256 false → t.epoch ≡ 0
+    → t.live.items ≡ begun.live.items → t.row_bytes ≡ 0
+    → t.rights ≡ begun.rights.value → t.present ≡ replicate 256 false → t.epoch ≡ 0
     → t.opens ≡ replicate 256 0 → t.owner ≡ None → t.parts.items ≡ [] → t.part_bytes ≡ 0
     → AreFramesOf t.frames [] → AreTables t
-tables-first t begun is_mark ej es ec eq el eb stands ep ee eo eu ek ez none =
+tables-first t begun holds ej es ec eq el eb er ep ee eo eu ek ez none =
     let first : Seen = record {
       journal = [];
       connections = [];
       epoch = 0;
-      live = item.Server begun ∷ [];
-      rights = t.rights;
+      live = begun.live.items;
+      rights = begun.rights.value;
       present = t.present;
       opens = t.opens;
       owner = None;
@@ -763,9 +765,9 @@ tables-first t begun is_mark ej es ec eq el eb stands ep ee eo eu ek ez none =
               none = λ no_one. refl;
             };
             table = refl;
-            entries = ap (λ e. e ∷ []) is_mark;
-            said = All-cons (IsIn []) (item.Server begun) [] tt (All-nil (IsIn []));
-            stands = stands;
+            entries = holds.entries;
+            said = holds.said;
+            stands = holds.stands;
             ids = ap length ep ∙ length-replicate 256 false;
             marks = λ user small. sym (ap (λ b. cond {A = ℕ} b 1 0)
                 (ap (λ p. mark p user) ep ∙ no-marks 256 user));

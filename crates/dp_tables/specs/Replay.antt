@@ -2,11 +2,8 @@
 use Rattle.std.specs.Prelude.{◌≡◌, Bool, true, false, [], ◌∷◌, ◌++◌}
 use Rattle.dp_keeper.specs.declared.row.Row.{Row}
 use Rattle.dp_epochs.specs.declared.event.Event.{Event}
-use Rattle.dp_epochs.specs.Effects.{IsEffect}
 use Rattle.dp_epochs.specs.Resumed.{MayStand, MayNotStand}
-use Rattle.dp_tables.specs.declared.ready.Ahead.{Ahead}
-use Rattle.dp_tables.specs.Ready.{IsSupply}
-use Rattle.dp_tables.specs.SessionLog.{SessionLog, state_in}
+use Rattle.dp_tables.specs.SessionLog.{SessionLog}
 
 -- Where the row may stand after those of the events so far, its event joins them; where it may not,
 -- nothing changes.
@@ -15,9 +12,3 @@ Replays old row true new =
     (e : Event) × MayStand old.journal row e
     × (new ≡ record old { journal = old.journal ++ e ∷ []; room = new.room })
 Replays old row false new = MayNotStand old.journal row × (new ≡ old)
-
--- the row may stand next, and this is made ahead of its event
-pub record IsAhead (ledger : SessionLog) (row : Row) (ahead : Ahead) : Type 0 where
-  pub may : MayStand ledger.journal row ahead.event
-  pub does : IsEffect (state_in ledger) ahead.event ahead.effect
-  pub places : IsSupply ledger.journal (state_in ledger) ahead.event ahead.effect ahead.supply

@@ -8,7 +8,6 @@ use Rattle.std.specs.Option.{option_map}
 use Rattle.dp_acl.specs.Table.{Kept, StandsFor}
 use Rattle.dp_epochs.specs.declared.connection.Connection.{Connection}
 use Rattle.dp_epochs.specs.declared.event.Event.{Event}
-use Rattle.dp_epochs.specs.declared.event.Event.TheVariants.{Open}
 use Rattle.dp_history.specs.declared.item.HistoryItem.{HistoryItem}
 use Rattle.dp_acl.specs.Opening.{part_limit}
 use Rattle.dp_epochs.specs.Connections.{is_open}

@@ -21,22 +21,6 @@ use dp_messages::{Entry, Msg};
 use dp_msg_meta::{Control, Ids, Meta};
 use std::alloc::{AllocError, Global};
 
-/// The entry that makes the user the only operator, if there is one.
-fn owner_entry(alloc: Global, user: Option<u8>) -> Result<Option<Entry>, AllocError>
-    ensures { IfOk result (λ entry. option_to_list entry ≡ next_owner user) }
-{
-    let Some(user) = user else {
-        return Ok(None);
-    };
-    let ids = Vec::from_slice(alloc, &[user])?;
-    Ok(Some(Entry {
-        user: 0,
-        msg: Msg::Meta(Meta::Owners {
-            ids: Ids::from_vec(ids),
-        }),
-    }))
-}
-
 /// The entry in place of what the event says: of what kind that was.
 fn filtered(event: &Event, user: u8) -> Entry
     requires { IsSay (Some event.now) }
@@ -59,6 +43,23 @@ fn boxed(alloc: Global, entry: Option<Entry>) -> Result<Option<Box<Entry>>, Allo
         Some(entry) => Some(Box::new(alloc, entry)?),
         None => None,
     })
+}
+
+/// The entry that makes the user the only operator, if there is one, in a box.
+fn owner_entry(alloc: Global, user: Option<u8>) -> Result<Option<Box<Entry>>, AllocError>
+    ensures { IfOk result (λ entry. unboxed entry ≡ next_owner user) }
+{
+    let Some(user) = user else {
+        return Ok(None);
+    };
+    let ids = Vec::from_slice(alloc, &[user])?;
+    let entry = Entry {
+        user: 0,
+        msg: Msg::Meta(Meta::Owners {
+            ids: Ids::from_vec(ids),
+        }),
+    };
+    boxed(alloc, Some(entry))
 }
 
 impl Tables {
@@ -194,7 +195,7 @@ impl Tables {
             }
             Effect::Joined { user, next } => Supply::Entries {
                 first: boxed(alloc, join_entry(alloc, event, user)?)?,
-                second: boxed(alloc, owner_entry(alloc, next)?)?,
+                second: owner_entry(alloc, next)?,
             },
             Effect::Left {
                 connection,
@@ -208,7 +209,7 @@ impl Tables {
                         msg: Msg::Meta(Meta::Leave),
                     }),
                 )?,
-                second: boxed(alloc, owner_entry(alloc, next)?)?,
+                second: owner_entry(alloc, next)?,
             },
             Effect::Reopened { .. } => Supply::Opens(self.open_epoch()?),
             _ => Supply::Entries {
@@ -228,15 +229,21 @@ impl Tables {
             return Ok(None);
         }
         let effect = self.effect(event, bytes.len())?;
-        let supply = self.supply(event, effect)?;
-        Ok(Some(Ready {
-            event: event.copy()?,
-            effect,
-            supply,
-            row: Row {
-                n: self.events(),
-                bytes: RowBytes::from_vec(bytes),
-            },
-        }))
+        let copy = event.copy()?;
+        match self.supply(event, effect) {
+            Ok(supply) => Ok(Some(Ready {
+                event: copy,
+                effect,
+                supply,
+                row: Row {
+                    n: self.events(),
+                    bytes: RowBytes::from_vec(bytes),
+                },
+            })),
+            Err(error) => {
+                drop(copy);
+                Err(error)
+            }
+        }
     }
 }

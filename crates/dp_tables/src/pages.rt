@@ -48,7 +48,7 @@ use std::alloc::{AllocError, Global};
 const PAGE: usize = 1 << 10;
 
 /// Entries that were put as frames: so many of an epoch, from this place on.
-#[derive(Clone, Copy, PartialEq, Eq)]
+#[derive(Clone, Copy)]
 pub struct Page {
     pub epoch: u32,
     pub at: u32,

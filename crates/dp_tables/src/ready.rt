@@ -26,11 +26,3 @@ pub struct Ready {
     /// The row that is to be put before the event is kept.
     pub row: Row,
 }
-
-/// The event of a kept row: what it does, and what it places.
-#[derive(Drop)]
-pub(crate) struct Ahead {
-    pub(crate) event: Event,
-    pub(crate) effect: Effect,
-    pub(crate) supply: Supply,
-}

@@ -2,14 +2,18 @@
 //!
 //! The rule: docs/protocol.md, "Kept rows".
 
-ghost use Rattle.std.specs.Prelude.{◌≡◌, ◌↔◌, [], IsTrue, IfOk, OnErr, MatchOption};
+ghost use Rattle.std.specs.Prelude.{◌≡◌, ◌↔◌, [], length, true, IsTrue, IfOk, OnOk, OnErr};
+ghost use Rattle.std.specs.Prelude.{MatchOption};
+ghost use Rattle.dp_epochs.specs.Effects.{IsEffect};
+ghost use Rattle.dp_epochs.specs.Rows.{row_of};
 ghost use Rattle.dp_epochs.specs.Resumed.{MayNotStand, MayStand, NamesGiven};
 ghost use Rattle.dp_tables.specs.SessionLog.{state_in};
-ghost use Rattle.dp_tables.specs.Replay.{Replays, IsAhead};
+ghost use Rattle.dp_tables.specs.Ready.{IsSupply};
+ghost use Rattle.dp_tables.specs.Replay.{Replays};
 
-use crate::ready::Ahead;
+use crate::ready::Supply;
 use crate::tables::Tables;
-use dp_epochs::{Event, read_row, rows_spell_events};
+use dp_epochs::{Effect, Event, read_row, rows_spell_events};
 use dp_keeper::Row;
 use std::alloc::AllocError;
 
@@ -46,29 +50,25 @@ impl Tables {
         if self.names_given(&event) {
             Ok(Some(event))
         } else {
+            drop(event);
             Ok(None)
         }
     }
 
-    /// What is made ahead of the event of a row of this number and these bytes, if it may stand
-    /// next.
-    fn ahead(&self, n: u64, bytes: &[u8]) -> Result<Option<Ahead>, AllocError>
-        requires { self.now.shut ≡ [] }
-        ensures { IfOk result (λ found. MatchOption found
-            (MayNotStand self.now.journal (record { n = n; bytes = bytes.now }))
-            (IsAhead self.now (record { n = n; bytes = bytes.now }))) }
+    /// What the event, whose row has this length, does to the session, and what it places beside
+    /// what it says, with memory ready to keep it.
+    fn ready_for(&mut self, event: &Event, row: usize) -> Result<(Effect, Supply), AllocError>
+        requires { row ≡ length (row_of event.now) }
+        ensures same { self.new ≡ record self.old { room = self.new.room } }
+        ensures room { OnOk result (self.new.room ≡ true) }
+        ensures does { IfOk result (λ made. IsEffect (state_in self.old) event.now made.0) }
+        ensures places { IfOk result (λ made. IsSupply self.old.journal (state_in self.old)
+            event.now made.0 made.1) }
     {
-        rows_spell_events();
-        let Some(event) = self.next_event(n, bytes)? else {
-            return Ok(None);
-        };
-        let effect = self.effect(&event, bytes.len())?;
-        let supply = self.supply(&event, effect)?;
-        Ok(Some(Ahead {
-            event,
-            effect,
-            supply,
-        }))
+        self.make_room()?;
+        let effect = self.effect(event, row)?;
+        let supply = self.supply(event, effect)?;
+        Ok((effect, supply))
     }
 
     /// Keeps the event of a row of this number and these bytes, if it may stand next.
@@ -79,17 +79,19 @@ impl Tables {
         ensures err { OnErr result (self.new ≡ record self.old { room = self.new.room }) }
     {
         rows_spell_events();
-        let Some(ahead) = self.ahead(n, bytes)? else {
+        let Some(event) = self.next_event(n, bytes)? else {
             return Ok(false);
         };
-        self.make_room()?;
-        let Ahead {
-            event,
-            effect,
-            supply,
-        } = ahead;
-        self.keep_made(event, effect, supply, bytes.len() as u64);
-        Ok(true)
+        match self.ready_for(&event, bytes.len()) {
+            Ok((effect, supply)) => {
+                self.keep_made(event, effect, supply, bytes.len() as u64);
+                Ok(true)
+            }
+            Err(error) => {
+                drop(event);
+                Err(error)
+            }
+        }
     }
 
     /// Keeps the event of a row, if the row may stand after those of the events so far. It answers

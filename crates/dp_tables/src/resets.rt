@@ -129,6 +129,7 @@ impl Tables {
         let present = present_ids(alloc, &self.present)?;
         let metas = self.rights.carry(&present)?;
         let carried = present.as_slice().len() + metas.len() + self.parts.len();
+        drop(present);
         let mut opening = Opening::new(alloc)?;
         opening.add(mark(self.next_epoch(), carried as u32))?;
         opening.add_joins(&self.journal, &self.opens, &self.present)?;
@@ -139,7 +140,7 @@ impl Tables {
 }
 
 /// The mark of an epoch that opens with this number of entries after it.
-fn mark(epoch: u32, carried: u32) -> Entry
+pub(crate) fn mark(epoch: u32, carried: u32) -> Entry
     ensures { result ≡ server_entry (ResetMark epoch carried) }
 {
     Entry {

@@ -2,7 +2,6 @@
 
 ghost use Rattle.std.specs.Prelude.{
   ◌≡◌,
-  replicate,
   false,
   true,
   ◌+◌,
@@ -28,11 +27,11 @@ ghost use Rattle.dp_epochs.specs.State.{connection_in, connection_of, open_in, o
 ghost use Rattle.dp_epochs.specs.State.{next_open, here};
 ghost use Rattle.dp_tables.specs.SessionLog.{state_in};
 
+use crate::resets::mark;
 use dp_acl::Rights;
 use dp_epochs::{Connection, Ending, Event, Place, ShutAt, histories_are_short};
-use dp_history::{FrameLog, HistoryItem};
-use dp_messages::{Entry, Msg};
-use dp_msg_meta::Meta;
+use dp_history::{FrameLog, HistoryItem, Opening};
+use dp_messages::Msg;
 use std::alloc::{AllocError, Global};
 use std::marker::Model;
 
@@ -114,20 +113,6 @@ fn next_open(connections: &[Connection], after: u32) -> Option<u32>
     None
 }
 
-/// No id is marked.
-fn no_marks() -> [bool; 256]
-    ensures { result ≡ replicate 256 false }
-{
-    [false; 256]
-}
-
-/// No user has joined.
-fn no_opens() -> [u32; 256]
-    ensures { result ≡ replicate 256 0 }
-{
-    [0; 256]
-}
-
 /// Makes the memory ready that any one event needs.
 fn reserve(
     journal: &mut Vec<Event>,
@@ -171,18 +156,9 @@ impl Tables {
         ensures shut { IfOk result (λ tables. tables.shut ≡ []) }
         ensures quiet { IfOk result (λ tables. tables.quiet ≡ []) }
     {
-        let mark = Entry {
-            user: 0,
-            msg: Msg::Meta(Meta::ResetMark {
-                epoch: 0,
-                carried: 0,
-            }),
-        };
-        let mut rights = Rights::new(alloc);
-        rights.note(&mark)?;
-        let mut live = Vec::new(alloc);
-        let kept = Box::new(alloc, mark)?;
-        live.push(HistoryItem::Server(kept))?;
+        let mut opening = Opening::new(alloc)?;
+        opening.add(mark(0, 0))?;
+        let Opening { live, rights } = opening;
         Ok(Tables {
             journal: Vec::new(alloc),
             row_bytes: 0,
@@ -192,9 +168,9 @@ impl Tables {
             epoch: 0,
             live,
             frames: FrameLog::new(alloc),
-            rights,
-            present: no_marks(),
-            opens: no_opens(),
+            rights: Box::into_inner(rights),
+            present: [false; 256],
+            opens: [0; 256],
             owner: None,
             parts: Vec::new(alloc),
             part_bytes: 0,

@@ -1,8 +1,8 @@
-use Rattle.std.proofs.Common.{◌≡◌, ◌+◌, ◌-◌, ◌++◌, ◌∷◌, [], true, length, refl, sym, ap}
+use Rattle.std.proofs.Common.{◌≡◌, ◌-◌, ◌++◌, ◌∷◌, [], true, length, refl, sym, ap}
 use Rattle.std.proofs.Common.{subst, ◌∙◌, arith}
 use Rattle.std.specs.Prelude.{option_to_list}
 use Rattle.dp_epochs.specs.State.{here}
-use Rattle.dp_epochs.specs.Effects.{connections_at, live_after}
+use Rattle.dp_epochs.specs.Effects.{answer_at, connections_at, live_after}
 use Rattle.dp_tables.specs.SessionLog.{state_in}
 use Rattle.dp_tables.specs.Tables.{quiet_of}
 use Rattle.dp_tables.specs.Inside.{is_ready, ledger_of}
@@ -10,8 +10,84 @@ use Rattle.dp_tables.specs.Ready.{own_entries, own_items, items_after, opens_aft
 use Rattle.dp_tables.specs.Ready.{bytes_after, MayKeep}
 use Rattle.dp_tables.proofs.TableLemmas.{epoch-fits, tables-kept, ledger-is, of-ledger, next-is}
 use Rattle.dp_tables.proofs.TableLemmas.{supply-few, ready-live, ready-rights, own-alike}
+use Rattle.dp_tables.proofs.TableLemmas.{own-few, says-own}
+use Rattle.dp_tables.proofs.KeepLemmas.{there-by, connections-fit, row-fits, ready-lists}
 use Rattle.dp_tables.proofs.QuietLemmas.{quiet-stays}
 use Rattle.dp_tables.proofs.tables.Tables.keep_made.Goals as goal
+
+pub overflow_cast-len : goal.overflow_cast-len
+overflow_cast-len c =
+    let t = c.self.inside in
+    omega (arith, t.connections.ok.0, c.len.ensures, connections-fit t c.self.invariant)
+
+pub reply-reply-requires-clause-given : goal.reply-reply-requires-clause-given
+reply-reply-requires-clause-given c =
+    let t = c.self.inside in
+    omega (arith, t.connections.ok.0, c.len.ensures, connections-fit t c.self.invariant)
+
+pub overflow_cast-n : goal.overflow_cast-n
+overflow_cast-n c =
+    let t = c.self.inside in
+    omega (arith, t.journal.ok.0, c.len-n.ensures, c.self.invariant.events)
+
+pub overflow_add-self : goal.overflow_add-self
+overflow_add-self c =
+    omega (
+      arith,
+      row-fits c.self.inside c.args.event c.args.effect c.args.supply
+          c.args.row_length c.self.invariant (subst (λ l.
+          MayKeep l c.args.event c.args.effect c.args.supply c.args.row_length) (sym c.self.view_is)
+          c.requires.made),
+    )
+
+pub follow-requires-clause-parts : goal.follow-requires-clause-parts
+follow-requires-clause-parts c =
+    (ready-lists c.self.inside (ap (λ l. l.room) c.self.view_is ∙ c.requires.room)).3
+
+pub follow-requires-clause-within : goal.follow-requires-clause-within
+follow-requires-clause-within c = c.self.invariant.of.reset.within
+
+pub follow-requires-clause-size : goal.follow-requires-clause-size
+follow-requires-clause-size c =
+    omega (
+      arith,
+      c.saturating_sub.ensures,
+      row-fits c.self.inside c.args.event c.args.effect
+          c.args.supply c.args.row_length c.self.invariant (subst (λ l.
+          MayKeep l c.args.event c.args.effect c.args.supply c.args.row_length) (sym c.self.view_is)
+          c.requires.made),
+    )
+
+pub make-requires-clause-connections : goal.make-requires-clause-connections
+make-requires-clause-connections c =
+    (ready-lists c.self.inside (ap (λ l. l.room) c.self.view_is ∙ c.requires.room)).1
+
+pub make-requires-clause-quiet : goal.make-requires-clause-quiet
+make-requires-clause-quiet c =
+    (ready-lists c.self.inside (ap (λ l. l.room) c.self.view_is ∙ c.requires.room)).2
+
+pub make-requires-clause-there : goal.make-requires-clause-there
+make-requires-clause-there c =
+    let t = c.self.inside in
+    let are = of-ledger t c.args.self.now c.self.invariant c.self.view_is in
+    there-by (state_in c.args.self.now) c.args.event c.args.effect t.connections.items
+    c.requires.made.does (sym are.table)
+
+pub note_own-event-requires-clause-said : goal.note_own-event-requires-clause-said
+note_own-event-requires-clause-said c =
+    says-own (state_in c.args.self.now) c.args.event c.args.effect c.requires.made.does
+
+pub note_own-event-requires-clause-room : goal.note_own-event-requires-clause-room
+note_own-event-requires-clause-room c =
+    omega (
+      arith,
+      own-few c.args.event c.args.effect,
+      ready-rights c.self.inside (ap (λ l. l.room) c.self.view_is ∙ c.requires.room),
+    )
+
+pub push_reserved-requires : goal.push_reserved-requires
+push_reserved-requires c =
+    (ready-lists c.self.inside (ap (λ l. l.room) c.self.view_is ∙ c.requires.room)).0
 
 pub reply-reply-requires-clause-epoch : goal.reply-reply-requires-clause-epoch
 reply-reply-requires-clause-epoch c =
@@ -115,3 +191,16 @@ returns-clause-kept c =
     ∙ quiet-stays c.args.effect c.self.inside.quiet.items
     ∙ ap (λ l. l.quiet) c.self.view_is)
     refl
+
+pub returns-clause-reply : goal.returns-clause-reply
+returns-clause-reply c =
+    let t = c.self.inside in
+    let s = state_in c.args.self.now in
+    let are = of-ledger t c.args.self.now c.self.invariant c.self.view_is in
+    let count : c.len.result ≡ length s.connections = omega
+    (arith, t.connections.ok.0, c.len.ensures, ap length are.table) in
+    c.reply-reply.ensures
+    ∙ ap (λ p. answer_at p c.len.result c.args.effect) c.here-here.ensures
+    ∙ ap (λ n. answer_at (here s) n c.args.effect) count
+    ∙ sym (ap (λ a. a.reply)
+    (c.effects_are_made.ensures s c.args.event c.args.effect c.requires.made.does))

@@ -1,0 +1,61 @@
+-- What holds where an event may be kept.
+use Rattle.std.proofs.Common.{◌≡◌, ℕ, ◌+◌, ◌<◌, ◌≤◌, true, nat_lt, nat_le, List, length, ap, arith}
+use Rattle.std.specs.Prelude.{vec_len, vec_capacity}
+use Rattle.std.proofs.lemmas.Bool.{ltb-true, leb-true, and_parts}
+use Rattle.dp_epochs.specs.declared.connection.Connection.{Connection}
+use Rattle.dp_epochs.specs.declared.event.Event.{Event}
+use Rattle.dp_epochs.specs.declared.effect.Effect.{Effect}
+use Rattle.dp_epochs.specs.declared.effect.Effect.TheVariants.{TakesUp, Left}
+use Rattle.dp_epochs.specs.Effects.{IsEffect}
+use Rattle.dp_epochs.specs.Rows.{row_of, row_bytes, event_limit, byte_limit}
+use Rattle.dp_epochs.specs.State.{State}
+use Rattle.dp_tables.specs.declared.ready.Supply.{Supply}
+use Rattle.dp_tables.specs.declared.tables.Tables.TheInside.{Inside}
+use Rattle.dp_tables.specs.Inside.{is_ready, ledger_of, AreTables}
+use Rattle.dp_tables.specs.Ready.{IsThere, MayKeep}
+
+-- the connection that takes up an epoch or leaves was given out
+pub there-by : (s : State) (e : Event) (effect : Effect) (cs : List Connection)
+    → IsEffect s e effect → s.connections ≡ cs → IsThere cs effect
+there-by s e (TakesUp conn c) cs cause same = rw same at cause.0.at.given
+there-by s e (Left conn c next) cs cause same = rw same at cause.at.given
+there-by s e effect cs cause same = tt
+
+-- there are no more connections than events
+pub connections-fit : (t : Inside) → AreTables t → length t.connections.items ≤ event_limit
+connections-fit t are = omega (arith, ap length are.of.table, are.of.opened, are.events)
+
+-- the row is within the limit
+pub row-fits : (t : Inside) (e : Event) (effect : Effect) (supply : Supply) (row_length : ℕ)
+    → AreTables t → MayKeep (ledger_of t) e effect supply row_length
+    → t.row_bytes + row_length ≤ byte_limit
+row-fits t e effect supply row_length are may =
+    let limits : (nat_lt (length t.journal.items) event_limit ≡ true)
+    × (nat_le (row_bytes t.journal.items + length (row_of e)) byte_limit ≡ true) = and_parts _
+    _ may.room in
+    omega (
+      arith,
+      leb-true (row_bytes t.journal.items + length (row_of e)) byte_limit limits.1,
+      are.bytes,
+      may.long,
+    )
+
+-- where memory is ready, these lists have room: the journal, the connections, their flags, the
+-- parts
+pub ready-lists : (t : Inside) → is_ready t ≡ true
+    → (vec_len t.journal < vec_capacity t.journal)
+    × (vec_len t.connections < vec_capacity t.connections)
+    × (vec_len t.quiet < vec_capacity t.quiet)
+    × (vec_len t.parts < vec_capacity t.parts)
+ready-lists t ready =
+    let live = (and_parts _ (nat_le 2 t.rights.room) ready).0 in
+    let parts = (and_parts _ (nat_le (vec_len t.live + 2) (vec_capacity t.live)) live).0 in
+    let p = and_parts _ (nat_lt (vec_len t.parts) (vec_capacity t.parts)) parts in
+    let q = and_parts _ (nat_lt (vec_len t.quiet) (vec_capacity t.quiet)) p.0 in
+    let c = and_parts _ (nat_lt (vec_len t.connections) (vec_capacity t.connections)) q.0 in
+    let s = and_parts _ (nat_lt (vec_len t.shut) (vec_capacity t.shut)) c.0 in (
+      ltb-true (vec_len t.journal) (vec_capacity t.journal) s.0,
+      ltb-true (vec_len t.connections) (vec_capacity t.connections) c.1,
+      ltb-true (vec_len t.quiet) (vec_capacity t.quiet) q.1,
+      ltb-true (vec_len t.parts) (vec_capacity t.parts) p.1,
+    )
