@@ -1,0 +1,5 @@
+pub mod FirstCarried
+pub mod FirstReplay
+pub mod FirstRows
+pub mod Lifted
+pub mod Worked
