@@ -30,7 +30,7 @@ use Rattle.dp_serve_laws.proofs.ServingLemmas.{part-from, seat-in}
 -- ---- closings
 
 -- what the rest of a closing is, by whether the Close was kept
-abbrev Then : Past → List ℕ → Option ReplyOrMemory → Past → ReplyOrMemory → Bool → Type 0
+abbrev pub Then : Past → List ℕ → Option ReplyOrMemory → Past → ReplyOrMemory → Bool → Type 0
 Then next conns refusal new outcome b =
     MatchBool b (ClosesEach next conns refusal new) ((refusal ≡ Some outcome) × (new ≡ next))
 

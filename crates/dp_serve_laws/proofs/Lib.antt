@@ -3,3 +3,9 @@ pub mod ActLemmas
 pub mod RunLemmas
 pub mod ServingLemmas
 pub mod ClosingLemmas
+pub mod NamingLemmas
+pub mod GivenLemmas
+pub mod JournalLogs
+pub mod LinkNames
+pub mod ClosingLogs
+pub mod StoredLemmas

@@ -95,118 +95,129 @@ module _ {W R T : Type 0} where
 -- ---- a session that was served
 
 module _ {W R T : Type 0} (see : Seen W R T) (start : Past) (most : ℕ) (old new : List W)
-    (left : Left) (served : Serves see start most old new left)
-    (distinct : AreDistinct (given_out served.log)) where
-  part-is : (part : Part W R T) → IsIn part served.parts
+    (left : Left) (served : Serves see start most old new left) where
+  pub part-is : (part : Part W R T) → IsIn part served.parts
       → (who : ℕ) × IsPart see (left_by start served.log) served.log most left.memory left.wire who
       part
   part-is part h =
       part-from (IsPart see (left_by start served.log) served.log most left.memory left.wire) 0
       served.parts part served.each h
 
-  acts-are : (part : Part W R T) → IsIn part served.parts
+  pub acts-are : (part : Part W R T) → IsIn part served.parts
       → acts_by part.name served.log ≡ acts_of part.runs
   acts-are part h = (part-is part h).1.1
 
-  run-is : (part : Part W R T) (run : LinkRun R T) → IsIn part served.parts → IsIn run part.runs
+  pub run-is : (part : Part W R T) (run : LinkRun R T) → IsIn part served.parts → IsIn run part.runs
       → IsLink (left_by start served.log) run.report run.acts (see.link run.given)
       (see.link run.back)
   run-is part run h k =
       let is = part-is part h in
       (all-in (IsRun see.link (left_by start served.log) is.0) part.runs run is.1.0.each k).link
 
-  -- the acts of a link are acts of the seat of its part
-  run-acts : (part : Part W R T) (run : LinkRun R T) (act : LogEntry) → IsIn part served.parts
-      → IsIn run part.runs → IsIn act run.acts
-      → IsIn act served.log × (part.name ≡ Some act.by)
-  run-acts part run act h k own =
-      seat-in part.name served.log act
-      (subst (IsIn act) (sym (acts-are part h))
-      (flat-in (λ (r : LinkRun R T). r.acts) act run part.runs k own))
+  module _ (distinct : AreDistinct (given_out served.log)) where
+    -- the acts of a link are acts of the seat of its part
+    run-acts : (part : Part W R T) (run : LinkRun R T) (act : LogEntry) → IsIn part served.parts
+        → IsIn run part.runs → IsIn act run.acts
+        → IsIn act served.log × (part.name ≡ Some act.by)
+    run-acts part run act h k own =
+        seat-in part.name served.log act
+        (subst (IsIn act) (sym (acts-are part h))
+        (flat-in (λ (r : LinkRun R T). r.acts) act run part.runs k own))
 
-  run-own : (part : Part W R T) (run : LinkRun R T) → IsIn part served.parts
-      → IsIn run part.runs → GivesItsOwn run.acts
-  run-own part run h k =
-      link-own (left_by start served.log) run.report.conn run.report.up_end run.report.down_end
-      run.acts (see.link run.given) (see.link run.back) (run-is part run h k)
+    run-own : (part : Part W R T) (run : LinkRun R T) → IsIn part served.parts
+        → IsIn run part.runs → GivesItsOwn run.acts
+    run-own part run h k =
+        link-own (left_by start served.log) run.report.conn run.report.up_end run.report.down_end
+        run.acts (see.link run.given) (see.link run.back) (run-is part run h k)
 
-  -- a link whose report names a connection
-  run-one : (part : Part W R T) (run : LinkRun R T) (conn : ℕ) → IsIn part served.parts
-      → IsIn run part.runs → run.report.conn ≡ Some conn → AreAboutOne conn run.acts
-  run-one part run conn h k is =
-      served-one (left_by start served.log) conn run.report.up_end run.report.down_end run.acts
-      (see.link run.given) (see.link run.back)
-      (subst (λ o. LinkBy (left_by start served.log) o run.report.up_end run.report.down_end
-      run.acts (see.link run.given) (see.link run.back)) is (run-is part run h k))
+    -- a link whose report names a connection
+    run-one : (part : Part W R T) (run : LinkRun R T) (conn : ℕ) → IsIn part served.parts
+        → IsIn run part.runs → run.report.conn ≡ Some conn → AreAboutOne conn run.acts
+    run-one part run conn h k is =
+        served-one (left_by start served.log) conn run.report.up_end run.report.down_end run.acts
+        (see.link run.given) (see.link run.back)
+        (subst (λ o. LinkBy (left_by start served.log) o run.report.up_end run.report.down_end
+        run.acts (see.link run.given) (see.link run.back)) is (run-is part run h k))
 
-  -- the connections that the links gave out, part by part, and one link after another
-  parts-distinct : AreDistinct (flat_map (λ (part : Part W R T). flat_map run_gives part.runs)
-      served.parts)
-  parts-distinct =
-      subst AreDistinct
-      (flat-same (λ (part : Part W R T). given_out (acts_by part.name served.log))
-      (λ (part : Part W R T). flat_map run_gives part.runs) served.parts
-      (λ part h. ap given_out (acts-are part h)
-      ∙ flat-flat (λ (run : LinkRun R T). run.acts) act_gives part.runs))
-      (seats-distinct served.log served.parts distinct served.names)
+    -- the connections that the links gave out, part by part, and one link after another
+    parts-distinct : AreDistinct (flat_map (λ (part : Part W R T). flat_map run_gives part.runs)
+        served.parts)
+    parts-distinct =
+        subst AreDistinct
+        (flat-same (λ (part : Part W R T). given_out (acts_by part.name served.log))
+        (λ (part : Part W R T). flat_map run_gives part.runs) served.parts
+        (λ part h. ap given_out (acts-are part h)
+        ∙ flat-flat (λ (run : LinkRun R T). run.acts) act_gives part.runs))
+        (seats-distinct served.log served.parts distinct served.names)
 
-  runs-distinct : AreDistinct (flat_map run_gives (runs_of served.parts))
-  runs-distinct =
-      subst AreDistinct (sym (flat-flat (λ (part : Part W R T). part.runs) run_gives served.parts))
-      parts-distinct
+    runs-distinct : AreDistinct (flat_map run_gives (runs_of served.parts))
+    runs-distinct =
+        subst AreDistinct
+        (sym (flat-flat (λ (part : Part W R T). part.runs) run_gives served.parts))
+        parts-distinct
 
-  pub reports-distinct : AreDistinct (reported left.reports)
-  reports-distinct =
-      subst AreDistinct (sym (ap reported served.reports ∙ reported-are served.parts))
-      (distinct-fewer run_gives run_names (runs_of served.parts)
-      (λ run h. option-distinct run.report.conn)
-      (λ run c h named.
-      let found = in-flat (λ (part : Part W R T). part.runs) run served.parts h in
-      (run-one found.0 run c found.1 found.2 (option-is c run.report.conn named)).given)
-      runs-distinct)
+    -- the log gave out each connection that a report names
+    pub conn-given : (run : LinkRun R T) (conn : ℕ) → IsIn run (runs_of served.parts)
+        → run.report.conn ≡ Some conn → IsIn conn (given_out served.log)
+    conn-given run conn h is =
+        let found = in-flat (λ (part : Part W R T). part.runs) run served.parts h in
+        let one = run-one found.0 run conn found.1 found.2 is in
+        let act = in-flat act_gives conn run.acts one.given in
+        let own = run-acts found.0 run act.0 found.1 found.2 act.1 in
+        flat-in act_gives conn act.0 served.log own.0 act.2
 
-  -- a link of a part, whose report names a connection
-  module _ (part : Part W R T) (run : LinkRun R T) (conn : ℕ) (of : IsIn part served.parts)
-      (own : IsIn run part.runs) (is : run.report.conn ≡ Some conn) where
-    one : AreAboutOne conn run.acts
-    one = run-one part run conn of own is
+    pub reports-distinct : AreDistinct (reported left.reports)
+    reports-distinct =
+        subst AreDistinct (sym (ap reported served.reports ∙ reported-are served.parts))
+        (distinct-fewer run_gives run_names (runs_of served.parts)
+        (λ run h. option-distinct run.report.conn)
+        (λ run c h named.
+        let found = in-flat (λ (part : Part W R T). part.runs) run served.parts h in
+        (run-one found.0 run c found.1 found.2 (option-is c run.report.conn named)).given)
+        runs-distinct)
 
-    -- each act of the connection is by the seat of the part
-    by-seat : (act : LogEntry) → IsIn act served.log → is_about conn act ≡ true
-        → part.name ≡ Some act.by
-    by-seat act h about =
-        let other = in-flat (λ (p : Part W R T). option_to_list p.name) act.by served.parts
-        (served.others act h) in
-        let acted : IsIn act (acts_of other.0.runs) =
-        subst (IsIn act)
-        (ap (λ n. acts_by n served.log) (sym (option-is act.by other.0.name other.2))
-        ∙ acts-are other.0 other.1) (entries-in served.log act h) in
-        let link = in-flat (λ (r : LinkRun R T). r.acts) act other.0.runs acted in
-        let same : link.0 ≡ run =
-        one-source run_gives conn link.0 run (runs_of served.parts) runs-distinct
-        (flat-in (λ (p : Part W R T). p.runs) link.0 other.0 served.parts other.1 link.1)
-        (flat-in (λ (p : Part W R T). p.runs) run part served.parts of own)
-        (run-own other.0 link.0 other.1 link.1 conn act link.2 about) one.given in
-        (run-acts part run act of own
-        (subst (λ (r : LinkRun R T). IsIn act r.acts) same link.2)).1
+    -- a link of a part, whose report names a connection
+    module _ (part : Part W R T) (run : LinkRun R T) (conn : ℕ) (of : IsIn part served.parts)
+        (own : IsIn run part.runs) (is : run.report.conn ≡ Some conn) where
+      one : AreAboutOne conn run.acts
+      one = run-one part run conn of own is
 
-    -- so they are the acts of the link
-    link-acts : acts_about conn served.log ≡ run.acts
-    link-acts =
-        let opening = in-flat act_gives conn run.acts one.given in
-        let name_is = (run-acts part run opening.0 of own opening.1).1 in
-        filter-entries (is_about conn) opening.0.by served.log
-        (λ act h about. let e = sym (by-seat act h about) ∙ name_is in cc (e))
-        ∙ ap (filter (is_about conn))
-        (ap (λ n. acts_by n served.log) (sym name_is) ∙ acts-are part of)
-        ∙ filter-one (is_about conn) (λ (r : LinkRun R T). r.acts) run_gives conn part.runs run
-        (λ r act k acted about. run-own part r of k conn act acted about)
-        (distinct-one (λ (p : Part W R T). flat_map run_gives p.runs) part served.parts
-        parts-distinct of) own one.given
-        ∙ filter-all (is_about conn) run.acts (one-all conn run.acts one)
+      -- each act of the connection is by the seat of the part
+      by-seat : (act : LogEntry) → IsIn act served.log → is_about conn act ≡ true
+          → part.name ≡ Some act.by
+      by-seat act h about =
+          let other = in-flat (λ (p : Part W R T). option_to_list p.name) act.by served.parts
+          (served.others act h) in
+          let acted : IsIn act (acts_of other.0.runs) =
+          subst (IsIn act)
+          (ap (λ n. acts_by n served.log) (sym (option-is act.by other.0.name other.2))
+          ∙ acts-are other.0 other.1) (entries-in served.log act h) in
+          let link = in-flat (λ (r : LinkRun R T). r.acts) act other.0.runs acted in
+          let same : link.0 ≡ run =
+          one-source run_gives conn link.0 run (runs_of served.parts) runs-distinct
+          (flat-in (λ (p : Part W R T). p.runs) link.0 other.0 served.parts other.1 link.1)
+          (flat-in (λ (p : Part W R T). p.runs) run part served.parts of own)
+          (run-own other.0 link.0 other.1 link.1 conn act link.2 about) one.given in
+          (run-acts part run act of own
+          (subst (λ (r : LinkRun R T). IsIn act r.acts) same link.2)).1
 
-  pub acts-of : (run : LinkRun R T) (conn : ℕ) → IsIn run (runs_of served.parts)
-      → run.report.conn ≡ Some conn → acts_about conn served.log ≡ run.acts
-  acts-of run conn h is =
-      let found = in-flat (λ (part : Part W R T). part.runs) run served.parts h in
-      link-acts found.0 run conn found.1 found.2 is
+      -- so they are the acts of the link
+      link-acts : acts_about conn served.log ≡ run.acts
+      link-acts =
+          let opening = in-flat act_gives conn run.acts one.given in
+          let name_is = (run-acts part run opening.0 of own opening.1).1 in
+          filter-entries (is_about conn) opening.0.by served.log
+          (λ act h about. let e = sym (by-seat act h about) ∙ name_is in cc (e))
+          ∙ ap (filter (is_about conn))
+          (ap (λ n. acts_by n served.log) (sym name_is) ∙ acts-are part of)
+          ∙ filter-one (is_about conn) (λ (r : LinkRun R T). r.acts) run_gives conn part.runs run
+          (λ r act k acted about. run-own part r of k conn act acted about)
+          (distinct-one (λ (p : Part W R T). flat_map run_gives p.runs) part served.parts
+          parts-distinct of) own one.given
+          ∙ filter-all (is_about conn) run.acts (one-all conn run.acts one)
+
+    pub acts-of : (run : LinkRun R T) (conn : ℕ) → IsIn run (runs_of served.parts)
+        → run.report.conn ≡ Some conn → acts_about conn served.log ≡ run.acts
+    acts-of run conn h is =
+        let found = in-flat (λ (part : Part W R T). part.runs) run served.parts h in
+        link-acts found.0 run conn found.1 found.2 is
