@@ -1,17 +1,15 @@
 -- Lines that ask for no entry.
-use Rattle.std.proofs.Common.{◌≡◌, ℕ, ◌≤◌, List, [], ◌∷◌, ◌++◌, length, refl, sym, ap, ◌∙◌, subst}
+use Rattle.std.proofs.Common.{◌≡◌, ℕ, List, [], ◌++◌, sym, ap, ◌∙◌, subst}
 use Rattle.std.proofs.Common.{arith}
 use Rattle.std.proofs.Common.{Ok, Err, OnOk}
 use Rattle.std.specs.Prelude.{Option, IfErr}
 use Rattle.std.specs.declared.result.Result.{Result}
 use Rattle.std.proofs.lemmas.List.{append-nil}
 use Rattle.dp_entries.specs.Reader.{Reader}
-use Rattle.dp_client.specs.Client.{State}
-use Rattle.dp_messages.specs.declared.message.Entry.{Entry}
 use Rattle.dp_schedule.specs.declared.join_action.JoinAction.{JoinAction}
 use Rattle.dp_joining.specs.declared.stops.JoinStop.{JoinStop}
-use Rattle.dp_joining.specs.Joining.{Joining, acted, asked_by, after_line, takeable}
-use Rattle.dp_joining.specs.Steps.{Fails, Halts, IsReadable, IsReady, Moves, Passes, Seen, Source}
+use Rattle.dp_joining.specs.Joining.{acted, asked_by}
+use Rattle.dp_joining.specs.Steps.{Fails, Halts, IsReady, Moves, Passes, Seen, Source}
 use Rattle.dp_joining.specs.Outcomes.{BeginsWith}
 use Rattle.dp_joining.specs.Steps.{ReadsOn, source_at}
 use Rattle.dp_joining.proofs.Reading.{given_begins, reads_none}
@@ -41,15 +39,6 @@ halts_alone old now action stop ready fails = record {
   waits = λ is. absurd (fails.not_for_entry is);
   stops = fails.stops;
 }
-
--- the client may still take an entry
-pub ready_alone : (client now : State) (source source_now : Source) → IsReady client source
-    → source_now ≡ source → now.taken ≡ client.taken → IsReady now source_now
-ready_alone client now source source_now ready same taken =
-    subst (IsReady now) (sym same) (record {
-      few = subst (λ (es : List Entry). length es ≤ source.reader.stream.at) (sym taken) ready.few;
-      readable = ready.readable;
-    })
 
 -- the same reader and the same source
 pub source_same : {R : Type 0} (left : R → Option (List ℕ)) (faults : R → ℕ) (r s : Reader)

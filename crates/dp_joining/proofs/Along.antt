@@ -1,5 +1,5 @@
 -- Lines one after the other, with the entries of a link.
-use Rattle.std.proofs.Common.{◌≡◌, ℕ, ◌+◌, ◌<◌, ◌≤◌, true, false, Bool, ◌||◌, if◌then◌else◌, List}
+use Rattle.std.proofs.Common.{◌≡◌, ◌<◌, ◌≤◌, true, false, Bool, ◌||◌, if◌then◌else◌, List}
 use Rattle.std.proofs.Common.{[]}
 use Rattle.std.proofs.Common.{◌∷◌, ◌++◌, length, take, drop, refl, sym, ap, ◌∙◌, arith, inl, inr}
 use Rattle.std.proofs.lemmas.Bool.{cases_lt}
@@ -12,9 +12,8 @@ use Rattle.dp_messages.specs.declared.message.Entry.{Entry}
 use Rattle.dp_messages.specs.Properties.{is_disconnect}
 use Rattle.dp_schedule.specs.declared.join_action.JoinAction.{JoinAction}
 use Rattle.dp_joining.specs.Joining.{Joining, Progress, Goes, Waits, after_line, along, asked_by}
-use Rattle.dp_joining.specs.Joining.{is_closed, takeable}
+use Rattle.dp_joining.specs.Joining.{came_to, is_closed, takeable}
 use Rattle.dp_joining.specs.JoinStanding.{is_ping}
-use Rattle.dp_joining.specs.Scripts.{progress_text, progress_written}
 
 -- ---- what is taken of a link
 
@@ -64,8 +63,7 @@ next_line : Bool → JoinAction → List JoinAction → List Entry → Joining �
 next_line true action actions coming j =
     along actions (drop (asked_by action) coming)
     (after_line action (take (asked_by action) coming) j)
-next_line false action actions coming j =
-    Waits (after_line action coming j).text (after_line action coming j).written
+next_line false action actions coming j = Waits (after_line action coming j)
 
 along_next_line : (action : JoinAction) (actions : List JoinAction) (coming : List Entry)
     (j : Joining)
@@ -76,7 +74,7 @@ along_next_line action actions coming j =
     elim (nat_le (asked_by action) (length coming)) as
     (λ b. (if b then along actions (drop (asked_by action) coming)
     (after_line action (take (asked_by action) coming) j)
-    else Waits (after_line action coming j).text (after_line action coming j).written)
+    else Waits (after_line action coming j))
     ≡ next_line b action actions coming j) [ true ↦ refl | false ↦ refl ]
 
 -- a line that has enough entries
@@ -94,8 +92,7 @@ along_enough action actions coming j enough =
 pub along_few : (action : JoinAction) (actions : List JoinAction) (coming : List Entry)
     (j : Joining)
     → length coming < asked_by action
-    → along (action ∷ actions) coming j
-    ≡ Waits (after_line action coming j).text (after_line action coming j).written
+    → along (action ∷ actions) coming j ≡ Waits (after_line action coming j)
 unfolding next_line
 along_few action actions coming j few =
     let test : nat_le (asked_by action) (length coming) ≡ false = grind (arith, nat_tests) in
@@ -168,25 +165,15 @@ along_exact action coming j many =
 -- one line with fewer
 pub along_short : (action : JoinAction) (coming : List Entry) (j : Joining)
     → length coming < asked_by action
-    → along (action ∷ []) coming j
-    ≡ Waits (after_line action coming j).text (after_line action coming j).written
+    → along (action ∷ []) coming j ≡ Waits (after_line action coming j)
 along_short action coming j few = along_few action [] coming j few
 
--- what one line prints and writes, with at most as many entries as it asks for
-pub line_text : (action : JoinAction) (coming : List Entry) (j : Joining)
+-- how far one line goes, with at most as many entries as it asks for
+pub along_one : (action : JoinAction) (coming : List Entry) (j : Joining)
     → length coming ≤ asked_by action
-    → progress_text (along (action ∷ []) coming j) ≡ (after_line action coming j).text
-line_text action coming j within =
+    → came_to (along (action ∷ []) coming j) ≡ after_line action coming j
+along_one action coming j within =
     elim (cases_lt (length coming) (asked_by action)) [
-      | inl few ↦ ap progress_text (along_short action coming j few)
-      | inr past ↦ ap progress_text (along_exact action coming j (omega arith))
-    ]
-
-pub line_written : (action : JoinAction) (coming : List Entry) (j : Joining)
-    → length coming ≤ asked_by action
-    → progress_written (along (action ∷ []) coming j) ≡ (after_line action coming j).written
-line_written action coming j within =
-    elim (cases_lt (length coming) (asked_by action)) [
-      | inl few ↦ ap progress_written (along_short action coming j few)
-      | inr past ↦ ap progress_written (along_exact action coming j (omega arith))
+      | inl few ↦ ap came_to (along_short action coming j few)
+      | inr past ↦ ap came_to (along_exact action coming j (omega arith))
     ]

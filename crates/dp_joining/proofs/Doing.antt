@@ -1,13 +1,9 @@
 -- Lines that are done one after the other, and the line that ends a run.
-use Rattle.std.proofs.Common.{◌≡◌, ◌⊎◌, inl, inr, ℕ, ◌≤◌, List, [], ◌∷◌, ◌++◌, length, refl, sym}
+use Rattle.std.proofs.Common.{◌≡◌, inl, inr, ℕ, List, [], ◌∷◌, ◌++◌, refl, sym}
 use Rattle.std.proofs.Common.{ap}
-use Rattle.std.proofs.Common.{◌∙◌, subst, arith}
-use Rattle.std.specs.Prelude.{Option}
-use Rattle.std.specs.Io.KnownBytes.{Appends}
-use Rattle.dp_io.specs.Streams.{GrowsByPrefix}
+use Rattle.std.proofs.Common.{◌∙◌, subst}
 use Rattle.dp_io.proofs.Prefixes.{grows_whole}
 use Rattle.dp_lines.specs.declared.line.Line.{Line}
-use Rattle.dp_messages.specs.declared.message.Entry.{Entry}
 use Rattle.dp_schedule.specs.declared.join_action.JoinAction.{JoinAction}
 use Rattle.dp_schedule.specs.JoinGrammar.{Asks}
 use Rattle.dp_script.specs.declared.machine.Undone.{Undone}
@@ -17,14 +13,11 @@ use Rattle.dp_script.specs.Moments.{Moment}
 use Rattle.dp_joining.specs.declared.stops.JoinStop.{JoinStop}
 use Rattle.dp_joining.specs.declared.stops.JoinStop.TheVariants.{WriteFault, LinkFault, Memory}
 use Rattle.dp_joining.specs.declared.stops.JoinStop.TheVariants.{NoEntry}
-use Rattle.dp_joining.specs.Joining.{Joining, Progress, Goes, Waits, after_line, along, takeable}
+use Rattle.dp_joining.specs.Joining.{Joining, Waits, after_line, along, came_to, takeable}
 use Rattle.dp_joining.specs.Outcomes.{AllAsk, IsJoinStep}
-use Rattle.dp_joining.specs.Scripts.{GoesTo, HasDone, HasEnded, IsJoinLineRefused, StopsAlong}
-use Rattle.dp_joining.specs.Scripts.{progress_text}
-use Rattle.dp_joining.specs.Scripts.{progress_written}
-use Rattle.dp_joining.specs.Steps.{Began, Halts, IsNoEntry, IsReadable, Passes, Seen, Stands, Stops}
-use Rattle.dp_joining.specs.Steps.{Wrote}
-use Rattle.dp_joining.proofs.Along.{along_exact, along_next, along_short, line_text, line_written}
+use Rattle.dp_joining.specs.Scripts.{HasDone, HasEnded, IsJoinLineRefused, at}
+use Rattle.dp_joining.specs.Steps.{Began, Halts, IsReadable, Passes, Seen, Stands, Stops}
+use Rattle.dp_joining.proofs.Along.{along_exact, along_next, along_one, along_short}
 use Rattle.dp_joining.proofs.Along.{takeable-append}
 use Rattle.dp_joining.proofs.Reading.{reads_none, reads_then, reads_twice, stops_here}
 
@@ -42,15 +35,6 @@ asked_more (first ∷ done) (one ∷ actions) line action (here, asked) asks =
 
 -- ---- doing
 
--- what was written on the way to the next line
-wrote_along : (first now : Seen) (progress : Progress) (j : Joining) (stop : JoinStop)
-    → progress_text progress ≡ j.text → progress_written progress ≡ j.written
-    → Wrote first now j.text j.written stop
-    → Wrote first now (progress_text progress) (progress_written progress) stop
-wrote_along first now progress j stop text written wrote =
-    subst (λ t. Wrote first now t (progress_written progress) stop) (sym text)
-    (subst (λ w. Wrote first now j.text w stop) (sym written) wrote)
-
 -- what stands is written whole, and is a prefix
 pub began_whole : (first now : Seen) (j : Joining) → Stands first now j
     → Began first now j.text j.written
@@ -59,21 +43,18 @@ began_whole first now j stands = record {
   sent = grows_whole first.written now.written j.written stands.written;
 }
 
-module _ {M O D T : Type 0} (see : M → O → Seen) where
-  abbrev at : Moment M O D T → Seen
-  at m = see m.machine m.output
-
+module _ {M O : Type 0} (see : M → O → ℕ → ℕ → Seen) where
   -- the line is done
-  pub done_further : (start old now : Moment M O D T) (done : List Line) (line : Line)
-      (action : JoinAction) → Asks line.bytes action → Passes (at old) (at now) action
+  pub done_further : (start old now : Moment M O ℕ ℕ) (done : List Line) (line : Line)
+      (action : JoinAction) → Asks line.bytes action → Passes (at see old) (at see now) action
       → HasDone see start done old → HasDone see start (done ++ line ∷ []) now
   done_further start old now done line action asks passes has = record {
     actions = has.actions ++ action ∷ [];
     asked = asked_more done has.actions line action has.asked asks;
     given = has.given ++ passes.given;
     reads =
-        reads_twice (at start).source (at old).source (at now).source has.given passes.given
-        has.reads passes.reads;
+        reads_twice (at see start).source (at see old).source (at see now).source has.given
+        passes.given has.reads passes.reads;
     goes = λ first j stands.
         let before = has.goes first j stands in record {
           joining = after_line action (takeable passes.given) before.joining;
@@ -88,9 +69,9 @@ module _ {M O D T : Type 0} (see : M → O → Seen) where
   }
 
   -- the next line ends the run
-  pub halts_at : (start old now : Moment M O D T) (done : List Line) (line : Line)
+  pub halts_at : (start old now : Moment M O ℕ ℕ) (done : List Line) (line : Line)
       (action : JoinAction) (stop : JoinStop) → Asks line.bytes action
-      → Halts (at old) (at now) action stop
+      → Halts (at see old) (at see now) action stop
       → HasDone see start done old → HasEnded see start done line now stop
   halts_at start old now done line action stop asks halts has = record {
     begun = done ++ line ∷ [];
@@ -98,8 +79,8 @@ module _ {M O D T : Type 0} (see : M → O → Seen) where
     actions = has.actions ++ action ∷ [];
     asked = asked_more done has.actions line action has.asked asks;
     given = has.given ++ halts.given;
-    reads = reads_then (at start).source (at old).source has.given halts.given stop has.reads
-        halts.reads;
+    reads = reads_then (at see start).source (at see old).source has.given halts.given stop
+        has.reads halts.reads;
     stops = λ first j stands.
         let before = has.goes first j stands in
         let progress = along (has.actions ++ action ∷ []) (takeable (has.given ++ halts.given)) j in
@@ -109,24 +90,20 @@ module _ {M O D T : Type 0} (see : M → O → Seen) where
         ∙ along_next has.actions action (takeable has.given) (takeable halts.given) j
         before.joining before.goes in
         let next = after_line action (takeable halts.given) before.joining in
-        let text : progress_text progress ≡ next.text =
-        ap progress_text is ∙ line_text action (takeable halts.given) before.joining halts.few in
-        let written : progress_written progress ≡ next.written =
-        ap progress_written is
-        ∙ line_written action (takeable halts.given) before.joining halts.few in
-        let stopped = halts.stops first before.joining before.stands in
+        let there : came_to progress ≡ next =
+        ap came_to is ∙ along_one action (takeable halts.given) before.joining halts.few in
         record {
-          wrote = wrote_along first (at now) progress next stop text written stopped.wrote;
-          fault = stopped.fault;
+          stops =
+              subst (λ (k : Joining). Stops first (at see now) k stop) (sym there)
+              (halts.stops first before.joining before.stands);
           waits = λ none.
               is ∙ along_short action (takeable halts.given) before.joining (halts.waits none)
-              ∙ ap (λ t. Waits t next.written) (sym text)
-              ∙ ap (λ w. Waits (progress_text progress) w) (sym written);
+              ∙ ap Waits (sym there);
         };
   }
 
   -- memory ran out before the next line
-  pub ran_out_at : (start now : Moment M O D T) (done : List Line) (line : Line)
+  pub ran_out_at : (start now : Moment M O ℕ ℕ) (done : List Line) (line : Line)
       → HasDone see start done now → HasEnded see start done line now Memory
   ran_out_at start now done line has = record {
     begun = done;
@@ -135,51 +112,53 @@ module _ {M O D T : Type 0} (see : M → O → Seen) where
     asked = has.asked;
     given = has.given;
     reads = λ bytes before has_given still.
-        stops_here (at start).source (at now).source has.given has.reads bytes before has_given;
+        stops_here (at see start).source (at see now).source has.given has.reads bytes before
+        has_given;
     stops = λ first j stands.
         let before = has.goes first j stands in
-        let progress = along has.actions (takeable has.given) j in
         record {
-          wrote = wrote_along first (at now) progress before.joining Memory
-              (ap progress_text before.goes)
-              (ap progress_written before.goes) (began_whole first (at now) before.joining
-              before.stands);
-          fault = before.stands.faultless;
+          stops =
+              subst (λ (k : Joining). Stops first (at see now) k Memory)
+              (sym (ap came_to before.goes)) (record {
+                wrote = began_whole first (at see now) before.joining before.stands;
+                fault = before.stands.faultless;
+                counts = before.stands.counts;
+              });
           waits = λ none. absurd none;
         };
   }
 
   -- nothing is done yet
-  pub nothing_done : (start : Moment M O D T) → IsReadable (at start).source
+  pub nothing_done : (start : Moment M O ℕ ℕ) → IsReadable (at see start).source
       → HasDone see start [] start
   nothing_done start readable = record {
     actions = [];
     asked = tt;
     given = [];
-    reads = reads_none (at start).source readable;
+    reads = reads_none (at see start).source readable;
     goes = λ first j stands. record { joining = j; goes = refl; stands = stands };
   }
 
 -- ---- lines that ask for nothing, and memory
 
-module _ {M O D T : Type 0} (see : M → O → Seen) where
-  pub refused_by : (now : Moment M O D T) (line : Line) (u : Undone JoinStop)
+module _ {M O : Type 0} (see : M → O → ℕ → ℕ → Seen) where
+  pub refused_by : (now : Moment M O ℕ ℕ) (line : Line) (u : Undone JoinStop)
       → IsJoinLineRefused line u
-      → IfNoStep ((start : Moment M O D T) (done : List Line) → HasDone see start done now
+      → IfNoStep ((start : Moment M O ℕ ℕ) (done : List Line) → HasDone see start done now
       → ¬ IsJoinStep done line) u
   refused_by now line undone.NoStep refused =
       λ start done has step. refused step.0 step.1
   refused_by now line (undone.Ended why) refused = tt
 
-  pub kept_by : (now : Moment M O D T) (u : Undone JoinStop)
-      → IfNoStep ((start : Moment M O D T) (done : List Line) → HasDone see start done now
+  pub kept_by : (now : Moment M O ℕ ℕ) (u : Undone JoinStop)
+      → IfNoStep ((start : Moment M O ℕ ℕ) (done : List Line) → HasDone see start done now
       → HasDone see start done now) u
   kept_by now undone.NoStep = λ start done has. has
   kept_by now (undone.Ended why) = tt
 
-  pub ran_out_by : (now : Moment M O D T) (line : Line) (u : Undone JoinStop)
+  pub ran_out_by : (now : Moment M O ℕ ℕ) (line : Line) (u : Undone JoinStop)
       → IsJoinLineRefused line u
-      → IfEnded (λ why. (start : Moment M O D T) (done : List Line) → HasDone see start done now
+      → IfEnded (λ why. (start : Moment M O ℕ ℕ) (done : List Line) → HasDone see start done now
       → HasEnded see start done line now why) u
   ran_out_by now line undone.NoStep refused = tt
   ran_out_by now line (undone.Ended WriteFault) refused = absurd refused

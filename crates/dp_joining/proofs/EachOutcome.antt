@@ -20,7 +20,7 @@ use Rattle.dp_joining.specs.declared.stops.LinkCause.{LinkCause}
 use Rattle.dp_joining.specs.declared.stops.LinkCause.TheVariants as cause
 use Rattle.dp_joining.specs.Joining.{Progress, Goes, Waits, is_closed, joined}
 use Rattle.dp_joining.specs.Outcomes.{AllAsk, BeginsWith, EndsLink, IsJoinStep, JoinComesTo}
-use Rattle.dp_joining.specs.Outcomes.{JoinOutcome, LinkComesTo, link_end, script_outcome}
+use Rattle.dp_joining.specs.Outcomes.{JoinOutcome, LinkComesTo, link_outcome, script_outcome}
 use Rattle.dp_joining.proofs.Doing.{asked_more}
 use Rattle.dp_joining.proofs.Leaving.{FurtherStep}
 
@@ -202,18 +202,19 @@ module _ (name input link : List ℕ)
         goes = goes;
         outcome_is = refl;
       }))
-      by (Waits text written) waits =
+      by (Waits waiting) waits =
           let why = link_ends link entries end comes in
-          none (record { text = text; written = written; end = link_end why.0 }) (inr (record {
+          none (link_outcome why.0 waiting) (inr (record {
             begun = done;
             prefix = script.first;
             actions = actions;
             asked = script.asked;
             entries = entries;
+            waiting = waiting;
             waits = waits;
             why = why.0;
             ends = why.1;
-            end_is = refl;
+            outcome_is = refl;
           }))
 
 pub not_endless : AreSteps IsJoinStep [] → FurtherStep

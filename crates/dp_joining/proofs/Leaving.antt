@@ -1,5 +1,5 @@
 -- What a run leaves, from what its lines do.
-use Rattle.std.proofs.Common.{◌≡◌, ◌⊎◌, inl, inr, ℕ, ◌≤◌, false, List, [], ◌∷◌, ◌++◌, length, refl}
+use Rattle.std.proofs.Common.{◌≡◌, inl, inr, ℕ, ◌≤◌, List, [], ◌∷◌, ◌++◌, refl}
 use Rattle.std.proofs.Common.{sym}
 use Rattle.std.proofs.Common.{ap, ◌∙◌, subst, append_assoc, arith}
 use Rattle.std.specs.Prelude.{Option, Some, None, IfSome}
@@ -28,21 +28,19 @@ use Rattle.dp_joining.specs.declared.stops.JoinStop.{JoinStop}
 use Rattle.dp_joining.specs.declared.stops.JoinStop.TheVariants as stop
 use Rattle.dp_joining.specs.declared.stops.LinkCause.{LinkCause}
 use Rattle.dp_joining.specs.declared.stops.LinkCause.TheVariants as cause
-use Rattle.dp_joining.specs.Greetings.{newcomer}
-use Rattle.dp_joining.specs.Joining.{Joining, Progress, Goes, Waits, along, farewell_bytes, greeted}
-use Rattle.dp_joining.specs.Joining.{is_closed, joined, takeable}
+use Rattle.dp_joining.specs.Joining.{Joining, Goes, Waits, along, came_to, caller, farewell_bytes}
+use Rattle.dp_joining.specs.Joining.{joined, newcomer, takeable}
 use Rattle.dp_joining.specs.Leaves.{FaultMatchesJoin, Counts, IsParting, IsWelcome, JoinLeaves}
 use Rattle.dp_joining.specs.Leaves.{OthersStay, Traffic, WritesAll}
 use Rattle.dp_joining.specs.Leaves.{WritesPart, WritesTaken, WhereKnown}
-use Rattle.dp_joining.specs.Outcomes.{AllAsk, BeginsWith, EndsByLink, EndsByScript, IsJoinStep}
+use Rattle.dp_joining.specs.Outcomes.{BeginsWith, IsJoinStep}
 use Rattle.dp_joining.specs.Outcomes.{JoinComesTo, JoinOutcome, link_end}
 use Rattle.dp_script.specs.Limits.{lines_limit}
-use Rattle.dp_joining.specs.Outcomes.{script_outcome}
-use Rattle.dp_joining.specs.Partings.{IsSilent, TakesLeave, SaysFarewell}
-use Rattle.dp_joining.specs.Scripts.{GoesTo, HasDone, HasEnded, IsBegun, StopsAlong, progress_text}
-use Rattle.dp_joining.specs.Scripts.{progress_written}
-use Rattle.dp_joining.specs.Steps.{Began, FaultMatchesStop, HasGiven, IsFaultless, Seen, Shows}
-use Rattle.dp_joining.specs.Steps.{Stands}
+use Rattle.dp_joining.specs.Outcomes.{link_outcome, script_outcome}
+use Rattle.dp_joining.specs.Partings.{TakesLeave, SaysFarewell}
+use Rattle.dp_joining.specs.Scripts.{HasDone, HasEnded, IsBegun, at}
+use Rattle.dp_joining.specs.Steps.{Began, DrawsFew, FaultMatchesStop, IsFaultless, Seen}
+use Rattle.dp_joining.specs.Steps.{Shows, Wrote, counters_at}
 use Rattle.dp_joining.specs.Stops.{end_of}
 use Rattle.dp_joining.proofs.Moving.{grows_not}
 use Rattle.dp_joining.proofs.Reading.{given_begins}
@@ -59,7 +57,7 @@ joined_from : (name : List ℕ) (link : Option (List ℕ)) (first start : Seen) 
     ≡ along actions (takeable given) (newcomer start.client name)
 joined_from name link first start welcome actions given is =
     ap (λ o. option_map_or (λ j. along actions (takeable given) j) o
-    (Waits [] (newcomer start.client name).written)) is.greets
+    (Waits (caller name))) is.greets
 
 -- ---- what is known
 
@@ -128,39 +126,41 @@ traffic input left link first now sent = record {
   print_now = now.printed;
   sent_old = first.written;
   sent_now = sent;
+  counters = counters_at first now;
 }
 
-module _ {M O D T : Type 0} (see : M → O → Seen) where
-  abbrev at : Moment M O D T → Seen
-  at m = see m.machine m.output
+module _ {M O : Type 0} (see : M → O → ℕ → ℕ → Seen) where
+  abbrev seen_at : Moment M O ℕ ℕ → Seen
+  seen_at m = at see m
 
-  module _ (name : List ℕ) (first : Seen) (welcome : Entry) (start now : Moment M O D T) where
+  module _ (name : List ℕ) (first : Seen) (welcome : Entry) (start now : Moment M O ℕ ℕ) where
     -- the link's bytes begin with the entries that were given
     begins_of : (bytes : List ℕ) (done : List Line)
-        → IsWelcome name (Some bytes) first (at start) welcome
+        → IsWelcome name (Some bytes) first (seen_at start) welcome
         → (has : HasDone see start done now) → BeginsWith bytes (welcome ∷ has.given)
     begins_of bytes done is has =
-        given_begins (at now).source bytes (welcome ∷ has.given) has.reads.readable
+        given_begins (seen_at now).source bytes (welcome ∷ has.given) has.reads.readable
         (has.reads.more bytes (welcome ∷ []) is.has_given)
 
     -- the lines are done, and more may be written to the link
     module _ (input bytes : List ℕ) where
       whole_of : (done : List Line) (last : LinesEnd)
           (sent : Option (List ℕ)) (more : List ℕ) (end : RunEnd)
-          → IsWelcome name (Some bytes) first (at start) welcome
+          → IsWelcome name (Some bytes) first (seen_at start) welcome
           → HasDone see start done now
           → LinesComeTo IsJoinStep lines_limit input done last
-          → Appends (at now).written sent more
-          → ((j : Joining) → (at now).client ≡ j.client
+          → Appends (seen_at now).written sent more
+          → ((j : Joining) → (seen_at now).client ≡ j.client
           → script_outcome last j
-          ≡ record { text = j.text; written = j.written ++ more; end = end })
+          ≡ record { text = j.text; written = j.written ++ more; due = j.due; end = end })
           → (outcome : JoinOutcome) × JoinComesTo name input bytes outcome × (outcome.end ≡ end)
-          × Appends first.printed (at now).printed outcome.text
+          × Appends first.printed (seen_at now).printed outcome.text
           × Appends first.written sent outcome.written
+          × DrawsFew (counters_at first (seen_at now)) outcome.due
       whole_of done last sent more end is has comes writes due =
-          let go = has.goes first (newcomer (at start).client name) is.stands in
+          let go = has.goes first (newcomer (seen_at start).client name) is.stands in
           let j = go.joining in (
-            record { text = j.text; written = j.written ++ more; end = end },
+            record { text = j.text; written = j.written ++ more; due = j.due; end = end },
             inl (record {
               done = done;
               last = last;
@@ -172,32 +172,34 @@ module _ {M O D T : Type 0} (see : M → O → Seen) where
               joining = j;
               left = [];
               goes =
-                  joined_from name (Some bytes) first (at start) welcome has.actions has.given is
+                  joined_from name (Some bytes) first (seen_at start) welcome has.actions has.given
+                  is
                   ∙ go.goes;
               outcome_is = sym (due j go.stands.client);
             }),
             refl,
             go.stands.text,
-            Appends-trans first.written (at now).written sent j.written more go.stands.written
+            Appends-trans first.written (seen_at now).written sent j.written more go.stands.written
                 writes,
+            go.stands.counts,
           )
 
       -- a part of what is due was written
       part_of : (t : Traffic) (done : List Line) (parting : List ℕ)
-          → t.print_old ≡ first.printed → t.print_now ≡ (at now).printed
-          → t.sent_old ≡ first.written
-          → IsWelcome name (Some bytes) first (at start) welcome
+          → t.print_old ≡ first.printed → t.print_now ≡ (seen_at now).printed
+          → t.sent_old ≡ first.written → t.counters ≡ counters_at first (seen_at now)
+          → IsWelcome name (Some bytes) first (seen_at start) welcome
           → (has : HasDone see start done now)
           → AreFirstOf IsJoinStep (seen lines_limit input) done
-          → ((j : Joining) → (at now).client ≡ j.client
+          → ((j : Joining) → (seen_at now).client ≡ j.client
           → IsParting input done (Goes j []) parting)
-          → GrowsByPrefix (at now).written t.sent_now parting
+          → GrowsByPrefix (seen_at now).written t.sent_now parting
           → WritesPart name t input bytes
-      part_of t done parting print_old print_now sent_old is has prefix parts writes =
-          let go = has.goes first (newcomer (at start).client name) is.stands in
+      part_of t done parting print_old print_now sent_old counted is has prefix parts writes =
+          let go = has.goes first (newcomer (seen_at start).client name) is.stands in
           let j = go.joining in
           let progress : joined name has.actions (welcome ∷ has.given) ≡ Goes j [] =
-          joined_from name (Some bytes) first (at start) welcome has.actions has.given is
+          joined_from name (Some bytes) first (seen_at start) welcome has.actions has.given is
           ∙ go.goes in
           record {
             begun = done;
@@ -207,32 +209,36 @@ module _ {M O D T : Type 0} (see : M → O → Seen) where
             entries = welcome ∷ has.given;
             begins = begins_of bytes done is has;
             text =
-                subst (λ w. GrowsByPrefix t.print_old t.print_now (progress_text w)) (sym progress)
+                subst (λ w. GrowsByPrefix t.print_old t.print_now (came_to w).text) (sym progress)
                 (subst (λ a. GrowsByPrefix a t.print_now j.text) (sym print_old)
                 (subst (λ b. GrowsByPrefix first.printed b j.text) (sym print_now)
-                (grows_whole first.printed (at now).printed j.text go.stands.text)));
+                (grows_whole first.printed (seen_at now).printed j.text go.stands.text)));
             parting = parting;
             is_parting =
                 subst (λ w. IsParting input done w parting) (sym progress)
                 (parts j go.stands.client);
             written =
-                subst (λ w. GrowsByPrefix t.sent_old t.sent_now (progress_written w ++ parting))
+                subst (λ w. GrowsByPrefix t.sent_old t.sent_now ((came_to w).written ++ parting))
                 (sym progress)
                 (subst (λ a. GrowsByPrefix a t.sent_now (j.written ++ parting)) (sym sent_old)
-                (grows_after first.written (at now).written t.sent_now j.written parting
+                (grows_after first.written (seen_at now).written t.sent_now j.written parting
                 go.stands.written writes));
+            counts =
+                subst (λ w. DrawsFew t.counters (came_to w).due) (sym progress)
+                (subst (λ c. DrawsFew c j.due) (sym counted) go.stands.counts);
           }
 
       -- the lines that are whole in what was taken
       taken_of : (t : Traffic) (done : List Line)
-          → t.print_old ≡ first.printed → t.print_now ≡ (at now).printed
-          → t.sent_old ≡ first.written → t.sent_now ≡ (at now).written
-          → IsWelcome name (Some bytes) first (at start) welcome
+          → t.print_old ≡ first.printed → t.print_now ≡ (seen_at now).printed
+          → t.sent_old ≡ first.written → t.sent_now ≡ (seen_at now).written
+          → t.counters ≡ counters_at first (seen_at now)
+          → IsWelcome name (Some bytes) first (seen_at start) welcome
           → HasDone see start done now
           → TookWithin (HoldsLines IsJoinStep lines_limit done) 0 input t.left
           → WritesTaken name t input bytes
-      taken_of t done print_old print_now sent_old sent_now is has took =
-          let go = has.goes first (newcomer (at start).client name) is.stands in
+      taken_of t done print_old print_now sent_old sent_now counted is has took =
+          let go = has.goes first (newcomer (seen_at start).client name) is.stands in
           let j = go.joining in
           record {
             done = done;
@@ -243,7 +249,7 @@ module _ {M O D T : Type 0} (see : M → O → Seen) where
             begins = begins_of bytes done is has;
             joining = j;
             goes =
-                joined_from name (Some bytes) first (at start) welcome has.actions has.given is
+                joined_from name (Some bytes) first (seen_at start) welcome has.actions has.given is
                 ∙ go.goes;
             text =
                 subst (λ a. Appends a t.print_now j.text) (sym print_old)
@@ -252,77 +258,84 @@ module _ {M O D T : Type 0} (see : M → O → Seen) where
                 subst (λ a. Appends a t.sent_now j.written) (sym sent_old)
                 (subst (λ b. Appends first.written b j.written) (sym sent_now)
                 go.stands.written);
+            counts = subst (λ c. DrawsFew c j.due) (sym counted) go.stands.counts;
           }
 
     -- what a run over the lines leaves
     module _ (further : FurtherStep) (input left link sent : Option (List ℕ)) where
       abbrev over : Traffic
-      over = traffic input left link first (at now) sent
+      over = traffic input left link first (seen_at now) sent
 
       all_of : (done : List Line) (last : LinesEnd) (more : List ℕ) (end : RunEnd)
-          → IsWelcome name link first (at start) welcome
+          → IsWelcome name link first (seen_at start) welcome
           → HasDone see start done now
           → IfSome input (λ bytes. LinesComeTo IsJoinStep lines_limit bytes done last)
-          → Appends (at now).written sent more
-          → ((j : Joining) → (at now).client ≡ j.client
+          → Appends (seen_at now).written sent more
+          → ((j : Joining) → (seen_at now).client ≡ j.client
           → script_outcome last j
-          ≡ record { text = j.text; written = j.written ++ more; end = end })
+          ≡ record { text = j.text; written = j.written ++ more; due = j.due; end = end })
           → WritesAll name over end
       all_of done last more end is has comes writes due =
           when_known input link (λ i l. (outcome : JoinOutcome) × JoinComesTo name i l outcome
-          × (outcome.end ≡ end) × Appends first.printed (at now).printed outcome.text
-          × Appends first.written sent outcome.written) (λ i l input_is link_is.
+          × (outcome.end ≡ end) × Appends first.printed (seen_at now).printed outcome.text
+          × Appends first.written sent outcome.written
+          × DrawsFew (counters_at first (seen_at now)) outcome.due) (λ i l input_is link_is.
           whole_of i l done last sent more end
-          (known_welcome name link first (at start) welcome l link_is is) has
+          (known_welcome name link first (seen_at start) welcome l link_is is) has
           (said_of (λ b. LinesComeTo IsJoinStep lines_limit b done last) input i input_is comes)
           writes due)
 
       -- a script that ends before its end leaves nothing to be written
       silent_all : (done : List Line) (last : LinesEnd) (end : RunEnd)
-          → IsWelcome name link first (at start) welcome
+          → IsWelcome name link first (seen_at start) welcome
           → HasDone see start done now
           → IfSome input (λ bytes. LinesComeTo IsJoinStep lines_limit bytes done last)
-          → sent ≡ (at now).written
+          → sent ≡ (seen_at now).written
           → ((j : Joining)
-          → script_outcome last j ≡ record { text = j.text; written = j.written; end = end })
+          → script_outcome last j
+          ≡ record { text = j.text; written = j.written; due = j.due; end = end })
           → WritesAll name over end
       silent_all done last end is has comes same due =
           all_of done last [] end is has comes
-          (subst (λ x. Appends (at now).written x []) (sym same) (Appends-nil (at now).written))
-          (λ j client. due j ∙ ap (λ w. record { text = j.text; written = w; end = end })
+          (subst (λ x. Appends (seen_at now).written x []) (sym same) (Appends-nil (seen_at
+          now).written))
+          (λ j client. due j
+          ∙ ap (λ w. record { text = j.text; written = w; due = j.due; end = end })
           (sym (append-nil j.written)))
 
       some_of : (done : List Line) (P : List ℕ → Type 0)
           → ((i : List ℕ) → P i → AreFirstOf IsJoinStep (seen lines_limit i) done)
           → (parting : List ℕ)
-          → IsWelcome name link first (at start) welcome
+          → IsWelcome name link first (seen_at start) welcome
           → HasDone see start done now → IfSome input P
-          → ((i : List ℕ) (j : Joining) → P i → (at now).client ≡ j.client
+          → ((i : List ℕ) (j : Joining) → P i → (seen_at now).client ≡ j.client
           → IsParting i done (Goes j []) parting)
-          → GrowsByPrefix (at now).written sent parting
+          → GrowsByPrefix (seen_at now).written sent parting
           → WhereKnown over (WritesPart name over)
       some_of done P prefix parting is has holds parts writes =
           when_known input link (WritesPart name over) (λ i l input_is link_is.
           let here : P i = said_of P input i input_is holds in
-          part_of i l over done parting refl refl refl
-          (known_welcome name link first (at start) welcome l link_is is) has
+          part_of i l over done parting refl refl refl refl
+          (known_welcome name link first (seen_at start) welcome l link_is is) has
           (prefix i here) (λ j client. parts i j here client) writes)
 
       -- the client says that it leaves
       says_farewell : (done : List Line) (before after : ℕ) (end : RunEnd) → IsAtEnd left
-          → IsWelcome name link first (at start) welcome
+          → IsWelcome name link first (seen_at start) welcome
           → HasDone see start done now
           → IfSome input (λ bytes. LinesComeTo IsJoinStep lines_limit bytes done ends.AllDone)
-          → SaysFarewell (at now).written sent before after (at now).client.user end
+          → SaysFarewell (seen_at now).written sent before after (seen_at now).client.user end
           → JoinLeaves name over end
       says_farewell done before after end at_end is has comes (inl (end_is, writes, kept)) =
           subst (JoinLeaves name over) (sym end_is) (
             at_end,
-            all_of done ends.AllDone (farewell_bytes (at now).client.user) run.Done is has comes
+            all_of done ends.AllDone (farewell_bytes (seen_at now).client.user) run.Done is has
+                comes
                 writes (λ j client.
                 ap (λ c. record {
                   text = j.text;
                   written = j.written ++ farewell_bytes c.user;
+                  due = j.due;
                   end = run.Done;
                 }) (sym client)),
           )
@@ -331,32 +344,42 @@ module _ {M O D T : Type 0} (see : M → O → Seen) where
           =
           subst (JoinLeaves name over) (sym end_is)
           (some_of done (λ b. LinesComeTo IsJoinStep lines_limit b done ends.AllDone)
-          (λ i. first_of_all i done) (farewell_bytes (at now).client.user) is has comes
+          (λ i. first_of_all i done) (farewell_bytes (seen_at now).client.user) is has comes
           (λ i j all client. inr (all, j, [], refl, ap (λ c. farewell_bytes c.user) client)) writes)
       says_farewell done before after end at_end is has comes (inr (inr (end_is, writes, kept))) =
           subst (JoinLeaves name over) (sym end_is)
           (some_of done (λ b. LinesComeTo IsJoinStep lines_limit b done ends.AllDone)
-          (λ i. first_of_all i done) (farewell_bytes (at now).client.user) is has comes
+          (λ i. first_of_all i done) (farewell_bytes (seen_at now).client.user) is has comes
           (λ i j all client. inr (all, j, [], refl, ap (λ c. farewell_bytes c.user) client)) writes)
+
+      -- the client as it is after these lines with these entries
+      abbrev came : List JoinAction → List Entry → Joining
+      came actions given =
+          came_to (along actions (takeable given) (newcomer (seen_at start).client name))
 
       -- the next line was stopped
       stopped_part : (done : List Line) (line : Line) (stop : JoinStop)
-          → IsWelcome name link first (at start) welcome
+          → IsWelcome name link first (seen_at start) welcome
           → (has : HasEnded see start done line now stop)
           → IfSome input (λ bytes. IsNextOf IsJoinStep (seen lines_limit bytes) done line)
-          → sent ≡ (at now).written
+          → sent ≡ (seen_at now).written
           → ((bytes : List ℕ) → Shows bytes (welcome ∷ has.given) stop
           → BeginsWith bytes (welcome ∷ has.given))
-          → Began first (at now) (progress_text (along has.actions (takeable has.given)
-          (newcomer (at start).client name))) (progress_written (along has.actions
-          (takeable has.given) (newcomer (at start).client name)))
+          → (Wrote first (seen_at now) (came has.actions has.given).text
+          (came has.actions has.given).written stop
+          → Began first (seen_at now) (came has.actions has.given).text
+          (came has.actions has.given).written)
           → WhereKnown over (WritesPart name over)
-      stopped_part done line stop is has next same begins began =
+      stopped_part done line stop is has next same begins began_of =
           when_known input link (WritesPart name over) (λ i l input_is link_is.
-          let known = known_welcome name link first (at start) welcome l link_is is in
-          let progress = along has.actions (takeable has.given) (newcomer (at start).client name) in
+          let known = known_welcome name link first (seen_at start) welcome l link_is is in
+          let progress = along has.actions (takeable has.given) (newcomer (seen_at start).client
+          name)
+          in
+          let stops = (has.stops first (newcomer (seen_at start).client name) is.stands).stops in
+          let began = began_of stops.wrote in
           let joins : joined name has.actions (welcome ∷ has.given) ≡ progress =
-          joined_from name (Some l) first (at start) welcome has.actions has.given known in
+          joined_from name (Some l) first (seen_at start) welcome has.actions has.given known in
           record {
             begun = has.begun;
             prefix = first_of_begun further i done line has.begun has.is_begun
@@ -367,37 +390,39 @@ module _ {M O D T : Type 0} (see : M → O → Seen) where
             entries = welcome ∷ has.given;
             begins = begins l (has.reads l (welcome ∷ []) known.has_given is.still);
             text =
-                subst (λ w. GrowsByPrefix first.printed (at now).printed (progress_text w))
+                subst (λ w. GrowsByPrefix first.printed (seen_at now).printed (came_to w).text)
                 (sym joins)
                 began.printed;
             parting = [];
             is_parting = inl refl;
             written =
                 subst (GrowsByPrefix first.written sent) (sym (append-nil _))
-                (subst (λ w. GrowsByPrefix first.written sent (progress_written w)) (sym joins)
-                (subst (λ s. GrowsByPrefix first.written s (progress_written progress)) (sym same)
+                (subst (λ w. GrowsByPrefix first.written sent (came_to w).written) (sym joins)
+                (subst (λ s. GrowsByPrefix first.written s (came_to progress).written) (sym same)
                 began.sent));
+            counts =
+                subst (λ w. DrawsFew (counters_at first (seen_at now)) (came_to w).due) (sym joins)
+                stops.counts;
           })
 
       -- the link gave no entry more
       stopped_all : (done : List Line) (line : Line) (why : LinkCause)
-          → IsWelcome name link first (at start) welcome
+          → IsWelcome name link first (seen_at start) welcome
           → HasEnded see start done line now (stop.NoEntry why)
           → IfSome input (λ bytes. IsNextOf IsJoinStep (seen lines_limit bytes) done line)
-          → sent ≡ (at now).written
+          → sent ≡ (seen_at now).written
           → WritesAll name over (link_end why)
       stopped_all done line why is has next same =
           when_known input link (λ i l. (outcome : JoinOutcome) × JoinComesTo name i l outcome
-          × (outcome.end ≡ link_end why) × Appends first.printed (at now).printed outcome.text
-          × Appends first.written sent outcome.written) (λ i l input_is link_is.
-          let known = known_welcome name link first (at start) welcome l link_is is in
-          let progress = along has.actions (takeable has.given) (newcomer (at start).client name) in
-          let stops = has.stops first (newcomer (at start).client name) is.stands in (
-            record {
-              text = progress_text progress;
-              written = progress_written progress;
-              end = link_end why;
-            },
+          × (outcome.end ≡ link_end why) × Appends first.printed (seen_at now).printed outcome.text
+          × Appends first.written sent outcome.written
+          × DrawsFew (counters_at first (seen_at now)) outcome.due) (λ i l input_is link_is.
+          let known = known_welcome name link first (seen_at start) welcome l link_is is in
+          let progress = along has.actions (takeable has.given) (newcomer (seen_at start).client
+          name)
+          in
+          let stops = has.stops first (newcomer (seen_at start).client name) is.stands in (
+            link_outcome why (came_to progress),
             inr (record {
               begun = has.begun;
               prefix = first_of_begun further i done line has.begun has.is_begun
@@ -406,17 +431,20 @@ module _ {M O D T : Type 0} (see : M → O → Seen) where
               actions = has.actions;
               asked = has.asked;
               entries = welcome ∷ has.given;
+              waiting = came_to progress;
               waits =
-                  joined_from name (Some l) first (at start) welcome has.actions has.given known
+                  joined_from name (Some l) first (seen_at start) welcome has.actions has.given
+                  known
                   ∙ stops.waits tt;
               why = why;
               ends = has.reads l (welcome ∷ []) known.has_given is.still;
-              end_is = refl;
+              outcome_is = refl;
             }),
             refl,
-            stops.wrote.0,
-            subst (λ s. Appends first.written s (progress_written progress)) (sym same)
-                stops.wrote.1,
+            stops.stops.wrote.0,
+            subst (λ s. Appends first.written s (came_to progress).written) (sym same)
+                stops.stops.wrote.1,
+            stops.stops.counts,
           ))
 
       link_leaves : (why : LinkCause) → WritesAll name over (link_end why)
@@ -426,10 +454,10 @@ module _ {M O D T : Type 0} (see : M → O → Seen) where
       link_leaves cause.Long all = all
 
       pub leaves_of : (ended : ScriptEnd JoinStop) (before after : ℕ) (end : RunEnd)
-          → IsWelcome name link first (at start) welcome
+          → IsWelcome name link first (seen_at start) welcome
           → ScriptLeaves IsJoinStep (HasDone see) (HasEnded see) lines_limit input left start now
           ended
-          → TakesLeave (at now).written sent before after (at now).client.user ended end
+          → TakesLeave (seen_at now).written sent before after (seen_at now).client.user ended end
           → JoinLeaves name over end
       leaves_of Done before after end is (at_end, done, has, comes) parts =
           says_farewell done before after end at_end is has comes parts
@@ -439,8 +467,8 @@ module _ {M O D T : Type 0} (see : M → O → Seen) where
       leaves_of ReadFault before after end is (done, has, took) parts =
           subst (JoinLeaves name over) (sym parts.end_is)
           (when_known input link (WritesTaken name over) (λ i l input_is link_is.
-          taken_of i l over done refl refl refl parts.bytes
-          (known_welcome name link first (at start) welcome l link_is is) has
+          taken_of i l over done refl refl refl parts.bytes refl
+          (known_welcome name link first (seen_at start) welcome l link_is is) has
           (said_of (λ b. TookWithin (HoldsLines IsJoinStep lines_limit done) 0 b left) input i
           input_is took)))
       leaves_of Long before after end is (done, has, comes) parts =
@@ -450,55 +478,56 @@ module _ {M O D T : Type 0} (see : M → O → Seen) where
           subst (JoinLeaves name over) (sym parts.end_is)
           (some_of done (λ b. AreFirstOf IsJoinStep (seen lines_limit b) done) (λ i f. f) [] is has
           prefix (λ i j f client. inl refl)
-          (subst (λ s. GrowsByPrefix (at now).written s []) (sym parts.bytes)
-          (grows_not (at now).written [])))
+          (subst (λ s. GrowsByPrefix (seen_at now).written s []) (sym parts.bytes)
+          (grows_not (seen_at now).written [])))
       leaves_of (Ended stop.WriteFault) before after end is (done, line, has, next) parts =
           subst (JoinLeaves name over) (sym parts.end_is)
           (stopped_part done line stop.WriteFault is has next parts.bytes (λ b shows. shows)
-          (has.stops first (newcomer (at start).client name) is.stands).wrote)
+          (λ wrote. wrote))
       leaves_of (Ended stop.LinkFault) before after end is (done, line, has, next) parts =
           subst (JoinLeaves name over) (sym parts.end_is)
           (stopped_part done line stop.LinkFault is has next parts.bytes (λ b shows. shows)
-          (has.stops first (newcomer (at start).client name) is.stands).wrote)
+          (λ wrote. wrote))
       leaves_of (Ended stop.Memory) before after end is (done, line, has, next) parts =
           subst (JoinLeaves name over) (sym parts.end_is)
           (stopped_part done line stop.Memory is has next parts.bytes (λ b shows. shows)
-          (has.stops first (newcomer (at start).client name) is.stands).wrote)
+          (λ wrote. wrote))
       leaves_of (Ended (stop.NoEntry why)) before after end is (done, line, has, next) parts =
           subst (JoinLeaves name over) (sym parts.end_is)
           (link_leaves why (stopped_all done line why is has next parts.bytes))
 
     -- ---- counts of faults
 
-    stop_later : (why : JoinStop) → FaultMatchesStop first (at now) why
-        → first.print_faults ≤ (at now).print_faults
+    stop_later : (why : JoinStop) → FaultMatchesStop first (seen_at now) why
+        → first.print_faults ≤ (seen_at now).print_faults
     stop_later stop.WriteFault fault = fault.1
     stop_later stop.LinkFault fault = omega (arith, fault.0)
     stop_later stop.Memory faultless = omega (arith, faultless.print)
     stop_later (stop.NoEntry why) faultless = omega (arith, faultless.print)
 
     done_later : (link : Option (List ℕ)) (done : List Line)
-        → IsWelcome name link first (at start) welcome → HasDone see start done now
-        → first.print_faults ≤ (at now).print_faults
+        → IsWelcome name link first (seen_at start) welcome → HasDone see start done now
+        → first.print_faults ≤ (seen_at now).print_faults
     done_later link done is has =
         omega (
           arith,
-          (has.goes first (newcomer (at start).client name) is.stands).stands.faultless.print,
+          (has.goes first (newcomer (seen_at start).client name) is.stands).stands.faultless.print,
         )
 
     -- the count of the output's faults never falls
     pub later_of : (input left link : Option (List ℕ)) (ended : ScriptEnd JoinStop)
-        → IsWelcome name link first (at start) welcome
+        → IsWelcome name link first (seen_at start) welcome
         → ScriptLeaves IsJoinStep (HasDone see) (HasEnded see) lines_limit input left start now
         ended
-        → first.print_faults ≤ (at now).print_faults
+        → first.print_faults ≤ (seen_at now).print_faults
     later_of input left link Done is (at_end, done, has, comes) = done_later link done is has
     later_of input left link (BadLine n) is (done, has, comes) = done_later link done is has
     later_of input left link ReadFault is (done, has, took) = done_later link done is has
     later_of input left link Long is (done, has, comes) = done_later link done is has
     later_of input left link Memory is (done, has, prefix) = done_later link done is has
     later_of input left link (Ended why) is (done, line, has, next) =
-        stop_later why (has.stops first (newcomer (at start).client name) is.stands).fault
+        stop_later why (has.stops first (newcomer (seen_at start).client name)
+        is.stands).stops.fault
 
     module _ (before after sink : ℕ) where
       abbrev counted : Counts
@@ -512,12 +541,12 @@ module _ {M O D T : Type 0} (see : M → O → Seen) where
       abbrev counts : Counts
       counts = record {
         input = after;
-        output = (at now).print_faults;
-        source = (at now).source.faults;
+        output = (seen_at now).print_faults;
+        source = (seen_at now).source.faults;
         sink = sink;
       }
 
-      others_stay : IsFaultless first (at now) → sink ≡ (at now).write_faults
+      others_stay : IsFaultless first (seen_at now) → sink ≡ (seen_at now).write_faults
           → OthersStay counted counts
       others_stay faultless same = record {
         output = faultless.print;
@@ -526,8 +555,8 @@ module _ {M O D T : Type 0} (see : M → O → Seen) where
       }
 
       farewell_fault : (sent : Option (List ℕ)) (user : ℕ) (end : RunEnd)
-          → after ≡ before → IsFaultless first (at now)
-          → SaysFarewell (at now).written sent (at now).write_faults sink user end
+          → after ≡ before → IsFaultless first (seen_at now)
+          → SaysFarewell (seen_at now).written sent (seen_at now).write_faults sink user end
           → FaultMatchesJoin counted counts end
       farewell_fault sent user end input faultless (inl (is, writes, kept)) =
           subst (FaultMatchesJoin counted counts) (sym is) (input, others_stay faultless kept)
@@ -543,8 +572,8 @@ module _ {M O D T : Type 0} (see : M → O → Seen) where
       link_fault (cause.BadMessage n) input others = (input, others)
       link_fault cause.Long input others = (input, others)
 
-      stop_fault : (why : JoinStop) → after ≡ before → sink ≡ (at now).write_faults
-          → FaultMatchesStop first (at now) why → FaultMatchesJoin counted counts (end_of why)
+      stop_fault : (why : JoinStop) → after ≡ before → sink ≡ (seen_at now).write_faults
+          → FaultMatchesStop first (seen_at now) why → FaultMatchesJoin counted counts (end_of why)
       stop_fault stop.WriteFault input same (rose, later, write, read) =
           (input, rose, read, same ∙ write)
       stop_fault stop.LinkFault input same (print, write, read, inl rose) =
@@ -556,46 +585,46 @@ module _ {M O D T : Type 0} (see : M → O → Seen) where
           link_fault why input (others_stay faultless same)
 
       pub fault_matches_of : (input left link sent : Option (List ℕ)) (ended : ScriptEnd JoinStop)
-          (user : ℕ) (end : RunEnd) → IsWelcome name link first (at start) welcome
+          (user : ℕ) (end : RunEnd) → IsWelcome name link first (seen_at start) welcome
           → ScriptLeaves IsJoinStep (HasDone see) (HasEnded see) lines_limit input left start now
           ended
           → FaultMatchesInput before after ended
-          → TakesLeave (at now).written sent (at now).write_faults sink user ended end
+          → TakesLeave (seen_at now).written sent (seen_at now).write_faults sink user ended end
           → FaultMatchesJoin counted counts end
       fault_matches_of input left link sent Done user end is (at_end, done, has, comes) fault
           parts =
           farewell_fault sent user end fault
-          (has.goes first (newcomer (at start).client name) is.stands).stands.faultless parts
+          (has.goes first (newcomer (seen_at start).client name) is.stands).stands.faultless parts
       fault_matches_of input left link sent (BadLine n) user end is (done, has, comes) fault parts =
           subst (FaultMatchesJoin counted counts) (sym parts.end_is) (
             fault,
             others_stay
-                (has.goes first (newcomer (at start).client name) is.stands).stands.faultless
+                (has.goes first (newcomer (seen_at start).client name) is.stands).stands.faultless
                 parts.kept,
           )
       fault_matches_of input left link sent ReadFault user end is (done, has, took) fault parts =
           subst (FaultMatchesJoin counted counts) (sym parts.end_is) (
             fault,
             others_stay
-                (has.goes first (newcomer (at start).client name) is.stands).stands.faultless
+                (has.goes first (newcomer (seen_at start).client name) is.stands).stands.faultless
                 parts.kept,
           )
       fault_matches_of input left link sent Long user end is (done, has, comes) fault parts =
           subst (FaultMatchesJoin counted counts) (sym parts.end_is) (
             fault,
             others_stay
-                (has.goes first (newcomer (at start).client name) is.stands).stands.faultless
+                (has.goes first (newcomer (seen_at start).client name) is.stands).stands.faultless
                 parts.kept,
           )
       fault_matches_of input left link sent Memory user end is (done, has, prefix) fault parts =
           subst (FaultMatchesJoin counted counts) (sym parts.end_is) (
             fault,
             others_stay
-                (has.goes first (newcomer (at start).client name) is.stands).stands.faultless
+                (has.goes first (newcomer (seen_at start).client name) is.stands).stands.faultless
                 parts.kept,
           )
       fault_matches_of input left link sent (Ended why) user end is (done, line, has, next) fault
           parts =
           subst (FaultMatchesJoin counted counts) (sym parts.end_is)
           (stop_fault why fault parts.kept
-          (has.stops first (newcomer (at start).client name) is.stands).fault)
+          (has.stops first (newcomer (seen_at start).client name) is.stands).stops.fault)

@@ -11,4 +11,5 @@ pub mod Prefixes
 pub mod Unique
 pub mod OneOutcome
 pub mod EachOutcome
+pub mod Begun
 pub mod RunGiven

@@ -2,7 +2,6 @@
 use Rattle.std.proofs.Common.{◌≡◌, ◌⊎◌, inl, inr, ℕ, true, false, List, [], ◌∷◌, ◌++◌, refl, sym}
 use Rattle.std.proofs.Common.{ap}
 use Rattle.std.proofs.Common.{◌∙◌, subst}
-use Rattle.std.specs.Prelude.{Option, IsTrue}
 use Rattle.std.proofs.lemmas.List.{append_assoc, append-nil}
 use Rattle.dp_lines.specs.declared.line.Line.{Line}
 use Rattle.dp_lines.specs.declared.run_end.RunEnd.{RunEnd}
@@ -15,10 +14,10 @@ use Rattle.dp_schedule.specs.JoinGrammar.{Asks}
 use Rattle.dp_script.specs.Leaves.{AreFirstOf}
 use Rattle.dp_joining.specs.declared.stops.LinkCause.{LinkCause}
 use Rattle.dp_joining.specs.declared.stops.LinkCause.TheVariants as cause
-use Rattle.dp_joining.specs.Joining.{Joining, Progress, Goes, Waits, is_closed, joined}
+use Rattle.dp_joining.specs.Joining.{Joining, Goes, Waits, is_closed, joined}
 use Rattle.dp_joining.specs.Outcomes.{AllAsk, BeginsWith, EndsByLink, EndsByScript, EndsLink}
-use Rattle.dp_joining.specs.Outcomes.{IsJoinStep, JoinComesTo, LinkComesTo, JoinOutcome, link_end}
-use Rattle.dp_joining.specs.Outcomes.{script_outcome}
+use Rattle.dp_joining.specs.Outcomes.{IsJoinStep, JoinComesTo, LinkComesTo, JoinOutcome}
+use Rattle.dp_joining.specs.Outcomes.{link_outcome, script_outcome}
 use Rattle.dp_script.specs.Limits.{lines_limit}
 use Rattle.dp_joining.proofs.Along.{closed-longer}
 use Rattle.dp_joining.proofs.Prefixes.{IsFirstOf, Laws, begin_alike, first_more, first_nil}
@@ -43,7 +42,7 @@ pub record AllLaws : Type 0 where
 
 -- ---- lines
 
-lists_alike : {X : Type 0} (xs ys us vs : List X) → xs ++ us ≡ ys ++ vs
+pub lists_alike : {X : Type 0} (xs ys us vs : List X) → xs ++ us ≡ ys ++ vs
     → IsFirstOf xs ys ⊎ IsFirstOf ys xs
 lists_alike [] ys us vs whole = inl (first_nil ys)
 lists_alike (x ∷ xs) [] us vs whole = inr (first_nil (x ∷ xs))
@@ -77,7 +76,7 @@ asked_first laws (line ∷ lines) more (a ∷ actions) (b ∷ others) (here, ask
     (first_more b actions others (asked_first laws lines more actions others asked asks))
 
 -- the same of lines that are the first of others
-asked_alike : AllLaws → (lines others : List Line) (actions more : List JoinAction)
+pub asked_alike : AllLaws → (lines others : List Line) (actions more : List JoinAction)
     → IsFirstOf lines others → AllAsk lines actions → AllAsk others more → IsFirstOf actions more
 asked_alike laws lines others actions more first asked asks =
     asked_first laws lines first.rest actions more asked
@@ -110,7 +109,7 @@ past_bad begun done line after rest (next ∷ more) is steps whole bad =
     absurd (bad (subst (IsDoable IsJoinStep done) same (steps done next more is)))
 
 -- steps that are the first lines are the first of those that are done
-first_within : (input : List ℕ) (begun done : List Line) (last : LinesEnd)
+pub first_within : (input : List ℕ) (begun done : List Line) (last : LinesEnd)
     → AreFirstOf IsJoinStep (seen lines_limit input) begun
     → LinesComeTo IsJoinStep lines_limit input done last → IsFirstOf begun done
 first_within input begun done ends.AllDone prefix comes =
@@ -155,25 +154,25 @@ not_closed laws link es ds end begins closed comes still =
     cc (sym still ∙ too)
 
 -- the cause that comes of an end of the bytes
-by_end : RunEnd → LinkCause
+pub by_end : RunEnd → LinkCause
 by_end (run.BadMessage n) = cause.BadMessage n
 by_end run.Long = cause.Long
 by_end end = cause.Closed
 
 -- it was closed
-record IsClosed (link : List ℕ) (es : List Entry) (why : LinkCause) : Type 0 where
-  begins : BeginsWith link es
-  closed : is_closed es ≡ true
-  is : why ≡ cause.Closed
+pub record IsClosed (link : List ℕ) (es : List Entry) (why : LinkCause) : Type 0 where
+  pub begins : BeginsWith link es
+  pub closed : is_closed es ≡ true
+  pub is : why ≡ cause.Closed
 
 -- its bytes came to an end
-record IsEnded (link : List ℕ) (es : List Entry) (why : LinkCause) : Type 0 where
-  still : is_closed es ≡ false
-  end : RunEnd
-  comes : LinkComesTo link es end
-  is : why ≡ by_end end
+pub record IsEnded (link : List ℕ) (es : List Entry) (why : LinkCause) : Type 0 where
+  pub still : is_closed es ≡ false
+  pub end : RunEnd
+  pub comes : LinkComesTo link es end
+  pub is : why ≡ by_end end
 
-ends_by : (link : List ℕ) (es : List Entry) (why : LinkCause) → EndsLink link es why
+pub ends_by : (link : List ℕ) (es : List Entry) (why : LinkCause) → EndsLink link es why
     → IsClosed link es why ⊎ IsEnded link es why
 unfolding by_end
 ends_by link es cause.Closed (inl (begins, closed)) =
@@ -207,16 +206,16 @@ ends_same laws name actions link es ds why other (inr a) (inr b) = record {
 
 -- where lines wait at an end of the link, they aren't all done over other entries of it
 waits_not_goes : AllLaws → (name : List ℕ) (actions : List JoinAction) (link : List ℕ)
-    (es ds : List Entry) (text written : List ℕ) (j : Joining) (left : List Entry)
-    (why : LinkCause) → joined name actions es ≡ Waits text written
+    (es ds : List Entry) (waiting j : Joining) (left : List Entry)
+    (why : LinkCause) → joined name actions es ≡ Waits waiting
     → IsClosed link es why ⊎ IsEnded link es why
     → BeginsWith link ds → joined name actions ds ≡ Goes j left → ⊥
-waits_not_goes laws name actions link es ds text written j left why waits (inl a) begins goes =
+waits_not_goes laws name actions link es ds waiting j left why waits (inl a) begins goes =
     elim (begin_alike laws.frames link es ds a.begins begins) [
       | inl first ↦ cc (sym waits ∙ sym (joined_closed name actions es ds a.closed first) ∙ goes)
       | inr first ↦ cc (sym waits ∙ (joined_goes name actions ds es j left first goes).1)
     ]
-waits_not_goes laws name actions link es ds text written j left why waits (inr a) begins goes =
+waits_not_goes laws name actions link es ds waiting j left why waits (inr a) begins goes =
     let first = within_all laws.frames link ds es a.end begins a.comes in
     cc (sym waits ∙ (joined_goes name actions ds es j left first goes).1)
 
@@ -249,11 +248,11 @@ script_or_link : AllLaws → (name input link : List ℕ) (a b : JoinOutcome)
 script_or_link laws name input link a b x y =
     let lines = first_within input y.begun x.done x.last y.prefix x.comes in
     let actions = asked_alike laws y.begun x.done y.actions x.actions lines y.asked x.asked in
-    let waits : joined name x.actions y.entries ≡ Waits b.text b.written =
+    let waits : joined name x.actions y.entries ≡ Waits y.waiting =
     ap (λ (acts : List JoinAction). joined name acts y.entries) actions.whole
-    ∙ joined_waits name y.actions actions.rest y.entries b.text b.written y.waits in
-    waits_not_goes laws name x.actions link y.entries x.entries b.text b.written x.joining x.left
-    y.why waits (ends_by link y.entries y.why y.ends) x.begins x.goes
+    ∙ joined_waits name y.actions actions.rest y.entries y.waiting y.waits in
+    waits_not_goes laws name x.actions link y.entries x.entries y.waiting x.joining x.left y.why
+    waits (ends_by link y.entries y.why y.ends) x.begins x.goes
 
 -- two waits, of which the first is of the first of the lines of the second
 by_longer : AllLaws → (name input link : List ℕ) (a b : JoinOutcome)
@@ -261,19 +260,15 @@ by_longer : AllLaws → (name input link : List ℕ) (a b : JoinOutcome)
     → IsFirstOf x.begun y.begun → a ≡ b
 by_longer laws name input link a b x y lines =
     let actions = asked_alike laws x.begun y.begun x.actions y.actions lines x.asked y.asked in
-    let waits : joined name y.actions x.entries ≡ Waits a.text a.written =
+    let waits : joined name y.actions x.entries ≡ Waits x.waiting =
     ap (λ (acts : List JoinAction). joined name acts x.entries) actions.whole
-    ∙ joined_waits name x.actions actions.rest x.entries a.text a.written x.waits in
+    ∙ joined_waits name x.actions actions.rest x.entries x.waiting x.waits in
     let alike = ends_same laws name y.actions link x.entries y.entries x.why y.why
     (ends_by link x.entries x.why x.ends) (ends_by link y.entries y.why y.ends) in
-    let progress : Waits a.text a.written ≡ Waits b.text b.written =
-    sym waits ∙ alike.progress ∙ y.waits in
-    let text : a.text ≡ b.text = cc (progress) in
-    let written : a.written ≡ b.written = cc (progress) in
-    let end : a.end ≡ b.end = x.end_is ∙ ap link_end alike.cause ∙ sym y.end_is in
-    ap (λ (t : List ℕ). record { text = t; written = a.written; end = a.end }) text
-    ∙ ap (λ (w : List ℕ). record { text = b.text; written = w; end = a.end }) written
-    ∙ ap (λ (e : RunEnd). record { text = b.text; written = b.written; end = e }) end
+    let progress : Waits x.waiting ≡ Waits y.waiting = sym waits ∙ alike.progress ∙ y.waits in
+    let same : x.waiting ≡ y.waiting = cc (progress) in
+    x.outcome_is ∙ ap (λ (why : LinkCause). link_outcome why x.waiting) alike.cause
+    ∙ ap (link_outcome y.why) same ∙ sym y.outcome_is
 
 by_links : AllLaws → (name input link : List ℕ) (a b : JoinOutcome)
     → EndsByLink name input link a → EndsByLink name input link b → a ≡ b

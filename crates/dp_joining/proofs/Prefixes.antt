@@ -1,15 +1,13 @@
 -- Entries with which the bytes of one link begin.
-use Rattle.std.proofs.Common.{◌≡◌, ◌≢◌, ◌⊎◌, inl, inr, ℕ, ◌+◌, ◌-◌, ◌<◌, ◌≤◌, List, [], ◌∷◌, ◌++◌}
-use Rattle.std.proofs.Common.{length, take, drop, refl, sym, ap, ◌∙◌, subst, append_assoc, arith}
-use Rattle.std.proofs.Common.{length-append}
+use Rattle.std.proofs.Common.{◌≡◌, ◌⊎◌, inl, inr, ℕ, ◌+◌, ◌-◌, List, [], ◌∷◌, ◌++◌}
+use Rattle.std.proofs.Common.{length, take, refl, sym, ap, ◌∙◌, subst, append_assoc, arith}
 use Rattle.std.specs.List.{AllByRecursion, flat_map}
 use Rattle.std.proofs.Math.Seq.{take-append-add}
-use Rattle.std.proofs.lemmas.List.{take_all}
 use Rattle.dp_frame.specs.Frames.{FrameParts, IsFrame, spelling, HoldsNoFrame}
 use Rattle.dp_messages.specs.declared.message.Entry.{Entry}
 use Rattle.dp_lines.specs.declared.run_end.RunEnd.{RunEnd}
 use Rattle.dp_lines.specs.declared.run_end.RunEnd.TheVariants as run
-use Rattle.dp_entries.specs.Input.{StandFor, Tells, TellsUpTo}
+use Rattle.dp_entries.specs.Input.{StandFor}
 use Rattle.dp_joining.specs.JoinStanding.{StandsOnLink}
 use Rattle.dp_joining.specs.Outcomes.{BeginsWith, LinkComesTo}
 use Rattle.dp_io.specs.Limits.{stream_limit}

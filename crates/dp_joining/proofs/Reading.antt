@@ -20,7 +20,6 @@ use Rattle.dp_entries.specs.Reading.{FaultMatchesReadEnd, EndsReading}
 use Rattle.dp_joining.specs.declared.join_standing.LinkFlaw.{LinkFlaw}
 use Rattle.dp_joining.specs.declared.stops.LinkCause.TheVariants as cause
 use Rattle.dp_joining.specs.declared.stops.JoinStop.{JoinStop}
-use Rattle.dp_joining.specs.declared.stops.JoinStop.TheVariants.{Memory}
 use Rattle.dp_joining.specs.declared.stops.JoinStop.TheVariants.{NoEntry}
 use Rattle.dp_joining.specs.Joining.{is_closed, takeable}
 use Rattle.dp_joining.specs.JoinStanding.{IsFlaw, StandsOnLink, is_ping}

@@ -4,7 +4,8 @@ use Rattle.std.specs.Prelude.{Option, Some, None, IfSome}
 use Rattle.std.specs.Io.KnownBytes.{Appends}
 use Rattle.dp_joining.specs.Leaves.{Counts, FaultMatchesJoin, JoinLeaves, Traffic, WritesAll}
 use Rattle.dp_joining.specs.Outcomes.{JoinComesTo, JoinOutcome}
-use Rattle.dp_joining.specs.Runs.{Ends, Returns, RunLeaves}
+use Rattle.dp_joining.specs.Runs.{Ends, Returns, RunLeaves, traffic_of}
+use Rattle.dp_joining.specs.Steps.{DrawsFew}
 use Rattle.dp_lines.specs.declared.run_end.RunEnd.{RunEnd}
 use Rattle.dp_lines.specs.declared.run_end.RunEnd.TheVariants.{Done, ReadFault, WriteFault}
 use Rattle.dp_lines.specs.declared.run_end.RunEnd.TheVariants.{LinkFault, Memory, Truncated}
@@ -25,6 +26,7 @@ abbrev pub Writes : List ℕ → Traffic → RunEnd → List ℕ → List ℕ �
 Writes name t end input link =
     (outcome : JoinOutcome) × JoinComesTo name input link outcome × (outcome.end ≡ end)
     × Appends t.print_old t.print_now outcome.text × Appends t.sent_old t.sent_now outcome.written
+    × DrawsFew t.counters outcome.due
 
 writes-all : (name : List ℕ) (t : Traffic) (end : RunEnd) (input link : List ℕ)
     → t.input ≡ Some input → t.link ≡ Some link → WritesAll name t end
@@ -95,13 +97,5 @@ module _ (P : RunEnd → Type 0) (read : P ReadFault → ⊥) (write : P WriteFa
       let handed = next-of links now known (over.rx, over.tx) (over.rx_now, over.tx_now) told
       over.returned in
       let same : over.rx ≡ rx = ap (source-of over.rx) (sym handed.1 ∙ next) in
-      let traffic : Traffic = record {
-        input = ends.input;
-        left = ends.input_now;
-        link = left over.rx;
-        print_old = ends.output;
-        print_now = ends.output_now;
-        sent_old = held over.tx;
-        sent_now = held over.tx_now;
-      } in
+      let traffic = traffic_of (left over.rx) (held over.tx) (held over.tx_now) ends in
       join-given name traffic end input link bytes (ap left same ∙ holds) over.leaves p

@@ -1,15 +1,19 @@
 -- How a run over a link begins.
-use Rattle.std.proofs.Common.{◌≡◌, ◌⊎◌, inl, inr, ℕ, ◌≤◌, List, [], ◌∷◌, ◌++◌, refl, sym, ap, ◌∙◌}
-use Rattle.std.proofs.Common.{subst}
-use Rattle.std.specs.Prelude.{Option, Some, None, IfSome}
+use Rattle.std.proofs.Common.{◌≡◌, inl, inr, ℕ, List, [], ◌∷◌, ◌++◌, refl, sym, ap, ◌∙◌}
+use Rattle.std.proofs.Common.{arith, subst}
+use Rattle.std.specs.Prelude.{Option, Some, None, IfSome, IsTrue}
 use Rattle.std.specs.Io.KnownBytes.{Appends}
 use Rattle.std.proofs.KnownBytes.{Appends-nil}
 use Rattle.std.proofs.lemmas.List.{append-nil}
 use Rattle.circular_buffer.specs.Buffer.{buffer}
+use Rattle.dp_board.specs.Counts.{CountsFew}
 use Rattle.dp_client.specs.Client.{State}
 use Rattle.dp_io.specs.Streams.{GrowsByPrefix}
 use Rattle.dp_lines.specs.declared.line.Line.{Line}
-use Rattle.dp_lines.specs.Ends.{AreSteps, IsDoable, seen}
+use Rattle.dp_lines.specs.Ends.{AreSteps, seen}
+use Rattle.dp_lines.specs.Lines.{ended, is_overlong, numbered, open_rest}
+use Rattle.dp_pixels.specs.Feet.{reach}
+use Rattle.dp_script.specs.Counters.{Counters, NothingIsDrawn}
 use Rattle.dp_script.specs.Leaves.{AreFirstOf}
 use Rattle.dp_wire.specs.Links.{HandsOut, Links, WhereKnown as WhereLinks}
 use Rattle.dp_joining.specs.Runs.{Returns}
@@ -18,17 +22,18 @@ use Rattle.dp_joining.specs.declared.stops.JoinStop.TheVariants.{WriteFault, Lin
 use Rattle.dp_joining.specs.declared.stops.JoinStop.TheVariants.{NoEntry}
 use Rattle.dp_joining.specs.declared.stops.LinkCause.{LinkCause}
 use Rattle.dp_joining.specs.declared.stops.LinkCause.TheVariants as cause
-use Rattle.dp_joining.specs.Greetings.{GreetingFails, Welcomes, newcomer}
-use Rattle.dp_joining.specs.Joining.{Progress, Waits, chat_limit, hello_bytes, joined}
-use Rattle.dp_joining.specs.Leaves.{FaultMatchesJoin, Counts, IsWelcome, JoinLeaves, OthersStay}
-use Rattle.dp_joining.specs.Leaves.{Traffic}
-use Rattle.dp_joining.specs.Leaves.{WritesAll, WritesPart, WhereKnown}
+use Rattle.dp_joining.specs.Greetings.{GreetingFails, Welcomes}
+use Rattle.dp_joining.specs.Joining.{Progress, came_to, caller, chat_limit, hello_bytes}
+use Rattle.dp_joining.specs.Leaves.{FaultMatchesJoin, Counts, IsWelcome, JoinLeaves}
+use Rattle.dp_joining.specs.Leaves.{ReadsNoFurther, Traffic, WaitsUnread, WhereKnown, WritesAll}
+use Rattle.dp_joining.specs.Leaves.{WritesPart}
 use Rattle.dp_joining.specs.Outcomes.{IsJoinStep, BeginsWith, JoinComesTo, JoinOutcome, link_end}
+use Rattle.dp_joining.specs.Outcomes.{link_outcome}
 use Rattle.dp_script.specs.Limits.{lines_limit}
-use Rattle.dp_joining.specs.Scripts.{progress_text, progress_written}
-use Rattle.dp_joining.specs.Steps.{Seen, Shows, Source, Stands}
+use Rattle.dp_joining.specs.Steps.{DrawsFew, Seen, Shows, Source}
 use Rattle.dp_joining.specs.Stops.{end_of}
-use Rattle.dp_joining.proofs.Moving.{grows_not}
+use Rattle.dp_joining.proofs.Moving.{drew_none, grows_not}
+use Rattle.dp_joining.proofs.Reading.{given_begins}
 
 -- ---- welcomed
 
@@ -38,24 +43,30 @@ pub welcome_stands : (name : List ℕ) (left : Option (List ℕ)) (faults : ℕ)
     → start.printed ≡ first.printed → start.print_faults ≡ first.print_faults
     → Appends first.written start.written (hello_bytes name)
     → start.write_faults ≡ first.write_faults → first.source.faults ≡ faults
+    → start.draws ≡ first.draws → start.tiles ≡ first.tiles
     → IsWelcome name left first start welcomes.first
-welcome_stands name left faults first start welcomes chats same print wrote write read = record {
-  greets = welcomes.welcome name;
-  stands = record {
-    client = refl;
-    chats = chats;
-    text = subst (λ (p : Option (List ℕ)). Appends first.printed p []) (sym same)
-        (Appends-nil first.printed);
-    written = wrote;
-    faultless = record {
-      print = print;
-      write = write;
-      read = welcomes.kept ∙ sym read;
-    };
-  };
-  has_given = welcomes.has_given;
-  still = welcomes.still;
-}
+welcome_stands name left faults first start welcomes chats same print wrote write read draws tiles =
+    record {
+      greets = welcomes.welcome name;
+      stands = record {
+        client = refl;
+        chats = chats;
+        text = subst (λ (p : Option (List ℕ)). Appends first.printed p []) (sym same)
+            (Appends-nil first.printed);
+        written = wrote;
+        faultless = record {
+          print = print;
+          write = write;
+          read = welcomes.kept ∙ sym read;
+        };
+        counts =
+            subst (λ (n : ℕ). CountsFew reach [] first.draws n first.tiles start.tiles) (sym draws)
+            (subst (λ (n : ℕ). CountsFew reach [] first.draws first.draws first.tiles n)
+            (sym tiles) (drew_none [] first.draws first.tiles));
+      };
+      has_given = welcomes.has_given;
+      still = welcomes.still;
+    }
 
 -- the same welcome
 pub welcomes_as : (left : Option (List ℕ)) (faults : ℕ) (s t : Source) (c d : State) → t ≡ s
@@ -85,15 +96,22 @@ both_known None link P Q known holds = tt
 both_known (Some i) None P Q known holds = tt
 both_known (Some i) (Some l) P Q known holds = holds i l known
 
+-- nothing was drawn
+drawn_nothing : (c : Counters) → NothingIsDrawn c → DrawsFew c []
+drawn_nothing c (draws, tiles) =
+    subst (λ (n : ℕ). CountsFew reach [] c.draws n c.tiles c.tiles_now) (sym draws)
+    (subst (λ (n : ℕ). CountsFew reach [] c.draws c.draws c.tiles n) (sym tiles)
+    (drew_none [] c.draws c.tiles))
+
 module _ (name : List ℕ) (t : Traffic) (source source_now sink sink_now : ℕ) where
   -- nothing was printed, and a part of the Hello was written
   hello_part : (stop : JoinStop)
       (fails : GreetingFails name t.link t.sent_old t.sent_now source source_now sink sink_now stop)
-      → t.print_now ≡ t.print_old
+      → t.print_now ≡ t.print_old → NothingIsDrawn t.counters
       → ((bytes : List ℕ) → Shows bytes fails.given stop → BeginsWith bytes fails.given)
       → GrowsByPrefix t.sent_old t.sent_now (hello_bytes name)
       → WhereKnown t (WritesPart name t)
-  hello_part stop fails same begins wrote =
+  hello_part stop fails same still begins wrote =
       both_known t.input t.link (WritesPart name t) (λ bytes. Shows bytes fails.given stop)
       fails.reads (λ i l shows. record {
         begun = [];
@@ -103,44 +121,50 @@ module _ (name : List ℕ) (t : Traffic) (source source_now sink sink_now : ℕ)
         entries = fails.given;
         begins = begins l shows;
         text =
-            subst (λ (w : Progress). GrowsByPrefix t.print_old t.print_now (progress_text w))
+            subst (λ (w : Progress). GrowsByPrefix t.print_old t.print_now (came_to w).text)
             (sym (fails.waits []))
             (subst (λ (p : Option (List ℕ)). GrowsByPrefix t.print_old p []) (sym same)
             (grows_not t.print_old []));
         parting = [];
         is_parting = inl refl;
         written =
-            subst (λ (w : Progress). GrowsByPrefix t.sent_old t.sent_now (progress_written w ++ []))
+            subst (λ (w : Progress). GrowsByPrefix t.sent_old t.sent_now ((came_to w).written ++
+            []))
             (sym (fails.waits []))
             (subst (GrowsByPrefix t.sent_old t.sent_now) (sym (append-nil (hello_bytes name)))
             wrote);
+        counts =
+            subst (λ (w : Progress). DrawsFew t.counters (came_to w).due) (sym (fails.waits []))
+            (drawn_nothing t.counters still);
       })
 
   hello_all : (why : LinkCause)
       (fails : GreetingFails name t.link t.sent_old t.sent_now source source_now sink sink_now
       (NoEntry why))
-      → t.print_now ≡ t.print_old → WritesAll name t (link_end why)
-  hello_all why fails same =
+      → t.print_now ≡ t.print_old → NothingIsDrawn t.counters → WritesAll name t (link_end why)
+  hello_all why fails same still =
       both_known t.input t.link (λ i l. (outcome : JoinOutcome) × JoinComesTo name i l outcome
       × (outcome.end ≡ link_end why) × Appends t.print_old t.print_now outcome.text
-      × Appends t.sent_old t.sent_now outcome.written)
+      × Appends t.sent_old t.sent_now outcome.written × DrawsFew t.counters outcome.due)
       (λ bytes. Shows bytes fails.given (NoEntry why)) fails.reads (λ i l shows. (
-        record { text = []; written = hello_bytes name; end = link_end why },
+        link_outcome why (caller name),
         inr (record {
           begun = [];
           prefix = no_lines i;
           actions = [];
           asked = tt;
           entries = fails.given;
+          waiting = caller name;
           waits = fails.waits [];
           why = why;
           ends = shows;
-          end_is = refl;
+          outcome_is = refl;
         }),
         refl,
         subst (λ (p : Option (List ℕ)). Appends t.print_old p []) (sym same)
             (Appends-nil t.print_old),
         fails.wrote,
+        drawn_nothing t.counters still,
       ))
 
   link_leaves : (why : LinkCause) → WritesAll name t (link_end why)
@@ -151,14 +175,14 @@ module _ (name : List ℕ) (t : Traffic) (source source_now sink sink_now : ℕ)
 
   pub failed_leaves : (stop : JoinStop)
       → GreetingFails name t.link t.sent_old t.sent_now source source_now sink sink_now stop
-      → t.print_now ≡ t.print_old → JoinLeaves name t (end_of stop)
-  failed_leaves WriteFault fails same =
-      hello_part WriteFault fails same (λ bytes shows. shows) fails.wrote
-  failed_leaves LinkFault fails same =
-      hello_part LinkFault fails same (λ bytes shows. shows) fails.wrote
-  failed_leaves Memory fails same =
-      hello_part Memory fails same (λ bytes shows. shows) fails.wrote
-  failed_leaves (NoEntry why) fails same = link_leaves why (hello_all why fails same)
+      → t.print_now ≡ t.print_old → NothingIsDrawn t.counters → JoinLeaves name t (end_of stop)
+  failed_leaves WriteFault fails same still =
+      hello_part WriteFault fails same still (λ bytes shows. shows) fails.wrote
+  failed_leaves LinkFault fails same still =
+      hello_part LinkFault fails same still (λ bytes shows. shows) fails.wrote
+  failed_leaves Memory fails same still =
+      hello_part Memory fails same still (λ bytes shows. shows) fails.wrote
+  failed_leaves (NoEntry why) fails same still = link_leaves why (hello_all why fails same still)
 
   module _ (input output : ℕ) where
     abbrev counts : ℕ → ℕ → Counts
@@ -179,6 +203,46 @@ module _ (name : List ℕ) (t : Traffic) (source source_now sink sink_now : ℕ)
     failed_fault Memory fails =
         (refl, record { output = refl; source = fails.fault.0; sink = fails.fault.1 })
     failed_fault (NoEntry why) fails = link_fault why fails.fault.0 fails.fault.1
+
+-- ---- what was read of the script
+
+-- where the client was welcomed, the link's bytes begin with a Welcome
+pub welcomed_unread : (name : List ℕ) (link input left : Option (List ℕ)) (faults : ℕ)
+    (now : Source) (client : State) → Welcomes link faults now client
+    → WaitsUnread name link input left
+welcomed_unread name None input left faults now client welcomes = tt
+welcomed_unread name (Some bytes) input left faults now client welcomes = λ none.
+    let begins = given_begins now bytes (welcomes.first ∷ []) welcomes.readable welcomes.has_given
+    in
+    absurd (cc (sym (none welcomes.first begins) ∙ welcomes.welcome name))
+
+-- where it was not, nothing was read
+pub failed_unread : (name : List ℕ) (link input left : Option (List ℕ)) → left ≡ input
+    → WaitsUnread name link input left
+failed_unread name None input left same = tt
+failed_unread name (Some bytes) input left same = λ none. same
+
+-- nothing of the script holds no cause to end
+pub nothing_read : (ended [] ≡ []) × (open_rest [] ≡ []) → (input : Option (List ℕ))
+    → ReadsNoFurther input input
+nothing_read none None = tt
+nothing_read none (Some bytes) = record {
+  taken = [];
+  after = [];
+  untaken = bytes;
+  whole = refl;
+  left_is = refl;
+  meets = record {
+    counts = omega arith;
+    steps = subst (λ (ls : List (List ℕ)). AreSteps IsJoinStep (numbered 0 ls)) (sym none.0)
+        (λ before line after is. absurd (no_parts before line after is));
+    short = λ long.
+        let past : IsTrue (is_overlong []) =
+        subst (λ (b : List ℕ). IsTrue (is_overlong b)) none.1 long in
+        cc (past);
+  };
+  few = omega arith;
+}
 
 -- ---- the wire
 

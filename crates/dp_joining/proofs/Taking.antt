@@ -7,17 +7,20 @@ use Rattle.std.specs.List.{fold}
 use Rattle.std.specs.Io.KnownBytes.{Appends}
 use Rattle.std.proofs.lemmas.List.{append-nil}
 use Rattle.std.proofs.lemmas.List.Sums.{fold-append}
+use Rattle.dp_board.specs.Counts.{CountsFew}
 use Rattle.dp_client.specs.Client.{State}
 use Rattle.dp_io.proofs.Prefixes.{grows_whole}
+use Rattle.dp_msg_draw.specs.declared.draw.Draw.{Draw}
 use Rattle.dp_messages.specs.declared.message.Entry.{Entry}
 use Rattle.dp_messages.specs.Properties.{is_disconnect}
+use Rattle.dp_pixels.specs.Feet.{reach}
 use Rattle.dp_schedule.specs.declared.join_action.JoinAction.TheVariants.{Take}
 use Rattle.dp_joining.specs.declared.stops.JoinStop.{JoinStop}
 use Rattle.dp_joining.specs.declared.stops.JoinStop.TheVariants.{WriteFault, LinkFault, Memory}
 use Rattle.dp_joining.specs.declared.stops.JoinStop.TheVariants.{NoEntry}
 use Rattle.dp_joining.specs.Joining.{Joining, takeable, took_entry}
 use Rattle.dp_joining.specs.JoinStanding.{is_ping}
-use Rattle.dp_joining.specs.Steps.{Fails, GivesEntry, GivesNone, Halts}
+use Rattle.dp_joining.specs.Steps.{DrawsFew, Fails, GivesEntry, GivesNone, Halts, counters_at}
 use Rattle.dp_joining.specs.Steps.{IsNoEntry, IsReady, Moves, ReadsOn, Seen}
 use Rattle.dp_joining.specs.Outcomes.{BeginsWith}
 use Rattle.dp_joining.specs.Steps.{Shows, Source, Stands, Stops, Wrote}
@@ -52,6 +55,15 @@ pub record IsRead (old now : Seen) : Type 0 where
   pub print_faults : now.print_faults ≡ old.print_faults
   pub written : now.written ≡ old.written
   pub write_faults : now.write_faults ≡ old.write_faults
+  pub draws : now.draws ≡ old.draws
+  pub tiles : now.tiles ≡ old.tiles
+
+counts_read : (start old now : Seen) (due : List Draw) → IsRead old now
+    → DrawsFew (counters_at start old) due → DrawsFew (counters_at start now) due
+counts_read start old now due read few =
+    subst (λ (n : ℕ). CountsFew reach due start.draws n start.tiles now.tiles) (sym read.draws)
+    (subst (λ (n : ℕ). CountsFew reach due start.draws old.draws start.tiles n) (sym read.tiles)
+    few)
 
 read_stands : (start old now : Seen) (j : Joining) → IsRead old now
     → now.source.faults ≡ old.source.faults → Stands start old j → Stands start now j
@@ -66,6 +78,7 @@ read_stands start old now j read kept stands = record {
       stands.written;
   faultless = faultless_twice start old now stands.faultless
       (record { print = read.print_faults; write = read.write_faults; read = kept });
+  counts = counts_read start old now j.due read stands.counts;
 }
 
 wrote_whole : (start now : Seen) (text written : List ℕ) (stop : JoinStop)
@@ -187,6 +200,7 @@ taking_ends a b c count n stop within taking none read =
             wrote = wrote_read start b c before stop read there;
             fault = fault_matches_from start b c stop there.faultless
                 (reading_fault b c stop none.fault read.print_faults read.write_faults);
+            counts = counts_read start b c before.due read there.counts;
           });
     }
 

@@ -1,22 +1,18 @@
 -- A script and a link come to one outcome.
-use Rattle.std.proofs.Common.{◌≡◌, ◌⊎◌, inl, inr, ℕ, true, false, Bool, ◌||◌, if◌then◌else◌, List}
+use Rattle.std.proofs.Common.{◌≡◌, inl, inr, ℕ, true, false, Bool, ◌||◌, if◌then◌else◌, List}
 use Rattle.std.proofs.Common.{[]}
-use Rattle.std.proofs.Common.{◌∷◌, ◌++◌, length, take, drop, refl, sym, ap, ◌∙◌, subst}
-use Rattle.std.proofs.Common.{append_assoc}
-use Rattle.std.proofs.Common.{arith}
-use Rattle.std.specs.Prelude.{Option, Some, None, IsTrue}
+use Rattle.std.proofs.Common.{◌∷◌, ◌++◌, length, take, drop, refl, sym, ap, ◌∙◌}
+use Rattle.std.specs.Prelude.{Option, Some, None}
 use Rattle.std.specs.Option.{option_map_or}
 use Rattle.std.proofs.lemmas.Bool.{cases_lt}
-use Rattle.std.proofs.lemmas.List.{append-nil}
 use Rattle.dp_msg_meta.specs.declared.message.Control.TheVariants as control
 use Rattle.dp_messages.specs.declared.message.Entry.{Entry}
 use Rattle.dp_messages.specs.declared.message.Msg.{Msg}
 use Rattle.dp_messages.specs.declared.message.Msg.TheVariants as msg
 use Rattle.dp_messages.specs.Properties.{is_disconnect}
 use Rattle.dp_schedule.specs.declared.join_action.JoinAction.{JoinAction}
-use Rattle.dp_joining.specs.Joining.{Joining, Progress, Goes, Waits, after_line, along, asked_by}
-use Rattle.dp_joining.specs.Joining.{greeted}
-use Rattle.dp_joining.specs.Joining.{hello_bytes, is_closed, joined, takeable}
+use Rattle.dp_joining.specs.Joining.{Joining, Goes, Waits, after_line, along, asked_by}
+use Rattle.dp_joining.specs.Joining.{caller, greeted, is_closed, joined, takeable}
 use Rattle.dp_joining.specs.JoinStanding.{is_ping}
 use Rattle.dp_joining.proofs.Along.{along_enough, along_few, along_more}
 use Rattle.dp_joining.proofs.Prefixes.{IsFirstOf}
@@ -24,7 +20,7 @@ use Rattle.dp_joining.proofs.Prefixes.{IsFirstOf}
 -- ---- more entries
 
 -- what is taken of a longer list
-record Longer (xs ys : List Entry) : Type 0 where
+pub record Longer (xs ys : List Entry) : Type 0 where
   pub more : List Entry
   pub whole : takeable ys ≡ takeable xs ++ more
 
@@ -35,7 +31,7 @@ longer_by true p e xs zs = ([], refl)
 longer_by false true e xs zs = (zs, refl)
 longer_by false false e xs zs = (zs, refl)
 
-longer : (xs ys : List Entry) → Longer xs (xs ++ ys)
+pub longer : (xs ys : List Entry) → Longer xs (xs ++ ys)
 longer [] ys = record { more = takeable ys; whole = refl }
 longer (e ∷ xs) ys =
     let next = longer xs ys in
@@ -71,45 +67,44 @@ takeable-closed (e ∷ xs) ys closed =
 
 -- where a line waits, those after it change nothing
 along_waits : (actions more : List JoinAction) (coming : List Entry) (j : Joining)
-    (text written : List ℕ) → along actions coming j ≡ Waits text written
-    → along (actions ++ more) coming j ≡ Waits text written
-along_waits [] more coming j text written waits = absurd (cc (waits))
-along_waits (action ∷ actions) more coming j text written waits =
+    (waiting : Joining) → along actions coming j ≡ Waits waiting
+    → along (actions ++ more) coming j ≡ Waits waiting
+along_waits [] more coming j waiting waits = absurd (cc (waits))
+along_waits (action ∷ actions) more coming j waiting waits =
     elim (cases_lt (length coming) (asked_by action)) [
       | inl few ↦ along_few action (actions ++ more) coming j few
           ∙ sym (along_few action actions coming j few) ∙ waits
       | inr enough ↦ along_enough action (actions ++ more) coming j enough
           ∙ along_waits actions more (drop (asked_by action) coming)
-          (after_line action (take (asked_by action) coming) j) text written
+          (after_line action (take (asked_by action) coming) j) waiting
           (sym (along_enough action actions coming j enough) ∙ waits)
     ]
 
 waits_from : (name : List ℕ) (actions more : List JoinAction) (rest : List Entry)
-    (o : Option Joining) (text written : List ℕ)
-    → option_map_or (λ j. along actions (takeable rest) j) o (Waits [] (hello_bytes name))
-    ≡ Waits text written
-    → option_map_or (λ j. along (actions ++ more) (takeable rest) j) o
-    (Waits [] (hello_bytes name)) ≡ Waits text written
-waits_from name actions more rest None text written waits = waits
-waits_from name actions more rest (Some j) text written waits =
-    along_waits actions more (takeable rest) j text written waits
+    (o : Option Joining) (waiting : Joining)
+    → option_map_or (λ j. along actions (takeable rest) j) o (Waits (caller name)) ≡ Waits waiting
+    → option_map_or (λ j. along (actions ++ more) (takeable rest) j) o (Waits (caller name))
+    ≡ Waits waiting
+waits_from name actions more rest None waiting waits = waits
+waits_from name actions more rest (Some j) waiting waits =
+    along_waits actions more (takeable rest) j waiting waits
 
 pub joined_waits : (name : List ℕ) (actions more : List JoinAction) (es : List Entry)
-    (text written : List ℕ) → joined name actions es ≡ Waits text written
-    → joined name (actions ++ more) es ≡ Waits text written
-joined_waits name actions more [] text written waits = waits
-joined_waits name actions more (first ∷ rest) text written waits =
-    waits_from name actions more rest (greeted name first.msg) text written waits
+    (waiting : Joining) → joined name actions es ≡ Waits waiting
+    → joined name (actions ++ more) es ≡ Waits waiting
+joined_waits name actions more [] waiting waits = waits
+joined_waits name actions more (first ∷ rest) waiting waits =
+    waits_from name actions more rest (greeted name first.msg) waiting waits
 
 -- ---- the same lines over more entries
 
 -- where all lines are done, they are done in the same way
 goes_from : (name : List ℕ) (actions : List JoinAction) (rest more : List Entry)
     (o : Option Joining) (j : Joining) (left : List Entry)
-    → option_map_or (λ k. along actions (takeable rest) k) o (Waits [] (hello_bytes name))
+    → option_map_or (λ k. along actions (takeable rest) k) o (Waits (caller name))
     ≡ Goes j left
     → (others : List Entry) × (option_map_or (λ k. along actions (takeable (rest ++ more)) k) o
-    (Waits [] (hello_bytes name)) ≡ Goes j others)
+    (Waits (caller name)) ≡ Goes j others)
 goes_from name actions rest more None j left goes = absurd (cc (goes))
 goes_from name actions rest more (Some k) j left goes =
     let l = longer rest more in (
@@ -149,12 +144,12 @@ closed_first : (name : List ℕ) (actions : List JoinAction) (e : Entry) (es mor
 closed_first name actions e es more true is closed =
     let none = greeted_none name e.msg is in
     ap (λ (o : Option Joining). option_map_or (λ j. along actions (takeable (es ++ more)) j) o
-    (Waits [] (hello_bytes name))) none
+    (Waits (caller name))) none
     ∙ sym (ap (λ (o : Option Joining). option_map_or (λ j. along actions (takeable es) j) o
-    (Waits [] (hello_bytes name))) none)
+    (Waits (caller name))) none)
 closed_first name actions e es more false is closed =
     ap (λ (c : List Entry). option_map_or (λ j. along actions c j) (greeted name e.msg)
-    (Waits [] (hello_bytes name))) (takeable-closed es more closed)
+    (Waits (caller name))) (takeable-closed es more closed)
 
 -- entries after one that closes the link change nothing
 pub joined_closed : (name : List ℕ) (actions : List JoinAction) (es ds : List Entry)

@@ -24,8 +24,8 @@ use Rattle.dp_joining.specs.declared.stops.JoinStop.TheVariants.{WriteFault, Lin
 use Rattle.dp_joining.specs.declared.stops.JoinStop.TheVariants.{NoEntry}
 use Rattle.dp_joining.specs.Greetings.{FaultMatchesGreeting, GreetingFails, NoWelcome, Welcomes}
 use Rattle.dp_joining.specs.Greetings.{WroteHello}
-use Rattle.dp_joining.specs.Greetings.{newcomer}
-use Rattle.dp_joining.specs.Joining.{Joining, Waits, along, greeted, hello_bytes, joined}
+use Rattle.dp_joining.specs.Joining.{Joining, Waits, along, caller, greeted, hello_bytes, joined}
+use Rattle.dp_joining.specs.Joining.{newcomer}
 use Rattle.dp_joining.specs.Joining.{takeable}
 use Rattle.dp_joining.specs.JoinStanding.{StandsOnLink, is_ping, is_welcome}
 use Rattle.dp_joining.specs.Outcomes.{BeginsWith}
@@ -90,7 +90,7 @@ no_welcome left old now first begun reads none other = record {
   given = first ∷ [];
   waits = λ name actions.
       ap (λ (o : Option Joining). option_map_or (λ j. along actions (takeable []) j) o
-      (Waits [] (hello_bytes name))) (none name);
+      (Waits (caller name))) (none name);
   reads = no_other left old now first (NoEntry cause.Closed) begun reads other;
   fault = reads.kept;
 }
@@ -159,11 +159,11 @@ untaken false false e xs none = absurd (cc (none))
 
 -- where nothing is taken of what the link gave, nobody is welcomed
 waits_for : (name : List ℕ) (actions : List JoinAction) (given : List Entry) → takeable given ≡ []
-    → joined name actions given ≡ Waits [] (hello_bytes name)
+    → joined name actions given ≡ Waits (caller name)
 waits_for name actions [] none = refl
 waits_for name actions (e ∷ more) none =
     ap (λ (o : Option Joining). option_map_or (λ j. along actions (takeable more) j) o
-    (Waits [] (hello_bytes name)))
+    (Waits (caller name)))
     (none_greeted name e.msg (untaken (is_disconnect e.msg) (is_ping e.msg) e (takeable more)
     none))
 

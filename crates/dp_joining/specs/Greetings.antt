@@ -1,24 +1,17 @@
 -- How a client greets its server.
 use Rattle.std.specs.Prelude.{◌≡◌, ◌⊎◌, ℕ, ◌≤◌, false, List, [], ◌∷◌, Option, Some, IfSome}
 use Rattle.std.specs.Io.KnownBytes.{Appends}
-use Rattle.circular_buffer.specs.Buffer.{buffer}
 use Rattle.dp_client.specs.Client.{State}
 use Rattle.dp_io.specs.Faults.{Rose}
 use Rattle.dp_io.specs.Streams.{GrowsByPrefix}
 use Rattle.dp_messages.specs.declared.message.Entry.{Entry}
 use Rattle.dp_schedule.specs.declared.join_action.JoinAction.{JoinAction}
-use Rattle.dp_joining.specs.declared.greeting.Greeting.{Greeting}
 use Rattle.dp_joining.specs.declared.stops.JoinStop.{JoinStop}
 use Rattle.dp_joining.specs.declared.stops.JoinStop.TheVariants.{WriteFault, LinkFault, Memory}
 use Rattle.dp_joining.specs.declared.stops.JoinStop.TheVariants.{NoEntry}
-use Rattle.dp_joining.specs.Joining.{Joining, Waits, chat_limit, greeted, hello_bytes, is_closed}
-use Rattle.dp_joining.specs.Joining.{joined}
+use Rattle.dp_joining.specs.Joining.{Waits, caller, greeted, hello_bytes, is_closed, joined}
+use Rattle.dp_joining.specs.Joining.{newcomer}
 use Rattle.dp_joining.specs.Steps.{FaultMatchesReading, HasGiven, IsReadable, Shows, Source}
-
--- the client that was greeted by a Welcome
-abbrev pub newcomer : State → List ℕ → Joining
-newcomer client name =
-    record { client = client; chats = []; text = []; written = hello_bytes name }
 
 -- the link's first entry welcomes this client
 pub record Welcomes (left : Option (List ℕ)) (faults : ℕ) (now : Source) (client : State) : Type 0
@@ -35,7 +28,7 @@ pub record Welcomes (left : Option (List ℕ)) (faults : ℕ) (now : Source) (cl
 pub record NoWelcome (left : Option (List ℕ)) (before now : ℕ) (stop : JoinStop) : Type 0 where
   pub given : List Entry
   pub waits : (name : List ℕ) (actions : List JoinAction)
-      → joined name actions given ≡ Waits [] (hello_bytes name)
+      → joined name actions given ≡ Waits (caller name)
   pub reads : IfSome left (λ bytes. Shows bytes given stop)
   pub fault : FaultMatchesReading before now stop
 
@@ -61,7 +54,7 @@ pub record GreetingFails (name : List ℕ) (left old now : Option (List ℕ))
     (source source_now sink sink_now : ℕ) (stop : JoinStop) : Type 0 where
   pub given : List Entry
   pub waits : (actions : List JoinAction)
-      → joined name actions given ≡ Waits [] (hello_bytes name)
+      → joined name actions given ≡ Waits (caller name)
   pub reads : IfSome left (λ bytes. Shows bytes given stop)
   pub wrote : WroteHello old now (hello_bytes name) stop
   pub fault : FaultMatchesGreeting source source_now sink sink_now stop

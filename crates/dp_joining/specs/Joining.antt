@@ -1,6 +1,6 @@
 -- What a client prints and writes over a link, by its name, the lines of its script, and the
 -- entries that the link gives.
-use Rattle.std.specs.Prelude.{ℕ, Bool, true, false, if◌then◌else◌, nat_le}
+use Rattle.std.specs.Prelude.{ℕ, Bool, if◌then◌else◌, nat_le}
 use Rattle.std.specs.Prelude.{Option, None, Some, List, [], ◌∷◌, ◌++◌, length, take, drop}
 use Rattle.std.specs.Prelude.{codes, decimal}
 use Rattle.std.specs.List.{flat_map, fold, list_any}
@@ -9,12 +9,12 @@ use Rattle.circular_buffer.specs.Buffer.{keep_last}
 use Rattle.dp_lines.specs.Hexadecimal.{hex_text}
 use Rattle.dp_msg_meta.specs.declared.message.Control.TheVariants as control
 use Rattle.dp_msg_meta.specs.declared.message.Meta.TheVariants as meta
+use Rattle.dp_msg_draw.specs.declared.draw.Draw.{Draw}
 use Rattle.dp_messages.specs.declared.message.Entry.{Entry}
 use Rattle.dp_messages.specs.declared.message.Msg.{Msg}
 use Rattle.dp_messages.specs.declared.message.Msg.TheVariants as msg
 use Rattle.dp_messages.specs.Messages.{entry_bytes}
 use Rattle.dp_messages.specs.Properties.{is_disconnect}
-use Rattle.dp_plain.specs.Board.{Board}
 use Rattle.dp_snap.specs.Resets.{reset_messages}
 use Rattle.dp_snap.specs.Snapshot.{snapshot}
 use Rattle.dp_schedule.specs.declared.join_action.JoinAction.{JoinAction}
@@ -24,6 +24,7 @@ use Rattle.dp_schedule.specs.declared.join_action.JoinAction.TheVariants.{Reset,
 use Rattle.dp_schedule.specs.declared.report_line.ReportLine.TheVariants.{Said, Took}
 use Rattle.dp_schedule.specs.ReportText.{text_of}
 use Rattle.dp_client.specs.Client.{State, confirmed, said, taken_of, took, welcomed}
+use Rattle.dp_client.specs.Due.{canvas_due, said_due}
 use Rattle.dp_showing.specs.declared.showing.Shown.TheVariants as shown
 use Rattle.dp_showing.specs.Showing.{shown_text}
 use Rattle.dp_joining.specs.declared.chats.ChatLine.{ChatLine}
@@ -87,12 +88,14 @@ chats_text lines =
 -- ---- a client
 
 -- a client over a link: its state, the lines of chat of all entries that it has taken, over every
--- epoch, what it has printed, and what it has written to the link
+-- epoch, what it has printed, what it has written to the link, and the commands that it may have
+-- drawn
 pub record Joining : Type 0 where
   pub client : State
   pub chats : List ChatLine
   pub text : List ℕ
   pub written : List ℕ
+  pub due : List Draw
 
 -- it takes an entry
 abbrev pub took_entry : Joining → Entry → Joining
@@ -102,6 +105,7 @@ took_entry j entry =
       chats = j.chats ++ chat_by entry.user entry.msg;
       text = j.text ++ text_of (Took taken.epoch taken.at);
       written = j.written ++ ack_bytes j.client.user taken.ack;
+      due = j.due ++ canvas_due j.client entry;
     }
 
 -- it prints a text
@@ -121,6 +125,7 @@ said_by j m = record j {
   client = said j.client m;
   text = j.text ++ text_of (Said (length (said j.client m).fork));
   written = j.written ++ sent_by j.client.user m;
+  due = j.due ++ said_due m;
 }
 
 -- how many entries a line asks for
@@ -147,11 +152,16 @@ acted Chat j = printed j (chats_text (keep_last chat_limit j.chats))
 abbrev pub after_line : JoinAction → List Entry → Joining → Joining
 after_line action entries j = fold took_entry (acted action j) entries
 
--- How far lines go: all are done, and these entries are left; or one asks for an entry more, after
--- this text and these bytes.
+-- How far lines go: all are done, and these entries are left; or one asks for an entry more, for
+-- which the client waits.
 pub data Progress : Type 0 where
   Goes : Joining → List Entry → Progress
-  Waits : List ℕ → List ℕ → Progress
+  Waits : Joining → Progress
+
+-- the client as it is then
+abbrev pub came_to : Progress → Joining
+came_to (Goes j left) = j
+came_to (Waits j) = j
 
 -- the lines with the entries that come, one line after the other
 abbrev pub along : List JoinAction → List Entry → Joining → Progress
@@ -160,22 +170,27 @@ along (action ∷ actions) coming j =
     if nat_le (asked_by action) (length coming)
     then along actions (drop (asked_by action) coming)
     (after_line action (take (asked_by action) coming) j)
-    else Waits (after_line action coming j).text (after_line action coming j).written
+    else Waits (after_line action coming j)
 
--- the client that a Welcome makes, which has written its Hello
+-- a client that has written its Hello
+abbrev pub newcomer : State → List ℕ → Joining
+newcomer client name =
+    record { client = client; chats = []; text = []; written = hello_bytes name; due = [] }
+
+-- the client that a Welcome makes
 abbrev pub greeted : List ℕ → Msg → Option Joining
-greeted name (msg.Control (control.Welcome version user epoch at)) = Some (record {
-  client = welcomed user epoch at;
-  chats = [];
-  text = [];
-  written = hello_bytes name;
-})
+greeted name (msg.Control (control.Welcome version user epoch at)) =
+    Some (newcomer (welcomed user epoch at) name)
 greeted name m = None
+
+-- a client that waits for its Welcome, of which its id, its epoch and its place aren't known yet
+abbrev pub caller : List ℕ → Joining
+caller name = newcomer (welcomed 0 0 0) name
 
 -- What a client of this name does by these lines, over a link that gives these entries: it waits
 -- for its Welcome first.
 abbrev pub joined : List ℕ → List JoinAction → List Entry → Progress
-joined name actions [] = Waits [] (hello_bytes name)
+joined name actions [] = Waits (caller name)
 joined name actions (first ∷ more) =
     option_map_or (λ j. along actions (takeable more) j) (greeted name first.msg)
-    (Waits [] (hello_bytes name))
+    (Waits (caller name))

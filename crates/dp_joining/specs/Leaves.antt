@@ -1,5 +1,6 @@
 -- What a run of `join` over a link leaves.
-use Rattle.std.specs.Prelude.{◌≡◌, ◌⊎◌, ℕ, false, List, [], ◌∷◌, ◌++◌, Option, Some, IfSome}
+use Rattle.std.specs.Prelude.{◌≡◌, ◌⊎◌, ℕ, false, List, [], ◌∷◌, ◌++◌, Option, None, Some}
+use Rattle.std.specs.Prelude.{IfSome}
 use Rattle.std.specs.Io.KnownBytes.{Appends, IsAtEnd}
 use Rattle.dp_io.specs.Faults.{Rose}
 use Rattle.dp_io.specs.Streams.{GrowsByPrefix}
@@ -12,18 +13,18 @@ use Rattle.dp_lines.specs.declared.run_end.RunEnd.TheVariants.{BadMessage, Close
 use Rattle.dp_lines.specs.Ends.{LinesComeTo, seen}
 use Rattle.dp_lines.specs.Ends as ends
 use Rattle.dp_schedule.specs.declared.join_action.JoinAction.{JoinAction}
-use Rattle.dp_script.specs.Leaves.{HoldsLines, AreFirstOf}
+use Rattle.dp_script.specs.Counters.{Counters}
+use Rattle.dp_script.specs.Leaves.{HoldsLines, HoldsNoCause, AreFirstOf}
 use Rattle.dp_lines.specs.TakenParts.{TookWithin}
-use Rattle.dp_joining.specs.Greetings.{newcomer}
-use Rattle.dp_joining.specs.Joining.{Joining, Progress, Goes, farewell_bytes, greeted, is_closed}
-use Rattle.dp_joining.specs.Joining.{joined}
+use Rattle.dp_joining.specs.Joining.{Joining, Progress, Goes, came_to, farewell_bytes, greeted}
+use Rattle.dp_joining.specs.Joining.{is_closed, joined, newcomer}
 use Rattle.dp_joining.specs.Outcomes.{AllAsk, BeginsWith, IsJoinStep, JoinComesTo, JoinOutcome}
 use Rattle.dp_script.specs.Limits.{lines_limit}
-use Rattle.dp_joining.specs.Scripts.{progress_text, progress_written}
-use Rattle.dp_joining.specs.Steps.{HasGiven, Seen, Stands}
+use Rattle.dp_joining.specs.Steps.{DrawsFew, HasGiven, Seen, Stands}
 
 -- What a run sees of its devices before and after it: the bytes that are left of the script, and
--- those of the link at the start; the bytes on the output and those written to the link.
+-- those of the link at the start; the bytes on the output and those written to the link; and the
+-- counters of draws and of tiles.
 pub record Traffic : Type 0 where
   pub input : Option (List ℕ)
   pub left : Option (List ℕ)
@@ -32,17 +33,19 @@ pub record Traffic : Type 0 where
   pub print_now : Option (List ℕ)
   pub sent_old : Option (List ℕ)
   pub sent_now : Option (List ℕ)
+  pub counters : Counters
 
 -- P holds of the bytes of the script and of the link, where both are known
 abbrev pub WhereKnown : Traffic → (List ℕ → List ℕ → Type 0) → Type 0
 WhereKnown t P = IfSome t.input (λ input. IfSome t.link (λ link. P input link))
 
--- the text and the bytes of what the script and the link come to were written, which ends so
+-- the text and the bytes of what the script and the link come to were written, which ends so, and
+-- no more was drawn than is due
 abbrev pub WritesAll : List ℕ → Traffic → RunEnd → Type 0
 WritesAll name t end =
     WhereKnown t (λ input link. (outcome : JoinOutcome) × JoinComesTo name input link outcome
     × (outcome.end ≡ end) × Appends t.print_old t.print_now outcome.text
-    × Appends t.sent_old t.sent_now outcome.written)
+    × Appends t.sent_old t.sent_now outcome.written × DrawsFew t.counters outcome.due)
 
 -- what is written after what lines write: nothing, or the Disconnect where they are all lines of
 -- the script
@@ -54,7 +57,7 @@ IsParting input begun progress parting =
     × (parting ≡ farewell_bytes j.client.user))
 
 -- prefixes of them were written: of what some of the first lines come to, with some of the first
--- entries of the link
+-- entries of the link; and no more was drawn than is due then
 pub record WritesPart (name : List ℕ) (t : Traffic) (input link : List ℕ) : Type 0 where
   pub begun : List Line
   pub prefix : AreFirstOf IsJoinStep (seen lines_limit input) begun
@@ -62,11 +65,12 @@ pub record WritesPart (name : List ℕ) (t : Traffic) (input link : List ℕ) : 
   pub asked : AllAsk begun actions
   pub entries : List Entry
   pub begins : BeginsWith link entries
-  pub text : GrowsByPrefix t.print_old t.print_now (progress_text (joined name actions entries))
+  pub text : GrowsByPrefix t.print_old t.print_now (came_to (joined name actions entries)).text
   pub parting : List ℕ
   pub is_parting : IsParting input begun (joined name actions entries) parting
   pub written : GrowsByPrefix t.sent_old t.sent_now
-      (progress_written (joined name actions entries) ++ parting)
+      ((came_to (joined name actions entries)).written ++ parting)
+  pub counts : DrawsFew t.counters (came_to (joined name actions entries)).due
 
 -- the lines that are whole in what was taken of the script were done, and nothing more was written
 pub record WritesTaken (name : List ℕ) (t : Traffic) (input link : List ℕ) : Type 0 where
@@ -80,6 +84,30 @@ pub record WritesTaken (name : List ℕ) (t : Traffic) (input link : List ℕ) :
   pub goes : joined name actions entries ≡ Goes joining []
   pub text : Appends t.print_old t.print_now joining.text
   pub written : Appends t.sent_old t.sent_now joining.written
+  pub counts : DrawsFew t.counters joining.due
+
+-- What was taken of a script whose bytes are known holds no cause to end, but for the last bytes of
+-- it, at most a piece of 4096.
+abbrev pub ReadsNoFurther : Option (List ℕ) → Option (List ℕ) → Type 0
+ReadsNoFurther input left =
+    IfSome input (λ bytes. TookWithin (HoldsNoCause IsJoinStep lines_limit) 4096 bytes left)
+
+-- where the link's bytes begin with no Welcome, nothing was taken of the script
+abbrev pub WaitsUnread : List ℕ → Option (List ℕ) → Option (List ℕ) → Option (List ℕ) → Type 0
+WaitsUnread name link input left = IfSome link (λ bytes.
+    ((first : Entry) → BeginsWith bytes (first ∷ []) → greeted name first.msg ≡ None)
+    → left ≡ input)
+
+-- what was printed and what was written to the link are prefixes of those of the outcome, and no
+-- more was drawn than is due
+abbrev pub GrowsTowards : Traffic → JoinOutcome → Type 0
+GrowsTowards t outcome = GrowsByPrefix t.print_old t.print_now outcome.text
+    × GrowsByPrefix t.sent_old t.sent_now outcome.written × DrawsFew t.counters outcome.due
+
+-- the same of what the script and the link come to
+abbrev pub BeginsDue : List ℕ → Traffic → List ℕ → List ℕ → Type 0
+BeginsDue name t input link =
+    (outcome : JoinOutcome) → JoinComesTo name input link outcome → GrowsTowards t outcome
 
 -- the client was welcomed by this entry, and stands where it has greeted the server
 pub record IsWelcome (name : List ℕ) (link : Option (List ℕ)) (first start : Seen)

@@ -2,6 +2,7 @@
 use Rattle.std.specs.Prelude.{◌≡◌, ◌⊎◌, ℕ, ◌≤◌, false, IsTrue, List, [], ◌∷◌, ◌++◌, length}
 use Rattle.std.specs.List.{AllByRecursion, flat_map}
 use Rattle.dp_frame.specs.Frames.{FrameParts, IsFrame, spelling}
+use Rattle.dp_msg_draw.specs.declared.draw.Draw.{Draw}
 use Rattle.dp_messages.specs.declared.message.Entry.{Entry}
 use Rattle.dp_lines.specs.declared.line.Line.{Line}
 use Rattle.dp_lines.specs.declared.run_end.RunEnd.{RunEnd}
@@ -68,10 +69,12 @@ link_end cause.Long = run.Long
 
 -- ---- the run
 
--- what is printed, what is written to the link, and how the run ends
+-- what is printed, what is written to the link, the commands that may be drawn, and how the run
+-- ends
 pub record JoinOutcome : Type 0 where
   pub text : List ℕ
   pub written : List ℕ
+  pub due : List Draw
   pub end : RunEnd
 
 -- where the script comes to its end with all lines done, a Disconnect is written
@@ -79,11 +82,18 @@ abbrev pub script_outcome : LinesEnd → Joining → JoinOutcome
 script_outcome ends.AllDone j = record {
   text = j.text;
   written = j.written ++ farewell_bytes j.client.user;
+  due = j.due;
   end = run.Done;
 }
 script_outcome (ends.BadLine n) j =
-    record { text = j.text; written = j.written; end = run.BadLine n }
-script_outcome ends.TooLong j = record { text = j.text; written = j.written; end = run.Long }
+    record { text = j.text; written = j.written; due = j.due; end = run.BadLine n }
+script_outcome ends.TooLong j =
+    record { text = j.text; written = j.written; due = j.due; end = run.Long }
+
+-- where the link gives no entry more, nothing is written after what the lines write
+abbrev pub link_outcome : LinkCause → Joining → JoinOutcome
+link_outcome why j =
+    record { text = j.text; written = j.written; due = j.due; end = link_end why }
 
 -- The script ends the run: these are its lines that are done, and the entries of the link are as
 -- many as they ask for, or more.
@@ -107,10 +117,11 @@ pub record EndsByLink (name input link : List ℕ) (outcome : JoinOutcome) : Typ
   pub actions : List JoinAction
   pub asked : AllAsk begun actions
   pub entries : List Entry
-  pub waits : joined name actions entries ≡ Waits outcome.text outcome.written
+  pub waiting : Joining
+  pub waits : joined name actions entries ≡ Waits waiting
   pub why : LinkCause
   pub ends : EndsLink link entries why
-  pub end_is : outcome.end ≡ link_end why
+  pub outcome_is : outcome ≡ link_outcome why waiting
 
 -- what a script and a link come to for a client of this name
 abbrev pub JoinComesTo : List ℕ → List ℕ → List ℕ → JoinOutcome → Type 0

@@ -14,10 +14,9 @@ use Rattle.dp_script.specs.Moments.{Moment}
 use Rattle.dp_joining.specs.declared.stops.JoinStop.{JoinStop}
 use Rattle.dp_joining.specs.declared.stops.JoinStop.TheVariants.{WriteFault, LinkFault, Memory}
 use Rattle.dp_joining.specs.declared.stops.JoinStop.TheVariants.{NoEntry}
-use Rattle.dp_joining.specs.Joining.{Joining, Progress, Goes, Waits, along, takeable}
+use Rattle.dp_joining.specs.Joining.{Joining, Progress, Goes, Waits, along, came_to, takeable}
 use Rattle.dp_joining.specs.Outcomes.{AllAsk, IsJoinStep}
-use Rattle.dp_joining.specs.Steps.{FaultMatchesStop, IsNoEntry, ReadsOn, ReadsUpTo, Seen, Stands}
-use Rattle.dp_joining.specs.Steps.{Wrote}
+use Rattle.dp_joining.specs.Steps.{IsNoEntry, ReadsOn, ReadsUpTo, Seen, Stands, Stops}
 
 -- a message that the action says may be sent by a client: it is no control message
 abbrev pub IsSendable : JoinAction → Type 0
@@ -37,15 +36,6 @@ IsJoinLineRefused line (undone.Ended LinkFault) = ⊥
 IsJoinLineRefused line (undone.Ended Memory) = Unit {0}
 IsJoinLineRefused line (undone.Ended (NoEntry why)) = ⊥
 
--- what is printed, and what is written to the link
-abbrev pub progress_text : Progress → List ℕ
-progress_text (Goes j left) = j.text
-progress_text (Waits text written) = text
-
-abbrev pub progress_written : Progress → List ℕ
-progress_written (Goes j left) = j.written
-progress_written (Waits text written) = written
-
 -- all the lines are done, with all the entries
 pub record GoesTo (start now : Seen) (progress : Progress) : Type 0 where
   pub joining : Joining
@@ -54,20 +44,22 @@ pub record GoesTo (start now : Seen) (progress : Progress) : Type 0 where
 
 -- on the way the client stops so: where the link gives no entry more, a line asks for one
 pub record StopsAlong (start now : Seen) (progress : Progress) (stop : JoinStop) : Type 0 where
-  pub wrote : Wrote start now (progress_text progress) (progress_written progress) stop
-  pub fault : FaultMatchesStop start now stop
-  pub waits : IsNoEntry stop → progress ≡ Waits (progress_text progress) (progress_written progress)
+  pub stops : Stops start now (came_to progress) stop
+  pub waits : IsNoEntry stop → progress ≡ Waits (came_to progress)
+
+-- what is seen at a moment
+abbrev pub at : {M O : Type 0} → (M → O → ℕ → ℕ → Seen) → Moment M O ℕ ℕ → Seen
+at see m = see m.machine m.output m.draws m.tiles
 
 -- From the first moment to the second one these lines were done, with these entries of the link.
-pub record HasDone {M O D T : Type 0} (see : M → O → Seen) (start : Moment M O D T)
-    (done : List Line) (now : Moment M O D T) : Type 0 where
+pub record HasDone {M O : Type 0} (see : M → O → ℕ → ℕ → Seen) (start : Moment M O ℕ ℕ)
+    (done : List Line) (now : Moment M O ℕ ℕ) : Type 0 where
   pub actions : List JoinAction
   pub asked : AllAsk done actions
   pub given : List Entry
-  pub reads : ReadsOn (see start.machine start.output).source
-      (see now.machine now.output).source given
-  pub goes : (first : Seen) (j : Joining) → Stands first (see start.machine start.output) j
-      → GoesTo first (see now.machine now.output) (along actions (takeable given) j)
+  pub reads : ReadsOn (at see start).source (at see now).source given
+  pub goes : (first : Seen) (j : Joining) → Stands first (at see start) j
+      → GoesTo first (at see now) (along actions (takeable given) j)
 
 -- these lines are those that were done, or the next one too, which is a step
 abbrev pub IsBegun : List Line → Line → List Line → Type 0
@@ -75,13 +67,13 @@ IsBegun done line begun =
     (begun ≡ done) ⊎ ((begun ≡ done ++ line ∷ []) × IsJoinStep done line)
 
 -- From the first moment these lines were done, and at the second one the next had ended the run so.
-pub record HasEnded {M O D T : Type 0} (see : M → O → Seen) (start : Moment M O D T)
-    (done : List Line) (line : Line) (now : Moment M O D T) (stop : JoinStop) : Type 0 where
+pub record HasEnded {M O : Type 0} (see : M → O → ℕ → ℕ → Seen) (start : Moment M O ℕ ℕ)
+    (done : List Line) (line : Line) (now : Moment M O ℕ ℕ) (stop : JoinStop) : Type 0 where
   pub begun : List Line
   pub is_begun : IsBegun done line begun
   pub actions : List JoinAction
   pub asked : AllAsk begun actions
   pub given : List Entry
-  pub reads : ReadsUpTo (see start.machine start.output).source given stop
-  pub stops : (first : Seen) (j : Joining) → Stands first (see start.machine start.output) j
-      → StopsAlong first (see now.machine now.output) (along actions (takeable given) j) stop
+  pub reads : ReadsUpTo (at see start).source given stop
+  pub stops : (first : Seen) (j : Joining) → Stands first (at see start) j
+      → StopsAlong first (at see now) (along actions (takeable given) j) stop

@@ -3,12 +3,16 @@ use Rattle.std.specs.Prelude.{◌≡◌, ◌⊎◌, ℕ, ◌+◌, ◌<◌, ◌�
 use Rattle.std.specs.Prelude.{length, Option}
 use Rattle.std.specs.Io.KnownBytes.{Appends}
 use Rattle.circular_buffer.specs.Buffer.{Buffer, buffer, keep_last}
+use Rattle.dp_board.specs.Counts.{CountsFew}
 use Rattle.dp_client.specs.Client.{State}
 use Rattle.dp_entries.specs.Reader.{HasRead, Reader}
 use Rattle.dp_io.specs.Faults.{Rose}
 use Rattle.dp_io.specs.Streams.{GrowsByPrefix}
+use Rattle.dp_msg_draw.specs.declared.draw.Draw.{Draw}
 use Rattle.dp_messages.specs.declared.message.Entry.{Entry}
+use Rattle.dp_pixels.specs.Feet.{reach}
 use Rattle.dp_schedule.specs.declared.join_action.JoinAction.{JoinAction}
+use Rattle.dp_script.specs.Counters.{Counters, counters}
 use Rattle.dp_joining.specs.declared.chats.ChatLine.{ChatLine}
 use Rattle.dp_joining.specs.declared.joiner.Joiner.{Joiner}
 use Rattle.dp_joining.specs.declared.stops.JoinStop.{JoinStop}
@@ -100,7 +104,7 @@ pub record GivesNone (old now : Source) (stop : JoinStop) : Type 0 where
 
 -- What clauses see of a client over a link and of its output: the client, the lines of chat that it
 -- keeps, what was printed and what was written to the link, where that is known, with counts of
--- faults, and the link's source.
+-- faults, the link's source, and the counters of draws and of tiles.
 pub record Seen : Type 0 where
   pub client : State
   pub chats : Buffer ChatLine
@@ -109,6 +113,8 @@ pub record Seen : Type 0 where
   pub written : Option (List ℕ)
   pub write_faults : ℕ
   pub source : Source
+  pub draws : ℕ
+  pub tiles : ℕ
 
 abbrev pub source_at : {R : Type 0} → (R → Option (List ℕ)) → (R → ℕ) → Reader → R → Source
 source_at left faults reader rx = record { left = left rx; faults = faults rx; reader = reader }
@@ -117,8 +123,8 @@ abbrev pub source_of : {R S : Type 0} → (R → Option (List ℕ)) → (R → �
 source_of left faults joiner = source_at left faults joiner.reader joiner.rx
 
 abbrev pub seen : {R S O : Type 0} → (R → Option (List ℕ)) → (R → ℕ) → (S → Option (List ℕ))
-    → (S → ℕ) → (O → Option (List ℕ)) → (O → ℕ) → Joiner R S → O → Seen
-seen left read_faults held faults printed print_faults joiner output = record {
+    → (S → ℕ) → (O → Option (List ℕ)) → (O → ℕ) → Joiner R S → O → ℕ → ℕ → Seen
+seen left read_faults held faults printed print_faults joiner output draws tiles = record {
   client = joiner.client;
   chats = joiner.chats;
   printed = printed output;
@@ -126,6 +132,8 @@ seen left read_faults held faults printed print_faults joiner output = record {
   written = held joiner.tx;
   write_faults = faults joiner.tx;
   source = source_of left read_faults joiner;
+  draws = draws;
+  tiles = tiles;
 }
 
 -- no count of faults has changed
@@ -134,6 +142,14 @@ pub record IsFaultless (start now : Seen) : Type 0 where
   pub write : now.write_faults ≡ start.write_faults
   pub read : now.source.faults ≡ start.source.faults
 
+-- each of these commands was drawn once at most, and no more tiles were made than they reach
+abbrev pub DrawsFew : Counters → List Draw → Type 0
+DrawsFew c due = CountsFew reach due c.draws c.draws_now c.tiles c.tiles_now
+
+-- the counters at the start, and now
+abbrev pub counters_at : Seen → Seen → Counters
+counters_at start now = counters start.draws now.draws start.tiles now.tiles
+
 -- since the start the client has come to this, and nothing failed
 pub record Stands (start now : Seen) (j : Joining) : Type 0 where
   pub client : now.client ≡ j.client
@@ -141,6 +157,7 @@ pub record Stands (start now : Seen) (j : Joining) : Type 0 where
   pub text : Appends start.printed now.printed j.text
   pub written : Appends start.written now.written j.written
   pub faultless : IsFaultless start now
+  pub counts : DrawsFew (counters_at start now) j.due
 
 -- which counts of faults have changed where the client stops so
 abbrev pub FaultMatchesStop : Seen → Seen → JoinStop → Type 0
@@ -172,6 +189,7 @@ Wrote start now text written (NoEntry why) =
 pub record Stops (start now : Seen) (j : Joining) (stop : JoinStop) : Type 0 where
   pub wrote : Wrote start now j.text j.written stop
   pub fault : FaultMatchesStop start now stop
+  pub counts : DrawsFew (counters_at start now) j.due
 
 -- the link gives no entry more
 abbrev pub IsNoEntry : JoinStop → Type 0

@@ -5,8 +5,8 @@ ghost use Rattle.std.specs.Prelude.{IfOk, IfErr, IfSome, IfNone, OnOk};
 ghost use Rattle.std.specs.Io.KnownBytes.{Appends};
 ghost use Rattle.circular_buffer.specs.Buffer.{buffer};
 ghost use Rattle.dp_client.specs.Client.{welcomed};
-ghost use Rattle.dp_joining.specs.Greetings.{GreetingFails, NoWelcome, Welcomes, newcomer};
-ghost use Rattle.dp_joining.specs.Joining.{chat_limit, greeted, hello_bytes};
+ghost use Rattle.dp_joining.specs.Greetings.{GreetingFails, NoWelcome, Welcomes};
+ghost use Rattle.dp_joining.specs.Joining.{chat_limit, greeted, hello_bytes, newcomer};
 ghost use Rattle.dp_joining.specs.JoinStanding.{is_welcome};
 ghost use Rattle.dp_joining.specs.Steps.{HasGiven, IsReadable, source_at};
 

@@ -1,6 +1,6 @@
 //! A client over a link.
 
-ghost use Rattle.std.specs.Prelude.{◌≡◌, ◌+◌, ◌-◌, ◌^◌, ◌<◌, ◌≤◌, List, [], ◌∷◌, ◌++◌, length};
+ghost use Rattle.std.specs.Prelude.{◌≡◌, ◌+◌, ◌-◌, ◌^◌, ◌<◌, ◌≤◌, ℕ, List, [], ◌∷◌, ◌++◌, length};
 ghost use Rattle.std.specs.Prelude.{IfOk, IfErr, OnOk};
 ghost use Rattle.std.specs.Io.KnownBytes.{Appends};
 ghost use Rattle.circular_buffer.specs.Buffer.{buffer, keep_last};
@@ -62,12 +62,16 @@ impl<R: Source, S: Sink> Joiner<R, S> {
         ensures ready { OnOk result
             (IsReady self.new.client (source_of R.left R.faults self.new)) }
         ensures ok { OnOk result (Passes
-            (seen R.left R.faults S.held S.faults O.held O.faults self.old output.old)
-            (seen R.left R.faults S.held S.faults O.held O.faults self.new output.new)
+            (seen R.left R.faults S.held S.faults O.held O.faults self.old output.old
+            draws.old tiles.old)
+            (seen R.left R.faults S.held S.faults O.held O.faults self.new output.new
+            draws.new tiles.new)
             action) }
         ensures err { IfErr result (Halts
-            (seen R.left R.faults S.held S.faults O.held O.faults self.old output.old)
-            (seen R.left R.faults S.held S.faults O.held O.faults self.new output.new)
+            (seen R.left R.faults S.held S.faults O.held O.faults self.old output.old
+            draws.old tiles.old)
+            (seen R.left R.faults S.held S.faults O.held O.faults self.new output.new
+            draws.new tiles.new)
             action) }
     {
         match action {
@@ -91,12 +95,16 @@ impl<R: Source, S: Sink> Joiner<R, S> {
     ) -> Result<(), JoinStop>
         requires { 32 ≤ kind_of msg }
         ensures ok { OnOk result (Moves
-            (seen R.left R.faults S.held S.faults O.held O.faults self.old output.old)
-            (seen R.left R.faults S.held S.faults O.held O.faults self.new output.new)
+            (seen R.left R.faults S.held S.faults O.held O.faults self.old output.old
+            draws.old tiles.old)
+            (seen R.left R.faults S.held S.faults O.held O.faults self.new output.new
+            draws.new tiles.new)
             (λ j. said_by j msg)) }
         ensures err { IfErr result (Fails
-            (seen R.left R.faults S.held S.faults O.held O.faults self.old output.old)
-            (seen R.left R.faults S.held S.faults O.held O.faults self.new output.new)
+            (seen R.left R.faults S.held S.faults O.held O.faults self.old output.old
+            draws.old tiles.old)
+            (seen R.left R.faults S.held S.faults O.held O.faults self.new output.new
+            draws.new tiles.new)
             (λ j. said_by j msg)) }
         ensures taken { OnOk result (self.new.client.taken ≡ self.old.client.taken) }
         ensures reader { self.new.reader ≡ self.old.reader }
@@ -122,12 +130,16 @@ impl<R: Source, S: Sink> Joiner<R, S> {
         ensures ready { OnOk result
             (IsReady self.new.client (source_of R.left R.faults self.new)) }
         ensures ok { OnOk result (Passes
-            (seen R.left R.faults S.held S.faults O.held O.faults self.old output.old)
-            (seen R.left R.faults S.held S.faults O.held O.faults self.new output.new)
+            (seen R.left R.faults S.held S.faults O.held O.faults self.old output.old
+            draws.old tiles.old)
+            (seen R.left R.faults S.held S.faults O.held O.faults self.new output.new
+            draws.new tiles.new)
             (action.Take count)) }
         ensures err { IfErr result (Halts
-            (seen R.left R.faults S.held S.faults O.held O.faults self.old output.old)
-            (seen R.left R.faults S.held S.faults O.held O.faults self.new output.new)
+            (seen R.left R.faults S.held S.faults O.held O.faults self.old output.old
+            draws.old tiles.old)
+            (seen R.left R.faults S.held S.faults O.held O.faults self.new output.new
+            draws.new tiles.new)
             (action.Take count)) }
     {
         for _taken in 0..count {
@@ -147,12 +159,16 @@ impl<R: Source, S: Sink> Joiner<R, S> {
     ) -> Result<(), JoinStop>
         requires { length self.old.client.taken < 2 ^ 32 - 1 }
         ensures ok { OnOk result (Moves
-            (seen R.left R.faults S.held S.faults O.held O.faults self.old output.old)
-            (seen R.left R.faults S.held S.faults O.held O.faults self.new output.new)
+            (seen R.left R.faults S.held S.faults O.held O.faults self.old output.old
+            draws.old tiles.old)
+            (seen R.left R.faults S.held S.faults O.held O.faults self.new output.new
+            draws.new tiles.new)
             (λ j. took_entry j entry.now)) }
         ensures err { IfErr result (Fails
-            (seen R.left R.faults S.held S.faults O.held O.faults self.old output.old)
-            (seen R.left R.faults S.held S.faults O.held O.faults self.new output.new)
+            (seen R.left R.faults S.held S.faults O.held O.faults self.old output.old
+            draws.old tiles.old)
+            (seen R.left R.faults S.held S.faults O.held O.faults self.new output.new
+            draws.new tiles.new)
             (λ j. took_entry j entry.now)) }
         ensures taken { OnOk result
             (length self.new.client.taken ≤ length self.old.client.taken + 1) }
@@ -226,13 +242,17 @@ impl<R: Source, S: Sink> Joiner<R, S> {
 
     /// Prints what is shown of the client.
     fn show<O: Sink>(&self, shown: Shown, output: &mut O) -> Result<(), JoinStop>
-        ensures ok { OnOk result (Moves
-            (seen R.left R.faults S.held S.faults O.held O.faults self.now output.old)
-            (seen R.left R.faults S.held S.faults O.held O.faults self.now output.new)
+        ensures ok { (draws tiles : ℕ) → OnOk result (Moves
+            (seen R.left R.faults S.held S.faults O.held O.faults self.now output.old draws
+            tiles)
+            (seen R.left R.faults S.held S.faults O.held O.faults self.now output.new draws
+            tiles)
             (λ j. printed j (shown_text shown j.client))) }
-        ensures err { IfErr result (Fails
-            (seen R.left R.faults S.held S.faults O.held O.faults self.now output.old)
-            (seen R.left R.faults S.held S.faults O.held O.faults self.now output.new)
+        ensures err { (draws tiles : ℕ) → IfErr result (Fails
+            (seen R.left R.faults S.held S.faults O.held O.faults self.now output.old draws
+            tiles)
+            (seen R.left R.faults S.held S.faults O.held O.faults self.now output.new draws
+            tiles)
             (λ j. printed j (shown_text shown j.client))) }
     {
         print_shown(self.alloc, &self.client, shown, output)
@@ -240,13 +260,17 @@ impl<R: Source, S: Sink> Joiner<R, S> {
 
     /// Sends the confirmed canvas as a reset.
     fn reset<O: Sink>(&mut self, output: &mut O) -> Result<(), JoinStop>
-        ensures ok { OnOk result (Moves
-            (seen R.left R.faults S.held S.faults O.held O.faults self.old output.old)
-            (seen R.left R.faults S.held S.faults O.held O.faults self.new output.new)
+        ensures ok { (draws tiles : ℕ) → OnOk result (Moves
+            (seen R.left R.faults S.held S.faults O.held O.faults self.old output.old draws
+            tiles)
+            (seen R.left R.faults S.held S.faults O.held O.faults self.new output.new draws
+            tiles)
             (λ j. reset_by j (reset_messages (snapshot (confirmed j.client))))) }
-        ensures err { IfErr result (Fails
-            (seen R.left R.faults S.held S.faults O.held O.faults self.old output.old)
-            (seen R.left R.faults S.held S.faults O.held O.faults self.new output.new)
+        ensures err { (draws tiles : ℕ) → IfErr result (Fails
+            (seen R.left R.faults S.held S.faults O.held O.faults self.old output.old draws
+            tiles)
+            (seen R.left R.faults S.held S.faults O.held O.faults self.new output.new draws
+            tiles)
             (λ j. reset_by j (reset_messages (snapshot (confirmed j.client))))) }
         ensures client { self.new.client ≡ self.old.client }
         ensures reader { self.new.reader ≡ self.old.reader }
@@ -261,13 +285,17 @@ impl<R: Source, S: Sink> Joiner<R, S> {
 
     /// Prints the lines of chat that are kept.
     fn print_chats<O: Sink>(&self, output: &mut O) -> Result<(), JoinStop>
-        ensures ok { OnOk result (Moves
-            (seen R.left R.faults S.held S.faults O.held O.faults self.now output.old)
-            (seen R.left R.faults S.held S.faults O.held O.faults self.now output.new)
+        ensures ok { (draws tiles : ℕ) → OnOk result (Moves
+            (seen R.left R.faults S.held S.faults O.held O.faults self.now output.old draws
+            tiles)
+            (seen R.left R.faults S.held S.faults O.held O.faults self.now output.new draws
+            tiles)
             (λ j. printed j (chats_text (keep_last chat_limit j.chats)))) }
-        ensures err { IfErr result (Fails
-            (seen R.left R.faults S.held S.faults O.held O.faults self.now output.old)
-            (seen R.left R.faults S.held S.faults O.held O.faults self.now output.new)
+        ensures err { (draws tiles : ℕ) → IfErr result (Fails
+            (seen R.left R.faults S.held S.faults O.held O.faults self.now output.old draws
+            tiles)
+            (seen R.left R.faults S.held S.faults O.held O.faults self.now output.new draws
+            tiles)
             (λ j. printed j (chats_text (keep_last chat_limit j.chats)))) }
     {
         print_chats(self.alloc, &self.chats, output)

@@ -1,12 +1,14 @@
 //! Laws of scripts over links. Each function does nothing but call others: its contract is the law.
 
 ghost use Rattle.std.specs.Prelude.{◌≡◌, ℕ, List};
+ghost use Rattle.dp_lines.specs.declared.run_end.RunEnd.{RunEnd};
+ghost use Rattle.dp_joining.specs.Leaves.{BeginsDue, JoinLeaves, Traffic, WhereKnown};
 ghost use Rattle.dp_joining.specs.Outcomes.{JoinComesTo, JoinOutcome};
 
 use crate::join_standing::JoinStanding;
 use dp_entries::{Standing, each_input_ends, one_reading};
 use dp_frame::one_first_frame;
-use dp_lines::{StepRule, further_step, one_end};
+use dp_lines::{StepRule, further_step, one_end, whole_lines};
 use dp_schedule::one_join_action;
 
 /// The lines of a script, for laws of lines.
@@ -30,6 +32,20 @@ pub fn one_outcome()
     one_end::<ScriptLines>();
     one_reading::<JoinStanding>();
     JoinStanding::one_standing();
+}
+
+/// However a run over a link ends, what was printed and what was written are prefixes of what the
+/// script and the link come to, and no more was drawn than is due.
+pub fn begun_is_due()
+    ensures { (name : List ℕ) (t : Traffic) (end : RunEnd) → JoinLeaves name t end
+        → WhereKnown t (BeginsDue name t) }
+{
+    one_first_frame();
+    one_join_action();
+    one_end::<ScriptLines>();
+    one_reading::<JoinStanding>();
+    JoinStanding::one_standing();
+    whole_lines();
 }
 
 /// It can't be that a script and a link come to no outcome.

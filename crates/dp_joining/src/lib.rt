@@ -17,7 +17,7 @@ mod sending;
 mod stops;
 
 pub use join_standing::LinkFlaw;
-pub use laws::{each_outcome, one_outcome};
+pub use laws::{begun_is_due, each_outcome, one_outcome};
 pub use link::{Joined, join_link};
 pub use run::run_join;
 pub use stops::LinkCause;

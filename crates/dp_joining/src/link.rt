@@ -3,7 +3,9 @@
 ghost use Rattle.std.specs.Prelude.{◌≡◌, ℕ, ◌≤◌, List, length};
 ghost use Rattle.std.specs.declared.option.Option.{Option};
 ghost use Rattle.dp_messages.specs.declared.message.Entry.{Entry as Item};
+ghost use Rattle.dp_script.specs.Counters.{counters};
 ghost use Rattle.dp_joining.specs.Leaves.{FaultMatchesJoin, IsWelcome, JoinLeaves};
+ghost use Rattle.dp_joining.specs.Leaves.{ReadsNoFurther, WaitsUnread};
 ghost use Rattle.dp_joining.specs.Partings.{TakesLeave, SaysFarewell};
 ghost use Rattle.dp_joining.specs.Steps.{IsReady, Seen, seen, source_of};
 
@@ -12,7 +14,7 @@ use crate::joiner::Joiner;
 use crate::sending::send;
 use crate::stops::JoinStop;
 use dp_io::{Sink, Source};
-use dp_lines::{RunEnd, further_step};
+use dp_lines::{RunEnd, further_step, whole_lines};
 use dp_messages::Msg;
 use dp_msg_meta::{Control, Text};
 use dp_script::{ScriptEnd, run_lines};
@@ -64,7 +66,10 @@ pub fn join_link<I: Source, O: Sink, R: Source + Drop, S: Sink + Drop, D: Ledger
       print_now = O.held output.new;
       sent_old = S.held link.1;
       sent_now = S.held result.tx;
+      counters = counters draws.old draws.new tiles.old tiles.new;
     }) result.end }
+    ensures took { ReadsNoFurther (I.left input.old) (I.left input.new) }
+    ensures unread { WaitsUnread name.now (R.left link.0) (I.left input.old) (I.left input.new) }
     ensures fault { FaultMatchesJoin (record {
       input = I.faults input.old;
       output = O.faults output.old;
@@ -79,6 +84,7 @@ pub fn join_link<I: Source, O: Sink, R: Source + Drop, S: Sink + Drop, D: Ledger
     ensures input_later { I.faults input.old ≤ I.faults input.new }
     ensures output_later { O.faults output.old ≤ O.faults output.new }
 {
+    whole_lines();
     let (mut rx, mut tx) = link;
     match greet(alloc, name, &mut rx, &mut tx) {
         Ok(greeting) => {
@@ -126,7 +132,8 @@ fn do_script<I: Source, O: Sink, R: Source + Drop, S: Sink + Drop, D: Ledger, T:
     requires { IsReady joiner.client (source_of R.left R.faults joiner) }
     ensures leaves { (name : List ℕ) (link : Option (List ℕ)) (first : Seen) (welcome : Item)
         → IsWelcome name link first
-        (seen R.left R.faults S.held S.faults O.held O.faults joiner output.old) welcome
+        (seen R.left R.faults S.held S.faults O.held O.faults joiner output.old
+        draws.old tiles.old) welcome
         → JoinLeaves name (record {
           input = I.left input.old;
           left = I.left input.new;
@@ -135,10 +142,13 @@ fn do_script<I: Source, O: Sink, R: Source + Drop, S: Sink + Drop, D: Ledger, T:
           print_now = O.held output.new;
           sent_old = first.written;
           sent_now = S.held result.tx;
+          counters = counters first.draws draws.new first.tiles tiles.new;
         }) result.end }
+    ensures took { ReadsNoFurther (I.left input.old) (I.left input.new) }
     ensures fault { (name : List ℕ) (link : Option (List ℕ)) (first : Seen) (welcome : Item)
         → IsWelcome name link first
-        (seen R.left R.faults S.held S.faults O.held O.faults joiner output.old) welcome
+        (seen R.left R.faults S.held S.faults O.held O.faults joiner output.old
+        draws.old tiles.old) welcome
         → FaultMatchesJoin (record {
           input = I.faults input.old;
           output = first.print_faults;
@@ -153,7 +163,8 @@ fn do_script<I: Source, O: Sink, R: Source + Drop, S: Sink + Drop, D: Ledger, T:
     ensures input_later { I.faults input.old ≤ I.faults input.new }
     ensures output_later { (name : List ℕ) (link : Option (List ℕ)) (first : Seen) (welcome : Item)
         → IsWelcome name link first
-        (seen R.left R.faults S.held S.faults O.held O.faults joiner output.old) welcome
+        (seen R.left R.faults S.held S.faults O.held O.faults joiner output.old
+        draws.old tiles.old) welcome
         → first.print_faults ≤ O.faults output.new }
 {
     further_step::<Joiner<R, S>>();

@@ -2,7 +2,9 @@
 
 ghost use Rattle.std.specs.Prelude.{◌≤◌, length};
 ghost use Rattle.dp_joining.specs.Runs.{RunLeaves};
+ghost use Rattle.dp_script.specs.Counters.{counters};
 
+use crate::laws::begun_is_due;
 use crate::link::{Joined, join_link};
 use dp_io::{Sink, Source};
 use dp_lines::RunEnd;
@@ -17,8 +19,8 @@ use std::sync::ledger::Ledger;
 ///
 /// # Errors
 ///
-/// Where no link is given it ends with `LinkFault` or `Memory`, and nothing is read or written.
-/// Else it ends as `join_link`.
+/// Where no link is given it ends with `LinkFault` or `Memory`, and it dials no further. Else it
+/// ends as `join_link`.
 ///
 /// The rule: docs/protocol.md, "Joining".
 pub fn run_join<I: Source, O: Sink, W: Wire, D: Ledger, T: Ledger>(
@@ -42,10 +44,12 @@ pub fn run_join<I: Source, O: Sink, W: Wire, D: Ledger, T: Ledger>(
           output_now = O.held output.new;
           output_faults = O.faults output.old;
           output_faults_now = O.faults output.new;
+          counters = counters draws.old draws.new tiles.old tiles.new;
         }) result }
     ensures input_later { I.faults input.old ≤ I.faults input.new }
     ensures output_later { O.faults output.old ≤ O.faults output.new }
 {
+    begun_is_due();
     match wire.dial() {
         Ok(link) => {
             let Joined { end, rx, tx } = join_link(alloc, name, link, input, output, draws, tiles);

@@ -1,4 +1,5 @@
 pub mod Moments
+pub mod Counters
 pub mod Ends
 pub mod Progress
 pub mod Leaves

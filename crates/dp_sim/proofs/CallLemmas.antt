@@ -1,10 +1,17 @@
 -- What the calls of a client and of a world rest on.
-use Rattle.std.proofs.Common.{◌≡◌, ℕ, suc, zero, ◌==◌, Bool, true, false, not, if◌then◌else◌}
+use Rattle.std.proofs.Common.{◌≡◌, ℕ, suc, zero, ◌-◌, ◌==◌, Bool, true, false, not, if◌then◌else◌}
 use Rattle.std.proofs.Common.{List, [], ◌∷◌, length, Option, None, Some, is_some, Result, Ok, Err}
-use Rattle.std.proofs.Common.{OnOk}
+use Rattle.std.proofs.Common.{OnOk, IfSome, IsSome}
 use Rattle.std.proofs.Common.{refl, sym, ap, subst, ◌∙◌}
 use Rattle.std.specs.List.{list_any, slice_get}
+use Rattle.std.specs.Option.{option_map_or}
+use Rattle.std.specs.Prelude.{slice_index_or}
+use Rattle.dp_board.specs.Counts.{CountsFew}
+use Rattle.dp_lists.specs.Numbered.{numbered}
 use Rattle.dp_messages.specs.declared.message.Entry.{Entry}
+use Rattle.dp_msg_draw.specs.declared.draw.Draw.{Draw}
+use Rattle.dp_pixels.specs.Feet.{reach}
+use Rattle.dp_schedule.specs.declared.action.Instruction.{Instruction}
 use Rattle.dp_epochs.specs.declared.connection.Connection.{Connection}
 use Rattle.dp_epochs.specs.declared.connection.Ending.{Ending}
 use Rattle.dp_epochs.specs.declared.connection.Ending.TheVariants as ending
@@ -17,6 +24,7 @@ use Rattle.dp_epochs.specs.Past.{Past, state_of}
 use Rattle.dp_epochs.specs.Pull.{page, pulled_from, pulled_by, pulled_where, answered}
 use Rattle.dp_sim.specs.Exchanges.{Participant, next_entry}
 use Rattle.dp_sim.specs.Calls.{exchange, CanTake}
+use Rattle.dp_sim.specs.Due.{exchange_due}
 use Rattle.dp_sim.specs.World.{World}
 use Rattle.dp_sim.specs.Invariant.{IsWorld}
 
@@ -89,6 +97,42 @@ next-is past participant epoch at list is =
     ap first_of is
     ∙ first-pulled s.live participant.state.epoch (epoch_of s) (length participant.state.taken)
     (participant.state.epoch == epoch_of s)
+
+-- ---- what is drawn
+
+-- an item that is there stands at its place, also as the one that is read with a default
+there-at : {X : Type 0} (xs : List X) (n : ℕ) (d : X) → IsSome (slice_get xs n)
+    → IfSome (slice_get xs n) (λ x. x ≡ slice_index_or xs n d)
+there-at [] n d some = cc
+there-at (x ∷ xs) zero d some = refl
+there-at (x ∷ xs) (suc n) d some = there-at xs n d some
+
+by-zero : {X : Type 0} (b : Bool) (o : Option X) (y : X) → IsSome (if b then None else o)
+    → (IsSome o → IfSome o (λ x. x ≡ y)) → IfSome (if b then None else o) (λ x. x ≡ y)
+by-zero true o y some is = cc
+by-zero false o y some is = is some
+
+pub numbered-is : {X : Type 0} (xs ys : List X) (number : ℕ) (x d : X)
+    → x ≡ slice_index_or xs (number - 1) d → xs ≡ ys → IsSome (numbered ys number)
+    → IfSome (numbered ys number) (λ y. y ≡ x)
+numbered-is xs ys number x d read same some =
+    subst (λ z. IfSome (numbered ys number) (λ y. y ≡ z))
+    (sym (read ∙ ap (λ zs. slice_index_or zs (number - 1) d) same))
+    (by-zero (number == 0) (slice_get ys (number - 1)) (slice_index_or ys (number - 1) d) some
+    (there-at ys (number - 1) d))
+
+-- what a client draws that is there, by its number
+pub counts-of : (found : Option Participant) (past : Past) (participant : Participant)
+    (instruction : Instruction) (draws draws' tiles tiles' : ℕ) → IsSome found
+    → IfSome found (λ p. p ≡ participant)
+    → CountsFew reach (exchange_due (exchange past participant) instruction) draws draws' tiles
+    tiles'
+    → CountsFew reach (option_map_or (λ p. exchange_due (exchange past p) instruction) found [])
+    draws draws' tiles tiles'
+counts-of None past participant instruction draws draws' tiles tiles' some same few = cc (some)
+counts-of (Some p) past participant instruction draws draws' tiles tiles' some same few =
+    subst (λ (due : List Draw). CountsFew reach due draws draws' tiles tiles')
+    (ap (λ x. exchange_due (exchange past x) instruction) (sym same)) few
 
 -- ---- worlds
 

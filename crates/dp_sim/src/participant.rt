@@ -5,7 +5,9 @@ ghost use Rattle.std.specs.Prelude.{slice_get, map, IfOk, OnOk};
 ghost use Rattle.dp_msg_meta.specs.declared.message.Control.TheVariants.{Disconnect};
 ghost use Rattle.dp_messages.specs.declared.message.Msg.TheVariants as msg;
 ghost use Rattle.dp_messages.specs.Messages.{kind_of};
+ghost use Rattle.dp_board.specs.Counts.{CountsFew};
 ghost use Rattle.dp_client.specs.Client.{said, taken_of};
+ghost use Rattle.dp_client.specs.Due.{canvas_due, said_due};
 ghost use Rattle.dp_epochs.specs.declared.event.Event.TheVariants as event;
 ghost use Rattle.dp_epochs.specs.Past.{sure_answer, sure_step};
 ghost use Rattle.dp_schedule.specs.declared.report_line.ReportLine.TheVariants as report;
@@ -25,7 +27,9 @@ ghost use Rattle.dp_sim.specs.Exchanges.{
   reset_of,
   with_sent,
 };
+ghost use Rattle.dp_pixels.specs.Feet.{reach};
 ghost use Rattle.dp_snap.specs.Resets.{reset_messages};
+ghost use Rattle.dp_sim.specs.Due.{exchange_due, next_due};
 ghost use Rattle.dp_sim.specs.World.{new_participant};
 ghost use Rattle.dp_sim.specs.Invariant.{IsSayable};
 ghost use Rattle.dp_sim.specs.Calls.{exchange, took_entry, CanTake, CanAct};
@@ -154,6 +158,8 @@ impl Participant {
           state = said self.old.state msg.now;
           uplink = self.old.uplink ++ msg.now ∷ [];
         }) }
+        ensures counts { CountsFew reach (said_due msg.now) draws.old draws.new tiles.old
+            tiles.new }
     {
         self.client.say(msg, draws, tiles)?;
         self.uplink.push_back(msg.copy()?)?;
@@ -228,6 +234,8 @@ impl Participant {
         ensures ok { OnOk result (exchange session.now self.new
             ≡ took_next (exchange session.now self.old) (next_entry
             (exchange session.now self.old))) }
+        ensures counts { CountsFew reach (next_due (exchange session.now self.old)
+            (next_entry (exchange session.now self.old))) draws.old draws.new tiles.old tiles.new }
     {
         let entries = self.pull(session)?;
         match entries.as_slice().first() {
@@ -246,6 +254,8 @@ impl Participant {
         requires { length self.old.state.taken < 2 ^ 32 - 1 }
         ensures line { IfOk result (λ line. line ≡ took_line (taken_of self.old.state entry.now)) }
         ensures ok { OnOk result (self.new ≡ took_entry self.old entry.now) }
+        ensures counts { CountsFew reach (canvas_due self.old.state entry.now) draws.old draws.new
+            tiles.old tiles.new }
     {
         let taken = self.client.take(entry, draws, tiles)?;
         if let Some(epoch) = taken.ack {
@@ -303,8 +313,8 @@ impl Participant {
         Ok(cut_line(self.disconnect(session)?))
     }
 
-    /// The client does an instruction. After an error nothing is promised of
-    /// the client and the session then.
+    /// The client does an instruction. After an error nothing is promised of the client and the
+    /// session but for the counters.
     pub(crate) fn act<D: Ledger, T: Ledger>(
         &mut self,
         alloc: Global,
@@ -319,6 +329,8 @@ impl Participant {
             instruction.now) }
         ensures ok { OnOk result (exchange session.new self.new
             ≡ exchanged (exchange session.old self.old) instruction.now) }
+        ensures counts { CountsFew reach (exchange_due (exchange session.old self.old)
+            instruction.now) draws.old draws.new tiles.old tiles.new }
     {
         if self.is_gone(instruction) {
             return Ok(ReportLine::Gone);

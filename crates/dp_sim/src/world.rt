@@ -1,9 +1,12 @@
 //! The world, with one call a line.
 
 ghost use Rattle.std.specs.Prelude.{◌≡◌, is_some, IsSome, IfSome, IfOk, OnOk};
+ghost use Rattle.dp_board.specs.Counts.{CountsFew};
+ghost use Rattle.dp_pixels.specs.Feet.{reach};
 ghost use Rattle.dp_schedule.specs.declared.action.Action.TheVariants.{Join, Act};
 ghost use Rattle.dp_epochs.specs.declared.event.Event.TheVariants.{Open};
 ghost use Rattle.dp_epochs.specs.Past.{sure_answer};
+ghost use Rattle.dp_sim.specs.Due.{action_due};
 ghost use Rattle.dp_sim.specs.World.{first_world, after, participant_of, join_line, acted_line};
 ghost use Rattle.dp_sim.specs.World.{length_of};
 ghost use Rattle.dp_sim.specs.Invariant.{IsWorld, IsSayable};
@@ -110,6 +113,8 @@ impl World {
         ensures line { IfOk result (λ line. IfSome (participant_of self.old client) (λ participant.
             line ≡ acted_line self.old.past participant instruction.now)) }
         ensures ok { OnOk result (self.new ≡ after self.old (Act client instruction.now)) }
+        ensures counts { CountsFew reach (action_due self.old (Act client instruction.now))
+            draws.old draws.new tiles.old tiles.new }
     {
         histories_are_short();
         let participant = &mut self.participants[client as usize - 1];
@@ -151,6 +156,8 @@ impl World {
             line ≡ acted_line self.old.past participant instruction.now)) }
         ensures ok { OnOk result (self.new ≡ after self.old (Act client instruction.now)) }
         ensures world { OnOk result (IsWorld self.new) }
+        ensures counts { CountsFew reach (action_due self.old (Act client instruction.now))
+            draws.old draws.new tiles.old tiles.new }
     {
         worlds_stay_worlds();
         self.play(client, instruction, draws, tiles)

@@ -16,12 +16,14 @@ use Rattle.dp_lines.specs.Held.{IsLeft}
 use Rattle.dp_lines.specs.Lines.{Lacks, ended, newline, numbered, open_rest}
 use Rattle.dp_lines.proofs.Seen.{given_seen}
 use Rattle.dp_schedule.specs.declared.action.Action.{Action}
+use Rattle.dp_script.specs.Counters.{Counters}
 use Rattle.dp_script.specs.Limits.{lines_limit}
 use Rattle.dp_sim.specs.Report.{report}
-use Rattle.dp_world.specs.RunEnds.{GrowsByDue, HasBegunOf, ReportsOf, WorldLeaves, lines_end_of}
+use Rattle.dp_world.specs.RunEnds.{DrawsByDue, DrawsFor, GrowsByDue, HasBegunOf, ReportsOf}
+use Rattle.dp_world.specs.RunEnds.{WorldLeaves, lines_end_of}
 use Rattle.dp_world.specs.Schedule.{AskFor, IsStep, WorldComesTo}
 use Rattle.dp_world.proofs.Called.{FurtherStep, OneAction}
-use Rattle.dp_world.proofs.Prefixes.{begun_due}
+use Rattle.dp_world.proofs.Prefixes.{begun_draws, begun_due}
 use Rattle.dp_world.proofs.Reports.{asked_more}
 
 -- ---- each input comes to an end
@@ -82,21 +84,21 @@ not_endless further nothing bytes none =
 
 -- Where the end is none of a fault (P says so), the report was written of what the input comes to.
 pub whole_report : (P : RunEnd → Type 0) → (P ReadFault → ⊥) → (P WriteFault → ⊥) → (P Memory → ⊥)
-    → (bytes : List ℕ) (left old now : Option (List ℕ)) (end : RunEnd)
-    → WorldLeaves (Some bytes) left old now end → P end
+    → (bytes : List ℕ) (left old now : Option (List ℕ)) (c : Counters) (end : RunEnd)
+    → WorldLeaves (Some bytes) left old now c end → P end
     → (done : List Line) × (actions : List Action) × (last : LinesEnd)
     × WorldComesTo bytes done actions last × (end ≡ lines_end_of last)
     × Appends old now (report actions)
-whole_report P read write memory bytes left old now Done h p =
+whole_report P read write memory bytes left old now c Done h p =
     (h.1.0, h.1.1, ends.AllDone, h.1.2, refl, h.1.3)
-whole_report P read write memory bytes left old now (BadLine n) h p =
+whole_report P read write memory bytes left old now c (BadLine n) h p =
     (h.0.0, h.0.1, ends.BadLine n, h.0.2, refl, h.0.3)
-whole_report P read write memory bytes left old now Long h p =
+whole_report P read write memory bytes left old now c Long h p =
     (h.0.0, h.0.1, ends.TooLong, h.0.2, refl, h.0.3)
-whole_report P read write memory bytes left old now ReadFault h p = absurd (read p)
-whole_report P read write memory bytes left old now WriteFault h p = absurd (write p)
-whole_report P read write memory bytes left old now Memory h p = absurd (memory p)
-whole_report P read write memory bytes left old now _ h p = absurd h
+whole_report P read write memory bytes left old now c ReadFault h p = absurd (read p)
+whole_report P read write memory bytes left old now c WriteFault h p = absurd (write p)
+whole_report P read write memory bytes left old now c Memory h p = absurd (memory p)
+whole_report P read write memory bytes left old now c _ h p = absurd h
 
 -- bytes are whole lines and a rest, and in one way
 pub record OneRest : Type 0 where
@@ -121,17 +123,22 @@ whole_first one taken untaken counts =
     given_seen lines_limit taken untaken (numbered 0 (ended taken)) _ left counts
 
 module _ (one : OneAction) (further : FurtherStep) (nothing : AreSteps IsStep []) (rest : OneRest)
-    (bytes : List ℕ) (old now : Option (List ℕ)) where
+    (bytes : List ℕ) (old now : Option (List ℕ)) (c : Counters) where
   -- lines that were begun
-  begun-grows : HasBegunOf (seen lines_limit bytes) old now → GrowsByDue bytes old now
+  begun-grows : HasBegunOf (seen lines_limit bytes) old now c → GrowsByDue bytes old now
   begun-grows begun none = not_endless further nothing bytes (λ done actions end comes.
-      none done actions end comes (begun_due one bytes old now begun done actions end comes))
+      none done actions end comes (begun_due one bytes old now c begun done actions end comes))
 
-  -- the report of the lines that are whole in what was taken
-  taken-grows : (left : Option (List ℕ)) → ReportsOf bytes left old now → GrowsByDue bytes old now
-  taken-grows left of =
+  begun-draws : HasBegunOf (seen lines_limit bytes) old now c → DrawsByDue bytes c
+  begun-draws begun none = not_endless further nothing bytes (λ done actions end comes.
+      none done actions end comes (begun_draws one bytes old now c begun done actions end comes))
+
+  -- so are the lines that are whole in what was taken
+  taken-begun : (left : Option (List ℕ)) → ReportsOf bytes left old now c
+      → HasBegunOf (seen lines_limit bytes) old now c
+  taken-begun left of =
       let first = whole_first rest of.taken of.untaken of.quiet.counts in
-      begun-grows (record {
+      record {
         begun = numbered 0 (ended of.taken);
         after = first.0;
         parts = ap (seen lines_limit) of.parts ∙ first.1;
@@ -140,23 +147,34 @@ module _ (one : OneAction) (further : FurtherStep) (nothing : AreSteps IsStep []
           asked = of.asked;
           steps = of.quiet.steps;
           text = grows_whole old now (report of.actions) of.text;
+          counts = of.counts;
         };
-      })
+      }
 
   -- the whole report
   whole-grows : (end : LinesEnd)
       → (done : List Line) × (actions : List Action) × WorldComesTo bytes done actions end
-      × Appends old now (report actions)
+      × Appends old now (report actions) × DrawsFor actions c
       → GrowsByDue bytes old now
   whole-grows end whole none =
       none whole.0 whole.1 end whole.2 (grows_whole old now (report whole.1) whole.3)
 
   pub grows_by_due : (left : Option (List ℕ)) (end : RunEnd)
-      → WorldLeaves (Some bytes) left old now end → GrowsByDue bytes old now
+      → WorldLeaves (Some bytes) left old now c end → GrowsByDue bytes old now
   grows_by_due left Done h = whole-grows ends.AllDone h.1
   grows_by_due left (BadLine n) h = whole-grows (ends.BadLine n) h.0
   grows_by_due left Long h = whole-grows ends.TooLong h.0
-  grows_by_due left ReadFault h = taken-grows left h
+  grows_by_due left ReadFault h = begun-grows (taken-begun left h)
   grows_by_due left WriteFault h = begun-grows h.0
   grows_by_due left Memory h = begun-grows h
   grows_by_due left _ h = absurd h
+
+  pub draws_by_due : (left : Option (List ℕ)) (end : RunEnd)
+      → WorldLeaves (Some bytes) left old now c end → DrawsByDue bytes c
+  draws_by_due left Done h none = none h.1.0 h.1.1 ends.AllDone h.1.2 h.1.4
+  draws_by_due left (BadLine n) h none = none h.0.0 h.0.1 (ends.BadLine n) h.0.2 h.0.4
+  draws_by_due left Long h none = none h.0.0 h.0.1 ends.TooLong h.0.2 h.0.4
+  draws_by_due left ReadFault h none = begun-draws (taken-begun left h) none
+  draws_by_due left WriteFault h none = begun-draws h.0 none
+  draws_by_due left Memory h none = begun-draws h none
+  draws_by_due left _ h none = absurd h

@@ -12,6 +12,7 @@ use Rattle.dp_lines.specs.declared.run_end.RunEnd.TheVariants as run
 use Rattle.dp_lines.specs.Ends.{AreSteps, LinesEnd, LinesComeTo, seen}
 use Rattle.dp_lines.specs.Ends as ends
 use Rattle.dp_lines.specs.TakenParts.{TookWithin}
+use Rattle.dp_script.specs.Counters.{Counters, NothingIsDrawn, counters, counters_of}
 use Rattle.dp_script.specs.declared.machine.ScriptEnd.{ScriptEnd}
 use Rattle.dp_script.specs.declared.machine.ScriptEnd.TheVariants.{Done, BadLine, ReadFault, Long}
 use Rattle.dp_script.specs.declared.machine.ScriptEnd.TheVariants.{Memory, Ended}
@@ -23,53 +24,73 @@ use Rattle.dp_world.specs.Schedule.{AskFor, IsStep}
 use Rattle.dp_script.specs.Limits.{lines_limit}
 use Rattle.dp_world.specs.Progress.{HasDone, HasEnded, Wrote}
 use Rattle.dp_lines.specs.RunEnds.{FaultMatchesEnd}
-use Rattle.dp_world.specs.RunEnds.{ReportsOf, ReportsPart}
+use Rattle.dp_world.specs.RunEnds.{DrawsFor, ReportsOf, ReportsPart}
 use Rattle.dp_world.specs.RunEnds.{ReportsWhole, TookNoCause, WorldLeaves, run_end_of}
 use Rattle.dp_world.proofs.Called.{FurtherStep}
 use Rattle.dp_world.proofs.Progress.{wrote_done}
 
+-- where nothing is drawn, no more is than no action may draw
+nothing_draws : (c : Counters) → NothingIsDrawn c → DrawsFor [] c
+nothing_draws c (draws, tiles) = record {
+  draws_rise = omega (arith, draws);
+  few_draws = omega (arith, draws);
+  tiles_rise = omega (arith, tiles);
+  few_tiles = omega (arith, tiles);
+}
+
 -- no line is done yet
-pub nothing_done : {M O D T : Type 0} (world : M → World) (held : O → Option (List ℕ))
-    (faults : O → ℕ) (start : Moment M O D T) → world start.machine ≡ first_world
+pub nothing_done : {M O : Type 0} (world : M → World) (held : O → Option (List ℕ))
+    (faults : O → ℕ) (start : Moment M O ℕ ℕ) → world start.machine ≡ first_world
     → HasDone world held faults start [] start
 nothing_done world held faults start first = record {
   actions = [];
   asked = tt;
   reaches = first;
   text = Appends-nil (held start.output);
+  counts = nothing_draws (counters_of start start) (refl, refl);
   kept = refl;
 }
 
 -- memory is refused before the first line
-pub nothing_leaves : AreSteps IsStep [] → (input left old now : Option (List ℕ))
-    → Appends old now [] → WorldLeaves input left old now run.Memory
-nothing_leaves none None left old now same = tt
-nothing_leaves none (Some bytes) left old now same = record {
+pub nothing_leaves : AreSteps IsStep [] → (input left old now : Option (List ℕ)) (c : Counters)
+    → Appends old now [] → NothingIsDrawn c → WorldLeaves input left old now c run.Memory
+nothing_leaves none None left old now c same still = tt
+nothing_leaves none (Some bytes) left old now c same still = record {
   begun = [];
   after = seen lines_limit bytes;
   parts = refl;
-  has = record { actions = []; asked = tt; steps = none; text = (0, omega arith, same) };
+  has = record {
+    actions = [];
+    asked = tt;
+    steps = none;
+    text = (0, omega arith, same);
+    counts = nothing_draws c still;
+  };
 }
 
-pub refused_leaves : AreSteps IsStep [] → (input left old : Option (List ℕ))
-    → WorldLeaves input left old old run.Memory
-refused_leaves none input left old = nothing_leaves none input left old old (Appends-nil old)
+pub refused_leaves : AreSteps IsStep [] → (input left old : Option (List ℕ)) (draws tiles : ℕ)
+    → WorldLeaves input left old old (counters draws draws tiles tiles) run.Memory
+refused_leaves none input left old draws tiles =
+    nothing_leaves none input left old old (counters draws draws tiles tiles) (Appends-nil old)
+    (refl, refl)
 
 -- the report of the lines that the input comes to
-whole_of : {M O D T : Type 0} {world : M → World} {held : O → Option (List ℕ)} {faults : O → ℕ}
-    {start now : Moment M O D T} (input : Option (List ℕ)) (done : List Line) (end : LinesEnd)
+whole_of : {M O : Type 0} {world : M → World} {held : O → Option (List ℕ)} {faults : O → ℕ}
+    {start now : Moment M O ℕ ℕ} (input : Option (List ℕ)) (done : List Line) (end : LinesEnd)
     → HasDone world held faults start done now
     → IfSome input (λ bytes. LinesComeTo IsStep lines_limit bytes done end)
-    → ReportsWhole input (held start.output) (held now.output) end
+    → ReportsWhole input (held start.output) (held now.output) (counters_of start now) end
 whole_of None done end has comes = tt
-whole_of (Some bytes) done end has comes = (done, has.actions, (comes, has.asked), has.text)
+whole_of (Some bytes) done end has comes =
+    (done, has.actions, (comes, has.asked), has.text, has.counts)
 
 -- the report of the lines that are whole in what was taken
-fault_of : {M O D T : Type 0} {world : M → World} {held : O → Option (List ℕ)} {faults : O → ℕ}
-    {start now : Moment M O D T} (input left : Option (List ℕ)) (done : List Line)
+fault_of : {M O : Type 0} {world : M → World} {held : O → Option (List ℕ)} {faults : O → ℕ}
+    {start now : Moment M O ℕ ℕ} (input left : Option (List ℕ)) (done : List Line)
     → HasDone world held faults start done now
     → IfSome input (λ bytes. TookWithin (HoldsLines IsStep lines_limit done) 0 bytes left)
-    → IfSome input (λ bytes. ReportsOf bytes left (held start.output) (held now.output))
+    → IfSome input (λ bytes. ReportsOf bytes left (held start.output) (held now.output)
+    (counters_of start now))
 fault_of None left done has took = tt
 fault_of (Some bytes) left done has took = record {
   taken = took.taken;
@@ -83,14 +104,16 @@ fault_of (Some bytes) left done has took = record {
   actions = has.actions;
   asked = subst (λ (ls : List Line). AskFor ls has.actions) took.meets.lines has.asked;
   text = has.text;
+  counts = has.counts;
 }
 
 -- a prefix of the report of the lines that were done
-part_of_done : (input old now : Option (List ℕ)) (done : List Line) → Wrote done old now
+part_of_done : (input old now : Option (List ℕ)) (c : Counters) (done : List Line)
+    → Wrote done old now c
     → IfSome input (λ bytes. AreFirstOf IsStep (seen lines_limit bytes) done)
-    → ReportsPart input old now
-part_of_done None old now done wrote prefix = tt
-part_of_done (Some bytes) old now done wrote prefix = record {
+    → ReportsPart input old now c
+part_of_done None old now c done wrote prefix = tt
+part_of_done (Some bytes) old now c done wrote prefix = record {
   begun = done;
   after = prefix.after;
   parts = prefix.parts;
@@ -99,6 +122,7 @@ part_of_done (Some bytes) old now done wrote prefix = record {
     asked = wrote.asked;
     steps = prefix.steps;
     text = wrote.text;
+    counts = wrote.counts;
   };
 }
 
@@ -111,12 +135,12 @@ first_of_next (Some bytes) done line next =
     record { after = line ∷ next.after; parts = next.parts; steps = next.steps }
 
 -- a prefix of the report of the lines that were done and of the next one
-part_of_next : FurtherStep → (input old now : Option (List ℕ)) (done : List Line) (line : Line)
-    → IsStep done line → Wrote (done ++ line ∷ []) old now
+part_of_next : FurtherStep → (input old now : Option (List ℕ)) (c : Counters) (done : List Line)
+    (line : Line) → IsStep done line → Wrote (done ++ line ∷ []) old now c
     → IfSome input (λ bytes. IsNextOf IsStep (seen lines_limit bytes) done line)
-    → ReportsPart input old now
-part_of_next further None old now done line step wrote next = tt
-part_of_next further (Some bytes) old now done line step wrote next = record {
+    → ReportsPart input old now c
+part_of_next further None old now c done line step wrote next = tt
+part_of_next further (Some bytes) old now c done line step wrote next = record {
   begun = done ++ line ∷ [];
   after = next.after;
   parts = next.parts ∙ sym (append_assoc done (line ∷ []) next.after);
@@ -125,26 +149,29 @@ part_of_next further (Some bytes) old now done line step wrote next = record {
     asked = wrote.asked;
     steps = further done line next.steps (record { fits = next.fits; step = step });
     text = wrote.text;
+    counts = wrote.counts;
   };
 }
 
 -- memory ran out before the next line, or in its text
-part_of_memory : FurtherStep → (input old now : Option (List ℕ)) (done : List Line) (line : Line)
-    → Wrote done old now ⊎ (IsStep done line × Wrote (done ++ line ∷ []) old now)
+part_of_memory : FurtherStep → (input old now : Option (List ℕ)) (c : Counters)
+    (done : List Line) (line : Line)
+    → Wrote done old now c ⊎ (IsStep done line × Wrote (done ++ line ∷ []) old now c)
     → IfSome input (λ bytes. IsNextOf IsStep (seen lines_limit bytes) done line)
-    → ReportsPart input old now
-part_of_memory further input old now done line (inl wrote) next =
-    part_of_done input old now done wrote (first_of_next input done line next)
-part_of_memory further input old now done line (inr (step, wrote)) next =
-    part_of_next further input old now done line step wrote next
+    → ReportsPart input old now c
+part_of_memory further input old now c done line (inl wrote) next =
+    part_of_done input old now c done wrote (first_of_next input done line next)
+part_of_memory further input old now c done line (inr (step, wrote)) next =
+    part_of_next further input old now c done line step wrote next
 
-pub leaves_of : {M O D T : Type 0} (world : M → World) (held : O → Option (List ℕ))
-    (faults : O → ℕ) → FurtherStep → (input left : Option (List ℕ)) (start now : Moment M O D T)
+pub leaves_of : {M O : Type 0} (world : M → World) (held : O → Option (List ℕ))
+    (faults : O → ℕ) → FurtherStep → (input left : Option (List ℕ)) (start now : Moment M O ℕ ℕ)
     (end : ScriptEnd PictureEnd)
     → ScriptLeaves IsStep (HasDone world held faults) (HasEnded held faults) lines_limit input left
     start now end
     → TookNoCause input left
-    → WorldLeaves input left (held start.output) (held now.output) (run_end_of end)
+    → WorldLeaves input left (held start.output) (held now.output) (counters_of start now)
+    (run_end_of end)
 leaves_of world held faults further input left start now Done (at_end, done, has, comes) took =
     (at_end, whole_of input done ends.AllDone has comes)
 leaves_of world held faults further input left start now (BadLine n) (done, has, comes) took =
@@ -154,20 +181,21 @@ leaves_of world held faults further input left start now ReadFault (done, has, t
 leaves_of world held faults further input left start now Long (done, has, comes) took =
     (whole_of input done ends.TooLong has comes, took)
 leaves_of world held faults further input left start now Memory (done, has, prefix) took =
-    part_of_done input (held start.output) (held now.output) done
+    part_of_done input (held start.output) (held now.output) (counters_of start now) done
     (wrote_done world held faults start now done has) prefix
 leaves_of world held faults further input left start now (Ended picture.Failed)
     (done, line, failed, next) took = (
-      part_of_next further input (held start.output) (held now.output) done line failed.step
-          failed.wrote next,
+      part_of_next further input (held start.output) (held now.output) (counters_of start now)
+          done line failed.step failed.wrote next,
       took,
     )
 leaves_of world held faults further input left start now (Ended picture.Memory)
     (done, line, ran_out, next) took =
-    part_of_memory further input (held start.output) (held now.output) done line ran_out.wrote next
+    part_of_memory further input (held start.output) (held now.output) (counters_of start now) done
+    line ran_out.wrote next
 
-pub fault_matches_of : {M O D T : Type 0} (world : M → World) (held : O → Option (List ℕ))
-    (faults : O → ℕ) (input left : Option (List ℕ)) (start now : Moment M O D T)
+pub fault_matches_of : {M O : Type 0} (world : M → World) (held : O → Option (List ℕ))
+    (faults : O → ℕ) (input left : Option (List ℕ)) (start now : Moment M O ℕ ℕ)
     (before after : ℕ) (end : ScriptEnd PictureEnd)
     → ScriptLeaves IsStep (HasDone world held faults) (HasEnded held faults) lines_limit input left
     start now end
@@ -192,8 +220,8 @@ fault_matches_of world held faults input left start now before after (Ended pict
     (done, line, ran_out, next) b = (b, ran_out.kept)
 
 -- the count of the output's faults never falls
-pub later_of : {M O D T : Type 0} (world : M → World) (held : O → Option (List ℕ))
-    (faults : O → ℕ) (input left : Option (List ℕ)) (start now : Moment M O D T)
+pub later_of : {M O : Type 0} (world : M → World) (held : O → Option (List ℕ))
+    (faults : O → ℕ) (input left : Option (List ℕ)) (start now : Moment M O ℕ ℕ)
     (end : ScriptEnd PictureEnd)
     → ScriptLeaves IsStep (HasDone world held faults) (HasEnded held faults) lines_limit input left
     start now end

@@ -4,6 +4,7 @@ use Rattle.std.proofs.Common.{inr}
 use Rattle.std.specs.Prelude.{Option, Err}
 use Rattle.std.specs.Io.KnownBytes.{Appends}
 use Rattle.std.proofs.KnownBytes.{Appends-trans}
+use Rattle.dp_board.specs.Counts.{CountsFew}
 use Rattle.dp_flat.specs.declared.picture.PictureEnd.{PictureEnd}
 use Rattle.dp_flat.specs.declared.picture.PictureEnd.TheVariants.{Failed, Memory}
 use Rattle.dp_flat.specs.Ends.{is_sink_fault}
@@ -11,22 +12,28 @@ use Rattle.dp_io.specs.Faults.{HasCause, Rose}
 use Rattle.dp_io.specs.Streams.{GrowsByPrefix}
 use Rattle.dp_lines.specs.declared.line.Line.{Line}
 use Rattle.dp_schedule.specs.declared.action.Action.{Action}
+use Rattle.dp_msg_draw.specs.declared.draw.Draw.{Draw}
+use Rattle.dp_pixels.specs.Feet.{reach}
 use Rattle.dp_schedule.specs.LineGrammar.{Parses}
 use Rattle.dp_script.specs.declared.machine.Undone.{Undone}
 use Rattle.dp_script.specs.declared.machine.Undone.TheVariants.{NoStep, Ended}
+use Rattle.dp_screen.proofs.Leads.{counts_both}
+use Rattle.dp_script.specs.Counters.{counters_of}
 use Rattle.dp_script.specs.Ends.{IfEnded, IfNoStep}
 use Rattle.dp_script.specs.Moments.{Moment}
+use Rattle.dp_sim.specs.Due.{action_due, schedule_due}
 use Rattle.dp_sim.specs.Report.{printed, report}
 use Rattle.dp_sim.specs.World.{World, after, world_after}
 use Rattle.dp_world.specs.Schedule.{IsPossible, IsStep}
 use Rattle.dp_world.specs.Progress.{HasDone, HasEnded, IsWorldLineRefused, Wrote}
+use Rattle.dp_world.specs.RunEnds.{DrawsFor}
 use Rattle.dp_io.proofs.Prefixes.{grows_after, grows_whole}
 use Rattle.dp_world.proofs.Called.{OneAction}
-use Rattle.dp_world.proofs.Reports.{asked_more, asked_same, report_more, world_more}
+use Rattle.dp_world.proofs.Reports.{asked_more, asked_same, due_more, report_more, world_more}
 
 -- a line that asks for what may be done is a step
-pub is_step : {M O D T : Type 0} (world : M → World) (held : O → Option (List ℕ)) (faults : O → ℕ)
-    (start old : Moment M O D T) (done : List Line) (line : Line) (action : Action)
+pub is_step : {M O : Type 0} (world : M → World) (held : O → Option (List ℕ)) (faults : O → ℕ)
+    (start old : Moment M O ℕ ℕ) (done : List Line) (line : Line) (action : Action)
     → Parses line.bytes action → IsPossible (world old.machine) action
     → HasDone world held faults start done old → IsStep done line
 is_step world held faults start old done line action asks possible has = record {
@@ -37,39 +44,63 @@ is_step world held faults start old done line action asks possible has = record 
   possible = subst (λ (w : World). IsPossible w action) has.reaches possible;
 }
 
+-- what an action may draw, from the moment before it
+abbrev pub ActionCounts : {M O : Type 0} → (M → World) → Moment M O ℕ ℕ → Action → Moment M O ℕ ℕ
+    → Type 0
+ActionCounts world old action now =
+    CountsFew reach (action_due (world old.machine) action) old.draws now.draws old.tiles now.tiles
+
+-- no more is drawn than what the actions before and this one may draw
+draws_further : {M O : Type 0} (world : M → World) (held : O → Option (List ℕ)) (faults : O → ℕ)
+    (start old now : Moment M O ℕ ℕ) (done : List Line) (action : Action)
+    → ActionCounts world old action now
+    → (has : HasDone world held faults start done old)
+    → DrawsFor (has.actions ++ action ∷ []) (counters_of start now)
+draws_further world held faults start old now done action few has =
+    subst (λ (due : List Draw). CountsFew reach due start.draws now.draws start.tiles now.tiles)
+    (sym (due_more has.actions action))
+    (counts_both reach (schedule_due has.actions) (action_due (world_after has.actions) action)
+    start.draws old.draws now.draws start.tiles old.tiles now.tiles has.counts
+    (subst (λ (w : World). CountsFew reach (action_due w action) old.draws now.draws old.tiles
+    now.tiles) has.reaches few))
+
 -- the line is done
-pub done_further : {M O D T : Type 0} (world : M → World) (held : O → Option (List ℕ))
-    (faults : O → ℕ) (start old now : Moment M O D T) (done : List Line) (line : Line)
+pub done_further : {M O : Type 0} (world : M → World) (held : O → Option (List ℕ))
+    (faults : O → ℕ) (start old now : Moment M O ℕ ℕ) (done : List Line) (line : Line)
     (action : Action)
     → Parses line.bytes action → world now.machine ≡ after (world old.machine) action
     → Appends (held old.output) (held now.output) (printed (world old.machine) action)
+    → ActionCounts world old action now
     → faults now.output ≡ faults old.output
     → HasDone world held faults start done old
     → HasDone world held faults start (done ++ line ∷ []) now
-done_further world held faults start old now done line action asks leads written kept has = record {
-  actions = has.actions ++ action ∷ [];
-  asked = asked_more done has.actions line action has.asked asks;
-  reaches = leads ∙ ap (λ (w : World). after w action) has.reaches
-      ∙ sym (world_more has.actions action);
-  text =
-      subst (Appends (held start.output) (held now.output)) (sym (report_more has.actions action))
-      (Appends-trans (held start.output) (held old.output) (held now.output) (report has.actions)
-      (printed (world_after has.actions) action)
-      has.text
-      (subst (λ (w : World). Appends (held old.output) (held now.output) (printed w action))
-      has.reaches written));
-  kept = kept ∙ has.kept;
-}
+done_further world held faults start old now done line action asks leads written few kept
+    has = record {
+      actions = has.actions ++ action ∷ [];
+      asked = asked_more done has.actions line action has.asked asks;
+      reaches = leads ∙ ap (λ (w : World). after w action) has.reaches
+          ∙ sym (world_more has.actions action);
+      text =
+          subst (Appends (held start.output) (held now.output)) (sym (report_more has.actions action))
+          (Appends-trans (held start.output) (held old.output) (held now.output) (report has.actions)
+          (printed (world_after has.actions) action)
+          has.text
+          (subst (λ (w : World). Appends (held old.output) (held now.output) (printed w action))
+          has.reaches written));
+      counts = draws_further world held faults start old now done action few has;
+      kept = kept ∙ has.kept;
+    }
 
 -- a part of its text was written
-pub wrote_further : {M O D T : Type 0} (world : M → World) (held : O → Option (List ℕ))
-    (faults : O → ℕ) (start old now : Moment M O D T) (done : List Line) (line : Line)
+pub wrote_further : {M O : Type 0} (world : M → World) (held : O → Option (List ℕ))
+    (faults : O → ℕ) (start old now : Moment M O ℕ ℕ) (done : List Line) (line : Line)
     (action : Action)
     → Parses line.bytes action
     → GrowsByPrefix (held old.output) (held now.output) (printed (world old.machine) action)
+    → ActionCounts world old action now
     → HasDone world held faults start done old
-    → Wrote (done ++ line ∷ []) (held start.output) (held now.output)
-wrote_further world held faults start old now done line action asks part has = record {
+    → Wrote (done ++ line ∷ []) (held start.output) (held now.output) (counters_of start now)
+wrote_further world held faults start old now done line action asks part few has = record {
   actions = has.actions ++ action ∷ [];
   asked = asked_more done has.actions line action has.asked asks;
   text =
@@ -79,22 +110,24 @@ wrote_further world held faults start old now done line action asks part has = r
       (printed (world_after has.actions) action) has.text
       (subst (λ (w : World). GrowsByPrefix (held old.output) (held now.output) (printed w action))
       has.reaches part));
+  counts = draws_further world held faults start old now done action few has;
 }
 
 -- nothing more was written
-pub wrote_done : {M O D T : Type 0} (world : M → World) (held : O → Option (List ℕ))
-    (faults : O → ℕ) (start now : Moment M O D T) (done : List Line)
+pub wrote_done : {M O : Type 0} (world : M → World) (held : O → Option (List ℕ))
+    (faults : O → ℕ) (start now : Moment M O ℕ ℕ) (done : List Line)
     → HasDone world held faults start done now
-    → Wrote done (held start.output) (held now.output)
+    → Wrote done (held start.output) (held now.output) (counters_of start now)
 wrote_done world held faults start now done has = record {
   actions = has.actions;
   asked = has.asked;
   text = grows_whole (held start.output) (held now.output) (report has.actions) has.text;
+  counts = has.counts;
 }
 
 -- a line that asks for nothing that may be done is no step
-pub no_step : {M O D T : Type 0} → OneAction → (world : M → World) (held : O → Option (List ℕ))
-    (faults : O → ℕ) (start old : Moment M O D T) (done : List Line) (line : Line)
+pub no_step : {M O : Type 0} → OneAction → (world : M → World) (held : O → Option (List ℕ))
+    (faults : O → ℕ) (start old : Moment M O ℕ ℕ) (done : List Line) (line : Line)
     → ((action : Action) → Parses line.bytes action → ¬ IsPossible (world old.machine) action)
     → HasDone world held faults start done old → ¬ IsStep done line
 no_step one world held faults start old done line refused has = λ step.
@@ -108,26 +141,26 @@ no_step one world held faults start old done line refused has = λ step.
 -- ---- lines that aren't done
 
 -- a line that is refused, but because memory ran out, is no step
-pub refused_by : {M O D T : Type 0} → OneAction → (world : M → World) (held : O → Option (List ℕ))
-    (faults : O → ℕ) (old : Moment M O D T) (line : Line) (why : Undone PictureEnd)
+pub refused_by : {M O : Type 0} → OneAction → (world : M → World) (held : O → Option (List ℕ))
+    (faults : O → ℕ) (old : Moment M O ℕ ℕ) (line : Line) (why : Undone PictureEnd)
     → IsWorldLineRefused line (world old.machine) why
-    → IfNoStep ((start : Moment M O D T) (done : List Line)
+    → IfNoStep ((start : Moment M O ℕ ℕ) (done : List Line)
     → HasDone world held faults start done old → ¬ IsStep done line) why
 refused_by one world held faults old line NoStep refused = λ start done has.
     no_step one world held faults start old done line refused has
 refused_by one world held faults old line (Ended end) refused = tt
 
-pub kept_by : {M O D T : Type 0} (world : M → World) (held : O → Option (List ℕ))
-    (faults : O → ℕ) (old : Moment M O D T) (why : Undone PictureEnd)
-    → IfNoStep ((start : Moment M O D T) (done : List Line)
+pub kept_by : {M O : Type 0} (world : M → World) (held : O → Option (List ℕ))
+    (faults : O → ℕ) (old : Moment M O ℕ ℕ) (why : Undone PictureEnd)
+    → IfNoStep ((start : Moment M O ℕ ℕ) (done : List Line)
     → HasDone world held faults start done old → HasDone world held faults start done old) why
 kept_by world held faults old NoStep = λ start done has. has
 kept_by world held faults old (Ended end) = tt
 
-pub ran_out_by : {M O D T : Type 0} (world : M → World) (held : O → Option (List ℕ))
-    (faults : O → ℕ) (old : Moment M O D T) (line : Line) (why : Undone PictureEnd)
+pub ran_out_by : {M O : Type 0} (world : M → World) (held : O → Option (List ℕ))
+    (faults : O → ℕ) (old : Moment M O ℕ ℕ) (line : Line) (why : Undone PictureEnd)
     → IsWorldLineRefused line (world old.machine) why
-    → IfEnded (λ end. (start : Moment M O D T) (done : List Line)
+    → IfEnded (λ end. (start : Moment M O ℕ ℕ) (done : List Line)
     → HasDone world held faults start done old → HasEnded held faults start done line old end) why
 ran_out_by world held faults old line NoStep refused = tt
 ran_out_by world held faults old line (Ended Memory) refused = λ start done has. record {
@@ -137,26 +170,29 @@ ran_out_by world held faults old line (Ended Memory) refused = λ start done has
 ran_out_by world held faults old line (Ended Failed) refused = absurd refused
 
 -- the output failed in the text of a line, or memory ran out there
-pub ended_by : {M O D T : Type 0} (world : M → World) (held : O → Option (List ℕ))
-    (faults : O → ℕ) (start old now : Moment M O D T) (done : List Line) (line : Line)
+pub ended_by : {M O : Type 0} (world : M → World) (held : O → Option (List ℕ))
+    (faults : O → ℕ) (start old now : Moment M O ℕ ℕ) (done : List Line) (line : Line)
     (action : Action) (end : PictureEnd)
     → Parses line.bytes action → IsPossible (world old.machine) action
     → GrowsByPrefix (held old.output) (held now.output) (printed (world old.machine) action)
+    → ActionCounts world old action now
     → HasCause {T = Unit {0}} is_sink_fault (faults old.output) (faults now.output) (Err end)
     → (end ≡ Memory → faults now.output ≡ faults old.output)
     → HasDone world held faults start done old → HasEnded held faults start done line now end
-ended_by world held faults start old now done line action Failed asks possible part cause kept has =
+ended_by world held faults start old now done line action Failed asks possible part few cause kept
+    has =
     record {
       step = is_step world held faults start old done line action asks possible has;
-      wrote = wrote_further world held faults start old now done line action asks part has;
+      wrote = wrote_further world held faults start old now done line action asks part few has;
       rose = subst (λ (n : ℕ). Rose n (faults now.output)) has.kept cause.failed;
       later = omega (arith, cause.later, has.kept);
     }
-ended_by world held faults start old now done line action Memory asks possible part cause kept has =
+ended_by world held faults start old now done line action Memory asks possible part few cause kept
+    has =
     record {
       wrote = inr (
         is_step world held faults start old done line action asks possible has,
-        wrote_further world held faults start old now done line action asks part has,
+        wrote_further world held faults start old now done line action asks part few has,
       );
       kept = kept refl ∙ has.kept;
     }

@@ -1,4 +1,4 @@
--- What lines ask for one after the other, and what the actions make and print.
+-- What lines ask for one after the other, and what the actions make, print and may draw.
 use Rattle.std.proofs.Common.{◌≡◌, ℕ, ◌≤◌, List, [], ◌∷◌, ◌++◌, refl, sym, ap, ◌∙◌, append_assoc}
 use Rattle.std.specs.List.{All, fold}
 use Rattle.std.proofs.lemmas.List.{append-nil}
@@ -12,6 +12,7 @@ use Rattle.dp_schedule.specs.declared.action.Instruction.TheVariants.{Leave, Cut
 use Rattle.dp_schedule.specs.LineGrammar.{MaySay, Parses}
 use Rattle.dp_messages.specs.declared.message.Msg.{Msg}
 use Rattle.dp_messages.specs.Messages.{kind_of}
+use Rattle.dp_sim.specs.Due.{action_due, schedule_due}
 use Rattle.dp_sim.specs.Invariant.{SaysNoControl}
 use Rattle.dp_sim.specs.Report.{printed, along, report}
 use Rattle.dp_sim.specs.World.{World, first_world, after, world_after}
@@ -59,28 +60,38 @@ asked_same one (line ∷ done) (action ∷ actions) (other ∷ more) (here, h) (
     let first : action ≡ other = one line.bytes action other here there in
     let others : actions ≡ more = asked_same one done actions more h k in cc
 
--- ---- what the actions make and print
+-- ---- what the actions make, print and may draw
 
-pub along-append : (world : World) (actions more : List Action)
-    → along printed world (actions ++ more) ≡ along printed world actions
-    ++ along printed (fold after world actions) more
-along-append world [] more = refl
-along-append world (action ∷ actions) more =
-    ap (λ (b : List ℕ). printed world action ++ b) (along-append (after world action) actions more)
-    ∙ sym (append_assoc (printed world action) (along printed (after world action) actions)
-    (along printed (fold after (after world action) actions) more))
+module _ {X : Type 0} (gives : World → Action → List X) where
+  -- what a schedule gives goes on
+  pub along-append : (world : World) (actions more : List Action)
+      → along gives world (actions ++ more) ≡ along gives world actions
+      ++ along gives (fold after world actions) more
+  along-append world [] more = refl
+  along-append world (action ∷ actions) more =
+      ap (λ (b : List X). gives world action ++ b) (along-append (after world action) actions more)
+      ∙ sym (append_assoc (gives world action) (along gives (after world action) actions)
+      (along gives (fold after (after world action) actions) more))
 
--- a report goes on
-pub report-append : (actions more : List Action)
-    → report (actions ++ more) ≡ report actions ++ along printed (world_after actions) more
-report-append actions more = along-append first_world actions more
+  -- one action more
+  along_more : (actions : List Action) (action : Action)
+      → along gives first_world (actions ++ action ∷ [])
+      ≡ along gives first_world actions ++ gives (world_after actions) action
+  along_more actions action =
+      along-append first_world actions (action ∷ [])
+      ∙ ap (λ (b : List X). along gives first_world actions ++ b)
+      (append-nil (gives (world_after actions) action))
 
--- one action more
+-- of a report
 pub report_more : (actions : List Action) (action : Action)
     → report (actions ++ action ∷ []) ≡ report actions ++ printed (world_after actions) action
-report_more actions action =
-    report-append actions (action ∷ [])
-    ∙ ap (λ (b : List ℕ). report actions ++ b) (append-nil (printed (world_after actions) action))
+report_more = along_more printed
+
+-- of what may be drawn
+pub due_more : (actions : List Action) (action : Action)
+    → schedule_due (actions ++ action ∷ [])
+    ≡ schedule_due actions ++ action_due (world_after actions) action
+due_more = along_more action_due
 
 pub world_more : (actions : List Action) (action : Action)
     → world_after (actions ++ action ∷ []) ≡ after (world_after actions) action

@@ -1,6 +1,7 @@
 -- What a run of a schedule leaves.
 use Rattle.std.specs.Prelude.{◌≡◌, ℕ, List, ◌++◌, Option, Some, IfSome}
 use Rattle.std.specs.Io.KnownBytes.{Appends, IsAtEnd}
+use Rattle.dp_board.specs.Counts.{CountsFew}
 use Rattle.dp_io.specs.Streams.{GrowsByPrefix}
 use Rattle.dp_flat.specs.declared.picture.PictureEnd.{PictureEnd}
 use Rattle.dp_flat.specs.declared.picture.PictureEnd.TheVariants as picture
@@ -13,10 +14,13 @@ use Rattle.dp_lines.specs.Ends.{LinesEnd, AreSteps, seen}
 use Rattle.dp_lines.specs.Ends as ends
 use Rattle.dp_lines.specs.Lines.{ended, numbered}
 use Rattle.dp_lines.specs.TakenParts.{TookWithin}
+use Rattle.dp_pixels.specs.Feet.{reach}
 use Rattle.dp_schedule.specs.declared.action.Action.{Action}
+use Rattle.dp_script.specs.Counters.{Counters}
 use Rattle.dp_script.specs.declared.machine.ScriptEnd.{ScriptEnd}
 use Rattle.dp_script.specs.declared.machine.ScriptEnd.TheVariants as script
 use Rattle.dp_script.specs.Leaves.{HoldsNoCause}
+use Rattle.dp_sim.specs.Due.{schedule_due}
 use Rattle.dp_sim.specs.Report.{report}
 use Rattle.dp_world.specs.Schedule.{AskFor, IsStep, WorldComesTo}
 use Rattle.dp_script.specs.Limits.{lines_limit}
@@ -37,31 +41,42 @@ lines_end_of ends.AllDone = Done
 lines_end_of (ends.BadLine n) = BadLine n
 lines_end_of ends.TooLong = Long
 
--- the output grew by the report of an input whose bytes are known, which comes to this end
-abbrev pub ReportsWhole : Option (List ℕ) → Option (List ℕ) → Option (List ℕ) → LinesEnd → Type 0
-ReportsWhole input old new end =
+-- at most the commands were drawn that these actions may draw, and no more tiles were made than
+-- those reach
+abbrev pub DrawsFor : List Action → Counters → Type 0
+DrawsFor actions c = CountsFew reach (schedule_due actions) c.draws c.draws_now c.tiles c.tiles_now
+
+-- the output grew by the report of an input whose bytes are known, which comes to this end, and no
+-- more was drawn than that schedule may draw
+abbrev pub ReportsWhole : Option (List ℕ) → Option (List ℕ) → Option (List ℕ) → Counters → LinesEnd
+    → Type 0
+ReportsWhole input old new counters end =
     IfSome input (λ bytes. (done : List Line) × (actions : List Action)
-    × WorldComesTo bytes done actions end × Appends old new (report actions))
+    × WorldComesTo bytes done actions end × Appends old new (report actions)
+    × DrawsFor actions counters)
 
--- these lines are steps, and the output grew by a prefix of their report
-pub record HasBegun (begun : List Line) (old now : Option (List ℕ)) : Type 0 where
-  pub actions : List Action
-  pub asked : AskFor begun actions
-  pub steps : AreSteps IsStep begun
-  pub text : GrowsByPrefix old now (report actions)
+-- these lines are steps, the output grew by a prefix of their report, and no more was drawn than
+-- they may draw
+pub record HasBegun (begun : List Line) (old now : Option (List ℕ)) (counters : Counters) : Type 0
+  where
+    pub actions : List Action
+    pub asked : AskFor begun actions
+    pub steps : AreSteps IsStep begun
+    pub text : GrowsByPrefix old now (report actions)
+    pub counts : DrawsFor actions counters
 
--- the output grew by a prefix of the report of the first of these lines, which are steps
-pub record HasBegunOf (lines : List Line) (old now : Option (List ℕ)) : Type 0 where
-  pub begun : List Line
-  pub after : List Line
-  pub parts : lines ≡ begun ++ after
-  pub has : HasBegun begun old now
+-- so it is of the first of these lines
+pub record HasBegunOf (lines : List Line) (old now : Option (List ℕ)) (counters : Counters) : Type 0
+  where
+    pub begun : List Line
+    pub after : List Line
+    pub parts : lines ≡ begun ++ after
+    pub has : HasBegun begun old now counters
 
--- the output grew by a prefix of the report of lines that are the first of those that count of an
--- input whose bytes are known
-abbrev pub ReportsPart : Option (List ℕ) → Option (List ℕ) → Option (List ℕ) → Type 0
-ReportsPart input old new =
-    IfSome input (λ bytes. HasBegunOf (seen lines_limit bytes) old new)
+-- so it is of lines that are the first of those that count of an input whose bytes are known
+abbrev pub ReportsPart : Option (List ℕ) → Option (List ℕ) → Option (List ℕ) → Counters → Type 0
+ReportsPart input old new counters =
+    IfSome input (λ bytes. HasBegunOf (seen lines_limit bytes) old new counters)
 
 -- The output grew by a prefix of the report that an input of these bytes is due. It can't be that
 -- it is due none, and it is due one at most.
@@ -69,6 +84,13 @@ abbrev pub GrowsByDue : List ℕ → Option (List ℕ) → Option (List ℕ) →
 GrowsByDue bytes old now =
     ¬ ((done : List Line) (actions : List Action) (end : LinesEnd)
     → WorldComesTo bytes done actions end → ¬ GrowsByPrefix old now (report actions))
+
+-- No more was drawn than the schedule may draw that an input of these bytes is. It can't be that it
+-- is none, and it is one at most.
+abbrev pub DrawsByDue : List ℕ → Counters → Type 0
+DrawsByDue bytes counters =
+    ¬ ((done : List Line) (actions : List Action) (end : LinesEnd)
+    → WorldComesTo bytes done actions end → ¬ DrawsFor actions counters)
 
 -- What was taken of an input whose bytes are known holds no cause to end, but for the last bytes of
 -- it, at most a piece of 4096.
@@ -78,8 +100,9 @@ TookNoCause input left =
 
 -- Of the bytes of the input these were taken, and those are left. What was taken holds no cause to
 -- end: the lines that are whole in it are steps, the output grew by the report of them, and what
--- stands after them isn't too long.
-pub record ReportsOf (bytes : List ℕ) (left old new : Option (List ℕ)) : Type 0 where
+-- stands after them isn't too long. No more was drawn than those lines may draw.
+pub record ReportsOf (bytes : List ℕ) (left old new : Option (List ℕ)) (counters : Counters) :
+    Type 0 where
   pub taken : List ℕ
   pub untaken : List ℕ
   pub parts : bytes ≡ taken ++ untaken
@@ -88,20 +111,24 @@ pub record ReportsOf (bytes : List ℕ) (left old new : Option (List ℕ)) : Typ
   pub actions : List Action
   pub asked : AskFor (numbered 0 (ended taken)) actions
   pub text : Appends old new (report actions)
+  pub counts : DrawsFor actions counters
 
--- What a run that ends so leaves of an input and on the output.
+-- What a run that ends so leaves of an input, on the output and on the counters.
 abbrev pub WorldLeaves : Option (List ℕ) → Option (List ℕ) → Option (List ℕ) → Option (List ℕ)
-    → RunEnd → Type 0
-WorldLeaves input left old new Done = IsAtEnd left × ReportsWhole input old new ends.AllDone
-WorldLeaves input left old new (BadLine n) =
-    ReportsWhole input old new (ends.BadLine n) × TookNoCause input left
-WorldLeaves input left old new Long =
-    ReportsWhole input old new ends.TooLong × TookNoCause input left
-WorldLeaves input left old new ReadFault = IfSome input (λ bytes. ReportsOf bytes left old new)
-WorldLeaves input left old new WriteFault = ReportsPart input old new × TookNoCause input left
-WorldLeaves input left old new Memory = ReportsPart input old new
-WorldLeaves input left old new LinkFault = ⊥
-WorldLeaves input left old new (Truncated n) = ⊥
-WorldLeaves input left old new (BadMessage n) = ⊥
-WorldLeaves input left old new Closed = ⊥
-WorldLeaves input left old new BadHeader = ⊥
+    → Counters → RunEnd → Type 0
+WorldLeaves input left old new counters Done =
+    IsAtEnd left × ReportsWhole input old new counters ends.AllDone
+WorldLeaves input left old new counters (BadLine n) =
+    ReportsWhole input old new counters (ends.BadLine n) × TookNoCause input left
+WorldLeaves input left old new counters Long =
+    ReportsWhole input old new counters ends.TooLong × TookNoCause input left
+WorldLeaves input left old new counters ReadFault =
+    IfSome input (λ bytes. ReportsOf bytes left old new counters)
+WorldLeaves input left old new counters WriteFault =
+    ReportsPart input old new counters × TookNoCause input left
+WorldLeaves input left old new counters Memory = ReportsPart input old new counters
+WorldLeaves input left old new counters LinkFault = ⊥
+WorldLeaves input left old new counters (Truncated n) = ⊥
+WorldLeaves input left old new counters (BadMessage n) = ⊥
+WorldLeaves input left old new counters Closed = ⊥
+WorldLeaves input left old new counters BadHeader = ⊥

@@ -7,8 +7,9 @@ ghost use Rattle.dp_lines.specs.declared.line.Line.{Line};
 ghost use Rattle.dp_lines.specs.declared.run_end.RunEnd.{RunEnd};
 ghost use Rattle.dp_lines.specs.Ends.{LinesEnd};
 ghost use Rattle.dp_schedule.specs.declared.action.Action.{Action};
+ghost use Rattle.dp_script.specs.Counters.{Counters};
 ghost use Rattle.dp_sim.specs.Invariant.{SaysNoControl};
-ghost use Rattle.dp_world.specs.RunEnds.{GrowsByDue, WorldLeaves};
+ghost use Rattle.dp_world.specs.RunEnds.{DrawsByDue, GrowsByDue, WorldLeaves};
 ghost use Rattle.dp_world.specs.Schedule.{AskFor, WorldComesTo};
 
 use crate::line_run::WorldRun;
@@ -39,10 +40,15 @@ pub fn every_schedule()
     further_step::<WorldRun>();
 }
 
-/// However a run ends, the output grew by a prefix of the report that the input is due.
+/// However a run ends, the output grew by a prefix of the report that the input is due, and no more
+/// was drawn than its schedule may draw.
 pub fn reports_are_due()
-    ensures { (bytes : List ℕ) (left old now : Option (List ℕ)) (end : RunEnd)
-        → WorldLeaves (Some bytes) left old now end → GrowsByDue bytes old now }
+    ensures report { (bytes : List ℕ) (left old now : Option (List ℕ)) (counters : Counters)
+        (end : RunEnd)
+        → WorldLeaves (Some bytes) left old now counters end → GrowsByDue bytes old now }
+    ensures draws { (bytes : List ℕ) (left old now : Option (List ℕ)) (counters : Counters)
+        (end : RunEnd)
+        → WorldLeaves (Some bytes) left old now counters end → DrawsByDue bytes counters }
 {
     further_step::<WorldRun>();
     one_action();

@@ -3,12 +3,15 @@
 ghost use Rattle.std.specs.Prelude.{◌≡◌, ◌≤◌, ℕ, List};
 ghost use Rattle.std.specs.Prelude.{IsErrOf, IsTrue, IfOk, IfErr, OnOk, IsSome, ◌↔◌};
 ghost use Rattle.std.specs.Io.KnownBytes.{Appends};
+ghost use Rattle.dp_board.specs.Counts.{CountsFew};
 ghost use Rattle.dp_io.specs.Faults.{HasCause};
 ghost use Rattle.dp_io.specs.Streams.{GrowsByPrefix};
 ghost use Rattle.dp_flat.specs.Ends.{is_sink_fault};
+ghost use Rattle.dp_pixels.specs.Feet.{reach};
 ghost use Rattle.dp_schedule.specs.declared.action.Action.TheVariants.{Show as Shows};
 ghost use Rattle.dp_schedule.specs.LineGrammar.{Parses};
 ghost use Rattle.dp_schedule.specs.ReportText.{text_of};
+ghost use Rattle.dp_sim.specs.Due.{action_due};
 ghost use Rattle.dp_sim.specs.Invariant.{IsWorld, SaysNoControl};
 ghost use Rattle.dp_sim.specs.Report.{printed, shown_of};
 ghost use Rattle.dp_sim.specs.World.{after, first_world, participant_of};
@@ -121,6 +124,8 @@ impl WorldRun {
             (Appends (O.held output.old) (O.held output.new) (printed self.old.world action)) }
         ensures prefix { GrowsByPrefix (O.held output.old) (O.held output.new)
             (printed self.old.world action) }
+        ensures counts { CountsFew reach (action_due self.old.world action) draws.old draws.new
+            tiles.old tiles.new }
         ensures uncounted { IsErrOf result PictureEnd.Memory
             → O.faults output.new ≡ O.faults output.old }
         ensures cause { HasCause is_sink_fault (O.faults output.old) (O.faults output.new) result }

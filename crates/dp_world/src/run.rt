@@ -2,6 +2,7 @@
 
 ghost use Rattle.std.specs.Prelude.{◌≡◌, ◌≤◌};
 ghost use Rattle.dp_lines.specs.RunEnds.{FaultMatchesEnd};
+ghost use Rattle.dp_script.specs.Counters.{counters};
 ghost use Rattle.dp_world.specs.RunEnds.{WorldLeaves, run_end_of};
 
 use crate::line_run::WorldRun;
@@ -17,7 +18,7 @@ use std::sync::ledger::Ledger;
 const WORLD_LIMIT: usize = 1 << 26;
 
 /// Reads the lines of a schedule and does them one after the other. What a line prints is written
-/// before the next line is done.
+/// before the next line is done. Its clients' work on canvases is counted.
 ///
 /// # Errors
 ///
@@ -34,7 +35,8 @@ pub fn run_world<I: Source, O: Sink, D: Ledger, T: Ledger>(
     tiles: &mut Steps<T>,
 ) -> RunEnd
     ensures leaves { WorldLeaves (I.left input.old) (I.left input.new)
-        (O.held output.old) (O.held output.new) result }
+        (O.held output.old) (O.held output.new)
+        (counters draws.old draws.new tiles.old tiles.new) result }
     ensures fault { FaultMatchesEnd (I.faults input.old) (I.faults input.new)
         (O.faults output.old) (O.faults output.new) result }
     ensures input_later { I.faults input.old ≤ I.faults input.new }

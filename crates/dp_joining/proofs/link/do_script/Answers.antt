@@ -49,3 +49,6 @@ returns-clause-output_later g c = λ name link first welcome is.
     c.run_lines-ended.new.draws c.run_lines-ended.new.tiles)
     (g.I.Source.left c.args.input.now) (g.I.Source.left c.run_lines-ended.new.input) link
     c.run_lines-ended.result is c.run_lines-ended.ensures.leaves
+
+pub returns-clause-took : goal.returns-clause-took
+returns-clause-took g c = c.run_lines-ended.ensures.took

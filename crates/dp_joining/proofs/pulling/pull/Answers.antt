@@ -10,7 +10,7 @@ returns-then-is_disconnect-clause-err g c =
     (source_at g.R.Source.left g.R.Source.faults c.args.reader.now c.args.rx.now)
     (source_at g.R.Source.left g.R.Source.faults c.next.new.self c.next.new.input)
     c.in-Ok-Some.entry c.requires
-    (rw c.in-Ok-Some.field-0-is at e.given) e.within e.first e.limit
+    (rw c.in-Ok-Some.field-0-is at e.given) e.within e.source.first e.source.limit
     (rw c.in-Ok-Some.field-0-is at e.not_ended) e.kept
     (sym c.is_disconnect.ensures ∙ c.if-is_disconnect.true)
 

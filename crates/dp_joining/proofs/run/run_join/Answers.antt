@@ -16,6 +16,9 @@ returns-in-Ok-clause-leaves g c =
             returned (c.in-Ok.link.0, c.in-Ok.link.1) (joined.rx, joined.tx) _ _ _
             c.in-Ok.ensures.links c.done.ensures.links;
         leaves = c.join_link-end.ensures.leaves;
+        due = c.begun_is_due.ensures c.args.name.now _ _ c.join_link-end.ensures.leaves;
+        took = c.join_link-end.ensures.took;
+        unread = c.join_link-end.ensures.unread;
         fault = c.join_link-end.ensures.fault;
       },
     ))

@@ -7,7 +7,8 @@ use Rattle.dp_world.proofs.run.run_world.Goals as goal
 pub returns-in_default-clause-leaves : goal.returns-in_default-clause-leaves
 returns-in_default-clause-leaves g c =
     refused_leaves c.further_step.ensures.none (g.I.Source.left c.args.input.now)
-    (g.I.Source.left c.args.input.now) (g.O.Sink.held c.args.output.now)
+    (g.I.Source.left c.args.input.now) (g.O.Sink.held c.args.output.now) c.args.draws.now
+    c.args.tiles.now
 
 pub run_lines-requires-clause-first : goal.run_lines-requires-clause-first
 run_lines-requires-clause-first g c =

@@ -10,7 +10,7 @@ pub loop-taken-init : goal.loop-taken-init
 loop-taken-init g c =
     let see = seen g.R.Source.left g.R.Source.faults g.S.Sink.held g.S.Sink.faults g.O.Sink.held
     g.O.Sink.faults in
-    taking_none (see c.args.self.now c.args.output.now) c.requires
+    taking_none (see c.args.self.now c.args.output.now c.args.draws.now c.args.tiles.now) c.requires
 
 pub next_entry-requires : goal.next_entry-requires
 next_entry-requires g c = c.loop-taken.invariant.ready.readable
@@ -26,9 +26,10 @@ pub loop-taken-preserved : goal.loop-taken-preserved
 loop-taken-preserved g c =
     let see = seen g.R.Source.left g.R.Source.faults g.S.Sink.held g.S.Sink.faults g.O.Sink.held
     g.O.Sink.faults in
-    let first = see c.args.self.now c.args.output.now in
-    let before = see c.loop-taken.self c.loop-taken.output in
-    let given = see c.next_entry.new.self c.loop-taken.output in
+    let first = see c.args.self.now c.args.output.now c.args.draws.now c.args.tiles.now in
+    let before = see c.loop-taken.self c.loop-taken.output c.loop-taken.draws c.loop-taken.tiles in
+    let given = see c.next_entry.new.self c.loop-taken.output c.loop-taken.draws c.loop-taken.tiles
+    in
     let read : IsRead before given = record {
       client = c.in_ok-entry.ensures.client;
       chats = c.in_ok-entry.ensures.chats;
@@ -36,8 +37,11 @@ loop-taken-preserved g c =
       print_faults = refl;
       written = ap g.S.Sink.held c.in_ok-entry.ensures.sink;
       write_faults = ap g.S.Sink.faults c.in_ok-entry.ensures.sink;
+      draws = refl;
+      tiles = refl;
     } in
-    taking_more first before given (see c.take_entry.new.self c.take_entry.new.output)
+    taking_more first before given (see c.take_entry.new.self c.take_entry.new.output
+    c.take_entry.new.draws c.take_entry.new.tiles)
     c.loop-taken._taken c.in_ok-entry.entry c.loop-taken.invariant c.in_ok-entry.ensures.ok read
     c.in_ok-take_entry.ensures.ok c.in_ok-take_entry.ensures.taken
     (source_same g.R.Source.left g.R.Source.faults c.next_entry.new.self.reader
@@ -48,9 +52,10 @@ pub returns-in_err-entry-clause-err : goal.returns-in_err-entry-clause-err
 returns-in_err-entry-clause-err g c =
     let see = seen g.R.Source.left g.R.Source.faults g.S.Sink.held g.S.Sink.faults g.O.Sink.held
     g.O.Sink.faults in
-    let first = see c.args.self.now c.args.output.now in
-    let before = see c.loop-taken.self c.loop-taken.output in
-    let given = see c.next_entry.new.self c.loop-taken.output in
+    let first = see c.args.self.now c.args.output.now c.args.draws.now c.args.tiles.now in
+    let before = see c.loop-taken.self c.loop-taken.output c.loop-taken.draws c.loop-taken.tiles in
+    let given = see c.next_entry.new.self c.loop-taken.output c.loop-taken.draws c.loop-taken.tiles
+    in
     let read : IsRead before given = record {
       client = c.in_err-entry.ensures.client;
       chats = c.in_err-entry.ensures.chats;
@@ -58,6 +63,8 @@ returns-in_err-entry-clause-err g c =
       print_faults = refl;
       written = ap g.S.Sink.held c.in_err-entry.ensures.sink;
       write_faults = ap g.S.Sink.faults c.in_err-entry.ensures.sink;
+      draws = refl;
+      tiles = refl;
     } in
     let p = err_from_is_err_and c.from_residual.result c.from_residual.ensures.1 in
     rw (p.1, p.2) (taking_ends first before given c.args.count c.loop-taken._taken
@@ -68,9 +75,10 @@ pub returns-in_err-take_entry-clause-err : goal.returns-in_err-take_entry-clause
 returns-in_err-take_entry-clause-err g c =
     let see = seen g.R.Source.left g.R.Source.faults g.S.Sink.held g.S.Sink.faults g.O.Sink.held
     g.O.Sink.faults in
-    let first = see c.args.self.now c.args.output.now in
-    let before = see c.loop-taken.self c.loop-taken.output in
-    let given = see c.next_entry.new.self c.loop-taken.output in
+    let first = see c.args.self.now c.args.output.now c.args.draws.now c.args.tiles.now in
+    let before = see c.loop-taken.self c.loop-taken.output c.loop-taken.draws c.loop-taken.tiles in
+    let given = see c.next_entry.new.self c.loop-taken.output c.loop-taken.draws c.loop-taken.tiles
+    in
     let read : IsRead before given = record {
       client = c.in_ok-entry.ensures.client;
       chats = c.in_ok-entry.ensures.chats;
@@ -78,10 +86,13 @@ returns-in_err-take_entry-clause-err g c =
       print_faults = refl;
       written = ap g.S.Sink.held c.in_ok-entry.ensures.sink;
       write_faults = ap g.S.Sink.faults c.in_ok-entry.ensures.sink;
+      draws = refl;
+      tiles = refl;
     } in
     let p = err_from_is_err_and c.from_residual-in_err-take_entry.result
     c.from_residual-in_err-take_entry.ensures.1 in
     rw (p.1, p.2) (taking_fails first before given
-    (see c.take_entry.new.self c.take_entry.new.output) c.args.count c.loop-taken._taken
+    (see c.take_entry.new.self c.take_entry.new.output c.take_entry.new.draws
+    c.take_entry.new.tiles) c.args.count c.loop-taken._taken
     c.in_ok-entry.entry c.in_err-take_entry.field-0.0 c.loop-taken-test.true
     c.loop-taken.invariant c.in_ok-entry.ensures.ok read c.in_err-take_entry.ensures.err)

@@ -7,6 +7,6 @@ abbrev pub invariant-loop-taken : goal.invariant-loop-taken
 invariant-loop-taken g l =
     Taking
     (seen g.R.Source.left g.R.Source.faults g.S.Sink.held g.S.Sink.faults g.O.Sink.held
-    g.O.Sink.faults l.initial.self l.initial.output)
+    g.O.Sink.faults l.initial.self l.initial.output l.initial.draws l.initial.tiles)
     (seen g.R.Source.left g.R.Source.faults g.S.Sink.held g.S.Sink.faults g.O.Sink.held
-    g.O.Sink.faults l.self l.output) l._taken
+    g.O.Sink.faults l.self l.output l.draws l.tiles) l._taken

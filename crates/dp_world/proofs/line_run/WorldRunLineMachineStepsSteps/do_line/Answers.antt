@@ -43,7 +43,8 @@ returns-in-Ok-clause-done g c = λ start done has.
     (moment c.do_action.new.self c.do_action.new.output c.do_action.new.draws
     c.do_action.new.tiles)
     done c.args.line.now c.in_ok-action.action
-    e.asks c.in-Ok.ensures.after c.in-Ok.ensures.written c.in-Ok.ensures.cause.kept has
+    e.asks c.in-Ok.ensures.after c.in-Ok.ensures.written c.do_action.ensures.counts
+    c.in-Ok.ensures.cause.kept has
 
 pub returns-in-Err-clause-ended : goal.returns-in-Err-clause-ended
 returns-in-Err-clause-ended g c = λ start done has.
@@ -53,5 +54,5 @@ returns-in-Err-clause-ended g c = λ start done has.
     (moment c.do_action.new.self c.do_action.new.output c.do_action.new.draws
     c.do_action.new.tiles)
     done c.args.line.now c.in_ok-action.action c.in-Err.end
-    e.asks e.possible c.do_action.ensures.prefix c.in-Err.ensures.cause
+    e.asks e.possible c.do_action.ensures.prefix c.do_action.ensures.counts c.in-Err.ensures.cause
     (λ is. c.in-Err.ensures.uncounted (rw is (search rules))) has

@@ -1,0 +1,552 @@
+-- What was begun is a first part of what is due.
+use Rattle.std.proofs.Common.{◌≡◌, ◌⊎◌, inl, inr, ℕ, ◌+◌, ◌-◌, ◌≤◌, ◌<◌, List, [], ◌∷◌, ◌++◌}
+use Rattle.std.proofs.Common.{length, take, drop, refl, sym, ap, ◌∙◌, subst, append_assoc, arith}
+use Rattle.std.proofs.Common.{length-append}
+use Rattle.std.specs.Prelude.{Option, None, Some, IfSome}
+use Rattle.std.specs.List.{fold}
+use Rattle.std.specs.Option.{option_map_or}
+use Rattle.std.specs.Io.KnownBytes.{Appends}
+use Rattle.std.proofs.Math.Seq.{take-append-add}
+use Rattle.std.proofs.lemmas.Bool.{cases_lt}
+use Rattle.std.proofs.lemmas.List.{append-nil, drop-append-le, take-append-le}
+use Rattle.std.proofs.lemmas.List.Sums.{fold-append}
+use Rattle.dp_client.specs.Client.{State, welcomed}
+use Rattle.dp_io.specs.Streams.{GrowsByPrefix}
+use Rattle.dp_io.proofs.Prefixes.{grows_whole, grows_within}
+use Rattle.dp_lines.specs.declared.line.Line.{Line}
+use Rattle.dp_lines.specs.declared.run_end.RunEnd.{RunEnd}
+use Rattle.dp_lines.specs.declared.run_end.RunEnd.TheVariants as run
+use Rattle.dp_lines.specs.Ends.{AreSteps, LinesComeTo, LinesEnd, seen}
+use Rattle.dp_lines.specs.Ends as ends
+use Rattle.dp_lines.specs.Held.{IsLeft}
+use Rattle.dp_lines.specs.Lines.{Lacks, ended, newline, numbered, open_rest}
+use Rattle.dp_lines.proofs.Seen.{given_seen}
+use Rattle.dp_msg_draw.specs.declared.draw.Draw.{Draw}
+use Rattle.dp_msg_meta.specs.declared.message.Control.TheVariants as control
+use Rattle.dp_messages.specs.declared.message.Entry.{Entry}
+use Rattle.dp_messages.specs.declared.message.Msg.{Msg}
+use Rattle.dp_messages.specs.declared.message.Msg.TheVariants as msg
+use Rattle.dp_pixels.specs.Feet.{reach}
+use Rattle.dp_schedule.specs.declared.join_action.JoinAction.{JoinAction}
+use Rattle.dp_schedule.specs.declared.join_action.JoinAction.TheVariants.{Say, Take, View}
+use Rattle.dp_schedule.specs.declared.join_action.JoinAction.TheVariants.{Confirmed, Snapshot}
+use Rattle.dp_schedule.specs.declared.join_action.JoinAction.TheVariants.{Reset, Chat}
+use Rattle.dp_screen.proofs.Leads.{counts_first}
+use Rattle.dp_script.specs.Counters.{Counters}
+use Rattle.dp_script.specs.Leaves.{AreFirstOf}
+use Rattle.dp_script.specs.Limits.{lines_limit}
+use Rattle.dp_joining.specs.declared.stops.LinkCause.{LinkCause}
+use Rattle.dp_joining.specs.Joining.{Joining, Progress, Goes, Waits, acted, after_line, along}
+use Rattle.dp_joining.specs.Joining.{asked_by, came_to, caller, farewell_bytes, greeted, joined}
+use Rattle.dp_joining.specs.Joining.{newcomer, takeable, took_entry}
+use Rattle.dp_joining.specs.Leaves.{BeginsDue, GrowsTowards, IsParting, JoinLeaves, Traffic}
+use Rattle.dp_joining.specs.Leaves.{WhereKnown, WritesAll, WritesPart, WritesTaken}
+use Rattle.dp_joining.specs.Outcomes.{AllAsk, BeginsWith, EndsByLink, EndsByScript}
+use Rattle.dp_joining.specs.Outcomes.{IsJoinStep, JoinComesTo, JoinOutcome, script_outcome}
+use Rattle.dp_joining.specs.Steps.{DrawsFew}
+use Rattle.dp_joining.proofs.Along.{along_enough, along_few}
+use Rattle.dp_joining.proofs.OneOutcome.{AllLaws, IsClosed, IsEnded, asked_alike, ends_by}
+use Rattle.dp_joining.proofs.OneOutcome.{first_within, lists_alike, one_outcome}
+use Rattle.dp_joining.proofs.Prefixes.{IsFirstOf, begin_alike, within_all}
+use Rattle.dp_joining.proofs.Unique.{joined_closed, joined_goes, joined_waits, longer}
+
+-- ---- first parts
+
+first_self : {X : Type 0} (xs : List X) → IsFirstOf xs xs
+first_self xs = record { rest = []; whole = sym (append-nil xs) }
+
+first_then : {X : Type 0} (xs ys : List X) → IsFirstOf xs (xs ++ ys)
+first_then xs ys = record { rest = ys; whole = refl }
+
+first_twice : {X : Type 0} (xs ys zs : List X) → IsFirstOf xs ys → IsFirstOf ys zs
+    → IsFirstOf xs zs
+first_twice {X} xs ys zs a b = record {
+  rest = a.rest ++ b.rest;
+  whole =
+      b.whole ∙ ap (λ (l : List X). l ++ b.rest) a.whole ∙ append_assoc xs a.rest b.rest;
+}
+
+-- a prefix of the first part is a prefix of all
+grows_first : (a b : Option (List ℕ)) (xs ys : List ℕ) → IsFirstOf xs ys → GrowsByPrefix a b xs
+    → GrowsByPrefix a b ys
+grows_first a b xs ys first grows =
+    subst (GrowsByPrefix a b) (sym first.whole) (grows_within a b xs first.rest grows)
+
+draws_first : (c : Counters) (first all : List Draw) → IsFirstOf first all → DrawsFew c first
+    → DrawsFew c all
+draws_first c first all is few =
+    subst (DrawsFew c) (sym is.whole)
+    (counts_first reach first is.rest c.draws c.draws_now c.tiles c.tiles_now few)
+
+-- ---- a client that goes on
+
+-- what the first has printed and written, and may have drawn, is a first part of that of the second
+pub record GoesOn (j k : Joining) : Type 0 where
+  pub text : IsFirstOf j.text k.text
+  pub written : IsFirstOf j.written k.written
+  pub due : IsFirstOf j.due k.due
+
+stays : (j : Joining) → GoesOn j j
+stays j = record {
+  text = first_self j.text;
+  written = first_self j.written;
+  due = first_self j.due;
+}
+
+goes_twice : (j k l : Joining) → GoesOn j k → GoesOn k l → GoesOn j l
+goes_twice j k l a b = record {
+  text = first_twice j.text k.text l.text a.text b.text;
+  written = first_twice j.written k.written l.written a.written b.written;
+  due = first_twice j.due k.due l.due a.due b.due;
+}
+
+takes_on : (j : Joining) (e : Entry) → GoesOn j (took_entry j e)
+takes_on j e =
+    record {
+      text = first_then j.text _;
+      written = first_then j.written _;
+      due = first_then j.due _;
+    }
+
+folds_on : (es : List Entry) (j : Joining) → GoesOn j (fold took_entry j es)
+folds_on [] j = stays j
+folds_on (e ∷ es) j =
+    goes_twice j (took_entry j e) (fold took_entry (took_entry j e) es) (takes_on j e)
+    (folds_on es (took_entry j e))
+
+acts_on : (action : JoinAction) (j : Joining) → GoesOn j (acted action j)
+acts_on (Say m) j =
+    record {
+      text = first_then j.text _;
+      written = first_then j.written _;
+      due = first_then j.due _;
+    }
+acts_on (Take count) j = stays j
+acts_on View j = record {
+  text = first_then j.text _;
+  written = first_self j.written;
+  due = first_self j.due;
+}
+acts_on Confirmed j = record {
+  text = first_then j.text _;
+  written = first_self j.written;
+  due = first_self j.due;
+}
+acts_on Snapshot j = record {
+  text = first_then j.text _;
+  written = first_self j.written;
+  due = first_self j.due;
+}
+acts_on Reset j = record {
+  text = first_then j.text _;
+  written = first_then j.written _;
+  due = first_self j.due;
+}
+acts_on Chat j = record {
+  text = first_then j.text _;
+  written = first_self j.written;
+  due = first_self j.due;
+}
+
+line_on : (action : JoinAction) (es : List Entry) (j : Joining) → GoesOn j (after_line action es j)
+line_on action es j =
+    goes_twice j (acted action j) (after_line action es j) (acts_on action j)
+    (folds_on es (acted action j))
+
+-- a line with more entries
+line_more : (action : JoinAction) (es ds : List Entry) (j : Joining)
+    → GoesOn (after_line action es j) (after_line action (es ++ ds) j)
+line_more action es ds j =
+    subst (GoesOn (after_line action es j)) (sym (fold-append took_entry (acted action j) es ds))
+    (folds_on ds (after_line action es j))
+
+lines_on : (actions : List JoinAction) (coming : List Entry) (j : Joining)
+    → GoesOn j (came_to (along actions coming j))
+lines_on [] coming j = stays j
+lines_on (action ∷ actions) coming j =
+    let n = asked_by action in
+    let next = after_line action (take n coming) j in
+    elim (cases_lt (length coming) n) [
+      | inl few ↦ subst (λ (p : Progress). GoesOn j (came_to p))
+          (sym (along_few action actions coming j few)) (line_on action coming j)
+      | inr enough ↦ subst (λ (p : Progress). GoesOn j (came_to p))
+          (sym (along_enough action actions coming j enough))
+          (goes_twice j next (came_to (along actions (drop n coming) next))
+          (line_on action (take n coming) j) (lines_on actions (drop n coming) next))
+    ]
+
+-- a line that waits, and more lines with more entries
+waits_on : (action : JoinAction) (actions : List JoinAction) (coming extra : List Entry)
+    (j : Joining) → length coming < asked_by action
+    → GoesOn (after_line action coming j) (came_to (along (action ∷ actions) (coming ++ extra) j))
+waits_on action actions coming extra j few =
+    let n = asked_by action in
+    let all = coming ++ extra in
+    elim (cases_lt (length all) n) [
+      | inl still ↦ subst (λ (p : Progress). GoesOn (after_line action coming j) (came_to p))
+          (sym (along_few action actions all j still)) (line_more action coming extra j)
+      | inr enough ↦
+          let more = take (n - length coming) extra in
+          let next = after_line action (take n all) j in
+          let room : n ≡ length coming + (n - length coming) = omega (arith, few) in
+          let first : take n all ≡ coming ++ more =
+          ap (λ (m : ℕ). take m all) room ∙ take-append-add coming extra (n - length coming) in
+          let line : GoesOn (after_line action coming j) next =
+          subst (λ (es : List Entry). GoesOn (after_line action coming j) (after_line action es j))
+          (sym first) (line_more action coming more j) in
+          subst (λ (p : Progress). GoesOn (after_line action coming j) (came_to p))
+          (sym (along_enough action actions all j enough))
+          (goes_twice (after_line action coming j) next (came_to (along actions (drop n all) next))
+          line (lines_on actions (drop n all) next))
+    ]
+
+-- more lines with more entries
+along_on : (actions more : List JoinAction) (coming extra : List Entry) (j : Joining)
+    → GoesOn (came_to (along actions coming j))
+    (came_to (along (actions ++ more) (coming ++ extra) j))
+along_on [] more coming extra j = lines_on more (coming ++ extra) j
+along_on (action ∷ actions) more coming extra j =
+    let n = asked_by action in
+    let all = coming ++ extra in
+    let late = came_to (along (action ∷ (actions ++ more)) all j) in
+    elim (cases_lt (length coming) n) [
+      | inl few ↦ subst (λ (p : Progress). GoesOn (came_to p) late)
+          (sym (along_few action actions coming j few))
+          (waits_on action (actions ++ more) coming extra j few)
+      | inr enough ↦
+          let wide : n ≤ length all = omega (arith, length-append coming extra) in
+          let next = after_line action (take n coming) j in
+          let same : along (action ∷ (actions ++ more)) all j
+          ≡ along (actions ++ more) (drop n coming ++ extra) next =
+          along_enough action (actions ++ more) all j wide
+          ∙ ap (λ (xs : List Entry). along (actions ++ more) xs (after_line action (take n all) j))
+          (drop-append-le n coming extra enough)
+          ∙ ap (λ (xs : List Entry). along (actions ++ more) (drop n coming ++ extra)
+          (after_line action xs j)) (take-append-le n coming extra enough) in
+          subst (λ (p : Progress). GoesOn (came_to p) late)
+          (sym (along_enough action actions coming j enough))
+          (subst (λ (p : Progress). GoesOn (came_to (along actions (drop n coming) next))
+          (came_to p)) (sym same) (along_on actions more (drop n coming) extra next))
+    ]
+
+-- ---- from the Hello on
+
+-- a Welcome makes a newcomer, and no other message greets
+greets : (name : List ℕ) (m : Msg)
+    → (greeted name m ≡ None) ⊎ ((client : State) × (greeted name m ≡ Some (newcomer client name)))
+greets name (msg.Control (control.Welcome version user epoch at)) =
+    inr (welcomed user epoch at, refl)
+greets name (msg.Control (control.Hello title)) = inl refl
+greets name (msg.Control (control.Disconnect reason)) = inl refl
+greets name (msg.Control (control.Ping pong)) = inl refl
+greets name (msg.Control (control.Ack epoch)) = inl refl
+greets name (msg.Control control.ResetBegin) = inl refl
+greets name (msg.Control control.ResetEnd) = inl refl
+greets name (msg.Control (control.ResetFrom at)) = inl refl
+greets name (msg.Meta m) = inl refl
+greets name (msg.Part op) = inl refl
+greets name msg.Point = inl refl
+greets name (msg.Undo target redo) = inl refl
+greets name (msg.Draw op) = inl refl
+greets name (msg.Opaque kind body) = inl refl
+
+-- how far a client goes that was greeted so
+from : List ℕ → List JoinAction → List Entry → Option Joining → Progress
+from name actions coming o = option_map_or (λ j. along actions coming j) o (Waits (caller name))
+
+calls_on : (name : List ℕ) (actions : List JoinAction) (ds : List Entry)
+    → GoesOn (caller name) (came_to (joined name actions ds))
+unfolding from
+calls_on name actions [] = stays (caller name)
+calls_on name actions (d ∷ ds) = elim (greets name d.msg) [
+  | inl none ↦ subst (λ (o : Option Joining). GoesOn (caller name)
+      (came_to (from name actions (takeable ds) o))) (sym none) (stays (caller name))
+  | inr (client, is) ↦
+      let first : GoesOn (caller name) (newcomer client name) = record {
+        text = first_self [];
+        written = first_self _;
+        due = first_self [];
+      } in
+      subst (λ (o : Option Joining). GoesOn (caller name)
+      (came_to (from name actions (takeable ds) o))) (sym is)
+      (goes_twice (caller name) (newcomer client name)
+      (came_to (along actions (takeable ds) (newcomer client name))) first
+      (lines_on actions (takeable ds) (newcomer client name)))
+]
+
+greeted_on : (name : List ℕ) (actions more : List JoinAction) (es extra : List Entry)
+    (o : Option Joining)
+    → GoesOn (came_to (from name actions es o)) (came_to (from name (actions ++ more) (es ++ extra)
+    o))
+unfolding from
+greeted_on name actions more es extra None = stays (caller name)
+greeted_on name actions more es extra (Some j) = along_on actions more es extra j
+
+-- more lines over more entries of the link
+joined_on : (name : List ℕ) (actions more : List JoinAction) (es ds : List Entry)
+    → IsFirstOf es ds
+    → GoesOn (came_to (joined name actions es)) (came_to (joined name (actions ++ more) ds))
+unfolding from
+joined_on name actions more [] ds first = calls_on name (actions ++ more) ds
+joined_on name actions more (e ∷ es) ds first =
+    let l = longer es first.rest in
+    let now = came_to (joined name actions (e ∷ es)) in
+    subst (λ (xs : List Entry). GoesOn now (came_to (joined name (actions ++ more) xs)))
+    (sym first.whole)
+    (subst (λ (xs : List Entry). GoesOn now
+    (came_to (from name (actions ++ more) xs (greeted name e.msg)))) (sym l.whole)
+    (greeted_on name actions more (takeable es) l.more (greeted name e.msg)))
+
+-- the same where the actions are the first of others
+joined_within : (name : List ℕ) (actions others : List JoinAction) (es ds : List Entry)
+    (late : Progress) → IsFirstOf actions others → IsFirstOf es ds → joined name others ds ≡ late
+    → GoesOn (came_to (joined name actions es)) (came_to late)
+joined_within name actions others es ds late acts first is =
+    subst (λ (p : Progress). GoesOn (came_to (joined name actions es)) (came_to p)) is
+    (subst (λ (xs : List JoinAction). GoesOn (came_to (joined name actions es))
+    (came_to (joined name xs ds))) (sym acts.whole) (joined_on name actions acts.rest es ds first))
+
+-- ---- towards what is due
+
+-- towards what a script and a link come to
+pub record Towards (j : Joining) (outcome : JoinOutcome) : Type 0 where
+  pub text : IsFirstOf j.text outcome.text
+  pub written : IsFirstOf j.written outcome.written
+  pub due : IsFirstOf j.due outcome.due
+
+by_script : (j k : Joining) (last : LinesEnd) → GoesOn j k → Towards j (script_outcome last k)
+by_script j k ends.AllDone on = record {
+  text = on.text;
+  written =
+      first_twice j.written k.written (k.written ++ farewell_bytes k.client.user) on.written
+      (first_then k.written (farewell_bytes k.client.user));
+  due = on.due;
+}
+by_script j k (ends.BadLine n) on =
+    record { text = on.text; written = on.written; due = on.due }
+by_script j k ends.TooLong on = record { text = on.text; written = on.written; due = on.due }
+
+module _ (laws : AllLaws) (name link : List ℕ) where
+  -- where all lines are done over these entries
+  towards_goes : (actions others : List JoinAction) (es ds : List Entry) (j : Joining)
+      (left : List Entry) → IsFirstOf actions others → BeginsWith link es → BeginsWith link ds
+      → joined name others ds ≡ Goes j left → GoesOn (came_to (joined name actions es)) j
+  towards_goes actions others es ds j left acts begins begins_too goes =
+      elim (begin_alike laws.frames link es ds begins begins_too) [
+        | inl first ↦ joined_within name actions others es ds (Goes j left) acts first goes
+        | inr first ↦
+            let further = joined_goes name others ds es j left first goes in
+            joined_within name actions others es es (Goes j further.0) acts (first_self es)
+            further.1
+      ]
+
+  -- where lines wait at an end of the link
+  towards_waits : (actions others : List JoinAction) (es ds : List Entry) (waiting : Joining)
+      (why : LinkCause) → IsFirstOf actions others → BeginsWith link es
+      → IsClosed link ds why ⊎ IsEnded link ds why → joined name others ds ≡ Waits waiting
+      → GoesOn (came_to (joined name actions es)) waiting
+  towards_waits actions others es ds waiting why acts begins (inl a) waits =
+      elim (begin_alike laws.frames link es ds begins a.begins) [
+        | inl first ↦ joined_within name actions others es ds (Waits waiting) acts first waits
+        | inr first ↦ joined_within name actions others es es (Waits waiting) acts (first_self es)
+            (joined_closed name others ds es a.closed first ∙ waits)
+      ]
+  towards_waits actions others es ds waiting why acts begins (inr a) waits =
+      joined_within name actions others es ds (Waits waiting) acts
+      (within_all laws.frames link es ds a.end begins a.comes) waits
+
+  module _ (input : List ℕ) (begun : List Line) (actions : List JoinAction) (es : List Entry)
+      (prefix : AreFirstOf IsJoinStep (seen lines_limit input) begun) (asked : AllAsk begun actions)
+      (begins : BeginsWith link es) where
+    towards_script : (outcome : JoinOutcome) → EndsByScript name input link outcome
+        → Towards (came_to (joined name actions es)) outcome
+    towards_script outcome y =
+        let acts = asked_alike laws begun y.done actions y.actions
+        (first_within input begun y.done y.last prefix y.comes) asked y.asked in
+        subst (Towards (came_to (joined name actions es))) (sym y.outcome_is)
+        (by_script (came_to (joined name actions es)) y.joining y.last
+        (towards_goes actions y.actions es y.entries y.joining y.left acts begins y.begins y.goes))
+
+    towards_link : (outcome : JoinOutcome) → EndsByLink name input link outcome
+        → Towards (came_to (joined name actions es)) outcome
+    towards_link outcome y =
+        let ended = ends_by link y.entries y.why y.ends in
+        let on : GoesOn (came_to (joined name actions es)) y.waiting =
+        elim (lists_alike begun y.begun prefix.after y.prefix.after
+        (sym prefix.parts ∙ y.prefix.parts)) [
+          | inl first ↦ towards_waits actions y.actions es y.entries y.waiting y.why
+              (asked_alike laws begun y.begun actions y.actions first asked y.asked) begins ended
+              y.waits
+          | inr first ↦
+              let acts = asked_alike laws y.begun begun y.actions actions first y.asked asked in
+              towards_waits actions actions es y.entries y.waiting y.why (first_self actions) begins
+              ended
+              (ap (λ (xs : List JoinAction). joined name xs y.entries) acts.whole
+              ∙ joined_waits name y.actions acts.rest y.entries y.waiting y.waits)
+        ] in
+        subst (Towards (came_to (joined name actions es))) (sym y.outcome_is)
+        (record { text = on.text; written = on.written; due = on.due })
+
+    towards : (outcome : JoinOutcome) → JoinComesTo name input link outcome
+        → Towards (came_to (joined name actions es)) outcome
+    towards outcome (inl y) = towards_script outcome y
+    towards outcome (inr y) = towards_link outcome y
+
+  -- ---- what a run leaves
+
+  -- prefixes of what the client has come to
+  toward_due : (t : Traffic) (j : Joining) (outcome : JoinOutcome) → Towards j outcome
+      → GrowsByPrefix t.print_old t.print_now j.text
+      → GrowsByPrefix t.sent_old t.sent_now j.written → DrawsFew t.counters j.due
+      → GrowsTowards t outcome
+  toward_due t j outcome on text written few = (
+    grows_first t.print_old t.print_now j.text outcome.text on.text text,
+    grows_first t.sent_old t.sent_now j.written outcome.written on.written written,
+    draws_first t.counters j.due outcome.due on.due few,
+  )
+
+  part_by : (t : Traffic) (input : List ℕ) (x : WritesPart name t input link)
+      (outcome : JoinOutcome) → JoinComesTo name input link outcome
+      → IsParting input x.begun (joined name x.actions x.entries) x.parting
+      → GrowsTowards t outcome
+  part_by t input x outcome comes (inl none) =
+      let j = came_to (joined name x.actions x.entries) in
+      toward_due t j outcome
+      (towards input x.begun x.actions x.entries x.prefix x.asked x.begins outcome comes) x.text
+      (subst (GrowsByPrefix t.sent_old t.sent_now)
+      (ap (λ (p : List ℕ). j.written ++ p) none ∙ append-nil j.written) x.written) x.counts
+  part_by t input x outcome comes (inr (all, k, left, goes, is)) =
+      let whole : EndsByScript name input link (script_outcome ends.AllDone k) = record {
+        done = x.begun;
+        last = ends.AllDone;
+        comes = all;
+        actions = x.actions;
+        asked = x.asked;
+        entries = x.entries;
+        begins = x.begins;
+        joining = k;
+        left = left;
+        goes = goes;
+        outcome_is = refl;
+      } in
+      let same : script_outcome ends.AllDone k ≡ outcome =
+      one_outcome laws name input link (script_outcome ends.AllDone k) outcome (inl whole) comes in
+      let here : came_to (joined name x.actions x.entries) ≡ k = ap came_to goes in (
+        subst (GrowsByPrefix t.print_old t.print_now)
+            (ap (λ (i : Joining). i.text) here ∙ ap (λ (o : JoinOutcome). o.text) same) x.text,
+        subst (GrowsByPrefix t.sent_old t.sent_now)
+            (ap (λ (i : Joining). i.written ++ x.parting) here
+            ∙ ap (λ (p : List ℕ). k.written ++ p) is
+            ∙ ap (λ (o : JoinOutcome). o.written) same) x.written,
+        subst (DrawsFew t.counters)
+            (ap (λ (i : Joining). i.due) here ∙ ap (λ (o : JoinOutcome). o.due) same) x.counts,
+      )
+
+  part_due : (t : Traffic) (input : List ℕ) → WritesPart name t input link
+      → BeginsDue name t input link
+  part_due t input x outcome comes = part_by t input x outcome comes x.is_parting
+
+  all_due : (t : Traffic) (input : List ℕ) (end : RunEnd)
+      → (outcome : JoinOutcome) × JoinComesTo name input link outcome × (outcome.end ≡ end)
+      × Appends t.print_old t.print_now outcome.text × Appends t.sent_old t.sent_now outcome.written
+      × DrawsFew t.counters outcome.due
+      → BeginsDue name t input link
+  all_due t input end (other, comes, is, text, written, few) outcome due =
+      subst (GrowsTowards t)
+      (one_outcome laws name input link other outcome comes due) (
+        grows_whole t.print_old t.print_now other.text text,
+        grows_whole t.sent_old t.sent_now other.written written,
+        few,
+      )
+
+-- ---- the lines that are whole in what was taken
+
+-- of a rest no line is whole
+pub record OpenRest : Type 0 where
+  pub lacks : (bytes : List ℕ) → Lacks newline (open_rest bytes)
+  pub only : (rest : List ℕ) → Lacks newline rest → (ended rest ≡ []) × (open_rest rest ≡ rest)
+
+-- they are the first of all
+taken_first : OpenRest → (taken untaken : List ℕ) → length taken ≤ lines_limit
+    → (after : List Line)
+    × (seen lines_limit (taken ++ untaken) ≡ numbered 0 (ended taken) ++ after)
+taken_first open_ taken untaken counts =
+    let rest = open_.only (open_rest taken) (open_.lacks taken) in
+    let count = length (ended taken) in
+    let left : IsLeft taken (numbered 0 (ended taken))
+    (record { count = count; bytes = open_rest taken; fed = length taken }) = record {
+      whole = sym (append-nil (numbered 0 (ended taken)))
+          ∙ ap (λ (ls : List (List ℕ)). numbered 0 (ended taken) ++ numbered count ls) (sym rest.0);
+      rest = sym rest.1;
+      count = omega (arith, ap length rest.0);
+      fed = refl;
+    } in
+    given_seen lines_limit taken untaken (numbered 0 (ended taken)) _ left counts
+
+taken_part : OpenRest → (name : List ℕ) (t : Traffic) (input link : List ℕ)
+    → WritesTaken name t input link → WritesPart name t input link
+taken_part open_ name t input link x =
+    let taken = x.took.taken in
+    let untaken = x.took.after ++ x.took.untaken in
+    let first = taken_first open_ taken untaken x.took.meets.quiet.counts in
+    let joins = joined name x.actions x.entries in
+    record {
+      begun = x.done;
+      prefix = record {
+        after = first.0;
+        parts =
+            ap (seen lines_limit) x.took.whole ∙ first.1
+            ∙ ap (λ (ls : List Line). ls ++ first.0) (sym x.took.meets.lines);
+        steps = subst (λ (ls : List Line). AreSteps IsJoinStep ls) (sym x.took.meets.lines)
+            x.took.meets.quiet.steps;
+      };
+      actions = x.actions;
+      asked = x.asked;
+      entries = x.entries;
+      begins = x.begins;
+      text =
+          subst (λ (p : Progress). GrowsByPrefix t.print_old t.print_now (came_to p).text)
+          (sym x.goes) (grows_whole t.print_old t.print_now x.joining.text x.text);
+      parting = [];
+      is_parting = inl refl;
+      written =
+          subst (λ (p : Progress). GrowsByPrefix t.sent_old t.sent_now ((came_to p).written ++ []))
+          (sym x.goes)
+          (subst (GrowsByPrefix t.sent_old t.sent_now) (sym (append-nil x.joining.written))
+          (grows_whole t.sent_old t.sent_now x.joining.written x.written));
+      counts =
+          subst (λ (p : Progress). DrawsFew t.counters (came_to p).due) (sym x.goes) x.counts;
+    }
+
+where_both : (input link : Option (List ℕ)) (P Q : List ℕ → List ℕ → Type 0)
+    → ((i l : List ℕ) → P i l → Q i l) → IfSome input (λ i. IfSome link (λ l. P i l))
+    → IfSome input (λ i. IfSome link (λ l. Q i l))
+where_both None link P Q more holds = tt
+where_both (Some i) None P Q more holds = tt
+where_both (Some i) (Some l) P Q more holds = more i l holds
+
+module _ (laws : AllLaws) (open_ : OpenRest) (name : List ℕ) (t : Traffic) where
+  all_begun : (end : RunEnd) → WritesAll name t end → WhereKnown t (BeginsDue name t)
+  all_begun end all =
+      where_both t.input t.link _ (BeginsDue name t) (λ i l h. all_due laws name l t i end h) all
+
+  part_begun : WhereKnown t (WritesPart name t) → WhereKnown t (BeginsDue name t)
+  part_begun part =
+      where_both t.input t.link (WritesPart name t) (BeginsDue name t)
+      (λ i l h. part_due laws name l t i h) part
+
+  -- however the run ends
+  pub begun_due : (end : RunEnd) → JoinLeaves name t end → WhereKnown t (BeginsDue name t)
+  begun_due run.Done h = all_begun run.Done h.1
+  begun_due (run.BadLine n) h = all_begun (run.BadLine n) h
+  begun_due run.Long h = all_begun run.Long h
+  begun_due run.Closed h = all_begun run.Closed h
+  begun_due (run.BadMessage n) h = all_begun (run.BadMessage n) h
+  begun_due run.ReadFault h =
+      part_begun (where_both t.input t.link (WritesTaken name t) (WritesPart name t)
+      (λ i l x. taken_part open_ name t i l x) h)
+  begun_due run.WriteFault h = part_begun h
+  begun_due run.LinkFault h = part_begun h
+  begun_due run.Memory h = part_begun h
+  begun_due (run.Truncated n) h = absurd h
+  begun_due run.BadHeader h = absurd h
