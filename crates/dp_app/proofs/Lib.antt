@@ -1,5 +1,5 @@
-pub mod Answering
 pub mod ByKind
-pub mod Digits
 pub mod Ends
-pub mod LocalRuns
+pub mod Given
+pub mod Telling
+pub mod Keeping

@@ -1,15 +1,8 @@
-//! The program: its words, its status, what it reads and what it writes.
+//! The program's top call: its words, its status, what it reads and what it writes.
 #![tactic(auto)]
 
-mod diagnostics;
-mod ending;
-mod laws;
 mod program;
-mod running;
-mod server;
-mod status;
 
+pub use dp_commands::{local_commands_are_runs, status_of};
 pub use dp_lines::RunEnd;
-pub use laws::local_commands_are_runs;
 pub use program::{Outcome, drawpile};
-pub use status::status_of;

@@ -1,11 +1,14 @@
 //! The program's top call.
 
 ghost use Rattle.std.specs.Prelude.{◌≡◌, ◌≢◌, ◌⊎◌, ◌<◌, ◌≤◌, [], ℕ, List, Option, IfSome};
-ghost use Rattle.std.specs.Prelude.{length};
+ghost use Rattle.std.specs.Prelude.{length, Some};
 ghost use Rattle.std.specs.Io.KnownBytes.{Keeps, IsAtEnd};
-ghost use Rattle.dp_hall.specs.Names.{AreDistinct};
+ghost use Rattle.dp_hall.specs.Names.{AreDistinct, IsIn};
 ghost use Rattle.dp_io.specs.Faults.{Rose};
+ghost use Rattle.dp_serve_laws.specs.Acts.{KeepsActs};
 ghost use Rattle.dp_serve_laws.specs.Reported.{reported};
+ghost use Rattle.dp_worker.specs.declared.report.LinkReport.{LinkReport};
+ghost use Rattle.dp_worker.specs.Links.{link_seen};
 ghost use Rattle.dp_lines.specs.declared.run_end.RunEnd.{RunEnd};
 ghost use Rattle.dp_lines.specs.declared.run_end.RunEnd.TheVariants.{Memory};
 ghost use Rattle.dp_words.specs.declared.command_line.CommandLine.{CommandLine};
@@ -13,28 +16,31 @@ ghost use Rattle.dp_words.specs.declared.command_line.CommandLine.TheVariants.{L
 ghost use Rattle.dp_words.specs.declared.command_line.LocalCommand.{LocalCommand};
 ghost use Rattle.dp_words.specs.declared.command_line.Service.{Service};
 ghost use Rattle.dp_lines.specs.RunEnds.{FaultMatchesEnd};
-ghost use Rattle.dp_world.specs.RunEnds.{GrowsByDue};
-ghost use Rattle.dp_app.specs.Answer.{Answer, HasHeadline, HasPlainForks, IsGiven, Says};
-ghost use Rattle.dp_app.specs.Answer.{SaysNoLink, SaysUsage};
-ghost use Rattle.dp_app.specs.Commands.{AskAndLack, AskForLocal, Asks, HasLink, HasLinks, HasWires};
-ghost use Rattle.dp_app.specs.Commands.{IsCommand, IsWorld, LacksWires};
-ghost use Rattle.dp_app.specs.Due.{GetsLink, IsDue};
-ghost use Rattle.dp_app.specs.Endings.{KeepsNothing, effects, kept, stores, streams, wire_seen};
-ghost use Rattle.dp_app.specs.Faults.{AskAndFailed};
-ghost use Rattle.dp_app.specs.Joins.{HasJoined};
-ghost use Rattle.dp_app.specs.Kinds.{Reads};
-ghost use Rattle.dp_app.specs.Runs.{run_of};
-ghost use Rattle.dp_app.specs.Servers.{HasServed, HasBadRow};
+ghost use Rattle.dp_script.specs.Counters.{counters};
+ghost use Rattle.dp_world.specs.RunEnds.{DrawsByDue, GrowsByDue};
+ghost use Rattle.dp_app.specs.Stores.{HoldsKept};
+ghost use Rattle.dp_app.specs.Worlds.{HasHeadline, HasPlainForks};
+ghost use Rattle.dp_commands.specs.Answer.{Answer, IsGiven, Says, SaysNoLink, SaysUsage};
+ghost use Rattle.dp_commands.specs.Commands.{AskAndLack, AskForLocal, Asks, HasLink, HasLinks};
+ghost use Rattle.dp_commands.specs.Commands.{HasWires, IsCommand, IsWorld, LacksWires};
+ghost use Rattle.dp_commands.specs.Due.{GetsLink, IsDue};
+ghost use Rattle.dp_commands.specs.Endings.{KeepsNothing, effects, kept, stores, streams};
+ghost use Rattle.dp_commands.specs.Endings.{wire_seen};
+ghost use Rattle.dp_commands.specs.Faults.{AskAndFailed};
+ghost use Rattle.dp_commands.specs.Joins.{HasJoined};
+ghost use Rattle.dp_commands.specs.Kinds.{Reads};
+ghost use Rattle.dp_commands.specs.Runs.{run_of};
+ghost use Rattle.dp_commands.specs.Servers.{HasServed, HasBadRow};
 
-use crate::diagnostics::say;
-use crate::laws::local_commands_are_runs;
-use crate::running::{Ran, run_words};
+use dp_commands::{Ran, local_commands_are_runs, run_words, say};
 use dp_epochs::{Journal, Shut};
 use dp_io::{Sink, Source};
 use dp_joining::{each_outcome, one_outcome};
 use dp_keeper::Keeper;
 use dp_serve::Reports;
-use dp_serve_laws::{reports_name_distinct_connections, store_faults_are_counted};
+use dp_serve_laws::{
+    acts_of_connections, reports_name_distinct_connections, rows_are_kept, store_faults_are_counted,
+};
 use dp_sim::headline;
 use dp_steps::Steps;
 use dp_wire::{Gate, Wire};
@@ -108,11 +114,13 @@ pub fn drawpile<
     // A command on the input and the output alone ends in one of the ways of a run: what the input
     // comes to decides what is written, the fault that ends it is the one that was counted, and the
     // status and the line on diag report it. Of `world` what is written is the report of the lines
-    // that are done.
+    // that are done, and no more is drawn than these lines may draw: what is said once, what is
+    // taken on the client's two canvases, and nothing for a picture that is shown.
     ensures ends { (command : LocalCommand) → Asks words.now (Local command)
         → (end : RunEnd)
         × (run_of command).leaves (I.left input.old) (I.left input.new)
-        (O.held output.old) (O.held output.new) end
+        (O.held output.old) (O.held output.new)
+        (counters draws.old draws.new tiles.old tiles.new) end
         × FaultMatchesEnd (I.faults input.old) (I.faults input.new)
         (O.faults output.old) (O.faults output.new) end
         × Says (E.held diag.old) (E.held diag.new) (E.faults diag.old) (E.faults diag.new)
@@ -121,10 +129,14 @@ pub fn drawpile<
     // `join` dials on the first wire, and ends in one of the ways of a run over a link: what the
     // script and the link come to decides what is printed and what is written to the link. Or
     // memory ran out before the words were read. The link is handed back, and other wires stay.
+    // No more is drawn than is due to the messages that are said and the entries that are taken:
+    // nothing is drawn anew to show a canvas. Where it gets no link, the links of the wire stay as
+    // they were, and nothing is read, written or drawn.
     ensures joins { (addr name : List ℕ) → Asks words.now (Join addr name) → wires.items ≢ []
         → HasJoined (wire_seen W.links W.faults W.Rx.left W.Rx.faults W.Tx.held W.Tx.faults)
         name (effects (streams I.left I.faults O.held O.faults input.old input.new output.old
-        output.new) wires.items result.wires.items
+        output.new (counters draws.old draws.new tiles.old tiles.new))
+        wires.items result.wires.items
         (stores K.held K.put_faults K.read_faults keeper result.keeper)
         (kept result.journal result.shut result.reports))
         (E.held diag.old) (E.held diag.new) (E.faults diag.old) (E.faults diag.new)
@@ -133,12 +145,14 @@ pub fn drawpile<
     // `serve` resumes the session of the keeper's rows, and runs a worker for each wire. What is
     // left of the wires and of the keeper, and what was kept and reported, is what serving that
     // session over them leaves. Or the session can't be resumed: the store failed, one of its rows
-    // may not stand, or memory ran out. The input and the output aren't touched.
+    // may not stand, or memory ran out. The input and the output aren't touched, and nothing is
+    // drawn.
     ensures serves { (addr : List ℕ) (conns : Option ℕ) (service : Service)
         → Asks words.now (Listen addr (length wires.items) conns service)
         → HasServed (wire_seen W.links W.faults W.Rx.left W.Rx.faults W.Tx.held W.Tx.faults)
         conns (effects (streams I.left I.faults O.held O.faults input.old input.new output.old
-        output.new) wires.items result.wires.items
+        output.new (counters draws.old draws.new tiles.old tiles.new))
+        wires.items result.wires.items
         (stores K.held K.put_faults K.read_faults keeper result.keeper)
         (kept result.journal result.shut result.reports))
         (E.held diag.old) (E.held diag.new) (E.faults diag.old) (E.faults diag.new)
@@ -152,10 +166,13 @@ pub fn drawpile<
     ensures headline { IsWorld words.now → IfSome (I.left input.old) HasHeadline }
     ensures forks { IsWorld words.now → IfSome (I.left input.old) HasPlainForks }
 
-    // However `world` ended, what it wrote is a prefix of the report that its input is due. It
-    // can't be that an input is due none.
+    // However `world` ended, what it wrote is a prefix of the report that its input is due, and no
+    // more was drawn than the schedule of its input may draw. It can't be that an input is due
+    // none.
     ensures due { IsWorld words.now → IfSome (I.left input.old) (λ bytes.
         GrowsByDue bytes (O.held output.old) (O.held output.new)) }
+    ensures due_draws { IsWorld words.now → IfSome (I.left input.old) (λ bytes.
+        DrawsByDue bytes (counters draws.old draws.new tiles.old tiles.new)) }
 
     // Whatever the input and the link hold, it can't be that no answer is due.
     ensures some_due { ¬ HasWires words.now wires.items
@@ -205,9 +222,26 @@ pub fn drawpile<
         (O.held output.new) }
     ensures uncounted { ¬ AskForLocal words.now → ¬ HasLink words.now wires.items
         → (I.faults input.new ≡ I.faults input.old) × (O.faults output.new ≡ O.faults output.old) }
+    ensures undrawn { ¬ AskForLocal words.now → ¬ HasLink words.now wires.items
+        → (draws.new ≡ draws.old) × (tiles.new ≡ tiles.old) }
     ensures nothing_kept { ¬ HasWires words.now wires.items
         → KeepsNothing (kept result.journal result.shut result.reports) }
     ensures distinct { AreDistinct (reported result.reports) }
+
+    // Of a connection that a report names the journal has the events that were kept of its link's
+    // acts, in order and no others. Where the keeper's rows aren't known, others may stand before
+    // them.
+    ensures connections { (report : LinkReport) (conn : ℕ) → IsIn report result.reports
+        → report.conn ≡ Some conn
+        → KeepsActs (link_seen W.Rx.left W.Rx.faults W.Tx.held W.Tx.faults) (K.held keeper)
+        report conn result.journal result.shut }
+
+    // Whatever happens, the keeper that comes back holds the rows of the events that were kept, and
+    // after a put has failed perhaps that of one event more. Where no session was resumed, nothing
+    // was kept, and its rows stay.
+    ensures rows_kept { HoldsKept
+        (stores K.held K.put_faults K.read_faults keeper result.keeper)
+        (kept result.journal result.shut result.reports) }
     ensures wires_stay { ¬ HasLinks words.now wires.items → result.wires.items ≡ wires.items }
     ensures keeper_stays { ¬ HasWires words.now wires.items → result.keeper ≡ keeper }
     ensures to_end { (command : CommandLine) → Asks words.now command → Reads command
@@ -237,6 +271,8 @@ pub fn drawpile<
     reports_are_due();
     store_faults_are_counted::<W, W::Rx, W::Tx>();
     reports_name_distinct_connections::<W, W::Rx, W::Tx>();
+    acts_of_connections::<W, W::Rx, W::Tx>();
+    rows_are_kept::<W, W::Rx, W::Tx>();
     let Ran {
         ending,
         wires,

@@ -1,0 +1,9 @@
+pub mod Answer
+pub mod Commands
+pub mod Due
+pub mod Endings
+pub mod Faults
+pub mod Joins
+pub mod Kinds
+pub mod Runs
+pub mod Servers
