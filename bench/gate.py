@@ -1,7 +1,8 @@
 #!/usr/bin/env python3
 """bench/gate.py run LOG [CMD ..]   runs the gate (`rt ci --anew`, or CMD) and writes to LOG what each of
                                  its processes took
-bench/gate.py table LOG          prints the seconds of each crate, as a table for docs/
+bench/gate.py table LOG ..       prints the seconds of each crate, as a table for docs/
+bench/gate.py above CRATE LOG ..  prints what a change of this crate's proofs has proved again
 
 The gate prints no times. So each second the processes below it are read from /proc: the processor
 time of each prover with the copies of itself that it forked, and the most memory that one of them
@@ -116,40 +117,66 @@ def run(log, words):
     return gate.returncode
 
 
-def table(log):
-    """Prints the seconds of a processor of each crate, by what was done."""
-    lines = open(log, encoding="utf-8").read().split("\n")
+def rows_of(logs):
+    """What each crate took, by what was done: how many processes and their seconds, and the peak. Of
+    several logs the last counts that tells it."""
     rows = {}
-    for line in lines:
-        if not line or line.startswith("#"):
-            continue
-        crate, kind, _, _, took, peak = line.split()
-        row = rows.setdefault(crate, {it: [0, 0.0] for it in KINDS} | {"peak": 0})
-        row[kind] = [row[kind][0] + 1, row[kind][1] + float(took)]
-        row["peak"] = max(row["peak"], int(peak))
+    for log in logs:
+        found = {}
+        for line in open(log, encoding="utf-8").read().split("\n"):
+            if not line or line.startswith("#"):
+                continue
+            crate, kind, _, _, took, peak = line.split()
+            number, seconds, most = found.get((crate, kind), (0, 0.0, 0))
+            found[crate, kind] = number + 1, seconds + float(took), max(most, int(peak))
+        for (crate, kind), told in found.items():
+            rows.setdefault(crate, {it: (0, 0.0, 0) for it in KINDS})[kind] = told
+    return rows
+
+
+def listed():
+    """The crates of crates.txt, each with those that it uses."""
     root = os.path.dirname(os.path.dirname(os.path.abspath(__file__)))
-    listed = [it.split(":")[0].split()[0] for it in open(f"{root}/crates.txt") if re.match(r"\w", it)]
-    order = [it for it in listed if it in rows] + sorted(it for it in rows if it not in listed)
-    print("| crate | proof, s | tests, s | seed, s | wrong bodies, s (n) | other, s | all, s | peak, GB |")
-    print("|---|---|---|---|---|---|---|---|")
-    sums = dict.fromkeys(KINDS, 0.0)
+    lines = [it.split(":") for it in open(f"{root}/crates.txt") if re.match(r"\w", it)]
+    return {names.split()[0]: below.split() for names, below in lines}
+
+
+def seconds_of(row):
+    """All that a crate took."""
+    return sum(row[it][1] for it in KINDS)
+
+
+def table(logs):
+    """Prints the seconds of a processor of each crate, by what was done."""
+    rows = rows_of(logs)
+    print("| crate | proof, s | tests, s | proof again, s | edits, s (n) | all, s | GB |")
+    print("|---|---:|---:|---:|---:|---:|---:|")
     show = lambda it: f"{it:.0f}" if it >= 0.5 else "-"
-    for crate in order:
+    names = [it for it in rows if it in listed()]
+    for crate in sorted(names, key=lambda it: -seconds_of(rows[it])):
         row = rows[crate]
-        for kind in KINDS:
-            sums[kind] += row[kind][1]
         edits = f"{show(row['edits'][1])} ({row['edits'][0]})" if row["edits"][0] else "-"
-        cells = [show(row["proof"][1]), show(row["tests"][1]), show(row["seed"][1]), edits, show(row["other"][1])]
-        print(f"| {crate} | {' | '.join(cells)} | {sum(row[it][1] for it in KINDS):.0f} | {row['peak'] / 1024:.1f} |")
-    cells = [show(sums[it]) for it in KINDS]
-    peak = max((it["peak"] for it in rows.values()), default=0)
-    print(f"| all | {' | '.join(cells)} | {sum(sums.values()):.0f} | {peak / 1024:.1f} |")
-    print(f"\n{lines[0][2:]}; {sum(sums.values()) / 60:.0f} minutes of a processor")
+        cells = [show(row[it][1]) for it in ("proof", "tests", "seed")]
+        print(f"| {crate} | {' | '.join(cells)} | {edits} | {seconds_of(row):.0f} | {max(it[2] for it in row.values()) / 1024:.1f} |")
+    sums = {kind: sum(rows[it][kind][1] for it in names) for kind in KINDS}
+    cells = [show(sums[it]) for it in ("proof", "tests", "seed", "edits")]
+    print(f"| all | {' | '.join(cells)} | {sum(sums.values()):.0f} | |")
+
+
+def above(crate, logs):
+    """Prints which crates stand on this one, with itself, and what proving all of them takes."""
+    rows, crates, found = rows_of(logs), listed(), [crate]
+    for it in found:
+        found += [name for name, below in crates.items() if it in below and name not in found]
+    took = sum(seconds_of(rows[it]) for it in found if it in rows)
+    print(f"{crate}: {len(found)} crates, {took / 60:.0f} minutes of a processor")
 
 
 if __name__ == "__main__":
     if len(sys.argv) >= 3 and sys.argv[1] == "run":
         sys.exit(run(sys.argv[2], sys.argv[3:] or ["rt", "ci", "--anew"]))
-    if len(sys.argv) == 3 and sys.argv[1] == "table":
-        sys.exit(table(sys.argv[2]))
+    if len(sys.argv) >= 3 and sys.argv[1] == "table":
+        sys.exit(table(sys.argv[2:]))
+    if len(sys.argv) >= 4 and sys.argv[1] == "above":
+        sys.exit(above(sys.argv[2], sys.argv[3:]))
     sys.exit(__doc__)
