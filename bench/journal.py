@@ -7,8 +7,9 @@ It prints SYNC, the median of 1,000 fdatasyncs after writes of 4 KB, and then:
 
 - put: 2,000 chats of one painter in one go, the time of each, with SYNC taken off, and the
   processor's;
-- delay: 8 painters who chat at 1,000 messages a second in all for 5 s, and the delay until each of
-  the 8 has a message, at the median and at 99 of 100;
+- delay: 8 painters who say 1,000 messages a second in all for 5 s, and the delay until each of the
+  8 has a message, at the median and at 99 of 100. If YARDSTICK is a program with the command `load`
+  (as for bench/serve.sh), that one measures it; else sixteen threads here, which add to it;
 - again: a file of ROWS rows of 35 bytes is served, until the first painter is answered;
 - memory: the most that a server takes for the same chats, with a file and without one.
 
@@ -16,6 +17,7 @@ It says which of the bounds hold: a put at most SYNC and 150 us; 99 of 100 delay
 SYNC, where SYNC is at most 0.5 ms; a file of 1,000,000 rows served in 5 s; 20 MB more memory. They
 are of a machine that is otherwise idle."""
 import os
+import re
 import socket
 import sqlite3
 import statistics
@@ -142,6 +144,16 @@ def delays(program, file):
     return all_of[len(all_of) // 2], all_of[len(all_of) * 99 // 100]
 
 
+def delays_by_load(program, file):
+    server, port = start(program, file, PAINTERS)
+    words = f"load 127.0.0.1:{port} --clients {PAINTERS} --speakers {PAINTERS} --rate {RATE}".split()
+    words = [os.environ["YARDSTICK"], *words, "--messages", str(RATE * SECONDS)]
+    said = subprocess.run(words, capture_output=True, text=True, check=True).stdout
+    stop(server)
+    found = re.search(r"delay p50 ([\d.]+) p99 ([\d.]+)", said)
+    return float(found[1]) / 1e3, float(found[2]) / 1e3
+
+
 def served_again(program, file, rows):
     base = sqlite3.connect(file)
     base.execute("CREATE TABLE journal (n INTEGER PRIMARY KEY, bytes BLOB NOT NULL) STRICT")
@@ -177,7 +189,8 @@ def main():
             f"put: {took * 1e3:.2f} ms each, {(took - sync) * 1e6:.0f} us beside SYNC: "
             f"{says(took - sync <= 150e-6)}; {processor * 1e6:.0f} us of processor"
         )
-        middle, late = delays(program, f"{folder}/delay.db")
+        measure = delays_by_load if "YARDSTICK" in os.environ else delays
+        middle, late = measure(program, f"{folder}/delay.db")
         bound = says(late <= 0.02 + 4 * sync) if sync <= 0.0005 else "SYNC is too long to say"
         print(f"delay: {middle * 1e3:.1f} ms, 99 of 100 {late * 1e3:.1f} ms: {bound}")
         took, peak = served_again(program, f"{folder}/again.db", rows)
