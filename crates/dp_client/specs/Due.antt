@@ -16,7 +16,7 @@ use Rattle.dp_screen.specs.Due as screen
 use Rattle.dp_client.specs.Client.{State, own_of}
 
 -- what an entry that is no mark may draw on both boards, where this says which commands are apart:
--- on the confirmed one its own command, or if it moves a group those from the point of that group on;
+-- on the confirmed one its own command, or if it moves a group those from that group's point on;
 -- and what it has drawn anew on that of the fork
 abbrev pub entry_due : (Draw → Draw → Bool) → State → Entry → List Draw
 entry_due apart s entry =

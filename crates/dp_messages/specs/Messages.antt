@@ -64,8 +64,8 @@ pub record Spells (number : ℕ) (bytes : List ℕ) (m : Msg) : Type 0 where
   pub payload : bytes ≡ payload_of m
   pub spelled : HasSpelling m
 
--- The kind as which a frame of the first profile is read. No message of that profile has kind 70, so
--- its frames of this kind are opaque: of kind 71.
+-- The kind as which a frame of the first profile is read. No message of that profile has kind 70,
+-- so its frames of this kind are opaque: of kind 71.
 abbrev pub lifted_kind : ℕ → ℕ
 lifted_kind kind = if kind == 70 then 71 else kind
 

@@ -15,8 +15,8 @@ use crate::tails::Image;
 use dp_fields::{PayloadError, all, read_both};
 use std::alloc::Global;
 
-/// The fill that a payload spells, the message of kind 137. Sessions have most of these, so there is
-/// a way to read one that moves it from no answer to another.
+/// The fill that a payload spells, the message of kind 137. Sessions have most of these, so there
+/// is a way to read one that moves it from no answer to another.
 #[inline(always)]
 #[rattlefmt::skip]
 pub fn read_fill(payload: &[u8]) -> Option<Draw>
