@@ -9,7 +9,7 @@ It looks at text alone and proves nothing, in a few seconds. It finds
 - a lemma that no other line cites, or only a wrong body;
 - a sentence of README.md with over 25 words;
 - a file, crate or backquoted name in a document that isn't there, or not in the crate that it names;
-- a line of over 100 columns;
+- a line of over 100 columns that the formatter could break;
 - a function of over 40 lines, or of over 7 parameters that isn't a test's.
 The status is 1 where it finds anything."""
 import glob
@@ -163,7 +163,8 @@ def look_at_tables():
 def look_at_lines():
     for path in files("crates/**/*.rt") + files("crates/**/*.antt"):
         for at, line in enumerate(text_of(path).split("\n"), 1):
-            if len(line) > 100:
+            # The formatter breaks no `use` of one name and no attribute.
+            if len(line) > 100 and not line.startswith(("use ", "#[")):
                 yield f"{short(path)}:{at}: {len(line)} columns"
 
 
