@@ -20,7 +20,7 @@ use dp_acl::spelled_ids_are_in_order;
 use dp_client::entries_are_taken;
 use dp_epochs::{
     decisions_have_effects, effects_are_made, epochs_rise, events_have_effects,
-    histories_are_marked, histories_grow, steps_lead_on,
+    histories_are_marked, histories_are_short, histories_grow, steps_lead_on,
 };
 use dp_messages::one_equality;
 use dp_sim::{instructions_are_moves, openings_go_on, worlds_stay_worlds};
@@ -98,6 +98,7 @@ pub fn schedules_are_spelled()
     worlds_stay_worlds();
     steps_lead_on();
     histories_are_spelled();
+    histories_are_short();
     snapshots_are_spelled();
 }
 
@@ -119,6 +120,7 @@ pub fn resets_show_the_senders_canvas()
     epochs_rise();
     histories_are_marked();
     histories_are_spelled();
+    histories_are_short();
     snapshots_are_spelled();
     snapshots_replay();
     openings_go_on();
