@@ -84,6 +84,8 @@ pub fn histories_are_spelled()
 {
     spelled_ids_are_in_order();
     events_have_effects();
+    histories_are_short();
+    steps_lead_on();
 }
 
 /// After every schedule of messages that have a spelling, so has each entry of each epoch, and each
