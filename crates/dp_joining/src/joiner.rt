@@ -255,7 +255,7 @@ impl<R: Source, S: Sink> Joiner<R, S> {
         print_shown(self.alloc, &self.client, shown, output)
     }
 
-    /// Sends the confirmed canvas as a reset, one that keeps what comes after what was taken or not.
+    /// Sends the confirmed canvas as a reset, one that keeps what comes after that or not.
     fn reset<O: Sink>(&mut self, keeps: bool, output: &mut O) -> Result<(), JoinStop>
         requires { length self.old.client.taken < 2 ^ 32 }
         ensures ok { (draws tiles : ℕ) → OnOk result (Moves

@@ -134,7 +134,8 @@ same-first (suc m) (x ∷ xs) more (y ∷ ys) others is long =
 same-before : (xs ys last : List Entry) → xs ++ last ≡ ys ++ last → xs ≡ ys
 same-before xs ys last is =
     let whole = ys ++ last in
-    same-first (length whole) xs last ys last (is ∙ sym (take_all (length whole) whole (omega arith)))
+    same-first (length whole) xs last ys last
+    (is ∙ sym (take_all (length whole) whole (omega arith)))
     (omega (arith, ap length is, length-append xs last, length-append ys last))
 
 -- what the client took first is the mark

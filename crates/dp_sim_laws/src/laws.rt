@@ -1,6 +1,7 @@
 //! Laws of schedules, each the contract of a function that does nothing but call others.
 
-ghost use Rattle.std.specs.Prelude.{◌≡◌, ◌≢◌, ◌≤◌, ℕ, Bool, List, ◌∷◌, ◌++◌, length, drop, IfSome, All};
+ghost use Rattle.std.specs.Prelude.{◌≡◌, ◌≢◌, ◌≤◌, ℕ, Bool, List, ◌∷◌, ◌++◌, length, drop};
+ghost use Rattle.std.specs.Prelude.{IfSome, All};
 ghost use Rattle.dp_client.specs.Client.{confirmed, own_of};
 ghost use Rattle.dp_epochs.specs.Past.{Past, state_of};
 ghost use Rattle.dp_epochs.specs.Rows.{event_limit};
