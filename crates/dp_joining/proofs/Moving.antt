@@ -32,8 +32,9 @@ use Rattle.dp_joining.specs.declared.stops.JoinStop.TheVariants.{WriteFault, Lin
 use Rattle.dp_joining.specs.declared.stops.JoinStop.TheVariants.{NoEntry}
 use Rattle.dp_joining.specs.declared.chats.ChatLine.{ChatLine}
 use Rattle.dp_joining.specs.Joining.{Joining, ack_bytes, chat_by, chat_limit, printed, reset_by}
-use Rattle.dp_joining.specs.Joining.{reset_of, said_by, sent_by, sent_text, took_entry}
+use Rattle.dp_joining.specs.Joining.{said_by, sent_by, sent_text, took_entry}
 use Rattle.dp_snap.specs.Resets.{reset_messages}
+use Rattle.dp_showing.specs.Resets.{client_reset}
 use Rattle.dp_joining.specs.Steps.{Began, DrawsFew, FaultMatchesPrinting, FaultMatchesReading}
 use Rattle.dp_joining.specs.Steps.{FaultMatchesStop, FaultMatchesWriting, counters_at}
 use Rattle.dp_joining.specs.Steps.{Fails, IsFaultless, IsNoEntry, Moves, Seen, Stands, Stops, Wrote}
@@ -338,18 +339,18 @@ takes_leads old now e leads keeps j client chats = record {
 
 -- it sends its canvas
 pub resets_adds : (keeps : Bool) (old : Seen) (user count : ℕ) (messages : List Msg)
-    → user ≡ old.client.user → count ≡ length messages → messages ≡ reset_of keeps old.client
+    → user ≡ old.client.user → count ≡ length messages → messages ≡ client_reset keeps old.client
     → AddsTo old (λ j. reset_by keeps j)
     (sent_text count) (flat_map (sent_by user) messages) []
 resets_adds keeps old user count messages is many all j client chats = record {
   text =
-      ap (λ (s : State). j.text ++ sent_text (length (reset_of keeps s)))
+      ap (λ (s : State). j.text ++ sent_text (length (client_reset keeps s)))
       (sym client)
       ∙ ap (λ (ms : List Msg). j.text ++ sent_text (length ms)) (sym all)
       ∙ ap (λ (n : ℕ). j.text ++ sent_text n) (sym many);
   written =
       ap (λ (s : State). j.written
-      ++ flat_map (sent_by s.user) (reset_of keeps s)) (sym client)
+      ++ flat_map (sent_by s.user) (client_reset keeps s)) (sym client)
       ∙ ap (λ (ms : List Msg). j.written ++ flat_map (sent_by old.client.user) ms) (sym all)
       ∙ ap (λ (u : ℕ). j.written ++ flat_map (sent_by u) messages) (sym is);
   due = sym (append-nil j.due);

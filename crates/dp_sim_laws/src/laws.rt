@@ -13,7 +13,7 @@ ghost use Rattle.dp_schedule.specs.declared.action.Instruction.TheVariants.{Rese
 ghost use Rattle.dp_sim.specs.Exchanges.{Participant};
 ghost use Rattle.dp_sim.specs.World.{world_after, participant_of};
 ghost use Rattle.dp_sim_laws.specs.OwnSteps.{own_steps, GoesBy, next_of};
-ghost use Rattle.dp_sim_laws.specs.Resets.{IsTakenUp, GoesOnFrom, kept_of};
+ghost use Rattle.dp_sim_laws.specs.Resets.{IsTakenUp, GoesOnFrom, kept_over};
 ghost use Rattle.dp_sim_laws.specs.Spelled.{AreSpelledEntries, IsSpelledEvent, SaysSpelled};
 ghost use Rattle.dp_sim_laws.specs.Tally.{IsUnended, tally_of};
 
@@ -115,7 +115,7 @@ pub fn resets_show_the_senders_canvas()
         → let world = world_after (before ++ Act number (Reset keeps) ∷ later) in
         IfSome (participant_of world other) (λ participant. participant.state.epoch ≡ epoch
         → GoesOnFrom (confirmed sender.state)
-        (kept_of keeps sender.state (state_of world.past) epoch) participant.state) }
+        (kept_over keeps sender.state (state_of world.past) epoch) participant.state) }
 {
     instructions_are_moves();
     worlds_stay_worlds();

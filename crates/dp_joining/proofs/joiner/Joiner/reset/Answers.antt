@@ -2,7 +2,8 @@ use Rattle.std.proofs.Common.{◌≡◌, [], ◌∙◌, ◌+◌, ap, refl, sym, 
 use Rattle.std.proofs.lemmas.Result.{err_from_is_err_and}
 use Rattle.dp_client.specs.Client.{confirmed}
 use Rattle.dp_snap.specs.Snapshot.{snapshot}
-use Rattle.dp_joining.specs.Joining.{Joining, reset_by, reset_of}
+use Rattle.dp_joining.specs.Joining.{Joining, reset_by}
+use Rattle.dp_showing.specs.Resets.{client_reset}
 use Rattle.dp_snap.specs.Resets.{reset_begin, reset_messages}
 use Rattle.dp_joining.specs.Steps.{seen}
 use Rattle.dp_joining.proofs.Moving.{drew_none, fails_first, fails_last, fails_memory, grows_not}
@@ -19,8 +20,8 @@ returns-in_err-commands-clause-err g c = λ draws tiles.
     rw (p.1, p.2) (fails_memory old old
     (λ (j : Joining). reset_by c.args.keeps j) _ _ _
     (resets_adds c.args.keeps old c.user-user.result
-    (length (reset_of c.args.keeps old.client))
-    (reset_of c.args.keeps old.client) c.user-user.ensures refl refl)
+    (length (client_reset c.args.keeps old.client))
+    (client_reset c.args.keeps old.client) c.user-user.ensures refl refl)
     (drew_none [] draws tiles) (grows_not old.written _) refl (record {
       print = refl;
       write = refl;
