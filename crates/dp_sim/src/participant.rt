@@ -273,7 +273,8 @@ impl Participant {
         requires { length self.old.state.taken < 2 ^ 32 }
         ensures line { IfOk result (λ line. line
             ≡ report.Sent (length (client_reset keeps self.old.state))) }
-        ensures ok { OnOk result (self.new ≡ with_sent self.old (client_reset keeps self.old.state)) }
+        ensures ok { OnOk result
+            (self.new ≡ with_sent self.old (client_reset keeps self.old.state)) }
     {
         let begin = reset_begin(keeps, self.client.taken().len() as u32);
         let commands = snapshot(alloc, self.client.confirmed())?;
