@@ -13,7 +13,7 @@ use Rattle.std.proofs.lemmas.List.{append-nil, length-append, length-map}
 use Rattle.std.proofs.lemmas.List.Folds.{flat_map-map}
 use Rattle.dp_client.specs.declared.client.Taken.{Taken}
 use Rattle.dp_board.specs.Counts.{CountsFew}
-use Rattle.dp_client.specs.Client.{State, said, taken_of, took}
+use Rattle.dp_client.specs.Client.{State, confirmed, said, taken_of, took}
 use Rattle.dp_client.specs.Due.{canvas_due, said_due}
 use Rattle.dp_msg_draw.specs.declared.draw.Draw.{Draw}
 use Rattle.dp_msg_meta.specs.declared.message.Control.TheVariants as control
@@ -33,7 +33,8 @@ use Rattle.dp_joining.specs.declared.stops.JoinStop.TheVariants.{NoEntry}
 use Rattle.dp_joining.specs.declared.chats.ChatLine.{ChatLine}
 use Rattle.dp_joining.specs.Joining.{Joining, ack_bytes, chat_by, chat_limit, printed, reset_by}
 use Rattle.dp_joining.specs.Joining.{said_by, sent_by, sent_text, took_entry}
-use Rattle.dp_snap.specs.Resets.{reset_messages}
+use Rattle.dp_snap.specs.Resets.{reset_begin, reset_messages}
+use Rattle.dp_snap.specs.Snapshot.{snapshot}
 use Rattle.dp_showing.specs.Resets.{client_reset}
 use Rattle.dp_joining.specs.Steps.{Began, DrawsFew, FaultMatchesPrinting, FaultMatchesReading}
 use Rattle.dp_joining.specs.Steps.{FaultMatchesStop, FaultMatchesWriting, counters_at}
@@ -378,6 +379,14 @@ pub prints_leads : (old now : Seen) (text : State → List ChatLine → List ℕ
     → LeadsTo old now (λ j. printed j (text j.client j.chats))
 prints_leads old now text same kept j client chats =
     record { client = same ∙ client; chats = kept ∙ chats }
+
+-- the messages of the client's reset
+pub resets_are : (keeps : Bool) (client : State) (begin : Msg) (commands : List Draw)
+    → begin ≡ reset_begin keeps (length client.taken) → commands ≡ snapshot (confirmed client)
+    → reset_messages begin commands ≡ client_reset keeps client
+resets_are keeps client begin commands begins is =
+    ap (λ (m : Msg). reset_messages m commands) begins
+    ∙ ap (reset_messages (reset_begin keeps (length client.taken))) is
 
 -- the messages of a reset
 pub reset_length : (begin : Msg) (commands : List Draw)

@@ -275,9 +275,9 @@ impl<R: Source, S: Sink> Joiner<R, S> {
         ensures rx { self.new.rx ≡ self.old.rx }
     {
         let user = self.client.user();
-        let begin = reset_begin(keeps, self.client.taken().len() as u32);
         let commands = snapshot(self.alloc, self.client.confirmed())?;
         let commands = commands.as_slice();
+        let begin = reset_begin(keeps, self.client.taken().len() as u32);
         send_reset(self.alloc, user, begin, commands, &mut self.tx)?;
         print_sent(self.alloc, commands.len() + 2, output)
     }

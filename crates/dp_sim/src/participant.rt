@@ -276,8 +276,8 @@ impl Participant {
         ensures ok { OnOk result
             (self.new ≡ with_sent self.old (client_reset keeps self.old.state)) }
     {
-        let begin = reset_begin(keeps, self.client.taken().len() as u32);
         let commands = snapshot(alloc, self.client.confirmed())?;
+        let begin = reset_begin(keeps, self.client.taken().len() as u32);
         self.send_reset(begin, commands.as_slice())
     }
 
