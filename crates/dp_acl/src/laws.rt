@@ -1,7 +1,8 @@
 //! Laws of rights, each the contract of a function that does nothing.
 
 ghost use Rattle.dp_acl.specs.Laws.{ForbiddenChangesNoRight, OperatorsStay, SpelledIdsAreInOrder};
-ghost use Rattle.dp_acl.specs.Laws.{CommandsChangeNoRight, OpeningsChangeNoRight};
+ghost use Rattle.dp_acl.specs.Laws.{CommandsChangeNoRight, KeptChangeNoRight};
+ghost use Rattle.dp_acl.specs.Laws.{OpeningsChangeNoRight};
 
 /// A message that was filtered out changes no right: what is permitted is the same with the entry
 /// that stands in its place and without it.
@@ -23,6 +24,12 @@ pub fn operators_stay()
 /// Commands of a reset change no right: a table stands for a history with them as without.
 pub fn commands_change_no_right()
     ensures { CommandsChangeNoRight }
+{}
+
+/// Entries that go on into the next epoch change no right: a table stands for a history with them as
+/// without.
+pub fn kept_change_no_right()
+    ensures { KeptChangeNoRight }
 {}
 
 /// The opening of an epoch changes no right of a present user.
