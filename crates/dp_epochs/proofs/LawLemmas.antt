@@ -138,18 +138,18 @@ module _ (P : State → ℕ → Type 0)
 
 -- ---- length
 
-abbrev IsShortStream : Option Stream → Type 0
+abbrev pub IsShortStream : Option Stream → Type 0
 IsShortStream None = Unit {0}
 IsShortStream (Some stream) = length stream.commands ≤ part_limit
 
 -- After so many events each history is short, and so is the reset that is being sent. Each entry
 -- that goes on and each part of the reset came by an event of its own.
-record IsShort (s : State) (n : ℕ) : Type 0 where
-  ended : All (λ history. length history ≤ 2 * n + opening_limit) s.ended
-  live : length s.live ≤ 2 * n + opening_limit
-  stream : IsShortStream s.stream
-  going : going s.live + length (sent_commands s.stream) ≤ n
-  epoch : length s.ended ≤ n
+pub record IsShort (s : State) (n : ℕ) : Type 0 where
+  pub ended : All (λ history. length history ≤ 2 * n + opening_limit) s.ended
+  pub live : length s.live ≤ 2 * n + opening_limit
+  pub stream : IsShortStream s.stream
+  pub going : going s.live + length (sent_commands s.stream) ≤ n
+  pub epoch : length s.ended ≤ n
 
 module _ (s : State) (n : ℕ) (h : IsShort s n) where
   ended-short : All (λ history. length history ≤ 2 * suc n + opening_limit) s.ended
@@ -267,12 +267,12 @@ short-effect s e effect cause n h =
     short-grown s n h (noted s (made s e effect)) (entries_of e effect) refl refl
     (entries-few e effect) h.stream (omega (arith, going-few (entries_of e effect)))
 
-event-short : (s : State) (e : Event) (n : ℕ) → IsShort s n → IsShort (after_event s e) (suc n)
+pub event-short : (s : State) (e : Event) (n : ℕ) → IsShort s n → IsShort (after_event s e) (suc n)
 event-short s e n h =
     let it = has-effect s e in
     subst (λ a. IsShort (noted s a) (suc n)) (sym it.made) (short-effect s e it.effect it.cause n h)
 
-shut-short : (s : State) (conn n : ℕ) → IsShort s n → IsShort (after_shut s conn) n
+pub shut-short : (s : State) (conn n : ℕ) → IsShort s n → IsShort (after_shut s conn) n
 shut-short s conn n h = at_most_one (open_connection s conn)
   where
     at_most_one : (o : Option Connection) → IsShort (option_map_or (λ c. with_connection s conn
@@ -286,7 +286,7 @@ shut-short s conn n h = at_most_one (open_connection s conn)
       epoch = h.epoch;
     }
 
-first-short : IsShort first_state 0
+pub first-short : IsShort first_state 0
 first-short = record {
   ended = All-nil (λ (history : List Entry). length history ≤ 2 * 0 + opening_limit);
   live = omega arith;
