@@ -221,12 +221,11 @@ module _ (s : State) (conn : ℕ) (c : Connection) (m : Msg) (at : IsOpenAt s co
   decided-cause decision.Acknowledge is why = (said decision.Acknowledge is, why)
   decided-cause decision.Place is why = (said decision.Place is, why.0, why.1)
   decided-cause decision.Filter is why = (said decision.Filter is, why)
-  decided-cause decision.BeginReset is why =
-      (
-        why.0,
-        reset (begin_message why.0) decision.BeginReset is why.1 why.2 why.3,
-        why.4,
-      )
+  decided-cause decision.BeginReset is why = (
+    why.0,
+    reset (begin_message why.0) decision.BeginReset is why.1 why.2 why.3,
+    why.4,
+  )
   decided-cause decision.AddPart is why = (
     why.0,
     reset (msg.Part why.0) decision.AddPart is why.2 why.3 why.4.operator,
