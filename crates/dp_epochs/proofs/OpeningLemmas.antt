@@ -130,7 +130,8 @@ going entries = length (filter (λ entry. goes_on entry.msg) entries)
 pub going-append : (xs ys : List Entry) → going (xs ++ ys) ≡ going xs + going ys
 going-append xs ys =
     ap length (filter-append (λ (entry : Entry). goes_on entry.msg) xs ys)
-    ∙ length-append (filter (λ entry. goes_on entry.msg) xs) (filter (λ entry. goes_on entry.msg) ys)
+    ∙ length-append (filter (λ entry. goes_on entry.msg) xs)
+    (filter (λ entry. goes_on entry.msg) ys)
 
 pub going-few : (entries : List Entry) → going entries ≤ length entries
 going-few entries = length-passing (λ entry. goes_on entry.msg) entries
@@ -269,8 +270,8 @@ carried-bare : (history : List Entry) (present : List ℕ)
     → AreBare (filter_map (last_join history) present
     ++ map server_entry (carried history present))
 carried-bare history present =
-    bare-append (filter_map (last_join history) present) (map server_entry (carried history present))
-    (joins-bare history present) (
+    bare-append (filter_map (last_join history) present)
+    (map server_entry (carried history present)) (joins-bare history present) (
       (refl, refl),
       (refl, refl),
       (refl, refl),
