@@ -458,7 +458,8 @@ histories-go_on : (s : State) (e : Event) (effect : Effect) (k : ℕ)
     (slice_index_or (ended_after s effect ++ live_after s e effect ∷ []) k [])
 histories-go_on s e (Reopened conn c) k =
     opened-grows s.ended s.live
-    (opening (epoch_of s + 1) s.live (present_users s) (sent_commands s.stream) []) k
+    (opening (epoch_of s + 1) s.live (present_users s) (sent_commands s.stream)
+    (kept_by s.stream s.live)) k
 histories-go_on s e effect k = last-grows s.ended s.live (entries_of e effect) k
 
 -- the history of each epoch goes on

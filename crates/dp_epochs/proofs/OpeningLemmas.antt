@@ -134,7 +134,7 @@ going-append xs ys =
     (filter (λ entry. goes_on entry.msg) ys)
 
 pub going-few : (entries : List Entry) → going entries ≤ length entries
-going-few entries = length-passing (λ entry. goes_on entry.msg) entries
+going-few entries = length-passing (λ (entry : Entry). goes_on entry.msg) entries
 
 pub going-commands : (commands : List Draw) → going (map command_entry commands) ≤ length commands
 going-commands commands =
@@ -300,8 +300,11 @@ pub opening-going : (epoch : ℕ) (history : List Entry) (present : List ℕ) (c
 opening-going epoch history present commands kept =
     let rights = filter_map (last_join history) present
     ++ map server_entry (carried history present) in
+    let rest : going (opening epoch history present commands kept)
+    ≡ going (rights ++ map command_entry commands ++ kept) = refl in
     omega (
       arith,
+      rest,
       going-append (rights ++ map command_entry commands) kept,
       going-append rights (map command_entry commands),
       bare-going rights (carried-bare history present),
