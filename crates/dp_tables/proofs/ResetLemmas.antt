@@ -203,7 +203,7 @@ module _ (s : State) (t : Seen) (are : AreOf s t) where
       by_case : (o p : Option ℕ) → stream_in t.journal o p t.parts ≡ s.stream
           → passing (drop (start_of o p (length t.live)) t.live) ≡ kept_by s.stream s.live
       by_case (Some conn) (Some at) is =
-          ap (filter (λ e. goes_on e.msg))
+          ap (filter (λ (e : Entry). goes_on e.msg))
           (sym (drop-map (entry_in t.journal) at t.live) ∙ ap (drop at) are.entries)
           ∙ ap (λ o. kept_by o s.live) is
       by_case (Some conn) None is = none ∙ ap (λ o. kept_by o s.live) is

@@ -1,6 +1,7 @@
 //! Resets: who may send one, what becomes of its messages, and how it opens the next epoch.
 
 ghost use Rattle.std.specs.Prelude.{◌≡◌, ◌+◌, ◌≤◌, Some, false, is_some, IfOk, All, map, length};
+ghost use Rattle.std.specs.Prelude.{nat_le};
 ghost use Rattle.std.specs.List.{filter};
 ghost use Rattle.std.specs.Option.{option_map_or};
 ghost use Rattle.dp_acl.specs.Opening.{goes_on, opening, server_entry};
@@ -108,12 +109,19 @@ impl Tables {
         }
     }
 
+    /// Whether the place is not past the live history.
+    fn is_within_live(&self, at: u32) -> bool
+        ensures { result ≡ nat_le at (length (state_in self.now).live) }
+    {
+        at as usize <= self.live.len()
+    }
+
     /// What becomes of a message that begins a reset which keeps entries from this place on.
     pub(crate) fn hear_from(&self, conn: u32, connection: &Connection, at: u32) -> Decision
         ensures { result ≡ heard (state_in self.now) conn connection.now
             (msg.Control (ResetFrom at)) }
     {
-        if self.may_begin(conn, connection) && at as usize <= self.live.len() {
+        if self.may_begin(conn, connection) && self.is_within_live(at) {
             Decision::BeginReset
         } else {
             Decision::Filter

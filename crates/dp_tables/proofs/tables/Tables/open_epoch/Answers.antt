@@ -1,5 +1,5 @@
 use Rattle.std.proofs.Common.{◌≡◌, ◌+◌, ◌≤◌, ◌++◌, ◌∷◌, [], length, map, sym, ap, subst, ◌∙◌}
-use Rattle.std.proofs.Common.{arith}
+use Rattle.std.proofs.Common.{All, arith}
 use Rattle.std.specs.List.{filter, filter_map}
 use Rattle.dp_msg_meta.specs.Fields.{RiseFrom}
 use Rattle.dp_msg_meta.specs.declared.message.Meta.TheVariants.{ResetMark}
@@ -8,7 +8,7 @@ use Rattle.dp_acl.specs.Opening.{server_entry, command_entry, goes_on, last_join
 use Rattle.dp_epochs.specs.State.{epoch_of, user_ids, present_users, sent_commands, kept_by}
 use Rattle.dp_tables.specs.SessionLog.{state_in}
 use Rattle.dp_tables.specs.Inside.{seen}
-use Rattle.dp_history.specs.Items.{commands_in, entry_in}
+use Rattle.dp_history.specs.Items.{commands_in, entry_in, IsIn}
 use Rattle.dp_history.specs.Openings.{Holds}
 use Rattle.dp_history.specs.Users.{mark}
 use Rattle.dp_tables.proofs.TableLemmas.{of-ledger, live-fits, live-length}
@@ -22,6 +22,18 @@ carry-requires c =
     let are = of-ledger t c.args.self.now c.self.invariant c.self.view_is in
     subst (RiseFrom 1) (sym (c.in_ok-present.ensures ∙ present-is s (seen t) are))
     (c.present_users_rise.ensures s)
+
+pub count_kept-kept-requires : goal.count_kept-kept-requires
+count_kept-kept-requires c =
+    subst (λ j. All (IsIn j) c.kept_items-items.result.now)
+    (sym (ap (λ l. l.journal) c.self.view_is) ∙ sym c.deref.ensures.value)
+    c.kept_items-items.ensures.said
+
+pub add_kept-requires : goal.add_kept-requires
+add_kept-requires c =
+    subst (λ j. All (IsIn j) c.kept_items-items.result.now)
+    (sym (ap (λ l. l.journal) c.self.view_is) ∙ sym c.deref-5.ensures.value)
+    c.kept_items-items.ensures.said
 
 pub overflow_cast-carried : goal.overflow_cast-carried
 overflow_cast-carried c =
