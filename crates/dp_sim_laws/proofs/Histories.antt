@@ -29,6 +29,7 @@ use Rattle.dp_acl.specs.Opening.{server_entry, goes_on, kept_from, part_limit, o
 use Rattle.dp_acl.specs.Laws.{SpelledIdsAreInOrder}
 use Rattle.dp_epochs.specs.declared.connection.Ending.TheVariants as ending
 use Rattle.dp_epochs.specs.declared.event.Event.{Event}
+use Rattle.dp_epochs.specs.declared.event.Event.TheVariants as event
 use Rattle.dp_epochs.specs.declared.event.ShutAt.{ShutAt}
 use Rattle.dp_epochs.specs.State.{State, Stream, first_state, noted, after_event, after_shut}
 use Rattle.dp_epochs.specs.State.{epoch_of, history_of, entry_of, is_name}
