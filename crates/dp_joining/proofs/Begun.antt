@@ -137,7 +137,7 @@ acts_on Snapshot j = record {
   written = first_self j.written;
   due = first_self j.due;
 }
-acts_on Reset j = record {
+acts_on (Reset keeps) j = record {
   text = first_then j.text _;
   written = first_then j.written _;
   due = first_self j.due;

@@ -2,7 +2,7 @@
 use Rattle.std.proofs.Common.{◌≡◌, inl, inr, ℕ, ◌+◌, ◌≤◌, map, List, [], ◌∷◌, ◌++◌, length}
 use Rattle.std.proofs.Common.{refl, sym, ap}
 use Rattle.std.proofs.Common.{◌∙◌, subst, arith, Ok, Err, OnOk}
-use Rattle.std.specs.Prelude.{Option, IfErr}
+use Rattle.std.specs.Prelude.{Bool, Option, IfErr}
 use Rattle.std.specs.declared.result.Result.{Result}
 use Rattle.std.specs.Io.KnownBytes.{Appends}
 use Rattle.std.proofs.KnownBytes.{Appends-nil, Appends-trans}
@@ -13,7 +13,7 @@ use Rattle.std.proofs.lemmas.List.{append-nil, length-append, length-map}
 use Rattle.std.proofs.lemmas.List.Folds.{flat_map-map}
 use Rattle.dp_client.specs.declared.client.Taken.{Taken}
 use Rattle.dp_board.specs.Counts.{CountsFew}
-use Rattle.dp_client.specs.Client.{State, confirmed, said, taken_of, took}
+use Rattle.dp_client.specs.Client.{State, said, taken_of, took}
 use Rattle.dp_client.specs.Due.{canvas_due, said_due}
 use Rattle.dp_msg_draw.specs.declared.draw.Draw.{Draw}
 use Rattle.dp_msg_meta.specs.declared.message.Control.TheVariants as control
@@ -22,7 +22,6 @@ use Rattle.dp_messages.specs.declared.message.Msg.{Msg}
 use Rattle.dp_messages.specs.declared.message.Msg.TheVariants as msg
 use Rattle.dp_schedule.specs.declared.report_line.ReportLine.TheVariants.{Said, Took}
 use Rattle.dp_schedule.specs.ReportText.{text_of}
-use Rattle.dp_snap.specs.Snapshot.{snapshot}
 use Rattle.dp_pixels.specs.Feet.{reach}
 use Rattle.dp_screen.proofs.Leads.{counts_both}
 use Rattle.dp_io.specs.Faults.{Rose}
@@ -33,7 +32,7 @@ use Rattle.dp_joining.specs.declared.stops.JoinStop.TheVariants.{WriteFault, Lin
 use Rattle.dp_joining.specs.declared.stops.JoinStop.TheVariants.{NoEntry}
 use Rattle.dp_joining.specs.declared.chats.ChatLine.{ChatLine}
 use Rattle.dp_joining.specs.Joining.{Joining, ack_bytes, chat_by, chat_limit, printed, reset_by}
-use Rattle.dp_joining.specs.Joining.{said_by, sent_by, sent_text, took_entry}
+use Rattle.dp_joining.specs.Joining.{reset_of, said_by, sent_by, sent_text, took_entry}
 use Rattle.dp_snap.specs.Resets.{reset_messages}
 use Rattle.dp_joining.specs.Steps.{Began, DrawsFew, FaultMatchesPrinting, FaultMatchesReading}
 use Rattle.dp_joining.specs.Steps.{FaultMatchesStop, FaultMatchesWriting, counters_at}
@@ -338,27 +337,27 @@ takes_leads old now e leads keeps j client chats = record {
 }
 
 -- it sends its canvas
-pub resets_adds : (old : Seen) (user count : ℕ) (messages : List Msg) → user ≡ old.client.user
-    → count ≡ length messages → messages ≡ reset_messages (snapshot (confirmed old.client))
-    → AddsTo old (λ j. reset_by j (reset_messages (snapshot (confirmed j.client))))
+pub resets_adds : (keeps : Bool) (old : Seen) (user count : ℕ) (messages : List Msg)
+    → user ≡ old.client.user → count ≡ length messages → messages ≡ reset_of keeps old.client
+    → AddsTo old (λ j. reset_by keeps j)
     (sent_text count) (flat_map (sent_by user) messages) []
-resets_adds old user count messages is many all j client chats = record {
+resets_adds keeps old user count messages is many all j client chats = record {
   text =
-      ap (λ (s : State). j.text ++ sent_text (length (reset_messages (snapshot (confirmed s)))))
+      ap (λ (s : State). j.text ++ sent_text (length (reset_of keeps s)))
       (sym client)
       ∙ ap (λ (ms : List Msg). j.text ++ sent_text (length ms)) (sym all)
       ∙ ap (λ (n : ℕ). j.text ++ sent_text n) (sym many);
   written =
       ap (λ (s : State). j.written
-      ++ flat_map (sent_by s.user) (reset_messages (snapshot (confirmed s)))) (sym client)
+      ++ flat_map (sent_by s.user) (reset_of keeps s)) (sym client)
       ∙ ap (λ (ms : List Msg). j.written ++ flat_map (sent_by old.client.user) ms) (sym all)
       ∙ ap (λ (u : ℕ). j.written ++ flat_map (sent_by u) messages) (sym is);
   due = sym (append-nil j.due);
 }
 
-pub resets_leads : (old now : Seen) → now.client ≡ old.client → now.chats ≡ old.chats
-    → LeadsTo old now (λ j. reset_by j (reset_messages (snapshot (confirmed j.client))))
-resets_leads old now same kept j client chats =
+pub resets_leads : (keeps : Bool) (old now : Seen) → now.client ≡ old.client
+    → now.chats ≡ old.chats → LeadsTo old now (λ j. reset_by keeps j)
+resets_leads keeps old now same kept j client chats =
     record { client = same ∙ client; chats = kept ∙ chats }
 
 -- it prints a text of what it has
@@ -380,9 +379,9 @@ prints_leads old now text same kept j client chats =
     record { client = same ∙ client; chats = kept ∙ chats }
 
 -- the messages of a reset
-pub reset_length : (commands : List Draw)
-    → length (reset_messages commands) ≡ length commands + 2
-reset_length commands =
+pub reset_length : (begin : Msg) (commands : List Draw)
+    → length (reset_messages begin commands) ≡ length commands + 2
+reset_length begin commands =
     let parts : List Msg = map (λ (op : Draw). msg.Part op) commands in
     let last : List Msg = msg.Control control.ResetEnd ∷ [] in
     let same : length parts ≡ length commands =
@@ -390,13 +389,13 @@ reset_length commands =
     let both : length (parts ++ last) ≡ length parts + 1 = length-append parts last in
     omega arith
 
-pub reset_bytes : (user : ℕ) (commands : List Draw)
-    → sent_by user (msg.Control control.ResetBegin)
+pub reset_bytes : (user : ℕ) (begin : Msg) (commands : List Draw)
+    → sent_by user begin
     ++ (flat_map (λ command. sent_by user (msg.Part command)) commands
     ++ sent_by user (msg.Control control.ResetEnd))
-    ≡ flat_map (sent_by user) (reset_messages commands)
-reset_bytes user commands =
-    sym (ap (λ (t : List ℕ). sent_by user (msg.Control control.ResetBegin) ++ t)
+    ≡ flat_map (sent_by user) (reset_messages begin commands)
+reset_bytes user begin commands =
+    sym (ap (λ (t : List ℕ). sent_by user begin ++ t)
     (flat_map-append (sent_by user) (map (λ (op : Draw). msg.Part op) commands)
     (msg.Control control.ResetEnd ∷ [])
     ∙ ap (λ (t : List ℕ). t ++ flat_map (sent_by user) (msg.Control control.ResetEnd ∷ []))

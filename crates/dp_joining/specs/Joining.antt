@@ -15,7 +15,7 @@ use Rattle.dp_messages.specs.declared.message.Msg.{Msg}
 use Rattle.dp_messages.specs.declared.message.Msg.TheVariants as msg
 use Rattle.dp_messages.specs.Messages.{entry_bytes}
 use Rattle.dp_messages.specs.Properties.{is_disconnect}
-use Rattle.dp_snap.specs.Resets.{reset_messages}
+use Rattle.dp_snap.specs.Resets.{reset_begin, reset_messages}
 use Rattle.dp_snap.specs.Snapshot.{snapshot}
 use Rattle.dp_schedule.specs.declared.join_action.JoinAction.{JoinAction}
 use Rattle.dp_schedule.specs.declared.join_action.JoinAction.TheVariants.{Say, Take, View}
@@ -112,11 +112,16 @@ took_entry j entry =
 abbrev pub printed : Joining → List ℕ → Joining
 printed j text = record j { text = j.text ++ text }
 
--- its confirmed canvas goes out as a reset
-abbrev pub reset_by : Joining → List Msg → Joining
-reset_by j messages = record j {
-  text = j.text ++ sent_text (length messages);
-  written = j.written ++ flat_map (sent_by j.client.user) messages;
+-- the reset to its confirmed canvas, one that keeps what comes after what it has taken or not
+abbrev pub reset_of : Bool → State → List Msg
+reset_of keeps client =
+    reset_messages (reset_begin keeps (length client.taken)) (snapshot (confirmed client))
+
+-- that reset goes out
+abbrev pub reset_by : Bool → Joining → Joining
+reset_by keeps j = record j {
+  text = j.text ++ sent_text (length (reset_of keeps j.client));
+  written = j.written ++ flat_map (sent_by j.client.user) (reset_of keeps j.client);
 }
 
 -- it says a message
@@ -135,7 +140,7 @@ asked_by (Take count) = count
 asked_by View = 0
 asked_by Confirmed = 0
 asked_by Snapshot = 0
-asked_by Reset = 0
+asked_by (Reset keeps) = 0
 asked_by Chat = 0
 
 -- after a line, but for the entries that it takes
@@ -145,7 +150,7 @@ acted (Take count) j = j
 acted View j = printed j (shown_text shown.View j.client)
 acted Confirmed j = printed j (shown_text shown.Confirmed j.client)
 acted Snapshot j = printed j (shown_text shown.Snapshot j.client)
-acted Reset j = reset_by j (reset_messages (snapshot (confirmed j.client)))
+acted (Reset keeps) j = reset_by keeps j
 acted Chat j = printed j (chats_text (keep_last chat_limit j.chats))
 
 -- after a line that takes these entries

@@ -25,7 +25,7 @@ IsSendable (Take count) = Unit {0}
 IsSendable View = Unit {0}
 IsSendable Confirmed = Unit {0}
 IsSendable Snapshot = Unit {0}
-IsSendable Reset = Unit {0}
+IsSendable (Reset keeps) = Unit {0}
 IsSendable Chat = Unit {0}
 
 -- why no action is had of a line: it asks for nothing, or memory ran out

@@ -4,16 +4,13 @@ ghost use Rattle.std.specs.Prelude.{◌≡◌, ◌+◌, ◌-◌, ◌^◌, ◌<�
 ghost use Rattle.std.specs.Prelude.{IfOk, IfErr, OnOk};
 ghost use Rattle.std.specs.Io.KnownBytes.{Appends};
 ghost use Rattle.circular_buffer.specs.Buffer.{buffer, keep_last};
-ghost use Rattle.dp_client.specs.Client.{confirmed};
 ghost use Rattle.dp_io.specs.Streams.{GrowsByPrefix};
 ghost use Rattle.dp_messages.specs.Messages.{kind_of};
 ghost use Rattle.dp_schedule.specs.declared.join_action.JoinAction.TheVariants as action;
 ghost use Rattle.dp_showing.specs.Showing.{shown_text};
-ghost use Rattle.dp_snap.specs.Snapshot.{snapshot};
 ghost use Rattle.dp_joining.specs.declared.chats.ChatLine.{ChatLine as Chat};
 ghost use Rattle.dp_joining.specs.Joining.{ack_bytes, chat_by, chat_limit, chats_text, printed};
 ghost use Rattle.dp_joining.specs.Joining.{reset_by, said_by, took_entry};
-ghost use Rattle.dp_snap.specs.Resets.{reset_messages};
 ghost use Rattle.dp_joining.specs.Scripts.{IsSendable};
 ghost use Rattle.dp_joining.specs.Steps.{FaultMatchesWriting, Fails, GivesEntry, GivesNone, Halts};
 ghost use Rattle.dp_joining.specs.Steps.{IsReadable, IsReady, Moves, Passes, ReadsOn, seen};
@@ -32,7 +29,7 @@ use dp_messages::{Entry, Msg};
 use dp_msg_meta::Control;
 use dp_schedule::{JoinAction, ReportLine};
 use dp_showing::{CanvasClient, Shown};
-use dp_snap::snapshot;
+use dp_snap::{reset_begin, snapshot};
 use dp_steps::Steps;
 use std::alloc::Global;
 use std::sync::ledger::Ledger;
@@ -80,7 +77,7 @@ impl<R: Source, S: Sink> Joiner<R, S> {
             JoinAction::View => self.show(Shown::View, output),
             JoinAction::Confirmed => self.show(Shown::Confirmed, output),
             JoinAction::Snapshot => self.show(Shown::Snapshot, output),
-            JoinAction::Reset => self.reset(output),
+            JoinAction::Reset { keeps } => self.reset(keeps, output),
             JoinAction::Chat => self.print_chats(output),
         }
     }
@@ -258,28 +255,30 @@ impl<R: Source, S: Sink> Joiner<R, S> {
         print_shown(self.alloc, &self.client, shown, output)
     }
 
-    /// Sends the confirmed canvas as a reset.
-    fn reset<O: Sink>(&mut self, output: &mut O) -> Result<(), JoinStop>
+    /// Sends the confirmed canvas as a reset, one that keeps what comes after what was taken or not.
+    fn reset<O: Sink>(&mut self, keeps: bool, output: &mut O) -> Result<(), JoinStop>
+        requires { length self.old.client.taken < 2 ^ 32 }
         ensures ok { (draws tiles : ℕ) → OnOk result (Moves
             (seen R.left R.faults S.held S.faults O.held O.faults self.old output.old draws
             tiles)
             (seen R.left R.faults S.held S.faults O.held O.faults self.new output.new draws
             tiles)
-            (λ j. reset_by j (reset_messages (snapshot (confirmed j.client))))) }
+            (λ j. reset_by keeps j)) }
         ensures err { (draws tiles : ℕ) → IfErr result (Fails
             (seen R.left R.faults S.held S.faults O.held O.faults self.old output.old draws
             tiles)
             (seen R.left R.faults S.held S.faults O.held O.faults self.new output.new draws
             tiles)
-            (λ j. reset_by j (reset_messages (snapshot (confirmed j.client))))) }
+            (λ j. reset_by keeps j)) }
         ensures client { self.new.client ≡ self.old.client }
         ensures reader { self.new.reader ≡ self.old.reader }
         ensures rx { self.new.rx ≡ self.old.rx }
     {
         let user = self.client.user();
+        let begin = reset_begin(keeps, self.client.taken().len() as u32);
         let commands = snapshot(self.alloc, self.client.confirmed())?;
         let commands = commands.as_slice();
-        send_reset(self.alloc, user, commands, &mut self.tx)?;
+        send_reset(self.alloc, user, begin, commands, &mut self.tx)?;
         print_sent(self.alloc, commands.len() + 2, output)
     }
 

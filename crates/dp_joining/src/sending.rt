@@ -54,21 +54,22 @@ pub(crate) fn send<S: Sink>(alloc: Global, user: u8, msg: Msg, tx: &mut S) -> Re
     send_entry(alloc, &entry, tx)
 }
 
-/// Writes a reset to these commands.
+/// Writes a reset to these commands, which begins by this message.
 pub(crate) fn send_reset<S: Sink>(
     alloc: Global,
     user: u8,
+    begin: Msg,
     commands: &[Draw],
     tx: &mut S,
 ) -> Result<(), JoinStop>
     ensures written { OnOk result (Appends (S.held tx.old) (S.held tx.new)
-        (flat_map (sent_by user) (reset_messages commands.now))) }
+        (flat_map (sent_by user) (reset_messages begin commands.now))) }
     ensures prefix { GrowsByPrefix (S.held tx.old) (S.held tx.new)
-        (flat_map (sent_by user) (reset_messages commands.now)) }
+        (flat_map (sent_by user) (reset_messages begin commands.now)) }
     ensures kept { OnOk result (S.faults tx.new ≡ S.faults tx.old) }
     ensures fault { IfErr result (FaultMatchesWriting (S.faults tx.old) (S.faults tx.new)) }
 {
-    send(alloc, user, Msg::Control(Control::ResetBegin), tx)?;
+    send(alloc, user, begin, tx)?;
     send_parts(alloc, user, commands, tx)?;
     send(alloc, user, Msg::Control(Control::ResetEnd), tx)
 }

@@ -15,13 +15,14 @@ use Rattle.dp_schedule.specs.declared.action.CanvasKind.TheVariants.{Snapshot, R
 use Rattle.dp_schedule.specs.LineGrammar.{WordsParse, NamesClient, EndsIn, HexSpells, join_word}
 use Rattle.dp_schedule.specs.LineGrammar.{instruction_word, canvas_word}
 
--- the sort of a first word, by its fourth byte, and by its third one where it has no fourth: 0
--- that of a join, 1 of an instruction, 2 of what is printed
+-- the sort of a first word, by its fourth byte, and by its third one where it has no fourth or the
+-- fourth is `p`: 0 that of a join, 1 of an instruction, 2 of what is printed
 sort_by : ℕ → ℕ → ℕ
 sort_by third byte =
     if byte == 110 || byte == 98 then 0
-    else (if byte == 119 || byte == 102 || byte == 112 then 2
-    else (if byte == 0 && third == 99 then 2 else 1))
+    else (if byte == 119 || byte == 102 then 2
+    else (if byte == 112 && third == 97 then 2
+    else (if byte == 0 && third == 99 then 2 else 1)))
 
 abbrev sort_of : List ℕ → ℕ
 sort_of word = sort_by (get_or word 2 0) (get_or word 3 0)
@@ -36,7 +37,8 @@ unfolding sort_by
 sort_of_instruction (Say m) = refl
 sort_of_instruction Up = refl
 sort_of_instruction Take = refl
-sort_of_instruction Reset = refl
+sort_of_instruction (Reset true) = refl
+sort_of_instruction (Reset false) = refl
 sort_of_instruction Leave = refl
 sort_of_instruction Cut = refl
 
@@ -77,7 +79,8 @@ instruction_by : ℕ → Instruction
 instruction_by byte =
     if byte == 117 then Up
     else (if byte == 116 then Take
-    else (if byte == 114 then Reset else (if byte == 108 then Leave else Cut)))
+    else (if byte == 114 then Reset false
+    else (if byte == 107 then Reset true else (if byte == 108 then Leave else Cut))))
 
 registered_back : (registered : Bool) → registered_by (get_or (join_word registered) 0 0)
     ≡ registered
@@ -98,7 +101,8 @@ unfolding instruction_by
 instruction_back (Say m) (word, ends, tells) = absurd (cc (ends))
 instruction_back Up ends = refl
 instruction_back Take ends = refl
-instruction_back Reset ends = refl
+instruction_back (Reset true) ends = refl
+instruction_back (Reset false) ends = refl
 instruction_back Leave ends = refl
 instruction_back Cut ends = refl
 
@@ -143,7 +147,7 @@ said_by (Say m) word after (other, ends, tells) =
     (m, refl, subst (λ (w : List ℕ). HexSpells w m) same tells)
 said_by Up word after ends = absurd (cc (ends))
 said_by Take word after ends = absurd (cc (ends))
-said_by Reset word after ends = absurd (cc (ends))
+said_by (Reset keeps) word after ends = absurd (cc (ends))
 said_by Leave word after ends = absurd (cc (ends))
 said_by Cut word after ends = absurd (cc (ends))
 

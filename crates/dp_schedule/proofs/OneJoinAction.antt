@@ -1,6 +1,6 @@
 -- A line of a script of `join` asks for one thing.
 use Rattle.std.proofs.Common.{◌≡◌, ◌⊎◌, inl, inr, ℕ, List, [], ◌∷◌, get_or, if◌then◌else◌, ◌==◌}
-use Rattle.std.proofs.Common.{refl, sym, ap, ◌∙◌, subst}
+use Rattle.std.proofs.Common.{refl, sym, ap, ◌∙◌, subst, true, false}
 use Rattle.std.specs.Prelude.{codes, IfOk, IfSome, IfNone, Option, Some, None, Result, slice_get}
 use Rattle.dp_lines.specs.Lines.{words}
 use Rattle.dp_lines.specs.Numbers.{IsNumber}
@@ -16,8 +16,8 @@ use Rattle.dp_schedule.proofs.OneAction.{OneNumber, OneMessage, one_spelled}
 -- which action a word alone asks for, by its first two bytes
 alone_by : ℕ → ℕ → JoinAction
 alone_by first second =
-    if first == 118 then View else (if first == 114 then Reset else
-    (if first == 115 then Snapshot else (if second == 111 then Confirmed else Chat)))
+    if first == 118 then View else (if first == 114 then Reset false else
+    (if first == 107 then Reset true else (if first == 115 then Snapshot else (if second == 111 then Confirmed else Chat))))
 
 abbrev alone : List ℕ → JoinAction
 alone word = alone_by (get_or word 0 0) (get_or word 1 0)
@@ -30,7 +30,8 @@ alone_back word (Take count) (digits, parts, number) = absurd (cc (parts))
 alone_back word View asks = let is : word ≡ codes "view" = cc in rw is refl
 alone_back word Confirmed asks = let is : word ≡ codes "conf" = cc in rw is refl
 alone_back word Snapshot asks = let is : word ≡ codes "snap" = cc in rw is refl
-alone_back word Reset asks = let is : word ≡ codes "reset" = cc in rw is refl
+alone_back word (Reset false) asks = let is : word ≡ codes "reset" = cc in rw is refl
+alone_back word (Reset true) asks = let is : word ≡ codes "keep" = cc in rw is refl
 alone_back word Chat asks = let is : word ≡ codes "chat" = cc in rw is refl
 
 -- no action is asked for without a word
@@ -40,7 +41,7 @@ no_words (Take count) (digits, parts, number) = cc (parts)
 no_words View asks = cc (asks)
 no_words Confirmed asks = cc (asks)
 no_words Snapshot asks = cc (asks)
-no_words Reset asks = cc (asks)
+no_words (Reset keeps) asks = cc (asks)
 no_words Chat asks = cc (asks)
 
 -- nor by three or more
@@ -51,7 +52,7 @@ many_words x y z more (Take count) (digits, parts, number) = cc (parts)
 many_words x y z more View asks = cc (asks)
 many_words x y z more Confirmed asks = cc (asks)
 many_words x y z more Snapshot asks = cc (asks)
-many_words x y z more Reset asks = cc (asks)
+many_words x y z more (Reset keeps) asks = cc (asks)
 many_words x y z more Chat asks = cc (asks)
 
 -- two words say a message
@@ -90,7 +91,7 @@ pair_back first second (Take count) (digits, parts, number) =
 pair_back first second View asks = absurd (cc (asks))
 pair_back first second Confirmed asks = absurd (cc (asks))
 pair_back first second Snapshot asks = absurd (cc (asks))
-pair_back first second Reset asks = absurd (cc (asks))
+pair_back first second (Reset keeps) asks = absurd (cc (asks))
 pair_back first second Chat asks = absurd (cc (asks))
 
 say_or_take : (word : List ℕ) → word ≡ codes "say" → word ≡ codes "take" → ⊥

@@ -2,7 +2,7 @@
 use Rattle.std.specs.Prelude.{◌≡◌, List, ℕ, [], ◌∷◌, codes}
 use Rattle.dp_lines.specs.Lines.{words}
 use Rattle.dp_lines.specs.Numbers.{IsNumber}
-use Rattle.dp_schedule.specs.LineGrammar.{HexSpells}
+use Rattle.dp_schedule.specs.LineGrammar.{HexSpells, reset_word}
 use Rattle.dp_schedule.specs.declared.join_action.JoinAction.{JoinAction}
 use Rattle.dp_schedule.specs.declared.join_action.JoinAction.TheVariants.{Say, Take, View}
 use Rattle.dp_schedule.specs.declared.join_action.JoinAction.TheVariants.{Confirmed, Snapshot}
@@ -16,7 +16,7 @@ WordsAsk all (Take count) =
 WordsAsk all View = all ≡ codes "view" ∷ []
 WordsAsk all Confirmed = all ≡ codes "conf" ∷ []
 WordsAsk all Snapshot = all ≡ codes "snap" ∷ []
-WordsAsk all Reset = all ≡ codes "reset" ∷ []
+WordsAsk all (Reset keeps) = all ≡ reset_word keeps ∷ []
 WordsAsk all Chat = all ≡ codes "chat" ∷ []
 
 -- the line asks for the action

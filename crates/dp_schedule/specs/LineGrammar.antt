@@ -19,11 +19,14 @@ use Rattle.dp_schedule.specs.declared.action.Action.TheVariants.{Join, Act, Show
 abbrev pub join_word : Bool → List ℕ
 join_word registered = if registered then codes "member" else codes "join"
 
+abbrev pub reset_word : Bool → List ℕ
+reset_word keeps = if keeps then codes "keep" else codes "reset"
+
 abbrev pub instruction_word : Instruction → List ℕ
 instruction_word (Say m) = codes "say"
 instruction_word Up = codes "up"
 instruction_word Take = codes "take"
-instruction_word Reset = codes "reset"
+instruction_word (Reset keeps) = reset_word keeps
 instruction_word Leave = codes "leave"
 instruction_word Cut = codes "cut"
 
@@ -54,7 +57,7 @@ abbrev pub EndsIn : Instruction → List (List ℕ) → Type 0
 EndsIn (Say m) tail = (word : List ℕ) × (tail ≡ word ∷ []) × HexSpells word m
 EndsIn Up tail = tail ≡ []
 EndsIn Take tail = tail ≡ []
-EndsIn Reset tail = tail ≡ []
+EndsIn (Reset keeps) tail = tail ≡ []
 EndsIn Leave tail = tail ≡ []
 EndsIn Cut tail = tail ≡ []
 

@@ -12,8 +12,11 @@ pub enum Instruction {
     Up,
     /// It takes the next entry of the history.
     Take,
-    /// A reset to its confirmed canvas joins its uplink.
-    Reset,
+    /// A reset to its confirmed canvas joins its uplink: one that keeps what comes after the
+    /// entries that it has taken, or one that doesn't.
+    Reset {
+        keeps: bool,
+    },
     /// It leaves: a Disconnect joins its uplink.
     Leave,
     /// Its uplink is lost, and its connection closed.

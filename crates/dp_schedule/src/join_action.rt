@@ -15,8 +15,9 @@ pub enum JoinAction {
     Confirmed,
     /// The snapshot of its confirmed canvas is printed.
     Snapshot,
-    /// Its confirmed canvas goes out over the link as a reset.
-    Reset,
+    /// Its confirmed canvas goes out over the link as a reset: one that keeps what comes after the
+    /// entries that it has taken, or one that doesn't.
+    Reset { keeps: bool },
     /// The last texts of chat that it has taken are printed.
     Chat,
 }

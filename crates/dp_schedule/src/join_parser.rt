@@ -41,7 +41,9 @@ fn read_one(word: &[u8]) -> Option<JoinAction>
     } else if word == b"snap".as_slice() {
         Some(JoinAction::Snapshot)
     } else if word == b"reset".as_slice() {
-        Some(JoinAction::Reset)
+        Some(JoinAction::Reset { keeps: false })
+    } else if word == b"keep".as_slice() {
+        Some(JoinAction::Reset { keeps: true })
     } else if word == b"chat".as_slice() {
         Some(JoinAction::Chat)
     } else {

@@ -148,7 +148,9 @@ fn instruction_of(word: &[u8]) -> Option<Instruction>
     } else if word == b"take".as_slice() {
         Some(Instruction::Take)
     } else if word == b"reset".as_slice() {
-        Some(Instruction::Reset)
+        Some(Instruction::Reset { keeps: false })
+    } else if word == b"keep".as_slice() {
+        Some(Instruction::Reset { keeps: true })
     } else if word == b"leave".as_slice() {
         Some(Instruction::Leave)
     } else if word == b"cut".as_slice() {

@@ -221,13 +221,17 @@ opening-shows law epoch history present list =
     ap replay (sym (append-nil (opening epoch history present list [])))
     ∙ openings_go_on law epoch history present list [] []
 
+-- what an epoch opens with, without what it keeps: a mark that carries so many, and more
+abbrev pub opening_front : ℕ → ℕ → List Entry → List ℕ → List Draw → List Entry
+opening_front epoch count history present list =
+    server_entry (ResetMark epoch count)
+    ∷ (filter_map (last_join history) present ++ map server_entry (carried history present)
+    ++ map command_entry list)
+
 -- the depth in force after it is that of the history before
-pub opening-depth : (epoch : ℕ) (history : List Entry) (present : List ℕ) (list : List Draw)
-    → depth_in_force (opening epoch history present list []) ≡ depth_in_force history
-opening-depth epoch history present list =
+pub opening-depth : (epoch count : ℕ) (history : List Entry) (present : List ℕ) (list : List Draw)
+    → depth_in_force (opening_front epoch count history present list) ≡ depth_in_force history
+opening-depth epoch count history present list =
     let joins = filter_map (last_join history) present in
-    let first = joins ++ map server_entry (carried history present) ++ map command_entry list in
-    ap (λ entries. depth_in_force (server_entry (ResetMark epoch (length entries)) ∷ entries))
-    (append-nil first)
-    ∙ depth-opening undo_depth history joins present list
+    depth-opening undo_depth history joins present list
     (joins-none joins (joins-joined history present))

@@ -76,10 +76,10 @@ module _ (t : Exchange) where
   done-moved Up here =
       sent-moved t.participant.uplink refl (not-gone t.participant.link Up here)
   done-moved Take here = taken-moved (next_entry t) refl (not-gone t.participant.link Take here)
-  done-moved Reset here =
-      let on = connected t.participant.link Reset refl here in
+  done-moved (Reset keeps) here =
+      let on = connected t.participant.link (Reset keeps) refl here in
       let fork = t.participant.state.fork in
-      let more = reset_of t.participant in
+      let more = reset_of keeps t.participant in
       record {
         made = ap (λ ms. with_more ms more t.participant.link) (sym (append-nil fork))
             ∙ ap (with_more (fork ++ []) more) on;

@@ -24,7 +24,7 @@ abbrev pub performed_due : Exchange → Instruction → List Draw
 performed_due t (Say m) = said_due m
 performed_due t Up = []
 performed_due t Take = next_due t (next_entry t)
-performed_due t Reset = []
+performed_due t (Reset keeps) = []
 performed_due t Leave = []
 performed_due t Cut = []
 

@@ -17,7 +17,7 @@ use Rattle.dp_schedule.specs.declared.action.Instruction.{Instruction}
 use Rattle.dp_schedule.specs.declared.action.Instruction.TheVariants.{Say, Up, Take, Reset}
 use Rattle.dp_schedule.specs.declared.action.Instruction.TheVariants.{Leave, Cut}
 use Rattle.dp_snap.specs.Snapshot.{snapshot}
-use Rattle.dp_snap.specs.Resets.{reset_messages}
+use Rattle.dp_snap.specs.Resets.{reset_begin, reset_messages}
 use Rattle.dp_schedule.specs.declared.report_line.ReportLine.{ReportLine}
 use Rattle.dp_schedule.specs.declared.report_line.ReportLine.TheVariants as report
 use Rattle.dp_sim.specs.declared.participant.LinkState.{LinkState}
@@ -42,7 +42,7 @@ is_gone Connected instruction = false
 is_gone Leaving (Say m) = true
 is_gone Leaving Up = false
 is_gone Leaving Take = false
-is_gone Leaving Reset = true
+is_gone Leaving (Reset keeps) = true
 is_gone Leaving Leave = true
 is_gone Leaving Cut = false
 is_gone Closed instruction = true
@@ -145,9 +145,11 @@ abbrev pub next_taken_line : Exchange → Option Entry → ReportLine
 next_taken_line t None = report.Nothing
 next_taken_line t (Some entry) = took_line (client.taken_of t.participant.state entry)
 
--- the reset to what the client has taken
-abbrev pub reset_of : Participant → List Msg
-reset_of participant = reset_messages (snapshot (client.confirmed participant.state))
+-- the reset to what the client has taken, one that keeps what comes after that or not
+abbrev pub reset_of : Bool → Participant → List Msg
+reset_of keeps participant =
+    reset_messages (reset_begin keeps (length participant.state.taken))
+    (snapshot (client.confirmed participant.state))
 
 -- the client with messages that join its uplink
 abbrev pub with_sent : Participant → List Msg → Participant
@@ -165,8 +167,8 @@ done t (Say m) = record t {
 }
 done t Up = uplink_sent t t.participant.uplink
 done t Take = took_next t (next_entry t)
-done t Reset =
-    record t { participant = with_sent t.participant (reset_of t.participant) }
+done t (Reset keeps) =
+    record t { participant = with_sent t.participant (reset_of keeps t.participant) }
 done t Leave = record t {
   participant = record t.participant {
     uplink = t.participant.uplink ++ msg.Control (Disconnect 0) ∷ [];
@@ -180,7 +182,7 @@ abbrev pub performed_line : Exchange → Instruction → ReportLine
 performed_line t (Say m) = report.Said (length t.participant.state.fork + 1)
 performed_line t Up = up_line t t.participant.uplink
 performed_line t Take = next_taken_line t (next_entry t)
-performed_line t Reset = report.Sent (length (reset_of t.participant))
+performed_line t (Reset keeps) = report.Sent (length (reset_of keeps t.participant))
 performed_line t Leave = report.Leaving
 performed_line t Cut = cut_line (sure_answer t.past (event.Close t.participant.conn))
 

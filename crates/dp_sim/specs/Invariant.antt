@@ -21,7 +21,7 @@ abbrev pub IsSayable : Instruction → Type 0
 IsSayable (Say m) = 32 ≤ kind_of m
 IsSayable Up = Unit {0}
 IsSayable Take = Unit {0}
-IsSayable Reset = Unit {0}
+IsSayable (Reset keeps) = Unit {0}
 IsSayable Leave = Unit {0}
 IsSayable Cut = Unit {0}
 

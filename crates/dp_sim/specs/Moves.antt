@@ -1,5 +1,5 @@
 -- The moves of a client, of which its instructions are made.
-use Rattle.std.specs.Prelude.{◌≡◌, true, false, if◌then◌else◌, Option, None, Some, IfSome}
+use Rattle.std.specs.Prelude.{◌≡◌, Bool, true, false, if◌then◌else◌, Option, None, Some, IfSome}
 use Rattle.std.specs.Prelude.{List, [], ◌∷◌, ◌++◌}
 use Rattle.std.specs.Option.{option_map_or}
 use Rattle.dp_msg_meta.specs.declared.message.Control.TheVariants.{Disconnect}
@@ -18,11 +18,11 @@ use Rattle.dp_sim.specs.Exchanges.{Participant, Exchange, is_gone, heard, next_e
 use Rattle.dp_sim.specs.Exchanges.{reset_of, exchanged}
 use Rattle.dp_sim.specs.Invariant.{is_closed}
 
--- What joins an uplink: a message that the client says, a reset to what it has taken, or the
--- Disconnect with which it leaves.
+-- What joins an uplink: a message that the client says, a reset to what it has taken, one that
+-- keeps or not, or the Disconnect with which it leaves.
 pub data Queued : Type 0 where
   Saying : Msg → Queued
-  Resetting : Queued
+  Resetting : Bool → Queued
   Parting : Queued
 
 -- A move of a client: none; messages join its uplink; the session takes the first of them, and the
@@ -40,7 +40,7 @@ pub data Move : Type 0 where
 -- the messages that join the uplink
 abbrev pub queued_messages : Participant → Queued → List Msg
 queued_messages participant (Saying m) = m ∷ []
-queued_messages participant Resetting = reset_of participant
+queued_messages participant (Resetting keeps) = reset_of keeps participant
 queued_messages participant Parting = msg.Control (Disconnect 0) ∷ []
 
 -- those of them that join the fork
@@ -97,7 +97,7 @@ abbrev pub done_move : Exchange → Instruction → Move
 done_move t (Say m) = Queues (Saying m)
 done_move t Up = first_sent t.participant.uplink
 done_move t Take = option_map_or TakesNext (next_entry t) Rests
-done_move t Reset = Queues Resetting
+done_move t (Reset keeps) = Queues (Resetting keeps)
 done_move t Leave = Queues Parting
 done_move t Cut = Closes None
 
@@ -111,7 +111,7 @@ instruction_move t instruction =
 -- that joins the uplink by the instruction
 abbrev pub IsQueuedBy : Instruction → Queued → Type 0
 IsQueuedBy instruction (Saying m) = instruction ≡ Say m
-IsQueuedBy instruction Resetting = instruction ≡ Reset
+IsQueuedBy instruction (Resetting keeps) = instruction ≡ Reset keeps
 IsQueuedBy instruction Parting = instruction ≡ Leave
 
 -- A move of the instruction that may be made: only a connected client queues, and only one that

@@ -44,7 +44,7 @@ use dp_msg_meta::Control;
 use dp_schedule::{Instruction, ReportLine};
 use dp_session::Session;
 use dp_showing::CanvasClient;
-use dp_snap::snapshot;
+use dp_snap::{reset_begin, snapshot};
 use dp_steps::Steps;
 use std::alloc::{AllocError, Global};
 use std::collections::VecDeque;
@@ -139,7 +139,7 @@ impl Participant {
             LinkState::Connected => false,
             LinkState::Leaving => matches!(
                 instruction,
-                Instruction::Say(_) | Instruction::Reset | Instruction::Leave
+                Instruction::Say(_) | Instruction::Reset { .. } | Instruction::Leave
             ),
             LinkState::Closed => true,
         }
@@ -267,22 +267,27 @@ impl Participant {
         })
     }
 
-    /// A reset to what the client has taken joins the uplink.
-    fn reset(&mut self, alloc: Global) -> Result<ReportLine, AllocError>
-        ensures line { IfOk result (λ line. line ≡ report.Sent (length (reset_of self.old))) }
-        ensures ok { OnOk result (self.new ≡ with_sent self.old (reset_of self.old)) }
+    /// A reset to what the client has taken joins the uplink, one that keeps what comes after that
+    /// or not.
+    fn reset(&mut self, alloc: Global, keeps: bool) -> Result<ReportLine, AllocError>
+        requires { length self.old.state.taken < 2 ^ 32 }
+        ensures line { IfOk result (λ line. line
+            ≡ report.Sent (length (reset_of keeps self.old))) }
+        ensures ok { OnOk result (self.new ≡ with_sent self.old (reset_of keeps self.old)) }
     {
+        let begin = reset_begin(keeps, self.client.taken().len() as u32);
         let commands = snapshot(alloc, self.client.confirmed())?;
-        self.send_reset(commands.as_slice())
+        self.send_reset(begin, commands.as_slice())
     }
 
-    /// A reset to these commands joins the uplink.
-    fn send_reset(&mut self, commands: &[Draw]) -> Result<ReportLine, AllocError>
+    /// A reset to these commands joins the uplink, which begins by this message.
+    fn send_reset(&mut self, begin: Msg, commands: &[Draw]) -> Result<ReportLine, AllocError>
         ensures line { IfOk result (λ line. line
-            ≡ report.Sent (length (reset_messages commands.now))) }
-        ensures ok { OnOk result (self.new ≡ with_sent self.old (reset_messages commands.now)) }
+            ≡ report.Sent (length (reset_messages begin commands.now))) }
+        ensures ok { OnOk result
+            (self.new ≡ with_sent self.old (reset_messages begin commands.now)) }
     {
-        self.uplink.push_back(Msg::Control(Control::ResetBegin))?;
+        self.uplink.push_back(begin)?;
         put_parts(&mut self.uplink, commands)?;
         self.uplink.push_back(Msg::Control(Control::ResetEnd))?;
         Ok(ReportLine::Sent(commands.len() + 2))
@@ -339,7 +344,7 @@ impl Participant {
             Instruction::Say(msg) => self.say(msg, draws, tiles),
             Instruction::Up => self.up(session),
             Instruction::Take => self.take(session, draws, tiles),
-            Instruction::Reset => self.reset(alloc),
+            Instruction::Reset { keeps } => self.reset(alloc, *keeps),
             Instruction::Leave => self.leave(),
             Instruction::Cut => self.cut(session),
         }

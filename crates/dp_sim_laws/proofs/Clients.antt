@@ -494,9 +494,9 @@ may-queue p instruction (Saying m) by may =
       dues = λ epoch ready hears. due-push epoch ready p.uplink m hears send.1 send.2;
       hears = λ epoch ready still hears. hears-push epoch ready p.uplink m hears send.2;
     }
-may-queue p instruction Resetting by may =
-    let more = reset_of p in
-    let all = reset-messages (snapshot (client.confirmed p.state)) in
+may-queue p instruction (Resetting keeps) by may =
+    let more = reset_of keeps p in
+    let all = reset-messages keeps (length p.state.taken) (snapshot (client.confirmed p.state)) in
     record {
       stands = all-reset (MayStand p.state.epoch) more (λ m of. of.stands p.state.epoch) all;
       endless = λ still. all-reset (λ m. is_disconnect m ≡ false) more (λ m of. of.endless) all;

@@ -1,39 +1,43 @@
 -- What a client shows after a reset that was taken up.
-use Rattle.std.proofs.Common.{◌≡◌, ℕ, zero, suc, ◌+◌, if◌then◌else◌}
+use Rattle.std.proofs.Common.{◌≡◌, ℕ, zero, suc, ◌+◌, ◌-◌, Bool, if◌then◌else◌}
 use Rattle.std.proofs.Common.{List, [], ◌∷◌, ◌++◌, length, map, fold, take, Some}
 use Rattle.std.proofs.Common.{refl, sym, ap, subst, ◌∙◌, arith, append_assoc}
-use Rattle.std.specs.Prelude.{All, IfSome}
+use Rattle.std.proofs.Common.{length-append}
+use Rattle.std.proofs.lemmas.List.{take_all}
+use Rattle.std.specs.Prelude.{All, IfSome, slice_index_or}
 use Rattle.std.proofs.lemmas.List.Sums.{fold-append}
 use Rattle.dp_msg_draw.specs.declared.draw.Draw.{Draw}
+use Rattle.dp_messages.specs.declared.message.Msg.{Msg}
 use Rattle.dp_messages.specs.declared.message.Entry.{Entry}
 use Rattle.dp_messages.specs.Messages.{HasSpelling}
 use Rattle.dp_messages.specs.Properties.{carried_by, carried_in}
-use Rattle.dp_acl.specs.Opening.{opening, carried_entries}
+use Rattle.dp_acl.specs.Opening.{opening, carried_entries, kept_from}
 use Rattle.dp_plain.specs.Board.{Board, empty_board}
 use Rattle.dp_plain.specs.Commands.{draw, draw_all}
 use Rattle.dp_replay.specs.Replay.{replay, replay_from, depth_in_force}
 use Rattle.dp_client.specs.Client as client
 use Rattle.dp_epochs.specs.declared.event.Reply.{Reply}
 use Rattle.dp_epochs.specs.declared.event.Reply.TheVariants as reply
-use Rattle.dp_epochs.specs.State.{history_of}
+use Rattle.dp_epochs.specs.State.{State, history_of, place_in}
 use Rattle.dp_epochs.specs.Past.{state_of}
 use Rattle.dp_schedule.specs.declared.action.Instruction.TheVariants.{Reset}
 use Rattle.dp_schedule.specs.declared.action.Action.{Action}
 use Rattle.dp_schedule.specs.declared.action.Action.TheVariants.{Act}
+use Rattle.dp_snap.specs.Resets.{reset_begin}
 use Rattle.dp_snap.specs.Snapshot.{snapshot}
 use Rattle.dp_sim.specs.Exchanges.{Participant, is_gone, done, exchanged}
 use Rattle.dp_sim.specs.World.{World, participant_of, after, first_world, world_after}
 use Rattle.dp_sim.specs.World.{with_exchange}
 use Rattle.dp_sim.specs.Invariant.{IsWorld, IsParticipant, is_closed}
 use Rattle.dp_sim.proofs.LawLemmas.{Leading}
-use Rattle.dp_sim.proofs.LawOpenings.{opening-depth}
+use Rattle.dp_sim.proofs.LawOpenings.{opening_front, opening-depth}
 use Rattle.dp_lists.proofs.Options.{at_some, if_some}
 use Rattle.dp_sim_laws.specs.OwnSteps.{exchange_of}
 use Rattle.dp_sim_laws.specs.Spelled.{SaysSpelled}
-use Rattle.dp_sim_laws.specs.Resets.{taken_up, IsTakenUp, GoesOnFrom}
+use Rattle.dp_sim_laws.specs.Resets.{taken_up, IsTakenUp, GoesOnFrom, kept_of}
 use Rattle.dp_sim_laws.proofs.Walks.{own-becomes}
 use Rattle.dp_sim_laws.proofs.Speaking.{Speaking, spoken, taken-spelled}
-use Rattle.dp_sim_laws.proofs.Streams.{OpenedWith}
+use Rattle.dp_sim_laws.proofs.Streams.{OpenedWith, EndedBefore, begins}
 use Rattle.dp_sim_laws.proofs.TakenUp.{rest_answers, with-own, queued}
 
 -- the laws that are used
@@ -61,38 +65,43 @@ answers-split commands epoch rest =
     ap (λ rs. reply.Noted ∷ rs)
     (append_assoc (map (λ command. reply.Noted) commands) (reply.Placed epoch 0 ∷ []) rest)
 
-module _ (laws : Resetting) (before later : List Action) (number epoch : ℕ) (sender : Participant)
-    (each : All SaysSpelled before) (h : IsTakenUp before later number sender epoch) where
+module _ (laws : Resetting) (before later : List Action) (number epoch : ℕ) (keeps : Bool)
+    (sender : Participant) (each : All SaysSpelled before)
+    (h : IsTakenUp before later number keeps sender epoch) where
   abbrev start : World
   start = world_after before
 
   abbrev commands : List Draw
   commands = snapshot (client.confirmed sender.state)
 
+  abbrev begin : Msg
+  begin = reset_begin keeps (length sender.state.taken)
+
   abbrev sent : Participant
-  sent = (done (exchange_of start sender) Reset).participant
+  sent = (done (exchange_of start sender) (Reset keeps)).participant
 
   started : IsWorld start
   started = (spoken laws.speaking before each).world
 
-  reset-done : exchanged (exchange_of start sender) Reset
-      ≡ done (exchange_of start sender) Reset
+  reset-done : exchanged (exchange_of start sender) (Reset keeps)
+      ≡ done (exchange_of start sender) (Reset keeps)
   reset-done =
-      ap (λ link. if is_gone link Reset then exchange_of start sender
-      else done (exchange_of start sender) Reset) h.connected
+      ap (λ link. if is_gone link (Reset keeps) then exchange_of start sender
+      else done (exchange_of start sender) (Reset keeps)) h.connected
 
-  sent-found : participant_of (after start (Act number Reset)) number ≡ Some sent
+  sent-found : participant_of (after start (Act number (Reset keeps))) number ≡ Some sent
   sent-found =
-      ap (λ w. participant_of w number) (own-becomes start number sender Reset h.found)
+      ap (λ w. participant_of w number) (own-becomes start number sender (Reset keeps) h.found)
       ∙ ap (λ t. participant_of (with_exchange start number t) number) reset-done
-      ∙ with-own start number sender (done (exchange_of start sender) Reset) h.found
+      ∙ with-own start number sender (done (exchange_of start sender) (Reset keeps)) h.found
 
-  opened : OpenedWith epoch commands
-      (state_of (fold after (after start (Act number Reset)) later).past)
+  opened : OpenedWith epoch (place_in begin) commands
+      (state_of (fold after (after start (Act number (Reset keeps))) later).past)
   opened =
-      queued laws.leading laws.speaking.moves laws.speaking.stays number epoch h.rest later
-      (after start (Act number Reset)) commands sent sender.uplink []
-      (laws.speaking.stays start (Act number Reset) started) sent-found
+      queued laws.leading laws.speaking.moves laws.speaking.stays number epoch (place_in begin)
+      h.rest begin (begins keeps (length sender.state.taken)) refl later
+      (after start (Act number (Reset keeps))) commands sent sender.uplink []
+      (laws.speaking.stays start (Act number (Reset keeps)) started) sent-found
       (ap is_closed h.connected) refl
       (h.answers ∙ answers-split commands epoch h.rest)
 
@@ -121,61 +130,97 @@ same-first (suc m) (x ∷ xs) more (y ∷ ys) others is long =
     ap (λ z. z ∷ xs) one
     ∙ ap (λ zs. y ∷ zs) (same-first m xs more ys others rest (omega (arith, long)))
 
+-- those before the same last ones are the same
+same-before : (xs ys last : List Entry) → xs ++ last ≡ ys ++ last → xs ≡ ys
+same-before xs ys last is =
+    let whole = ys ++ last in
+    same-first (length whole) xs last ys last (is ∙ sym (take_all (length whole) whole (omega arith)))
+    (omega (arith, ap length is, length-append xs last, length-append ys last))
+
 -- what the client took first is the mark
 same-carried : (m : ℕ) (xs more others : List Entry) (epoch : ℕ) (history : List Entry)
-    (present : List ℕ) (list : List Draw)
-    → xs ++ more ≡ take m (opening epoch history present list [] ++ others)
+    (present : List ℕ) (list : List Draw) (kept : List Entry)
+    → xs ++ more ≡ take m (opening epoch history present list kept ++ others)
     → length xs ≡ carried_in (xs ++ more) + 1
-    → length xs ≡ length (opening epoch history present list [])
-same-carried m [] more others epoch history present list is long = absurd (omega (arith, long))
-same-carried zero (x ∷ xs) more others epoch history present list is long =
+    → length xs ≡ length (opening epoch history present list kept)
+same-carried m [] more others epoch history present list kept is long =
+    absurd (omega (arith, long))
+same-carried zero (x ∷ xs) more others epoch history present list kept is long =
     let no : x ∷ (xs ++ more) ≡ [] = is in cc
-same-carried (suc m) (x ∷ xs) more others epoch history present list is long =
-    let carried : carried_by x.msg ≡ length (carried_entries history present list []) =
+same-carried (suc m) (x ∷ xs) more others epoch history present list kept is long =
+    let carried : carried_by x.msg ≡ length (carried_entries history present list kept) =
     ap carried_in is in
     omega (arith, long, carried)
 
 goes-on : Resetting → (board : Board) (commands : List Draw) (c : client.State) (m : ℕ)
-    (epoch : ℕ) (before : List Entry) (present : List ℕ) (others : List Entry)
+    (epoch : ℕ) (before : List Entry) (present : List ℕ) (kept others : List Entry)
     → draw_all empty_board commands ≡ board
-    → c.taken ≡ take m (opening epoch before present commands [] ++ others) → GoesOnFrom board c
-goes-on laws board commands c m epoch before present others drawn prefix = λ first more is long.
-    let those : first ++ more ≡ take m (opening epoch before present commands [] ++ others) =
-    sym is ∙ prefix in
-    let count = same-carried m first more others epoch before present commands those
+    → c.taken ≡ take m (opening epoch before present commands kept ++ others)
+    → GoesOnFrom board kept c
+goes-on laws board commands c m epoch before present kept others drawn prefix =
+    λ first more is long.
+    let all = opening epoch before present commands kept in
+    let front = opening_front epoch (length (carried_entries before present commands kept)) before
+    present commands in
+    let those : (first ++ kept) ++ more ≡ take m (all ++ others) = sym is ∙ prefix in
+    let count = same-carried m (first ++ kept) more others epoch before present commands kept those
     (long ∙ ap (λ xs. carried_in xs + 1) is) in
-    let same : first ≡ opening epoch before present commands [] =
-    same-first m first more (opening epoch before present commands []) others those count in
-    ap replay (is ∙ ap (λ xs. xs ++ more) same)
-    ∙ laws.go_on epoch before present commands [] more
-    ∙ ap (λ b. replay_from draw b (depth_in_force before) more) drawn
-    ∙ ap (λ depth. replay_from draw board depth more)
-    (sym (ap depth_in_force same ∙ opening-depth epoch before present commands))
+    let whole : first ++ kept ≡ all = same-first m (first ++ kept) more all others those count in
+    let same : first ≡ front = same-before first front kept whole in
+    ap replay (is ∙ ap (λ xs. xs ++ more) whole)
+    ∙ laws.go_on epoch before present commands kept more
+    ∙ ap (λ b. replay_from draw b (depth_in_force before) (kept ++ more)) drawn
+    ∙ ap (λ depth. replay_from draw board depth (kept ++ more))
+    (sym (ap depth_in_force same
+    ∙ opening-depth epoch (length (carried_entries before present commands kept)) before present
+    commands))
 
-pub shown : (laws : Resetting) (before later : List Action) (number epoch : ℕ)
+-- the history of the epoch before is the one that has ended
+front-at : (front : List (List Entry)) (before : List Entry) (rest : List (List Entry))
+    → slice_index_or (front ++ before ∷ rest) (length front) [] ≡ before
+front-at [] before rest = refl
+front-at (h ∷ front) before rest = front-at front before rest
+
+before-is : (epoch : ℕ) (before : List Entry) (s : State) → EndedBefore epoch before s
+    → history_of s (epoch - 1) ≡ before
+before-is epoch before s h =
+    let at : epoch - 1 ≡ length h.front = omega (arith, h.at) in
+    ap (history_of s) at
+    ∙ ap (λ hs. slice_index_or (hs ++ s.live ∷ []) (length h.front) []) h.ended
+    ∙ ap (λ hs. slice_index_or hs (length h.front) [])
+    (append_assoc h.front (before ∷ h.back) (s.live ∷ []))
+    ∙ front-at h.front before (h.back ++ s.live ∷ [])
+
+pub shown : (laws : Resetting) (before later : List Action) (number epoch : ℕ) (keeps : Bool)
     (sender : Participant) → All SaysSpelled before
-    → IsTakenUp before later number sender epoch → (other : ℕ)
-    → IfSome (participant_of (world_after (before ++ Act number Reset ∷ later)) other)
-    (λ participant. participant.state.epoch ≡ epoch
-    → GoesOnFrom (client.confirmed sender.state) participant.state)
-shown laws before later number epoch sender each h other =
-    let w = fold after (after (world_after before) (Act number Reset)) later in
-    let is : world_after (before ++ Act number Reset ∷ later) ≡ w =
-    fold-append after first_world before (Act number Reset ∷ later) in
-    let world = world-along laws.speaking.stays (after (world_after before) (Act number Reset))
-    later
-    (laws.speaking.stays (world_after before) (Act number Reset)
-    (spoken laws.speaking before each).world) in
-    let o = opened laws before later number epoch sender each h in
-    subst (λ v. IfSome (participant_of v other) (λ participant. participant.state.epoch ≡ epoch
-    → GoesOnFrom (client.confirmed sender.state) participant.state)) (sym is)
+    → IsTakenUp before later number keeps sender epoch → (other : ℕ)
+    → let world = world_after (before ++ Act number (Reset keeps) ∷ later) in
+    IfSome (participant_of world other) (λ participant. participant.state.epoch ≡ epoch
+    → GoesOnFrom (client.confirmed sender.state)
+    (kept_of keeps sender.state (state_of world.past) epoch) participant.state)
+shown laws before later number epoch keeps sender each h other =
+    let reset = Act number (Reset keeps) in
+    let w = fold after (after (world_after before) reset) later in
+    let is : world_after (before ++ reset ∷ later) ≡ w =
+    fold-append after first_world before (reset ∷ later) in
+    let world = world-along laws.speaking.stays (after (world_after before) reset) later
+    (laws.speaking.stays (world_after before) reset (spoken laws.speaking before each).world) in
+    let o = opened laws before later number epoch keeps sender each h in
+    let place = place_in (reset_begin keeps (length sender.state.taken)) in
+    let board = client.confirmed sender.state in
+    subst (λ (v : World). IfSome (participant_of v other) (λ participant.
+    participant.state.epoch ≡ epoch
+    → GoesOnFrom board (kept_of keeps sender.state (state_of v.past) epoch) participant.state))
+    (sym is)
     (if_some (participant_of w other) (λ participant. participant.state.epoch ≡ epoch
-    → GoesOnFrom (client.confirmed sender.state) participant.state)
+    → GoesOnFrom board (kept_of keeps sender.state (state_of w.past) epoch) participant.state)
     (λ p there. λ at.
     let hp = at_some (participant_of w other) (IsParticipant (state_of w.past) other) p
     (world.participants other) there in
-    goes-on laws (client.confirmed sender.state) (snapshot (client.confirmed sender.state)) p.state
-    (length p.state.taken) epoch o.before o.present o.more
-    (drawn laws before later number epoch sender each h)
+    subst (λ history. GoesOnFrom board (kept_from place history) p.state)
+    (sym (before-is epoch o.before (state_of w.past) o.last))
+    (goes-on laws board (snapshot board) p.state
+    (length p.state.taken) epoch o.before o.present (kept_from place o.before) o.more
+    (drawn laws before later number epoch keeps sender each h)
     (hp.prefix ∙ ap (λ k. take (length p.state.taken) (history_of (state_of w.past) k)) at
-    ∙ ap (take (length p.state.taken)) o.history)))
+    ∙ ap (take (length p.state.taken)) o.history))))

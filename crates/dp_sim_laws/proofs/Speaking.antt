@@ -1,5 +1,5 @@
 -- In a world whose clients say what has a spelling, all that comes to the session has one.
-use Rattle.std.proofs.Common.{◌≡◌, ℕ, ◌+◌, ◌^◌, ◌<◌, ◌≤◌, ◌==◌}
+use Rattle.std.proofs.Common.{◌≡◌, ℕ, ◌+◌, ◌*◌, ◌^◌, Bool, true, false, ◌<◌, ◌≤◌, ◌==◌}
 use Rattle.std.proofs.Common.{if◌then◌else◌}
 use Rattle.std.proofs.Common.{List, [], ◌∷◌, length, map, fold, Option, None, Some}
 use Rattle.std.proofs.Common.{sym, subst, ⊎_elim, arith}
@@ -10,13 +10,14 @@ use Rattle.std.proofs.lemmas.List.Elements.{All-nil, All-cons, All-head, All-tai
 use Rattle.std.proofs.lemmas.List.Elements.{All-push, All-map, All-take, All-weaker}
 use Rattle.dp_msg_draw.specs.declared.draw.Draw.{Draw}
 use Rattle.dp_msg_meta.specs.declared.message.Control.TheVariants.{Disconnect, Ack}
-use Rattle.dp_msg_meta.specs.declared.message.Control.TheVariants.{ResetBegin, ResetEnd}
+use Rattle.dp_msg_meta.specs.declared.message.Control.TheVariants.{ResetEnd}
 use Rattle.dp_msg_meta.specs.declared.message.Meta.TheVariants as meta
 use Rattle.dp_messages.specs.declared.message.Msg.{Msg}
 use Rattle.dp_messages.specs.declared.message.Msg.TheVariants as msg
 use Rattle.dp_messages.specs.declared.message.Entry.{Entry}
 use Rattle.dp_messages.specs.Messages.{HasSpelling}
 use Rattle.dp_messages.specs.Properties.{marked}
+use Rattle.dp_acl.specs.Opening.{opening_limit}
 use Rattle.dp_replay.specs.Replay.{replay}
 use Rattle.dp_client.specs.Client as client
 use Rattle.dp_epochs.specs.declared.event.Event.{Event}
@@ -32,7 +33,7 @@ use Rattle.dp_schedule.specs.declared.action.Action.{Action}
 use Rattle.dp_schedule.specs.declared.action.Action.TheVariants.{Join, Act, Show}
 use Rattle.dp_snap.specs.Snapshot.{snapshot}
 use Rattle.dp_snap.specs.Spelled.{IsSpelled}
-use Rattle.dp_snap.specs.Resets.{reset_messages}
+use Rattle.dp_snap.specs.Resets.{reset_begin, reset_messages}
 use Rattle.dp_sim.specs.Exchanges.{Participant, Exchange, next_entry, acks, took_next, exchanged}
 use Rattle.dp_sim.specs.Moves.{Queued, Saying, Resetting, Parting, Move, Rests, Queues, SendsFirst}
 use Rattle.dp_sim.specs.Moves.{TakesNext, Closes, queued_messages, after_move, instruction_move}
@@ -68,6 +69,8 @@ pub record Speaking : Type 0 where
   pub before : (past : Past) (e : Event) → ShutBefore past → ShutBefore (sure_step past e)
   pub histories : (past : Past) (epoch : ℕ) → All IsSpelledEvent past.journal
       → length past.journal ≤ event_limit → AreSpelledEntries (history_of (state_of past) epoch)
+  pub short : (past : Past) (epoch : ℕ)
+      → length (history_of (state_of past) epoch) ≤ 2 * length past.journal + opening_limit
   pub snapshots : (entries : List Entry) → All (λ e. HasSpelling e.msg) entries
       → All IsSpelled (snapshot (replay entries))
 
@@ -83,12 +86,17 @@ journal-step past e shut spelled each =
 -- ---- an uplink
 
 -- the messages of a reset
-reset-sent : (commands : List Draw) → All IsSpelled commands → AreSent (reset_messages commands)
-reset-sent commands each =
+begin-sent : (keeps : Bool) (taken : ℕ) → taken < 2 ^ 32 → HasSpelling (reset_begin keeps taken)
+begin-sent true taken few = few
+begin-sent false taken few = tt
+
+reset-sent : (begin : Msg) (commands : List Draw) → HasSpelling begin → All IsSpelled commands
+    → AreSent (reset_messages begin commands)
+reset-sent begin commands first each =
     let parts = map msg.Part commands in
     let end = msg.Control ResetEnd in
-    All-append HasSpelling (msg.Control ResetBegin ∷ parts) (end ∷ [])
-    (All-cons HasSpelling (msg.Control ResetBegin) parts tt
+    All-append HasSpelling (begin ∷ parts) (end ∷ [])
+    (All-cons HasSpelling begin parts first
     (All-map HasSpelling msg.Part commands
     (All-weaker IsSpelled (λ command. HasSpelling (msg.Part command)) (λ command h. h.1) commands
     each)))
@@ -137,8 +145,12 @@ module _ (laws : Speaking) (t : Exchange) (number : ℕ) (few : length t.past.jo
       → IsSpelledSay instruction → AreSent (queued_messages t.participant queued)
   queued-sent instruction (Saying m) is spelled =
       All-cons HasSpelling m [] (subst IsSpelledSay is spelled) (All-nil HasSpelling)
-  queued-sent instruction Resetting is spelled =
-      reset-sent (snapshot (client.confirmed t.participant.state))
+  queued-sent instruction (Resetting keeps) is spelled =
+      let taken = length t.participant.state.taken in
+      let short = laws.short t.past t.participant.state.epoch in
+      let within = hp.few in
+      reset-sent (reset_begin keeps taken) (snapshot (client.confirmed t.participant.state))
+      (begin-sent keeps taken (omega arith))
       (laws.snapshots t.participant.state.taken taken-spelled)
   queued-sent instruction Parting is spelled =
       All-cons HasSpelling (msg.Control (Disconnect 0)) [] (omega arith) (All-nil HasSpelling)

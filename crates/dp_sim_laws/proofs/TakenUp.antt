@@ -1,12 +1,12 @@
 -- A reset that is taken up opens its epoch with its commands.
 use Rattle.std.proofs.Common.{◌≡◌, ◌⊎◌, ℕ, zero, suc, true, false}
 use Rattle.std.proofs.Common.{if◌then◌else◌, List, [], ◌∷◌, ◌++◌, length, drop, map, fold}
-use Rattle.std.proofs.Common.{None, Some, refl, sym, ap, subst, ◌∙◌, ⊎_elim, inl, inr}
+use Rattle.std.proofs.Common.{Option, None, Some, refl, sym, ap, subst, ◌∙◌, ⊎_elim, inl, inr}
 use Rattle.std.proofs.Common.{append-nil, append_assoc}
 use Rattle.std.specs.Option.{option_map_or}
 use Rattle.std.proofs.lemmas.Bool.{cases_eq, eq-eqb, ne_eqb}
 use Rattle.dp_msg_draw.specs.declared.draw.Draw.{Draw}
-use Rattle.dp_msg_meta.specs.declared.message.Control.TheVariants.{ResetBegin, ResetEnd}
+use Rattle.dp_msg_meta.specs.declared.message.Control.TheVariants.{ResetEnd}
 use Rattle.dp_messages.specs.declared.message.Msg.{Msg}
 use Rattle.dp_messages.specs.declared.message.Msg.TheVariants as msg
 use Rattle.dp_messages.specs.Properties.{is_disconnect}
@@ -15,6 +15,7 @@ use Rattle.dp_epochs.specs.declared.event.Event.{Event}
 use Rattle.dp_epochs.specs.declared.event.Event.TheVariants as event
 use Rattle.dp_epochs.specs.declared.event.Reply.{Reply}
 use Rattle.dp_epochs.specs.declared.event.Reply.TheVariants as reply
+use Rattle.dp_epochs.specs.State.{place_in}
 use Rattle.dp_epochs.specs.Past.{Past, state_of, sure_step, sure_answer}
 use Rattle.dp_epochs.specs.Laws.{ShutBefore}
 use Rattle.dp_schedule.specs.declared.action.Instruction.{Instruction}
@@ -38,7 +39,7 @@ use Rattle.dp_sim_laws.specs.Tally.{said_reply}
 use Rattle.dp_sim_laws.specs.Resets.{client_answer, own_answer, own_answers}
 use Rattle.dp_sim_laws.proofs.Walks.{MayAct, action-keeps, other-stays, own-becomes}
 use Rattle.dp_sim_laws.proofs.Streams.{Owns, IsNotBy, step-owned, OpenedWith, step-opened}
-use Rattle.dp_sim_laws.proofs.Streams.{begin-noted, part-noted, end-placed}
+use Rattle.dp_sim_laws.proofs.Streams.{Begins, begin-noted, part-noted, end-placed}
 
 -- ---- one exchange of the client
 
@@ -262,16 +263,16 @@ not-leaving (command ∷ todo) behind m rest is leaves =
 
 module _ (laws : Leading) (moves : InstructionsAreMoves)
     (stays : (w : World) (action : Action) → IsWorld w → IsWorld (after w action))
-    (number epoch : ℕ) where
+    (number epoch : ℕ) (place : Option ℕ) where
   -- what stays true of the opened epoch along actions
   opened-along : (commands : List Draw) (w : World) (actions : List Action) → IsWorld w
-      → OpenedWith epoch commands (state_of w.past)
-      → OpenedWith epoch commands (state_of (fold after w actions).past)
+      → OpenedWith epoch place commands (state_of w.past)
+      → OpenedWith epoch place commands (state_of (fold after w actions).past)
   opened-along commands w [] world h = h
   opened-along commands w (action ∷ actions) world h =
       opened-along commands (after w action) actions (stays w action world)
-      (action-keeps moves (λ past. OpenedWith epoch commands (state_of past)) (λ e. Unit {0})
-      laws.before (step-opened laws epoch commands) w action world.before (may w action) h)
+      (action-keeps moves (λ past. OpenedWith epoch place commands (state_of past)) (λ e. Unit {0})
+      laws.before (step-opened laws epoch place commands) w action world.before (may w action) h)
     where
       may : (w : World) (action : Action)
           → MayAct (λ e. Unit {0}) w action
@@ -286,19 +287,19 @@ module _ (laws : Leading) (moves : InstructionsAreMoves)
     Sends actions =
         (w : World) (so_far todo : List Draw) (p : Participant) (behind : List Msg) → IsWorld w
         → participant_of w number ≡ Some p → is_closed p.link ≡ false
-        → p.uplink ≡ rest_messages todo behind → Owns number so_far (state_of w.past).stream
+        → p.uplink ≡ rest_messages todo behind → Owns number place so_far (state_of w.past).stream
         → own_answers number w actions ≡ rest_answers todo epoch rest
-        → OpenedWith epoch (so_far ++ todo) (state_of (fold after w actions).past)
+        → OpenedWith epoch place (so_far ++ todo) (state_of (fold after w actions).past)
 
     sending : (actions : List Action) → Sends actions
     sending [] w so_far todo p behind world found up uplink owns are =
         absurd (some-answer todo epoch rest are)
     sending (action ∷ actions) w so_far todo p behind world found up uplink owns are =
-        act-move moves (λ past. Owns number so_far (state_of past).stream) number laws.before
-        (step-owned laws number so_far) w world p found up owns
+        act-move moves (λ past. Owns number place so_far (state_of past).stream) number laws.before
+        (step-owned laws number place so_far) w world p found up owns
         (λ v answers. IsWorld v
         → answers ++ own_answers number v actions ≡ rest_answers todo epoch rest
-        → OpenedWith epoch (so_far ++ todo) (state_of (fold after v actions).past))
+        → OpenedWith epoch place (so_far ++ todo) (state_of (fold after v actions).past))
         (λ v q more there now still owned. λ world' are'.
         sending actions v so_far todo q (behind ++ more) world' there still
         (now ∙ ap (λ ms. ms ++ more) uplink
@@ -332,7 +333,7 @@ module _ (laws : Leading) (moves : InstructionsAreMoves)
             → IsWorld v
             → sure_answer w.past (event.Say number m) ∷ [] ++ own_answers number v actions
             ≡ rest_answers todo epoch rest
-            → OpenedWith epoch (so_far ++ todo) (state_of (fold after v actions).past)
+            → OpenedWith epoch place (so_far ++ todo) (state_of (fold after v actions).past)
         hear go v q m after_it [] none there first now still past world' are' =
             let whole : msg.Control ResetEnd ∷ behind ≡ m ∷ after_it =
             sym (ap (λ list. rest_messages list behind) none) ∙ first in
@@ -341,13 +342,13 @@ module _ (laws : Leading) (moves : InstructionsAreMoves)
             ≡ reply.Placed epoch 0 ∷ rest =
             are' ∙ ap (λ list. rest_answers list epoch rest) none in
             let one : sure_answer w.past (event.Say number m) ≡ reply.Placed epoch 0 = cc in
-            let now_opened = end-placed laws number epoch so_far w.past world.before
+            let now_opened = end-placed laws number epoch place so_far w.past world.before
             (subst (λ n. sure_answer w.past (event.Say number n) ≡ reply.Placed epoch 0) same one)
             owns in
-            let opened : OpenedWith epoch so_far (state_of v.past) =
-            subst (λ past. OpenedWith epoch so_far (state_of past))
+            let opened : OpenedWith epoch place so_far (state_of v.past) =
+            subst (λ past. OpenedWith epoch place so_far (state_of past))
             (sym (past ∙ ap (λ n. sure_step w.past (event.Say number n)) same)) now_opened in
-            subst (λ list. OpenedWith epoch list (state_of (fold after v actions).past))
+            subst (λ list. OpenedWith epoch place list (state_of (fold after v actions).past))
             (sym (ap (λ list. so_far ++ list) none ∙ append-nil so_far))
             (opened-along so_far v actions world' opened)
         hear go v q m after_it (command ∷ left) some there first now still past world' are' =
@@ -360,45 +361,46 @@ module _ (laws : Leading) (moves : InstructionsAreMoves)
             are' ∙ ap (λ list. rest_answers list epoch rest) some in
             let one : sure_answer w.past (event.Say number m) ≡ reply.Noted = cc in
             let others : own_answers number v actions ≡ rest_answers left epoch rest = cc in
-            let noted = part-noted laws number so_far command w.past world.before
+            let noted = part-noted laws number place so_far command w.past world.before
             (subst (λ n. sure_answer w.past (event.Say number n) ≡ reply.Noted) same one) owns in
-            let owned : Owns number (so_far ++ command ∷ []) (state_of v.past).stream =
-            subst (λ past. Owns number (so_far ++ command ∷ []) (state_of past).stream)
+            let owned : Owns number place (so_far ++ command ∷ []) (state_of v.past).stream =
+            subst (λ past. Owns number place (so_far ++ command ∷ []) (state_of past).stream)
             (sym (past ∙ ap (λ n. sure_step w.past (event.Say number n)) same)) noted in
-            subst (λ list. OpenedWith epoch list (state_of (fold after v actions).past))
+            subst (λ list. OpenedWith epoch place list (state_of (fold after v actions).past))
             (append_assoc so_far (command ∷ []) left ∙ sym (ap (λ list. so_far ++ list) some))
             (go v (so_far ++ command ∷ []) left q behind world' there still (now ∙ after_is) owned
             others)
 
-    -- the same, where the reset stands on the uplink after other messages
-    abbrev SendsAfter : List Action → Type 0
-    SendsAfter actions =
+    -- the same, where the reset stands on the uplink after other messages, with its begin
+    abbrev SendsAfter : Msg → List Action → Type 0
+    SendsAfter begin actions =
         (w : World) (commands : List Draw) (p : Participant) (ahead behind : List Msg) → IsWorld w
         → participant_of w number ≡ Some p → is_closed p.link ≡ false
-        → p.uplink ≡ ahead ++ msg.Control ResetBegin ∷ rest_messages commands behind
+        → p.uplink ≡ ahead ++ begin ∷ rest_messages commands behind
         → drop (length ahead) (own_answers number w actions)
         ≡ reply.Noted ∷ rest_answers commands epoch rest
-        → OpenedWith epoch commands (state_of (fold after w actions).past)
+        → OpenedWith epoch place commands (state_of (fold after w actions).past)
 
-    pub queued : (actions : List Action) → SendsAfter actions
-    queued [] w commands p ahead behind world found up uplink are =
+    pub queued : (begin : Msg) → Begins begin → place_in begin ≡ place → (actions : List Action)
+        → SendsAfter begin actions
+    queued begin how names [] w commands p ahead behind world found up uplink are =
         let no : [] ≡ reply.Noted ∷ rest_answers commands epoch rest =
         sym (drop-none (length ahead)) ∙ are in cc
-    queued (action ∷ actions) w commands p ahead behind world found up uplink are =
+    queued begin how names (action ∷ actions) w commands p ahead behind world found up uplink are =
         act-move moves (λ past. Unit {0}) number laws.before (λ past e shut far h. tt) w world p
         found up tt
         (λ v answers. IsWorld v
         → drop (length ahead) (answers ++ own_answers number v actions)
         ≡ reply.Noted ∷ rest_answers commands epoch rest
-        → OpenedWith epoch commands (state_of (fold after v actions).past))
+        → OpenedWith epoch place commands (state_of (fold after v actions).past))
         (λ v q more there now still unit. λ world' are'.
-        queued actions v commands q ahead (behind ++ more) world' there still
+        queued begin how names actions v commands q ahead (behind ++ more) world' there still
         (now ∙ ap (λ ms. ms ++ more) uplink
-        ∙ append_assoc ahead (msg.Control ResetBegin ∷ rest_messages commands behind) more
-        ∙ ap (λ ms. ahead ++ msg.Control ResetBegin ∷ ms)
+        ∙ append_assoc ahead (begin ∷ rest_messages commands behind) more
+        ∙ ap (λ ms. ahead ++ begin ∷ ms)
         (append_assoc (map msg.Part commands) (msg.Control ResetEnd ∷ behind) more)) are')
         (λ v q m after_it there first now still past. λ world' are'.
-        hear (queued actions) (sending actions) v q m after_it ahead refl there
+        hear (queued begin how names actions) (sending actions) v q m after_it ahead refl there
         (sym uplink ∙ first) now still past world' are')
         (λ v q answers there shut end. λ world' are'.
         absurd (closing v q answers there shut end ahead refl are'))
@@ -425,34 +427,34 @@ module _ (laws : Leading) (moves : InstructionsAreMoves)
           where
             leaving : (front : List Msg) → ahead ≡ front → (m : Msg) (after_it : List Msg)
                 (r : Reply)
-                → ahead ++ msg.Control ResetBegin ∷ rest_messages commands behind ≡ m ∷ after_it
+                → ahead ++ begin ∷ rest_messages commands behind ≡ m ∷ after_it
                 → is_disconnect m ≡ true
                 → drop (length ahead) (r ∷ []) ≡ reply.Noted ∷ rest_answers commands epoch rest → ⊥
             leaving [] is m after_it r first leaves are =
-                let whole : msg.Control ResetBegin ∷ rest_messages commands behind ≡ m ∷ after_it =
-                sym (ap (λ ms. ms ++ msg.Control ResetBegin ∷ rest_messages commands behind) is)
+                let whole : begin ∷ rest_messages commands behind ≡ m ∷ after_it =
+                sym (ap (λ ms. ms ++ begin ∷ rest_messages commands behind) is)
                 ∙ first in
-                let same : msg.Control ResetBegin ≡ m = cc in
-                let no : false ≡ true = ap is_disconnect same ∙ leaves in cc
+                let same : begin ≡ m = cc in
+                let no : false ≡ true = sym how.endless ∙ ap is_disconnect same ∙ leaves in cc
             leaving (x ∷ front) is m after_it r first leaves are =
                 let no : [] ≡ reply.Noted ∷ rest_answers commands epoch rest =
                 sym (ap (λ ms. drop (length ms) (r ∷ [])) is ∙ drop-none (length front)) ∙ are in cc
 
-        hear : SendsAfter actions → Sends actions → (v : World) (q : Participant) (m : Msg)
+        hear : SendsAfter begin actions → Sends actions → (v : World) (q : Participant) (m : Msg)
             (after_it front : List Msg)
             → ahead ≡ front → participant_of v number ≡ Some q
-            → ahead ++ msg.Control ResetBegin ∷ rest_messages commands behind ≡ m ∷ after_it
+            → ahead ++ begin ∷ rest_messages commands behind ≡ m ∷ after_it
             → q.uplink ≡ after_it → is_closed q.link ≡ false
             → v.past ≡ sure_step w.past (event.Say number m) → IsWorld v
             → drop (length ahead)
             (sure_answer w.past (event.Say number m) ∷ [] ++ own_answers number v actions)
             ≡ reply.Noted ∷ rest_answers commands epoch rest
-            → OpenedWith epoch commands (state_of (fold after v actions).past)
+            → OpenedWith epoch place commands (state_of (fold after v actions).past)
         hear go send v q m after_it [] none there first now still past world' are' =
-            let whole : msg.Control ResetBegin ∷ rest_messages commands behind ≡ m ∷ after_it =
-            sym (ap (λ ms. ms ++ msg.Control ResetBegin ∷ rest_messages commands behind) none)
+            let whole : begin ∷ rest_messages commands behind ≡ m ∷ after_it =
+            sym (ap (λ ms. ms ++ begin ∷ rest_messages commands behind) none)
             ∙ first in
-            let same : m ≡ msg.Control ResetBegin = cc in
+            let same : m ≡ begin = cc in
             let after_is : after_it ≡ rest_messages commands behind = cc in
             let all : sure_answer w.past (event.Say number m) ∷ own_answers number v actions
             ≡ reply.Noted ∷ rest_answers commands epoch rest =
@@ -461,14 +463,16 @@ module _ (laws : Leading) (moves : InstructionsAreMoves)
             ∙ are' in
             let one : sure_answer w.past (event.Say number m) ≡ reply.Noted = cc in
             let others : own_answers number v actions ≡ rest_answers commands epoch rest = cc in
-            let noted = begin-noted laws number w.past world.before
+            let noted = begin-noted laws number begin how w.past world.before
             (subst (λ n. sure_answer w.past (event.Say number n) ≡ reply.Noted) same one) in
-            let owned : Owns number [] (state_of v.past).stream =
-            subst (λ past. Owns number [] (state_of past).stream)
-            (sym (past ∙ ap (λ n. sure_step w.past (event.Say number n)) same)) noted in
+            let owned : Owns number place [] (state_of v.past).stream =
+            subst (λ past. Owns number place [] (state_of past).stream)
+            (sym (past ∙ ap (λ n. sure_step w.past (event.Say number n)) same))
+            (subst (λ o. Owns number o []
+            (state_of (sure_step w.past (event.Say number begin))).stream) names noted) in
             send v [] commands q behind world' there still (now ∙ after_is) owned others
         hear go send v q m after_it (x ∷ front) some there first now still past world' are' =
-            let tail = msg.Control ResetBegin ∷ rest_messages commands behind in
+            let tail = begin ∷ rest_messages commands behind in
             let whole : x ∷ (front ++ tail) ≡ m ∷ after_it =
             sym (ap (λ ms. ms ++ tail) some) ∙ first in
             let after_is : after_it ≡ front ++ tail = cc in

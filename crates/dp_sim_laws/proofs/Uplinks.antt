@@ -10,7 +10,7 @@ use Rattle.dp_messages.specs.declared.message.Msg.{Msg}
 use Rattle.dp_messages.specs.declared.message.Msg.TheVariants as msg
 use Rattle.dp_messages.specs.Messages.{kind_of}
 use Rattle.dp_messages.specs.Properties.{is_disconnect}
-use Rattle.dp_snap.specs.Resets.{reset_messages}
+use Rattle.dp_snap.specs.Resets.{reset_begin, reset_messages}
 use Rattle.dp_sim_laws.proofs.Events.{and_no, is_ack, is_send, sends_of, IsHigh}
 
 -- the sends among the messages that a session hears while the epoch stays, from a connection that
@@ -154,9 +154,14 @@ parts-reset (command ∷ commands) rest h = (
   parts-reset commands rest h,
 )
 
-pub reset-messages : (commands : List Draw) → AllByRecursion IsOfReset (reset_messages commands)
-reset-messages commands = (
-  record { stands = λ epoch. tt; send = refl; endless = refl },
+begin-reset : (keeps : Bool) (taken : ℕ) → IsOfReset (reset_begin keeps taken)
+begin-reset true taken = record { stands = λ epoch. tt; send = refl; endless = refl }
+begin-reset false taken = record { stands = λ epoch. tt; send = refl; endless = refl }
+
+pub reset-messages : (keeps : Bool) (taken : ℕ) (commands : List Draw)
+    → AllByRecursion IsOfReset (reset_messages (reset_begin keeps taken) commands)
+reset-messages keeps taken commands = (
+  begin-reset keeps taken,
   parts-reset commands (msg.Control control.ResetEnd ∷ [])
       (record { stands = λ epoch. tt; send = refl; endless = refl }, tt),
 )

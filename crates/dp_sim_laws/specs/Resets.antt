@@ -1,21 +1,24 @@
 -- Resets that the session takes up, and what a client shows after one.
-use Rattle.std.specs.Prelude.{◌≡◌, ℕ, ◌+◌, ◌==◌, if◌then◌else◌, List, [], ◌∷◌, ◌++◌}
+use Rattle.std.specs.Prelude.{◌≡◌, ℕ, ◌+◌, ◌-◌, ◌==◌, Bool, if◌then◌else◌, List, [], ◌∷◌, ◌++◌}
 use Rattle.std.specs.Prelude.{length, drop, map}
 use Rattle.std.specs.Option.{option_map_or}
 use Rattle.std.specs.Prelude.{Some}
 use Rattle.dp_msg_draw.specs.declared.draw.Draw.{Draw}
 use Rattle.dp_messages.specs.declared.message.Entry.{Entry}
 use Rattle.dp_messages.specs.Properties.{carried_in}
+use Rattle.dp_acl.specs.Opening.{kept_from}
 use Rattle.dp_plain.specs.Board.{Board}
 use Rattle.dp_plain.specs.Commands.{draw}
 use Rattle.dp_replay.specs.Replay.{replay_from, depth_in_force}
 use Rattle.dp_client.specs.Client as client
 use Rattle.dp_epochs.specs.declared.event.Reply.{Reply}
 use Rattle.dp_epochs.specs.declared.event.Reply.TheVariants as reply
+use Rattle.dp_epochs.specs.State.{State, history_of, place_in}
 use Rattle.dp_schedule.specs.declared.action.Instruction.{Instruction}
 use Rattle.dp_schedule.specs.declared.action.Instruction.TheVariants.{Reset}
 use Rattle.dp_schedule.specs.declared.action.Action.{Action}
 use Rattle.dp_schedule.specs.declared.action.Action.TheVariants.{Act}
+use Rattle.dp_snap.specs.Resets.{reset_begin}
 use Rattle.dp_snap.specs.Snapshot.{snapshot}
 use Rattle.dp_sim.specs.declared.participant.LinkState.TheVariants.{Connected}
 use Rattle.dp_sim.specs.Exchanges.{Participant, Exchange}
@@ -52,24 +55,32 @@ abbrev pub taken_up : List Draw → ℕ → List Reply
 taken_up commands epoch =
     reply.Noted ∷ map (λ command. reply.Noted) commands ++ reply.Placed epoch 0 ∷ []
 
--- The client of the number, which was so after the actions before, resets; and among the answers
--- along the actions after that, those to the messages of the reset are such ones. As many answers
--- come first as messages stood on its uplink.
-pub record IsTakenUp (before later : List Action) (number : ℕ) (sender : Participant) (epoch : ℕ)
-    : Type 0 where
+-- The client of the number, which was so after the actions before, resets, by a reset that keeps or
+-- not; and among the answers along the actions after that, those to the messages of the reset are
+-- such ones. As many answers come first as messages stood on its uplink.
+pub record IsTakenUp (before later : List Action) (number : ℕ) (keeps : Bool) (sender : Participant)
+    (epoch : ℕ) : Type 0 where
   pub found : participant_of (world_after before) number ≡ Some sender
   pub connected : sender.link ≡ Connected
   pub rest : List Reply
   pub answers : drop (length sender.uplink)
-      (own_answers number (after (world_after before) (Act number Reset)) later)
+      (own_answers number (after (world_after before) (Act number (Reset keeps))) later)
       ≡ taken_up (snapshot (client.confirmed sender.state)) epoch ++ rest
 
 -- ---- what a client shows
 
--- Where the client has taken all with which its epoch opened, and more, it shows the board with the
--- more drawn after it, from the depth of undo on that the opening carried.
-abbrev pub GoesOnFrom : Board → client.State → Type 0
-GoesOnFrom board c =
-    (opening more : List Entry) → c.taken ≡ opening ++ more
-    → length opening ≡ carried_in c.taken + 1
-    → client.confirmed c ≡ replay_from draw board (depth_in_force opening) more
+-- The entries that a reset keeps with which the epoch of this number opened, of the history of the
+-- epoch before: those that go on from the place after what its sender had taken. Where the reset
+-- doesn't keep, there are none.
+abbrev pub kept_of : Bool → client.State → State → ℕ → List Entry
+kept_of keeps sender s epoch =
+    kept_from (place_in (reset_begin keeps (length sender.taken))) (history_of s (epoch - 1))
+
+-- Where the client has taken all with which its epoch opened, these kept entries at its end, and
+-- more, it shows the board with these and the more drawn after it, from the depth of undo on that
+-- the opening carried.
+abbrev pub GoesOnFrom : Board → List Entry → client.State → Type 0
+GoesOnFrom board kept c =
+    (opening more : List Entry) → c.taken ≡ opening ++ kept ++ more
+    → length (opening ++ kept) ≡ carried_in c.taken + 1
+    → client.confirmed c ≡ replay_from draw board (depth_in_force opening) (kept ++ more)

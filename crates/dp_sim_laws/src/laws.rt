@@ -1,6 +1,6 @@
 //! Laws of schedules, each the contract of a function that does nothing but call others.
 
-ghost use Rattle.std.specs.Prelude.{◌≡◌, ◌≢◌, ◌≤◌, ℕ, List, ◌∷◌, ◌++◌, length, drop, IfSome, All};
+ghost use Rattle.std.specs.Prelude.{◌≡◌, ◌≢◌, ◌≤◌, ℕ, Bool, List, ◌∷◌, ◌++◌, length, drop, IfSome, All};
 ghost use Rattle.dp_client.specs.Client.{confirmed, own_of};
 ghost use Rattle.dp_epochs.specs.Past.{Past, state_of};
 ghost use Rattle.dp_epochs.specs.Rows.{event_limit};
@@ -12,7 +12,7 @@ ghost use Rattle.dp_schedule.specs.declared.action.Instruction.TheVariants.{Rese
 ghost use Rattle.dp_sim.specs.Exchanges.{Participant};
 ghost use Rattle.dp_sim.specs.World.{world_after, participant_of};
 ghost use Rattle.dp_sim_laws.specs.OwnSteps.{own_steps, GoesBy, next_of};
-ghost use Rattle.dp_sim_laws.specs.Resets.{IsTakenUp, GoesOnFrom};
+ghost use Rattle.dp_sim_laws.specs.Resets.{IsTakenUp, GoesOnFrom, kept_of};
 ghost use Rattle.dp_sim_laws.specs.Spelled.{AreSpelledEntries, IsSpelledEvent, SaysSpelled};
 ghost use Rattle.dp_sim_laws.specs.Tally.{IsUnended, tally_of};
 
@@ -20,7 +20,7 @@ use dp_acl::spelled_ids_are_in_order;
 use dp_client::entries_are_taken;
 use dp_epochs::{
     decisions_have_effects, effects_are_made, epochs_rise, events_have_effects,
-    histories_are_marked, histories_grow, steps_lead_on,
+    histories_are_marked, histories_are_short, histories_grow, steps_lead_on,
 };
 use dp_messages::one_equality;
 use dp_sim::{instructions_are_moves, openings_go_on, worlds_stay_worlds};
@@ -98,18 +98,21 @@ pub fn schedules_are_spelled()
     worlds_stay_worlds();
     steps_lead_on();
     histories_are_spelled();
+    histories_are_short();
     snapshots_are_spelled();
 }
 
 /// Where each message of a client's reset was taken up, its begin and its parts noted and its end
 /// the opening of an epoch, every client of that epoch that has taken the opening whole shows the
-/// sender's confirmed canvas as it was at the reset, with what it has taken more drawn after it.
+/// sender's confirmed canvas as it was at the reset. What the reset keeps is drawn after it, where
+/// it keeps, and then what the client has taken more.
 pub fn resets_show_the_senders_canvas()
-    ensures { (before later : List Action) (number epoch : ℕ) (sender : Participant)
-        → All SaysSpelled before → IsTakenUp before later number sender epoch → (other : ℕ)
-        → IfSome (participant_of (world_after (before ++ Act number Reset ∷ later)) other)
-        (λ participant. participant.state.epoch ≡ epoch
-        → GoesOnFrom (confirmed sender.state) participant.state) }
+    ensures { (before later : List Action) (number epoch : ℕ) (keeps : Bool) (sender : Participant)
+        → All SaysSpelled before → IsTakenUp before later number keeps sender epoch → (other : ℕ)
+        → let world = world_after (before ++ Act number (Reset keeps) ∷ later) in
+        IfSome (participant_of world other) (λ participant. participant.state.epoch ≡ epoch
+        → GoesOnFrom (confirmed sender.state)
+        (kept_of keeps sender.state (state_of world.past) epoch) participant.state) }
 {
     instructions_are_moves();
     worlds_stay_worlds();
@@ -119,6 +122,7 @@ pub fn resets_show_the_senders_canvas()
     epochs_rise();
     histories_are_marked();
     histories_are_spelled();
+    histories_are_short();
     snapshots_are_spelled();
     snapshots_replay();
     openings_go_on();

@@ -5,7 +5,9 @@
 
 mod board;
 mod commands;
+mod resets;
 mod rows;
 mod tile;
 
 pub use board::{Msgs, snapshot};
+pub use resets::reset_begin;

@@ -110,7 +110,7 @@ allowed high line (Act client (Say m)) (tail, names, (word, parts, spells)) =
     high spells.bytes m spells.may
 allowed high line (Act client Up) asks = tt
 allowed high line (Act client Take) asks = tt
-allowed high line (Act client Reset) asks = tt
+allowed high line (Act client (Reset keeps)) asks = tt
 allowed high line (Act client Leave) asks = tt
 allowed high line (Act client Cut) asks = tt
 allowed high line (Show client kind) asks = tt

@@ -19,6 +19,7 @@ returns c = shown (record {
     stays = c.worlds_stay_worlds.ensures.stays;
     before = c.steps_lead_on.ensures.before;
     histories = c.histories_are_spelled.ensures;
+    short = c.histories_are_short.ensures;
     snapshots = c.snapshots_are_spelled.ensures;
   };
   go_on = c.openings_go_on.ensures;

@@ -11,6 +11,7 @@ returns-clause-entries c = λ actions epoch each.
       stays = c.worlds_stay_worlds.ensures.stays;
       before = c.steps_lead_on.ensures.before;
       histories = c.histories_are_spelled.ensures;
+      short = c.histories_are_short.ensures;
       snapshots = c.snapshots_are_spelled.ensures;
     }) actions each in
     c.histories_are_spelled.ensures w.past epoch h.speaks.journal h.world.events
@@ -23,5 +24,6 @@ returns-clause-events c = λ actions each.
       stays = c.worlds_stay_worlds.ensures.stays;
       before = c.steps_lead_on.ensures.before;
       histories = c.histories_are_spelled.ensures;
+      short = c.histories_are_short.ensures;
       snapshots = c.snapshots_are_spelled.ensures;
     }) actions each).speaks.journal

@@ -1,4 +1,4 @@
-use Rattle.std.proofs.Common.{refl}
+use Rattle.std.proofs.Common.{refl, arith, length}
 use Rattle.dp_schedule.specs.declared.join_action.JoinAction.TheVariants.{Say, View, Confirmed}
 use Rattle.dp_schedule.specs.declared.join_action.JoinAction.TheVariants.{Snapshot, Reset, Chat}
 use Rattle.dp_joining.specs.Steps.{seen}
@@ -85,13 +85,20 @@ returns-in-Snapshot-clause-err g c =
     c.requires.ready
     (c.show-in-Snapshot.ensures.err c.args.draws.now c.args.tiles.now))
 
+pub reset-requires : goal.reset-requires
+reset-requires g c =
+    let few = c.requires.ready.few in
+    let within = c.requires.ready.readable.within in
+    omega arith
+
 pub returns-in-Reset-clause-ok : goal.returns-in-Reset-clause-ok
 returns-in-Reset-clause-ok g c =
     let see = seen g.R.Source.left g.R.Source.faults g.S.Sink.held g.S.Sink.faults g.O.Sink.held
     g.O.Sink.faults in
     rw c.in-Reset.is (ok_alone c.reset.result (see c.args.self.now c.args.output.now
     c.args.draws.now c.args.tiles.now)
-    (see c.reset.new.self c.reset.new.output c.args.draws.now c.args.tiles.now) Reset refl
+    (see c.reset.new.self c.reset.new.output c.args.draws.now c.args.tiles.now)
+    (Reset c.in-Reset.keeps) refl
     c.requires.ready
     (source_same g.R.Source.left g.R.Source.faults c.args.self.now.reader c.reset.new.self.reader
     c.args.self.now.rx c.reset.new.self.rx c.reset.ensures.reader c.reset.ensures.rx)
@@ -103,7 +110,8 @@ returns-in-Reset-clause-err g c =
     g.O.Sink.faults in
     rw c.in-Reset.is (err_alone c.reset.result (see c.args.self.now c.args.output.now
     c.args.draws.now c.args.tiles.now)
-    (see c.reset.new.self c.reset.new.output c.args.draws.now c.args.tiles.now) Reset
+    (see c.reset.new.self c.reset.new.output c.args.draws.now c.args.tiles.now)
+    (Reset c.in-Reset.keeps)
     c.requires.ready
     (c.reset.ensures.err c.args.draws.now c.args.tiles.now))
 

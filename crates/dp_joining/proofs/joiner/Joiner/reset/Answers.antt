@@ -2,8 +2,8 @@ use Rattle.std.proofs.Common.{◌≡◌, [], ◌∙◌, ◌+◌, ap, refl, sym, 
 use Rattle.std.proofs.lemmas.Result.{err_from_is_err_and}
 use Rattle.dp_client.specs.Client.{confirmed}
 use Rattle.dp_snap.specs.Snapshot.{snapshot}
-use Rattle.dp_joining.specs.Joining.{Joining, reset_by}
-use Rattle.dp_snap.specs.Resets.{reset_messages}
+use Rattle.dp_joining.specs.Joining.{Joining, reset_by, reset_of}
+use Rattle.dp_snap.specs.Resets.{reset_begin, reset_messages}
 use Rattle.dp_joining.specs.Steps.{seen}
 use Rattle.dp_joining.proofs.Moving.{drew_none, fails_first, fails_last, fails_memory, grows_not}
 use Rattle.dp_joining.proofs.Moving.{moves_last}
@@ -17,10 +17,10 @@ returns-in_err-commands-clause-err g c = λ draws tiles.
     let old = see c.args.self.now c.args.output.now draws tiles in
     let p = err_from_is_err_and c.from_residual.result c.from_residual.ensures.1 in
     rw (p.1, p.2) (fails_memory old old
-    (λ (j : Joining). reset_by j (reset_messages (snapshot (confirmed j.client)))) _ _ _
-    (resets_adds old c.user-user.result
-    (length (reset_messages (snapshot (confirmed old.client))))
-    (reset_messages (snapshot (confirmed old.client))) c.user-user.ensures refl refl)
+    (λ (j : Joining). reset_by c.args.keeps j) _ _ _
+    (resets_adds c.args.keeps old c.user-user.result
+    (length (reset_of c.args.keeps old.client))
+    (reset_of c.args.keeps old.client) c.user-user.ensures refl refl)
     (drew_none [] draws tiles) (grows_not old.written _) refl (record {
       print = refl;
       write = refl;
@@ -33,16 +33,20 @@ returns-in_err-send_reset-clause-err g c = λ draws tiles.
     g.O.Sink.faults in
     let old = see c.args.self.now c.args.output.now draws tiles in
     let commands = c.as_slice-commands.result.now in
+    let begin = c.reset_begin-begin.result in
+    let begins : begin ≡ reset_begin c.args.keeps (length old.client.taken) =
+    c.reset_begin-begin.ensures in
     let is : commands ≡ snapshot (confirmed old.client) =
     c.as_slice-commands.ensures ∙ c.in_ok-commands.ensures.snapshot
     ∙ ap snapshot c.confirmed.ensures in
-    let adds = resets_adds old c.user-user.result (length commands + 2) (reset_messages commands)
-    c.user-user.ensures (sym (reset_length commands)) (ap reset_messages is) in
+    let adds = resets_adds c.args.keeps old c.user-user.result (length commands + 2)
+    (reset_messages begin commands) c.user-user.ensures (sym (reset_length begin commands))
+    (rw (is, begins) refl) in
     let p = err_from_is_err_and c.from_residual-in_err-send_reset.result
     c.from_residual-in_err-send_reset.ensures.1 in
     rw (p.1, p.2) (fails_first c.in_err-send_reset.field-0.0 old
     (see (record c.args.self.now { tx = c.send_reset.new.tx }) c.args.output.now draws tiles)
-    (λ (j : Joining). reset_by j (reset_messages (snapshot (confirmed j.client)))) _ _ _ adds
+    (λ (j : Joining). reset_by c.args.keeps j) _ _ _ adds
     (drew_none [] draws tiles)
     c.in_err-send_reset.ensures.prefix refl refl refl c.in_err-send_reset.ensures.fault)
 
@@ -52,17 +56,21 @@ returns-clause-ok g c = λ draws tiles.
     g.O.Sink.faults in
     let old = see c.args.self.now c.args.output.now draws tiles in
     let commands = c.as_slice-commands.result.now in
+    let begin = c.reset_begin-begin.result in
+    let begins : begin ≡ reset_begin c.args.keeps (length old.client.taken) =
+    c.reset_begin-begin.ensures in
     let is : commands ≡ snapshot (confirmed old.client) =
     c.as_slice-commands.ensures ∙ c.in_ok-commands.ensures.snapshot
     ∙ ap snapshot c.confirmed.ensures in
-    let adds = resets_adds old c.user-user.result (length commands + 2) (reset_messages commands)
-    c.user-user.ensures (sym (reset_length commands)) (ap reset_messages is) in
+    let adds = resets_adds c.args.keeps old c.user-user.result (length commands + 2)
+    (reset_messages begin commands) c.user-user.ensures (sym (reset_length begin commands))
+    (rw (is, begins) refl) in
     let now = see (record c.args.self.now { tx = c.send_reset.new.tx }) c.print_sent.new.output
     draws
     tiles in
     moves_last c.print_sent.result old now
-    (λ (j : Joining). reset_by j (reset_messages (snapshot (confirmed j.client)))) _ _ _
-    (resets_leads old now refl refl) adds (drew_none [] draws tiles)
+    (λ (j : Joining). reset_by c.args.keeps j) _ _ _
+    (resets_leads c.args.keeps old now refl refl) adds (drew_none [] draws tiles)
     c.in_ok-send_reset.ensures.written
     c.in_ok-send_reset.ensures.kept refl c.print_sent.ensures.written c.print_sent.ensures.kept
 
@@ -72,14 +80,18 @@ returns-clause-err g c = λ draws tiles.
     g.O.Sink.faults in
     let old = see c.args.self.now c.args.output.now draws tiles in
     let commands = c.as_slice-commands.result.now in
+    let begin = c.reset_begin-begin.result in
+    let begins : begin ≡ reset_begin c.args.keeps (length old.client.taken) =
+    c.reset_begin-begin.ensures in
     let is : commands ≡ snapshot (confirmed old.client) =
     c.as_slice-commands.ensures ∙ c.in_ok-commands.ensures.snapshot
     ∙ ap snapshot c.confirmed.ensures in
-    let adds = resets_adds old c.user-user.result (length commands + 2) (reset_messages commands)
-    c.user-user.ensures (sym (reset_length commands)) (ap reset_messages is) in
+    let adds = resets_adds c.args.keeps old c.user-user.result (length commands + 2)
+    (reset_messages begin commands) c.user-user.ensures (sym (reset_length begin commands))
+    (rw (is, begins) refl) in
     fails_last c.print_sent.result old
     (see (record c.args.self.now { tx = c.send_reset.new.tx }) c.print_sent.new.output draws tiles)
-    (λ (j : Joining). reset_by j (reset_messages (snapshot (confirmed j.client)))) _ _ _ adds
+    (λ (j : Joining). reset_by c.args.keeps j) _ _ _ adds
     (drew_none [] draws tiles)
     c.in_ok-send_reset.ensures.written c.in_ok-send_reset.ensures.kept refl
     c.print_sent.ensures.prefix c.print_sent.ensures.fault
