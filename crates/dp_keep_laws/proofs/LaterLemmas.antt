@@ -18,7 +18,6 @@ use Rattle.dp_board.specs.Strokes.{Window, Groups, Strokes, last_few, cut, windo
 use Rattle.dp_board.specs.Strokes.{is_among, is_eligible, last_of, without_last, without}
 use Rattle.dp_board.specs.Strokes.{where_eligible, moved, groups_with, groups_after}
 use Rattle.dp_board.specs.Strokes.{concerned, after_act}
-use Rattle.dp_board.specs.Laws.{depth_in}
 use Rattle.dp_board.proofs.TimesLemmas.{one, times, one_same, one_other, times-append, times-drop}
 use Rattle.dp_board.proofs.TimesLemmas.{is_among-none, is_among-some, times-none, times-some}
 use Rattle.dp_board.proofs.TimesLemmas.{without_last-push, find-among}
@@ -135,20 +134,21 @@ pub record LaterWindow (n : ℕ) (v w : Window) : Type 0 where
   pub points : v.points ≡ olds ++ map (up n) w.points
 
 later-window_with : {Op : Type 0} → (n p q : ℕ) (act : Act Op) (v w : Window) → p ≡ up n q
-    → depth_in act ≡ None → LaterWindow n v w
+    → LaterWindow n v w
     → LaterWindow n (window_with p act v) (window_with q act w)
-later-window_with n p q Point v w same free h = record {
+later-window_with n p q Point v w same h = record {
   depth = h.depth;
   olds = h.olds;
   old = h.old;
   points = ap (λ ps. ps ++ p ∷ []) h.points ∙ append_assoc h.olds (map (up n) w.points) (p ∷ [])
       ∙ ap (λ ps. h.olds ++ ps) (push-up n p q w.points same);
 }
-later-window_with n p q (Undo who) v w same free h = h
-later-window_with n p q (Redo who) v w same free h = h
-later-window_with n p q (Draw op) v w same free h = h
-later-window_with n p q (Depth d) v w same free h = let wrong : Some d ≡ None = free in cc
-later-window_with n p q Other v w same free h = h
+later-window_with n p q (Undo who) v w same h = h
+later-window_with n p q (Redo who) v w same h = h
+later-window_with n p q (Draw op) v w same h = h
+later-window_with n p q (Depth d) v w same h =
+    record { depth = refl; olds = h.olds; old = h.old; points = h.points }
+later-window_with n p q Other v w same h = h
 
 later-cut : (n : ℕ) (v w : Window) → LaterWindow n v w → LaterWindow n (cut v) (cut w)
 later-cut n v w h =
@@ -328,16 +328,16 @@ later-choice : (n : ℕ) (first : List ℕ) (b : Bool) (g h i j : Groups)
 later-choice n first true g h i j left right = left refl
 later-choice n first false g h i j left right = right
 
--- an act that sets no depth, and moves none of the older groups, keeps the strokes so
+-- an act that moves none of the older groups keeps the strokes so
 pub later-after_act : {Op : Type 0} → (user n : ℕ) (first : List ℕ) (s t : Strokes)
-    (a : UserAct Op) → IsOld n first → depth_in a.act ≡ None
+    (a : UserAct Op) → IsOld n first
     → (concerned a ≡ user → IsYoung n (moved s a.act)) → Later n first s t
     → Later n first (after_act user s a) (after_act user t a)
-later-after_act user n first s t a old free young h = record {
+later-after_act user n first s t a old young h = record {
   position = omega (arith, h.position);
   window = later-cut n (window_with s.position a.act s.window)
       (window_with t.position a.act t.window)
-      (later-window_with n s.position t.position a.act s.window t.window h.position free h.window);
+      (later-window_with n s.position t.position a.act s.window t.window h.position h.window);
   groups = later-choice n first (concerned a == user) (groups_after s a.act) s.groups
       (groups_after t a.act) t.groups
       (λ same. later-groups_after n first s t a.act old h

@@ -1,2 +1,6 @@
 pub mod LaterLemmas
 pub mod SuffixLemmas
+pub mod Depths
+pub mod Openings
+pub mod LeftOut
+pub mod Kept

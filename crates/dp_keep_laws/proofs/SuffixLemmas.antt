@@ -11,7 +11,7 @@ use Rattle.dp_board.specs.declared.act.UserAct.{UserAct}
 use Rattle.dp_board.specs.Strokes.{Strokes, strokes, after_act, moved, concerned, is_among, last_of}
 use Rattle.dp_board.specs.Flags.{is_group_drawn, flag_of}
 use Rattle.dp_board.specs.Commands.{command_of, drawn_commands}
-use Rattle.dp_board.specs.Laws.{depth_in, HasNoDepth, depth_after}
+use Rattle.dp_board.specs.Laws.{depth_after}
 use Rattle.dp_board.proofs.WindowLemmas.{position-is, depth_is_in_force}
 use Rattle.dp_board.proofs.TimesLemmas.{times, times-append, is_among-some}
 use Rattle.dp_board.proofs.StepLemmas.{IsSound, IsSound-strokes}
@@ -66,9 +66,9 @@ later-nil {Op} depth before user =
 
 later-more : {Op : Type 0} → (depth : ℕ) (before after done rest : List (UserAct Op))
     (a : UserAct Op) → StandAlone depth before after → after ≡ done ++ a ∷ rest
-    → depth_in a.act ≡ None → AreLater depth before done
+    → AreLater depth before done
     → AreLater depth before (done ++ a ∷ [])
-later-more depth before after done rest a alone is free are user =
+later-more depth before after done rest a alone is are user =
     let d = depth_after depth before in
     let n : ℕ = length before in
     let first = done_after depth user before in
@@ -78,11 +78,11 @@ later-more depth before after done rest a alone is free are user =
     sym (strokes-push depth user (before ++ done) a)
     ∙ ap (strokes depth user) (append_assoc before done (a ∷ [])) in
     let young : concerned a ≡ user → IsYoung n (moved s a.act) = λ same group moves.
-    alone.moves done rest a group is
+    alone done rest a group is
     (subst (λ u. moved (strokes depth u (before ++ done)) a.act ≡ Some group) (sym same) moves) in
     subst (λ u. Later n first u (strokes d user (done ++ a ∷ []))) whole
     (subst (Later n first (after_act user s a)) (sym (strokes-push d user done a))
-    (later-after_act user n first s t a (done-old depth user before) free young (are user)))
+    (later-after_act user n first s t a (done-old depth user before) young (are user)))
 
 -- the acts, split one later
 split-next : {X : Type 0} → (xs done rest : List X) (x : X) → xs ≡ done ++ x ∷ rest
@@ -90,13 +90,13 @@ split-next : {X : Type 0} → (xs done rest : List X) (x : X) → xs ≡ done ++
 split-next xs done rest x is = is ∙ sym (append_assoc done (x ∷ []) rest)
 
 later-all : {Op : Type 0} → (depth : ℕ) (before after done rest : List (UserAct Op))
-    → StandAlone depth before after → after ≡ done ++ rest → HasNoDepth rest
+    → StandAlone depth before after → after ≡ done ++ rest
     → AreLater depth before done → AreLater depth before after
-later-all depth before after done [] alone is free are =
+later-all depth before after done [] alone is are =
     subst (AreLater depth before) (sym (is ∙ append-nil done)) are
-later-all depth before after done (a ∷ rest) alone is free are =
+later-all depth before after done (a ∷ rest) alone is are =
     later-all depth before after (done ++ a ∷ []) rest alone (split-next after done rest a is)
-    free.1 (later-more depth before after done rest a alone is free.0 are)
+    (later-more depth before after done rest a alone is are)
 
 -- ---- what is drawn
 
@@ -151,11 +151,11 @@ drawn-flag depth before after done whole part user Other = refl
 -- the acts are drawn as they are by themselves
 drawn-later : {Op : Type 0} → (depth : ℕ) (before after done rest : List (UserAct Op))
     → StandAlone depth before after → AreLater depth before after → after ≡ done ++ rest
-    → HasNoDepth rest → AreLater depth before done
+    → AreLater depth before done
     → drawn_from depth (before ++ after) (before ++ done) rest
     ≡ drawn_from (depth_after depth before) after done rest
-drawn-later depth before after done [] alone whole is free part = refl
-drawn-later depth before after done (a ∷ rest) alone whole is free part =
+drawn-later depth before after done [] alone whole is part = refl
+drawn-later depth before after done (a ∷ rest) alone whole is part =
     let d = depth_after depth before in
     ap (λ flag. command_of a.act flag
     ++ drawn_from depth (before ++ after) ((before ++ done) ++ a ∷ []) rest)
@@ -164,8 +164,8 @@ drawn-later depth before after done (a ∷ rest) alone whole is free part =
     ++ drawn_from depth (before ++ after) b rest) (append_assoc before done (a ∷ []))
     ∙ ap (λ ops. command_of a.act (flag_of d after done a.user a.act) ++ ops)
     (drawn-later depth before after (done ++ a ∷ []) rest alone whole
-    (split-next after done rest a is) free.1
-    (later-more depth before after done rest a alone is free.0 part))
+    (split-next after done rest a is)
+    (later-more depth before after done rest a alone is part))
 
 -- ---- what was drawn before
 
@@ -230,7 +230,7 @@ drawn_from-append depth all before (a ∷ xs) ys =
 pub suffixes_stand_alone : (Op : Type 0) → SuffixesStandAlone Op
 suffixes_stand_alone Op depth before after alone =
     let none = later-nil depth before in
-    let whole = later-all depth before after [] after alone refl alone.depths none in
+    let whole = later-all depth before after [] after alone refl none in
     let d = depth_after depth before in
     drawn_from-append depth (before ++ after) [] before after
     ∙ ap (λ ops. ops ++ drawn_from depth (before ++ after) before after)
@@ -238,7 +238,7 @@ suffixes_stand_alone Op depth before after alone =
     ∙ ap (λ b. drawn_commands depth before ++ drawn_from depth (before ++ after) b after)
     (sym (append-nil before))
     ∙ ap (λ ops. drawn_commands depth before ++ ops)
-    (drawn-later depth before after [] after alone whole refl alone.depths none)
+    (drawn-later depth before after [] after alone whole refl none)
 
 pub suffixes_show_alone : (B Op : Type 0) → SuffixesShowAlone B Op
 suffixes_show_alone B Op draw blank depth before after alone =

@@ -1,1 +1,2 @@
 pub mod Suffixes
+pub mod Keeping

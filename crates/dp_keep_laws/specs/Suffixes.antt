@@ -1,18 +1,17 @@
--- Histories whose end stands alone: it moves no group of before it, and sets no depth.
+-- Histories whose end stands alone: it moves no group of before it.
 use Rattle.std.specs.Prelude.{◌≡◌, ℕ, ◌≤◌, Some, List, ◌∷◌, ◌++◌, length}
 use Rattle.dp_board.specs.declared.act.UserAct.{UserAct}
 use Rattle.dp_board.specs.Strokes.{moved_by}
 use Rattle.dp_board.specs.Commands.{drawn_commands}
-use Rattle.dp_board.specs.Laws.{HasNoDepth, depth_after}
+use Rattle.dp_board.specs.Laws.{depth_after}
 use Rattle.dp_board.specs.Replay.{replay}
 
 -- After the history `before` the acts `after` stand alone: no Undo or Redo of them moves a group
--- that was opened before, and none of them sets a depth.
-pub record StandAlone {Op : Type 0} (depth : ℕ) (before after : List (UserAct Op)) : Type 0 where
-  pub moves : (done rest : List (UserAct Op)) (a : UserAct Op) (group : ℕ)
-      → after ≡ done ++ a ∷ rest → moved_by depth (before ++ done) a ≡ Some group
-      → length before ≤ group
-  pub depths : HasNoDepth after
+-- that was opened before them.
+abbrev pub StandAlone : {Op : Type 0} → ℕ → List (UserAct Op) → List (UserAct Op) → Type 0
+StandAlone {Op} depth before after =
+    (done rest : List (UserAct Op)) (a : UserAct Op) (group : ℕ) → after ≡ done ++ a ∷ rest
+    → moved_by depth (before ++ done) a ≡ Some group → length before ≤ group
 
 -- acts that stand alone are drawn as they are by themselves, from the depth in force on, after what
 -- was drawn before them

@@ -1,9 +1,12 @@
-//! Laws of resets that keep entries: what the next epoch opens with shows what the one before
-//! showed.
+//! Laws of what an epoch opens with: it shows the commands of its reset, and where the reset keeps
+//! entries, what the history before showed.
 //!
 //! The rule: docs/protocol.md, "Resets".
 #![tactic(auto)]
 
 mod laws;
 
-pub use laws::suffixes_stand_alone;
+pub use laws::{
+    keeping_shows_the_same, kept_entries_show_the_same, openings_go_on, resets_show_their_commands,
+    suffixes_stand_alone,
+};

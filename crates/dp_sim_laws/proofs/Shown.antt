@@ -30,7 +30,7 @@ use Rattle.dp_sim.specs.World.{World, participant_of, after, first_world, world_
 use Rattle.dp_sim.specs.World.{with_exchange}
 use Rattle.dp_sim.specs.Invariant.{IsWorld, IsParticipant, is_closed}
 use Rattle.dp_sim.proofs.LawLemmas.{Leading}
-use Rattle.dp_sim.proofs.LawOpenings.{opening_front, opening-depth}
+use Rattle.dp_keep_laws.proofs.Openings.{opening_front, opening-depth}
 use Rattle.dp_lists.proofs.Options.{at_some, if_some}
 use Rattle.dp_sim_laws.specs.OwnSteps.{exchange_of}
 use Rattle.dp_sim_laws.specs.Spelled.{SaysSpelled}

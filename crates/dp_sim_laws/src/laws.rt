@@ -22,8 +22,9 @@ use dp_epochs::{
     decisions_have_effects, effects_are_made, epochs_rise, events_have_effects,
     histories_are_marked, histories_are_short, histories_grow, steps_lead_on,
 };
+use dp_keep_laws::openings_go_on;
 use dp_messages::one_equality;
-use dp_sim::{instructions_are_moves, openings_go_on, worlds_stay_worlds};
+use dp_sim::{instructions_are_moves, worlds_stay_worlds};
 use dp_snap_laws::{snapshots_are_spelled, snapshots_replay};
 
 /// After every schedule each client is where its own steps since its Welcome lead.

@@ -25,7 +25,7 @@ use Rattle.dp_replay.specs.Replay.{undo_depth, depth_in_force}
 use Rattle.dp_acl.specs.LookBack.{joined, is_join_of}
 use Rattle.dp_acl.specs.Carried.{carried}
 use Rattle.dp_acl.specs.Opening.{server_entry, command_entry, last_join, opening}
-use Rattle.dp_sim.proofs.LawDepths.{joins-none, depth-opening}
+use Rattle.dp_keep_laws.proofs.Depths.{joins-none, depth-opening}
 
 -- the message moves no strokes
 abbrev IsPlain : Msg → Type 0
