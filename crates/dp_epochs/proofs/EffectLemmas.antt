@@ -221,12 +221,11 @@ module _ (s : State) (conn : ℕ) (c : Connection) (m : Msg) (at : IsOpenAt s co
   decided-cause decision.Acknowledge is why = (said decision.Acknowledge is, why)
   decided-cause decision.Place is why = (said decision.Place is, why.0, why.1)
   decided-cause decision.Filter is why = (said decision.Filter is, why)
-  decided-cause decision.BeginReset is why =
-      (
-        why.0,
-        reset (begin_message why.0) decision.BeginReset is why.1 why.2 why.3,
-        why.4,
-      )
+  decided-cause decision.BeginReset is why = (
+    why.0,
+    reset (begin_message why.0) decision.BeginReset is why.1 why.2 why.3,
+    why.4,
+  )
   decided-cause decision.AddPart is why = (
     why.0,
     reset (msg.Part why.0) decision.AddPart is why.2 why.3 why.4.operator,
@@ -459,7 +458,8 @@ histories-go_on : (s : State) (e : Event) (effect : Effect) (k : ℕ)
     (slice_index_or (ended_after s effect ++ live_after s e effect ∷ []) k [])
 histories-go_on s e (Reopened conn c) k =
     opened-grows s.ended s.live
-    (opening (epoch_of s + 1) s.live (present_users s) (sent_commands s.stream) []) k
+    (opening (epoch_of s + 1) s.live (present_users s) (sent_commands s.stream)
+    (kept_by s.stream s.live)) k
 histories-go_on s e effect k = last-grows s.ended s.live (entries_of e effect) k
 
 -- the history of each epoch goes on

@@ -230,7 +230,8 @@ short-effect s e (Joined user next) cause n h =
 short-effect s e (Left conn c next) cause n h =
     short-grown s n h (noted s (made s e (Left conn c next))) (entries_of e (Left conn c next)) refl
     refl (entries-few e (Left conn c next)) (without-short conn s.stream h.stream)
-    (omega (arith, owner-still next, without-few conn s.stream))
+    (let still : going (entries_of e (Left conn c next)) ≡ 0 = owner-still next in
+    omega (arith, still, without-few conn s.stream))
 short-effect s e (Began conn c) cause n h =
     short-grown s n h (noted s (made s e (Began conn c))) [] refl refl (omega arith) (omega arith)
     (omega arith)
@@ -243,7 +244,8 @@ short-effect s e (Added conn c) cause n h =
     (omega (arith, added-few cause.0 s.stream)))
 short-effect s e (Dropped conn c) cause n h =
     short-grown s n h (noted s (made s e (Dropped conn c))) (entries_of e (Dropped conn c)) refl
-    refl (omega arith) tt (omega arith)
+    refl (omega arith) tt (let still : going (entries_of e (Dropped conn c)) ≡ 0 = refl in
+    omega (arith, still))
 short-effect s e (Reopened conn c) cause n h =
     let commands = sent_commands s.stream in
     let kept = kept_by s.stream s.live in
@@ -291,7 +293,7 @@ first-short = record {
   ended = All-nil (λ (history : List Entry). length history ≤ 2 * 0 + opening_limit);
   live = omega arith;
   stream = tt;
-  going = omega arith;
+  going = let none : going first_state.live ≡ 0 = refl in omega (arith, none);
   epoch = omega arith;
 }
 

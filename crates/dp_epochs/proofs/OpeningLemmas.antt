@@ -130,10 +130,11 @@ going entries = length (filter (λ entry. goes_on entry.msg) entries)
 pub going-append : (xs ys : List Entry) → going (xs ++ ys) ≡ going xs + going ys
 going-append xs ys =
     ap length (filter-append (λ (entry : Entry). goes_on entry.msg) xs ys)
-    ∙ length-append (filter (λ entry. goes_on entry.msg) xs) (filter (λ entry. goes_on entry.msg) ys)
+    ∙ length-append (filter (λ entry. goes_on entry.msg) xs)
+    (filter (λ entry. goes_on entry.msg) ys)
 
 pub going-few : (entries : List Entry) → going entries ≤ length entries
-going-few entries = length-passing (λ entry. goes_on entry.msg) entries
+going-few entries = length-passing (λ (entry : Entry). goes_on entry.msg) entries
 
 pub going-commands : (commands : List Draw) → going (map command_entry commands) ≤ length commands
 going-commands commands =
@@ -269,8 +270,8 @@ carried-bare : (history : List Entry) (present : List ℕ)
     → AreBare (filter_map (last_join history) present
     ++ map server_entry (carried history present))
 carried-bare history present =
-    bare-append (filter_map (last_join history) present) (map server_entry (carried history present))
-    (joins-bare history present) (
+    bare-append (filter_map (last_join history) present)
+    (map server_entry (carried history present)) (joins-bare history present) (
       (refl, refl),
       (refl, refl),
       (refl, refl),
@@ -299,8 +300,11 @@ pub opening-going : (epoch : ℕ) (history : List Entry) (present : List ℕ) (c
 opening-going epoch history present commands kept =
     let rights = filter_map (last_join history) present
     ++ map server_entry (carried history present) in
+    let rest : going (opening epoch history present commands kept)
+    ≡ going (rights ++ map command_entry commands ++ kept) = refl in
     omega (
       arith,
+      rest,
       going-append (rights ++ map command_entry commands) kept,
       going-append rights (map command_entry commands),
       bare-going rights (carried-bare history present),

@@ -142,6 +142,17 @@ holds-command law journal old new history parts i within said rights items h =
     (subst (λ r. StandsFor r.value (H ++ command_entry found.0 ∷ [])) (sym rights)
     (law old.rights.value H (found.0 ∷ []) h.stands)))
 
+-- with more memory an opening holds the same
+pub holds-same : (journal : List Event) (old new : Opening) (history : List Entry)
+    → new.live.items ≡ old.live.items → Holds journal old history → new.rights ≡ old.rights
+    → Holds journal new (history ++ [])
+holds-same journal old new history items h rights =
+    subst (Holds journal new) (sym (append-nil history)) (record {
+      entries = ap (map (entry_in journal)) items ∙ h.entries;
+      said = subst (All (IsIn journal)) (sym items) h.said;
+      stands = subst (λ r. StandsFor r.value history) (sym rights) h.stands;
+    })
+
 -- entries that go on, among one item more
 module _ (journal : List Event) where
   abbrev passing : List Entry → List Entry
@@ -196,7 +207,8 @@ module _ (journal : List Event) where
       → Holds journal new (history ++ passing (entry_in journal item ∷ []))
   holds-kept law old new history item copy goes same said rights items h =
       let e = entry_in journal item in
-      subst (λ es. Holds journal new (history ++ es)) (sym (cond-true (goes_on e.msg) (e ∷ []) [] goes))
+      subst (λ es. Holds journal new (history ++ es))
+      (sym (cond-true (goes_on e.msg) (e ∷ []) [] goes))
       (holds-one journal old new history copy e h items same said
       (subst (λ r. StandsFor r.value (history ++ e ∷ [])) (sym rights)
       (law old.rights.value history (e ∷ []) (goes, tt) h.stands)))

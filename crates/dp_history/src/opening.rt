@@ -124,10 +124,11 @@ impl Opening {
             (history ++ filter (λ e. goes_on e.msg) (entry_in journal.now item.now ∷ []))) }
     {
         kept_change_no_right();
-        if is_kept(journal, item) {
-            let copy = copy_of(*self.live.allocator(), item)?;
-            self.live.push(copy)?;
+        if !is_kept(journal, item) {
+            return Ok(());
         }
+        let copy = copy_of(*self.live.allocator(), item)?;
+        self.live.push(copy)?;
         Ok(())
     }
 

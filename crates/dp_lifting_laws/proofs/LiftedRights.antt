@@ -206,7 +206,7 @@ kept-lifted (Some stream) history = from stream.place
         → kept_from place (lifted_entries history) ≡ lifted_entries (kept_from place history)
     from None = refl
     from (Some at) =
-        ap (filter (λ e. goes_on e.msg)) (drop-map lifted_entry at history)
+        ap (filter (λ (e : Entry). goes_on e.msg)) (drop-map lifted_entry at history)
         ∙ passing-lifted (drop at history)
 
 -- an epoch opens after lifted entries as after the entries, lifted

@@ -1,6 +1,6 @@
 -- What a reset that is being sent may have, and how the next epoch opens.
 use Rattle.std.proofs.Common.{◌≡◌, ℕ, zero, suc, ◌+◌, ◌-◌, ◌<◌, ◌≤◌, ◌&&◌, Bool, true, false, cond}
-use Rattle.std.proofs.Common.{◌⊎◌, inl, inr, drop}
+use Rattle.std.proofs.Common.{drop, All}
 use Rattle.std.proofs.Common.{[]}
 use Rattle.std.proofs.Common.{nat_lt, nat_le, is_some, List, ◌∷◌, ◌++◌, length, map}
 use Rattle.std.proofs.Common.{Option, None, Some}
@@ -10,7 +10,9 @@ use Rattle.std.specs.List.{filter, filter_map, cons_option, range_with_len, sum_
 use Rattle.std.specs.Option.{option_map}
 use Rattle.std.proofs.lemmas.Bool.{cond_both, cases_Bool}
 use Rattle.std.proofs.lemmas.Bool.Decides.{nat_tests}
-use Rattle.std.proofs.lemmas.List.{length-map, drop-map}
+use Rattle.std.proofs.Math.Seq.{drop-length}
+use Rattle.std.proofs.lemmas.List.{length-map, drop-map, length-drop}
+use Rattle.std.proofs.lemmas.List.Elements.{All-drop}
 use Rattle.dp_msg_draw.specs.declared.draw.Draw.{Draw}
 use Rattle.dp_messages.specs.declared.message.Entry.{Entry}
 use Rattle.dp_msg_meta.specs.declared.message.Meta.{Meta}
@@ -22,11 +24,12 @@ use Rattle.dp_epochs.specs.State.{State, Stream, epoch_of, is_present, present_u
 use Rattle.dp_epochs.specs.State.{user_ids, fits_reset, part_bytes, reset_byte_limit}
 use Rattle.dp_epochs.specs.State.{sent_commands, kept_by}
 use Rattle.dp_epochs.proofs.OpeningLemmas.{kept-few, going-few}
-use Rattle.dp_history.specs.Items.{commands_in, entry_in}
+use Rattle.dp_history.specs.declared.item.HistoryItem.{HistoryItem}
+use Rattle.dp_history.specs.Items.{commands_in, entry_in, IsIn}
 use Rattle.dp_history.specs.Users.{mark}
-use Rattle.dp_tables.specs.Tables.{Seen, AreOf, stream_in}
+use Rattle.dp_tables.specs.Tables.{Seen, AreOf, start_of, stream_in}
 use Rattle.dp_history.proofs.Ranges.{filter-range_same}
-use Rattle.dp_tables.proofs.TableLemmas.{present-marked, sent-in, length-commands}
+use Rattle.dp_tables.proofs.TableLemmas.{present-marked, sent-in, length-commands, live-length}
 
 -- ---- limits
 
@@ -52,8 +55,6 @@ fits-is s t are stream command sent =
     && nat_le (n + part_bytes command) reset_byte_limit) bytes
     ∙ ap (λ b. nat_lt (length t.parts) part_limit && b)
     (sym (le-minus (part_bytes command) t.part_bytes reset_byte_limit are.reset.within))
-
--- ---- openings
 
 -- ---- the opening whole
 
@@ -189,29 +190,30 @@ module _ (s : State) (t : Seen) (are : AreOf s t) where
         ap length metas_are,
       )
 
-  -- what the reset keeps, beside the journal
-  pub kept-is : (conn at : ℕ) → t.owner ≡ Some conn → t.place ≡ Some at
-      → filter (λ e. goes_on e.msg) (map (entry_in t.journal) (drop at t.live)) ≡ kept
-  kept-is conn at owner place =
-      ap (filter (λ e. goes_on e.msg))
-      (sym (drop-map (entry_in t.journal) at t.live) ∙ ap (drop at) are.entries)
-      ∙ sym (ap (λ o. kept_by o s.live) (sym are.reset.stream
-      ∙ ap (λ o. stream_in t.journal o t.place t.parts) owner
-      ∙ ap (λ o. stream_in t.journal (Some conn) o t.parts) place))
+  abbrev passing : List HistoryItem → List Entry
+  passing items = filter (λ e. goes_on e.msg) (map (entry_in t.journal) items)
 
-  -- it keeps nothing where none is sent, or it names no place
-  pub kept-nothing : (t.owner ≡ None) ⊎ (t.place ≡ None) → kept ≡ []
-  kept-nothing (inl no_one) =
-      ap (λ o. kept_by o s.live) (sym are.reset.stream
-      ∙ ap (λ o. stream_in t.journal o t.place t.parts) no_one)
-  kept-nothing (inr nowhere) =
-      ap (λ o. kept_by o s.live) (sym are.reset.stream
-      ∙ ap (λ o. stream_in t.journal t.owner o t.parts) nowhere)
-      ∙ placeless t.owner
+  -- what the reset keeps, beside the journal
+  pub kept-is : passing (drop (start_of t.owner t.place (length t.live)) t.live) ≡ kept
+  kept-is = by_case t.owner t.place are.reset.stream
     where
-      placeless : (o : Option ℕ) → kept_by (stream_in t.journal o None t.parts) s.live ≡ []
-      placeless None = refl
-      placeless (Some conn) = refl
+      none : passing (drop (length t.live) t.live) ≡ []
+      none = ap passing (drop-length t.live)
+
+      by_case : (o p : Option ℕ) → stream_in t.journal o p t.parts ≡ s.stream
+          → passing (drop (start_of o p (length t.live)) t.live) ≡ kept_by s.stream s.live
+      by_case (Some conn) (Some at) is =
+          ap (filter (λ (e : Entry). goes_on e.msg))
+          (sym (drop-map (entry_in t.journal) at t.live) ∙ ap (drop at) are.entries)
+          ∙ ap (λ o. kept_by o s.live) is
+      by_case (Some conn) None is = none ∙ ap (λ o. kept_by o s.live) is
+      by_case None p is = none ∙ ap (λ o. kept_by o s.live) is
+
+  pub kept-said : (n : ℕ) → All (IsIn t.journal) (drop n t.live)
+  kept-said n = All-drop (IsIn t.journal) n t.live are.said
+
+  pub dropped-short : (n : ℕ) → length (drop n t.live) ≤ length s.live
+  dropped-short n = omega (arith, length-drop n t.live, live-length s t are)
 
   pub kept-short : length kept ≤ length s.live
   kept-short = omega (arith, kept-few s.stream s.live, going-few s.live)

@@ -1,6 +1,6 @@
 -- What a session keeps of a state.
 use Rattle.std.specs.Prelude.{◌≡◌, ℕ, ◌-◌, ◌<◌, ◌≤◌, ◌&&◌, ◌==◌, Bool, true, []}
-use Rattle.std.specs.Prelude.{if◌then◌else◌, Option, None}
+use Rattle.std.specs.Prelude.{if◌then◌else◌, Option, None, Some}
 use Rattle.std.specs.Prelude.{List, length, map, slice_set}
 use Rattle.std.specs.Prelude.{count_by, All}
 use Rattle.std.specs.List.{filter, range_with_len, sum_by}
@@ -18,7 +18,8 @@ use Rattle.dp_history.specs.Users.{mark, AreJoined}
 
 -- ---- a reset that is being sent
 
--- the reset that the connection, if there is one, sends by these parts, with the place that it names
+-- the reset that the connection, if there is one, sends by these parts, from the place that it names
+-- on, if it names one
 abbrev pub stream_in : List Event → Option ℕ → Option ℕ → List ℕ → Option Stream
 stream_in journal owner place parts =
     option_map (λ conn. record {
@@ -26,6 +27,12 @@ stream_in journal owner place parts =
       commands = commands_in journal parts;
       place = place;
     }) owner
+
+-- from where on a history, which ends there, is kept by the reset of the connection, if it sends one
+abbrev pub start_of : Option ℕ → Option ℕ → ℕ → ℕ
+start_of (Some conn) (Some place) end = place
+start_of (Some conn) None end = end
+start_of None place end = end
 
 -- The reset that is being sent, if one is, is the connection's with this place and these parts, and
 -- without one there are no parts. They are kept to the limits of a reset.

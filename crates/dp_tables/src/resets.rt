@@ -1,6 +1,7 @@
 //! Resets: who may send one, what becomes of its messages, and how it opens the next epoch.
 
 ghost use Rattle.std.specs.Prelude.{◌≡◌, ◌+◌, ◌≤◌, Some, false, is_some, IfOk, All, map, length};
+ghost use Rattle.std.specs.Prelude.{nat_le};
 ghost use Rattle.std.specs.List.{filter};
 ghost use Rattle.std.specs.Option.{option_map_or};
 ghost use Rattle.dp_acl.specs.Opening.{goes_on, opening, server_entry};
@@ -24,6 +25,7 @@ ghost use Rattle.dp_msg_meta.specs.declared.message.Control.TheVariants.{ResetBe
 ghost use Rattle.dp_msg_meta.specs.declared.message.Control.TheVariants.{ResetFrom};
 ghost use Rattle.dp_tables.specs.SessionLog.{state_in};
 ghost use Rattle.dp_history.specs.Items.{entry_in, IsIn};
+ghost use Rattle.dp_tables.specs.Tables.{start_of};
 ghost use Rattle.dp_history.specs.Openings.{Holds};
 
 use crate::tables::Tables;
@@ -42,6 +44,20 @@ const PART_LIMIT: usize = 262_144;
 
 /// The most bytes that the payloads of its parts have.
 const BYTE_LIMIT: u64 = 1 << 28;
+
+/// From where on a history, which ends there, is kept by the reset of the connection, if it sends
+/// one, by the place that it names.
+fn start_of(owner: Option<u32>, place: Option<u32>, end: usize) -> usize
+    ensures { result ≡ start_of owner place end }
+{
+    match owner {
+        Some(_) => match place {
+            Some(at) => at as usize,
+            None => end,
+        },
+        None => end,
+    }
+}
 
 impl Tables {
     /// Whether a connection other than this one, whose user is present and operator, sends a reset.
@@ -73,8 +89,8 @@ impl Tables {
         self.parts.len() < PART_LIMIT && size <= BYTE_LIMIT - self.part_bytes
     }
 
-    /// Whether the connection may begin a reset: its user is operator, and no other present operator
-    /// sends one.
+    /// Whether the connection may begin a reset: its user is operator, and no other present
+    /// operator sends one.
     fn may_begin(&self, conn: u32, connection: &Connection) -> bool
         ensures { result ≡ may_begin (state_in self.now) conn connection.now }
     {
@@ -93,12 +109,19 @@ impl Tables {
         }
     }
 
+    /// Whether the place is not past the live history.
+    fn is_within_live(&self, at: u32) -> bool
+        ensures { result ≡ nat_le at (length (state_in self.now).live) }
+    {
+        at as usize <= self.live.len()
+    }
+
     /// What becomes of a message that begins a reset which keeps entries from this place on.
     pub(crate) fn hear_from(&self, conn: u32, connection: &Connection, at: u32) -> Decision
         ensures { result ≡ heard (state_in self.now) conn connection.now
             (msg.Control (ResetFrom at)) }
     {
-        if self.may_begin(conn, connection) && at as usize <= self.live.len() {
+        if self.may_begin(conn, connection) && self.is_within_live(at) {
             Decision::BeginReset
         } else {
             Decision::Filter
@@ -152,10 +175,8 @@ impl Tables {
             ≡ kept_by (state_in self.now).stream (state_in self.now).live }
         ensures few { length result.now ≤ length (state_in self.now).live }
     {
-        match (self.owner, self.place) {
-            (Some(_), Some(at)) => rest_of(&self.live, at as usize),
-            _ => rest_of(&self.live, self.live.len()),
-        }
+        let from = start_of(self.owner, self.place, self.live.len());
+        rest_of(&self.live, from)
     }
 
     /// How the next epoch opens, with the commands of the reset that is being sent and what it

@@ -8,7 +8,7 @@ use Rattle.dp_history.proofs.opening.Opening.add_kept.Given as goal
 
 abbrev pub invariant-loop-item : goal.invariant-loop-item
 invariant-loop-item l = (history : List Entry)
-    → Holds l.journal l.initial.self history
+    → Holds l.journal l.fn.self history
     → Holds l.journal l.self
     (history ++ filter (λ e. goes_on e.msg)
     (map (entry_in l.journal) (take l.item-index l.items)))
