@@ -4,3 +4,5 @@ pub mod Depths
 pub mod Openings
 pub mod LeftOut
 pub mod Kept
+pub mod Cuts
+pub mod WorkedKeep

@@ -1,6 +1,8 @@
 -- Histories that may be cut at a place, and resets that keep what comes after it.
-use Rattle.std.specs.Prelude.{◌≡◌, ℕ, Some, List, ◌++◌, map, take, drop}
+use Rattle.std.specs.Prelude.{◌≡◌, ℕ, Bool, true, false, Some, List, ◌++◌, map, take, drop}
+use Rattle.std.specs.List.{AllByRecursion}
 use Rattle.dp_msg_meta.specs.declared.message.Control.TheVariants.{ResetEnd}
+use Rattle.dp_msg_meta.specs.declared.message.Meta.TheVariants.{UndoDepth}
 use Rattle.dp_messages.specs.declared.message.Msg.{Msg}
 use Rattle.dp_messages.specs.declared.message.Msg.TheVariants as msg
 use Rattle.dp_messages.specs.declared.message.Entry.{Entry}
@@ -19,6 +21,16 @@ pub record MayBeCut (place : ℕ) (history more : List Entry) : Type 0 where
   pub moves : StandAlone undo_depth (map user_act_of (take place history))
       (map user_act_of (drop place history ++ more))
   pub depths : HasNoDepth (map user_act_of (drop place history))
+
+-- the message is no undo, no redo, and sets no depth of undo
+abbrev pub undoes_nothing : Msg → Bool
+undoes_nothing (msg.Undo target redo) = false
+undoes_nothing (msg.Meta (UndoDepth depth)) = false
+undoes_nothing m = true
+
+-- each of the entries has such a message
+abbrev pub UndoNothing : List Entry → Type 0
+UndoNothing entries = AllByRecursion (λ e. undoes_nothing e.msg ≡ true) entries
 
 -- the message that ends a reset
 abbrev pub reset_end : Msg

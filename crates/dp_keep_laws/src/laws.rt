@@ -1,6 +1,6 @@
 //! Laws of the definitions. Each function does nothing but call others: its contract is the law.
 
-ghost use Rattle.std.specs.Prelude.{◌≡◌, ℕ, Some, List, [], ◌++◌, take};
+ghost use Rattle.std.specs.Prelude.{◌≡◌, ℕ, Some, List, [], ◌++◌, take, drop, length};
 ghost use Rattle.dp_acl.specs.Opening.{kept_from, opening};
 ghost use Rattle.dp_messages.specs.declared.message.Entry.{Entry};
 ghost use Rattle.dp_msg_draw.specs.declared.draw.Draw.{Draw as Command};
@@ -9,8 +9,10 @@ ghost use Rattle.dp_plain.specs.Commands.{draw, draw_all};
 ghost use Rattle.dp_replay.specs.Replay.{replay, replay_from, depth_in_force};
 ghost use Rattle.dp_epochs.specs.declared.event.Event.TheVariants.{Say};
 ghost use Rattle.dp_epochs.specs.State.{State, after_event};
+ghost use Rattle.dp_epochs.specs.Past.{state_after};
 ghost use Rattle.dp_keep_laws.specs.Suffixes.{SuffixesStandAlone, SuffixesShowAlone};
-ghost use Rattle.dp_keep_laws.specs.Keeping.{MayBeCut, EndsKeeping, reset_end};
+ghost use Rattle.dp_keep_laws.specs.Keeping.{MayBeCut, UndoNothing, EndsKeeping, reset_end};
+ghost use Rattle.dp_keep_laws.specs.Worked.{worked_journal};
 
 use dp_board::{others_do_not_count, prefixes_without_points};
 use dp_msg_draw::Draw;
@@ -62,6 +64,14 @@ pub fn kept_entries_show_the_same()
     openings_go_on();
 }
 
+/// Where from a place on nothing was undone or redone, and no depth of undo was set, a history may be
+/// cut at the place. So each history may be cut at its end.
+pub fn histories_may_be_cut()
+    ensures undone { (history more : List Entry) (place : ℕ)
+        → UndoNothing (drop place history ++ more) → MayBeCut place history more }
+    ensures end { (history : List Entry) → MayBeCut (length history) history [] }
+{}
+
 /// A reset that keeps shows the same: where the live history may be cut at the place that the reset
 /// names, and its commands draw what the history showed there, the history of the next epoch shows
 /// what the live history showed. It goes on so: with more entries it shows what the old history
@@ -76,3 +86,9 @@ pub fn keeping_shows_the_same()
 {
     kept_entries_show_the_same();
 }
+
+/// There is a session in which the end of a reset keeps, and may: that of the worked example.
+pub fn worked_reset_keeps()
+    ensures ends { EndsKeeping (state_after worked_journal []) 1 3 }
+    ensures cut { MayBeCut 3 (state_after worked_journal []).live [] }
+{}
