@@ -273,11 +273,17 @@ carried-bare history present =
     bare-append (filter_map (last_join history) present)
     (map server_entry (carried history present)) (joins-bare history present) (
       (refl, refl),
-      (refl, refl),
-      (refl, refl),
-      (refl, refl),
-      depth-bare (depth_of history) (carried_rules history)
-          (rules-bare history (numbers_below 65536)),
+      (
+        (refl, refl),
+        (
+          (refl, refl),
+          (
+            (refl, refl),
+            depth-bare (depth_of history) (carried_rules history)
+                (rules-bare history (numbers_below 65536)),
+          ),
+        ),
+      ),
     )
 
 pub opening-marked : (epoch : ℕ) (history : List Entry) (present : List ℕ) (commands : List Draw)

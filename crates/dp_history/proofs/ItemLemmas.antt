@@ -11,11 +11,13 @@ use Rattle.std.proofs.lemmas.Str.{IsUtf8-from_is_utf8, is_utf8-from_IsUtf8}
 use Rattle.std.specs.Str.{IsUtf8, is_utf8}
 use Rattle.dp_msg_draw.specs.declared.draw.Draw.{Draw}
 use Rattle.dp_msg_meta.specs.Fields.{IsText}
+use Rattle.dp_msg_meta.specs.declared.message.Meta.TheVariants.{Join}
 use Rattle.dp_messages.specs.declared.message.Entry.{Entry}
 use Rattle.dp_acl.specs.Laws.{CommandsChangeNoRight, KeptChangeNoRight}
 use Rattle.dp_acl.specs.Opening.{opening, command_entry, last_join, server_entry, goes_on}
 use Rattle.dp_acl.specs.Table.{StandsFor}
 use Rattle.dp_epochs.specs.declared.event.Event.{Event}
+use Rattle.dp_epochs.specs.declared.event.Event.TheVariants as event
 use Rattle.dp_history.specs.declared.opening.Opening.{Opening}
 use Rattle.dp_epochs.specs.State.{stays, here, entry_of, is_name, user_ids}
 use Rattle.dp_history.specs.Users.{mark}
@@ -141,6 +143,38 @@ holds-command law journal old new history parts i within said rights items h =
     (holds-one journal old new H (item.Command part) (command_entry found.0) h items entry some
     (subst (λ r. StandsFor r.value (H ++ command_entry found.0 ∷ [])) (sym rights)
     (law old.rights.value H (found.0 ∷ []) h.stands)))
+
+-- the entry of a part goes on
+command-goes : (o : Option Draw)
+    → true ≡ goes_on (option_map_or command_entry o (entry_of 0 msg.Point)).msg
+command-goes None = refl
+command-goes (Some command) = refl
+
+pub part-goes : (journal : List Event) (i : HistoryItem) (k : ℕ) → i ≡ item.Command k
+    → true ≡ goes_on (entry_in journal i).msg
+part-goes journal i k is =
+    subst (λ x. true ≡ goes_on (entry_in journal x).msg) (sym is)
+    (command-goes (part_of (slice_get journal k)))
+
+-- and a Join doesn't
+named-stays : (e d : Entry) → goes_on e.msg ≡ false → (b : Bool)
+    → is_some (if b then Some e else None) ≡ true
+    → false ≡ goes_on (unwrap_or (if b then Some e else None) d).msg
+named-stays e d stays true some = sym stays
+named-stays e d stays false some = cc
+
+join-stays : (user : ℕ) (o : Option Event) → is_some (join_of user o) ≡ true
+    → false ≡ goes_on (unwrap_or (join_of user o) (entry_of user msg.Point)).msg
+join-stays user (Some (event.Open name registered)) some =
+    named-stays (entry_of user (msg.Meta (Join registered name))) (entry_of user msg.Point) refl
+    (is_name name) some
+join-stays user o some = cc
+
+pub joined-stays : (journal : List Event) (i : HistoryItem) (k user : ℕ) → i ≡ item.Joined k user
+    → IsIn journal i → false ≡ goes_on (entry_in journal i).msg
+joined-stays journal i k user is said =
+    subst (λ x. false ≡ goes_on (entry_in journal x).msg) (sym is)
+    (join-stays user (slice_get journal k) (subst (IsIn journal) is said))
 
 -- with more memory an opening holds the same
 pub holds-same : (journal : List Event) (old new : Opening) (history : List Entry)

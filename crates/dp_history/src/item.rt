@@ -163,6 +163,13 @@ pub fn count_kept(journal: &[Event], items: &[HistoryItem]) -> usize
     count
 }
 
+/// A copy of the entry, in a box.
+fn boxed_copy(alloc: Global, entry: &Entry) -> Result<Box<Entry>, AllocError>
+    ensures { IfOk result (λ copy. copy.value ≡ entry.now) }
+{
+    Box::new(alloc, entry.copy()?)
+}
+
 /// The item once more. A message is copied only where it is the server's own.
 pub(crate) fn copy_of(alloc: Global, item: &HistoryItem) -> Result<HistoryItem, AllocError>
     ensures same { IfOk result (λ copy. (journal : List Kept)
@@ -180,7 +187,7 @@ pub(crate) fn copy_of(alloc: Global, item: &HistoryItem) -> Result<HistoryItem, 
             user: *user,
         },
         HistoryItem::Command { event } => HistoryItem::Command { event: *event },
-        HistoryItem::Server(entry) => HistoryItem::Server(Box::new(alloc, entry.copy()?)?),
+        HistoryItem::Server(entry) => HistoryItem::Server(boxed_copy(alloc, entry)?),
     })
 }
 
