@@ -13,7 +13,7 @@ use Rattle.std.proofs.lemmas.List.{append-nil, length-append, length-map}
 use Rattle.std.proofs.lemmas.List.Folds.{flat_map-map}
 use Rattle.dp_client.specs.declared.client.Taken.{Taken}
 use Rattle.dp_board.specs.Counts.{CountsFew}
-use Rattle.dp_client.specs.Client.{State, said, taken_of, took}
+use Rattle.dp_client.specs.Client.{State, confirmed, said, taken_of, took}
 use Rattle.dp_client.specs.Due.{canvas_due, said_due}
 use Rattle.dp_msg_draw.specs.declared.draw.Draw.{Draw}
 use Rattle.dp_msg_meta.specs.declared.message.Control.TheVariants as control
@@ -32,8 +32,10 @@ use Rattle.dp_joining.specs.declared.stops.JoinStop.TheVariants.{WriteFault, Lin
 use Rattle.dp_joining.specs.declared.stops.JoinStop.TheVariants.{NoEntry}
 use Rattle.dp_joining.specs.declared.chats.ChatLine.{ChatLine}
 use Rattle.dp_joining.specs.Joining.{Joining, ack_bytes, chat_by, chat_limit, printed, reset_by}
-use Rattle.dp_joining.specs.Joining.{reset_of, said_by, sent_by, sent_text, took_entry}
-use Rattle.dp_snap.specs.Resets.{reset_messages}
+use Rattle.dp_joining.specs.Joining.{said_by, sent_by, sent_text, took_entry}
+use Rattle.dp_snap.specs.Resets.{reset_begin, reset_messages}
+use Rattle.dp_snap.specs.Snapshot.{snapshot}
+use Rattle.dp_showing.specs.Resets.{client_reset}
 use Rattle.dp_joining.specs.Steps.{Began, DrawsFew, FaultMatchesPrinting, FaultMatchesReading}
 use Rattle.dp_joining.specs.Steps.{FaultMatchesStop, FaultMatchesWriting, counters_at}
 use Rattle.dp_joining.specs.Steps.{Fails, IsFaultless, IsNoEntry, Moves, Seen, Stands, Stops, Wrote}
@@ -338,18 +340,18 @@ takes_leads old now e leads keeps j client chats = record {
 
 -- it sends its canvas
 pub resets_adds : (keeps : Bool) (old : Seen) (user count : ℕ) (messages : List Msg)
-    → user ≡ old.client.user → count ≡ length messages → messages ≡ reset_of keeps old.client
+    → user ≡ old.client.user → count ≡ length messages → messages ≡ client_reset keeps old.client
     → AddsTo old (λ j. reset_by keeps j)
     (sent_text count) (flat_map (sent_by user) messages) []
 resets_adds keeps old user count messages is many all j client chats = record {
   text =
-      ap (λ (s : State). j.text ++ sent_text (length (reset_of keeps s)))
+      ap (λ (s : State). j.text ++ sent_text (length (client_reset keeps s)))
       (sym client)
       ∙ ap (λ (ms : List Msg). j.text ++ sent_text (length ms)) (sym all)
       ∙ ap (λ (n : ℕ). j.text ++ sent_text n) (sym many);
   written =
       ap (λ (s : State). j.written
-      ++ flat_map (sent_by s.user) (reset_of keeps s)) (sym client)
+      ++ flat_map (sent_by s.user) (client_reset keeps s)) (sym client)
       ∙ ap (λ (ms : List Msg). j.written ++ flat_map (sent_by old.client.user) ms) (sym all)
       ∙ ap (λ (u : ℕ). j.written ++ flat_map (sent_by u) messages) (sym is);
   due = sym (append-nil j.due);
@@ -377,6 +379,14 @@ pub prints_leads : (old now : Seen) (text : State → List ChatLine → List ℕ
     → LeadsTo old now (λ j. printed j (text j.client j.chats))
 prints_leads old now text same kept j client chats =
     record { client = same ∙ client; chats = kept ∙ chats }
+
+-- the messages of the client's reset
+pub resets_are : (keeps : Bool) (client : State) (begin : Msg) (commands : List Draw)
+    → begin ≡ reset_begin keeps (length client.taken) → commands ≡ snapshot (confirmed client)
+    → reset_messages begin commands ≡ client_reset keeps client
+resets_are keeps client begin commands begins is =
+    ap (λ (m : Msg). reset_messages m commands) begins
+    ∙ ap (reset_messages (reset_begin keeps (length client.taken))) is
 
 -- the messages of a reset
 pub reset_length : (begin : Msg) (commands : List Draw)

@@ -15,17 +15,16 @@ use Rattle.dp_messages.specs.declared.message.Msg.{Msg}
 use Rattle.dp_messages.specs.declared.message.Msg.TheVariants as msg
 use Rattle.dp_messages.specs.Messages.{entry_bytes}
 use Rattle.dp_messages.specs.Properties.{is_disconnect}
-use Rattle.dp_snap.specs.Resets.{reset_begin, reset_messages}
-use Rattle.dp_snap.specs.Snapshot.{snapshot}
 use Rattle.dp_schedule.specs.declared.join_action.JoinAction.{JoinAction}
 use Rattle.dp_schedule.specs.declared.join_action.JoinAction.TheVariants.{Say, Take, View}
 use Rattle.dp_schedule.specs.declared.join_action.JoinAction.TheVariants.{Confirmed, Snapshot}
 use Rattle.dp_schedule.specs.declared.join_action.JoinAction.TheVariants.{Reset, Chat}
 use Rattle.dp_schedule.specs.declared.report_line.ReportLine.TheVariants.{Said, Took}
 use Rattle.dp_schedule.specs.ReportText.{text_of}
-use Rattle.dp_client.specs.Client.{State, confirmed, said, taken_of, took, welcomed}
+use Rattle.dp_client.specs.Client.{State, said, taken_of, took, welcomed}
 use Rattle.dp_client.specs.Due.{canvas_due, said_due}
 use Rattle.dp_showing.specs.declared.showing.Shown.TheVariants as shown
+use Rattle.dp_showing.specs.Resets.{client_reset}
 use Rattle.dp_showing.specs.Showing.{shown_text}
 use Rattle.dp_joining.specs.declared.chats.ChatLine.{ChatLine}
 use Rattle.dp_joining.specs.JoinStanding.{is_ping}
@@ -112,16 +111,11 @@ took_entry j entry =
 abbrev pub printed : Joining → List ℕ → Joining
 printed j text = record j { text = j.text ++ text }
 
--- the reset to its confirmed canvas, one that keeps what comes after what it has taken or not
-abbrev pub reset_of : Bool → State → List Msg
-reset_of keeps client =
-    reset_messages (reset_begin keeps (length client.taken)) (snapshot (confirmed client))
-
--- that reset goes out
+-- its reset goes out, one that keeps or not
 abbrev pub reset_by : Bool → Joining → Joining
 reset_by keeps j = record j {
-  text = j.text ++ sent_text (length (reset_of keeps j.client));
-  written = j.written ++ flat_map (sent_by j.client.user) (reset_of keeps j.client);
+  text = j.text ++ sent_text (length (client_reset keeps j.client));
+  written = j.written ++ flat_map (sent_by j.client.user) (client_reset keeps j.client);
 }
 
 -- it says a message

@@ -255,7 +255,7 @@ impl<R: Source, S: Sink> Joiner<R, S> {
         print_shown(self.alloc, &self.client, shown, output)
     }
 
-    /// Sends the confirmed canvas as a reset, one that keeps what comes after what was taken or not.
+    /// Sends the confirmed canvas as a reset, one that keeps what comes after that or not.
     fn reset<O: Sink>(&mut self, keeps: bool, output: &mut O) -> Result<(), JoinStop>
         requires { length self.old.client.taken < 2 ^ 32 }
         ensures ok { (draws tiles : ℕ) → OnOk result (Moves
@@ -275,9 +275,9 @@ impl<R: Source, S: Sink> Joiner<R, S> {
         ensures rx { self.new.rx ≡ self.old.rx }
     {
         let user = self.client.user();
-        let begin = reset_begin(keeps, self.client.taken().len() as u32);
         let commands = snapshot(self.alloc, self.client.confirmed())?;
         let commands = commands.as_slice();
+        let begin = reset_begin(keeps, self.client.taken().len() as u32);
         send_reset(self.alloc, user, begin, commands, &mut self.tx)?;
         print_sent(self.alloc, commands.len() + 2, output)
     }

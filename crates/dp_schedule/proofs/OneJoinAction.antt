@@ -17,7 +17,8 @@ use Rattle.dp_schedule.proofs.OneAction.{OneNumber, OneMessage, one_spelled}
 alone_by : ℕ → ℕ → JoinAction
 alone_by first second =
     if first == 118 then View else (if first == 114 then Reset false else
-    (if first == 107 then Reset true else (if first == 115 then Snapshot else (if second == 111 then Confirmed else Chat))))
+    (if first == 107 then Reset true else (if first == 115 then Snapshot else
+    (if second == 111 then Confirmed else Chat))))
 
 abbrev alone : List ℕ → JoinAction
 alone word = alone_by (get_or word 0 0) (get_or word 1 0)

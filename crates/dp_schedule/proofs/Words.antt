@@ -64,7 +64,8 @@ third_spells first second third (Act client Up) (tail, names, ends) = let parts 
     absurd (cc (parts, ends))
 third_spells first second third (Act client Take) (tail, names, ends) = let parts = names.parts in
     absurd (cc (parts, ends))
-third_spells first second third (Act client (Reset keeps)) (tail, names, ends) = let parts = names.parts in
+third_spells first second third (Act client (Reset keeps)) (tail, names, ends) =
+    let parts = names.parts in
     absurd (cc (parts, ends))
 third_spells first second third (Act client Leave) (tail, names, ends) = let parts = names.parts in
     absurd (cc (parts, ends))

@@ -14,9 +14,7 @@ pub enum Instruction {
     Take,
     /// A reset to its confirmed canvas joins its uplink: one that keeps what comes after the
     /// entries that it has taken, or one that doesn't.
-    Reset {
-        keeps: bool,
-    },
+    Reset { keeps: bool },
     /// It leaves: a Disconnect joins its uplink.
     Leave,
     /// Its uplink is lost, and its connection closed.

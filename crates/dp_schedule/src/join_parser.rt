@@ -5,7 +5,7 @@ ghost use Rattle.dp_schedule.specs.declared.join_action.JoinAction.{JoinAction a
 ghost use Rattle.dp_schedule.specs.JoinGrammar.{Asks, WordsAsk};
 
 use crate::join_action::JoinAction;
-use crate::parser::{message_of, word_of};
+use crate::parser::{message_of, reset_of, word_of};
 use dp_lines::number;
 use std::alloc::{AllocError, Global};
 
@@ -34,16 +34,15 @@ fn read_one(word: &[u8]) -> Option<JoinAction>
     ensures some { IfSome result (WordsAsk (word.now ∷ [])) }
     ensures none { IfNone result ((action : Asked) → ¬ WordsAsk (word.now ∷ []) action) }
 {
+    if let Some(keeps) = reset_of(word) {
+        return Some(JoinAction::Reset { keeps });
+    }
     if word == b"view".as_slice() {
         Some(JoinAction::View)
     } else if word == b"conf".as_slice() {
         Some(JoinAction::Confirmed)
     } else if word == b"snap".as_slice() {
         Some(JoinAction::Snapshot)
-    } else if word == b"reset".as_slice() {
-        Some(JoinAction::Reset { keeps: false })
-    } else if word == b"keep".as_slice() {
-        Some(JoinAction::Reset { keeps: true })
     } else if word == b"chat".as_slice() {
         Some(JoinAction::Chat)
     } else {

@@ -10,6 +10,7 @@ ghost use Rattle.dp_schedule.specs.declared.action.Instruction.{Instruction as D
 ghost use Rattle.dp_schedule.specs.declared.action.CanvasKind.{CanvasKind as Canvas};
 ghost use Rattle.dp_schedule.specs.LineGrammar.{Parses, WordsParse, EndsIn, MaySay, HexSpells};
 ghost use Rattle.dp_schedule.specs.LineGrammar.{instruction_word, join_word, canvas_word};
+ghost use Rattle.dp_schedule.specs.LineGrammar.{reset_word};
 
 use crate::action::{Action, CanvasKind, Instruction};
 use dp_frame::Octets;
@@ -136,6 +137,20 @@ fn canvas_kind_of(word: &[u8]) -> Option<CanvasKind>
     }
 }
 
+/// Whether the reset that this word asks for keeps what comes after what was taken.
+pub(crate) fn reset_of(word: &[u8]) -> Option<bool>
+    ensures some { IfSome result (λ keeps. word.now ≡ reset_word keeps) }
+    ensures none { IfNone result ((keeps : Bool) → word.now ≢ reset_word keeps) }
+{
+    if word == b"reset".as_slice() {
+        Some(false)
+    } else if word == b"keep".as_slice() {
+        Some(true)
+    } else {
+        None
+    }
+}
+
 /// The instruction that this word names, with no word after the client's number.
 fn instruction_of(word: &[u8]) -> Option<Instruction>
     ensures some { IfSome result (λ instruction. (word.now ≡ instruction_word instruction)
@@ -143,14 +158,13 @@ fn instruction_of(word: &[u8]) -> Option<Instruction>
     ensures none { IfNone result ((instruction : Done) → EndsIn instruction []
         → word.now ≢ instruction_word instruction) }
 {
+    if let Some(keeps) = reset_of(word) {
+        return Some(Instruction::Reset { keeps });
+    }
     if word == b"up".as_slice() {
         Some(Instruction::Up)
     } else if word == b"take".as_slice() {
         Some(Instruction::Take)
-    } else if word == b"reset".as_slice() {
-        Some(Instruction::Reset { keeps: false })
-    } else if word == b"keep".as_slice() {
-        Some(Instruction::Reset { keeps: true })
     } else if word == b"leave".as_slice() {
         Some(Instruction::Leave)
     } else if word == b"cut".as_slice() {

@@ -13,7 +13,8 @@ use Rattle.dp_schedule.specs.declared.action.Instruction.TheVariants.{Leave, Cut
 use Rattle.dp_sim.specs.declared.participant.LinkState.{LinkState}
 use Rattle.dp_sim.specs.declared.participant.LinkState.TheVariants.{Connected, Leaving, Closed}
 use Rattle.dp_sim.specs.Exchanges.{Exchange, is_gone, disconnected, heard, uplink_sent, next_entry}
-use Rattle.dp_sim.specs.Exchanges.{took_next, reset_of, done}
+use Rattle.dp_sim.specs.Exchanges.{took_next, done}
+use Rattle.dp_showing.specs.Resets.{client_reset}
 use Rattle.dp_sim.specs.Invariant.{is_closed}
 use Rattle.dp_sim.specs.Moves.{Queued, Parting, Rests, SendsFirst}
 use Rattle.dp_sim.specs.Moves.{TakesNext, Closes, link_after, first_sent, done_move, Makes}
@@ -79,7 +80,7 @@ module _ (t : Exchange) where
   done-moved (Reset keeps) here =
       let on = connected t.participant.link (Reset keeps) refl here in
       let fork = t.participant.state.fork in
-      let more = reset_of keeps t.participant in
+      let more = client_reset keeps t.participant.state in
       record {
         made = ap (λ ms. with_more ms more t.participant.link) (sym (append-nil fork))
             ∙ ap (with_more (fork ++ []) more) on;

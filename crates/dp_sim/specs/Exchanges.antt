@@ -16,8 +16,7 @@ use Rattle.dp_epochs.specs.Past.{Past, state_of, sure_answer, sure_step}
 use Rattle.dp_schedule.specs.declared.action.Instruction.{Instruction}
 use Rattle.dp_schedule.specs.declared.action.Instruction.TheVariants.{Say, Up, Take, Reset}
 use Rattle.dp_schedule.specs.declared.action.Instruction.TheVariants.{Leave, Cut}
-use Rattle.dp_snap.specs.Snapshot.{snapshot}
-use Rattle.dp_snap.specs.Resets.{reset_begin, reset_messages}
+use Rattle.dp_showing.specs.Resets.{client_reset}
 use Rattle.dp_schedule.specs.declared.report_line.ReportLine.{ReportLine}
 use Rattle.dp_schedule.specs.declared.report_line.ReportLine.TheVariants as report
 use Rattle.dp_sim.specs.declared.participant.LinkState.{LinkState}
@@ -145,12 +144,6 @@ abbrev pub next_taken_line : Exchange → Option Entry → ReportLine
 next_taken_line t None = report.Nothing
 next_taken_line t (Some entry) = took_line (client.taken_of t.participant.state entry)
 
--- the reset to what the client has taken, one that keeps what comes after that or not
-abbrev pub reset_of : Bool → Participant → List Msg
-reset_of keeps participant =
-    reset_messages (reset_begin keeps (length participant.state.taken))
-    (snapshot (client.confirmed participant.state))
-
 -- the client with messages that join its uplink
 abbrev pub with_sent : Participant → List Msg → Participant
 with_sent participant messages =
@@ -168,7 +161,7 @@ done t (Say m) = record t {
 done t Up = uplink_sent t t.participant.uplink
 done t Take = took_next t (next_entry t)
 done t (Reset keeps) =
-    record t { participant = with_sent t.participant (reset_of keeps t.participant) }
+    record t { participant = with_sent t.participant (client_reset keeps t.participant.state) }
 done t Leave = record t {
   participant = record t.participant {
     uplink = t.participant.uplink ++ msg.Control (Disconnect 0) ∷ [];
@@ -182,7 +175,7 @@ abbrev pub performed_line : Exchange → Instruction → ReportLine
 performed_line t (Say m) = report.Said (length t.participant.state.fork + 1)
 performed_line t Up = up_line t t.participant.uplink
 performed_line t Take = next_taken_line t (next_entry t)
-performed_line t (Reset keeps) = report.Sent (length (reset_of keeps t.participant))
+performed_line t (Reset keeps) = report.Sent (length (client_reset keeps t.participant.state))
 performed_line t Leave = report.Leaving
 performed_line t Cut = cut_line (sure_answer t.past (event.Close t.participant.conn))
 

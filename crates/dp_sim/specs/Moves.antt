@@ -15,7 +15,8 @@ use Rattle.dp_schedule.specs.declared.action.Instruction.TheVariants.{Leave, Cut
 use Rattle.dp_sim.specs.declared.participant.LinkState.{LinkState}
 use Rattle.dp_sim.specs.declared.participant.LinkState.TheVariants.{Connected, Leaving, Closed}
 use Rattle.dp_sim.specs.Exchanges.{Participant, Exchange, is_gone, heard, next_entry, took_next}
-use Rattle.dp_sim.specs.Exchanges.{reset_of, exchanged}
+use Rattle.dp_sim.specs.Exchanges.{exchanged}
+use Rattle.dp_showing.specs.Resets.{client_reset}
 use Rattle.dp_sim.specs.Invariant.{is_closed}
 
 -- What joins an uplink: a message that the client says, a reset to what it has taken, one that
@@ -40,7 +41,7 @@ pub data Move : Type 0 where
 -- the messages that join the uplink
 abbrev pub queued_messages : Participant → Queued → List Msg
 queued_messages participant (Saying m) = m ∷ []
-queued_messages participant (Resetting keeps) = reset_of keeps participant
+queued_messages participant (Resetting keeps) = client_reset keeps participant.state
 queued_messages participant Parting = msg.Control (Disconnect 0) ∷ []
 
 -- those of them that join the fork

@@ -24,10 +24,10 @@ ghost use Rattle.dp_sim.specs.Exchanges.{
   next_taken_line,
   exchanged,
   exchange_line,
-  reset_of,
   with_sent,
 };
 ghost use Rattle.dp_pixels.specs.Feet.{reach};
+ghost use Rattle.dp_showing.specs.Resets.{client_reset};
 ghost use Rattle.dp_snap.specs.Resets.{reset_messages};
 ghost use Rattle.dp_sim.specs.Due.{exchange_due, next_due};
 ghost use Rattle.dp_sim.specs.World.{new_participant};
@@ -272,11 +272,12 @@ impl Participant {
     fn reset(&mut self, alloc: Global, keeps: bool) -> Result<ReportLine, AllocError>
         requires { length self.old.state.taken < 2 ^ 32 }
         ensures line { IfOk result (λ line. line
-            ≡ report.Sent (length (reset_of keeps self.old))) }
-        ensures ok { OnOk result (self.new ≡ with_sent self.old (reset_of keeps self.old)) }
+            ≡ report.Sent (length (client_reset keeps self.old.state))) }
+        ensures ok { OnOk result
+            (self.new ≡ with_sent self.old (client_reset keeps self.old.state)) }
     {
-        let begin = reset_begin(keeps, self.client.taken().len() as u32);
         let commands = snapshot(alloc, self.client.confirmed())?;
+        let begin = reset_begin(keeps, self.client.taken().len() as u32);
         self.send_reset(begin, commands.as_slice())
     }
 

@@ -10,6 +10,7 @@ use Rattle.std.specs.List.{slice_get, AllByRecursion}
 use Rattle.std.proofs.lemmas.Bool.{cases_Bool, cases_eq, ne_eqb}
 use Rattle.std.proofs.lemmas.List.{drop-append-le}
 use Rattle.dp_msg_meta.specs.declared.message.Control.TheVariants.{Disconnect, Ack}
+use Rattle.dp_showing.specs.Resets.{client_reset}
 use Rattle.dp_snap.specs.Snapshot.{snapshot}
 use Rattle.dp_messages.specs.declared.message.Msg.{Msg}
 use Rattle.dp_messages.specs.declared.message.Msg.TheVariants as msg
@@ -32,7 +33,7 @@ use Rattle.dp_epochs.specs.Laws.{ShutBefore}
 use Rattle.dp_schedule.specs.declared.action.Instruction.{Instruction}
 use Rattle.dp_sim.specs.declared.participant.LinkState.TheVariants.{Connected, Leaving, Closed}
 use Rattle.dp_sim.specs.Exchanges.{Participant, Exchange, heard, next_entry, acks, took_next}
-use Rattle.dp_sim.specs.Exchanges.{reset_of, exchanged}
+use Rattle.dp_sim.specs.Exchanges.{exchanged}
 use Rattle.dp_sim.specs.Invariant.{IsParticipant, IsSayable, is_closed}
 use Rattle.dp_sim.specs.Moves.{Queued, Saying, Resetting, Parting, Move, Rests, Queues, SendsFirst}
 use Rattle.dp_sim.specs.Moves.{TakesNext, Closes, queued_messages, forked_messages, link_after}
@@ -495,7 +496,7 @@ may-queue p instruction (Saying m) by may =
       hears = λ epoch ready still hears. hears-push epoch ready p.uplink m hears send.2;
     }
 may-queue p instruction (Resetting keeps) by may =
-    let more = reset_of keeps p in
+    let more = client_reset keeps p.state in
     let all = reset-messages keeps (length p.state.taken) (snapshot (client.confirmed p.state)) in
     record {
       stands = all-reset (MayStand p.state.epoch) more (λ m of. of.stands p.state.epoch) all;

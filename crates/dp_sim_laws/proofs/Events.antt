@@ -40,11 +40,11 @@ use Rattle.dp_epochs.specs.State.{is_present, user_ids, free_id, new_connection,
 use Rattle.dp_epochs.specs.Connections.{is_open}
 use Rattle.dp_epochs.specs.State.{open_in, open_connection, has_acknowledged}
 use Rattle.dp_epochs.specs.State.{judged, heard, decided, fits_reset}
-use Rattle.dp_epochs.specs.State.{part_decided, may_begin, reset_of, sent_commands}
+use Rattle.dp_epochs.specs.State.{part_decided, may_begin, reset_of, sent_commands, kept_by}
 use Rattle.dp_epochs.specs.Effects.{own_message, made, entries_of, ended_after, live_after}
 use Rattle.dp_epochs.specs.Effects.{connections_after, answer_of, IsStill, IsSaid}
 use Rattle.dp_epochs.specs.Effects.{IsEffect, effect_by, EventsHaveEffects, EffectsAreMade}
-use Rattle.dp_epochs.specs.Effects.{DecisionsHaveEffects}
+use Rattle.dp_epochs.specs.Effects.{DecisionsHaveEffects, begin_message}
 use Rattle.dp_epochs.specs.Rows.{has_room}
 use Rattle.dp_epochs.specs.Past.{Past, state_of, kept, refused, answer_to, sure_step, sure_answer}
 use Rattle.dp_epochs.specs.Laws.{ShutBefore, AreHistories}
@@ -203,13 +203,14 @@ unheard-more user (x ∷ live) more h none =
           ∙ append-nil (answers_from user at 0 (x ∷ live)) ∙ h.none;
     }
 
+-- what is carried into an epoch answers nobody, what was kept of a user's own among it
 unheard-opening : (user epoch : ℕ) (history : List Entry) (present : List ℕ) (commands : List Draw)
-    → Unheard user (opening epoch history present commands [])
-unheard-opening user epoch history present commands =
-    let rest = carried_entries history present commands [] in
+    (kept : List Entry) → Unheard user (opening epoch history present commands kept)
+unheard-opening user epoch history present commands kept =
+    let rest = carried_entries history present commands kept in
     record {
       base = omega arith;
-      none = answers-before user (length rest) 0 (opening epoch history present commands [])
+      none = answers-before user (length rest) 0 (opening epoch history present commands kept)
           (omega arith);
     }
 
@@ -383,6 +384,11 @@ module _ (s : State) (conn : ℕ) (c : Connection) where
       asked-is m (heard s conn c m) refl
       (cond_both (is_some (reset_of s conn c)) decision.OpenEpoch decision.Filter (IsOf s c m)
       (λ yes. tt) (λ no. tt))
+  decided-is (msg.Control (control.ResetFrom at)) =
+      let m = msg.Control (control.ResetFrom at) in
+      asked-is m (heard s conn c m) refl
+      (cond_both (may_begin s conn c && nat_le at (length s.live)) decision.BeginReset
+      decision.Filter (IsOf s c m) (λ yes. tt) (λ no. tt))
   decided-is (msg.Control m) = asked-is (msg.Control m) decision.Filter refl tt
   decided-is (msg.Part command) =
       asked-is (msg.Part command) (part_decided command (reset_of s conn c)) refl
@@ -393,6 +399,11 @@ module _ (s : State) (conn : ℕ) (c : Connection) where
       (λ may. refl) (λ no. tt))
 
 -- ---- what a decision makes of the connection
+
+-- what begins a reset is no send
+begin-mute : (place : Option ℕ) → is_send (begin_message place) ≡ false
+begin-mute None = refl
+begin-mute (Some at) = refl
 
 module _ (s : State) (conn : ℕ) (c : Connection) (m : Msg)
     (found : open_connection s conn ≡ Some c) where
@@ -496,7 +507,7 @@ module _ (s : State) (conn : ℕ) (c : Connection) (m : Msg)
     later = λ less. (
       refl,
       λ user. unheard-opening user (epoch_of s + 1) s.live (present_users s)
-          (sent_commands s.stream),
+          (sent_commands s.stream) (kept_by s.stream s.live),
     );
   }
 
@@ -517,8 +528,8 @@ module _ (s : State) (conn : ℕ) (c : Connection) (m : Msg)
       (λ (other : is_send m ≡ false). hears-mute cause.1 other u refl refl refl)
       (cases_Bool (is_send m))
   hears-decision decision.BeginReset high is cause =
-      hears-noted cause.acknowledged (ap is_send cause.is) (by_decision decision.BeginReset) refl
-      refl refl
+      hears-noted cause.1.acknowledged (ap is_send cause.1.is ∙ begin-mute cause.0)
+      (by_decision decision.BeginReset) refl refl refl
   hears-decision decision.AddPart high is cause =
       hears-noted cause.1.acknowledged (ap is_send cause.1.is) (by_decision decision.AddPart) refl
       refl refl
@@ -696,6 +707,7 @@ effect-later : (s : State) (e : Event) (effect : Effect)
     → (user : ℕ) → Unheard user (live_after s e effect)
 effect-later s e (Reopened conn c) less user =
     unheard-opening user (epoch_of s + 1) s.live (present_users s) (sent_commands s.stream)
+    (kept_by s.stream s.live)
 effect-later s e effect less user = absurd (omega (arith, less))
 
 effect-epochs : (s : State) (effect : Effect) → epoch_of s ≤ length (ended_after s effect)

@@ -1,17 +1,17 @@
 -- In a session in which what is said has a spelling, so has each entry of each epoch.
 use Rattle.std.proofs.Common.{◌≡◌, ℕ, zero, suc, ◌+◌, ◌^◌, ◌<◌, ◌≤◌, ◌==◌, Bool, true, false}
 use Rattle.std.proofs.Common.{nat_lt, not, ◌&&◌, if◌then◌else◌, List, [], ◌∷◌, ◌++◌, length}
-use Rattle.std.proofs.Common.{map, fold}
+use Rattle.std.proofs.Common.{map, fold, drop}
 use Rattle.std.proofs.Common.{Option, None, Some, refl, sym, ap, subst, ◌∙◌, ⊎_elim, arith}
 use Rattle.std.specs.Prelude.{All, nat_le}
 use Rattle.std.specs.List.{find, filter, list_any, sum_by, range_with_len}
-use Rattle.std.specs.Option.{option_map}
+use Rattle.std.specs.Option.{option_map, option_map_or}
 use Rattle.std.specs.Str.{is_utf8}
 use Rattle.std.proofs.lemmas.Bool.{cond_both, cases_Bool, cases_lt, and_parts, ltb-true, leb-true}
 use Rattle.std.proofs.lemmas.Str.{IsUtf8-from_is_utf8}
 use Rattle.std.proofs.lemmas.List.{length-append, get_or_past}
 use Rattle.std.proofs.lemmas.List.Elements.{All-nil, All-cons, All-head, All-tail, All-append}
-use Rattle.std.proofs.lemmas.List.Elements.{All-push}
+use Rattle.std.proofs.lemmas.List.Elements.{All-push, All-weaker, All-filter, All-drop}
 use Rattle.std.proofs.lemmas.List.Sums.{fold-append}
 use Rattle.dp_msg_draw.specs.declared.draw.Draw.{Draw}
 use Rattle.dp_msg_draw.specs.declared.draw.Draw.TheVariants as draws
@@ -25,14 +25,14 @@ use Rattle.dp_messages.specs.declared.message.Msg.{Msg}
 use Rattle.dp_messages.specs.declared.message.Msg.TheVariants as msg
 use Rattle.dp_messages.specs.declared.message.Entry.{Entry}
 use Rattle.dp_messages.specs.Messages.{HasSpelling, kind_of}
-use Rattle.dp_acl.specs.Opening.{server_entry, part_limit}
+use Rattle.dp_acl.specs.Opening.{server_entry, goes_on, kept_from, part_limit, opening_limit}
 use Rattle.dp_acl.specs.Laws.{SpelledIdsAreInOrder}
 use Rattle.dp_epochs.specs.declared.connection.Ending.TheVariants as ending
 use Rattle.dp_epochs.specs.declared.event.Event.{Event}
 use Rattle.dp_epochs.specs.declared.event.ShutAt.{ShutAt}
 use Rattle.dp_epochs.specs.State.{State, Stream, first_state, noted, after_event, after_shut}
 use Rattle.dp_epochs.specs.State.{epoch_of, history_of, entry_of, is_name}
-use Rattle.dp_epochs.specs.State.{user_ids, is_present}
+use Rattle.dp_epochs.specs.State.{user_ids, is_present, kept_by}
 use Rattle.dp_epochs.specs.State.{next_owner, left, stream_without, sent_commands, part_bytes}
 use Rattle.dp_epochs.specs.State.{reset_byte_limit, with_part, present_users}
 use Rattle.dp_epochs.specs.State.{open_connection, with_connection}
@@ -43,9 +43,12 @@ use Rattle.dp_epochs.specs.Effects.{own_message, made, entries_of, ended_after, 
 use Rattle.dp_epochs.specs.Effects.{stream_after, IsEffect, EventsHaveEffects}
 use Rattle.dp_epochs.specs.Rows.{event_limit}
 use Rattle.dp_epochs.specs.Past.{Past, Journalled, RefusedClose, shut_at, interleaved}
-use Rattle.dp_epochs.specs.Past.{after_item, state_of}
+use Rattle.dp_epochs.specs.Past.{after_item, state_of, kept, refused}
+use Rattle.dp_epochs.specs.Laws.{ShutBefore, shut_by}
 use Rattle.dp_epochs.proofs.OpeningLemmas.{opening-short, present-few, present-rise}
+use Rattle.dp_epochs.proofs.OpeningLemmas.{kept-few, going-few}
 use Rattle.dp_lists.proofs.Options.{option_both}
+use Rattle.dp_sim.proofs.Marks.{live-is}
 use Rattle.dp_sim_laws.specs.Spelled.{AreSpelledEntries, IsSpelledEvent}
 use Rattle.dp_sim_laws.proofs.Openings.{opening-spelled}
 
@@ -160,9 +163,17 @@ entries-spelled s e effect cause spelled = All-nil (λ (e : Entry). HasSpelling 
 
 -- ---- states
 
+-- a past of so many events has come to the state
+record Came (n : ℕ) (s : State) : Type 0 where
+  past : Past
+  before : ShutBefore past
+  is : state_of past ≡ s
+  many : length past.journal ≡ n
+
 -- What is true of a state after so many events: the entries of its histories have a spelling, and
 -- so have the commands of the reset that is being sent, which aren't too many.
 pub record IsSpelledState (n : ℕ) (s : State) : Type 0 where
+  pub came : Came n s
   pub ended : All AreSpelledEntries s.ended
   pub live : AreSpelledEntries s.live
   pub epochs : epoch_of s ≤ n
@@ -211,21 +222,51 @@ stream-spelled s e (Dropped conn c) cause spelled h = none-sent
 stream-spelled s e (Reopened conn c) cause spelled h = none-sent
 stream-spelled s e effect cause spelled h = h
 
-module _ (order : SpelledIdsAreInOrder) where
+-- what is kept of a history has a spelling
+kept-spelled : (stream : Option Stream) (history : List Entry) → AreSpelledEntries history
+    → AreSpelledEntries (kept_by stream history)
+kept-spelled None history each = All-nil (λ (e : Entry). HasSpelling e.msg)
+kept-spelled (Some stream) history each = from stream.place
+  where
+    from : (place : Option ℕ) → AreSpelledEntries (kept_from place history)
+    from None = All-nil (λ (e : Entry). HasSpelling e.msg)
+    from (Some place) =
+        All-filter (λ (e : Entry). goes_on e.msg) (λ (e : Entry). HasSpelling e.msg)
+        (drop place history) (All-drop (λ (e : Entry). HasSpelling e.msg) place history each)
+
+-- no more than the history has
+kept-short : (stream : Option Stream) (history : List Entry)
+    → length (kept_by stream history) ≤ length history
+kept-short stream history = omega (arith, kept-few stream history, going-few history)
+
+module _ (order : SpelledIdsAreInOrder)
+    (short : (past : Past) (epoch : ℕ)
+    → length (history_of (state_of past) epoch) ≤ 2 * length past.journal + opening_limit) where
+  -- the live history isn't too long
+  live-short : (n : ℕ) (s : State) → Came n s → length s.live ≤ 2 * n + opening_limit
+  live-short n s came =
+      let at = short came.past (epoch_of (state_of came.past)) in
+      let live = ap length (live-is (state_of came.past)) ∙ ap (λ t. length t.live) came.is in
+      omega (arith, at, live, came.many)
+
   effect-histories : (n : ℕ) (s : State) (e : Event) (effect : Effect) → IsEffect s e effect
       → IsSpelledEvent e → n < event_limit → IsSpelledState n s
       → All AreSpelledEntries (ended_after s effect) × AreSpelledEntries (live_after s e effect)
   effect-histories n s e (Reopened conn c) cause spelled below h =
       let commands = sent_commands s.stream in
+      let kept = kept_by s.stream s.live in
       let present = present_users s in (
         All-push AreSpelledEntries s.ended s.live h.ended h.live,
-        opening-spelled order s.live h.live (epoch_of s + 1) present commands
+        opening-spelled order s.live h.live (epoch_of s + 1) present commands kept
             (omega (arith, below, h.epochs))
             (omega (
               arith,
-              opening-short (epoch_of s + 1) s.live present commands [] (present-few s) h.few,
+              below,
+              opening-short (epoch_of s + 1) s.live present commands kept (present-few s) h.few,
+              kept-short s.stream s.live,
+              live-short n s h.came,
             ))
-            (present-rise s) h.commands,
+            (present-rise s) h.commands (kept-spelled s.stream s.live h.live),
       )
   effect-histories n s e effect cause spelled below h = (
     h.ended,
@@ -241,11 +282,13 @@ module _ (order : SpelledIdsAreInOrder) where
 
   effect-spelled : (n : ℕ) (s : State) (e : Event) (effect : Effect) → IsEffect s e effect
       → IsSpelledEvent e → n < event_limit → IsSpelledState n s
+      → Came (n + 1) (noted s (made s e effect))
       → IsSpelledState (n + 1) (noted s (made s e effect))
-  effect-spelled n s e effect cause spelled below h =
+  effect-spelled n s e effect cause spelled below h came =
       let histories = effect-histories n s e effect cause spelled below h in
       let stream = stream-spelled s e effect cause spelled (h.few, h.commands) in
       record {
+        came = came;
         ended = histories.0;
         live = histories.1;
         epochs = effect-epochs n s effect h.epochs;
@@ -253,13 +296,42 @@ module _ (order : SpelledIdsAreInOrder) where
         commands = stream.1;
       }
 
-  module _ (effects : EventsHaveEffects) where
+  module _ (effects : EventsHaveEffects)
+      (on_kept : (past : Past) (e : Event) → ShutBefore past
+      → state_of (kept past e) ≡ after_event (state_of past) e)
+      (on_refused : (past : Past) (e : Event)
+      → state_of (refused past e) ≡ shut_by (state_of past) e) where
+    came-event : (n : ℕ) (s : State) (e : Event) → Came n s → Came (n + 1) (after_event s e)
+    came-event n s e h =
+        let more = length-append h.past.journal (e ∷ []) in
+        let many = h.many in
+        record {
+          past = kept h.past e;
+          before = All-weaker (λ (c : ShutAt). c.n ≤ length h.past.journal)
+              (λ (c : ShutAt). c.n ≤ length (h.past.journal ++ e ∷ []))
+              (λ c le. omega (arith, le, more)) h.past.shut h.before;
+          is = on_kept h.past e h.before ∙ ap (λ t. after_event t e) h.is;
+          many = omega (arith, more, many);
+        }
+
+    came-shut : (n : ℕ) (s : State) (conn : ℕ) → Came n s → Came n (after_shut s conn)
+    came-shut n s conn h =
+        let m = length h.past.journal in
+        record {
+          past = refused h.past (event.Close conn);
+          before = All-push (λ (c : ShutAt). c.n ≤ m) h.past.shut
+              (record { conn = conn; n = m }) h.before (omega arith);
+          is = on_refused h.past (event.Close conn) ∙ ap (λ t. after_shut t conn) h.is;
+          many = h.many;
+        }
+
     event-spelled : (n : ℕ) (s : State) (e : Event) → IsSpelledEvent e → n < event_limit
         → IsSpelledState n s → IsSpelledState (n + 1) (after_event s e)
     event-spelled n s e spelled below h =
         let it = effects s e in
         subst (λ a. IsSpelledState (n + 1) (noted s a)) (sym it.made)
-        (effect-spelled n s e it.effect it.cause spelled below h)
+        (effect-spelled n s e it.effect it.cause spelled below h
+        (subst (λ a. Came (n + 1) (noted s a)) it.made (came-event n s e h.came)))
 
     shut-spelled : (n : ℕ) (s : State) (conn : ℕ) → IsSpelledState n s
         → IsSpelledState n (after_shut s conn)
@@ -267,6 +339,10 @@ module _ (order : SpelledIdsAreInOrder) where
         option_both (λ c. with_connection s conn (record c { ending = ending.Shut }))
         (open_connection s conn) s (IsSpelledState n)
         (λ c found. record {
+          came = subst (Came n)
+              (ap (λ o. option_map_or
+              (λ c. with_connection s conn (record c { ending = ending.Shut })) o s) found)
+              (came-shut n s conn h.came);
           ended = h.ended;
           live = h.live;
           epochs = h.epochs;
@@ -301,6 +377,20 @@ module _ (order : SpelledIdsAreInOrder) where
 
     first-spelled : IsSpelledState 0 first_state
     first-spelled = record {
+      came = record {
+        past = record {
+          journal = [];
+          shut = [];
+          quiet = [];
+          first_fault = None;
+          known = Some [];
+          count = 0;
+          read_faults = 0;
+        };
+        before = All-nil (λ (c : ShutAt). c.n ≤ 0);
+        is = refl;
+        many = refl;
+      };
       ended = All-nil AreSpelledEntries;
       live = one-spelled 0 (msg.Meta (meta.ResetMark 0 0)) (omega arith, omega arith);
       epochs = omega arith;

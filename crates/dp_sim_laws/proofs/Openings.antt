@@ -199,19 +199,20 @@ module _ (order : SpelledIdsAreInOrder) (history : List Entry)
       (All-filter (is_join_of user) (λ (e : Entry). HasSpelling e.msg) history each))
 
   -- the opening has a spelling
-  pub opening-spelled : (epoch : ℕ) (present : List ℕ) (commands : List Draw) → epoch < 2 ^ 32
-      → length (opening epoch history present commands []) ≤ 2 ^ 32 → RiseFrom 1 present
-      → All DrawHasSpelling commands → AreSpelledEntries (opening epoch history present commands [])
-  opening-spelled epoch present commands small short rise drawn =
+  pub opening-spelled : (epoch : ℕ) (present : List ℕ) (commands : List Draw) (kept : List Entry)
+      → epoch < 2 ^ 32 → length (opening epoch history present commands kept) ≤ 2 ^ 32
+      → RiseFrom 1 present → All DrawHasSpelling commands → AreSpelledEntries kept
+      → AreSpelledEntries (opening epoch history present commands kept)
+  opening-spelled epoch present commands kept small short rise drawn said =
       let P : Entry → Type 0 = λ e. HasSpelling e.msg in
       let joins = filter_map (last_join history) present in
       let rights = map server_entry (carried history present) in
       let parts = map command_entry commands in
-      let rest = carried_entries history present commands [] in
+      let rest = carried_entries history present commands kept in
       All-cons P (server_entry (meta.ResetMark epoch (length rest))) rest
       (small, omega (arith, short))
-      (All-append P (joins ++ rights ++ parts) []
+      (All-append P (joins ++ rights ++ parts) kept
       (All-append P (joins ++ rights) parts
       (All-append P joins rights (joins-spelled present)
       (All-map P server_entry (carried history present) (carried-spelled present rise)))
-      (All-map P command_entry commands drawn)) (All-nil P))
+      (All-map P command_entry commands drawn)) said)

@@ -34,7 +34,7 @@ use Rattle.dp_keep_laws.proofs.Openings.{opening_front, opening-depth}
 use Rattle.dp_lists.proofs.Options.{at_some, if_some}
 use Rattle.dp_sim_laws.specs.OwnSteps.{exchange_of}
 use Rattle.dp_sim_laws.specs.Spelled.{SaysSpelled}
-use Rattle.dp_sim_laws.specs.Resets.{taken_up, IsTakenUp, GoesOnFrom, kept_of}
+use Rattle.dp_sim_laws.specs.Resets.{taken_up, IsTakenUp, GoesOnFrom, kept_over}
 use Rattle.dp_sim_laws.proofs.Walks.{own-becomes}
 use Rattle.dp_sim_laws.proofs.Speaking.{Speaking, spoken, taken-spelled}
 use Rattle.dp_sim_laws.proofs.Streams.{OpenedWith, EndedBefore, begins}
@@ -134,7 +134,8 @@ same-first (suc m) (x ∷ xs) more (y ∷ ys) others is long =
 same-before : (xs ys last : List Entry) → xs ++ last ≡ ys ++ last → xs ≡ ys
 same-before xs ys last is =
     let whole = ys ++ last in
-    same-first (length whole) xs last ys last (is ∙ sym (take_all (length whole) whole (omega arith)))
+    same-first (length whole) xs last ys last
+    (is ∙ sym (take_all (length whole) whole (omega arith)))
     (omega (arith, ap length is, length-append xs last, length-append ys last))
 
 -- what the client took first is the mark
@@ -197,7 +198,7 @@ pub shown : (laws : Resetting) (before later : List Action) (number epoch : ℕ)
     → let world = world_after (before ++ Act number (Reset keeps) ∷ later) in
     IfSome (participant_of world other) (λ participant. participant.state.epoch ≡ epoch
     → GoesOnFrom (client.confirmed sender.state)
-    (kept_of keeps sender.state (state_of world.past) epoch) participant.state)
+    (kept_over keeps sender.state (state_of world.past) epoch) participant.state)
 shown laws before later number epoch keeps sender each h other =
     let reset = Act number (Reset keeps) in
     let w = fold after (after (world_after before) reset) later in
@@ -210,10 +211,10 @@ shown laws before later number epoch keeps sender each h other =
     let board = client.confirmed sender.state in
     subst (λ (v : World). IfSome (participant_of v other) (λ participant.
     participant.state.epoch ≡ epoch
-    → GoesOnFrom board (kept_of keeps sender.state (state_of v.past) epoch) participant.state))
+    → GoesOnFrom board (kept_over keeps sender.state (state_of v.past) epoch) participant.state))
     (sym is)
     (if_some (participant_of w other) (λ participant. participant.state.epoch ≡ epoch
-    → GoesOnFrom board (kept_of keeps sender.state (state_of w.past) epoch) participant.state)
+    → GoesOnFrom board (kept_over keeps sender.state (state_of w.past) epoch) participant.state)
     (λ p there. λ at.
     let hp = at_some (participant_of w other) (IsParticipant (state_of w.past) other) p
     (world.participants other) there in

@@ -72,8 +72,8 @@ pub record IsTakenUp (before later : List Action) (number : ℕ) (keeps : Bool) 
 -- The entries that a reset keeps with which the epoch of this number opened, of the history of the
 -- epoch before: those that go on from the place after what its sender had taken. Where the reset
 -- doesn't keep, there are none.
-abbrev pub kept_of : Bool → client.State → State → ℕ → List Entry
-kept_of keeps sender s epoch =
+abbrev pub kept_over : Bool → client.State → State → ℕ → List Entry
+kept_over keeps sender s epoch =
     kept_from (place_in (reset_begin keeps (length sender.taken))) (history_of s (epoch - 1))
 
 -- Where the client has taken all with which its epoch opened, these kept entries at its end, and

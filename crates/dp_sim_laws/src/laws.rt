@@ -1,6 +1,7 @@
 //! Laws of schedules, each the contract of a function that does nothing but call others.
 
-ghost use Rattle.std.specs.Prelude.{◌≡◌, ◌≢◌, ◌≤◌, ℕ, Bool, List, ◌∷◌, ◌++◌, length, drop, IfSome, All};
+ghost use Rattle.std.specs.Prelude.{◌≡◌, ◌≢◌, ◌≤◌, ℕ, Bool, List, ◌∷◌, ◌++◌, length, drop};
+ghost use Rattle.std.specs.Prelude.{IfSome, All};
 ghost use Rattle.dp_client.specs.Client.{confirmed, own_of};
 ghost use Rattle.dp_epochs.specs.Past.{Past, state_of};
 ghost use Rattle.dp_epochs.specs.Rows.{event_limit};
@@ -12,7 +13,7 @@ ghost use Rattle.dp_schedule.specs.declared.action.Instruction.TheVariants.{Rese
 ghost use Rattle.dp_sim.specs.Exchanges.{Participant};
 ghost use Rattle.dp_sim.specs.World.{world_after, participant_of};
 ghost use Rattle.dp_sim_laws.specs.OwnSteps.{own_steps, GoesBy, next_of};
-ghost use Rattle.dp_sim_laws.specs.Resets.{IsTakenUp, GoesOnFrom, kept_of};
+ghost use Rattle.dp_sim_laws.specs.Resets.{IsTakenUp, GoesOnFrom, kept_over};
 ghost use Rattle.dp_sim_laws.specs.Spelled.{AreSpelledEntries, IsSpelledEvent, SaysSpelled};
 ghost use Rattle.dp_sim_laws.specs.Tally.{IsUnended, tally_of};
 
@@ -85,6 +86,8 @@ pub fn histories_are_spelled()
 {
     spelled_ids_are_in_order();
     events_have_effects();
+    histories_are_short();
+    steps_lead_on();
 }
 
 /// After every schedule of messages that have a spelling, so has each entry of each epoch, and each
@@ -113,7 +116,7 @@ pub fn resets_show_the_senders_canvas()
         → let world = world_after (before ++ Act number (Reset keeps) ∷ later) in
         IfSome (participant_of world other) (λ participant. participant.state.epoch ≡ epoch
         → GoesOnFrom (confirmed sender.state)
-        (kept_of keeps sender.state (state_of world.past) epoch) participant.state) }
+        (kept_over keeps sender.state (state_of world.past) epoch) participant.state) }
 {
     instructions_are_moves();
     worlds_stay_worlds();

@@ -1,4 +1,4 @@
-use Rattle.std.proofs.Common.{refl, arith, length}
+use Rattle.std.proofs.Common.{refl, arith}
 use Rattle.dp_schedule.specs.declared.join_action.JoinAction.TheVariants.{Say, View, Confirmed}
 use Rattle.dp_schedule.specs.declared.join_action.JoinAction.TheVariants.{Snapshot, Reset, Chat}
 use Rattle.dp_joining.specs.Steps.{seen}

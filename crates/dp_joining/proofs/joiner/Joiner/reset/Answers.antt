@@ -2,12 +2,13 @@ use Rattle.std.proofs.Common.{◌≡◌, [], ◌∙◌, ◌+◌, ap, refl, sym, 
 use Rattle.std.proofs.lemmas.Result.{err_from_is_err_and}
 use Rattle.dp_client.specs.Client.{confirmed}
 use Rattle.dp_snap.specs.Snapshot.{snapshot}
-use Rattle.dp_joining.specs.Joining.{Joining, reset_by, reset_of}
+use Rattle.dp_joining.specs.Joining.{Joining, reset_by}
+use Rattle.dp_showing.specs.Resets.{client_reset}
 use Rattle.dp_snap.specs.Resets.{reset_begin, reset_messages}
 use Rattle.dp_joining.specs.Steps.{seen}
 use Rattle.dp_joining.proofs.Moving.{drew_none, fails_first, fails_last, fails_memory, grows_not}
 use Rattle.dp_joining.proofs.Moving.{moves_last}
-use Rattle.dp_joining.proofs.Moving.{reset_length, resets_adds, resets_leads}
+use Rattle.dp_joining.proofs.Moving.{reset_length, resets_adds, resets_are, resets_leads}
 use Rattle.dp_joining.proofs.joiner.Joiner.reset.Goals as goal
 
 pub returns-in_err-commands-clause-err : goal.returns-in_err-commands-clause-err
@@ -19,8 +20,8 @@ returns-in_err-commands-clause-err g c = λ draws tiles.
     rw (p.1, p.2) (fails_memory old old
     (λ (j : Joining). reset_by c.args.keeps j) _ _ _
     (resets_adds c.args.keeps old c.user-user.result
-    (length (reset_of c.args.keeps old.client))
-    (reset_of c.args.keeps old.client) c.user-user.ensures refl refl)
+    (length (client_reset c.args.keeps old.client))
+    (client_reset c.args.keeps old.client) c.user-user.ensures refl refl)
     (drew_none [] draws tiles) (grows_not old.written _) refl (record {
       print = refl;
       write = refl;
@@ -35,13 +36,14 @@ returns-in_err-send_reset-clause-err g c = λ draws tiles.
     let commands = c.as_slice-commands.result.now in
     let begin = c.reset_begin-begin.result in
     let begins : begin ≡ reset_begin c.args.keeps (length old.client.taken) =
-    c.reset_begin-begin.ensures in
+    c.reset_begin-begin.ensures
+    ∙ ap (reset_begin c.args.keeps) (c.len.ensures ∙ ap length c.taken.ensures) in
     let is : commands ≡ snapshot (confirmed old.client) =
     c.as_slice-commands.ensures ∙ c.in_ok-commands.ensures.snapshot
     ∙ ap snapshot c.confirmed.ensures in
     let adds = resets_adds c.args.keeps old c.user-user.result (length commands + 2)
     (reset_messages begin commands) c.user-user.ensures (sym (reset_length begin commands))
-    (rw (is, begins) refl) in
+    (resets_are c.args.keeps old.client begin commands begins is) in
     let p = err_from_is_err_and c.from_residual-in_err-send_reset.result
     c.from_residual-in_err-send_reset.ensures.1 in
     rw (p.1, p.2) (fails_first c.in_err-send_reset.field-0.0 old
@@ -58,13 +60,14 @@ returns-clause-ok g c = λ draws tiles.
     let commands = c.as_slice-commands.result.now in
     let begin = c.reset_begin-begin.result in
     let begins : begin ≡ reset_begin c.args.keeps (length old.client.taken) =
-    c.reset_begin-begin.ensures in
+    c.reset_begin-begin.ensures
+    ∙ ap (reset_begin c.args.keeps) (c.len.ensures ∙ ap length c.taken.ensures) in
     let is : commands ≡ snapshot (confirmed old.client) =
     c.as_slice-commands.ensures ∙ c.in_ok-commands.ensures.snapshot
     ∙ ap snapshot c.confirmed.ensures in
     let adds = resets_adds c.args.keeps old c.user-user.result (length commands + 2)
     (reset_messages begin commands) c.user-user.ensures (sym (reset_length begin commands))
-    (rw (is, begins) refl) in
+    (resets_are c.args.keeps old.client begin commands begins is) in
     let now = see (record c.args.self.now { tx = c.send_reset.new.tx }) c.print_sent.new.output
     draws
     tiles in
@@ -82,13 +85,14 @@ returns-clause-err g c = λ draws tiles.
     let commands = c.as_slice-commands.result.now in
     let begin = c.reset_begin-begin.result in
     let begins : begin ≡ reset_begin c.args.keeps (length old.client.taken) =
-    c.reset_begin-begin.ensures in
+    c.reset_begin-begin.ensures
+    ∙ ap (reset_begin c.args.keeps) (c.len.ensures ∙ ap length c.taken.ensures) in
     let is : commands ≡ snapshot (confirmed old.client) =
     c.as_slice-commands.ensures ∙ c.in_ok-commands.ensures.snapshot
     ∙ ap snapshot c.confirmed.ensures in
     let adds = resets_adds c.args.keeps old c.user-user.result (length commands + 2)
     (reset_messages begin commands) c.user-user.ensures (sym (reset_length begin commands))
-    (rw (is, begins) refl) in
+    (resets_are c.args.keeps old.client begin commands begins is) in
     fails_last c.print_sent.result old
     (see (record c.args.self.now { tx = c.send_reset.new.tx }) c.print_sent.new.output draws tiles)
     (λ (j : Joining). reset_by c.args.keeps j) _ _ _ adds
