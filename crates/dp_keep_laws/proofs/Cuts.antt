@@ -70,11 +70,13 @@ first-nothing (x ∷ xs) ys nothing = (nothing.0, first-nothing xs ys nothing.1)
 
 pub cut-undone : (place : ℕ) (history more : List Entry)
     → UndoNothing (drop place history ++ more) → MayBeCut place history more
-cut-undone place history more nothing = record {
-  moves = still-alone undo_depth (map user_act_of (take place history))
-      (map user_act_of (drop place history ++ more)) (still-all (drop place history ++ more) nothing);
-  depths = no-depth (drop place history) (first-nothing (drop place history) more nothing);
-}
+cut-undone place history more nothing =
+    let rest = drop place history in
+    record {
+      moves = still-alone undo_depth (map user_act_of (take place history))
+          (map user_act_of (rest ++ more)) (still-all (rest ++ more) nothing);
+      depths = no-depth rest (first-nothing rest more nothing);
+    }
 
 pub cut-end : (history : List Entry) → MayBeCut (length history) history []
 cut-end history =

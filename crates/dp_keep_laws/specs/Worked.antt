@@ -7,8 +7,8 @@ use Rattle.dp_messages.specs.declared.message.Msg.TheVariants as msg
 use Rattle.dp_epochs.specs.declared.event.Event.{Event}
 use Rattle.dp_epochs.specs.declared.event.Event.TheVariants.{Open, Say}
 
-abbrev pub worked_journal : List Event
-worked_journal =
+abbrev pub keeping_journal : List Event
+keeping_journal =
     Open (97 ∷ 110 ∷ 110 ∷ []) false
     ∷ Say 1 (msg.Control (ResetFrom 3))
     ∷ Say 1 msg.Point

@@ -12,7 +12,7 @@ ghost use Rattle.dp_epochs.specs.State.{State, after_event};
 ghost use Rattle.dp_epochs.specs.Past.{state_after};
 ghost use Rattle.dp_keep_laws.specs.Suffixes.{SuffixesStandAlone, SuffixesShowAlone};
 ghost use Rattle.dp_keep_laws.specs.Keeping.{MayBeCut, UndoNothing, EndsKeeping, reset_end};
-ghost use Rattle.dp_keep_laws.specs.Worked.{worked_journal};
+ghost use Rattle.dp_keep_laws.specs.Worked.{keeping_journal};
 
 use dp_board::{others_do_not_count, prefixes_without_points};
 use dp_msg_draw::Draw;
@@ -46,9 +46,9 @@ pub fn openings_go_on()
 }
 
 /// Where a history may be cut at a place, what a reset keeps from there on shows what the history
-/// shows, drawn on what the history showed at the place. So does each opening of an epoch with these
-/// entries whose commands draw that. Both go on so: with more entries they show what the history
-/// shows with these.
+/// shows, drawn on what the history showed at the place. So does each opening of an epoch with
+/// these entries whose commands draw that. Both go on so: with more entries they show what the
+/// history shows with these.
 pub fn kept_entries_show_the_same()
     ensures boards { (history more : List Entry) (place : ℕ) → MayBeCut place history more
         → replay_from draw (replay (take place history)) (depth_in_force history)
@@ -64,8 +64,8 @@ pub fn kept_entries_show_the_same()
     openings_go_on();
 }
 
-/// Where from a place on nothing was undone or redone, and no depth of undo was set, a history may be
-/// cut at the place. So each history may be cut at its end.
+/// Where from a place on nothing was undone or redone, and no depth of undo was set, a history may
+/// be cut at the place. So each history may be cut at its end.
 pub fn histories_may_be_cut()
     ensures undone { (history more : List Entry) (place : ℕ)
         → UndoNothing (drop place history ++ more) → MayBeCut place history more }
@@ -89,6 +89,6 @@ pub fn keeping_shows_the_same()
 
 /// There is a session in which the end of a reset keeps, and may: that of the worked example.
 pub fn worked_reset_keeps()
-    ensures ends { EndsKeeping (state_after worked_journal []) 1 3 }
-    ensures cut { MayBeCut 3 (state_after worked_journal []).live [] }
+    ensures ends { EndsKeeping (state_after keeping_journal []) 1 3 }
+    ensures cut { MayBeCut 3 (state_after keeping_journal []).live [] }
 {}
