@@ -1,6 +1,6 @@
 -- Where nothing was undone a history may be cut.
-use Rattle.std.proofs.Common.{◌≡◌, ℕ, Bool, true, false, Option, None, Some, List, [], ◌∷◌, ◌++◌}
-use Rattle.std.proofs.Common.{map, take, drop, length, refl, ap, sym, subst, ◌∙◌}
+use Rattle.std.proofs.Common.{◌≡◌, ℕ, true, false, None, Some, List, [], ◌∷◌, ◌++◌}
+use Rattle.std.proofs.Common.{map, take, drop, length, refl, sym, subst, ◌∙◌}
 use Rattle.std.specs.List.{AllByRecursion}
 use Rattle.std.proofs.lemmas.List.{append-nil}
 use Rattle.std.proofs.Math.Seq.{drop-length}
@@ -11,7 +11,6 @@ use Rattle.dp_messages.specs.declared.message.Msg.{Msg}
 use Rattle.dp_messages.specs.declared.message.Msg.TheVariants as msg
 use Rattle.dp_messages.specs.declared.message.Entry.{Entry}
 use Rattle.dp_board.specs.declared.act.Act.{Act}
-use Rattle.dp_board.specs.declared.act.Act.TheVariants as act
 use Rattle.dp_board.specs.declared.act.UserAct.{UserAct}
 use Rattle.dp_board.specs.Strokes.{Strokes, strokes, moved, moved_by, concerned}
 use Rattle.dp_board.specs.Laws.{depth_in, HasNoDepth}

@@ -1,7 +1,6 @@
 -- What a reset keeps of a history shows what the history shows.
 use Rattle.std.proofs.Common.{◌≡◌, ℕ, ◌+◌, List, [], ◌∷◌, ◌++◌, map, fold, take, drop, Some}
 use Rattle.std.proofs.Common.{unwrap_or, refl, ap, sym, ◌∙◌, append_assoc}
-use Rattle.std.specs.List.{filter}
 use Rattle.std.specs.Option.{option_map_or}
 use Rattle.std.proofs.lemmas.List.{append-nil, map-append, take-append-drop}
 use Rattle.dp_msg_draw.specs.declared.draw.Draw.{Draw}
@@ -101,7 +100,7 @@ live-opened : (s : State) (conn place : ℕ) → (ends : EndsKeeping s conn plac
     ≡ opening (epoch_of s + 1) s.live (present_users s) ends.stream.commands
     (kept_from (Some place) s.live)
 live-opened s conn place ends =
-    ap (λ o. (option_map_or (says_by s conn reset_end) o (stays s Ignored)).state.live) ends.open
+    ap (λ o. (option_map_or (says_by s conn reset_end) o (stays s Ignored)).state.live) ends.is_open
     ∙ ap (λ d. (acted_by s conn ends.connection reset_end d).state.live) ends.opens
     ∙ ap (λ st. opening (epoch_of s + 1) s.live (present_users s) (sent_commands st)
     (kept_by st s.live)) ends.sent

@@ -9,11 +9,10 @@ use Rattle.dp_msg_meta.specs.declared.message.Meta.TheVariants.{UndoDepth}
 use Rattle.dp_messages.specs.declared.message.Msg.{Msg}
 use Rattle.dp_messages.specs.declared.message.Msg.TheVariants as msg
 use Rattle.dp_messages.specs.declared.message.Entry.{Entry}
-use Rattle.dp_board.specs.declared.act.Act.{Act}
 use Rattle.dp_board.specs.declared.act.Act.TheVariants.{Other}
 use Rattle.dp_board.specs.declared.act.UserAct.{UserAct}
 use Rattle.dp_board.specs.Commands.{drawn_commands}
-use Rattle.dp_board.specs.Laws.{depth_in, HasNoDepth, depth_after, other_act, OthersDoNotCount}
+use Rattle.dp_board.specs.Laws.{depth_in, HasNoDepth, depth_after, OthersDoNotCount}
 use Rattle.dp_replay.specs.Replay.{act_of_meta, act_of_message, act_of, user_act_of}
 use Rattle.dp_acl.specs.Opening.{goes_on}
 

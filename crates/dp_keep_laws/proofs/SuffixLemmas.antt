@@ -1,5 +1,5 @@
 -- Acts that stand alone are drawn as they are by themselves.
-use Rattle.std.proofs.Common.{◌≡◌, ℕ, ◌+◌, ◌≤◌, ◌<◌, Bool, true, List, [], ◌∷◌, ◌++◌, length, map}
+use Rattle.std.proofs.Common.{◌≡◌, ℕ, ◌≤◌, ◌<◌, true, List, [], ◌∷◌, ◌++◌, length, map}
 use Rattle.std.proofs.Common.{Option, None, Some, option_map, inl, inr, fold, refl, sym, ap, subst, ◌∙◌, arith}
 use Rattle.std.proofs.Common.{append_assoc, length-append}
 use Rattle.std.proofs.lemmas.Bool.{cases_lt}
@@ -8,7 +8,7 @@ use Rattle.std.proofs.lemmas.List.Sums.{fold-append}
 use Rattle.dp_board.specs.declared.act.Act.{Act}
 use Rattle.dp_board.specs.declared.act.Act.TheVariants.{Point, Undo, Redo, Draw, Depth, Other}
 use Rattle.dp_board.specs.declared.act.UserAct.{UserAct}
-use Rattle.dp_board.specs.Strokes.{Strokes, strokes, after_act, moved, concerned, is_among, last_of}
+use Rattle.dp_board.specs.Strokes.{strokes, after_act, moved, concerned, last_of}
 use Rattle.dp_board.specs.Flags.{is_group_drawn, flag_of}
 use Rattle.dp_board.specs.Commands.{command_of, drawn_commands}
 use Rattle.dp_board.specs.Laws.{depth_after}
@@ -16,7 +16,7 @@ use Rattle.dp_board.proofs.WindowLemmas.{position-is, depth_is_in_force}
 use Rattle.dp_board.proofs.TimesLemmas.{times, times-append, is_among-some}
 use Rattle.dp_board.proofs.StepLemmas.{IsSound, IsSound-strokes}
 use Rattle.dp_board.proofs.TableLemmas.{strokes-push}
-use Rattle.dp_board.proofs.RenamingLemmas.{is_group_drawn-renamed, is_among-renamed, last_of-renamed}
+use Rattle.dp_board.proofs.RenamingLemmas.{is_among-renamed, last_of-renamed}
 use Rattle.dp_board.proofs.RenamedStrokes.{drawn_from}
 use Rattle.dp_keep_laws.specs.Suffixes.{StandAlone, SuffixesStandAlone, SuffixesShowAlone}
 use Rattle.dp_keep_laws.proofs.LaterLemmas.{up, up-injective, IsOld, IsYoung, Later}

@@ -12,7 +12,7 @@ pub worked-ends : EndsKeeping (state_after keeping_journal []) 1 3
 unfolding user_ids is_utf8 chars encode
 worked-ends = record {
   connection = _;
-  open = refl;
+  is_open = refl;
   opens = refl;
   stream = _;
   sent = refl;

@@ -40,7 +40,7 @@ reset_end = msg.Control ResetEnd
 -- keeps entries from the place on, and its commands draw what the live history showed there.
 pub record EndsKeeping (s : State) (conn place : ℕ) : Type 0 where
   pub connection : Connection
-  pub open : open_connection s conn ≡ Some connection
+  pub is_open : open_connection s conn ≡ Some connection
   pub opens : decided s conn connection reset_end ≡ OpenEpoch
   pub stream : Stream
   pub sent : s.stream ≡ Some stream
