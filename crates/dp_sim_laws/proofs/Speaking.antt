@@ -148,9 +148,8 @@ module _ (laws : Speaking) (t : Exchange) (number : ℕ) (few : length t.past.jo
   queued-sent instruction (Resetting keeps) is spelled =
       let taken = length t.participant.state.taken in
       let short = laws.short t.past t.participant.state.epoch in
-      let within = hp.few in
       reset-sent (reset_begin keeps taken) (snapshot (client.confirmed t.participant.state))
-      (begin-sent keeps taken (omega arith))
+      (begin-sent keeps taken (omega (arith, few, short, hp.few)))
       (laws.snapshots t.participant.state.taken taken-spelled)
   queued-sent instruction Parting is spelled =
       All-cons HasSpelling (msg.Control (Disconnect 0)) [] (omega arith) (All-nil HasSpelling)
