@@ -26,12 +26,12 @@ CommutingLaw = (width height : ℕ) (a b : Draw) (pixels : List Channels)
 -- ---- a row
 
 module _ (id : ℕ) (f : List Channels → List Channels) (row : Row (List Channels)) where
-  changed : (row.layer.id == id) ≡ true
+  pub changed : (row.layer.id == id) ≡ true
       → with_change id f row ≡ record row { content = option_map f row.content }
   changed here = cond-true (row.layer.id == id)
       (record row { content = option_map f row.content }) row here
 
-  unchanged : (row.layer.id == id) ≡ false → with_change id f row ≡ row
+  pub unchanged : (row.layer.id == id) ≡ false → with_change id f row ≡ row
   unchanged out = cond-false (row.layer.id == id)
       (record row { content = option_map f row.content }) row out
 
