@@ -25,14 +25,15 @@ use std::thread::Threads;
 /// How many entries are shown between two looks at what waits.
 const LOOK: u32 = 64;
 
-/// Which entries of a recording are shown, the first so many or all, and the workers that paint
-/// them.
+/// Which entries of a recording are shown, and by how many workers.
 #[derive(Drop)]
 pub struct Playing<'a, G> {
     /// How many of the first entries are shown, or all.
     pub at: Option<u32>,
-    /// The workers.
-    pub workers: Workers<'a, G>,
+    /// How many workers paint, where 0 is 1.
+    pub workers: u32,
+    /// The gate that their jobs pass.
+    pub gate: &'a G,
 }
 
 /// A board that trails what a recording shows, and how many entries are left to show, or all. Where
@@ -42,21 +43,25 @@ pub(crate) struct WorkersBoard<'a, R, G> {
     pub board: ShownBoard,
     pub due: Option<u32>,
     rt: &'a R,
-    workers: &'a Workers<'a, G>,
+    workers: Workers<'a, G>,
     unseen: u32,
 }
 
 impl<'a, R: Threads + Sync, G: Gate> WorkersBoard<'a, R, G> {
     /// A board of which so many entries are left to show, or all.
-    pub(crate) fn new(rt: &'a R, board: ShownBoard, playing: &'a Playing<'a, G>) -> Self
+    pub(crate) fn new(rt: &'a R, board: ShownBoard, playing: Playing<'a, G>) -> Self
         ensures board { result.board ≡ board }
-        ensures due { result.due ≡ playing.now.at }
+        ensures due { result.due ≡ playing.at }
     {
+        let Playing { at, workers, gate } = playing;
         WorkersBoard {
             board,
-            due: playing.at,
+            due: at,
             rt,
-            workers: &playing.workers,
+            workers: Workers {
+                count: workers,
+                gate,
+            },
             unseen: 0,
         }
     }
@@ -104,7 +109,7 @@ impl<'a, R: Threads + Sync, G: Gate> WorkersBoard<'a, R, G> {
         ensures due { self.new.due ≡ self.old.due }
     {
         let mut board = self.board.put_board(DeferredBoard::new(alloc));
-        let settled = settle_half_full(self.rt, alloc, &mut board, self.workers, tiles);
+        let settled = settle_half_full(self.rt, alloc, &mut board, &self.workers, tiles);
         let _blank = self.board.put_board(board);
         settled
     }
@@ -128,7 +133,7 @@ impl<'a, R: Threads + Sync, G: Gate> WorkersBoard<'a, R, G> {
         let Ok(picture) = board.finish(draws, tiles) else {
             return RunEnd::Memory;
         };
-        match write_by(rt, alloc, workers, &picture, output) {
+        match write_by(rt, alloc, &workers, &picture, output) {
             Ok(()) => end,
             Err(PictureEnd::Failed) => RunEnd::WriteFault,
             Err(PictureEnd::Memory) => RunEnd::Memory,
