@@ -1,18 +1,13 @@
 //! The board of a recording, on which workers paint.
 
-ghost use Rattle.std.specs.Prelude.{◌≡◌, ℕ, ◌≤◌, List, [], ◌∷◌, ◌++◌, Option, OnOk, IsErrOf};
-ghost use Rattle.std.specs.Io.KnownBytes.{Appends, Keeps};
-ghost use Rattle.dp_flat.specs.Ends.{is_sink_fault};
-ghost use Rattle.dp_io.specs.Faults.{HasCause};
-ghost use Rattle.dp_io.specs.Streams.{GrowsByPrefix};
+ghost use Rattle.std.specs.Prelude.{◌≡◌, ℕ, ◌≤◌, List, [], ◌∷◌, ◌++◌, Option, OnOk};
 ghost use Rattle.dp_messages.specs.declared.message.Entry.{Entry as Item};
-ghost use Rattle.dp_plain.specs.Picture.{p6};
 ghost use Rattle.dp_viewer.specs.Reading.{AreDue, TrailsShown, WritesShown};
 ghost use Rattle.dp_viewer.specs.Ways.{first_of};
 
 use crate::reading::{ShownBoard, show_due};
-use dp_canvas::{DeferredBoard, Workers, canvases_cross_threads, settle_half_full};
-use dp_flat::{PictureEnd, write_p6, write_p6_by};
+use dp_canvas::{DeferredBoard, Workers, settle_half_full};
+use dp_flat::{PictureEnd, write_p6_by};
 use dp_io::Sink;
 use dp_lines::RunEnd;
 use dp_messages::Entry;
@@ -114,7 +109,8 @@ impl<'a, R: Threads + Sync, G: Gate> WorkersBoard<'a, R, G> {
         settled
     }
 
-    /// Writes the picture of what the board trails. Ends as given where it is written.
+    /// Has the workers write the picture of what the board trails. Ends as given where it is
+    /// written.
     pub(crate) fn write<O: Sink, D: Ledger, T: Ledger>(
         self,
         alloc: Global,
@@ -130,35 +126,14 @@ impl<'a, R: Threads + Sync, G: Gate> WorkersBoard<'a, R, G> {
         let WorkersBoard {
             board, rt, workers, ..
         } = self;
+        let Workers { count, gate } = workers;
         let Ok(picture) = board.finish(draws, tiles) else {
             return RunEnd::Memory;
         };
-        match write_by(rt, alloc, &workers, &picture, output) {
+        match write_p6_by(rt, alloc, count, gate, &picture, output) {
             Ok(()) => end,
             Err(PictureEnd::Failed) => RunEnd::WriteFault,
             Err(PictureEnd::Memory) => RunEnd::Memory,
         }
     }
-}
-
-/// Writes the picture of a board as a P6 file, by the workers where they are several.
-fn write_by<R: Threads + Sync, S: Sink, G: Gate>(
-    rt: &R,
-    alloc: Global,
-    workers: &Workers<'_, G>,
-    board: &DeferredBoard,
-    out: &mut S,
-) -> Result<(), PictureEnd>
-    ensures written { OnOk result (Appends (S.held out.old) (S.held out.new) (p6 board.now)) }
-    ensures prefix { GrowsByPrefix (S.held out.old) (S.held out.new) (p6 board.now) }
-    ensures memory { IsErrOf result PictureEnd.Memory → Keeps (S.held out.old) (S.held out.new) }
-    ensures memory_uncounted { IsErrOf result PictureEnd.Memory
-        → S.faults out.new ≡ S.faults out.old }
-    ensures cause { HasCause is_sink_fault (S.faults out.old) (S.faults out.new) result }
-{
-    if workers.count < 2 {
-        return write_p6(alloc, board, out);
-    }
-    canvases_cross_threads();
-    write_p6_by(rt, alloc, workers.count, workers.gate, board, out)
 }
