@@ -19,7 +19,8 @@ use std::alloc::AllocError;
 use std::sync::ledger::Ledger;
 use std::thread::Threads;
 
-/// How many commands are drawn together, and the layer on which they paint, where they are several.
+/// How many of the first commands paint on one layer, and the layer.
+#[derive(Clone, Copy)]
 struct Run {
     layer: u16,
     count: usize,
@@ -43,7 +44,10 @@ fn layer_of(command: &Draw) -> Option<u16>
 fn paints_on(command: &Draw, layer: u16) -> bool
     ensures { result ≡ true → PaintsOn layer command.now }
 {
-    layer_of(command) == Some(layer)
+    match layer_of(command) {
+        Some(other) => other == layer,
+        None => false,
+    }
 }
 
 /// How many of the first commands paint on the layer.
@@ -52,7 +56,7 @@ fn count_on(ops: &[Draw], layer: u16) -> usize
     ensures on { All (PaintsOn layer) (take result ops.now) }
 {
     let mut count = 0;
-    while count < ops.len() && paints_on(&ops[count], layer) {
+    'commands: while count < ops.len() && paints_on(&ops[count], layer) {
         count += 1;
     }
     count
@@ -102,11 +106,11 @@ fn paint_layer<R: Threads + Sync, G: Gate, T: Ledger>(
     canvas.known();
     canvas.known_pixels();
     let (width, height) = (canvas.width(), canvas.height());
-    let Some(old) = canvas.grid(layer) else {
+    let Some(grid) = canvas.grid(layer) else {
         return Ok(());
     };
-    let grid = paint(rt, old, width, height, run, workers, tiles)?;
-    canvas.put_grid(layer, grid);
+    let painted = paint(rt, grid, width, height, run, workers, tiles)?;
+    canvas.put_grid(layer, painted);
     Ok(())
 }
 
@@ -157,7 +161,7 @@ pub(crate) fn draw_in_order<R: Threads + Sync, G: Gate, D: Ledger, T: Ledger>(
     ensures counts { CountsFew reach ops.now draws.old draws.new tiles.old tiles.new }
 {
     let mut from = 0;
-    while from < ops.len() {
+    'runs: while from < ops.len() {
         from += draw_next(rt, canvas, &ops[from..], workers, draws, tiles)?;
     }
     Ok(())

@@ -181,7 +181,7 @@ filled_back {X} rows id old x distinct found =
     one : (row : Row X) → fill_row id old (fill_row id x row) ≡ fill_row id old row
     one row =
         ⊎_elim (λ (here : (row.layer.id == id) ≡ true). rw (here, here) refl)
-        (λ (missed : (row.layer.id == id) ≡ false). rw missed refl)
+        (λ (missed : (row.layer.id == id) ≡ false). rw (missed, missed) refl)
         (cases_Bool (row.layer.id == id))
 
 -- ---- a change of the pixels in the row of an id

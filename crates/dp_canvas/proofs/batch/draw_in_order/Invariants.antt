@@ -5,8 +5,8 @@ use Rattle.dp_plain.specs.Commands.{draw_all}
 use Rattle.dp_canvas.proofs.batch.draw_in_order.Given as goal
 
 -- the commands before the place are drawn
-abbrev pub invariant-loop : goal.invariant-loop
-invariant-loop g l = record {
+abbrev pub invariant-runs : goal.invariant-runs
+invariant-runs g l = record {
   within : l.from ≤ length l.ops;
   board : l.canvas ≡ draw_all l.initial.canvas (take l.from l.ops);
   draws : l.draws ≡ l.initial.draws + l.from;
@@ -14,5 +14,5 @@ invariant-loop g l = record {
   few : l.tiles ≤ l.initial.tiles + sum_by reach (take l.from l.ops);
 }
 
-abbrev pub decreases-loop : goal.decreases-loop
-decreases-loop g l = length l.ops - l.from
+abbrev pub decreases-runs : goal.decreases-runs
+decreases-runs g l = length l.ops - l.from
