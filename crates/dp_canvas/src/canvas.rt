@@ -72,8 +72,10 @@ impl Canvas {
         requires present { is_some (content_of self.old.rows id) ≡ true }
         requires sides { IsGridOf self.old.width self.old.height grid }
         requires pixels { All IsPixel (grid_pixels self.old.width self.old.height grid) }
-        ensures { self.new ≡ record self.old { rows = with_content self.old.rows id
-            (grid_pixels self.old.width self.old.height grid) } }
+        ensures { self.new ≡ record self.old {
+          rows = with_content self.old.rows id
+              (grid_pixels self.old.width self.old.height grid);
+        } }
     {
         let _old = self.board.put_content(id, TiledPixels { grid });
     }

@@ -165,9 +165,7 @@ fn draws_batch<R: Threads + Sync + Abort, D: Ledger, T: Ledger>(
 ) {
     let mut batch = Vec::new(alloc);
     for bytes in case.commands {
-        batch
-            .push(command(rt, alloc, bytes))
-            .expect(rt, "memory");
+        batch.push(command(rt, alloc, bytes)).expect(rt, "memory");
     }
     let gate = &OpenGate;
     let mut canvas = Canvas::new(alloc);

@@ -105,23 +105,23 @@ run_drawn board id (c ∷ run) on =
     (λ k d in_list. row_then id one rest (get_or board.rows k d)))
 
 module _ (board : Board) (id : ℕ) (run : List Draw) (whole : IsBoard board) (on : AreOn id run)
-    where
-  pub run_present : (pixels : List Channels) → content_of board.rows id ≡ Some pixels
-      → draw_all board run ≡ record board {
-        rows = with_content board.rows id (after board.width board.height run pixels);
-      }
-  run_present pixels found =
-      run_drawn board id run on
-      ∙ ap (λ (rows : List (Row (List Channels))). record board { rows = rows })
-      (changed_some id (after board.width board.height run) board.rows pixels
-      whole.tree.layers.distinct found)
+  where
+    pub run_present : (pixels : List Channels) → content_of board.rows id ≡ Some pixels
+        → draw_all board run ≡ record board {
+          rows = with_content board.rows id (after board.width board.height run pixels);
+        }
+    run_present pixels found =
+        run_drawn board id run on
+        ∙ ap (λ (rows : List (Row (List Channels))). record board { rows = rows })
+        (changed_some id (after board.width board.height run) board.rows pixels
+        whole.tree.layers.distinct found)
 
-  pub run_absent : content_of board.rows id ≡ None → draw_all board run ≡ board
-  run_absent none =
-      run_drawn board id run on
-      ∙ ap (λ (rows : List (Row (List Channels))). record board { rows = rows })
-      (changed_none id (after board.width board.height run) board.rows
-      whole.tree.layers.distinct none)
+    pub run_absent : content_of board.rows id ≡ None → draw_all board run ≡ board
+    run_absent none =
+        run_drawn board id run on
+        ∙ ap (λ (rows : List (Row (List Channels))). record board { rows = rows })
+        (changed_none id (after board.width board.height run) board.rows
+        whole.tree.layers.distinct none)
 
 -- pixels stay pixels through a run
 pub run-All : PixelsStay → (w h : ℕ) (run : List Draw) (pixels : List Channels)

@@ -26,8 +26,10 @@ pub fn runs_change_one_layer()
     ensures present { (board : Board) (id : ℕ) (run : List Draw) (pixels : List Channels)
         → IsBoard board → All (λ c. painted_layer c ≡ Some id) run
         → content_of board.rows id ≡ Some pixels
-        → draw_all board run ≡ record board { rows = with_content board.rows id
-            (fold (λ old c. pixels_after board.width board.height c old) pixels run) } }
+        → draw_all board run ≡ record board {
+          rows = with_content board.rows id
+              (fold (λ old c. pixels_after board.width board.height c old) pixels run);
+        } }
     ensures absent { (board : Board) (id : ℕ) (run : List Draw) → IsBoard board
         → All (λ c. painted_layer c ≡ Some id) run → content_of board.rows id ≡ None
         → draw_all board run ≡ board }

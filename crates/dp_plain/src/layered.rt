@@ -87,8 +87,10 @@ impl<C: LayerPixels> LayeredBoard<C> {
         ensures old { content_of self.old.rows id
             ≡ Some (C.pixels self.old.width self.old.height result) }
         ensures old_fits { C.fits self.old.width self.old.height result }
-        ensures new { self.new ≡ record self.old { rows = with_content self.old.rows id
-            (C.pixels self.old.width self.old.height content) } }
+        ensures new { self.new ≡ record self.old {
+          rows = with_content self.old.rows id
+              (C.pixels self.old.width self.old.height content);
+        } }
     {
         contents_ride_along::<C, PlainPixels>();
         trees_stay_trees::<C>();

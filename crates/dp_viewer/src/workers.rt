@@ -124,7 +124,10 @@ impl<'a, R: Threads + Sync, G: Gate> WorkersBoard<'a, R, G> {
         ensures later { O.faults output.old ≤ O.faults output.new }
     {
         let WorkersBoard {
-            board, rt, workers, ..
+            board,
+            rt,
+            workers,
+            ..
         } = self;
         let Workers { count, gate } = workers;
         let Ok(picture) = board.finish(draws, tiles) else {
