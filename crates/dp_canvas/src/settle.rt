@@ -53,9 +53,11 @@ fn settle_layer<R: Threads + Sync, G: Gate, T: Ledger>(
     ensures few_tiles { tiles.new ≤ tiles.old + 4096 }
 {
     board.known();
-    match board.content(id) {
-        Some(content) if content.is_half_full() => {}
-        _ => return Ok(()),
+    let Some(content) = board.content(id) else {
+        return Ok(());
+    };
+    if !content.is_half_full() {
+        return Ok(());
     }
     let clear = DeferredPixels::clear(alloc, board.width(), board.height(), tiles)?;
     let mut content = board.put_content(id, clear);

@@ -1,5 +1,5 @@
 -- Commands on the pixels of one layer, one after the other.
-use Rattle.std.proofs.Common.{◌≡◌, ◌==◌, ℕ, List, [], ◌∷◌, length, map, true, false, refl, ap, sym}
+use Rattle.std.proofs.Common.{◌≡◌, ◌==◌, ℕ, List, [], ◌∷◌, map, true, false, refl, ap, sym}
 use Rattle.std.proofs.Common.{◌∙◌, Option, None, Some, ⊎_elim, get_or}
 use Rattle.std.specs.Prelude.{All, option_map}
 use Rattle.std.specs.List.{fold}
