@@ -1,20 +1,21 @@
 -- Commands that are drawn one after the other, some of them together.
-use Rattle.std.proofs.Common.{◌≡◌, ℕ, ◌+◌, ◌≤◌, List, ◌++◌, length, take, drop, map}
-use Rattle.std.proofs.Common.{Some, None, Option, ap, sym, ◌∙◌, subst, arith, refl, true}
-use Rattle.std.specs.Prelude.{All, is_some, sum_by}
-use Rattle.std.proofs.lemmas.List.{drop-take, take-append-drop, take-take, length-drop}
+use Rattle.std.proofs.Common.{◌≡◌, ℕ, ◌+◌, List, ◌++◌, take, drop, Some, ap, sym, ◌∙◌, subst}
+use Rattle.std.proofs.Common.{arith}
+use Rattle.std.specs.Prelude.{All, sum_by}
+use Rattle.std.specs.List.{fold}
+use Rattle.std.proofs.lemmas.List.{drop-take, take-append-drop, take-take}
 use Rattle.std.proofs.lemmas.List.Elements.{All-weaker}
 use Rattle.std.proofs.lemmas.List.Sums.{fold-append, sum_by-append, sum_by-take-drop}
 use Rattle.dp_blend.specs.Color.{Channels, IsPixel}
-use Rattle.dp_board.specs.Counts.{CountsFew}
 use Rattle.dp_msg_draw.specs.declared.draw.Draw.{Draw}
-use Rattle.dp_layers.specs.Rows.{Row, content_of, with_content}
+use Rattle.dp_layers.specs.Rows.{content_of}
 use Rattle.dp_paint.specs.Painting.{IsPainting}
-use Rattle.dp_pixels.specs.Colors.{FitsColors}
+use Rattle.dp_pixels.specs.Commands.{pixels_after}
 use Rattle.dp_pixels.specs.Feet.{reach}
 use Rattle.dp_plain.specs.Board.{Board, HasPixels}
 use Rattle.dp_plain.specs.Commands.{draw, draw_all, painted_layer}
 use Rattle.dp_plain.proofs.Holds.{fit_found}
+use Rattle.dp_tile.specs.Tiles.{TileGrid, grid_pixels}
 use Rattle.dp_canvas.specs.Batches.{PaintsOn}
 
 -- ---- a run on one layer
@@ -32,6 +33,23 @@ pub found_pixels : (board : Board) (id : ℕ) (pixels : List Channels) → HasPi
     → Some pixels ≡ content_of board.rows id → All IsPixel pixels
 found_pixels board id pixels has found =
     fit_found (All IsPixel) board.rows id pixels has (sym found)
+
+-- the pixels of a layer after commands
+abbrev pixels_after_all : ℕ → ℕ → List Draw → List Channels → List Channels
+pixels_after_all width height commands pixels =
+    fold (λ old c. pixels_after width height c old) pixels commands
+
+-- what they make of a grid, on the sides of the board
+pub run_on : (board : Board) (w h : ℕ) (run : List Draw) (old new : TileGrid) → w ≡ board.width
+    → h ≡ board.height
+    → grid_pixels w h new ≡ pixels_after_all w h run (grid_pixels w h old)
+    → grid_pixels board.width board.height new
+    ≡ pixels_after_all board.width board.height run (grid_pixels board.width board.height old)
+run_on board w h run old new wide high is =
+    subst (λ (n : ℕ). grid_pixels n board.height new
+    ≡ pixels_after_all n board.height run (grid_pixels n board.height old)) wide
+    (subst (λ (n : ℕ). grid_pixels w n new ≡ pixels_after_all w n run (grid_pixels w n old)) high
+    is)
 
 -- ---- one run after another
 

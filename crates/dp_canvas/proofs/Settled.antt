@@ -1,5 +1,5 @@
 -- A layer that is taken out of a board and put back.
-use Rattle.std.proofs.Common.{◌≡◌, ℕ, List, Some, Option, ap, sym, ◌∙◌, refl}
+use Rattle.std.proofs.Common.{◌≡◌, ℕ, List, Some, ap, ◌∙◌}
 use Rattle.dp_blend.specs.Color.{Channels}
 use Rattle.dp_layers.specs.Rows.{Row, content_of, with_content}
 use Rattle.dp_plain.specs.Board.{Board, IsBoard}
