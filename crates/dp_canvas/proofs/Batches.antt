@@ -1,9 +1,9 @@
 -- Commands that are drawn one after the other, some of them together.
-use Rattle.std.proofs.Common.{◌≡◌, ℕ, ◌+◌, List, ◌++◌, take, drop, Some, ap, sym, ◌∙◌, subst}
-use Rattle.std.proofs.Common.{arith}
+use Rattle.std.proofs.Common.{◌≡◌, ℕ, ◌+◌, ◌-◌, List, ◌++◌, length, take, drop, Some, ap, sym}
+use Rattle.std.proofs.Common.{◌∙◌, subst, arith}
 use Rattle.std.specs.Prelude.{All, sum_by}
 use Rattle.std.specs.List.{fold}
-use Rattle.std.proofs.lemmas.List.{drop-take, take-append-drop, take-take}
+use Rattle.std.proofs.lemmas.List.{drop-take, length-drop, take-append-drop, take-take, take_all}
 use Rattle.std.proofs.lemmas.List.Elements.{All-weaker}
 use Rattle.std.proofs.lemmas.List.Sums.{fold-append, sum_by-append, sum_by-take-drop}
 use Rattle.dp_blend.specs.Color.{Channels, IsPixel}
@@ -52,6 +52,10 @@ run_on board w h run old new wide high is =
     is)
 
 -- ---- one run after another
+
+-- the commands from a place on
+pub rest_is : (ops : List Draw) (n : ℕ) → take (length ops - n) (drop n ops) ≡ drop n ops
+rest_is ops n = take_all (length ops - n) (drop n ops) (omega (arith, length-drop n ops))
 
 -- the first commands, and as many of those after them
 taken : {X : Type 0} (n m : ℕ) (xs : List X) → take (n + m) xs ≡ take n xs ++ take m (drop n xs)
