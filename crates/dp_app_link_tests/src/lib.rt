@@ -6,6 +6,8 @@ mod join;
 #[cfg(test)]
 mod kept;
 #[cfg(test)]
+mod play;
+#[cfg(test)]
 mod running;
 #[cfg(test)]
 mod serve;

@@ -1,3 +1,5 @@
+pub mod Batches
 pub mod DeferredLayers
 pub mod Grids
 pub mod Shown
+pub mod Settled

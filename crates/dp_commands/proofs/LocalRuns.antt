@@ -103,5 +103,5 @@ world-is law = record {
 pub each-is : OneReading replay_way → ((at : Option ℕ) → OneReading (play_way at)) → OneSchedule
     → (command : LocalCommand) → IsLocalRun (run_of command)
 each-is replay play world Replay = picture-is replay_way replay
-each-is replay play world (Play at) = picture-is (play_way at) (play at)
+each-is replay play world (Play at workers) = picture-is (play_way at) (play at)
 each-is replay play world World = world-is world

@@ -101,4 +101,4 @@ world_run = record {
 abbrev pub run_of : LocalCommand → Run
 run_of Replay = picture_run replay_way
 run_of World = world_run
-run_of (Play at) = picture_run (play_way at)
+run_of (Play at workers) = picture_run (play_way at)

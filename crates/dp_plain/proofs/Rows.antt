@@ -5,6 +5,7 @@ use Rattle.std.proofs.Common.{get_or, Option, None, Some, refl, ap, sym, ◌∙�
 use Rattle.std.specs.Prelude.{is_some, option_map, All}
 use Rattle.std.specs.List.{IsDistinct, cons_option}
 use Rattle.std.proofs.lemmas.Bool.{cond_both, cases_Bool, eqb-true}
+use Rattle.std.proofs.lemmas.Option.{none-some}
 use Rattle.std.proofs.lemmas.List.{length-map, get_or-map}
 use Rattle.std.proofs.lemmas.List.Elements.{All-nil, All-cons, All-head, All-tail, All-map}
 use Rattle.std.proofs.lemmas.List.Elements.{All-from_recursion}
@@ -156,6 +157,32 @@ filled_same {X} rows id x distinct found =
         cond_both (row.layer.id == id) (record row { content = Some x }) row
         (λ (q : Row X). q ≡ row)
         (λ here. ap (λ (o : Option X). record row { content = o }) (sym (held here))) (λ _. refl)
+
+-- x is found where it was put
+pub filled_found : {X : Type 0} (rows : List (Row X)) (id : ℕ) (old x : X)
+    → content_of rows id ≡ Some old → content_of (with_content rows id x) id ≡ Some x
+filled_found [] id old x found = absurd (none-some old found)
+filled_found {X} (row ∷ rows) id old x found =
+    ⊎_elim (λ (here : (row.layer.id == id) ≡ true). rw (here, here) refl)
+    (λ (missed : (row.layer.id == id) ≡ false).
+    rw (missed, missed) (filled_found rows id old x (rw missed at found)))
+    (cases_Bool (row.layer.id == id))
+
+-- what the row held is put back
+pub filled_back : {X : Type 0} (rows : List (Row X)) (id : ℕ) (old x : X) → HaveIds rows
+    → content_of rows id ≡ Some old
+    → with_content (with_content rows id x) id old ≡ rows
+filled_back {X} rows id old x distinct found =
+    map-map (fill_row id old) (fill_row id x) rows
+    ∙ map-each (λ row. fill_row id old (fill_row id x row)) (fill_row id old) rows
+    (λ k d in_list. one (get_or rows k d))
+    ∙ filled_same rows id old distinct found
+  where
+    one : (row : Row X) → fill_row id old (fill_row id x row) ≡ fill_row id old row
+    one row =
+        ⊎_elim (λ (here : (row.layer.id == id) ≡ true). rw (here, here) refl)
+        (λ (missed : (row.layer.id == id) ≡ false). rw (missed, missed) refl)
+        (cases_Bool (row.layer.id == id))
 
 -- ---- a change of the pixels in the row of an id
 
