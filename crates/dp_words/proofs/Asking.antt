@@ -19,7 +19,7 @@ use Rattle.dp_words.specs.CommandLines.{AsksBy, AsksIn, AsksOf, IsCommandLine}
 use Rattle.dp_words.specs.Forms.{Form, forms, join_form, play_form, replay_form, serve_form}
 use Rattle.dp_words.specs.Forms.{world_form}
 use Rattle.dp_words.specs.Program.{program}
-use Rattle.dp_words.specs.Values.{HasAt, HasWorkers}
+use Rattle.dp_words.specs.Values.{HasAt, HasWorkers, HasWorkersOrOne}
 
 -- ---- each form asks for one thing
 
@@ -52,9 +52,15 @@ replay-one rows a b x y = x ∙ sym y
 world-one : AsksOne world_form
 world-one rows a b x y = x ∙ sym y
 
+workers-or-one : OneNumber → (found : Option Text) (m n : ℕ)
+    → HasWorkersOrOne found m → HasWorkersOrOne found n → m ≡ n
+workers-or-one one None m n x y = x ∙ sym y
+workers-or-one one (Some word) m n x y = one-workers one (Some word) m n x y
+
 play-one : OneNumber → AsksOne play_form
-play-one one rows a b (at, x, e) (other, y, f) =
-    e ∙ ap (λ n. Local (Play n)) (one-at one _ at other x y) ∙ sym f
+play-one one rows a b x y =
+    x.4 ∙ ap₂ (λ at n. Local (Play at n)) (one-at one _ x.0 y.0 x.2 y.2)
+    (workers-or-one one _ x.1 y.1 x.3 y.3) ∙ sym y.4
 
 join-one : AsksOne join_form
 join-one rows a b x y = x.6 ∙ ap₂ Join (some-same x.2 y.2) (some-same x.3 y.3) ∙ sym y.6
@@ -139,7 +145,7 @@ pub signed-words : (words : List Text) (rows : List Row) (rest : Text)
     → first_of (codes "at") rows ≡ Some (43 ∷ rest) → IsCommandLine words → ⊥
 signed-words words rows rest named at (line, asked) =
     let asks : play_form.asks rows line = subst (λ e. AsksIn e line) named asked.1 in
-    no-plus-at rest asks.0 (subst (λ o. HasAt o asks.0) at asks.1)
+    no-plus-at rest asks.0 (subst (λ o. HasAt o asks.0) at asks.2)
 
 -- none of these forms has the name
 abbrev pub NoneNamed : List Form → Text → Type 0

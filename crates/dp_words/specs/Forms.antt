@@ -7,7 +7,7 @@ use Rattle.dp_words.specs.declared.command_line.LocalCommand.TheVariants.{Replay
 use Rattle.dp_words.specs.declared.command_line.Service.TheVariants.{Session}
 use Rattle.dp_words.specs.declared.form.Kind.{Kind}
 use Rattle.dp_words.specs.declared.form.Kind.TheVariants.{Word, Named}
-use Rattle.dp_words.specs.Values.{HasAt, HasWorkers, IsConns}
+use Rattle.dp_words.specs.Values.{HasAt, HasWorkers, HasWorkersOrOne, IsConns}
 
 -- a command's words: their name, the words and options that may follow it, and the line for which
 -- they ask with such values
@@ -24,13 +24,14 @@ abbrev pub world_form : Form
 world_form =
     record { name = codes "world"; params = []; asks = λ rows line. line ≡ Local World }
 
--- `play [--at N]`
+-- `play [--at N] [--workers W]`
 abbrev pub play_form : Form
 play_form = record {
   name = codes "play";
-  params = (codes "at", Named false) ∷ [];
-  asks = λ rows line. (at : Option ℕ) × HasAt (first_of (codes "at") rows) at
-      × (line ≡ Local (Play at));
+  params = (codes "at", Named false) ∷ (codes "workers", Named false) ∷ [];
+  asks = λ rows line. (at : Option ℕ) × (workers : ℕ) × HasAt (first_of (codes "at") rows) at
+      × HasWorkersOrOne (first_of (codes "workers") rows) workers
+      × (line ≡ Local (Play at workers));
 }
 
 -- `join ADDR NAME`

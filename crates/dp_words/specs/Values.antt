@@ -1,5 +1,5 @@
 -- The values of options.
-use Rattle.std.specs.Prelude.{◌≤◌, ℕ, Option, Some, None}
+use Rattle.std.specs.Prelude.{◌≡◌, ◌≤◌, ℕ, Option, Some, None}
 use Rattle.clap.specs.Walk.{Text}
 use Rattle.dp_lines.specs.Numbers.{IsNumber}
 
@@ -13,6 +13,11 @@ HasAt _ _ = ⊥
 abbrev pub HasWorkers : Option Text → ℕ → Type 0
 HasWorkers None n = ⊥
 HasWorkers (Some word) n = IsNumber word n × (1 ≤ n) × (n ≤ 64)
+
+-- the number of workers, which is 1 where there is no word
+abbrev pub HasWorkersOrOne : Option Text → ℕ → Type 0
+HasWorkersOrOne None n = n ≡ 1
+HasWorkersOrOne (Some word) n = HasWorkers (Some word) n
 
 -- the number of links is at least 1, where there is one
 abbrev pub IsConns : Option ℕ → Type 0

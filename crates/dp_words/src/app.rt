@@ -21,7 +21,10 @@ static FORMS: [Form; 5] = [
     },
     Form {
         name: "play",
-        params: &[("at", Named { required: false })],
+        params: &[
+            ("at", Named { required: false }),
+            ("workers", Named { required: false }),
+        ],
     },
     Form {
         name: "join",

@@ -30,8 +30,9 @@ pub enum LocalCommand {
     Replay,
     /// A schedule on the input, its report on the output.
     World,
-    /// A recording on the input, a picture on the output: of its first `at` entries, or of all.
-    Play { at: Option<u32> },
+    /// A recording on the input, a picture on the output: of its first `at` entries, or of all. So
+    /// many workers, from 1 to 64, paint it.
+    Play { at: Option<u32>, workers: u32 },
 }
 
 /// What a server serves.

@@ -24,11 +24,13 @@ pub fn one_command_line()
 pub fn some_command_lines()
     ensures replay { AsksFor (codes "replay" ∷ []) (Local Replay) }
     ensures world { AsksFor (codes "world" ∷ []) (Local World) }
-    ensures play { AsksFor (codes "play" ∷ []) (Local (Play None)) }
+    ensures play { AsksFor (codes "play" ∷ []) (Local (Play None 1)) }
     ensures play_at { AsksFor (codes "play" ∷ codes "--at" ∷ codes "30" ∷ [])
-        (Local (Play (Some 30))) }
+        (Local (Play (Some 30) 1)) }
     ensures play_at_one_word { AsksFor (codes "play" ∷ codes "--at=30" ∷ [])
-        (Local (Play (Some 30))) }
+        (Local (Play (Some 30) 1)) }
+    ensures play_workers { AsksFor (codes "play" ∷ codes "--workers" ∷ codes "7" ∷ [])
+        (Local (Play None 7)) }
     ensures join { AsksFor (codes "join" ∷ codes "localhost:7" ∷ codes "ann" ∷ [])
         (Join (codes "localhost:7") (codes "ann")) }
     ensures serve { AsksFor (codes "serve" ∷ codes "localhost:7" ∷ codes "--workers" ∷ codes "2"

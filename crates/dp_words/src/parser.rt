@@ -1,12 +1,12 @@
 //! Reading a command line.
 
-ghost use Rattle.std.specs.Prelude.{◌≡◌, ℕ, Option, codes, map, option_map, string_bytes};
+ghost use Rattle.std.specs.Prelude.{◌≡◌, ◌≤◌, ℕ, Option, codes, map, option_map, string_bytes};
 ghost use Rattle.std.specs.Prelude.{IfNone, IfOk, IfSome};
 ghost use Rattle.clap.specs.Words.{first_of, found_of, rows_of, subcommand_rows_of};
 ghost use Rattle.dp_words.specs.declared.command_line.CommandLine.{CommandLine};
 ghost use Rattle.dp_words.specs.CommandLines.{AsksBy, AsksFor, AsksIn, FitsLimits, IsCommandLine};
 ghost use Rattle.dp_words.specs.Forms.{join_form, play_form, serve_form};
-ghost use Rattle.dp_words.specs.Values.{HasAt, HasWorkers, IsConns};
+ghost use Rattle.dp_words.specs.Values.{HasAt, HasWorkers, HasWorkersOrOne, IsConns};
 
 use crate::app::drawpile_of;
 use crate::command_line::{CommandLine, LocalCommand, Service};
@@ -67,7 +67,7 @@ fn asked_by(
     }
 }
 
-/// `play` with its option.
+/// `play` with its options, if their numbers are ones that it takes.
 fn played(given: &ArgMatches) -> Option<CommandLine>
     ensures some { IfSome result (play_form.asks (rows_of (found_of given.now))) }
     ensures none { IfNone result ((other : CommandLine)
@@ -78,7 +78,8 @@ fn played(given: &ArgMatches) -> Option<CommandLine>
         Some(word) => Some(number(word.as_bytes())?),
         None => None,
     };
-    Some(CommandLine::Local(LocalCommand::Play { at }))
+    let workers = workers_or_one(given)?;
+    Some(CommandLine::Local(LocalCommand::Play { at, workers }))
 }
 
 /// `join` with its words, if the name has from 1 to 32 bytes.
@@ -130,6 +131,7 @@ fn workers_of(given: &ArgMatches) -> Option<u32>
         (HasWorkers (first_of (codes "workers") (rows_of (found_of given.now)))) }
     ensures none { IfNone result ((n : ℕ)
         → ¬ HasWorkers (first_of (codes "workers") (rows_of (found_of given.now))) n) }
+    ensures range { IfSome result (λ n. (1 ≤ n) × (n ≤ 64)) }
 {
     one_number();
     let workers = number(value_of(given, "workers")?.as_bytes())?;
@@ -137,6 +139,20 @@ fn workers_of(given: &ArgMatches) -> Option<u32>
         Some(workers)
     } else {
         None
+    }
+}
+
+/// The number of workers, if it is from 1 to 64; 1 where none is given.
+fn workers_or_one(given: &ArgMatches) -> Option<u32>
+    ensures some { IfSome result
+        (HasWorkersOrOne (first_of (codes "workers") (rows_of (found_of given.now)))) }
+    ensures none { IfNone result ((n : ℕ)
+        → ¬ HasWorkersOrOne (first_of (codes "workers") (rows_of (found_of given.now))) n) }
+    ensures range { IfSome result (λ n. (1 ≤ n) × (n ≤ 64)) }
+{
+    match value_of(given, "workers") {
+        Some(_) => workers_of(given),
+        None => Some(1),
     }
 }
 

@@ -20,16 +20,30 @@ returns-clause-world c = (refl, refl)
 
 pub returns-clause-play : goal.returns-clause-play
 unfolding clap_on_literals
-returns-clause-play c = (refl, (None, tt, refl))
+returns-clause-play c = (refl, (None, 1, tt, refl, refl))
 
 pub returns-clause-play_at : goal.returns-clause-play_at
 unfolding clap_on_literals digits
-returns-clause-play_at c = (refl, (Some 30, record { fits = lit< tt; text = refl }, refl))
+returns-clause-play_at c =
+    (refl, (Some 30, 1, record { fits = lit< tt; text = refl }, refl, refl))
 
 pub returns-clause-play_at_one_word : goal.returns-clause-play_at_one_word
 unfolding clap_on_literals digits
 returns-clause-play_at_one_word c =
-    (refl, (Some 30, record { fits = lit< tt; text = refl }, refl))
+    (refl, (Some 30, 1, record { fits = lit< tt; text = refl }, refl, refl))
+
+pub returns-clause-play_workers : goal.returns-clause-play_workers
+unfolding clap_on_literals digits
+returns-clause-play_workers c = (
+  refl,
+  (
+    None,
+    7,
+    tt,
+    (record { fits = lit< tt; text = refl }, lit≤ tt, lit≤ tt),
+    refl,
+  ),
+)
 
 pub returns-clause-join : goal.returns-clause-join
 unfolding clap_on_literals
