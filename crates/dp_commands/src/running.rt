@@ -14,6 +14,7 @@ ghost use Rattle.dp_commands.specs.Runs.{run_of};
 
 use crate::ending::Ending;
 use crate::server::run_server;
+use dp_drill::{Drill, run_drill};
 use dp_epochs::{Journal, Shut};
 use dp_io::{Sink, Source};
 use dp_joining::run_join;
@@ -178,7 +179,18 @@ fn run_local<I: Source, O: Sink, D: Ledger, T: Ledger>(
     match command {
         LocalCommand::Replay => run_replay(alloc, input, output, draws, tiles),
         LocalCommand::World => run_world(alloc, input, output, draws, tiles),
-        LocalCommand::Play { at } => run_play(alloc, input, output, *at, draws, tiles),
+        LocalCommand::Play { at, workers: _ } => run_play(alloc, input, output, *at, draws, tiles),
+        LocalCommand::Drill {
+            seed,
+            rounds,
+            workers: _,
+        } => {
+            let drill = Drill {
+                seed: *seed,
+                rounds: *rounds,
+            };
+            run_drill(alloc, drill, output, draws, tiles)
+        }
     }
 }
 

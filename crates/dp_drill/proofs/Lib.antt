@@ -1,2 +1,4 @@
 pub mod Follows
+pub mod Rounds
 pub mod Schedules
+pub mod Sums
