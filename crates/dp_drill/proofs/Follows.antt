@@ -33,8 +33,8 @@ use Rattle.dp_schedule.specs.declared.action.Action.TheVariants.{Act}
 use Rattle.dp_schedule.specs.declared.action.Instruction.{Instruction}
 use Rattle.dp_schedule.specs.declared.action.Instruction.TheVariants.{Say, Up, Take}
 use Rattle.dp_sim.specs.declared.participant.LinkState.TheVariants.{Connected}
-use Rattle.dp_sim.specs.Exchanges.{Participant, Exchange, acks, done, exchanged, heard, is_gone}
-use Rattle.dp_sim.specs.Exchanges.{next_entry, took_next, uplink_sent}
+use Rattle.dp_sim.specs.Exchanges.{Participant, Exchange, acks, disconnected, done, exchanged}
+use Rattle.dp_sim.specs.Exchanges.{heard, is_gone, next_entry, took_next, uplink_sent}
 use Rattle.dp_sim.specs.Invariant.{IsParticipant, IsWorld}
 use Rattle.dp_sim.specs.World.{World, after, participant_of, with_exchange}
 use Rattle.dp_sim.proofs.Marks.{NextHere, NextLater, next-either}
@@ -154,6 +154,13 @@ epoch-stays laws past conn m before plain =
 
 -- ---- one instruction
 
+-- an exchange of the client of a number, where these were the uplinks, and what became of the flow
+record IsMade (ups : List (List Msg)) (n : ℕ) (u : Exchange) (g : Flow) : Type 0 where
+  pub past : u.past ≡ g.past
+  pub epoch : epoch_of (state_of u.past) ≡ 0
+  pub uplinks : g.uplinks ≡ slice_set ups (n - 1) u.participant.uplink
+  pub playing : IsPlaying u.participant
+
 module _ (laws : Laws) (w : World) (f : Flow) (h : Follows w f) (n : ℕ) (p : Participant)
     (found : participant_of w n ≡ Some p) where
   abbrev t : Exchange
@@ -172,12 +179,8 @@ module _ (laws : Laws) (w : World) (f : Flow) (h : Follows w f) (n : ℕ) (p : P
   joined = at_some (participant_of w n) (IsParticipant (state_of w.past) n) p
       (h.world.participants n) found
 
-  -- the world after an exchange, and what became of the flow
-  record Made (u : Exchange) (g : Flow) : Type 0 where
-    past : u.past ≡ g.past
-    epoch : epoch_of (state_of u.past) ≡ 0
-    uplinks : g.uplinks ≡ slice_set ups (n - 1) u.participant.uplink
-    playing : IsPlaying u.participant
+  abbrev Made : Exchange → Flow → Type 0
+  Made u g = IsMade ups n u g
 
   same : Made t f
   same = record {
@@ -215,10 +218,11 @@ module _ (laws : Laws) (w : World) (f : Flow) (h : Follows w f) (n : ℕ) (p : P
   sent-made [] plain = same
   sent-made (m ∷ rest) plain =
       subst (λ u. Made u (sent f n (m ∷ rest)))
-      (sym (ap (λ b. if b then _ else heard t m rest) (no-disconnect m plain.0)))
+      (sym (ap (λ b. if b then disconnected (heard t m rest) else heard t m rest)
+      (no-disconnect m plain.0)))
       (sent-first m rest plain.0 plain.1)
 
-  taken-made : (found : Option Entry) → next_entry t ≡ found → Made (took_next t found) f
+  taken-made : (next : Option Entry) → next_entry t ≡ next → Made (took_next t next) f
   taken-made None is = same
   taken-made (Some entry) is =
       ⊎_elim (λ (next : NextHere (state_of w.past) p.state entry). record {

@@ -2,7 +2,7 @@
 use Rattle.std.proofs.Common.{◌≡◌, ℕ, zero, suc, ◌+◌, ◌-◌, ◌*◌, ◌%◌, ◌/◌, ◌<◌, ◌≤◌, ◌^◌, ◌==◌}
 use Rattle.std.proofs.Common.{Bool, true, false, not, is_some, MatchBool, if◌then◌else◌, List, []}
 use Rattle.std.proofs.Common.{◌∷◌, ◌++◌, length, map, take, Option, None, Some, refl, sym, ap}
-use Rattle.std.proofs.Common.{subst, ◌∙◌, arith, codes, replicate}
+use Rattle.std.proofs.Common.{subst, ◌∙◌, arith, codes, lit≤, replicate}
 use Rattle.std.specs.Prelude.{nat_le, pos, ⊤, max}
 use Rattle.std.specs.List.{AllByRecursion, flat_map, fold, list_any, slice_get}
 use Rattle.std.specs.Option.{option_map, option_map_or}
@@ -55,10 +55,10 @@ either false xs ys h k = k
 
 round-played : (client kind : ℕ) (brush : Brush) → ArePlayed (round_of client kind brush)
 round-played client kind brush =
-    either (kind == 0) _ _ (omega arith, tt)
-    (either (nat_le kind 3) _ _ (omega arith, tt)
-    (either (kind == 4) _ _ (omega arith, tt)
-    (either (kind == 5) _ _ (omega arith, tt)
+    either (kind == 0) _ _ (lit≤ tt, tt)
+    (either (nat_le kind 3) _ _ (lit≤ tt, tt)
+    (either (kind == 4) _ _ (lit≤ tt, tt)
+    (either (kind == 5) _ _ (lit≤ tt, tt)
     (either (nat_le kind 11) _ _ (tt, tt) (tt, tt, tt, tt, tt)))))
 
 rounds-played : (x n : ℕ) → ArePlayed (rounds x n)
@@ -102,7 +102,7 @@ take-made f client = by_client (numbered f.uplinks client)
     by_client None = refl
     by_client (Some uplink) = refl
 
-takes-made : (f : Flow) (client n : ℕ) → fold flow_after f (replicate n (Act client Take)) ≡ f
+pub takes-made : (f : Flow) (client n : ℕ) → fold flow_after f (replicate n (Act client Take)) ≡ f
 takes-made f client zero = refl
 takes-made f client (suc n) =
     ap (λ g. fold flow_after g (replicate n (Act client Take))) (take-made f client)
@@ -151,8 +151,17 @@ sends-are w f h =
 
 -- ---- the first actions
 
+abbrev join_a : Action
+join_a = Join (codes "a") false
+
+abbrev join_b : Action
+join_b = Join (codes "b") false
+
+abbrev join_c : Action
+join_c = Join (codes "c") false
+
 abbrev joins : List Action
-joins = Join (codes "a") false ∷ Join (codes "b") false ∷ Join (codes "c") false ∷ []
+joins = join_a ∷ join_b ∷ join_c ∷ []
 
 abbrev opening_actions : List Action
 opening_actions =
@@ -163,7 +172,8 @@ three-joined : (laws : Laws) → IsWorld first_world
     → Follows (world_after joins) (flow_after_all joins)
 unfolding flow_after user_ids
 three-joined laws first = record {
-  world = laws.stays _ _ (laws.stays _ _ (laws.stays _ _ first));
+  world = laws.stays (fold after first_world (join_a ∷ join_b ∷ [])) join_c
+      (laws.stays (after first_world join_a) join_b (laws.stays first_world join_a first));
   past = refl;
   epoch = refl;
   uplinks = refl;
@@ -177,7 +187,7 @@ three-joined laws first = record {
 }
 
 first-played : ArePlayed opening_actions
-first-played = (omega arith, omega arith, tt, tt, tt)
+first-played = (lit≤ tt, lit≤ tt, tt, tt, tt)
 
 first-follows : (laws : Laws) → IsWorld first_world
     → Follows (world_after first_actions) (flow_after_all first_actions)
@@ -235,7 +245,7 @@ first-gets short w world epoch playing some =
     by-connection s w.past.quiet 1 0 0 4294967295 (connection_of s 1) world.quiet running
     ∙ ap (λ k. if 0 == k then Entries 0 0 (page 0 4294967295 s.live)
     else Entries k 0 (page 0 4294967295 s.live)) epoch
-    ∙ ap (Entries 0 0) (take_all s.live 4294967295 few)
+    ∙ ap (Entries 0 0) (take_all 4294967295 s.live few)
 
 -- ---- the whole drill
 

@@ -1,8 +1,10 @@
 //! A session and what its clients send, without their canvases.
 
-ghost use Rattle.std.specs.Prelude.{◌≡◌, ◌∷◌, ◌++◌, [], None, false, replicate, IfOk, OnOk};
+ghost use Rattle.std.specs.Prelude.{◌≡◌, ◌∷◌, ◌++◌, [], None, false, is_some, length, replicate};
+ghost use Rattle.std.specs.Prelude.{IfNone, IfOk, IfSome, OnOk};
 ghost use Rattle.std.specs.List.{fold};
 ghost use Rattle.dp_epochs.specs.Past.{state_of};
+ghost use Rattle.dp_lists.specs.Numbered.{numbered};
 ghost use Rattle.dp_schedule.specs.declared.action.Action.TheVariants.{Join, Act};
 ghost use Rattle.dp_schedule.specs.declared.action.Instruction.TheVariants.{Say, Up};
 ghost use Rattle.dp_drill.specs.Flow.{waiting};
@@ -31,6 +33,40 @@ impl Model for Uplink {
     ghost Value = { List Message };
 
     ghost view = { λ u. u.queue.items };
+}
+
+impl Uplink {
+    /// No messages.
+    fn new(alloc: Global) -> Uplink
+        ensures { result ≡ [] }
+    {
+        Uplink {
+            queue: VecDeque::new(alloc),
+        }
+    }
+
+    /// How many messages there are.
+    fn len(&self) -> usize
+        ensures { result ≡ length self.now }
+    {
+        self.queue.len()
+    }
+
+    /// One more message.
+    fn push(&mut self, msg: Msg) -> Result<(), AllocError>
+        ensures { OnOk result (self.new ≡ self.old ++ msg ∷ []) }
+    {
+        self.queue.push_back(msg)?;
+        Ok(())
+    }
+
+    /// Takes the first message, if there is one.
+    fn pop(&mut self) -> Option<Msg>
+        ensures some { IfSome result (λ msg. self.old ≡ msg ∷ self.new) }
+        ensures none { IfNone result ((self.old ≡ []) × (self.new ≡ [])) }
+    {
+        self.queue.pop_front()
+    }
 }
 
 /// A session, and the messages on their way from each client, in the order of their joins.
@@ -71,14 +107,14 @@ impl Flow {
         let name = Octets::from_vec(Vec::from_slice(self.alloc, name)?);
         let registered = false;
         self.session.step_surely(&Event::Open { name, registered })?;
-        self.uplinks.push(Uplink {
-            queue: VecDeque::new(self.alloc),
-        })?;
+        self.uplinks.push(Uplink::new(self.alloc))?;
         Ok(())
     }
 
     /// Whether there is a client of this number.
-    fn has(&self, client: u32) -> bool {
+    fn has(&self, client: u32) -> bool
+        ensures { result ≡ is_some (numbered self.now.uplinks client) }
+    {
         client != 0 && (client as usize) <= self.uplinks.len()
     }
 
@@ -90,8 +126,7 @@ impl Flow {
         if !self.has(client) {
             return Ok(());
         }
-        self.uplinks[client as usize - 1].queue.push_back(msg)?;
-        Ok(())
+        self.uplinks[client as usize - 1].push(msg)
     }
 
     /// The client's uplink sends its first message, if there is one.
@@ -103,7 +138,7 @@ impl Flow {
         if !self.has(client) {
             return Ok(());
         }
-        let Some(msg) = self.uplinks[client as usize - 1].queue.pop_front() else {
+        let Some(msg) = self.uplinks[client as usize - 1].pop() else {
             return Ok(());
         };
         self.session.step_surely(&Event::Say { conn: client, msg })?;
@@ -115,7 +150,7 @@ impl Flow {
         ensures { result ≡ waiting self.now client }
     {
         if self.has(client) {
-            self.uplinks[client as usize - 1].queue.len()
+            self.uplinks[client as usize - 1].len()
         } else {
             0
         }

@@ -40,15 +40,15 @@ pub(crate) fn paint_history<D: Ledger, T: Ledger>(
 /// Draws the commands, one after the other.
 fn draw_each<D: Ledger, T: Ledger>(
     canvas: &mut Canvas,
-    commands: &[Draw],
+    ops: &[Draw],
     draws: &mut Steps<D>,
     tiles: &mut Steps<T>,
 ) -> Result<(), AllocError>
-    ensures board { OnOk result (canvas.new ≡ draw_all canvas.old commands.now) }
-    ensures few { CountsFew reach commands.now draws.old draws.new tiles.old tiles.new }
+    ensures board { OnOk result (canvas.new ≡ draw_all canvas.old ops.now) }
+    ensures few { CountsFew reach ops.now draws.old draws.new tiles.old tiles.new }
 {
-    for command in commands {
-        canvas.draw(command, draws, tiles)?;
+    for op in ops {
+        canvas.draw(op, draws, tiles)?;
     }
     Ok(())
 }

@@ -56,14 +56,14 @@ pub(crate) fn play_rounds(
     alloc: Global,
     flow: &mut Flow,
     seed: u64,
-    rounds: u32,
+    count: u32,
 ) -> Result<(), AllocError>
     requires { flow.old.past.first_fault ≡ None }
-    ensures ok { OnOk result (flow.new ≡ fold flow_after flow.old (rounds seed rounds)) }
+    ensures ok { OnOk result (flow.new ≡ fold flow_after flow.old (rounds seed count)) }
     ensures sure { OnOk result (flow.new.past.first_fault ≡ None) }
 {
     let mut x = seed;
-    for _ in 0..rounds {
+    for _ in 0..count {
         let first = next(x);
         let second = next(first);
         play_round(alloc, flow, given(first), given(second))?;

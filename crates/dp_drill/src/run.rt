@@ -1,6 +1,6 @@
 //! Running a drill.
 
-ghost use Rattle.std.specs.Prelude.{◌≡◌, ◌≤◌, IfOk};
+ghost use Rattle.std.specs.Prelude.{◌≡◌, ◌≤◌, ℕ, IfOk};
 ghost use Rattle.dp_board.specs.Counts.{CountsFew};
 ghost use Rattle.dp_lines.specs.RunEnds.{FaultMatchesEnd};
 ghost use Rattle.dp_pixels.specs.Feet.{reach};
@@ -44,7 +44,8 @@ pub fn run_drill<O: Sink, D: Ledger, T: Ledger>(
 ) -> RunEnd
     ensures leaves { DrillLeaves drill.seed drill.rounds (O.held output.old) (O.held output.new)
         (counters draws.old draws.new tiles.old tiles.new) result }
-    ensures fault { FaultMatchesEnd 0 0 (O.faults output.old) (O.faults output.new) result }
+    ensures fault { (n : ℕ)
+        → FaultMatchesEnd n n (O.faults output.old) (O.faults output.new) result }
     ensures output_later { O.faults output.old ≤ O.faults output.new }
 {
     let Ok(text) = drill_text(alloc, drill, draws, tiles) else {

@@ -57,6 +57,13 @@ workers-or-one : OneNumber → (found : Option Text) (m n : ℕ)
 workers-or-one one None m n x y = x ∙ sym y
 workers-or-one one (Some word) m n x y = one-workers one (Some word) m n x y
 
+-- where a word is there, it is no number of workers if it is none that a server takes
+pub some-or-one : (found : Option Text) (word : Text) (read : Option ℕ) → found ≡ Some word
+    → IfNone read ((n : ℕ) → HasWorkers found n → ⊥)
+    → IfNone read ((n : ℕ) → HasWorkersOrOne found n → ⊥)
+some-or-one None word read there none = cc
+some-or-one (Some found) word read there none = none
+
 play-one : OneNumber → AsksOne play_form
 play-one one rows a b x y =
     x.4 ∙ ap₂ (λ at n. Local (Play at n)) (one-at one _ x.0 y.0 x.2 y.2)
