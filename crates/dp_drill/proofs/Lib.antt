@@ -1,4 +1,4 @@
 pub mod Follows
-pub mod Rounds
+pub mod RoundKinds
 pub mod Schedules
 pub mod Sums

@@ -2,11 +2,13 @@
 use Rattle.std.proofs.Common.{◌≡◌, ℕ, zero, suc, ◌+◌, ◌-◌, ◌*◌, ◌%◌, ◌/◌, ◌<◌, ◌≤◌, ◌^◌, ◌==◌}
 use Rattle.std.proofs.Common.{Bool, true, false, not, is_some, MatchBool, if◌then◌else◌, List, []}
 use Rattle.std.proofs.Common.{◌∷◌, ◌++◌, length, map, take, Option, None, Some, refl, sym, ap}
-use Rattle.std.proofs.Common.{subst, ◌∙◌, arith, codes, lit≤, replicate}
+use Rattle.std.proofs.Common.{subst, ◌∙◌, arith, codes, lit<, lit≤, replicate}
 use Rattle.std.specs.Prelude.{nat_le, pos, ⊤, max}
 use Rattle.std.specs.List.{AllByRecursion, flat_map, fold, list_any, slice_get}
 use Rattle.std.specs.Option.{option_map, option_map_or}
 use Rattle.std.proofs.lemmas.List.{take_all}
+use Rattle.std.proofs.lemmas.Str.{IsUtf8-from_ascii, is_utf8-from_IsUtf8}
+use Rattle.std.specs.Str.{IsAscii}
 use Rattle.std.proofs.lemmas.List.Sums.{fold-append}
 use Rattle.dp_lists.specs.Numbered.{numbered}
 use Rattle.dp_lists.proofs.Numbered.{number-found}
@@ -23,7 +25,12 @@ use Rattle.dp_epochs.specs.declared.event.Answer.TheVariants.{Entries, Gone}
 use Rattle.dp_epochs.specs.Connections.{is_ended}
 use Rattle.dp_epochs.specs.Past.{Past, state_of}
 use Rattle.dp_epochs.specs.Pull.{page, pulled_by, pulled_from, pulled_where}
-use Rattle.dp_epochs.specs.State.{State, connection_of, epoch_of, history_of, user_ids, where_open}
+use Rattle.dp_epochs.specs.declared.event.Event.TheVariants as event
+use Rattle.dp_epochs.specs.declared.event.Reply.{Reply}
+use Rattle.dp_epochs.specs.declared.event.Reply.TheVariants as reply
+use Rattle.dp_epochs.specs.State.{Acted, State, acted, after_event, connection_of, epoch_of}
+use Rattle.dp_epochs.specs.State.{first_state, free_id, history_of, is_name, noted, opened_as}
+use Rattle.dp_epochs.specs.State.{stays, user_ids, where_open}
 use Rattle.dp_schedule.specs.declared.action.Action.{Action}
 use Rattle.dp_schedule.specs.declared.action.Action.TheVariants.{Join, Act}
 use Rattle.dp_schedule.specs.declared.action.Instruction.TheVariants.{Say, Up, Take}
@@ -31,7 +38,8 @@ use Rattle.dp_sim.specs.declared.participant.LinkState.{LinkState}
 use Rattle.dp_sim.specs.declared.participant.LinkState.TheVariants.{Connected}
 use Rattle.dp_sim.specs.Exchanges.{Participant}
 use Rattle.dp_sim.specs.Invariant.{IsParticipant, IsWorld, is_closed}
-use Rattle.dp_sim.specs.World.{World, after, first_world, participant_of, world_after}
+use Rattle.dp_sim.specs.World.{World, after, first_world, new_participant, participant_of}
+use Rattle.dp_sim.specs.World.{with_joined, world_after}
 use Rattle.dp_msg_draw.specs.declared.draw.Draw.TheVariants.{CanvasResize, LayerCreate}
 use Rattle.dp_sim.proofs.Marks.{live-is}
 use Rattle.dp_drill.specs.declared.rounds.Brush.{Brush}
@@ -59,7 +67,7 @@ round-played client kind brush =
     (either (nat_le kind 3) _ _ (lit≤ tt, tt)
     (either (kind == 4) _ _ (lit≤ tt, tt)
     (either (kind == 5) _ _ (lit≤ tt, tt)
-    (either (nat_le kind 11) _ _ (tt, tt) (tt, tt, tt, tt, tt)))))
+    (either (nat_le kind 11) _ _ (tt, tt) (tt, (tt, (tt, (tt, tt))))))))
 
 rounds-played : (x n : ℕ) → ArePlayed (rounds x n)
 unfolding round
@@ -115,8 +123,8 @@ all-taken f counts =
     let one = replicate (counts 1) (Act 1 Take) in
     let two = replicate (counts 2) (Act 2 Take) in
     let three = replicate (counts 3) (Act 3 Take) in
-    fold-append flow_after f one (two ++ three ++ [])
-    ∙ ap (λ g. fold flow_after g (two ++ three ++ [])) (takes-made f 1 (counts 1))
+    fold-append flow_after f one (two ++ (three ++ []))
+    ∙ ap (λ g. fold flow_after g (two ++ (three ++ []))) (takes-made f 1 (counts 1))
     ∙ fold-append flow_after f two (three ++ [])
     ∙ ap (λ g. fold flow_after g (three ++ [])) (takes-made f 2 (counts 2))
     ∙ fold-append flow_after f three []
@@ -141,13 +149,19 @@ waiting-is w f h client =
     by_client None = refl
     by_client (Some p) = refl
 
+-- so many sends of each client
+abbrev sends : ℕ → ℕ → ℕ → List Action
+sends a b c = replicate a (Act 1 Up) ++ (replicate b (Act 2 Up) ++ (replicate c (Act 3 Up) ++ []))
+
+-- how many messages wait in the world
+abbrev held : World → ℕ → ℕ
+held w client = option_map_or (λ p. length p.uplink) (participant_of w client) 0
+
 sends-are : (w : World) (f : Flow) → Follows w f → sends_all w ≡ sends_of f
 sends-are w f h =
-    ap (λ n. replicate n (Act 1 Up) ++ _) (waiting-is w f h 1)
-    ∙ ap (λ n. replicate (waiting f 1) (Act 1 Up) ++ replicate n (Act 2 Up) ++ _)
-    (waiting-is w f h 2)
-    ∙ ap (λ n. replicate (waiting f 1) (Act 1 Up) ++ replicate (waiting f 2) (Act 2 Up)
-    ++ replicate n (Act 3 Up) ++ []) (waiting-is w f h 3)
+    ap (λ n. sends n (held w 2) (held w 3)) (waiting-is w f h 1)
+    ∙ ap (λ n. sends (waiting f 1) n (held w 3)) (waiting-is w f h 2)
+    ∙ ap (λ n. sends (waiting f 1) (waiting f 2) n) (waiting-is w f h 3)
 
 -- ---- the first actions
 
@@ -168,6 +182,75 @@ opening_actions =
     Act 1 (Say (msg.Draw (CanvasResize (pos 0) (pos 256) (pos 256) (pos 0))))
     ∷ Act 1 (Say (msg.Draw (LayerCreate 257 0 false []))) ∷ Act 1 Up ∷ Act 1 Up ∷ []
 
+-- a name of one character that is ASCII is a name
+ascii : (c : ℕ) → c < 128 → IsAscii (c ∷ [])
+ascii c low zero = low
+ascii c low (suc i) = lit< tt
+
+named : (c : ℕ) → c < 128 → is_name (c ∷ []) ≡ true
+named c low = is_utf8-from_IsUtf8 (c ∷ []) (IsUtf8-from_ascii (c ∷ []) (ascii c low))
+
+-- who joins by a name gets the lowest free id
+abbrev entered : State → List ℕ → Acted
+entered s name = opened_as s false name (free_id s)
+
+opened-is : (s : State) (name : List ℕ) → is_name name ≡ true
+    → acted s (event.Open name false) ≡ entered s name
+opened-is s name named = ap (λ b. if b then entered s name else stays s reply.NameRefused) named
+
+-- the states after the joins
+abbrev a_in : State
+a_in = noted first_state (entered first_state (codes "a"))
+
+abbrev b_in : State
+b_in = noted a_in (entered a_in (codes "b"))
+
+abbrev c_in : State
+c_in = noted b_in (entered b_in (codes "c"))
+
+-- where an Open leads
+abbrev opened_after : State → List ℕ → State
+opened_after s name = after_event s (event.Open name false)
+
+step-is : (s t : State) (name : List ℕ) → s ≡ t → is_name name ≡ true
+    → opened_after s name ≡ noted t (entered t name)
+step-is s t name same named =
+    ap (λ u. opened_after u name) same ∙ ap (noted t) (opened-is t name named)
+
+a-is : opened_after first_state (codes "a") ≡ a_in
+a-is = step-is first_state first_state (codes "a") refl (named 97 (lit< tt))
+
+b-is : opened_after (opened_after first_state (codes "a")) (codes "b") ≡ b_in
+b-is = step-is _ a_in (codes "b") a-is (named 98 (lit< tt))
+
+c-is : state_of (world_after joins).past ≡ c_in
+c-is = step-is _ b_in (codes "c") b-is (named 99 (lit< tt))
+
+-- what an Open is answered
+abbrev answer : State → List ℕ → Reply
+answer s name = (acted s (event.Open name false)).reply
+
+answer-is : (s t : State) (name : List ℕ) → s ≡ t → is_name name ≡ true
+    → answer s name ≡ (entered t name).reply
+answer-is s t name same named =
+    ap (λ u. answer u name) same ∙ ap (λ (a : Acted). a.reply) (opened-is t name named)
+
+abbrev three : List Participant
+three = new_participant 1 1 0 1 ∷ new_participant 2 2 0 3 ∷ new_participant 3 3 0 4 ∷ []
+
+participants-are : (world_after joins).participants ≡ three
+unfolding user_ids
+participants-are =
+    let s = opened_after first_state (codes "a") in
+    let t = opened_after s (codes "b") in
+    ap (λ r. with_joined (with_joined (with_joined [] r) (answer s (codes "b")))
+    (answer t (codes "c")))
+    (answer-is first_state first_state (codes "a") refl (named 97 (lit< tt)))
+    ∙ ap (λ r. with_joined (with_joined (new_participant 1 1 0 1 ∷ []) r) (answer t (codes "c")))
+    (answer-is s a_in (codes "b") a-is (named 98 (lit< tt)))
+    ∙ ap (λ r. with_joined (new_participant 1 1 0 1 ∷ new_participant 2 2 0 3 ∷ []) r)
+    (answer-is t b_in (codes "c") b-is (named 99 (lit< tt)))
+
 three-joined : (laws : Laws) → IsWorld first_world
     → Follows (world_after joins) (flow_after_all joins)
 unfolding flow_after user_ids
@@ -175,19 +258,20 @@ three-joined laws first = record {
   world = laws.stays (fold after first_world (join_a ∷ join_b ∷ [])) join_c
       (laws.stays (after first_world join_a) join_b (laws.stays first_world join_a first));
   past = refl;
-  epoch = refl;
-  uplinks = refl;
-  playing = (
+  epoch = ap epoch_of c-is;
+  uplinks = sym (ap (map (λ (p : Participant). p.uplink)) participants-are);
+  playing = subst (AllByRecursion IsPlaying) (sym participants-are) (
     record { link = refl; epoch = refl; plain = tt },
-    record { link = refl; epoch = refl; plain = tt },
-    record { link = refl; epoch = refl; plain = tt },
-    tt,
+    (
+      record { link = refl; epoch = refl; plain = tt },
+      (record { link = refl; epoch = refl; plain = tt }, tt),
+    ),
   );
-  some = omega arith;
+  some = subst (λ (ps : List Participant). 0 < length ps) (sym participants-are) (lit< tt);
 }
 
 first-played : ArePlayed opening_actions
-first-played = (lit≤ tt, lit≤ tt, tt, tt, tt)
+first-played = (lit≤ tt, (lit≤ tt, (tt, (tt, tt))))
 
 first-follows : (laws : Laws) → IsWorld first_world
     → Follows (world_after first_actions) (flow_after_all first_actions)
@@ -265,13 +349,13 @@ module _ (laws : Laws) (first : IsWorld first_world) (seed count : ℕ) where
   abbrev sent : World
   sent = world_after (sent_actions seed count)
 
-  sends : sends_all (world_after some) ≡ sends_of (flow_after_all some)
-  sends = sends-are (world_after some) (flow_after_all some) some-follows
+  same-sends : sends_all (world_after some) ≡ sends_of (flow_after_all some)
+  same-sends = sends-are (world_after some) (flow_after_all some) some-follows
 
   sent-follows : Follows (world_after (sent_actions seed count)) (drill_flow seed count)
   sent-follows =
       subst (λ w. Follows w (drill_flow seed count))
-      (sym (ap (λ more. world_after (some ++ more)) sends
+      (sym (ap (λ more. world_after (some ++ more)) same-sends
       ∙ fold-append after first_world some (sends_of (flow_after_all some))))
       (actions-follow laws (world_after some) (flow_after_all some)
       (sends_of (flow_after_all some)) (sends-played (flow_after_all some)) some-follows)

@@ -1,6 +1,6 @@
 //! The summary of a drill.
 
-ghost use Rattle.std.specs.Prelude.{◌≡◌, ◌+◌, ◌<◌, ◌≤◌, ◌∷◌, ◌++◌, [], decimal, IfOk, OnOk};
+ghost use Rattle.std.specs.Prelude.{◌≡◌, ℕ, ◌+◌, ◌<◌, ◌≤◌, ◌∷◌, ◌++◌, [], decimal, IfOk, OnOk};
 ghost use Rattle.dp_plain.specs.Picture.{picture};
 ghost use Rattle.dp_drill.specs.Summary.{AreAtMost, plus, row_of, summary, sums_of};
 

@@ -2,7 +2,7 @@
 use Rattle.std.proofs.Common.{◌≡◌, ◌<◌, ℕ, zero, suc, ◌+◌, List, [], ◌∷◌, Option, Some, None}
 use Rattle.std.proofs.Common.{Bool, true, false, IfNone, ap, ap₂, arith, codes, decimal, length}
 use Rattle.std.proofs.Common.{refl, slice_index, subst, sym, ◌∙◌}
-use Rattle.std.proofs.lemmas.Fmt.{first_decimal}
+use Rattle.std.proofs.lemmas.Fmt.{decimal_injective, first_decimal}
 use Rattle.std.proofs.lemmas.Slice.Eq.{bytes_eq-Decides}
 use Rattle.std.specs.Fmt.{digits}
 use Rattle.std.specs.Prelude.{Decides, IfOk, MatchBool, Result, unwrap_or}
@@ -13,13 +13,13 @@ use Rattle.clap.specs.Walk.{Row, Text, first_of}
 use Rattle.dp_lines.specs.Numbers.{IsNumber}
 use Rattle.dp_words.specs.declared.command_line.CommandLine.{CommandLine}
 use Rattle.dp_words.specs.declared.command_line.CommandLine.TheVariants.{Local, Join, Listen}
-use Rattle.dp_words.specs.declared.command_line.LocalCommand.TheVariants.{Play}
+use Rattle.dp_words.specs.declared.command_line.LocalCommand.TheVariants.{Play, Drill}
 use Rattle.dp_words.specs.declared.command_line.Service.TheVariants.{Session}
 use Rattle.dp_words.specs.CommandLines.{AsksBy, AsksIn, AsksOf, IsCommandLine}
-use Rattle.dp_words.specs.Forms.{Form, forms, join_form, play_form, replay_form, serve_form}
-use Rattle.dp_words.specs.Forms.{world_form}
+use Rattle.dp_words.specs.Forms.{Form, drill_form, forms, join_form, play_form, replay_form}
+use Rattle.dp_words.specs.Forms.{serve_form, world_form}
 use Rattle.dp_words.specs.Program.{program}
-use Rattle.dp_words.specs.Values.{HasAt, HasWorkers, HasWorkersOrOne}
+use Rattle.dp_words.specs.Values.{HasAt, HasRounds, HasSeed, HasWorkers, HasWorkersOrOne}
 
 -- ---- each form asks for one thing
 
@@ -69,6 +69,24 @@ play-one one rows a b x y =
     x.4 ∙ ap₂ (λ at n. Local (Play at n)) (one-at one _ x.0 y.0 x.2 y.2)
     (workers-or-one one _ x.1 y.1 x.3 y.3) ∙ sym y.4
 
+one-seed : (found : Option Text) (m n : ℕ) → HasSeed found m → HasSeed found n → m ≡ n
+one-seed None m n x y = absurd x
+one-seed (Some word) m n x y = decimal_injective m n x.fits y.fits (sym x.text ∙ y.text)
+
+one-rounds : OneNumber → (found : Option Text) (m n : ℕ)
+    → HasRounds found m → HasRounds found n → m ≡ n
+one-rounds one None m n x y = absurd x
+one-rounds one (Some word) m n x y = one word m n x.0 y.0
+
+drill-one : OneNumber → AsksOne drill_form
+drill-one one rows a b x y =
+    let seeds-are : x.0 ≡ y.0 = one-seed _ x.0 y.0 x.3 y.3 in
+    let rounds-are : x.1 ≡ y.1 = one-rounds one _ x.1 y.1 x.4 y.4 in
+    let workers-are : x.2 ≡ y.2 = one-workers one _ x.2 y.2 x.5 y.5 in
+    let a-is : a ≡ Local (Drill x.0 x.1 x.2) = x.6 in
+    let b-is : b ≡ Local (Drill y.0 y.1 y.2) = y.6 in
+    cc
+
 join-one : AsksOne join_form
 join-one rows a b x y = x.6 ∙ ap₂ Join (some-same x.2 y.2) (some-same x.3 y.3) ∙ sym y.6
 
@@ -88,7 +106,8 @@ EachAsksOne [] = Unit {0}
 EachAsksOne (form ∷ rest) = AsksOne form × EachAsksOne rest
 
 each-one : OneNumber → EachAsksOne forms
-each-one one = (replay-one, (world-one, (play-one one, (join-one, (serve-one one, tt)))))
+each-one one =
+    (replay-one, (world-one, (play-one one, (drill-one one, (join-one, (serve-one one, tt))))))
 
 either-one : (test : Bool) (form : Form) (rest : List Form) (name : Text) (rows : List Row)
     (a b : CommandLine) → AsksOne form

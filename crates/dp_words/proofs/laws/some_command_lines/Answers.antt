@@ -45,6 +45,25 @@ returns-clause-play_workers c = (
   ),
 )
 
+pub returns-clause-drill : goal.returns-clause-drill
+unfolding clap_on_literals digits
+returns-clause-drill c = (
+  refl,
+  (
+    18446744073709551615,
+    100000,
+    64,
+    record { fits = lit< tt; text = refl },
+    (record { fits = lit< tt; text = refl }, lit≤ tt),
+    (record { fits = lit< tt; text = refl }, lit≤ tt, lit≤ tt),
+    refl,
+  ),
+)
+
+pub returns-clause-no_seed : goal.returns-clause-no_seed
+unfolding clap_on_literals
+returns-clause-no_seed c = faulty (codes "drill" ∷ codes "1" ∷ codes "1" ∷ []) 0 refl
+
 pub returns-clause-join : goal.returns-clause-join
 unfolding clap_on_literals
 returns-clause-join c =
