@@ -30,8 +30,19 @@ pub enum LocalCommand {
     Replay,
     /// A schedule on the input, its report on the output.
     World,
-    /// A recording on the input, a picture on the output: of its first `at` entries, or of all.
-    Play { at: Option<u32> },
+    /// A recording on the input, a picture on the output: of its first `at` entries, or of all. So
+    /// many workers, from 1 to 64, paint it.
+    Play {
+        at: Option<u32>,
+        workers: u32,
+    },
+    /// A session that is made from a number, with so many rounds, at most 100,000; its summary on
+    /// the output. So many workers, from 1 to 64, paint it.
+    Drill {
+        seed: u64,
+        rounds: u32,
+        workers: u32,
+    },
 }
 
 /// What a server serves.
