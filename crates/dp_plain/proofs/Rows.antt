@@ -115,7 +115,7 @@ content_itself {X} (row ∷ rows) distinct =
     (others k d.layer.id (subst (λ n. k < n) (sym count) in_list)) in
     rw away (rest k d in_list))
 
--- where the row of an id holds x, so does each row of the id
+-- if the row of an id holds x, so does each row of the id
 held_at : {X : Type 0} (rows : List (Row X)) (id : ℕ) (o : Option X) → HaveIds rows
     → content_of rows id ≡ o
     → All (λ row. (row.layer.id == id) ≡ true → row.content ≡ o) rows
@@ -158,7 +158,7 @@ filled_same {X} rows id x distinct found =
         (λ (q : Row X). q ≡ row)
         (λ here. ap (λ (o : Option X). record row { content = o }) (sym (held here))) (λ _. refl)
 
--- x is found where it was put
+-- x is found if it was put
 pub filled_found : {X : Type 0} (rows : List (Row X)) (id : ℕ) (old x : X)
     → content_of rows id ≡ Some old → content_of (with_content rows id x) id ≡ Some x
 filled_found [] id old x found = absurd (none-some old found)
@@ -203,7 +203,7 @@ module _ (id : ℕ) (change : List Channels → List Channels) where
       → IsTree (map (with_change id change) rows)
   tree_changed rows tree = tree_mapped (with_change id change) change-layer change-kind rows tree
 
-  -- where no paint row has the id, no row changes
+  -- if no paint row has the id, no row changes
   pub changed_none : (rows : List (Row (List Channels))) → HaveIds rows → content_of rows id ≡ None
       → map (with_change id change) rows ≡ rows
   changed_none rows distinct none =

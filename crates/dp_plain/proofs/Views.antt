@@ -89,7 +89,7 @@ paint_seen {C} pixels rows id lent same kind present =
     copied None = refl
     copied (Some x) = refl
 
--- what holds, holds where an error comes
+-- what holds, holds if an error comes
 pub at_error : {T E P : Type 0} (r : Result T E) → P → OnErr r P
 at_error (Ok x) holds = tt
 at_error (Err e) holds = holds

@@ -68,7 +68,7 @@ impl<C: LayerPixels> LayeredBoard<C> {
         }
     }
 
-    /// What the paint layer of the id holds, or `None` where no paint layer has the id.
+    /// What the paint layer of the id holds, or `None` if no paint layer has the id.
     pub fn content(&self, id: u16) -> Option<&C>
         ensures pixels { option_map (C.pixels self.now.width self.now.height)
             (option_copied result) ≡ content_of self.now.rows id }
@@ -131,7 +131,7 @@ impl<C: LayerPixels> LayeredBoard<C> {
         }
     }
 
-    /// Gives the canvas its new sides, where both are sides.
+    /// Gives the canvas its new sides, if both are sides.
     fn resize<T: Ledger>(
         &mut self,
         top: i32,

@@ -57,7 +57,7 @@ workers-or-one : OneNumber → (found : Option Text) (m n : ℕ)
 workers-or-one one None m n x y = x ∙ sym y
 workers-or-one one (Some word) m n x y = one-workers one (Some word) m n x y
 
--- where a word is there, it is no number of workers if it is none that a server takes
+-- if a word is there, it is no number of workers if it is none that a server takes
 pub some-or-one : (found : Option Text) (word : Text) (read : Option ℕ) → found ≡ Some word
     → IfNone read ((n : ℕ) → HasWorkers found n → ⊥)
     → IfNone read ((n : ℕ) → HasWorkersOrOne found n → ⊥)
@@ -131,7 +131,7 @@ one-in one (Some entered) a b x y = one-of forms (each-one one) entered.0 entere
 
 -- ---- words that ask for nothing
 
--- what asks for nothing where the matches stand asks for nothing by the words
+-- what asks for nothing if the matches stand asks for nothing by the words
 pub none-asked : (words : List Text) (entered : Option (Text × List Row))
     (line : Option CommandLine)
     → entered ≡ subcommand_of program words

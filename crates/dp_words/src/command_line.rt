@@ -14,7 +14,7 @@ pub enum CommandLine {
         name: Text,
     },
     /// A server at `addr` with so many workers, from 1 to 64. Each worker ends after `conns`
-    /// links, at least 1, or goes on where there is no such number.
+    /// links, at least 1, or goes on if there is no such number.
     Listen {
         addr: Word,
         workers: u32,
@@ -48,6 +48,6 @@ pub enum LocalCommand {
 /// What a server serves.
 #[derive(Debug, Drop)]
 pub enum Service {
-    /// One session, whose rows are kept in this file, or in memory where there is none.
+    /// One session, whose rows are kept in this file, or in memory if there is none.
     Session { journal: Option<Word> },
 }

@@ -18,7 +18,7 @@ use dp_lines::{long_number, number, one_number};
 use dp_msg_meta::Text;
 use std::alloc::{AllocError, Global};
 
-/// What the words ask for, which stand after the program's name. `None` where they are no command
+/// What the words ask for, which stand after the program's name. `None` if they are no command
 /// line; so are words that ask for help.
 pub fn read_words(alloc: Global, words: &[String]) -> Result<Option<CommandLine>, AllocError>
     ensures some { IfOk result (λ line. IfSome line (AsksFor (map string_bytes words.now))) }
@@ -188,7 +188,7 @@ fn workers_of(given: &ArgMatches) -> Option<u32>
     }
 }
 
-/// The number of workers, if it is from 1 to 64; 1 where none is given.
+/// The number of workers, if it is from 1 to 64; 1 if none is given.
 fn workers_or_one(given: &ArgMatches) -> Option<u32>
     ensures some { IfSome result
         (HasWorkersOrOne (first_of (codes "workers") (rows_of (found_of given.now)))) }
@@ -202,7 +202,7 @@ fn workers_or_one(given: &ArgMatches) -> Option<u32>
     }
 }
 
-/// The number of links, where there is one. `None` if it is there and not at least 1.
+/// The number of links, if there is one. `None` if it is there and not at least 1.
 fn conns_of(given: &ArgMatches) -> Option<Option<u32>>
     ensures some { IfSome result (λ conns. IsConns conns
         × HasAt (first_of (codes "conns") (rows_of (found_of given.now))) conns) }
