@@ -1,7 +1,9 @@
 //! Laws of the definitions. Each function does nothing but call others: its contract is the law.
 
-ghost use Rattle.std.specs.Prelude.{◌≡◌, ℕ, Some, List, [], ◌++◌, take, drop, length};
+ghost use Rattle.std.specs.Prelude.{◌≡◌, ℕ, Some, List, [], ◌∷◌, ◌++◌, take, drop, length};
 ghost use Rattle.dp_acl.specs.Opening.{kept_from, opening};
+ghost use Rattle.dp_board.specs.Commands.{drawn_commands};
+ghost use Rattle.dp_board.specs.Laws.{depth_after};
 ghost use Rattle.dp_messages.specs.declared.message.Entry.{Entry};
 ghost use Rattle.dp_msg_draw.specs.declared.draw.Draw.{Draw as Command};
 ghost use Rattle.dp_plain.specs.Board.{empty_board};
@@ -12,7 +14,7 @@ ghost use Rattle.dp_epochs.specs.State.{State, after_event};
 ghost use Rattle.dp_epochs.specs.Past.{state_after};
 ghost use Rattle.dp_keep_laws.specs.Suffixes.{SuffixesStandAlone, SuffixesShowAlone};
 ghost use Rattle.dp_keep_laws.specs.Keeping.{MayBeCut, UndoNothing, EndsKeeping, reset_end};
-ghost use Rattle.dp_keep_laws.specs.Worked.{keeping_journal};
+ghost use Rattle.dp_keep_laws.specs.Worked.{keeping_journal, older_stroke, its_undo};
 
 use dp_board::{others_do_not_count, prefixes_without_points};
 use dp_msg_draw::Draw;
@@ -22,6 +24,14 @@ use dp_msg_draw::Draw;
 pub fn suffixes_stand_alone<B, Op>()
     ensures commands { SuffixesStandAlone Op }
     ensures boards { SuffixesShowAlone B Op }
+{}
+
+/// An end that moves a group of before it doesn't stand alone: where it undoes an older stroke, the
+/// history draws nothing, and its beginning by itself draws the stroke.
+pub fn older_undos_count()
+    ensures whole { drawn_commands 30 (older_stroke ++ its_undo) ≡ [] }
+    ensures apart { drawn_commands 30 older_stroke
+        ++ drawn_commands (depth_after 30 older_stroke) its_undo ≡ 7 ∷ [] }
 {}
 
 /// What an epoch opens with shows the commands of its reset, drawn in order on the empty board: of

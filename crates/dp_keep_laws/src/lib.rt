@@ -7,6 +7,6 @@
 mod laws;
 
 pub use laws::{
-    histories_may_be_cut, keeping_shows_the_same, kept_entries_show_the_same, openings_go_on,
-    resets_show_their_commands, suffixes_stand_alone, worked_reset_keeps,
+    histories_may_be_cut, keeping_shows_the_same, kept_entries_show_the_same, older_undos_count,
+    openings_go_on, resets_show_their_commands, suffixes_stand_alone, worked_reset_keeps,
 };
