@@ -12,7 +12,7 @@ ghost use Rattle.dp_plain.specs.Commands.{draw, draw_all};
 ghost use Rattle.dp_tile.specs.Tiles.{grid_pixels};
 
 use crate::batch::draw_in_order;
-use crate::stub::Workers;
+use crate::painting::Workers;
 use crate::tiled::TiledPixels;
 use dp_blank::BlankBoard;
 use dp_blend::Pixel;
