@@ -2,7 +2,6 @@
 use Rattle.std.proofs.Common.{◌≡◌, ℕ, ◌+◌, ◌-◌, List, ◌++◌, length, take, drop, Some, ap, sym}
 use Rattle.std.proofs.Common.{◌∙◌, subst, arith}
 use Rattle.std.specs.Prelude.{All, sum_by}
-use Rattle.std.specs.List.{fold}
 use Rattle.std.proofs.lemmas.List.{drop-take, length-drop, take-append-drop, take-take, take_all}
 use Rattle.std.proofs.lemmas.List.Elements.{All-weaker}
 use Rattle.std.proofs.lemmas.List.Sums.{fold-append, sum_by-append, sum_by-take-drop}
@@ -10,13 +9,12 @@ use Rattle.dp_blend.specs.Color.{Channels, IsPixel}
 use Rattle.dp_msg_draw.specs.declared.draw.Draw.{Draw}
 use Rattle.dp_layers.specs.Rows.{content_of}
 use Rattle.dp_paint.specs.Painting.{IsPainting}
-use Rattle.dp_pixels.specs.Commands.{pixels_after}
 use Rattle.dp_pixels.specs.Feet.{reach}
 use Rattle.dp_plain.specs.Board.{Board, HasPixels}
 use Rattle.dp_plain.specs.Commands.{draw, draw_all, painted_layer}
 use Rattle.dp_plain.proofs.Holds.{fit_found}
 use Rattle.dp_tile.specs.Tiles.{TileGrid, grid_pixels}
-use Rattle.dp_canvas.specs.Batches.{PaintsOn}
+use Rattle.dp_canvas.specs.Batches.{PaintsOn, pixels_after_all}
 
 -- ---- a run on one layer
 
@@ -34,12 +32,7 @@ pub found_pixels : (board : Board) (id : ℕ) (pixels : List Channels) → HasPi
 found_pixels board id pixels has found =
     fit_found (All IsPixel) board.rows id pixels has (sym found)
 
--- the pixels of a layer after commands
-abbrev pixels_after_all : ℕ → ℕ → List Draw → List Channels → List Channels
-pixels_after_all width height commands pixels =
-    fold (λ old c. pixels_after width height c old) pixels commands
-
--- what they make of a grid, on the sides of the board
+-- what commands make of a grid, on the sides of the board
 pub run_on : (board : Board) (w h : ℕ) (run : List Draw) (old new : TileGrid) → w ≡ board.width
     → h ≡ board.height
     → grid_pixels w h new ≡ pixels_after_all w h run (grid_pixels w h old)

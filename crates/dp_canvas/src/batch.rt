@@ -8,7 +8,7 @@ ghost use Rattle.dp_pixels.specs.Feet.{reach};
 ghost use Rattle.dp_plain.specs.Commands.{draw_all};
 
 use crate::canvas::Canvas;
-use crate::stub::{Workers, paint};
+use crate::painting::{Workers, paint};
 use dp_board::Board;
 use dp_msg_draw::Draw;
 use dp_pixels::pixels_stay_pixels;

@@ -12,7 +12,7 @@ ghost use Rattle.dp_plain.specs.Commands.{draw, draw_all};
 ghost use Rattle.dp_tile.specs.Tiles.{grid_pixels};
 
 use crate::batch::draw_in_order;
-use crate::stub::Workers;
+use crate::painting::Workers;
 use crate::tiled::TiledPixels;
 use dp_blank::BlankBoard;
 use dp_blend::Pixel;
@@ -54,7 +54,7 @@ impl Canvas {
     }
 
     /// The grid whose pixels within the canvas are those of the paint layer of the id, or `None`
-    /// if no paint layer has the id.
+    /// where no paint layer has the id.
     pub fn grid(&self, id: u16) -> Option<&Grid>
         ensures pixels { option_map (grid_pixels self.now.width self.now.height)
             (option_copied result) ≡ content_of self.now.rows id }

@@ -1,8 +1,5 @@
 //! The board on which `replay` and `play` draw: small fills and dabs wait until tiles are read.
 
-ghost use Rattle.std.specs.Prelude.{◌≡◌, ◌+◌, ◌≤◌};
-
-use crate::stub::{Workers, is_half_full, settle_by};
 use dp_blend::Pixel;
 use dp_layers::Share;
 use dp_msg_draw::Draw;
@@ -10,11 +7,9 @@ use dp_paint::DeferredGrid;
 use dp_pixels::{Resize, pixels_stay_pixels};
 use dp_plain::{LayerPixels, LayeredBoard, known_colors};
 use dp_steps::Steps;
-use dp_wire::Gate;
 use std::alloc::{AllocError, Global};
 use std::marker::Model;
 use std::sync::ledger::Ledger;
-use std::thread::Threads;
 
 /// A board for pictures: small fills and dabs wait, and each tile is painted by all of them when it
 /// is read.
@@ -32,31 +27,6 @@ impl Model for DeferredPixels {
     ghost Value = { LayerOf };
 
     ghost view = { λ d. d.layer };
-}
-
-impl DeferredPixels {
-    /// Whether half as much waits as may wait.
-    pub(crate) fn is_half_full(&self) -> bool {
-        is_half_full(&self.layer)
-    }
-
-    /// Paints all that waits, by workers.
-    ///
-    /// # Errors
-    ///
-    /// The pixels are the same, and tiles that were made are counted.
-    pub(crate) fn settle_by<R: Threads + Sync, G: Gate, T: Ledger>(
-        &mut self,
-        rt: &R,
-        workers: &Workers<'_, G>,
-        tiles: &mut Steps<T>,
-    ) -> Result<(), AllocError>
-        ensures same { self.new ≡ self.old }
-        ensures tiles_rise { tiles.old ≤ tiles.new }
-        ensures few_tiles { tiles.new ≤ tiles.old + 4096 }
-    {
-        settle_by(&mut self.layer, rt, workers, tiles)
-    }
 }
 
 impl Share for DeferredPixels {

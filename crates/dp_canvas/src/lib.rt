@@ -5,12 +5,10 @@ mod batch;
 mod canvas;
 mod crossing;
 mod deferred;
-mod settle;
-mod stub;
+mod painting;
 mod tiled;
 
 pub use canvas::Canvas;
 pub use crossing::canvases_cross_threads;
 pub use deferred::{DeferredBoard, DeferredPixels};
-pub use settle::settle_half_full;
-pub use stub::Workers;
+pub use painting::Workers;

@@ -115,7 +115,4 @@ abbrev pub run_of : LocalCommand → Run
 run_of Replay = picture_run replay_way
 run_of World = world_run
 run_of (Play at workers) = picture_run (play_way at)
-<<<<<<< HEAD
-=======
 run_of (Drill seed rounds workers) = drill_run seed rounds
->>>>>>> e0998e36482b2b82cc748b97c44208dff844b6dd

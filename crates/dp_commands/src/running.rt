@@ -181,13 +181,11 @@ fn run_local<R: Threads + Sync, I: Source, O: Sink, G: Gate, D: Ledger, T: Ledge
     match command {
         LocalCommand::Replay => run_replay(alloc, input, output, draws, tiles),
         LocalCommand::World => run_world(alloc, input, output, draws, tiles),
-<<<<<<< HEAD
         LocalCommand::Play { at, workers } => {
             let (at, workers) = (*at, *workers);
             let playing = Playing { at, workers, gate };
             run_play(rt, alloc, input, output, playing, draws, tiles)
-=======
-        LocalCommand::Play { at, workers: _ } => run_play(alloc, input, output, *at, draws, tiles),
+        }
         LocalCommand::Drill {
             seed,
             rounds,
@@ -198,7 +196,6 @@ fn run_local<R: Threads + Sync, I: Source, O: Sink, G: Gate, D: Ledger, T: Ledge
                 rounds: *rounds,
             };
             run_drill(alloc, drill, output, draws, tiles)
->>>>>>> e0998e36482b2b82cc748b97c44208dff844b6dd
         }
     }
 }
