@@ -1,10 +1,10 @@
 -- The flow of a drill's schedule.
-use Rattle.std.proofs.Common.{◌≡◌, ℕ, zero, suc, ◌+◌, ◌-◌, ◌*◌, ◌%◌, ◌/◌, ◌<◌, ◌≤◌, ◌^◌, ◌==◌}
+use Rattle.std.proofs.Common.{◌≡◌, ℕ, zero, suc, ◌+◌, ◌-◌, ◌*◌, ◌%◌, ◌/◌, ◌<◌, ◌≤◌, ◌==◌}
 use Rattle.std.proofs.Common.{Bool, true, false, not, is_some, MatchBool, if◌then◌else◌, List, []}
 use Rattle.std.proofs.Common.{◌∷◌, ◌++◌, length, map, take, Option, None, Some, refl, sym, ap}
 use Rattle.std.proofs.Common.{subst, ◌∙◌, arith, codes, lit<, lit≤, replicate}
-use Rattle.std.specs.Prelude.{nat_le, pos, ⊤, max}
-use Rattle.std.specs.List.{AllByRecursion, flat_map, fold, list_any, slice_get}
+use Rattle.std.specs.Prelude.{nat_le, pos}
+use Rattle.std.specs.List.{AllByRecursion, flat_map, fold, list_any}
 use Rattle.std.specs.Option.{option_map, option_map_or}
 use Rattle.std.proofs.lemmas.List.{take_all}
 use Rattle.std.proofs.lemmas.Str.{IsUtf8-from_ascii, is_utf8-from_IsUtf8}
@@ -13,14 +13,12 @@ use Rattle.std.proofs.lemmas.List.Sums.{fold-append}
 use Rattle.dp_lists.specs.Numbered.{numbered}
 use Rattle.dp_lists.proofs.Numbered.{number-found}
 use Rattle.dp_lists.proofs.Options.{at_some}
-use Rattle.dp_messages.specs.declared.message.Entry.{Entry}
 use Rattle.dp_messages.specs.declared.message.Msg.{Msg}
 use Rattle.dp_messages.specs.declared.message.Msg.TheVariants as msg
 use Rattle.dp_acl.specs.Opening.{opening_limit}
 use Rattle.dp_epochs.specs.declared.connection.Connection.{Connection}
 use Rattle.dp_epochs.specs.declared.connection.Ending.{Ending}
 use Rattle.dp_epochs.specs.declared.connection.Ending.TheVariants as ending
-use Rattle.dp_epochs.specs.declared.event.Answer.{Answer}
 use Rattle.dp_epochs.specs.declared.event.Answer.TheVariants.{Entries, Gone}
 use Rattle.dp_epochs.specs.Connections.{is_ended}
 use Rattle.dp_epochs.specs.Past.{Past, state_of}
@@ -35,7 +33,6 @@ use Rattle.dp_schedule.specs.declared.action.Action.{Action}
 use Rattle.dp_schedule.specs.declared.action.Action.TheVariants.{Join, Act}
 use Rattle.dp_schedule.specs.declared.action.Instruction.TheVariants.{Say, Up, Take}
 use Rattle.dp_sim.specs.declared.participant.LinkState.{LinkState}
-use Rattle.dp_sim.specs.declared.participant.LinkState.TheVariants.{Connected}
 use Rattle.dp_sim.specs.Exchanges.{Participant}
 use Rattle.dp_sim.specs.Invariant.{IsParticipant, IsWorld, is_closed}
 use Rattle.dp_sim.specs.World.{World, after, first_world, new_participant, participant_of}
@@ -44,10 +41,10 @@ use Rattle.dp_msg_draw.specs.declared.draw.Draw.TheVariants.{CanvasResize, Layer
 use Rattle.dp_sim.proofs.Marks.{live-is}
 use Rattle.dp_drill.specs.declared.rounds.Brush.{Brush}
 use Rattle.dp_drill.specs.Flow.{Flow, GetsHistory, drill_flow, first_flow, flow_after}
-use Rattle.dp_drill.specs.Flow.{flow_after_all, instructed, sends_of, waiting}
-use Rattle.dp_drill.specs.Schedule.{brush_of, clients, dab, drawn_actions, drill_actions}
-use Rattle.dp_drill.specs.Schedule.{first_actions, given, next, round, round_of, rounds, says}
-use Rattle.dp_drill.specs.Schedule.{sends_all, sent_actions, square, takes_all}
+use Rattle.dp_drill.specs.Flow.{flow_after_all, instructed, last_sends, waiting}
+use Rattle.dp_drill.specs.Schedule.{clients, drawn_actions, drill_actions, drill_number}
+use Rattle.dp_drill.specs.Schedule.{first_actions, next, round, round_brush, round_of, rounds}
+use Rattle.dp_drill.specs.Schedule.{sends_all, sent_actions, takes_all}
 use Rattle.dp_drill.proofs.Follows.{Follows, IsPlayed, IsPlaying, Laws, actions-follow, each-at}
 use Rattle.dp_drill.proofs.Follows.{each-both, numbered-map}
 
@@ -73,17 +70,17 @@ rounds-played : (x n : ℕ) → ArePlayed (rounds x n)
 unfolding round
 rounds-played x zero = tt
 rounds-played x (suc n) =
-    let r = given (next x) in
-    let v = given (next (next x)) in
+    let r = drill_number (next x) in
+    let v = drill_number (next (next x)) in
     each-both IsPlayed (round r v) (rounds (next (next x)) n)
-    (round-played (1 + r % 3) (r / 3 % 16) (brush_of (r / 3 / 16) v))
+    (round-played (1 + r % 3) (r / 3 % 16) (round_brush (r / 3 / 16) v))
     (rounds-played (next (next x)) n)
 
 again-played : (client n : ℕ) → ArePlayed (replicate n (Act client Up))
 again-played client zero = tt
 again-played client (suc n) = (tt, again-played client n)
 
-sends-played : (f : Flow) → ArePlayed (sends_of f)
+sends-played : (f : Flow) → ArePlayed (last_sends f)
 sends-played f =
     each-both IsPlayed (replicate (waiting f 1) (Act 1 Up)) _ (again-played 1 (waiting f 1))
     (each-both IsPlayed (replicate (waiting f 2) (Act 2 Up)) _ (again-played 2 (waiting f 2))
@@ -157,7 +154,7 @@ sends a b c = replicate a (Act 1 Up) ++ (replicate b (Act 2 Up) ++ (replicate c 
 abbrev held : World → ℕ → ℕ
 held w client = option_map_or (λ p. length p.uplink) (participant_of w client) 0
 
-sends-are : (w : World) (f : Flow) → Follows w f → sends_all w ≡ sends_of f
+sends-are : (w : World) (f : Flow) → Follows w f → sends_all w ≡ last_sends f
 sends-are w f h =
     ap (λ n. sends n (held w 2) (held w 3)) (waiting-is w f h 1)
     ∙ ap (λ n. sends (waiting f 1) n (held w 3)) (waiting-is w f h 2)
@@ -349,16 +346,16 @@ module _ (laws : Laws) (first : IsWorld first_world) (seed count : ℕ) where
   abbrev sent : World
   sent = world_after (sent_actions seed count)
 
-  same-sends : sends_all (world_after some) ≡ sends_of (flow_after_all some)
+  same-sends : sends_all (world_after some) ≡ last_sends (flow_after_all some)
   same-sends = sends-are (world_after some) (flow_after_all some) some-follows
 
   sent-follows : Follows (world_after (sent_actions seed count)) (drill_flow seed count)
   sent-follows =
       subst (λ w. Follows w (drill_flow seed count))
       (sym (ap (λ more. world_after (some ++ more)) same-sends
-      ∙ fold-append after first_world some (sends_of (flow_after_all some))))
+      ∙ fold-append after first_world some (last_sends (flow_after_all some))))
       (actions-follow laws (world_after some) (flow_after_all some)
-      (sends_of (flow_after_all some)) (sends-played (flow_after_all some)) some-follows)
+      (last_sends (flow_after_all some)) (sends-played (flow_after_all some)) some-follows)
 
   -- how much of the live history each client has still to take
   abbrev left_of : ℕ → ℕ

@@ -60,8 +60,8 @@ abbrev pub waiting : Flow → ℕ → ℕ
 waiting f client = option_map_or (λ uplink. length uplink) (numbered f.uplinks client) 0
 
 -- each client's uplink sends all that it has
-abbrev pub sends_of : Flow → List Action
-sends_of f = flat_map (λ client. replicate (waiting f client) (Act client Up)) clients
+abbrev pub last_sends : Flow → List Action
+last_sends f = flat_map (λ client. replicate (waiting f client) (Act client Up)) clients
 
 -- the first client gets the whole live history at once
 abbrev pub GetsHistory : Past → Type 0
@@ -70,4 +70,4 @@ GetsHistory past = answered past (Pull 1 0 0 4294967295) ≡ Entries 0 0 (state_
 -- the flow of a drill, once all is sent
 abbrev pub drill_flow : ℕ → ℕ → Flow
 drill_flow seed count =
-    let some = flow_after_all (drawn_actions seed count) in fold flow_after some (sends_of some)
+    let some = flow_after_all (drawn_actions seed count) in fold flow_after some (last_sends some)

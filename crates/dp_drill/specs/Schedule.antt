@@ -22,8 +22,8 @@ unfoldable pub next : ℕ → ℕ
 next x = (x * 6364136223846793005 + 1442695040888963407) % 2 ^ 64
 
 -- the number that it gives there, of 31 bits
-unfoldable pub given : ℕ → ℕ
-given x = x / 2 ^ 33
+unfoldable pub drill_number : ℕ → ℕ
+drill_number x = x / 2 ^ 33
 
 -- ---- rounds
 
@@ -43,32 +43,32 @@ dab b = msg.Draw (DabsRound 257 (pos b.x) (pos b.y) (b.rgb / 65536) (b.rgb / 256
     (b.rgb % 256) 1 (record { dx = pos 0; dy = pos 0; size = 9; opacity = 128 } ∷ []))
 
 -- the client of a number says a message
-abbrev pub says : ℕ → Msg → List Action
-says client m = Act client (Say m) ∷ []
+abbrev pub said_by : ℕ → Msg → List Action
+said_by client m = Act client (Say m) ∷ []
 
 -- What a client does in a round of this kind: it says one of four messages, its uplink sends, or it
 -- takes four times.
 abbrev pub round_of : ℕ → ℕ → Brush → List Action
 round_of client kind brush =
-    if kind == 0 then says client msg.Point
-    else if nat_le kind 3 then says client (square brush)
-    else if kind == 4 then says client (dab brush)
-    else if kind == 5 then says client (msg.Undo 0 false)
+    if kind == 0 then said_by client msg.Point
+    else if nat_le kind 3 then said_by client (square brush)
+    else if kind == 4 then said_by client (dab brush)
+    else if kind == 5 then said_by client (msg.Undo 0 false)
     else if nat_le kind 11 then Act client Up ∷ []
     else replicate 4 (Act client Take)
 
 -- the brush of a round, by a part of its first number and by its second
-abbrev pub brush_of : ℕ → ℕ → Brush
-brush_of s v = record { x = s % 256; y = s / 256 % 256; rgb = v % 2 ^ 24 }
+abbrev pub round_brush : ℕ → ℕ → Brush
+round_brush s v = record { x = s % 256; y = s / 256 % 256; rgb = v % 2 ^ 24 }
 
 -- a round, of the two numbers that it takes
 unfoldable pub round : ℕ → ℕ → List Action
-round r v = let q = r / 3 in round_of (1 + r % 3) (q % 16) (brush_of (q / 16) v)
+round r v = let q = r / 3 in round_of (1 + r % 3) (q % 16) (round_brush (q / 16) v)
 
 -- so many rounds, from a state of the generator on
 abbrev pub rounds : ℕ → ℕ → List Action
 rounds x zero = []
-rounds x (suc n) = round (given (next x)) (given (next (next x))) ++ rounds (next (next x)) n
+rounds x (suc n) = round (drill_number (next x)) (drill_number (next (next x))) ++ rounds (next (next x)) n
 
 -- ---- the whole schedule
 

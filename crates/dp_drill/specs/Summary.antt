@@ -40,8 +40,8 @@ pub record AreAtMost (most : ℕ) (s : Sums) : Type 0 where
   pub blue : s.blue ≤ most
 
 -- a row of the picture of a board
-abbrev pub row_of : Board → ℕ → List Channels
-row_of board y = map (λ x. seen board x y) (below board.width)
+abbrev pub picture_row : Board → ℕ → List Channels
+picture_row board y = map (λ x. seen board x y) (below board.width)
 
 -- the lines of a drill's number and count of rounds, of the history's length, and of the sums
 abbrev pub summary : ℕ → ℕ → ℕ → Sums → List ℕ

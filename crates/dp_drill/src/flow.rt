@@ -8,7 +8,7 @@ ghost use Rattle.dp_lists.specs.Numbered.{numbered};
 ghost use Rattle.dp_schedule.specs.declared.action.Action.TheVariants.{Join, Act};
 ghost use Rattle.dp_schedule.specs.declared.action.Instruction.TheVariants.{Say, Up};
 ghost use Rattle.dp_drill.specs.Flow.{waiting};
-ghost use Rattle.dp_drill.specs.Flow.{GetsHistory, first_flow, flow_after, sends_of};
+ghost use Rattle.dp_drill.specs.Flow.{GetsHistory, first_flow, flow_after, last_sends};
 
 use dp_epochs::{Answer, Entries, Event, Query};
 use dp_frame::Octets;
@@ -172,7 +172,7 @@ impl Flow {
     /// Each client's uplink sends all that it has.
     pub(crate) fn send_all(&mut self) -> Result<(), AllocError>
         requires { self.old.past.first_fault ≡ None }
-        ensures ok { OnOk result (self.new ≡ fold flow_after self.old (sends_of self.old)) }
+        ensures ok { OnOk result (self.new ≡ fold flow_after self.old (last_sends self.old)) }
         ensures sure { OnOk result (self.new.past.first_fault ≡ None) }
     {
         let (first, second, third) = (self.waiting(1), self.waiting(2), self.waiting(3));

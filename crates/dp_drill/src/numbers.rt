@@ -1,7 +1,7 @@
 //! The numbers of a drill.
 
 ghost use Rattle.std.specs.Prelude.{◌≡◌, ◌<◌, ◌^◌};
-ghost use Rattle.dp_drill.specs.Schedule.{given, next};
+ghost use Rattle.dp_drill.specs.Schedule.{drill_number, next};
 
 /// The generator's state after this one.
 #[tactic(auto, unfolding(crate::specs::Schedule::next))]
@@ -13,9 +13,9 @@ pub(crate) fn next(x: u64) -> u64
 }
 
 /// The number that it gives there, of 31 bits.
-#[tactic(auto, unfolding(crate::specs::Schedule::given))]
-pub(crate) fn given(x: u64) -> u64
-    ensures value { result ≡ given x }
+#[tactic(auto, unfolding(crate::specs::Schedule::drill_number))]
+pub(crate) fn drill_number(x: u64) -> u64
+    ensures value { result ≡ drill_number x }
     ensures small { result < 2 ^ 31 }
 {
     x >> 33

@@ -3,11 +3,11 @@
 ghost use Rattle.std.specs.Prelude.{◌≡◌, ◌<◌, ◌^◌, None, IfOk, OnOk};
 ghost use Rattle.std.specs.List.{fold};
 ghost use Rattle.dp_drill.specs.Flow.{first_flow, flow_after, flow_after_all};
-ghost use Rattle.dp_drill.specs.Schedule.{IsBrush, brush_of, dab, first_actions, round, round_of};
+ghost use Rattle.dp_drill.specs.Schedule.{IsBrush, round_brush, dab, first_actions, round, round_of};
 ghost use Rattle.dp_drill.specs.Schedule.{rounds, square};
 
 use crate::flow::Flow;
-use crate::numbers::{given, next};
+use crate::numbers::{drill_number, next};
 use dp_messages::Msg;
 use dp_msg_draw::{Dab, Dabs, Draw, Title};
 use std::alloc::{AllocError, Global};
@@ -66,7 +66,7 @@ pub(crate) fn play_rounds(
     for _ in 0..count {
         let first = next(x);
         let second = next(first);
-        play_round(alloc, flow, given(first), given(second))?;
+        play_round(alloc, flow, drill_number(first), drill_number(second))?;
         x = second;
     }
     Ok(())
@@ -82,13 +82,13 @@ fn play_round(alloc: Global, flow: &mut Flow, r: u64, v: u64) -> Result<(), Allo
 {
     let client = (1 + r % 3) as u32;
     let kind = (r / 3 % 16) as u8;
-    let brush = brush_of(r / 3 / 16, v);
+    let brush = round_brush(r / 3 / 16, v);
     do_round(alloc, flow, client, kind, brush)
 }
 
 /// The brush of a round, by a part of its first number and by its second.
-fn brush_of(s: u64, v: u64) -> Brush
-    ensures { result ≡ brush_of s v }
+fn round_brush(s: u64, v: u64) -> Brush
+    ensures { result ≡ round_brush s v }
 {
     Brush {
         x: (s % 256) as u32,

@@ -2,7 +2,7 @@
 
 ghost use Rattle.std.specs.Prelude.{◌≡◌, ℕ, ◌+◌, ◌<◌, ◌≤◌, ◌∷◌, ◌++◌, [], decimal, IfOk, OnOk};
 ghost use Rattle.dp_plain.specs.Picture.{picture};
-ghost use Rattle.dp_drill.specs.Summary.{AreAtMost, plus, row_of, summary, sums_of};
+ghost use Rattle.dp_drill.specs.Summary.{AreAtMost, plus, picture_row, summary, sums_of};
 
 use dp_blend::{Pixel, to8};
 use dp_flat::flatten;
@@ -37,7 +37,7 @@ pub(crate) fn sums_of<V: BoardView>(board: &V) -> Sums
 fn with_row<V: BoardView>(board: &V, y: u32, before: Sums) -> Sums
     requires inside { y < (V.board board.now).height }
     requires small { AreAtMost 4278190080 before }
-    ensures sums { result ≡ plus before (sums_of (row_of (V.board board.now) y)) }
+    ensures sums { result ≡ plus before (sums_of (picture_row (V.board board.now) y)) }
     ensures more { (most : ℕ) → AreAtMost most before → AreAtMost (most + 1044480) result }
 {
     let mut sums = before;
