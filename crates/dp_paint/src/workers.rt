@@ -1,0 +1,145 @@
+//! Commands that are painted on a grid by workers.
+
+ghost use Rattle.std.specs.Prelude.{◌≡◌, ℕ, ◌+◌, ◌*◌, ◌<◌, ◌≤◌, ◌^◌, [], All, length, IfOk, OnOk};
+ghost use Rattle.std.specs.Prelude.{slice_index};
+ghost use Rattle.std.specs.List.{sum_by};
+ghost use Rattle.dp_pixels.specs.Commands.{pixels_after};
+ghost use Rattle.dp_pixels.specs.Feet.{reach};
+ghost use Rattle.dp_tile.specs.Areas.{IsPaintedOn};
+ghost use Rattle.dp_tile.specs.Tiles.{grid_pixels};
+ghost use Rattle.dp_paint.specs.Painting.{IsGridOf, IsPainting, pixels_after_all};
+ghost use Rattle.dp_paint.specs.Ops.{on_tile, tile_after};
+ghost use Rattle.dp_paint.specs.Lists.{AllCount, layer_pixels, listed_at, waiting_before};
+ghost use Rattle.dp_paint.specs.Jobs.{band_at};
+
+use crate::feet::cells_of;
+use crate::filing::{Numbered, file, file_number, is_fill_or_dabs};
+use crate::jobs::{GROUP, make_jobs, write_jobs};
+use crate::lists::{Finish, TileLists};
+use crate::painter::OpsPainter;
+use crate::sheet::Sheet;
+use dp_msg_draw::Draw;
+use dp_par::par_each;
+use dp_pixels::pixels_stay_outside_the_foot;
+use dp_steps::Steps;
+use dp_tile::{CellArea, Grid};
+use dp_wire::Gate;
+use std::alloc::AllocError;
+use std::sync::ledger::Ledger;
+use std::thread::Threads;
+
+/// How many threads may work at the same time, where 0 is 1, and the gate that their jobs pass,
+/// each by its place and 0.
+#[derive(Drop)]
+pub struct Workers<'a, G> {
+    pub count: u32,
+    pub gate: &'a G,
+}
+
+/// The grid after what waits on the tiles of eight rows from one on, painted by workers.
+///
+/// # Errors
+///
+/// Tiles that were made are counted.
+fn band_painted<R: Threads + Sync, G: Gate, T: Ledger>(
+    rt: &R,
+    grid: &Grid,
+    on: Sheet<'_>,
+    lists: &TileLists,
+    top: u32,
+    workers: &Workers<'_, G>,
+    tiles: &mut Steps<T>,
+) -> Result<Grid, AllocError>
+    requires { top + 8 ≤ 64 }
+    ensures painted { IfOk result (λ painted. IsPaintedOn (band_at top)
+        (λ col row. tile_after (on_tile on.width on.height on.commands.now col row)
+        (listed_at lists.now col row)) grid.now painted) }
+    ensures tiles_rise { tiles.old ≤ tiles.new }
+    ensures few_tiles { tiles.new + waiting_before lists.now (top * 64)
+        ≤ tiles.old + waiting_before lists.now (top * 64 + GROUP) }
+{
+    let mut work = make_jobs(grid, OpsPainter { on, lists }, top * 64, tiles)?;
+    par_each(rt, workers.count, workers.gate, &mut work.jobs);
+    write_jobs(work)
+}
+
+/// Paints all that waits on a grid, by workers. None waits then.
+///
+/// # Errors
+///
+/// Some of it may be painted.
+pub(crate) fn settle_all<R: Threads + Sync, G: Gate, T: Ledger>(
+    rt: &R,
+    grid: &mut Grid,
+    on: Sheet<'_>,
+    lists: &mut TileLists,
+    workers: &Workers<'_, G>,
+    tiles: &mut Steps<T>,
+) -> Result<(), AllocError>
+    requires grid { IsGridOf on.width on.height grid.old }
+    requires first { lists.old.first ≡ 0 }
+    requires counts { AllCount lists.old }
+    ensures grid { IsGridOf on.width on.height grid.new }
+    ensures first { lists.new.first ≡ 0 }
+    ensures counts { AllCount lists.new }
+    ensures same { layer_pixels on.width on.height on.commands.now lists.new grid.new
+        ≡ layer_pixels on.width on.height on.commands.now lists.old grid.old }
+    ensures none { OnOk result
+        ((col row : ℕ) → col < 64 → row < 64 → listed_at lists.new col row ≡ []) }
+    ensures tiles_rise { tiles.old ≤ tiles.new }
+    ensures few_tiles { tiles.new ≤ tiles.old + waiting_before lists.old 4096 }
+{
+    for band in 0..8 {
+        let area = CellArea {
+            left: 0,
+            right: 64,
+            top: band * 8,
+            bottom: band * 8 + 8,
+        };
+        *grid = band_painted(rt, grid, on, lists, band * 8, workers, tiles)?;
+        lists.finish(area, Finish::Clear);
+    }
+    Ok(())
+}
+
+/// Has the command of a number wait on the tiles of a grid that it reaches.
+///
+/// # Errors
+///
+/// The same operations wait on each tile.
+fn file_command(
+    lists: &mut TileLists,
+    grid: &Grid,
+    on: Sheet<'_>,
+    number: usize,
+) -> Result<(), AllocError>
+    requires inside { number < length on.commands.now }
+    requires few { length on.commands.now < 2 ^ 32 }
+    requires grid { IsGridOf on.width on.height grid.now }
+    requires command { IsPainting (slice_index on.commands.now number) }
+    requires first { lists.old.first ≡ 0 }
+    requires counts { AllCount lists.old }
+    ensures first { lists.new.first ≡ 0 }
+    ensures counts { AllCount lists.new }
+    ensures pixels { OnOk result
+        (layer_pixels on.width on.height on.commands.now lists.new grid.now
+        ≡ pixels_after on.width on.height (slice_index on.commands.now number)
+        (layer_pixels on.width on.height on.commands.now lists.old grid.now)) }
+    ensures few { OnOk result (waiting_before lists.new 4096
+        ≤ waiting_before lists.old 4096 + reach (slice_index on.commands.now number)) }
+{
+    pixels_stay_outside_the_foot();
+    grid.known();
+    let command = &on.commands[number];
+    let area = cells_of(command, grid.cols(), grid.rows());
+    if is_fill_or_dabs(command) {
+        return file(lists, grid.alloc(), command, area);
+    }
+    let source = Numbered {
+        width: on.width,
+        height: on.height,
+        number: number as u32,
+        command,
+    };
+    file_number(lists, grid.alloc(), &source, area)
+}
