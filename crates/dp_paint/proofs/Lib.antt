@@ -1,6 +1,9 @@
 pub mod Ops
 pub mod Waits
 pub mod Filed
+pub mod Jobs
+pub mod Counts
+pub mod Workers
 pub mod Layers
 pub mod Drawn
 pub mod FootLemmas

@@ -168,7 +168,10 @@ fn make_next<'a, T: Ledger>(
             work.jobs
                 .push(TileJob::new(grid, painter, col, row, tiles)?)
         }
-        _ => work.grid.paint(col, row, &painter, tiles),
+        _ => {
+            work.grid.known();
+            work.grid.paint(col, row, &painter, tiles)
+        }
     }
 }
 
@@ -212,6 +215,7 @@ pub(crate) fn write_jobs(work: Work<'_>) -> Result<Grid, AllocError>
 {
     let Work { mut grid, jobs } = work;
     for job in jobs {
+        grid.known();
         job.write(&mut grid)?;
     }
     Ok(grid)

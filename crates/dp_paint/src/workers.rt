@@ -1,7 +1,7 @@
 //! Commands that are painted on a grid by workers.
 
 ghost use Rattle.std.specs.Prelude.{◌≡◌, ℕ, ◌+◌, ◌*◌, ◌<◌, ◌≤◌, ◌^◌, [], All, length, IfOk, OnOk};
-ghost use Rattle.std.specs.Prelude.{slice_index};
+ghost use Rattle.std.specs.Prelude.{Some, slice_get};
 ghost use Rattle.std.specs.List.{sum_by};
 ghost use Rattle.dp_pixels.specs.Commands.{pixels_after};
 ghost use Rattle.dp_pixels.specs.Feet.{reach};
@@ -102,7 +102,7 @@ pub(crate) fn settle_all<R: Threads + Sync, G: Gate, T: Ledger>(
     Ok(())
 }
 
-/// Has the command of a number wait on the tiles of a grid that it reaches.
+/// Has a command, which has a number, wait on the tiles of a grid that it reaches.
 ///
 /// # Errors
 ///
@@ -111,26 +111,25 @@ fn file_command(
     lists: &mut TileLists,
     grid: &Grid,
     on: Sheet<'_>,
-    number: usize,
+    number: u32,
+    command: &Draw,
 ) -> Result<(), AllocError>
-    requires inside { number < length on.commands.now }
-    requires few { length on.commands.now < 2 ^ 32 }
+    requires number { slice_get on.commands.now number ≡ Some command.now }
+    requires command { IsPainting command.now }
     requires grid { IsGridOf on.width on.height grid.now }
-    requires command { IsPainting (slice_index on.commands.now number) }
     requires first { lists.old.first ≡ 0 }
     requires counts { AllCount lists.old }
     ensures first { lists.new.first ≡ 0 }
     ensures counts { AllCount lists.new }
     ensures pixels { OnOk result
         (layer_pixels on.width on.height on.commands.now lists.new grid.now
-        ≡ pixels_after on.width on.height (slice_index on.commands.now number)
+        ≡ pixels_after on.width on.height command.now
         (layer_pixels on.width on.height on.commands.now lists.old grid.now)) }
-    ensures few { OnOk result (waiting_before lists.new 4096
-        ≤ waiting_before lists.old 4096 + reach (slice_index on.commands.now number)) }
+    ensures few { OnOk result
+        (waiting_before lists.new 4096 ≤ waiting_before lists.old 4096 + reach command.now) }
 {
     pixels_stay_outside_the_foot();
     grid.known();
-    let command = &on.commands[number];
     let area = cells_of(command, grid.cols(), grid.rows());
     if is_fill_or_dabs(command) {
         return file(lists, grid.alloc(), command, area);
@@ -138,8 +137,103 @@ fn file_command(
     let source = Numbered {
         width: on.width,
         height: on.height,
-        number: number as u32,
+        number,
         command,
     };
     file_number(lists, grid.alloc(), &source, area)
+}
+
+/// Has all commands wait on the tiles of a grid that they reach.
+///
+/// # Errors
+///
+/// Some of them may wait.
+fn file_all(lists: &mut TileLists, grid: &Grid, on: Sheet<'_>) -> Result<(), AllocError>
+    requires few { length on.commands.now < 2 ^ 32 }
+    requires commands { All IsPainting on.commands.now }
+    requires grid { IsGridOf on.width on.height grid.now }
+    requires none { lists.old ≡ record { first = 0; lists = [] } }
+    ensures first { lists.new.first ≡ 0 }
+    ensures counts { AllCount lists.new }
+    ensures pixels { OnOk result
+        (layer_pixels on.width on.height on.commands.now lists.new grid.now
+        ≡ pixels_after_all on.width on.height on.commands.now
+        (grid_pixels on.width on.height grid.now)) }
+    ensures few { OnOk result (waiting_before lists.new 4096 ≤ sum_by reach on.commands.now) }
+{
+    for number in 0..on.commands.len() {
+        file_command(lists, grid, on, number as u32, &on.commands[number])?;
+    }
+    Ok(())
+}
+
+/// The grid after commands, painted by workers.
+///
+/// # Errors
+///
+/// Tiles that were made are counted.
+fn paint_part<R: Threads + Sync, G: Gate, T: Ledger>(
+    rt: &R,
+    grid: &Grid,
+    on: Sheet<'_>,
+    workers: &Workers<'_, G>,
+    tiles: &mut Steps<T>,
+) -> Result<Grid, AllocError>
+    requires few { length on.commands.now < 2 ^ 32 }
+    requires commands { All IsPainting on.commands.now }
+    requires grid { IsGridOf on.width on.height grid.now }
+    ensures grid { IfOk result (IsGridOf on.width on.height) }
+    ensures pixels { IfOk result (λ painted. grid_pixels on.width on.height painted
+        ≡ pixels_after_all on.width on.height on.commands.now
+        (grid_pixels on.width on.height grid.now)) }
+    ensures tiles_rise { tiles.old ≤ tiles.new }
+    ensures few_tiles { tiles.new ≤ tiles.old + sum_by reach on.commands.now }
+{
+    let mut lists = TileLists::new(grid.alloc(), 0);
+    file_all(&mut lists, grid, on)?;
+    let mut painted = grid.share()?;
+    settle_all(rt, &mut painted, on, &mut lists, workers, tiles)?;
+    Ok(painted)
+}
+
+/// The most commands that wait on the tiles of a grid before they are painted.
+const PART: usize = 65536;
+
+/// The grid after commands, painted by workers: a job for each tile that one of them reaches, or
+/// none where the tile is known to become of one colour. The room of the new tiles is taken before
+/// the workers start. The other grid keeps its tiles.
+///
+/// # Errors
+///
+/// Tiles that were made are counted.
+pub fn paint<R: Threads + Sync, G: Gate, T: Ledger>(
+    rt: &R,
+    grid: &Grid,
+    width: u32,
+    height: u32,
+    ops: &[Draw],
+    workers: &Workers<'_, G>,
+    tiles: &mut Steps<T>,
+) -> Result<Grid, AllocError>
+    requires grid { IsGridOf width height grid.now }
+    requires commands { All IsPainting ops.now }
+    ensures grid { IfOk result (IsGridOf width height) }
+    ensures pixels { IfOk result (λ painted. grid_pixels width height painted
+        ≡ pixels_after_all width height ops.now (grid_pixels width height grid.now)) }
+    ensures tiles_rise { tiles.old ≤ tiles.new }
+    ensures few_tiles { tiles.new ≤ tiles.old + sum_by reach ops.now }
+{
+    let mut painted = grid.share()?;
+    let mut done = 0;
+    while done < ops.len() {
+        let next = done + (ops.len() - done).min(PART);
+        let on = Sheet {
+            width,
+            height,
+            commands: &ops[done..next],
+        };
+        painted = paint_part(rt, &painted, on, workers, tiles)?;
+        done = next;
+    }
+    Ok(painted)
 }

@@ -1,0 +1,24 @@
+use Rattle.std.proofs.Common.{◌+◌, arith}
+use Rattle.dp_paint.specs.Lists.{listed_at}
+use Rattle.dp_paint.specs.Ops.{on_tile, tile_after}
+use Rattle.dp_paint.proofs.Counts.{waiting_next}
+use Rattle.dp_paint.proofs.Jobs.{made_none}
+use Rattle.dp_paint.proofs.jobs.make_jobs.Goals as goal
+
+pub loop-number-init : goal.loop-number-init
+loop-number-init g c = record {
+  made = made_none _ c.args.first c.args.grid.now _ c.in_ok-share.ensures;
+  rise = omega arith;
+  few = omega arith;
+}
+
+pub loop-number-preserved : goal.loop-number-preserved
+loop-number-preserved g c =
+    let inv = c.loop-number.invariant in
+    let lists = c.args.painter.lists.now in record {
+      made = c.in_ok-make_next.ensures.made c.args.first (omega (arith, c.loop-number.auto.number))
+          inv.made;
+      rise = omega (arith, inv.rise, c.in_ok-make_next.ensures.tiles_rise);
+      few = omega (arith, inv.few, c.in_ok-make_next.ensures.few_tiles,
+          waiting_next lists c.loop-number.number);
+    }
