@@ -1,6 +1,8 @@
 -- How many tiles have operations that wait.
-use Rattle.std.proofs.Common.{◌≡◌, ℕ, zero, suc, ◌+◌, ◌-◌, ◌*◌, ◌/◌, ◌%◌, ◌<◌, ◌≤◌, List, [], length}
-use Rattle.std.proofs.Common.{ap, sym, ◌∙◌, refl, arith, ⊎_elim, cond, true, false, eqb, min, Bool, ◌⊎◌, inl, inr}
+use Rattle.std.proofs.Common.{◌≡◌, ℕ, zero, suc, ◌+◌, ◌-◌, ◌*◌}
+use Rattle.std.proofs.Common.{◌/◌, ◌%◌, ◌<◌, ◌≤◌, List, [], length}
+use Rattle.std.proofs.Common.{ap, sym, ◌∙◌, refl, arith, ⊎_elim, cond}
+use Rattle.std.proofs.Common.{true, false, eqb, min, Bool, ◌⊎◌, inl, inr}
 use Rattle.std.proofs.lemmas.Bool.{cases_Bool, cases_lt, cond-true, cond-false, false_from_ne_true}
 use Rattle.std.proofs.lemmas.Bool.{false≢true}
 use Rattle.std.proofs.Math.Nat.{mul-le-mul_right}
@@ -84,8 +86,11 @@ module _ (area : CellArea) (old new : Lists)
   one_more : (n : ℕ) → waits_on new n ≤ waits_on old n + inside area n
   one_more n =
       ⊎_elim (λ t. omega (arith, waits_one new n, in_area area n t))
-      (λ t. omega (arith, waits_same new old n (outside (n % 64) (n / 64) (omega arith)
-      (λ is. false≢true (sym t ∙ inside_by area (n % 64) (n / 64) is)))))
+      (λ t. omega (
+        arith,
+        waits_same new old n (outside (n % 64) (n / 64) (omega arith)
+            (λ is. false≢true (sym t ∙ inside_by area (n % 64) (n / 64) is))),
+      ))
       (cases_Bool (is_in_cells area (n % 64) (n / 64)))
 
   all_more : (n : ℕ) → waiting_before new n ≤ waiting_before old n + inside_before area n
@@ -164,8 +169,12 @@ pub filed_few : (area : CellArea) (old new : Lists)
 filed_few area old new outside =
     let w = area.right - area.left in
     let high : min 64 area.bottom - area.top ≤ area.bottom - area.top = omega arith in
-    omega (arith, all_more area old new outside 4096, rows_inside area 64,
-    mul-le-mul_right w high)
+    omega (
+      arith,
+      all_more area old new outside 4096,
+      rows_inside area 64,
+      mul-le-mul_right w high,
+    )
 
 -- one number more
 pub waiting_next : (l : Lists) (n : ℕ)

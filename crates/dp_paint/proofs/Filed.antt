@@ -258,7 +258,8 @@ adds_none among area f lists keeps = record {
 }
 
 -- one change after another, which is added where it changes something
-pub adds_then : (among : OnTile → Type 0) (area met : CellArea) (f g both : ℤ → ℤ → Channels → Channels)
+pub adds_then : (among : OnTile → Type 0) (area met : CellArea)
+    (f g both : ℤ → ℤ → Channels → Channels)
     (old now new : Lists)
     → ((col row : ℕ) → IsInside met col row → IsInside area col row) → area.right ≤ 64
     → ((col row i j : ℕ) (p : Channels) → IsInside area col row → (IsInside met col row → ⊥)
@@ -354,7 +355,8 @@ is_filed among op change area old grown added kept few draws same counts adds ke
       ap (λ (l : Waiting). ops_at t l.ops i j p) (keeps.inside col row is)
       ∙ fold-append (λ (under : Channels) (o : TileOp). op_at t o i j under) p w.ops w.more
       ∙ more.1 t i j (ops_at t w.ops i j p) refl refl is_in in_x in_y
-      ∙ ap (λ (l : List TileOp). change (pos x) (pos y) (ops_at t l i j (ops_at t w.ops i j p))) none
+      ∙ ap (λ (l : List TileOp). change (pos x) (pos y) (ops_at t l i j (ops_at t w.ops i j p)))
+      none
       ∙ ap (λ (l : List TileOp). change (pos x) (pos y) (ops_at t l i j p)) ops
       ∙ draws t x y (ops_at t (listed_at old col row) i j p) is_in on_x on_y;
   outside = λ col row in_cols out.

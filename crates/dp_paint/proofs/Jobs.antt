@@ -387,7 +387,8 @@ job_written start now new jobs k job grid inside at cols rows done is before col
     ap (λ (g : TileGrid). cell_at g col row) is
     ∙ cell_with now grid job.col job.row job.pixels (omega (arith, at_col, cols))
     (omega (arith, at_row, rows)) col row (omega (arith, in_cols, cols))
-    ∙ ap (λ (ps : List Channels). cond (eqb job.col col && eqb job.row row) ps (cell_at now col row))
+    ∙ ap (λ (ps : List Channels). cond (eqb job.col col && eqb job.row row) ps
+    (cell_at now col row))
     done.pixels
     ∙ ap (λ (ps : List Channels). cond (eqb job.col col && eqb job.row row) job.wanted ps)
     (before col row in_cols in_rows)

@@ -163,7 +163,8 @@ fill_by f x y is =
 -- ---- dabs
 
 -- a tile on which a dab was drawn
-pub dab_drawn : (t : OnTile) (d : TileDab) (region : Region) (shape : Shape) (mode : Mode) (color : Channels)
+pub dab_drawn : (t : OnTile) (d : TileDab) (region : Region) (shape : Shape) (mode : Mode)
+    (color : Channels)
     (old new : List Channels) → region.x ≡ 0 → region.y ≡ 0 → region.width ≡ 64
     → region.height ≡ 64 → region.canvas_width ≡ 64 → region.canvas_height ≡ 64
     → shape ≡ d.shape → mode ≡ d.mode → color ≡ of_argb d.color → length old ≡ 4096

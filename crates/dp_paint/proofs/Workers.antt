@@ -49,8 +49,12 @@ empty_counts lists none col row few = ap (λ (w : Waiting). w.more) (empty_list 
 pub empty_waits : (lists : Lists) → lists.lists ≡ [] → (n : ℕ) → waiting_before lists n ≡ 0
 empty_waits lists none zero = refl
 empty_waits lists none (suc n) =
-    omega (arith, empty_waits lists none n, waits_none lists n
-    (ap (λ (w : Waiting). w.ops) (empty_list lists none (n % 64) (n / 64))))
+    omega (
+      arith,
+      empty_waits lists none n,
+      waits_none lists n
+          (ap (λ (w : Waiting). w.ops) (empty_list lists none (n % 64) (n / 64))),
+    )
 
 -- ---- a band of rows
 

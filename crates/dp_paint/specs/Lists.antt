@@ -10,7 +10,7 @@ use Rattle.dp_tile.specs.Tiles.{TileGrid, grid_pixel}
 use Rattle.dp_paint.specs.declared.op.TileOp.{TileOp}
 use Rattle.dp_paint.specs.declared.lists.Finish.{Finish}
 use Rattle.dp_paint.specs.declared.lists.Finish.TheVariants.{Keep, Drop, Clear}
-use Rattle.dp_paint.specs.Ops.{Draws, OnTile, on_tile, ops_at}
+use Rattle.dp_paint.specs.Ops.{Draws, OnTile, on_tile, ops_at, tile_after}
 
 -- the operations that wait on a tile, and those that were added since and don't count yet
 pub record Waiting : Type 0 where
@@ -43,7 +43,14 @@ pub record LayerOf : Type 0 where
   pub height : ℕ
   pub pixels : List Channels
 
--- the pixel at a place of a grid on a canvas of these sides, after all that waits on its tile, where
+-- the pixels of the tile at a column and a row of a canvas of these sides, after all that waits on
+-- it, where these commands are numbered
+abbrev pub waiting_tile : ℕ → ℕ → List Draw → Lists → ℕ → ℕ → List Channels → List Channels
+waiting_tile width height commands lists col row =
+    tile_after (on_tile width height commands col row) (listed_at lists col row)
+
+-- the pixel at a place of a grid on a canvas of these sides, after all that waits on its tile,
+-- where
 -- these commands are numbered
 abbrev pub waiting_pixel : ℕ → ℕ → List Draw → Lists → TileGrid → ℕ → ℕ → Channels
 waiting_pixel width height commands lists g x y =

@@ -77,7 +77,6 @@ impl TileSource for RectFill {
     ghost use Rattle.dp_blend.specs.Color.{of_argb};
     ghost use Rattle.dp_blend.specs.Blending.{blend};
     ghost use Rattle.dp_pixels.specs.Rectangles.{is_in, rect_at};
-
     ghost use Rattle.dp_paint.specs.Lists.{anywhere};
 
     ghost change = { λ f x y old. if is_in (rect_at (pos f.x) (pos f.y) f.w f.h) x y

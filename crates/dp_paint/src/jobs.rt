@@ -3,8 +3,7 @@
 ghost use Rattle.std.specs.Prelude.{◌≡◌, ℕ, ◌+◌, ◌<◌, ◌≤◌, All, IfOk, OnOk};
 ghost use Rattle.dp_blend.specs.Color.{clear};
 ghost use Rattle.dp_tile.specs.Tiles.{cell_at, tile_of, with_cell};
-ghost use Rattle.dp_paint.specs.Ops.{on_tile, tile_after};
-ghost use Rattle.dp_paint.specs.Lists.{listed_at, waiting_before, waits_on};
+ghost use Rattle.dp_paint.specs.Lists.{waiting_before, waiting_tile, waits_on};
 ghost use Rattle.dp_paint.specs.Jobs.{AreMade, IsDone, work_at};
 
 use crate::painter::OpsPainter;
@@ -34,8 +33,7 @@ impl<'a> Model for TileJob<'a> {
     ghost use Rattle.std.specs.Option.{option_map_or};
     ghost use Rattle.dp_blend.specs.Color.{clear};
     ghost use Rattle.dp_tile.specs.Tiles.{tile_of};
-    ghost use Rattle.dp_paint.specs.Ops.{on_tile, tile_after};
-    ghost use Rattle.dp_paint.specs.Lists.{listed_at};
+    ghost use Rattle.dp_paint.specs.Lists.{waiting_tile};
     ghost use Rattle.dp_paint.specs.Jobs.{TileWork};
 
     ghost Value = { TileWork };
@@ -43,9 +41,8 @@ impl<'a> Model for TileJob<'a> {
     ghost view = { λ j. record {
       col = j.col;
       row = j.row;
-      wanted = tile_after
-          (on_tile j.painter.on.width j.painter.on.height j.painter.on.commands.now j.col j.row)
-          (listed_at j.painter.lists.now j.col j.row)
+      wanted = waiting_tile j.painter.on.width j.painter.on.height j.painter.on.commands.now
+          j.painter.lists.now j.col j.row
           (option_map_or (λ tile. tile.now) j.old (tile_of clear));
       pixels = j.new;
     } };
@@ -66,9 +63,10 @@ impl<'a> TileJob<'a> {
         requires row { row < grid.now.rows }
         ensures col { IfOk result (λ job. job.col ≡ col) }
         ensures row { IfOk result (λ job. job.row ≡ row) }
-        ensures wanted { IfOk result (λ job. job.wanted ≡ tile_after
-            (on_tile painter.on.width painter.on.height painter.on.commands.now col row)
-            (listed_at painter.lists.now col row) (cell_at grid.now col row)) }
+        ensures wanted { IfOk result (λ job. job.wanted
+            ≡ waiting_tile painter.entry.on.width painter.entry.on.height
+            painter.entry.on.commands.now painter.entry.lists.now col row
+            (cell_at grid.now col row)) }
         ensures pixels { IfOk result (λ job. job.pixels ≡ tile_of clear) }
         ensures tiles_rise { tiles.old ≤ tiles.new }
         ensures one_tile { tiles.new ≤ tiles.old + 1 }
@@ -87,7 +85,8 @@ impl<'a> TileJob<'a> {
     fn write(self, grid: &mut Grid) -> Result<(), AllocError>
         requires col { self.col < grid.old.cols }
         requires row { self.row < grid.old.rows }
-        ensures { OnOk result (grid.new ≡ with_cell grid.old self.col self.row self.pixels) }
+        ensures { OnOk result (grid.new
+            ≡ with_cell grid.old self.entry.col self.entry.row self.entry.pixels) }
     {
         let TileJob { col, row, new, .. } = self;
         grid.write(col, row, new)
@@ -144,16 +143,14 @@ fn make_next<'a, T: Ledger>(
     requires cols { work.old.grid.cols ≡ grid.now.cols }
     requires rows { work.old.grid.rows ≡ grid.now.rows }
     ensures made { (first : ℕ) → first ≤ number
-        → AreMade (λ col row.
-        tile_after (on_tile painter.on.width painter.on.height painter.on.commands.now col row)
-        (listed_at painter.lists.now col row))
+        → AreMade (waiting_tile painter.entry.on.width painter.entry.on.height
+        painter.entry.on.commands.now painter.entry.lists.now)
         first number grid.now work.old.grid work.old.jobs.items
-        → OnOk result (AreMade (λ col row.
-        tile_after (on_tile painter.on.width painter.on.height painter.on.commands.now col row)
-        (listed_at painter.lists.now col row))
+        → OnOk result (AreMade (waiting_tile painter.entry.on.width painter.entry.on.height
+        painter.entry.on.commands.now painter.entry.lists.now)
         first (number + 1) grid.now work.new.grid work.new.jobs.items) }
     ensures tiles_rise { tiles.old ≤ tiles.new }
-    ensures few_tiles { tiles.new ≤ tiles.old + waits_on painter.lists.now number }
+    ensures few_tiles { tiles.new ≤ tiles.old + waits_on painter.entry.lists.now number }
 {
     grid.known();
     let (col, row) = (number % 64, number / 64);
@@ -166,7 +163,8 @@ fn make_next<'a, T: Ledger>(
     match painter.change(col, row, grid.tile_color(col, row)) {
         TileChange::Unknown => {
             work.jobs
-                .push(TileJob::new(grid, painter, col, row, tiles)?)
+                .push(TileJob::new(grid, painter, col, row, tiles)?)?;
+            Ok(())
         }
         _ => {
             work.grid.known();
@@ -187,13 +185,13 @@ pub(crate) fn make_jobs<'a, T: Ledger>(
     tiles: &mut Steps<T>,
 ) -> Result<Work<'a>, AllocError>
     requires { first + GROUP ≤ 4096 }
-    ensures made { IfOk result (λ work. AreMade (λ col row.
-        tile_after (on_tile painter.on.width painter.on.height painter.on.commands.now col row)
-        (listed_at painter.lists.now col row))
-        first (first + GROUP) grid.now work.grid work.jobs.items) }
+    ensures made { IfOk result (λ made. AreMade
+        (waiting_tile painter.entry.on.width painter.entry.on.height
+        painter.entry.on.commands.now painter.entry.lists.now)
+        first (first + GROUP) grid.now made.grid made.jobs.items) }
     ensures tiles_rise { tiles.old ≤ tiles.new }
-    ensures few_tiles { tiles.new + waiting_before painter.lists.now first
-        ≤ tiles.old + waiting_before painter.lists.now (first + GROUP) }
+    ensures few_tiles { tiles.new + waiting_before painter.entry.lists.now first
+        ≤ tiles.old + waiting_before painter.entry.lists.now (first + GROUP) }
 {
     let mut work = Work {
         grid: grid.share()?,
@@ -208,10 +206,11 @@ pub(crate) fn make_jobs<'a, T: Ledger>(
 /// Puts the tiles of jobs that were run on the grid.
 pub(crate) fn write_jobs(work: Work<'_>) -> Result<Grid, AllocError>
     requires { All (IsDone work.grid) work.jobs.items }
-    ensures cols { IfOk result (λ grid. grid.cols ≡ work.grid.cols) }
-    ensures rows { IfOk result (λ grid. grid.rows ≡ work.grid.rows) }
+    ensures cols { IfOk result (λ grid. grid.cols ≡ work.entry.grid.cols) }
+    ensures rows { IfOk result (λ grid. grid.rows ≡ work.entry.grid.rows) }
     ensures cells { IfOk result (λ grid. (col row : ℕ) → col < grid.cols → row < grid.rows
-        → cell_at grid col row ≡ work_at work.jobs.items col row (cell_at work.grid col row)) }
+        → cell_at grid col row
+        ≡ work_at work.entry.jobs.items col row (cell_at work.entry.grid col row)) }
 {
     let Work { mut grid, jobs } = work;
     for job in jobs {

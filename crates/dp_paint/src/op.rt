@@ -4,8 +4,8 @@ ghost use Rattle.std.specs.Prelude.{◌≡◌, [], ◌∷◌, ℕ, ◌<◌, true
 ghost use Rattle.std.specs.Prelude.{◌≤ℤ◌, ◌<ℤ◌};
 ghost use Rattle.dp_blend.specs.Color.{Channels, of_argb};
 ghost use Rattle.dp_paint.specs.Ops.{IsPackable, OnTile, code_of, dab_at, dab_in_tile, fill_at};
-ghost use Rattle.dp_paint.specs.Ops.{is_in_fill, mode_coded, on_tile, op_at, packed_dab, shape_code};
-ghost use Rattle.dp_paint.specs.Ops.{shape_coded, tile_after};
+ghost use Rattle.dp_paint.specs.Ops.{is_in_fill, mode_coded, on_tile, op_at, packed_dab};
+ghost use Rattle.dp_paint.specs.Ops.{shape_code, shape_coded, tile_after};
 
 use crate::sheet::Sheet;
 use dp_blend::{Mode, Pixel, blend, fade, from8, of_argb, rows_fill};

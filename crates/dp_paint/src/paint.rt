@@ -7,8 +7,7 @@ ghost use Rattle.dp_tile.specs.Areas.{IsPaintedOn, is_in_cells};
 ghost use Rattle.dp_tile.specs.Tiles.{grid_pixels};
 ghost use Rattle.dp_paint.specs.Painting.{IsGridOf, IsPainting};
 ghost use Rattle.dp_paint.specs.Reading.{IsAreaOf, cells_of};
-ghost use Rattle.dp_paint.specs.Ops.{on_tile, tile_after};
-ghost use Rattle.dp_paint.specs.Lists.{IsChangedOn, IsFinished, listed_at};
+ghost use Rattle.dp_paint.specs.Lists.{IsChangedOn, IsFinished, waiting_tile};
 
 use crate::feet::cells_of;
 use crate::filing::file;
@@ -47,8 +46,8 @@ pub(crate) fn paint_lists<T: Ledger>(
 ) -> Result<(), AllocError>
     requires area { IsAreaOf grid.old area }
     ensures painted { OnOk result (IsPaintedOn area
-        (λ col row. tile_after (on_tile on.width on.height on.commands.now col row)
-        (listed_at lists.now col row)) grid.old grid.new) }
+        (waiting_tile on.entry.width on.entry.height on.entry.commands.now lists.now)
+        grid.old grid.new) }
     ensures err { OnErr result (grid.new ≡ grid.old) }
     ensures tiles_rise { tiles.old ≤ tiles.new }
     ensures few_tiles { tiles.new ≤ tiles.old + cells_of area }
@@ -72,8 +71,8 @@ pub(crate) fn settle<T: Ledger>(
     requires area { IsAreaOf grid.old area }
     requires first { lists.old.first ≤ area.top }
     ensures painted { OnOk result (IsPaintedOn area
-        (λ col row. tile_after (on_tile on.width on.height on.commands.now col row)
-        (listed_at lists.old col row)) grid.old grid.new) }
+        (waiting_tile on.entry.width on.entry.height on.entry.commands.now lists.old)
+        grid.old grid.new) }
     ensures none { OnOk result
         (IsChangedOn area (IsFinished Finish.Clear) lists.old lists.new) }
     ensures err { OnErr result (grid.new ≡ grid.old) }

@@ -10,7 +10,7 @@ ghost use Rattle.dp_tile.specs.Painters.{KnownChange};
 ghost use Rattle.dp_tile.specs.Tiles.{tile_of, tile_pixels};
 ghost use Rattle.dp_paint.specs.Painting.{IsTileWithin, length-tile_drawn, tile_drawn};
 ghost use Rattle.dp_paint.specs.Ops.{OnTile, length-tile_after, on_tile, ops_at, tile_after};
-ghost use Rattle.dp_paint.specs.Lists.{listed_at};
+ghost use Rattle.dp_paint.specs.Lists.{listed_at, waiting_tile};
 
 use crate::fetch::{Fill, read_tile};
 use crate::lists::TileLists;
@@ -333,9 +333,7 @@ pub(crate) struct OpsPainter<'a> {
 }
 
 impl TilePainter for OpsPainter<'_> {
-    ghost painted = { λ p col row.
-        tile_after (on_tile p.on.width p.on.height p.on.commands.now col row)
-        (listed_at p.lists.now col row) };
+    ghost painted = { λ p. waiting_tile p.on.width p.on.height p.on.commands.now p.lists.now };
 
     ghost keeps_count = { λ p col row pixels count.
         length-tile_after (on_tile p.on.width p.on.height p.on.commands.now col row)

@@ -8,8 +8,8 @@ ghost use Rattle.dp_pixels.specs.Feet.{reach};
 ghost use Rattle.dp_tile.specs.Areas.{IsPaintedOn};
 ghost use Rattle.dp_tile.specs.Tiles.{grid_pixels};
 ghost use Rattle.dp_paint.specs.Painting.{IsGridOf, IsPainting, pixels_after_all};
-ghost use Rattle.dp_paint.specs.Ops.{on_tile, tile_after};
 ghost use Rattle.dp_paint.specs.Lists.{AllCount, layer_pixels, listed_at, waiting_before};
+ghost use Rattle.dp_paint.specs.Lists.{waiting_tile};
 ghost use Rattle.dp_paint.specs.Jobs.{band_at};
 
 use crate::feet::cells_of;
@@ -52,8 +52,8 @@ fn band_painted<R: Threads + Sync, G: Gate, T: Ledger>(
 ) -> Result<Grid, AllocError>
     requires { top + 8 ≤ 64 }
     ensures painted { IfOk result (λ painted. IsPaintedOn (band_at top)
-        (λ col row. tile_after (on_tile on.width on.height on.commands.now col row)
-        (listed_at lists.now col row)) grid.now painted) }
+        (waiting_tile on.entry.width on.entry.height on.entry.commands.now lists.now)
+        grid.now painted) }
     ensures tiles_rise { tiles.old ≤ tiles.new }
     ensures few_tiles { tiles.new + waiting_before lists.now (top * 64)
         ≤ tiles.old + waiting_before lists.now (top * 64 + GROUP) }
@@ -79,11 +79,11 @@ pub(crate) fn settle_all<R: Threads + Sync, G: Gate, T: Ledger>(
     requires grid { IsGridOf on.width on.height grid.old }
     requires first { lists.old.first ≡ 0 }
     requires counts { AllCount lists.old }
-    ensures grid { IsGridOf on.width on.height grid.new }
+    ensures grid { IsGridOf on.entry.width on.entry.height grid.new }
     ensures first { lists.new.first ≡ 0 }
     ensures counts { AllCount lists.new }
-    ensures same { layer_pixels on.width on.height on.commands.now lists.new grid.new
-        ≡ layer_pixels on.width on.height on.commands.now lists.old grid.old }
+    ensures same { layer_pixels on.entry.width on.entry.height on.entry.commands.now lists.new grid.new
+        ≡ layer_pixels on.entry.width on.entry.height on.entry.commands.now lists.old grid.old }
     ensures none { OnOk result
         ((col row : ℕ) → col < 64 → row < 64 → listed_at lists.new col row ≡ []) }
     ensures tiles_rise { tiles.old ≤ tiles.new }
@@ -122,9 +122,9 @@ fn file_command(
     ensures first { lists.new.first ≡ 0 }
     ensures counts { AllCount lists.new }
     ensures pixels { OnOk result
-        (layer_pixels on.width on.height on.commands.now lists.new grid.now
-        ≡ pixels_after on.width on.height command.now
-        (layer_pixels on.width on.height on.commands.now lists.old grid.now)) }
+        (layer_pixels on.entry.width on.entry.height on.entry.commands.now lists.new grid.now
+        ≡ pixels_after on.entry.width on.entry.height command.now
+        (layer_pixels on.entry.width on.entry.height on.entry.commands.now lists.old grid.now)) }
     ensures few { OnOk result
         (waiting_before lists.new 4096 ≤ waiting_before lists.old 4096 + reach command.now) }
 {
@@ -156,10 +156,10 @@ fn file_all(lists: &mut TileLists, grid: &Grid, on: Sheet<'_>) -> Result<(), All
     ensures first { lists.new.first ≡ 0 }
     ensures counts { AllCount lists.new }
     ensures pixels { OnOk result
-        (layer_pixels on.width on.height on.commands.now lists.new grid.now
-        ≡ pixels_after_all on.width on.height on.commands.now
-        (grid_pixels on.width on.height grid.now)) }
-    ensures few { OnOk result (waiting_before lists.new 4096 ≤ sum_by reach on.commands.now) }
+        (layer_pixels on.entry.width on.entry.height on.entry.commands.now lists.new grid.now
+        ≡ pixels_after_all on.entry.width on.entry.height on.entry.commands.now
+        (grid_pixels on.entry.width on.entry.height grid.now)) }
+    ensures few { OnOk result (waiting_before lists.new 4096 ≤ sum_by reach on.entry.commands.now) }
 {
     for number in 0..on.commands.len() {
         file_command(lists, grid, on, number as u32, &on.commands[number])?;
@@ -182,12 +182,12 @@ fn paint_part<R: Threads + Sync, G: Gate, T: Ledger>(
     requires few { length on.commands.now < 2 ^ 32 }
     requires commands { All IsPainting on.commands.now }
     requires grid { IsGridOf on.width on.height grid.now }
-    ensures grid { IfOk result (IsGridOf on.width on.height) }
-    ensures pixels { IfOk result (λ painted. grid_pixels on.width on.height painted
-        ≡ pixels_after_all on.width on.height on.commands.now
-        (grid_pixels on.width on.height grid.now)) }
+    ensures grid { IfOk result (IsGridOf on.entry.width on.entry.height) }
+    ensures pixels { IfOk result (λ painted. grid_pixels on.entry.width on.entry.height painted
+        ≡ pixels_after_all on.entry.width on.entry.height on.entry.commands.now
+        (grid_pixels on.entry.width on.entry.height grid.now)) }
     ensures tiles_rise { tiles.old ≤ tiles.new }
-    ensures few_tiles { tiles.new ≤ tiles.old + sum_by reach on.commands.now }
+    ensures few_tiles { tiles.new ≤ tiles.old + sum_by reach on.entry.commands.now }
 {
     let mut lists = TileLists::new(grid.alloc(), 0);
     file_all(&mut lists, grid, on)?;

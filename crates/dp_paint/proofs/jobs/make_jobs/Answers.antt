@@ -1,6 +1,4 @@
 use Rattle.std.proofs.Common.{◌+◌, arith}
-use Rattle.dp_paint.specs.Lists.{listed_at}
-use Rattle.dp_paint.specs.Ops.{on_tile, tile_after}
 use Rattle.dp_paint.proofs.Counts.{waiting_next}
 use Rattle.dp_paint.proofs.Jobs.{made_none}
 use Rattle.dp_paint.proofs.jobs.make_jobs.Goals as goal
@@ -19,6 +17,10 @@ loop-number-preserved g c =
       made = c.in_ok-make_next.ensures.made c.args.first (omega (arith, c.loop-number.auto.number))
           inv.made;
       rise = omega (arith, inv.rise, c.in_ok-make_next.ensures.tiles_rise);
-      few = omega (arith, inv.few, c.in_ok-make_next.ensures.few_tiles,
-          waiting_next lists c.loop-number.number);
+      few = omega (
+        arith,
+        inv.few,
+        c.in_ok-make_next.ensures.few_tiles,
+        waiting_next lists c.loop-number.number,
+      );
     }

@@ -1,16 +1,14 @@
 use Rattle.std.proofs.Common.{◌+◌, ◌≤◌}
 use Rattle.dp_paint.specs.Jobs.{AreMade}
-use Rattle.dp_paint.specs.Lists.{listed_at, waiting_before}
-use Rattle.dp_paint.specs.Ops.{on_tile, tile_after}
+use Rattle.dp_paint.specs.Lists.{waiting_before, waiting_tile}
 use Rattle.dp_paint.proofs.jobs.make_jobs.Given as goal
 
 -- the tiles of the numbers before this one are painted, or have jobs
 abbrev pub invariant-loop-number : goal.invariant-loop-number
 invariant-loop-number g l =
     record {
-      made : AreMade (λ col row.
-          tile_after (on_tile l.painter.on.width l.painter.on.height l.painter.on.commands.now col
-          row) (listed_at l.painter.lists.now col row)) l.first l.number l.grid l.work.grid
+      made : AreMade (waiting_tile l.painter.on.width l.painter.on.height
+          l.painter.on.commands.now l.painter.lists.now) l.first l.number l.grid l.work.grid
           l.work.jobs.items;
       rise : l.initial.tiles ≤ l.tiles;
       few : l.tiles + waiting_before l.painter.lists.now l.first

@@ -27,6 +27,10 @@ loop-number-preserved c =
       counts = filed.counts;
       pixels = after_more on.width on.height commands k _ _ _ _ c.loop-number-test.true refl
           inv.pixels filed.pixels;
-      few = omega (arith, inv.few, filed.few,
-          sum_by_more reach commands k _ c.loop-number-test.true);
+      few = omega (
+        arith,
+        inv.few,
+        filed.few,
+        sum_by_more reach commands k _ c.loop-number-test.true,
+      );
     }

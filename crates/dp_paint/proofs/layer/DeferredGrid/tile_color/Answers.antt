@@ -18,4 +18,5 @@ returns-then-is_empty c =
     (λ color is.
     shows_layer c.args.self.now inside.width inside.height [] inside.lists inside.grid c.args.col
     c.args.row found (Some color) [] c.self.view_is c.ops.ensures
-    (shows_none (on_tile inside.width inside.height [] c.args.col c.args.row) found color (cell_at inside.grid c.args.col c.args.row) none is))
+    (shows_none (on_tile inside.width inside.height [] c.args.col c.args.row) found color
+    (cell_at inside.grid c.args.col c.args.row) none is))
