@@ -1,9 +1,9 @@
 pub mod Ops
 pub mod Waits
 pub mod Filed
-pub mod Jobs
+pub mod Made
 pub mod Counts
-pub mod Workers
+pub mod Bands
 pub mod Layers
 pub mod Drawn
 pub mod FootLemmas

@@ -1,6 +1,6 @@
 use Rattle.std.proofs.Common.{◌+◌, arith}
 use Rattle.dp_paint.proofs.Counts.{waiting_next}
-use Rattle.dp_paint.proofs.Jobs.{made_none}
+use Rattle.dp_paint.proofs.Made.{made_none}
 use Rattle.dp_paint.proofs.jobs.make_jobs.Goals as goal
 
 pub loop-number-init : goal.loop-number-init

@@ -2,7 +2,7 @@ use Rattle.std.proofs.Common.{◌≡◌, ◌≤◌, ◌∙◌, List, ap, arith, 
 use Rattle.std.proofs.lemmas.List.{take_all}
 use Rattle.dp_tile.specs.Tiles.{cell_at}
 use Rattle.dp_paint.specs.Jobs.{TileWork, work_at}
-use Rattle.dp_paint.proofs.Jobs.{job_written}
+use Rattle.dp_paint.proofs.Made.{job_written}
 use Rattle.dp_paint.proofs.jobs.write_jobs.Goals as goal
 
 pub loop-job-init : goal.loop-job-init

@@ -7,7 +7,7 @@ use Rattle.dp_msg_draw.specs.declared.draw.Draw.{Draw}
 use Rattle.dp_pixels.specs.Feet.{reach}
 use Rattle.dp_tile.specs.Tiles.{TileGrid, grid_pixels}
 use Rattle.dp_paint.specs.Painting.{IsGridOf, pixels_after_all}
-use Rattle.dp_paint.proofs.Workers.{part_more}
+use Rattle.dp_paint.proofs.Bands.{part_more}
 use Rattle.dp_paint.proofs.workers.paint.Goals as goal
 
 pub loop-init : goal.loop-init

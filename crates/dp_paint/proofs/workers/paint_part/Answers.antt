@@ -2,7 +2,7 @@ use Rattle.std.proofs.Common.{◌∙◌, ap, sym, arith, subst}
 use Rattle.dp_tile.specs.Tiles.{TileGrid}
 use Rattle.dp_paint.specs.Lists.{layer_pixels}
 use Rattle.dp_paint.specs.Painting.{IsGridOf}
-use Rattle.dp_paint.proofs.Workers.{none_waits}
+use Rattle.dp_paint.proofs.Bands.{none_waits}
 use Rattle.dp_paint.proofs.workers.paint_part.Goals as goal
 
 pub settle_all-requires-clause-grid : goal.settle_all-requires-clause-grid

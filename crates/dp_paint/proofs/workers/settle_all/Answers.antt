@@ -4,7 +4,7 @@ use Rattle.dp_paint.specs.Jobs.{band_at}
 use Rattle.dp_paint.proofs.Counts.{waiting_more}
 use Rattle.dp_paint.proofs.Layers.{painted_grid, settled}
 use Rattle.dp_paint.proofs.Waits.{all_counts}
-use Rattle.dp_paint.proofs.Workers.{band_count, band_empty, band_rest}
+use Rattle.dp_paint.proofs.Bands.{band_count, band_empty, band_rest}
 use Rattle.dp_paint.proofs.workers.settle_all.Goals as goal
 
 pub loop-band-init : goal.loop-band-init

@@ -2,7 +2,7 @@ use Rattle.std.proofs.Common.{[], ◌∙◌, ap, arith, sym}
 use Rattle.dp_paint.specs.Lists.{Lists}
 use Rattle.dp_paint.proofs.Counts.{waiting_few}
 use Rattle.dp_paint.proofs.Layers.{no_lists, same_layer}
-use Rattle.dp_paint.proofs.Workers.{none_waits}
+use Rattle.dp_paint.proofs.Bands.{none_waits}
 use Rattle.dp_paint.proofs.layer.DeferredGrid.settle_by.Goals as goal
 
 pub returns-clause-same : goal.returns-clause-same

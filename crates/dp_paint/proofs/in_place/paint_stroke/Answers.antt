@@ -2,7 +2,7 @@ use Rattle.std.proofs.Common.{[], ap}
 use Rattle.std.proofs.lemmas.Result.{on_ok_weaker}
 use Rattle.dp_paint.specs.Lists.{Lists}
 use Rattle.dp_paint.proofs.Layers.{dabs_wait, filed_alone}
-use Rattle.dp_paint.proofs.paint.paint_stroke.Goals as goal
+use Rattle.dp_paint.proofs.in_place.paint_stroke.Goals as goal
 
 pub returns-clause-pixels : goal.returns-clause-pixels
 returns-clause-pixels g c =
