@@ -5,7 +5,8 @@ use Rattle.std.proofs.Common.{cond, leb, true, false}
 use Rattle.std.specs.List.{sum_by}
 use Rattle.std.specs.Prelude.{Bool}
 use Rattle.std.proofs.lemmas.Bool.{cases_lt}
-use Rattle.std.proofs.lemmas.List.{take_more}
+use Rattle.std.proofs.lemmas.List.{length-take, take-append-drop, take_more}
+use Rattle.std.proofs.Math.Seq.{take-append-add}
 use Rattle.std.proofs.lemmas.List.Sums.{fold-append}
 use Rattle.dp_blend.specs.Color.{Channels}
 use Rattle.dp_blend.proofs.Canvas.{canvas_of-same}
@@ -19,7 +20,7 @@ use Rattle.dp_paint.specs.Lists.{AllCount, IsChangedOn, IsFinished, Lists, Waiti
 use Rattle.dp_paint.specs.Lists.{list_at, listed_at, no_list, waiting_before, waiting_pixel}
 use Rattle.dp_paint.specs.Ops.{on_tile, ops_at}
 use Rattle.dp_paint.specs.Painting.{pixels_after_all}
-use Rattle.dp_paint.proofs.Counts.{waiting_same, waits_none, waits_same}
+use Rattle.dp_paint.proofs.Counts.{waiting_same, waiting_suc, waits_none, waits_same}
 
 -- ---- no operation
 
@@ -51,6 +52,7 @@ empty_waits lists none zero = refl
 empty_waits lists none (suc n) =
     omega (
       arith,
+      waiting_suc lists n,
       empty_waits lists none n,
       waits_none lists n
           (ap (λ (w : Waiting). w.ops) (empty_list lists none (n % 64) (n / 64))),
@@ -95,12 +97,21 @@ pub band_count : (band : ℕ) (initial now : Lists) (start tiles new : ℕ)
     → new + waiting_before now (band * 8 * 64) ≤ tiles + waiting_before now (band * 8 * 64 + 512)
     → new ≤ start + waiting_before initial ((band + 1) * 512)
 band_count band initial now start tiles new rest few more =
-    let at : band * 8 * 64 ≡ band * 512 = omega arith in
+    let first : band * 8 * 64 ≡ band * 512 = omega arith in
+    let last : band * 8 * 64 + 512 ≡ band * 512 + 512 = omega arith in
     let end : (band + 1) * 512 ≡ band * 512 + 512 = omega arith in
     let same = waiting_same now initial (band * 512) 512
     (λ k from to. waits_same now initial k
     (rest (k % 64) (k / 64) (omega arith) (omega (arith, from)))) in
-    rw end (omega (arith, few, rw at at more, same))
+    omega (
+      arith,
+      few,
+      more,
+      same,
+      ap (waiting_before now) first,
+      ap (waiting_before now) last,
+      ap (waiting_before initial) end,
+    )
 
 -- ---- commands one after the other
 
@@ -127,3 +138,14 @@ part_more width height first part all start before after are is then =
     ∙ sym (fold-append (λ (old : List Channels) (c : Draw). pixels_after width height c old) start
     first part)
     ∙ ap (λ (l : List Draw). pixels_after_all width height l start) (sym are)
+
+-- the first of them, up to a part
+pub take_part : (all : List Draw) (done next : ℕ) → done ≤ next → done ≤ length all
+    → take next all ≡ take done all ++ take (next - done) (drop done all)
+take_part all done next order inside =
+    let first = take done all in
+    let long : length first ≡ done = omega (arith, length-take done all, inside) in
+    let at : next ≡ length first + (next - done) = omega (arith, long, order) in
+    ap (λ (n : ℕ). take n all) at
+    ∙ ap (λ (l : List Draw). take (length first + (next - done)) l) (sym (take-append-drop done all))
+    ∙ take-append-add first (drop done all) (next - done)

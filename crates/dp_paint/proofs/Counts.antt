@@ -20,9 +20,14 @@ at_most_one false = omega arith
 pub waits_one : (l : Lists) (n : ℕ) → waits_on l n ≤ 1
 waits_one l n = at_most_one (eqb (length (listed_at l (n % 64) (n / 64))) 0)
 
+-- before the next number there is one more, where something waits
+pub waiting_suc : (l : Lists) (n : ℕ)
+    → waiting_before l (suc n) ≡ waiting_before l n + waits_on l n
+waiting_suc l n = refl
+
 pub waiting_few : (l : Lists) (n : ℕ) → waiting_before l n ≤ n
 waiting_few l zero = omega arith
-waiting_few l (suc n) = omega (arith, waiting_few l n, waits_one l n)
+waiting_few l (suc n) = omega (arith, waiting_suc l n, waiting_few l n, waits_one l n)
 
 -- there are no fewer before a higher number
 pub waiting_more : (l : Lists) (a n : ℕ) → waiting_before l a ≤ waiting_before l (a + n)
@@ -30,7 +35,7 @@ waiting_more l a zero =
     let same : a + zero ≡ a = omega arith in rw same (omega arith)
 waiting_more l a (suc n) =
     let same : a + suc n ≡ suc (a + n) = omega arith in
-    rw same (omega (arith, waiting_more l a n))
+    rw same (omega (arith, waiting_suc l (a + n), waiting_more l a n))
 
 -- a tile on which something waits, or nothing
 pub waits_none : (l : Lists) (n : ℕ) → listed_at l (n % 64) (n / 64) ≡ [] → waits_on l n ≡ 0
@@ -50,7 +55,7 @@ waiting_same l m a (suc n) same =
     let at : a + suc n ≡ suc (a + n) = omega arith in
     let last = same (a + n) (omega arith) (omega arith) in
     let before = waiting_same l m a n (λ k from to. same k from (omega (arith, to))) in
-    rw at (omega (arith, last, before))
+    rw at (omega (arith, waiting_suc l (a + n), waiting_suc m (a + n), last, before))
 
 -- ---- an area more
 
@@ -62,6 +67,10 @@ inside area n = cond (is_in_cells area (n % 64) (n / 64)) 1 0
 inside_before : CellArea → ℕ → ℕ
 inside_before area zero = 0
 inside_before area (suc n) = inside_before area n + inside area n
+
+inside_suc : (area : CellArea) (n : ℕ)
+    → inside_before area (suc n) ≡ inside_before area n + inside area n
+inside_suc area n = refl
 
 module _ (area : CellArea) (n : ℕ) where
   in_area : is_in_cells area (n % 64) (n / 64) ≡ true → inside area n ≡ 1
@@ -95,7 +104,8 @@ module _ (area : CellArea) (old new : Lists)
 
   all_more : (n : ℕ) → waiting_before new n ≤ waiting_before old n + inside_before area n
   all_more zero = omega arith
-  all_more (suc n) = omega (arith, all_more n, one_more n)
+  all_more (suc n) =
+      omega (arith, waiting_suc new n, waiting_suc old n, inside_suc area n, all_more n, one_more n)
 
 -- the first cells of a row that are in an area
 module _ (area : CellArea) (row : ℕ) where
@@ -111,12 +121,19 @@ module _ (area : CellArea) (row : ℕ) where
       rw at (⊎_elim (λ left.
       let none = not_in_area area (row * 64 + c)
       (λ is. let from = is.left in absurd (omega (arith, from, at_col, left))) in
-      omega (arith, before, none, left))
-      (λ from. ⊎_elim (λ to. omega (arith, before, inside_one area (row * 64 + c), from, to))
+      omega (arith, inside_suc area (row * 64 + c), before, none, left))
+      (λ from. ⊎_elim (λ to. omega (
+        arith,
+        inside_suc area (row * 64 + c),
+        before,
+        inside_one area (row * 64 + c),
+        from,
+        to,
+      ))
       (λ right.
       let none = not_in_area area (row * 64 + c)
       (λ is. let to = is.right in absurd (omega (arith, to, at_col, right))) in
-      omega (arith, before, none, right))
+      omega (arith, inside_suc area (row * 64 + c), before, none, right))
       (cases_lt c area.right))
       (cases_lt c area.left))
 
@@ -134,13 +151,18 @@ module _ (area : CellArea) (row : ℕ) where
       let to = is.bottom in
       ⊎_elim (λ above. absurd (omega (arith, above, from, at_row)))
       (λ below. absurd (omega (arith, below, to, at_row))) out) in
-      rw at (omega (arith, before, none))
+      rw at (omega (arith, inside_suc area (row * 64 + c), before, none))
+
+-- one row more
+one_more_row : (a w : ℕ) → (a + 1) * w ≡ a * w + w
+one_more_row a w = omega arith
 
 -- the cells of the first rows that are in an area
 rows_inside : (area : CellArea) (row : ℕ)
     → inside_before area (row * 64)
     ≤ (min row area.bottom - area.top) * (area.right - area.left)
-rows_inside area zero = omega arith
+rows_inside area zero =
+    let none : inside_before area (zero * 64) ≡ 0 = refl in omega (arith, none)
 rows_inside area (suc row) =
     let w = area.right - area.left in
     let at : suc row * 64 ≡ row * 64 + 64 = omega arith in
@@ -152,7 +174,8 @@ rows_inside area (suc row) =
     (λ from. ⊎_elim (λ to.
     let more : min (suc row) area.bottom - area.top ≡ min row area.bottom - area.top + 1 =
     omega (arith, from, to) in
-    rw more (omega (arith, before, in_row area row 64 (omega arith))))
+    rw (more, one_more_row (min row area.bottom - area.top) w)
+    (omega (arith, before, in_row area row 64 (omega arith))))
     (λ below.
     let same : min (suc row) area.bottom - area.top ≡ min row area.bottom - area.top =
     omega (arith, below) in
@@ -169,15 +192,12 @@ pub filed_few : (area : CellArea) (old new : Lists)
 filed_few area old new outside =
     let w = area.right - area.left in
     let high : min 64 area.bottom - area.top ≤ area.bottom - area.top = omega arith in
-    omega (
-      arith,
-      all_more area old new outside 4096,
-      rows_inside area 64,
-      mul-le-mul_right w high,
-    )
+    let rows : inside_before area 4096 ≤ (min 64 area.bottom - area.top) * w =
+    rows_inside area 64 in
+    omega (arith, all_more area old new outside 4096, rows, mul-le-mul_right w high)
 
 -- one number more
 pub waiting_next : (l : Lists) (n : ℕ)
     → waiting_before l (n + 1) ≡ waiting_before l n + waits_on l n
 waiting_next l n =
-    let same : n + 1 ≡ suc n = omega arith in rw same refl
+    let same : n + 1 ≡ suc n = omega arith in rw same (waiting_suc l n)

@@ -5,9 +5,7 @@ use Rattle.std.proofs.Common.{cond, true, false, ◌&&◌, leb, ltb, eqb, length
 use Rattle.std.specs.Prelude.{All}
 use Rattle.std.proofs.lemmas.Bool.{and_parts, cases_eq, cond-false, cond-true, eq-eqb, eqb-true}
 use Rattle.std.proofs.lemmas.Bool.{false_from_ne_true, le-leb, leb-true, lt-ltb, ltb-true, ne_eqb}
-use Rattle.std.proofs.lemmas.List.{take_all, take_more}
 use Rattle.std.proofs.lemmas.List.Elements.{All-head, All-push, All-tail, All-weaker}
-use Rattle.std.proofs.lemmas.List.Sums.{fold-append}
 use Rattle.dp_blend.specs.Color.{Channels, clear}
 use Rattle.dp_pixels.proofs.SpanLemmas.{same_test}
 use Rattle.dp_tile.specs.Areas.{IsPaintedOn, Painted, is_in_cells}
@@ -19,6 +17,10 @@ use Rattle.dp_paint.proofs.Waits.{inside_by, inside_facts}
 
 -- ---- one cell
 
+-- two columns and two rows are the same
+both_same : (a b col row : ℕ) → a ≡ col → b ≡ row → (eqb a col && eqb b row) ≡ true
+both_same a b col row same_col same_row = rw (eq-eqb a col same_col, eq-eqb b row same_row) refl
+
 -- a cell of a grid of which one cell was changed
 pub cell_with : (g : TileGrid) → IsGrid g → (at_col at_row : ℕ) (v : List Channels)
     → at_col < g.cols → at_row < g.rows → (col row : ℕ) → col < g.cols
@@ -26,20 +28,21 @@ pub cell_with : (g : TileGrid) → IsGrid g → (at_col at_row : ℕ) (v : List 
     ≡ cond (eqb at_col col && eqb at_row row) v (cell_at g col row)
 cell_with g is at_col at_row v in_cols in_rows col row col_in =
     let cell = cell_at g col row in
+    let test = eqb at_col col && eqb at_row row in
     ⊎_elim (λ (same_row : at_row ≡ row).
     ⊎_elim (λ (same_col : at_col ≡ col).
-    (rw (← same_row, ← same_col) (cell_same g is at_col at_row v in_cols in_rows))
-    ∙ (rw (eq-eqb at_col col same_col, eq-eqb at_row row same_row) refl))
+    let here : cell_at (with_cell g at_col at_row v) col row ≡ v =
+    rw (← same_row, ← same_col) (cell_same g is at_col at_row v in_cols in_rows) in
+    here ∙ sym (cond-true test v cell (both_same at_col at_row col row same_col same_row)))
     (λ (other : at_col ≡ col → ⊥).
-    (rw (← same_row) (cell_beside g is at_col at_row v in_cols col (λ same. other (sym same))))
-    ∙ sym (cond-false (eqb at_col col && eqb at_row row) v cell
-    (false_from_ne_true (eqb at_col col && eqb at_row row)
+    let beside : cell_at (with_cell g at_col at_row v) col row ≡ cell_at g col row =
+    rw (← same_row) (cell_beside g is at_col at_row v in_cols col (λ same. other (sym same))) in
+    beside ∙ sym (cond-false test v cell (false_from_ne_true test
     (λ both. other (eqb-true at_col col (and_parts (eqb at_col col) (eqb at_row row) both).0)))))
     (cases_eq at_col col))
     (λ (other : at_row ≡ row → ⊥).
     cell_elsewhere g is at_col at_row v in_cols col row col_in (λ same. other (sym same))
-    ∙ sym (cond-false (eqb at_col col && eqb at_row row) v cell
-    (false_from_ne_true (eqb at_col col && eqb at_row row)
+    ∙ sym (cond-false test v cell (false_from_ne_true test
     (λ both. other (eqb-true at_row row (and_parts (eqb at_col col) (eqb at_row row) both).1)))))
     (cases_eq at_row row)
 
@@ -48,20 +51,18 @@ cell_with g is at_col at_row v in_cols in_rows col row col_in =
 -- one job more
 pub work_more : (jobs : List TileWork) (job : TileWork) (col row : ℕ) (pixels : List Channels)
     → work_at (jobs ++ job ∷ []) col row pixels
-    ≡ cond (eqb job.col col && eqb job.row row) job.wanted (work_at jobs col row pixels)
-work_more jobs job col row pixels =
-    fold-append (λ (before : List Channels) (j : TileWork).
-    cond (eqb j.col col && eqb j.row row) j.wanted before) pixels jobs (job ∷ [])
+    ≡ work_at jobs col row (cond (eqb job.col col && eqb job.row row) job.wanted pixels)
+work_more [] job col row pixels = refl
+work_more (x ∷ jobs) job col row pixels =
+    ap (λ (ps : List Channels). cond (eqb x.col col && eqb x.row row) x.wanted ps)
+    (work_more jobs job col row pixels)
 
--- one of them more
-pub work_next : (jobs : List TileWork) (k : ℕ) (job : TileWork) → k < length jobs
-    → job ≡ get_or jobs k job → (col row : ℕ) (pixels : List Channels)
-    → cond (eqb job.col col && eqb job.row row) job.wanted (work_at (take k jobs) col row pixels)
-    ≡ work_at (take (k + 1) jobs) col row pixels
-work_next jobs k job inside is col row pixels =
-    sym (work_more (take k jobs) job col row pixels)
-    ∙ ap (λ (l : List TileWork). work_at l col row pixels)
-    (ap (λ (j : TileWork). take k jobs ++ j ∷ []) is ∙ sym (take_more jobs k job inside))
+-- a job at the cell
+job_here : (job : TileWork) (col row : ℕ) (a b : List Channels) → job.col ≡ col → job.row ≡ row
+    → cond (eqb job.col col && eqb job.row row) a b ≡ a
+job_here job col row a b same_col same_row =
+    cond-true (eqb job.col col && eqb job.row row) a b
+    (both_same job.col job.row col row same_col same_row)
 
 -- a job at another cell
 not_here : (job : TileWork) (col row : ℕ) (a b : List Channels)
@@ -81,9 +82,8 @@ work_none next g [] col row pixels each up = refl
 work_none next g (job ∷ jobs) col row pixels each up =
     let made = All-head (IsMade next g) job jobs each in
     let before = made.before in
-    ap (λ (ps : List Channels). work_at jobs col row ps)
-    (not_here job col row job.wanted pixels
-    (λ same_col same_row. absurd (omega (arith, before, up, same_col, same_row))))
+    not_here job col row job.wanted (work_at jobs col row pixels)
+    (λ same_col same_row. absurd (omega (arith, before, up, same_col, same_row)))
     ∙ work_none next g jobs col row pixels (All-tail (IsMade next g) job jobs each) up
 
 -- ---- numbers
@@ -205,18 +205,19 @@ module _ (painted : Painted) (first number : ℕ) (old now : TileGrid) (jobs : L
               pixels = blank;
             });
         cells = λ col row col_in row_in.
-            let before = work_at jobs col row (cell_at now col row) in
-            work_more jobs job col row (cell_at now col row)
+            let old_cell = cell_at now col row in
+            work_more jobs job col row old_cell
             ∙ ⊎_elim (λ (same : row * 64 + col ≡ number).
             let same_row : job.row ≡ row = omega (arith, same, at, in_cols, col_in, wide) in
             let same_col : job.col ≡ col = omega (arith, same, at, same_row) in
-            (rw (eq-eqb job.col col same_col, eq-eqb job.row row same_row) refl)
-            ∙ wanted
-            ∙ (rw (same_col, same_row) refl)
-            ∙ here col row same)
+            let becomes : painted job.col job.row (cell_at old job.col job.row)
+            ≡ painted col row (cell_at old col row) = rw (same_col, same_row) refl in
+            ap (work_at jobs col row) (job_here job col row job.wanted old_cell same_col same_row)
+            ∙ work_none number old jobs col row job.wanted is.each (omega (arith, same))
+            ∙ wanted ∙ becomes ∙ here col row same)
             (λ other.
-            not_here job col row job.wanted before
-            (λ same_col same_row. other (omega (arith, at, same_col, same_row)))
+            ap (work_at jobs col row) (not_here job col row job.wanted old_cell
+            (λ same_col same_row. other (omega (arith, at, same_col, same_row))))
             ∙ is.cells col row col_in row_in ∙ beside col row other)
             (cases_eq (row * 64 + col) number);
       })
@@ -241,24 +242,23 @@ module _ (painted : Painted) (first number : ℕ) (old now : TileGrid) (jobs : L
         each = All-weaker (IsMade number old) (IsMade (number + 1) old) (still_made number old)
             jobs is.each;
         cells = λ col row col_in row_in.
-            ap (λ (ps : List Channels). work_at jobs col row ps)
+            let test = eqb at_col col && eqb at_row row in
+            let old_cell = cell_at now col row in
+            ap (work_at jobs col row)
             (cell_with now now_grid at_col at_row v in_now down_now col row
             (omega (arith, col_in, same_cols)))
             ∙ ⊎_elim (λ (same : row * 64 + col ≡ number).
             let same_row : at_row ≡ row = omega (arith, same, at, in_cols, col_in, wide) in
             let same_col : at_col ≡ col = omega (arith, same, at, same_row) in
-            work_none number old jobs col row
-            (cond (eqb at_col col && eqb at_row row) v (cell_at now col row)) is.each
-            (omega (arith, same))
-            ∙ (rw (eq-eqb at_col col same_col, eq-eqb at_row row same_row) refl)
-            ∙ ap (λ (ps : List Channels). painted at_col at_row ps)
-            (cell_of_number at_col at_row in_cols in_rows at)
-            ∙ (rw (same_col, same_row) refl)
-            ∙ here col row same)
+            let becomes : painted at_col at_row (cell_at old at_col at_row)
+            ≡ painted col row (cell_at old col row) = rw (same_col, same_row) refl in
+            work_none number old jobs col row (cond test v old_cell) is.each (omega (arith, same))
+            ∙ cond-true test v old_cell (both_same at_col at_row col row same_col same_row)
+            ∙ ap (painted at_col at_row) (cell_of_number at_col at_row in_cols in_rows at)
+            ∙ becomes ∙ here col row same)
             (λ other.
-            let test = eqb at_col col && eqb at_row row in
-            ap (λ (ps : List Channels). work_at jobs col row ps)
-            (cond-false test v (cell_at now col row) (false_from_ne_true test (λ both.
+            ap (work_at jobs col row)
+            (cond-false test v old_cell (false_from_ne_true test (λ both.
             let parts = and_parts (eqb at_col col) (eqb at_row row) both in
             let same_col = eqb-true at_col col parts.0 in
             let same_row = eqb-true at_row row parts.1 in
@@ -297,10 +297,10 @@ ran_same [] (y ∷ ys) as_many ran col row pixels = absurd (omega (arith, as_man
 ran_same (x ∷ xs) [] as_many ran col row pixels = absurd (omega (arith, as_many))
 ran_same (x ∷ xs) (y ∷ ys) as_many ran col row pixels =
     let one = ran 0 x (omega arith) in
-    ap (λ (ps : List Channels). work_at ys col row ps)
-    (rw (one.col, one.row, one.wanted) refl)
-    ∙ ran_same xs ys (omega (arith, as_many)) (λ k d inside. ran (suc k) d (omega (arith, inside)))
-    col row (cond (eqb x.col col && eqb x.row row) x.wanted pixels)
+    let rest = ran_same xs ys (omega (arith, as_many))
+    (λ k d inside. ran (suc k) d (omega (arith, inside))) col row pixels in
+    ap (λ (ps : List Channels). cond (eqb y.col col && eqb y.row row) y.wanted ps) rest
+    ∙ (rw (one.col, one.row, one.wanted) refl)
 
 -- they are done
 pub ran_done : (next : ℕ) (g now : TileGrid) (old new : List TileWork) → now.cols ≡ g.cols
@@ -371,25 +371,22 @@ band_done painted top old now new made ran grid are as_many each cols rows cells
           (in_band top col row (omega (arith, in_cols, wide)));
     }
 
--- the tile of one job more was put on the grid
-pub job_written : (start now new : TileGrid) (jobs : List TileWork) (k : ℕ) (job : TileWork)
-    → IsGrid now → k < length jobs → job ≡ get_or jobs k job → now.cols ≡ start.cols
-    → now.rows ≡ start.rows → IsDone start job
-    → new ≡ with_cell now job.col job.row job.pixels
-    → ((col row : ℕ) → col < start.cols → row < start.rows
-    → cell_at now col row ≡ work_at (take k jobs) col row (cell_at start col row))
-    → (col row : ℕ) → col < start.cols → row < start.rows
-    → cell_at new col row ≡ work_at (take (k + 1) jobs) col row (cell_at start col row)
-job_written start now new jobs k job grid inside at cols rows done is before col row in_cols
-    in_rows =
+-- the tile of the last job was put on the grid
+pub job_written : (start now new : TileGrid) (all rest : List TileWork) (job : TileWork)
+    → IsGrid now → all ≡ rest ++ job ∷ [] → now.cols ≡ start.cols → now.rows ≡ start.rows
+    → IsDone start job → new ≡ with_cell now job.col job.row job.pixels
+    → (col row : ℕ) → col < start.cols
+    → work_at rest col row (cell_at new col row) ≡ work_at all col row (cell_at now col row)
+job_written start now new all rest job grid are cols rows done is col row in_cols =
     let at_col = done.col in
     let at_row = done.row in
+    let test = eqb job.col col && eqb job.row row in
+    let cell = cell_at now col row in
+    let written : cell_at new col row ≡ cond test job.wanted cell =
     ap (λ (g : TileGrid). cell_at g col row) is
     ∙ cell_with now grid job.col job.row job.pixels (omega (arith, at_col, cols))
     (omega (arith, at_row, rows)) col row (omega (arith, in_cols, cols))
-    ∙ ap (λ (ps : List Channels). cond (eqb job.col col && eqb job.row row) ps
-    (cell_at now col row))
-    done.pixels
-    ∙ ap (λ (ps : List Channels). cond (eqb job.col col && eqb job.row row) job.wanted ps)
-    (before col row in_cols in_rows)
-    ∙ work_next jobs k job inside at col row (cell_at start col row)
+    ∙ ap (λ (ps : List Channels). cond test ps cell) done.pixels in
+    ap (work_at rest col row) written
+    ∙ sym (work_more rest job col row cell)
+    ∙ ap (λ (l : List TileWork). work_at l col row cell) (sym are)

@@ -1,6 +1,6 @@
 -- Tiles that are painted by jobs.
 use Rattle.std.specs.Prelude.{◌≡◌, ◌==◌, ℕ, ◌+◌, ◌-◌, ◌*◌, ◌<◌, ◌≤◌, Bool, ◌&&◌, nat_le, nat_lt}
-use Rattle.std.specs.Prelude.{if◌then◌else◌, List, length, fold, All}
+use Rattle.std.specs.Prelude.{if◌then◌else◌, List, [], ◌∷◌, length, All}
 use Rattle.dp_blend.specs.Color.{Channels, clear}
 use Rattle.dp_tile.specs.declared.area.CellArea.{CellArea}
 use Rattle.dp_tile.specs.Areas.{Painted}
@@ -20,11 +20,11 @@ pub record IsRun (old new : TileWork) : Type 0 where
   pub wanted : new.wanted ≡ old.wanted
   pub pixels : new.pixels ≡ old.wanted
 
--- the pixels of the cell at a column and a row after jobs
-abbrev pub work_at : List TileWork → ℕ → ℕ → List Channels → List Channels
-work_at jobs col row pixels =
-    fold (λ before job. if job.col == col && job.row == row then job.wanted else before) pixels
-    jobs
+-- the pixels of the cell at a column and a row after jobs, of which the first one there counts
+pub work_at : List TileWork → ℕ → ℕ → List Channels → List Channels
+work_at [] col row pixels = pixels
+work_at (job ∷ jobs) col row pixels =
+    if job.col == col && job.row == row then job.wanted else work_at jobs col row pixels
 
 -- ---- in the words of the code
 

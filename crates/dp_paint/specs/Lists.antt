@@ -74,9 +74,9 @@ abbrev pub anywhere : OnTile → Type 0
 anywhere t = Unit {0}
 
 -- on a tile of a canvas of these sides where the command has this number
-pub record IsNumbered (width height number : ℕ) (command : Draw) (t : OnTile) : Type 0 where
-  pub width : t.width ≡ width
-  pub height : t.height ≡ height
+pub record IsNumbered (wide high number : ℕ) (command : Draw) (t : OnTile) : Type 0 where
+  pub width : t.width ≡ wide
+  pub height : t.height ≡ high
   pub numbered : slice_get t.commands number ≡ Some command
 
 -- a command was filed: the lists of the cells of an area draw it more, where the tiles are among

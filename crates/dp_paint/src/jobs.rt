@@ -212,8 +212,8 @@ pub(crate) fn write_jobs(work: Work<'_>) -> Result<Grid, AllocError>
         → cell_at grid col row
         ≡ work_at work.entry.jobs.items col row (cell_at work.entry.grid col row)) }
 {
-    let Work { mut grid, jobs } = work;
-    for job in jobs {
+    let Work { mut grid, mut jobs } = work;
+    'jobs: while let Some(job) = jobs.pop() {
         grid.known();
         job.write(&mut grid)?;
     }

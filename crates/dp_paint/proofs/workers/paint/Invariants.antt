@@ -6,8 +6,8 @@ use Rattle.dp_paint.specs.Painting.{IsGridOf, pixels_after_all}
 use Rattle.dp_paint.proofs.workers.paint.Given as goal
 
 -- the commands so far are painted
-abbrev pub invariant-loop : goal.invariant-loop
-invariant-loop g l =
+abbrev pub invariant-loop-done : goal.invariant-loop-done
+invariant-loop-done g l =
     record {
       inside : l.done ≤ length l.ops;
       grid : IsGridOf l.width l.height l.painted;
@@ -18,5 +18,5 @@ invariant-loop g l =
       few : l.tiles ≤ l.initial.tiles + sum_by reach (take l.done l.ops);
     }
 
-abbrev pub decreases-loop : goal.decreases-loop
-decreases-loop g l = length l.ops - l.done
+abbrev pub decreases-loop-done : goal.decreases-loop-done
+decreases-loop-done g l = length l.ops - l.done
