@@ -17,10 +17,12 @@ use Rattle.dp_paint.specs.declared.op.TileOp.{TileOp}
 use Rattle.dp_paint.specs.declared.lists.Finish.TheVariants.{Clear}
 use Rattle.dp_paint.specs.Jobs.{band_at}
 use Rattle.dp_paint.specs.Lists.{AllCount, IsChangedOn, IsFinished, Lists, Waiting, layer_pixels}
-use Rattle.dp_paint.specs.Lists.{list_at, listed_at, no_list, waiting_before, waiting_pixel}
+use Rattle.dp_paint.specs.Lists.{list_at, listed_at, no_list, waiting_pixel}
+use Rattle.dp_paint.specs.Jobs.{tiles_waiting}
 use Rattle.dp_paint.specs.Ops.{on_tile, ops_at}
 use Rattle.dp_paint.specs.Painting.{pixels_after_all}
-use Rattle.dp_paint.proofs.Counts.{waiting_same, waiting_suc, waits_none, waits_same}
+use Rattle.dp_paint.proofs.Counts.{waiting_same, waiting_suc, waiting_zero, waits_none}
+use Rattle.dp_paint.proofs.Counts.{waits_same}
 
 -- ---- no operation
 
@@ -47,8 +49,8 @@ empty_list lists none col row = rw none (either (leb lists.first row))
 pub empty_counts : (lists : Lists) → lists.lists ≡ [] → AllCount lists
 empty_counts lists none col row few = ap (λ (w : Waiting). w.more) (empty_list lists none col row)
 
-pub empty_waits : (lists : Lists) → lists.lists ≡ [] → (n : ℕ) → waiting_before lists n ≡ 0
-empty_waits lists none zero = refl
+pub empty_waits : (lists : Lists) → lists.lists ≡ [] → (n : ℕ) → tiles_waiting lists n ≡ 0
+empty_waits lists none zero = waiting_zero lists
 empty_waits lists none (suc n) =
     omega (
       arith,
@@ -93,9 +95,9 @@ module _ (band : ℕ) (before after : Lists)
 pub band_count : (band : ℕ) (initial now : Lists) (start tiles new : ℕ)
     → ((col row : ℕ) → col < 64 → band * 8 ≤ row
     → listed_at now col row ≡ listed_at initial col row)
-    → tiles ≤ start + waiting_before initial (band * 512)
-    → new + waiting_before now (band * 8 * 64) ≤ tiles + waiting_before now (band * 8 * 64 + 512)
-    → new ≤ start + waiting_before initial ((band + 1) * 512)
+    → tiles ≤ start + tiles_waiting initial (band * 512)
+    → new + tiles_waiting now (band * 8 * 64) ≤ tiles + tiles_waiting now (band * 8 * 64 + 512)
+    → new ≤ start + tiles_waiting initial ((band + 1) * 512)
 band_count band initial now start tiles new rest few more =
     let first : band * 8 * 64 ≡ band * 512 = omega arith in
     let last : band * 8 * 64 + 512 ≡ band * 512 + 512 = omega arith in
@@ -108,9 +110,9 @@ band_count band initial now start tiles new rest few more =
       few,
       more,
       same,
-      ap (waiting_before now) first,
-      ap (waiting_before now) last,
-      ap (waiting_before initial) end,
+      ap (tiles_waiting now) first,
+      ap (tiles_waiting now) last,
+      ap (tiles_waiting initial) end,
     )
 
 -- ---- commands one after the other

@@ -9,7 +9,8 @@ use Rattle.std.proofs.Math.Nat.{mul-le-mul_right}
 use Rattle.dp_tile.specs.declared.area.CellArea.{CellArea}
 use Rattle.dp_tile.specs.Areas.{is_in_cells}
 use Rattle.dp_paint.specs.declared.op.TileOp.{TileOp}
-use Rattle.dp_paint.specs.Lists.{IsInside, Lists, listed_at, waiting_before, waits_on}
+use Rattle.dp_paint.specs.Lists.{IsInside, Lists, listed_at, waits_on}
+use Rattle.dp_paint.specs.Jobs.{tiles_waiting}
 use Rattle.dp_paint.proofs.Waits.{inside_by, inside_facts}
 
 -- one or none
@@ -22,22 +23,40 @@ waits_one l n = at_most_one (eqb (length (listed_at l (n % 64) (n / 64))) 0)
 
 -- before the next number there is one more, where something waits
 pub waiting_suc : (l : Lists) (n : ℕ)
-    → waiting_before l (suc n) ≡ waiting_before l n + waits_on l n
+    → tiles_waiting l (suc n) ≡ tiles_waiting l n + waits_on l n
+unfolding tiles_waiting
 waiting_suc l n = refl
 
-pub waiting_few : (l : Lists) (n : ℕ) → waiting_before l n ≤ n
-waiting_few l zero = omega arith
+pub waiting_zero : (l : Lists) → tiles_waiting l zero ≡ 0
+unfolding tiles_waiting
+waiting_zero l = refl
+
+pub waiting_few : (l : Lists) (n : ℕ) → tiles_waiting l n ≤ n
+waiting_few l zero = omega (arith, waiting_zero l)
 waiting_few l (suc n) = omega (arith, waiting_suc l n, waiting_few l n, waits_one l n)
 
 -- there are no fewer before a higher number
-pub waiting_more : (l : Lists) (a n : ℕ) → waiting_before l a ≤ waiting_before l (a + n)
+pub waiting_more : (l : Lists) (a n : ℕ) → tiles_waiting l a ≤ tiles_waiting l (a + n)
 waiting_more l a zero =
     let same : a + zero ≡ a = omega arith in rw same (omega arith)
 waiting_more l a (suc n) =
     let same : a + suc n ≡ suc (a + n) = omega arith in
     rw same (omega (arith, waiting_suc l (a + n), waiting_more l a n))
 
+-- and those before a number are among those before a higher one
+pub waiting_to : (l : Lists) (a b : ℕ) → a ≤ b → tiles_waiting l a ≤ tiles_waiting l b
+waiting_to l a b order =
+    let at : a + (b - a) ≡ b = omega (arith, order) in
+    omega (arith, waiting_more l a (b - a), ap (tiles_waiting l) at)
+
 -- a tile on which something waits, or nothing
+pub waits_some : (l : Lists) (n : ℕ) (ops : List TileOp) (empty : Bool)
+    → ops ≡ listed_at l (n % 64) (n / 64) → empty ≡ eqb (length ops) 0 → empty ≡ false
+    → waits_on l n ≡ 1
+waits_some l n ops empty are is some =
+    ap (λ (list : List TileOp). cond (eqb (length list) 0) 0 1) (sym are)
+    ∙ ap (λ (t : Bool). cond t 0 1) (sym is ∙ some)
+
 pub waits_none : (l : Lists) (n : ℕ) → listed_at l (n % 64) (n / 64) ≡ [] → waits_on l n ≡ 0
 waits_none l n none = ap (λ (ops : List TileOp). cond (eqb (length ops) 0) 0 1) none
 
@@ -48,7 +67,7 @@ waits_same l m n same = ap (λ (ops : List TileOp). cond (eqb (length ops) 0) 0 
 -- where the same wait, there are as many
 pub waiting_same : (l m : Lists) (a n : ℕ)
     → ((k : ℕ) → a ≤ k → k < a + n → waits_on l k ≡ waits_on m k)
-    → waiting_before l (a + n) + waiting_before m a ≡ waiting_before m (a + n) + waiting_before l a
+    → tiles_waiting l (a + n) + tiles_waiting m a ≡ tiles_waiting m (a + n) + tiles_waiting l a
 waiting_same l m a zero same =
     let at : a + zero ≡ a = omega arith in rw at (omega arith)
 waiting_same l m a (suc n) same =
@@ -102,8 +121,8 @@ module _ (area : CellArea) (old new : Lists)
       ))
       (cases_Bool (is_in_cells area (n % 64) (n / 64)))
 
-  all_more : (n : ℕ) → waiting_before new n ≤ waiting_before old n + inside_before area n
-  all_more zero = omega arith
+  all_more : (n : ℕ) → tiles_waiting new n ≤ tiles_waiting old n + inside_before area n
+  all_more zero = omega (arith, waiting_zero new)
   all_more (suc n) =
       omega (arith, waiting_suc new n, waiting_suc old n, inside_suc area n, all_more n, one_more n)
 
@@ -187,8 +206,8 @@ rows_inside area (suc row) =
 pub filed_few : (area : CellArea) (old new : Lists)
     → ((col row : ℕ) → col < 64 → (IsInside area col row → ⊥)
     → listed_at new col row ≡ listed_at old col row)
-    → waiting_before new 4096
-    ≤ waiting_before old 4096 + (area.bottom - area.top) * (area.right - area.left)
+    → tiles_waiting new 4096
+    ≤ tiles_waiting old 4096 + (area.bottom - area.top) * (area.right - area.left)
 filed_few area old new outside =
     let w = area.right - area.left in
     let high : min 64 area.bottom - area.top ≤ area.bottom - area.top = omega arith in
@@ -198,6 +217,6 @@ filed_few area old new outside =
 
 -- one number more
 pub waiting_next : (l : Lists) (n : ℕ)
-    → waiting_before l (n + 1) ≡ waiting_before l n + waits_on l n
+    → tiles_waiting l (n + 1) ≡ tiles_waiting l n + waits_on l n
 waiting_next l n =
     let same : n + 1 ≡ suc n = omega arith in rw same (waiting_suc l n)

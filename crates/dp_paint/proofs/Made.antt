@@ -11,7 +11,8 @@ use Rattle.dp_pixels.proofs.SpanLemmas.{same_test}
 use Rattle.dp_tile.specs.Areas.{IsPaintedOn, Painted, is_in_cells}
 use Rattle.dp_tile.specs.Tiles.{IsGrid, TileGrid, cell_at, tile_of, with_cell}
 use Rattle.dp_tile.proofs.CellByCell.{cell_beside, cell_elsewhere, cell_same}
-use Rattle.dp_paint.specs.Jobs.{AreMade, IsDone, IsMade, IsRun, TileWork, band_at, is_numbered}
+use Rattle.dp_tile.proofs.CellByCell.{place_inside}
+use Rattle.dp_paint.specs.Jobs.{AreMade, AreWritten, IsDone, IsMade, IsRun, TileWork, band_at, is_numbered}
 use Rattle.dp_paint.specs.Jobs.{work_at}
 use Rattle.dp_paint.proofs.Waits.{inside_by, inside_facts}
 
@@ -48,10 +49,16 @@ cell_with g is at_col at_row v in_cols in_rows col row col_in =
 
 -- ---- jobs
 
+-- no job
+pub work_nil : (col row : ℕ) (pixels : List Channels) → work_at [] col row pixels ≡ pixels
+unfolding work_at
+work_nil col row pixels = refl
+
 -- one job more
 pub work_more : (jobs : List TileWork) (job : TileWork) (col row : ℕ) (pixels : List Channels)
     → work_at (jobs ++ job ∷ []) col row pixels
     ≡ work_at jobs col row (cond (eqb job.col col && eqb job.row row) job.wanted pixels)
+unfolding work_at
 work_more [] job col row pixels = refl
 work_more (x ∷ jobs) job col row pixels =
     ap (λ (ps : List Channels). cond (eqb x.col col && eqb x.row row) x.wanted ps)
@@ -78,6 +85,7 @@ not_here job col row a b other =
 pub work_none : (next : ℕ) (g : TileGrid) (jobs : List TileWork) (col row : ℕ)
     (pixels : List Channels) → All (IsMade next g) jobs → next ≤ row * 64 + col
     → work_at jobs col row pixels ≡ pixels
+unfolding work_at
 work_none next g [] col row pixels each up = refl
 work_none next g (job ∷ jobs) col row pixels each up =
     let made = All-head (IsMade next g) job jobs each in
@@ -268,22 +276,24 @@ module _ (painted : Painted) (first number : ℕ) (old now : TileGrid) (jobs : L
       })
 
 -- nothing is made at first
-pub made_none : (painted : Painted) (first : ℕ) (old now : TileGrid) → now ≡ old
-    → AreMade painted first first old now []
-made_none painted first old now same = record {
-  cols = ap (λ (g : TileGrid). g.cols) same;
-  rows = ap (λ (g : TileGrid). g.rows) same;
-  few = omega arith;
-  each = λ k d inside. absurd (omega (arith, inside));
-  cells = λ col row in_cols in_rows.
-      ap (λ (g : TileGrid). cell_at g col row) same
-      ∙ sym (cond-false (is_numbered first first col row) (painted col row (cell_at old col row))
-      (cell_at old col row)
-      (false_from_ne_true (is_numbered first first col row) (λ t.
-      let n = row * 64 + col in
-      let parts = and_parts (leb first n) (ltb n first) t in
-      absurd (omega (arith, leb-true first n parts.0, ltb-true n first parts.1)))));
-}
+pub made_none : (painted : Painted) (first : ℕ) (old now : TileGrid) (jobs : List TileWork)
+    → now ≡ old → jobs ≡ [] → AreMade painted first first old now jobs
+made_none painted first old now jobs same none =
+    rw none (record {
+      cols = ap (λ (g : TileGrid). g.cols) same;
+      rows = ap (λ (g : TileGrid). g.rows) same;
+      few = omega arith;
+      each = λ k d inside. absurd (omega (arith, inside));
+      cells = λ col row in_cols in_rows.
+          work_nil col row (cell_at now col row)
+          ∙ ap (λ (g : TileGrid). cell_at g col row) same
+          ∙ sym (cond-false (is_numbered first first col row)
+          (painted col row (cell_at old col row)) (cell_at old col row)
+          (false_from_ne_true (is_numbered first first col row) (λ t.
+          let n = row * 64 + col in
+          let parts = and_parts (leb first n) (ltb n first) t in
+          absurd (omega (arith, leb-true first n parts.0, ltb-true n first parts.1)))));
+    })
 
 -- ---- jobs that were run
 
@@ -292,6 +302,7 @@ pub ran_same : (old new : List TileWork) → length new ≡ length old
     → ((k : ℕ) (d : TileWork) → k < length old → IsRun (get_or old k d) (get_or new k d))
     → (col row : ℕ) (pixels : List Channels)
     → work_at new col row pixels ≡ work_at old col row pixels
+unfolding work_at
 ran_same [] [] as_many ran col row pixels = refl
 ran_same [] (y ∷ ys) as_many ran col row pixels = absurd (omega (arith, as_many))
 ran_same (x ∷ xs) [] as_many ran col row pixels = absurd (omega (arith, as_many))
@@ -352,19 +363,16 @@ pub band_done : (painted : Painted) (top : ℕ) (old now new : TileGrid) (made r
     → IsGrid old → AreMade painted (top * 64) (top * 64 + 512) old now made
     → length ran ≡ length made
     → ((k : ℕ) (d : TileWork) → k < length made → IsRun (get_or made k d) (get_or ran k d))
-    → new.cols ≡ now.cols → new.rows ≡ now.rows
-    → ((col row : ℕ) → col < new.cols → row < new.rows
-    → cell_at new col row ≡ work_at ran col row (cell_at now col row))
-    → IsPaintedOn (band_at top) painted old new
-band_done painted top old now new made ran grid are as_many each cols rows cells =
+    → AreWritten ran now new → IsPaintedOn (band_at top) painted old new
+band_done painted top old now new made ran grid are as_many each written =
     let now_cols = are.cols in
     let now_rows = are.rows in
     let wide = grid.cols in record {
-      cols = cols ∙ are.cols;
-      rows = rows ∙ are.rows;
+      cols = written.cols ∙ are.cols;
+      rows = written.rows ∙ are.rows;
       cells = λ col row in_cols in_rows.
-          cells col row (omega (arith, in_cols, cols, now_cols))
-          (omega (arith, in_rows, rows, now_rows))
+          written.cells col row (omega (arith, in_cols, now_cols))
+          (omega (arith, in_rows, now_rows))
           ∙ ran_same made ran as_many each col row (cell_at now col row)
           ∙ are.cells col row in_cols in_rows
           ∙ ap (λ t. cond t (painted col row (cell_at old col row)) (cell_at old col row))
@@ -390,3 +398,9 @@ job_written start now new all rest job grid are cols rows done is col row in_col
     ap (work_at rest col row) written
     ∙ sym (work_more rest job col row cell)
     ∙ ap (λ (l : List TileWork). work_at l col row cell) (sym are)
+
+-- the cell of a grid has 4096 pixels
+pub cell_long : (g : TileGrid) → IsGrid g → (col row : ℕ) → col < g.cols → row < g.rows
+    → length (cell_at g col row) ≡ 4096
+cell_long g is col row in_cols in_rows =
+    is.pixels (row * g.cols + col) (tile_of clear) (place_inside g is col row in_cols in_rows)

@@ -1,11 +1,14 @@
 //! Tiles that are painted by jobs.
 
-ghost use Rattle.std.specs.Prelude.{◌≡◌, ℕ, ◌+◌, ◌<◌, ◌≤◌, All, IfOk, OnOk};
+ghost use Rattle.std.specs.Prelude.{◌≡◌, ℕ, ◌+◌, ◌*◌, ◌/◌, ◌%◌, ◌<◌, ◌≤◌, [], All, IfOk, OnOk};
+ghost use Rattle.std.specs.Prelude.{true, false};
 ghost use Rattle.dp_blend.specs.Color.{clear};
 ghost use Rattle.dp_tile.specs.Tiles.{cell_at, tile_of, with_cell};
-ghost use Rattle.dp_paint.specs.Lists.{waiting_before, waiting_tile, waits_on};
-ghost use Rattle.dp_paint.specs.Jobs.{AreMade, IsDone, work_at};
+ghost use Rattle.dp_paint.specs.Lists.{listed_at, waiting_tile, waits_on};
+ghost use Rattle.dp_paint.specs.Jobs.{tiles_waiting};
+ghost use Rattle.dp_paint.specs.Jobs.{AreMade, AreWritten, IsDone};
 
+use crate::lists::TileLists;
 use crate::painter::OpsPainter;
 use dp_par::Job;
 use dp_steps::Steps;
@@ -126,6 +129,29 @@ pub(crate) struct Work<'a> {
     pub jobs: Vec<TileJob<'a>>,
 }
 
+/// Whether operations wait on the tile of a number, which a grid has.
+fn has_work(grid: &Grid, lists: &TileLists, number: u32) -> bool
+    requires { number < 4096 }
+    ensures col { result ≡ true → number % 64 < grid.now.cols }
+    ensures row { result ≡ true → number / 64 < grid.now.rows }
+    ensures some { result ≡ true → waits_on lists.now number ≡ 1 }
+    ensures none { result ≡ false → (col row : ℕ) → col < grid.now.cols → row < grid.now.rows
+        → row * 64 + col ≡ number → listed_at lists.now col row ≡ [] }
+{
+    grid.known();
+    let (col, row) = (number % 64, number / 64);
+    if col >= grid.cols() {
+        return false;
+    }
+    if row >= grid.rows() {
+        return false;
+    }
+    if lists.ops(col, row).is_empty() {
+        return false;
+    }
+    true
+}
+
 /// Paints what waits on the tile of a number, if it is known to become of one colour, and else
 /// makes a job for it, if something waits.
 ///
@@ -153,17 +179,14 @@ fn make_next<'a, T: Ledger>(
     ensures few_tiles { tiles.new ≤ tiles.old + waits_on painter.entry.lists.now number }
 {
     grid.known();
+    if !has_work(grid, painter.lists, number) {
+        return Ok(());
+    }
     let (col, row) = (number % 64, number / 64);
-    if col >= grid.cols() || row >= grid.rows() {
-        return Ok(());
-    }
-    if painter.lists.ops(col, row).is_empty() {
-        return Ok(());
-    }
     match painter.change(col, row, grid.tile_color(col, row)) {
         TileChange::Unknown => {
-            work.jobs
-                .push(TileJob::new(grid, painter, col, row, tiles)?)?;
+            let job = TileJob::new(grid, painter, col, row, tiles)?;
+            work.jobs.push(job)?;
             Ok(())
         }
         _ => {
@@ -190,8 +213,8 @@ pub(crate) fn make_jobs<'a, T: Ledger>(
         painter.entry.on.commands.now painter.entry.lists.now)
         first (first + GROUP) grid.now made.grid made.jobs.items) }
     ensures tiles_rise { tiles.old ≤ tiles.new }
-    ensures few_tiles { tiles.new + waiting_before painter.entry.lists.now first
-        ≤ tiles.old + waiting_before painter.entry.lists.now (first + GROUP) }
+    ensures few_tiles { tiles.new + tiles_waiting painter.entry.lists.now first
+        ≤ tiles.old + tiles_waiting painter.entry.lists.now (first + GROUP) }
 {
     let mut work = Work {
         grid: grid.share()?,
@@ -206,11 +229,7 @@ pub(crate) fn make_jobs<'a, T: Ledger>(
 /// Puts the tiles of jobs that were run on the grid.
 pub(crate) fn write_jobs(work: Work<'_>) -> Result<Grid, AllocError>
     requires { All (IsDone work.grid) work.jobs.items }
-    ensures cols { IfOk result (λ grid. grid.cols ≡ work.entry.grid.cols) }
-    ensures rows { IfOk result (λ grid. grid.rows ≡ work.entry.grid.rows) }
-    ensures cells { IfOk result (λ grid. (col row : ℕ) → col < grid.cols → row < grid.rows
-        → cell_at grid col row
-        ≡ work_at work.entry.jobs.items col row (cell_at work.entry.grid col row)) }
+    ensures { IfOk result (AreWritten work.entry.jobs.items work.entry.grid) }
 {
     let Work { mut grid, mut jobs } = work;
     'jobs: while let Some(job) = jobs.pop() {

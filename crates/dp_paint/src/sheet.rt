@@ -1,6 +1,7 @@
 //! Commands that operations name by their numbers.
 
-ghost use Rattle.std.specs.Prelude.{◌≡◌, [], ◌∷◌, ◌<◌, length};
+ghost use Rattle.std.specs.Prelude.{◌≡◌, [], ◌∷◌, ◌<◌, length, slice_get, IfSome, IfNone, Some};
+ghost use Rattle.std.specs.Prelude.{None};
 ghost use Rattle.dp_paint.specs.Ops.{on_tile, tile_after};
 
 use crate::op::TileOp;
@@ -17,6 +18,15 @@ pub(crate) struct Sheet<'a> {
 }
 
 impl Sheet<'_> {
+    /// The command of a number, if there is one.
+    fn command(&self, number: u32) -> Option<&Draw>
+        ensures some { IfSome result
+            (λ command. slice_get self.now.commands.now number ≡ Some command.now) }
+        ensures none { IfNone result (slice_get self.now.commands.now number ≡ None) }
+    {
+        self.commands.get(number as usize)
+    }
+
     /// Draws the command of a number on the tile at a column and a row, if there is one.
     #[inline(never)]
     pub(crate) fn draw(&self, number: u32, col: u32, row: u32, pixels: &mut [Pixel])
@@ -27,7 +37,7 @@ impl Sheet<'_> {
             (on_tile self.now.width self.now.height self.now.commands.now col row)
             (TileOp.Command number ∷ []) pixels.old }
     {
-        match self.commands.get(number as usize) {
+        match self.command(number) {
             Some(command) => {
                 let painter = CommandPainter {
                     command,

@@ -8,7 +8,8 @@ ghost use Rattle.dp_pixels.specs.Feet.{reach};
 ghost use Rattle.dp_tile.specs.Areas.{IsPaintedOn};
 ghost use Rattle.dp_tile.specs.Tiles.{grid_pixels};
 ghost use Rattle.dp_paint.specs.Painting.{IsGridOf, IsPainting, pixels_after_all};
-ghost use Rattle.dp_paint.specs.Lists.{AllCount, layer_pixels, listed_at, waiting_before};
+ghost use Rattle.dp_paint.specs.Lists.{AllCount, layer_pixels, listed_at};
+ghost use Rattle.dp_paint.specs.Jobs.{tiles_waiting};
 ghost use Rattle.dp_paint.specs.Lists.{waiting_tile};
 ghost use Rattle.dp_paint.specs.Jobs.{band_at};
 
@@ -55,12 +56,14 @@ fn band_painted<R: Threads + Sync, G: Gate, T: Ledger>(
         (waiting_tile on.entry.width on.entry.height on.entry.commands.now lists.now)
         grid.now painted) }
     ensures tiles_rise { tiles.old ≤ tiles.new }
-    ensures few_tiles { tiles.new + waiting_before lists.now (top * 64)
-        ≤ tiles.old + waiting_before lists.now (top * 64 + GROUP) }
+    ensures few_tiles { tiles.new + tiles_waiting lists.now (top * 64)
+        ≤ tiles.old + tiles_waiting lists.now (top * 64 + GROUP) }
 {
+    grid.known();
     let mut work = make_jobs(grid, OpsPainter { on, lists }, top * 64, tiles)?;
     par_each(rt, workers.count, workers.gate, &mut work.jobs);
-    write_jobs(work)
+    let painted = write_jobs(work)?;
+    Ok(painted)
 }
 
 /// Paints all that waits on a grid, by workers. None waits then.
@@ -87,7 +90,7 @@ pub(crate) fn settle_all<R: Threads + Sync, G: Gate, T: Ledger>(
     ensures none { OnOk result
         ((col row : ℕ) → col < 64 → row < 64 → listed_at lists.new col row ≡ []) }
     ensures tiles_rise { tiles.old ≤ tiles.new }
-    ensures few_tiles { tiles.new ≤ tiles.old + waiting_before lists.old 4096 }
+    ensures few_tiles { tiles.new ≤ tiles.old + tiles_waiting lists.old 4096 }
 {
     for band in 0..8 {
         let area = CellArea {
@@ -126,7 +129,7 @@ fn file_command(
         ≡ pixels_after on.entry.width on.entry.height command.now
         (layer_pixels on.entry.width on.entry.height on.entry.commands.now lists.old grid.now)) }
     ensures few { OnOk result
-        (waiting_before lists.new 4096 ≤ waiting_before lists.old 4096 + reach command.now) }
+        (tiles_waiting lists.new 4096 ≤ tiles_waiting lists.old 4096 + reach command.now) }
 {
     pixels_stay_outside_the_foot();
     grid.known();
@@ -159,10 +162,12 @@ fn file_all(lists: &mut TileLists, grid: &Grid, on: Sheet<'_>) -> Result<(), All
         (layer_pixels on.entry.width on.entry.height on.entry.commands.now lists.new grid.now
         ≡ pixels_after_all on.entry.width on.entry.height on.entry.commands.now
         (grid_pixels on.entry.width on.entry.height grid.now)) }
-    ensures few { OnOk result (waiting_before lists.new 4096 ≤ sum_by reach on.entry.commands.now) }
+    ensures few { OnOk result (tiles_waiting lists.new 4096 ≤ sum_by reach on.entry.commands.now) }
 {
-    for number in 0..on.commands.len() {
-        file_command(lists, grid, on, number as u32, &on.commands[number])?;
+    let mut number = 0;
+    for command in on.commands {
+        file_command(lists, grid, on, number, command)?;
+        number += 1;
     }
     Ok(())
 }

@@ -17,14 +17,14 @@ returns-in-Ok-clause-filed c =
     let op = source.command.now in
     is_filed (IsNumbered source.width source.height source.number op) op
     (pixel_drawn source.width source.height op) c.args.area c.args.lists.now c.grow.new.self
-    c.add.new.lists c.finish.new.self c.requires.cols
+    c.add.new.self c.finish.new.self c.requires.cols
     (λ t x y p is in_x in_y. rw (is.width, is.height) refl)
     c.in_ok-grow.ensures.same
     c.requires.counts c.in-Ok.ensures.added c.finish.ensures
 
 pub returns-in-Ok-clause-counts : goal.returns-in-Ok-clause-counts
 returns-in-Ok-clause-counts c =
-    all_counts c.args.area Keep c.add.new.lists c.finish.new.self c.finish.ensures
+    all_counts c.args.area Keep c.add.new.self c.finish.new.self c.finish.ensures
     (λ col row few out.
     ap (λ (w : Waiting). w.more) (c.in-Ok.ensures.others col row few out
     ∙ c.in_ok-grow.ensures.same col row few)
@@ -32,7 +32,7 @@ returns-in-Ok-clause-counts c =
 
 pub returns-in-Err-clause-same : goal.returns-in-Err-clause-same
 returns-in-Err-clause-same c = λ col row few.
-    dropped_same c.args.area c.add.new.lists c.finish-in-Err.new.self
+    dropped_same c.args.area c.add.new.self c.finish-in-Err.new.self
     c.finish-in-Err.ensures col row
     few
     ∙ c.in-Err.ensures.same col row few
@@ -40,7 +40,7 @@ returns-in-Err-clause-same c = λ col row few.
 
 pub returns-in-Err-clause-counts : goal.returns-in-Err-clause-counts
 returns-in-Err-clause-counts c =
-    all_counts c.args.area Drop c.add.new.lists c.finish-in-Err.new.self
+    all_counts c.args.area Drop c.add.new.self c.finish-in-Err.new.self
     c.finish-in-Err.ensures
     (λ col row few out.
     ap (λ (w : Waiting). w.more) (c.in-Err.ensures.others col row few out

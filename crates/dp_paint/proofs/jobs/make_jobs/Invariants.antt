@@ -1,6 +1,7 @@
 use Rattle.std.proofs.Common.{◌+◌, ◌≤◌}
 use Rattle.dp_paint.specs.Jobs.{AreMade}
-use Rattle.dp_paint.specs.Lists.{waiting_before, waiting_tile}
+use Rattle.dp_paint.specs.Lists.{waiting_tile}
+use Rattle.dp_paint.specs.Jobs.{tiles_waiting}
 use Rattle.dp_paint.proofs.jobs.make_jobs.Given as goal
 
 -- the tiles of the numbers before this one are painted, or have jobs
@@ -11,6 +12,6 @@ invariant-loop-number g l =
           l.painter.on.commands.now l.painter.lists.now) l.first l.number l.grid l.work.grid
           l.work.jobs.items;
       rise : l.initial.tiles ≤ l.tiles;
-      few : l.tiles + waiting_before l.painter.lists.now l.first
-          ≤ l.initial.tiles + waiting_before l.painter.lists.now l.number;
+      few : l.tiles + tiles_waiting l.painter.lists.now l.first
+          ≤ l.initial.tiles + tiles_waiting l.painter.lists.now l.number;
     }

@@ -3,7 +3,7 @@ use Rattle.std.proofs.Common.{drop, length}
 use Rattle.std.specs.List.{sum_by}
 use Rattle.std.proofs.lemmas.List.{take_all}
 use Rattle.std.proofs.lemmas.List.Elements.{All-drop, All-take}
-use Rattle.std.proofs.lemmas.List.Sums.{sum_by-append}
+use Rattle.std.proofs.lemmas.List.Sums.{sum_by-append, sum_by-take-le}
 use Rattle.dp_msg_draw.specs.declared.draw.Draw.{Draw}
 use Rattle.dp_pixels.specs.Feet.{reach}
 use Rattle.dp_tile.specs.Tiles.{grid_pixels}
@@ -28,7 +28,7 @@ loop-done-preserved g c =
     let next = done + c.min.result in
     let part = take (next - done) (drop done all) in
     let are = take_part all done next (omega arith) inv.inside in
-    let painted = c.in_ok-paint_part.ensures in
+    let painted = c.in_ok-painted-2.ensures in
     record {
       inside = omega arith;
       grid = painted.grid;
@@ -43,3 +43,18 @@ loop-done-preserved g c =
         sum_by-append reach (take done all) part,
       );
     }
+
+pub returns-in_err-painted-2-clause-few_tiles : goal.returns-in_err-painted-2-clause-few_tiles
+returns-in_err-painted-2-clause-few_tiles g c =
+    let all = c.args.ops.now in
+    let done = c.loop-done.done in
+    let next = done + c.min.result in
+    let part = take (next - done) (drop done all) in
+    omega (
+      arith,
+      c.loop-done.invariant.few,
+      c.paint_part.ensures.few_tiles,
+      ap (sum_by reach) (take_part all done next (omega arith) c.loop-done.invariant.inside),
+      sum_by-append reach (take done all) part,
+      sum_by-take-le reach all next,
+    )

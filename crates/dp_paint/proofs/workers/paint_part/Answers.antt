@@ -5,10 +5,6 @@ use Rattle.dp_paint.specs.Painting.{IsGridOf}
 use Rattle.dp_paint.proofs.Bands.{none_waits}
 use Rattle.dp_paint.proofs.workers.paint_part.Goals as goal
 
-pub settle_all-requires-clause-grid : goal.settle_all-requires-clause-grid
-settle_all-requires-clause-grid g c =
-    subst (IsGridOf c.args.on.width c.args.on.height) (sym c.in_ok-painted.ensures) c.requires.grid
-
 pub returns-clause-pixels : goal.returns-clause-pixels
 returns-clause-pixels g c =
     let on = c.args.on in

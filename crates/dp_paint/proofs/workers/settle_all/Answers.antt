@@ -1,7 +1,7 @@
 use Rattle.std.proofs.Common.{◌≡◌, ◌∙◌, ◌+◌, ◌*◌, arith, refl}
 use Rattle.dp_paint.specs.declared.lists.Finish.TheVariants.{Clear}
 use Rattle.dp_paint.specs.Jobs.{band_at}
-use Rattle.dp_paint.proofs.Counts.{waiting_more}
+use Rattle.dp_paint.proofs.Counts.{waiting_to}
 use Rattle.dp_paint.proofs.Layers.{painted_grid, settled}
 use Rattle.dp_paint.proofs.Waits.{all_counts}
 use Rattle.dp_paint.proofs.Bands.{band_count, band_empty, band_rest}
@@ -43,3 +43,16 @@ loop-band-preserved g c =
       few = band_count band c.args.lists.now before c.args.tiles.now c.loop-band.tiles _ inv.rest
           inv.few c.in_ok-grid.ensures.few_tiles;
     }
+
+pub returns-in_err-grid-clause-few_tiles : goal.returns-in_err-grid-clause-few_tiles
+returns-in_err-grid-clause-few_tiles g c =
+    let inv = c.loop-band.invariant in
+    let band = c.loop-band.band in
+    let initial = c.args.lists.now in
+    let up = waiting_to initial ((band + 1) * 512) 4096 (omega (arith, c.loop-band-test.true)) in
+    omega (
+      arith,
+      up,
+      band_count band initial c.loop-band.lists c.args.tiles.now c.loop-band.tiles _ inv.rest
+          inv.few c.band_painted.ensures.few_tiles,
+    )

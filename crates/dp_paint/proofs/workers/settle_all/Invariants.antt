@@ -1,5 +1,6 @@
 use Rattle.std.proofs.Common.{◌≡◌, ◌+◌, ◌*◌, ◌<◌, ◌≤◌, ℕ, []}
-use Rattle.dp_paint.specs.Lists.{AllCount, layer_pixels, listed_at, waiting_before}
+use Rattle.dp_paint.specs.Lists.{AllCount, layer_pixels, listed_at}
+use Rattle.dp_paint.specs.Jobs.{tiles_waiting}
 use Rattle.dp_paint.specs.Painting.{IsGridOf}
 use Rattle.dp_paint.proofs.workers.settle_all.Given as goal
 
@@ -16,5 +17,5 @@ invariant-loop-band g l =
       rest : (col row : ℕ) → col < 64 → l.band * 8 ≤ row
           → listed_at l.lists col row ≡ listed_at l.initial.lists col row;
       rise : l.initial.tiles ≤ l.tiles;
-      few : l.tiles ≤ l.initial.tiles + waiting_before l.initial.lists (l.band * 512);
+      few : l.tiles ≤ l.initial.tiles + tiles_waiting l.initial.lists (l.band * 512);
     }
