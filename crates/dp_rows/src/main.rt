@@ -22,9 +22,11 @@
 
 mod each;
 mod running;
+mod tried;
 
 use crate::each::put_each;
 use crate::running::answer_to;
+use crate::tried::put_tried;
 use dp_io::{StdSink, put_all};
 use dp_row_texts::{Row, Rows, put_answer, put_bad_row, put_numbered, put_parts, read_rows};
 use std::alloc::{AllocError, Global};
@@ -77,11 +79,11 @@ fn put_row<R: Threads + Wait + Sync>(
     out: &mut Vec<u8>,
 ) -> Result<(), AllocError> {
     let first = row.pieces.first().copied().unwrap_or(1);
-    let answer = answer_to(rt, alloc, row, first, None)?;
+    let answer = answer_to(rt, alloc, row, &row.wires, first, None)?;
     put_parts(&[b"> ", row.head.as_bytes(), b"\n"], out)?;
     put_answer(&answer, out)?;
     for piece in row.pieces.iter().skip(1) {
-        let again = answer_to(rt, alloc, row, *piece, None)?;
+        let again = answer_to(rt, alloc, row, &row.wires, *piece, None)?;
         if !again.same(&answer) {
             put_numbered(b"differs in pieces of ", *piece, b"\n", out)?;
             put_answer(&again, out)?;
@@ -90,5 +92,5 @@ fn put_row<R: Threads + Wait + Sync>(
     for object in &row.each {
         put_each(rt, alloc, row, first, *object, &answer, out)?;
     }
-    Ok(())
+    put_tried(rt, alloc, row, out)
 }
