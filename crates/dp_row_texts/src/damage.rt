@@ -76,7 +76,12 @@ pub fn place_of(frames: &[&[u8]], number: usize) -> usize {
 
 impl<'a> Damage<'a> {
     /// The link with this damage, in pieces of this length.
-    pub fn done_to(self, alloc: Global, link: &Coming, frames: &[&[u8]]) -> Result<Coming, AllocError> {
+    pub fn done_to(
+        self,
+        alloc: Global,
+        link: &Coming,
+        frames: &[&[u8]],
+    ) -> Result<Coming, AllocError> {
         let mut damaged = link.copy(alloc)?;
         match self {
             Damage::Cut(len) => damaged.bytes.truncate(len),

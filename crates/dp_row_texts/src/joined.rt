@@ -82,7 +82,12 @@ fn limits_of(
     };
     let mut said = Vec::new(alloc);
     match status {
-        10 => put_numbered(b"bad message at ", place_of(frames, whole) as u64, b"\n", &mut said)?,
+        10 => put_numbered(
+            b"bad message at ",
+            place_of(frames, whole) as u64,
+            b"\n",
+            &mut said,
+        )?,
         11 => said.extend_from_slice(b"link closed\n")?,
         _ => said.extend_from_slice(b"link fault\n")?,
     }

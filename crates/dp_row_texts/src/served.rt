@@ -177,7 +177,10 @@ impl Past {
 /// What is told of a painter who wasn't greeted.
 fn not_greeted(alloc: Global, end: &[u8]) -> Result<Vec<u8>, AllocError> {
     let mut told = Vec::new(alloc);
-    put_parts(&[b" up NotGreeted(", end, b") down NotGreeted\n"], &mut told)?;
+    put_parts(
+        &[b" up NotGreeted(", end, b") down NotGreeted\n"],
+        &mut told,
+    )?;
     Ok(told)
 }
 
@@ -238,11 +241,7 @@ fn put_said<'a>(damage: Damage<'a>, said: &mut Vec<Said<'a>>) -> Result<(), Allo
 }
 
 /// How a painter's messages end by this damage.
-fn end_of(
-    alloc: Global,
-    frames: &[&[u8]],
-    damage: Damage<'_>,
-) -> Result<Vec<u8>, AllocError> {
+fn end_of(alloc: Global, frames: &[&[u8]], damage: Damage<'_>) -> Result<Vec<u8>, AllocError> {
     let mut end = Vec::new(alloc);
     match damage {
         Damage::Lie(k, _) => put_bad(place_of(frames, k), &mut end)?,

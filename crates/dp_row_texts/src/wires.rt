@@ -117,11 +117,7 @@ fn count_of(links: &[Vec<Coming>]) -> usize {
 }
 
 /// Copies of links on which these calls fail.
-fn failing(
-    alloc: Global,
-    links: &[Coming],
-    fails: &LinkFails,
-) -> Result<Vec<Coming>, AllocError> {
+fn failing(alloc: Global, links: &[Coming], fails: &LinkFails) -> Result<Vec<Coming>, AllocError> {
     let mut copies = Vec::new(alloc);
     for link in links {
         let mut copy = link.copy(alloc)?;

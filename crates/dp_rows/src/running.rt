@@ -5,8 +5,8 @@ use dp_app_runs::outcome_over;
 use dp_io::MemSink;
 use dp_keeper::MemKeeper;
 use dp_row_texts::{
-    Answer, Coming, Fail, LinkFails, Object, Row, RowSource, RowWire, RowWires, Told, keeper_of, put_kept,
-    put_parts, put_told, sent_on, wires_of,
+    Answer, Coming, Fail, LinkFails, Object, Row, RowSource, RowWire, RowWires, Told, keeper_of,
+    put_kept, put_parts, put_told, sent_on, wires_of,
 };
 use std::alloc::{AllocError, Global};
 use std::sync::Wait;
