@@ -175,14 +175,14 @@ pub fn ends_of(
         at: 0,
         piece,
         pauses,
-        sent: sent.clone(),
+        sent: sent.clone()?,
         plan: FaultPlan::new(reads),
     };
     let sink = MemSink::new(alloc, ROOM, piece, writes)?;
     let tx = RowTx {
         sink,
         link,
-        sent: sent.clone(),
+        sent: sent.clone()?,
     };
     Ok((rx, tx))
 }
