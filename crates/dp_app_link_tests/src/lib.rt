@@ -1,13 +1,6 @@
-//! The tests of the program over links, through its top call.
+//! The test of the program over links on the loopback, through its top call. Links in memory are in
+//! the rows of `dp_rows`.
 #![tactic(auto)]
 
-#[cfg(test)]
-mod join;
-#[cfg(test)]
-mod kept;
-#[cfg(test)]
-mod running;
-#[cfg(test)]
-mod serve;
 #[cfg(test)]
 mod together;

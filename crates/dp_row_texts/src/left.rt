@@ -41,6 +41,14 @@ pub fn put_kept(keeper: &MemKeeper, out: &mut Vec<u8>) -> Result<(), AllocError>
     Ok(())
 }
 
+/// Adds how often the gate of the server's workers was passed, if it was.
+pub fn put_passes(passes: u64, out: &mut Vec<u8>) -> Result<(), AllocError> {
+    if passes == 0 {
+        return Ok(());
+    }
+    put_numbered(b"passed ", passes, b"\n", out)
+}
+
 /// A store of rows of these bytes. The calls of `rows` and of `put` with these numbers fail, and a
 /// put that fails loses its row.
 pub fn keeper_of(

@@ -3,6 +3,7 @@
 use crate::answer::Answer;
 use crate::damage::{Damage, frames_of, place_of, whole_within};
 use crate::joined::read_whole;
+use crate::left::put_passes;
 use crate::links::{Coming, Pause};
 use crate::printing::{put_numbered, put_parts};
 use crate::tables::Table;
@@ -37,8 +38,10 @@ struct Past {
     history: Vec<u8>,
     /// How many connections there were.
     conns: u8,
-    /// The lines of the rows that were kept.
+    /// The lines of the rows that were kept, and how many they are. Behind the act of each its
+    /// worker passes the gate.
     kept: Vec<u8>,
+    acts: u64,
 }
 
 /// A painter who was greeted: its connection, and its Welcome.
@@ -73,6 +76,7 @@ impl Past {
             history: Vec::from_slice(alloc, mark)?,
             conns: 0,
             kept: Vec::new(alloc),
+            acts: 0,
         })
     }
 
@@ -83,6 +87,7 @@ impl Past {
             put_hex(part, &mut self.kept)?;
         }
         self.kept.push(b'\n')?;
+        self.acts = self.acts.saturating_add(1);
         Ok(())
     }
 
@@ -310,6 +315,7 @@ fn answer_of(
     }
     let left: [&[u8]; 5] = [b"link 0 0", &one.told, second, &two.told, &past.kept];
     put_parts(&left, &mut answer.left)?;
+    put_passes(past.acts, &mut answer.left)?;
     Ok(answer)
 }
 

@@ -5,8 +5,8 @@ use dp_app_runs::outcome_over;
 use dp_io::MemSink;
 use dp_keeper::MemKeeper;
 use dp_row_texts::{
-    Answer, Coming, Fail, LinkFails, Object, Row, RowSource, RowWire, RowWires, Told, keeper_of,
-    put_kept, put_parts, put_told, sent_on, wires_of,
+    Answer, Coming, Fail, LinkFails, Object, Row, RowGate, RowSource, RowWire, RowWires, Told,
+    keeper_of, put_kept, put_parts, put_passes, put_told, sent_on, wires_of,
 };
 use std::alloc::{AllocError, Global};
 use std::sync::Wait;
@@ -45,6 +45,7 @@ pub fn answer_to<R: Threads + Wait + Sync>(
         piece,
         calls_of(alloc, row, Object::Diag, more)?,
     )?;
+    let gate = RowGate::new();
     let outcome = outcome_over(
         rt,
         alloc,
@@ -54,13 +55,14 @@ pub fn answer_to<R: Threads + Wait + Sync>(
         &mut diag,
         wires,
         store_of(alloc, row, more)?,
+        &gate,
     );
     Ok(Answer {
         status: outcome.status,
         output: Vec::from_slice(alloc, output.as_slice())?,
         said: Vec::from_slice(alloc, diag.as_slice())?,
         sent: sent_on(alloc, &outcome.wires)?,
-        left: left_by(alloc, &outcome, sent.gave_up())?,
+        left: left_by(alloc, &outcome, gate.passes(), sent.gave_up())?,
     })
 }
 
@@ -87,11 +89,12 @@ fn store_of(alloc: Global, row: &Row, more: Option<Fail>) -> Result<MemKeeper, A
     keeper_of(alloc, &row.kept, reads, &puts)
 }
 
-/// What a server leaves: a line for each link and for each row that is kept, and one where a pause
-/// was given up.
+/// What a server leaves: a line for each link and for each row that is kept, how often the gate was
+/// passed, and a line where a pause was given up.
 fn left_by(
     alloc: Global,
     outcome: &Outcome<RowWire, MemKeeper>,
+    passes: u64,
     gave_up: u64,
 ) -> Result<Vec<u8>, AllocError> {
     let mut text = Vec::new(alloc);
@@ -108,6 +111,7 @@ fn left_by(
         }
     }
     put_kept(&outcome.keeper, &mut text)?;
+    put_passes(passes, &mut text)?;
     if gave_up > 0 {
         put_parts(&[b"a pause was given up\n"], &mut text)?;
     }
