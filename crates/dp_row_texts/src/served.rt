@@ -344,8 +344,8 @@ impl Past {
     }
 }
 
-/// Adds a pause to the first link of the wire of this number: its bytes from this place on come
-/// when the second link was sent so many bytes.
+/// Gives the first link of the wire of this number one pause: its bytes from this place on come when
+/// the second link was sent so many bytes.
 fn put_pause(
     wires: &mut [Vec<Coming>],
     wire: usize,
@@ -354,6 +354,7 @@ fn put_pause(
 ) -> Result<(), AllocError> {
     if let Some(links) = wires.get_mut(wire) {
         if let Some(link) = links.first_mut() {
+            link.pauses.clear();
             link.pauses.push(Pause { at, link: 1, sent })?;
         }
     }
