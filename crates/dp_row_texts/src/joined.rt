@@ -18,7 +18,7 @@ struct Limits {
 }
 
 /// What the client gives that takes these steps over a link with this damage.
-pub fn joined(
+pub fn client_answer(
     alloc: Global,
     steps: &[Step],
     frames: &[&[u8]],

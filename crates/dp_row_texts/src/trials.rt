@@ -2,10 +2,10 @@
 
 use crate::answer::Answer;
 use crate::damage::{Damage, damages_of, frames_of};
-use crate::joined::joined;
+use crate::joined::client_answer;
 use crate::links::Coming;
 use crate::row::Row;
-use crate::served::served;
+use crate::served::server_answer;
 use std::alloc::{AllocError, Global};
 
 /// A run over damaged links, and what it is to give.
@@ -47,9 +47,9 @@ fn trial_of(
     let mut name = Vec::new(alloc);
     damage.put_name(&mut name)?;
     let due = if row.table.placed.is_empty() {
-        joined(alloc, &row.table.steps, frames, damage, piece)?
+        client_answer(alloc, &row.table.steps, frames, damage, piece)?
     } else {
-        served(alloc, &row.table, frames, damage, piece, &mut wires)?
+        server_answer(alloc, &row.table, frames, damage, piece, &mut wires)?
     };
     Ok(Trial { name, wires, due })
 }
