@@ -198,7 +198,10 @@ fn said_of<'a>(
 ) -> Result<Vec<Said<'a>>, AllocError> {
     let mut said = Vec::new(alloc);
     for (frame, placed) in frames.iter().zip(placed).take(count) {
-        said.push(Said { frame, placed })?;
+        said.push(Said {
+            frame: *frame,
+            placed,
+        })?;
     }
     Ok(said)
 }
@@ -266,11 +269,11 @@ fn put_bad(at: usize, end: &mut Vec<u8>) -> Result<(), AllocError> {
 /// What a server is to leave whose first link has this damage. One worker serves both links in
 /// turn, or each has a worker, where they have pauses: the whole one begins first, and goes on when
 /// its painter was sent that the other one left.
-pub fn server_answer(
+pub fn server_answer<'a>(
     alloc: Global,
-    table: &Table,
-    frames: &[&[u8]],
-    damage: Damage<'_>,
+    table: &'a Table,
+    frames: &[&'a [u8]],
+    damage: Damage<'a>,
     piece: usize,
     wires: &mut [Vec<Coming>],
 ) -> Result<Answer, AllocError> {

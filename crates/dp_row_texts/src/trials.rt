@@ -35,12 +35,12 @@ pub fn trials_of(alloc: Global, row: &Row, piece: usize) -> Result<Vec<Trial>, A
 }
 
 /// The trial of a damage.
-fn trial_of(
+fn trial_of<'a>(
     alloc: Global,
-    row: &Row,
+    row: &'a Row,
     damaged: Coming,
-    frames: &[&[u8]],
-    damage: Damage<'_>,
+    frames: &[&'a [u8]],
+    damage: Damage<'a>,
     piece: usize,
 ) -> Result<Trial, AllocError> {
     let mut wires = wires_with(alloc, &row.wires, damaged)?;
