@@ -347,8 +347,8 @@ impl Past {
     }
 }
 
-/// Gives the first link of the wire of this number one pause: its bytes from this place on come when
-/// the second link was sent so many bytes.
+/// Gives the first link of the wire of this number one pause: its bytes from this place on come
+/// when the second link was sent so many bytes.
 fn put_pause(
     wires: &mut [Vec<Coming>],
     wire: usize,
