@@ -125,9 +125,9 @@ pub(super) fn link_within(stream: TcpStream, limit: Duration) -> io::Result<(Tcp
     Ok((rx, TcpTx { stream, faults: 0 }))
 }
 
-/// Closes a link so that the last bytes that were written arrive. A socket that is closed with bytes
-/// unread resets its link, and what was written last may be lost by that. So the half to the peer
-/// is closed first, and what the peer still sends is read for a moment, or until its end.
+/// Closes a link so that the last bytes that were written arrive. A socket that is closed with
+/// bytes unread resets its link, and what was written last may be lost by that. So the half to the
+/// peer is closed first, and what the peer still sends is read for a moment, or until its end.
 pub(super) fn close(rx: TcpRx, tx: TcpTx) {
     let mut stream = rx.stream;
     if tx.stream.shutdown(Shutdown::Write).is_err() {
