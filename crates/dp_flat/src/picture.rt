@@ -198,9 +198,8 @@ fn put_picture<V: BoardView, S: Sink>(
     push_all(head_of(format, width, height).as_bytes(), &mut piece);
     for row in 0..tiles_along(height) {
         draw_band(board, depth, row, memory, colors, bytes);
-        put_band(
-            format, board, row, colors, bytes, &mut solid, &mut piece, out,
-        )?;
+        let band = DrawnBand { colors, bytes };
+        put_band(format, board, row, band, &mut solid, &mut piece, out)?;
     }
     put_all(out, piece.as_slice())
 }
@@ -259,16 +258,18 @@ fn put_job<V: BoardView, S: Sink>(
         (picture_text (magic_of format) (pixel_text_of format) (V.board board.now))) }
     ensures cause { HasCause any_fault (S.faults out.old) (S.faults out.new) result }
 {
-    put_band(
-        format,
-        board,
-        row,
-        job.colors(),
-        job.bytes(),
-        solid,
-        piece,
-        out,
-    )
+    let band = DrawnBand {
+        colors: job.colors(),
+        bytes: job.bytes(),
+    };
+    put_band(format, board, row, band, solid, piece, out)
+}
+
+/// A row of tiles as it was drawn: the colour of each tile that has one alone, and the pixels.
+#[derive(Clone, Copy)]
+struct DrawnBand<'a> {
+    colors: &'a [Option<Rgb>],
+    bytes: &'a [Rgb],
 }
 
 /// Adds the text of a row of tiles to the piece, and writes the piece where it is full.
@@ -276,16 +277,15 @@ fn put_band<V: BoardView, S: Sink>(
     format: Format,
     board: &V,
     row: u32,
-    colors: &[Option<Rgb>],
-    bytes: &[Rgb],
+    band: DrawnBand<'_>,
     solid: &mut SolidText,
     piece: &mut Piece,
     out: &mut S,
 ) -> Result<(), Failed>
     requires inside { row * 64 < (V.board board.now).height }
-    requires colors { length colors.now ≡ tiles_along (V.board board.now).width }
-    requires bytes { length bytes.now ≡ BUFFER * tiles_along (V.board board.now).width }
-    requires band { IsBand (V.board board.now) row colors.now bytes.now }
+    requires colors { length band.colors.now ≡ tiles_along (V.board board.now).width }
+    requires bytes { length band.bytes.now ≡ BUFFER * tiles_along (V.board board.now).width }
+    requires band { IsBand (V.board board.now) row band.colors.now band.bytes.now }
     ensures before { OnOk result ((start : Option (List ℕ))
         → HasRows format (V.board board.now) start (S.held out.old) piece.old.items (row * 64)
         → HasRows format (V.board board.now) start (S.held out.new) piece.new.items
@@ -298,43 +298,41 @@ fn put_band<V: BoardView, S: Sink>(
 {
     let height = board.height();
     let mut line = Line {
+        band,
         text: Piece::new(),
         is_known: false,
     };
-    line.renew(format, board, row, colors, bytes, solid);
+    line.renew(format, board, row, solid);
     let end = (row * SIDE + SIDE).min(height);
     for y in row * SIDE..end {
-        put_next(format, board, y, &line, colors, bytes, solid, piece, out)?;
+        put_next(format, board, y, &line, solid, piece, out)?;
     }
     Ok(())
 }
 
-/// The text of each row of pixels of a row of tiles, where it is known that all are the same.
+/// A row of tiles, and the text of each of its rows of pixels if it is known that all are the same.
 #[derive(Drop)]
-struct Line {
+struct Line<'a> {
+    band: DrawnBand<'a>,
     text: Piece,
     is_known: bool,
 }
 
-impl Line {
-    /// Makes it the text of the rows of another row of tiles. It is known where each tile is of one
-    /// colour.
-    fn renew<V: BoardView>(
-        &mut self,
-        format: Format,
-        board: &V,
-        row: u32,
-        colors: &[Option<Rgb>],
-        bytes: &[Rgb],
-        solid: &mut SolidText,
-    )
-        requires colors { length colors.now ≡ tiles_along (V.board board.now).width }
-        requires bytes { length bytes.now ≡ BUFFER * tiles_along (V.board board.now).width }
-        requires band { IsBand (V.board board.now) row colors.now bytes.now }
-        ensures { IsLine format (V.board board.now) row self.new.is_known self.new.text.items }
+impl Line<'_> {
+    /// Finds the text of the rows of pixels. It is known if each tile is of one colour.
+    fn renew<V: BoardView>(&mut self, format: Format, board: &V, row: u32, solid: &mut SolidText)
+        requires colors { length self.old.band.colors.now
+            ≡ tiles_along (V.board board.now).width }
+        requires bytes { length self.old.band.bytes.now
+            ≡ BUFFER * tiles_along (V.board board.now).width }
+        requires band { IsBand (V.board board.now) row self.old.band.colors.now
+            self.old.band.bytes.now }
+        ensures band { self.new.band ≡ self.old.band }
+        ensures text { IsLine format (V.board board.now) row self.new.is_known
+            self.new.text.items }
     {
         self.text.clear();
-        self.is_known = push_line(format, board, row, colors, bytes, solid, &mut self.text);
+        self.is_known = push_line(format, board, row, self.band, solid, &mut self.text);
     }
 }
 
@@ -344,21 +342,19 @@ fn push_line<V: BoardView>(
     format: Format,
     board: &V,
     row: u32,
-    colors: &[Option<Rgb>],
-    bytes: &[Rgb],
+    band: DrawnBand<'_>,
     solid: &mut SolidText,
     text: &mut Piece,
 ) -> bool
-    requires colors { length colors.now ≡ tiles_along (V.board board.now).width }
-    requires bytes { length bytes.now ≡ BUFFER * tiles_along (V.board board.now).width }
-    requires band { IsBand (V.board board.now) row colors.now bytes.now }
+    requires colors { length band.colors.now ≡ tiles_along (V.board board.now).width }
+    requires bytes { length band.bytes.now ≡ BUFFER * tiles_along (V.board board.now).width }
+    requires band { IsBand (V.board board.now) row band.colors.now band.bytes.now }
     requires none { text.old.items ≡ [] }
     ensures { IsLine format (V.board board.now) row result text.new.items }
 {
-    let _ = bytes;
     let width = board.width();
     for col in 0..tiles_along(width) {
-        let Some(color) = colors[col as usize] else {
+        let Some(color) = band.colors[col as usize] else {
             return false;
         };
         if text.remaining_capacity() < CHUNK_BYTES {
@@ -389,17 +385,17 @@ fn put_next<V: BoardView, S: Sink>(
     format: Format,
     board: &V,
     y: u32,
-    line: &Line,
-    colors: &[Option<Rgb>],
-    bytes: &[Rgb],
+    line: &Line<'_>,
     solid: &mut SolidText,
     piece: &mut Piece,
     out: &mut S,
 ) -> Result<(), Failed>
     requires inside { y < (V.board board.now).height }
-    requires colors { length colors.now ≡ tiles_along (V.board board.now).width }
-    requires bytes { length bytes.now ≡ BUFFER * tiles_along (V.board board.now).width }
-    requires band { IsBand (V.board board.now) (y / 64) colors.now bytes.now }
+    requires colors { length line.now.band.colors.now ≡ tiles_along (V.board board.now).width }
+    requires bytes { length line.now.band.bytes.now
+        ≡ BUFFER * tiles_along (V.board board.now).width }
+    requires band { IsBand (V.board board.now) (y / 64) line.now.band.colors.now
+        line.now.band.bytes.now }
     requires line { IsLine format (V.board board.now) (y / 64) line.now.is_known
         line.now.text.items }
     ensures before { OnOk result (GrowsBefore (S.held out.old) (S.held out.new) piece.new.items
@@ -411,7 +407,7 @@ fn put_next<V: BoardView, S: Sink>(
     if line.is_known {
         put_text(line.text.as_slice(), piece, out)
     } else {
-        put_row(format, board, y, colors, bytes, solid, piece, out)
+        put_row(format, board, y, line.band, solid, piece, out)
     }
 }
 
@@ -420,16 +416,15 @@ fn put_row<V: BoardView, S: Sink>(
     format: Format,
     board: &V,
     y: u32,
-    colors: &[Option<Rgb>],
-    bytes: &[Rgb],
+    band: DrawnBand<'_>,
     solid: &mut SolidText,
     piece: &mut Piece,
     out: &mut S,
 ) -> Result<(), Failed>
     requires inside { y < (V.board board.now).height }
-    requires colors { length colors.now ≡ tiles_along (V.board board.now).width }
-    requires bytes { length bytes.now ≡ BUFFER * tiles_along (V.board board.now).width }
-    requires band { IsBand (V.board board.now) (y / 64) colors.now bytes.now }
+    requires colors { length band.colors.now ≡ tiles_along (V.board board.now).width }
+    requires bytes { length band.bytes.now ≡ BUFFER * tiles_along (V.board board.now).width }
+    requires band { IsBand (V.board board.now) (y / 64) band.colors.now band.bytes.now }
     ensures before { OnOk result (GrowsBefore (S.held out.old) (S.held out.new) piece.new.items
         (piece.old.items ++ flat_map (pixel_text_of format) (seen_row (V.board board.now) y))) }
     ensures prefix { OnErr result (GrowsByPrefix (S.held out.old) (S.held out.new)
@@ -440,8 +435,8 @@ fn put_row<V: BoardView, S: Sink>(
     for col in 0..tiles_along(width) {
         let start = col as usize * BUFFER + (y % SIDE) as usize * SIDE as usize;
         let count = SIDE.min(width - col * SIDE) as usize;
-        let pixels = &bytes[start..start + count];
-        put_chunk(format, colors[col as usize], pixels, solid, piece, out)?;
+        let pixels = &band.bytes[start..start + count];
+        put_chunk(format, band.colors[col as usize], pixels, solid, piece, out)?;
     }
     Ok(())
 }

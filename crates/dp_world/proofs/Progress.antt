@@ -81,9 +81,10 @@ done_further world held faults start old now done line action asks leads written
       reaches = leads ∙ ap (λ (w : World). after w action) has.reaches
           ∙ sym (world_more has.actions action);
       text =
-          subst (Appends (held start.output) (held now.output)) (sym (report_more has.actions action))
-          (Appends-trans (held start.output) (held old.output) (held now.output) (report has.actions)
-          (printed (world_after has.actions) action)
+          subst (Appends (held start.output) (held now.output))
+          (sym (report_more has.actions action))
+          (Appends-trans (held start.output) (held old.output) (held now.output)
+          (report has.actions) (printed (world_after has.actions) action)
           has.text
           (subst (λ (w : World). Appends (held old.output) (held now.output) (printed w action))
           has.reaches written));

@@ -18,8 +18,8 @@ loop-col-preserved g c = λ y in_row down.
     let chunk = map (λ i. seen board (x + i) y) (below count) in
     c.push_solid.ensures
     ∙ ap (λ (l : List ℕ). c.loop-col.text.items ++ l)
-    (solid_text c.args.format board y c.args.row col count c.in-Some.color c.args.colors.now
-    c.args.bytes.now c.requires.band (search) in_row down (omega arith) (omega arith))
+    (solid_text c.args.format board y c.args.row col count c.in-Some.color c.args.band.colors.now
+    c.args.band.bytes.now c.requires.band (search) in_row down (omega arith) (omega arith))
     ∙ ap (λ (l : List ℕ). l ++ flat_map text chunk) (c.loop-col.invariant y in_row down)
     ∙ chunk_more text board y x count (min x board.width) (min ((col + 1) * 64) board.width) []
     (omega arith) (omega arith)

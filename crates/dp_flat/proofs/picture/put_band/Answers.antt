@@ -21,8 +21,8 @@ put_next-requires g c =
       colors = c.requires.colors;
       bytes = c.requires.bytes;
       band = band_same board row (y / 64) _ _ _ _ c.requires.band (omega arith) refl refl;
-      line = line_same c.args.format board row (y / 64) _ _ _ _ c.renew.ensures (omega arith) refl
-          refl;
+      line = line_same c.args.format board row (y / 64) _ _ _ _ c.renew.ensures.text (omega arith)
+          refl refl;
     }
 
 pub returns-in_err-put_next-clause-prefix : goal.returns-in_err-put_next-clause-prefix

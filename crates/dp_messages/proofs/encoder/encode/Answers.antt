@@ -23,7 +23,8 @@ carried frame entry kind body is k b spelled =
       };
     }
 
-pub returns-then-len-gt-PAYLOAD_LIMIT-clause-spelled : goal.returns-then-len-gt-PAYLOAD_LIMIT-clause-spelled
+pub returns-then-len-gt-PAYLOAD_LIMIT-clause-spelled
+    : goal.returns-then-len-gt-PAYLOAD_LIMIT-clause-spelled
 returns-then-len-gt-PAYLOAD_LIMIT-clause-spelled c = λ spelled.
     let m = c.args.entry.now.msg in
     let short = c.one_message.ensures.short (kind_of m) (payload_of m) m

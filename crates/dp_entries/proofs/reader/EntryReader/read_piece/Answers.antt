@@ -5,6 +5,7 @@ use Rattle.std.proofs.lemmas.List.{length-take}
 use Rattle.dp_entries.specs.Reader.{Reader}
 use Rattle.dp_entries.proofs.Reading.{reads_nothing, ends_fault, ends_long}
 use Rattle.dp_entries.proofs.Onward.{few_held, few_more, on_lost}
+use Rattle.dp_entries.proofs.Onward.{on_done, on_kept, on_long, on_nothing}
 use Rattle.dp_entries.proofs.reader.EntryReader.read_piece.Goals as goal
 
 not_over : {b over : Bool} → b ≡ false → b ≡ over → ¬ IsTrue over
@@ -82,4 +83,20 @@ returns-in-Err-push-clause-stops g c = λ source start entries h.
     on_lost h g.S.Standing.is_cause (g.I.Source.left c.read.new.self)
     (take c.in-Ok.count c.read.new.buf) c.push.new.self.stream.held
     (not_over c.if-self.false (ap (λ (r : Reader). r.over) c.self.view_is))
+    c.in-Ok.ensures.bytes.0
+
+pub returns-then-self-clause-stops : goal.returns-then-self-clause-stops
+returns-then-self-clause-stops g c = λ source start entries h.
+    on_long h g.S.Standing.is_cause c.requires.none (rw (← c.self.view_is) c.if-self.true)
+
+pub returns-in-Err-clause-stops : goal.returns-in-Err-clause-stops
+returns-in-Err-clause-stops g c = λ source start entries h.
+    on_done (on_kept h (g.I.Source.left c.read.new.self) c.in-Err.ensures.bytes) c.requires.none
+    (not_over c.if-self.false (ap (λ (r : Reader). r.over) c.self.view_is))
+
+pub returns-then-count-eq0-clause-goes_on : goal.returns-then-count-eq0-clause-goes_on
+returns-then-count-eq0-clause-goes_on g c = λ source start entries h.
+    let none : take c.in-Ok.count c.read.new.buf ≡ [] =
+    ap (λ (n : ℕ). take n c.read.new.buf) c.if-count-eq0.true in
+    on_nothing h (g.I.Source.left c.read.new.self) (take c.in-Ok.count c.read.new.buf) none
     c.in-Ok.ensures.bytes.0
