@@ -267,7 +267,7 @@ module _ {E O M : Type 0} (may : M → E → O → M → Type 0) where
     by = record {
       earlier = take i events;
       event = x;
-      later = drop (i + 1) events;
+      later = drop (suc i) events;
       before = h.entries;
       last = a.entry;
       events_are = split_at events i x inside at;
@@ -280,7 +280,7 @@ module _ {E O M : Type 0} (may : M → E → O → M → Type 0) where
   }
     where
       split_at : (l : List E) (i : ℕ) (x : E) → i < length l → get_or l i x ≡ x
-          → l ≡ take i l ++ x ∷ drop (i + 1) l
+          → l ≡ take i l ++ x ∷ drop (suc i) l
       split_at [] i x less is = absurd (omega (arith, less))
       split_at (y ∷ l) zero x less is = ap (λ z. z ∷ l) is
       split_at (y ∷ l) (suc i) x less is =

@@ -11,7 +11,7 @@ invariant-loop-event g l = record {
   hand : HasMachine l.token;
   count : l.count ≡ l.event-index;
   room : length l.token.me.0.seen + length l.events < 2 ^ 64 + l.event-index;
-  acts : (v : View g.M.Machine.Event.Denot (Result g.M.Machine.Reply.Denot AllocError) g.M.Denot)
+  acts : (v : View g.row.M-Event.Denot (Result g.row.M-Reply.Denot AllocError) g.row.M.Denot)
       → InTurn g.M.Machine.may_step v l.fn.token.me.0 []
       → ActsInTurn g.M.Machine.may_step g.L.Listener.follows v (take l.event-index l.events)
           (record { count = l.count; stop = None }) l.token.me.0;

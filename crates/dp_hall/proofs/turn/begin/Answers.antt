@@ -25,4 +25,4 @@ returns-clause-room g c =
     (ap (λ z. z.holds) c.take-stored.ensures.view.view) in
     let long : length c.put.new.token.me.0.seen ≡ length c.take-stored.new.token.me.0.seen = ap
     (λ z. length z.seen) (c.put.ensures.view ∙ c.count.ensures.view) in
-    omega (arith, found, long, c.if-count.false, c.count.type_inv)
+    omega (arith, found, long, c.if-count-acts.false, c.count.type_inv)

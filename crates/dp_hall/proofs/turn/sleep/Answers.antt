@@ -7,7 +7,8 @@ fetch_add-requires g c =
     let t = c.requires.table in (
       t.same,
       omega (arith, t.words, c.requires.words.2),
-      stays g.M.Machine.may_step c.args.table.now.key.value _ _ _ _ _ _ c.requires.words.1,
+      stays g.M.Machine.may_step c.args.table.now.key.value _ _ c.args.sleepers 1
+          (λ n. (n + 1) % 2 ^ 64) _ c.requires.words.1,
     )
 
 pub fetch_sub-requires : goal.fetch_sub-requires
@@ -15,5 +16,6 @@ fetch_sub-requires g c =
     let t = c.requires.table in (
       c.fetch_add.ensures.0 ∙ t.same,
       omega (arith, t.words, c.requires.words.2),
-      stays g.M.Machine.may_step c.args.table.now.key.value _ _ _ _ _ _ c.requires.words.1,
+      stays g.M.Machine.may_step c.args.table.now.key.value _ _ c.args.sleepers 1
+          (λ n. (n + (2 ^ 64 - 1)) % 2 ^ 64) _ c.requires.words.1,
     )
