@@ -18,9 +18,10 @@ put_next-requires g c =
     let y = c.loop-y.y in
     record {
       inside = omega arith;
-      colors = c.requires.colors;
-      bytes = c.requires.bytes;
-      band = band_same board row (y / 64) _ _ _ _ c.requires.band (omega arith) refl refl;
+      colors = rw c.renew.ensures.band c.requires.colors;
+      bytes = rw c.renew.ensures.band c.requires.bytes;
+      band = rw c.renew.ensures.band
+          (band_same board row (y / 64) _ _ _ _ c.requires.band (omega arith) refl refl);
       line = line_same c.args.format board row (y / 64) _ _ _ _ c.renew.ensures.text (omega arith)
           refl refl;
     }
