@@ -22,8 +22,11 @@ module _ {E O M : Type 0} where
       let same = ap (λ (x : View E O M). x.known) g.same in
       let more = g.more in record {
         mine = g.mine;
-        seen = (g.between ++ acts.entries, sym (append_assoc v.seen g.between acts.entries)
-            ∙ sym g.seen);
+        seen = (
+          g.between ++ acts.entries,
+          sym (append_assoc v.seen g.between acts.entries)
+              ∙ sym g.seen,
+        );
         known = omega (arith, more, same);
         same = g.same ∙ (λ i. record v { mine = w.mine; seen = w.seen; known = sym same i });
       }

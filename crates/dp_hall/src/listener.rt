@@ -17,7 +17,7 @@ pub trait Listener<M: Machine> {
 }
 
 /// What came of several acts in one turn.
-#[derive(Debug)]
+#[derive(Debug, Drop)]
 pub struct Acted<O> {
     /// How many events were acted.
     pub count: usize,

@@ -2,7 +2,7 @@
 use Rattle.std.proofs.Common.{◌≡◌, ◌≢◌, ℕ, ◌+◌, Bool, true, false, List, [], ◌∷◌, ◌++◌, Option, None}
 use Rattle.std.proofs.Common.{Some, Result, Ok, Err, refl, sym, ap, subst, ◌∙◌, inl, inr}
 use Rattle.std.proofs.Common.{append_assoc, append-nil, true≢false}
-use Rattle.std.specs.Prelude.{IsErr, IfErr, if◌then◌else◌}
+use Rattle.std.specs.Prelude.{IsErr, IfOk, IfErr, if◌then◌else◌}
 use Rattle.std.specs.Io.KnownBytes.{Consumes}
 use Rattle.std.specs.List.{AllByRecursion, flat_map}
 use Rattle.std.proofs.lemmas.List.Concat.{flat_map-append}
@@ -35,7 +35,7 @@ use Rattle.dp_link.specs.Reading.{up_end_of}
 use Rattle.dp_link.specs.Saying.{MayGoOn, stops, IsSaid, AreSaid, AreSaidTo, SaidBy, AreSpelled}
 use Rattle.dp_link.specs.Saying.{SpellFirst, counted, messages_of, FaultMatchesSay}
 use Rattle.dp_link.specs.Saying.{SaidSoFar, SaidToEnd, SaysNext}
-use Rattle.dp_link.specs.Hearing.{says_of, LeavesLast, EndsHearing, HeardEnd, HearsOne, HeardMore}
+use Rattle.dp_link.specs.Hearing.{says_of, LeavesLast, EndsHearing, HeardEnd, HeardOne, HeardMore}
 use Rattle.dp_link.specs.Hearing.{HeardToEnd, Hears, goes_on, ActsSays, end_by}
 use Rattle.dp_link.proofs.Hearing.{spelled-so-far, spelled-to, messages-append, no-message}
 use Rattle.dp_link.proofs.Hearing.{said-then, said-to-then, AddUp}
@@ -98,34 +98,51 @@ heard-nothing left unread start entries conn link given = record {
 pub heard-one : (left unread : Option (List ℕ)) (start : Stream) (entries : List Entry) (conn : ℕ)
     (old new : List Event) (leaves : Bool) (link later : Reader)
     → (q : HeardMore left unread start entries conn old false link)
-    → HearsOne (Ok leaves) left unread start (entries ++ q.more) conn old new later
+    → HeardOne left unread start (entries ++ q.more) conn old new leaves later
     → HeardMore left unread start entries conn new leaves later
 heard-one left unread start entries conn old new leaves link later q h =
-    let messages = messages-append q.more (h.0 ∷ []) in record {
-      more = q.more ++ h.0 ∷ [];
+    let e : Entry = h.entry in
+    let messages = messages-append q.more (e ∷ []) in record {
+      more = q.more ++ e ∷ [];
       given =
           subst (λ l. ReadOn StandsAnywhere left unread start l later)
-          (append_assoc entries q.more (h.0 ∷ [])) h.1;
-      says_are = h.2 ∙ (ap (λ l. l ++ Say conn h.0.msg ∷ []) q.says_are
-          ∙ (sym (says-append conn (messages_of q.more) (h.0.msg ∷ []))
+          (append_assoc entries q.more (e ∷ [])) h.given;
+      says_are = h.says_are ∙ (ap (λ l. l ++ Say conn e.msg ∷ []) q.says_are
+          ∙ (sym (says-append conn (messages_of q.more) (e.msg ∷ []))
           ∙ ap (says_of conn) (sym messages)));
       last =
           subst (LeavesLast leaves) (sym messages)
-          (leaves-more leaves (messages_of q.more) h.0.msg q.last h.3);
+          (leaves-more leaves (messages_of q.more) e.msg q.last h.leaves_is);
     }
 
 -- hearing ended behind those that were heard
 pub heard-end : (left unread : Option (List ℕ)) (start : Stream) (entries : List Entry) (conn : ℕ)
-    (old new : List Event) (end : UpEnd) (link later : Reader)
+    (old new : List Event) (end : UpEnd) (link : Reader)
     → (q : HeardMore left unread start entries conn old false link)
-    → HearsOne (Err end) left unread start (entries ++ q.more) conn old new later
+    → new ≡ old → HeardEnd left unread start (messages_of (entries ++ q.more)) end
     → HeardToEnd left unread start entries conn new end
-heard-end left unread start entries conn old new end link later q h = record {
+heard-end left unread start entries conn old new end link q same h = record {
   more = q.more;
-  says_are = h.0 ∙ q.says_are;
+  says_are = same ∙ q.says_are;
   stay = q.last;
-  ends = h.1;
+  ends = h;
 }
+
+-- by what came of hearing
+pub hears-by : (heard : Result Bool UpEnd) (left unread : Option (List ℕ)) (start : Stream)
+    (entries : List Entry) (conn : ℕ) (says : List Event) (old new : Reader)
+    → ReadOn StandsAnywhere left unread start entries old
+    → IfOk heard (λ leaves. (left unread : Option (List ℕ)) (start : Stream)
+    (entries : List Entry) → ReadOn StandsAnywhere left unread start entries old
+    → HeardMore left unread start entries conn says leaves new)
+    → IfErr heard (λ end. (left unread : Option (List ℕ)) (start : Stream)
+    (entries : List Entry) → ReadOn StandsAnywhere left unread start entries old
+    → HeardToEnd left unread start entries conn says end)
+    → Hears heard left unread start entries conn says new
+hears-by (Ok leaves) left unread start entries conn says old new given more ended =
+    more left unread start entries given
+hears-by (Err end) left unread start entries conn says old new given more ended =
+    ended left unread start entries given
 
 -- memory ran out when an entry had been taken
 pub heard-unnoted : (left unread : Option (List ℕ)) (start : Stream) (entries : List Entry)

@@ -54,15 +54,14 @@ pub record HeardEnd (left unread : Option (List ℕ)) (start : Stream) (messages
   pub rests : RestBy end start read rest
   pub by : EndsHearing end
 
--- A message more was heard by the reader, which had given these entries: a Say of it is behind the
--- earlier ones. Or hearing ended.
-abbrev pub HearsOne : Result Bool UpEnd → Option (List ℕ) → Option (List ℕ) → Stream → List Entry
-    → ℕ → List Event → List Event → Reader → Type 0
-HearsOne (Ok leaves) left unread start entries conn old new link =
-    (entry : Entry) × ReadOn StandsAnywhere left unread start (entries ++ entry ∷ []) link
-    × (new ≡ old ++ Say conn entry.msg ∷ []) × (is_disconnect entry.msg ≡ leaves)
-HearsOne (Err end) left unread start entries conn old new link =
-    (new ≡ old) × HeardEnd left unread start (messages_of entries) end
+-- a message more was heard by the reader, which had given these entries: a Say of it is behind the
+-- earlier ones
+pub record HeardOne (left unread : Option (List ℕ)) (start : Stream) (entries : List Entry)
+    (conn : ℕ) (old new : List Event) (leaves : Bool) (link : Reader) : Type 0 where
+  pub entry : Entry
+  pub given : ReadOn StandsAnywhere left unread start (entries ++ entry ∷ []) link
+  pub says_are : new ≡ old ++ Say conn entry.msg ∷ []
+  pub leaves_is : is_disconnect entry.msg ≡ leaves
 
 -- more messages were heard, and these are Says of them
 pub record HeardMore (left unread : Option (List ℕ)) (start : Stream) (entries : List Entry)

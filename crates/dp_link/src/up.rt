@@ -13,12 +13,13 @@ ghost use Rattle.dp_entries.specs.Anywhere.{StandsAnywhere};
 ghost use Rattle.dp_entries.specs.Onward.{ReadOn};
 ghost use Rattle.dp_entries.specs.Reader.{HoldsWithin};
 ghost use Rattle.dp_link.specs.Acts.{SeatView};
-ghost use Rattle.dp_link.specs.Hearing.{Hears, HearsOne, EndsHearing, ActsSays};
+ghost use Rattle.dp_link.specs.Hearing.{HeardOne, HeardMore, HeardEnd, HeardToEnd};
+ghost use Rattle.dp_link.specs.Hearing.{EndsHearing, ActsSays};
 ghost use Rattle.dp_link.specs.Hearing.{goes_on, end_by};
 ghost use Rattle.dp_session_laws.specs.Logs.{ReplyOrMemory as Came};
 ghost use Rattle.dp_io.specs.Limits.{stream_limit};
 ghost use Rattle.dp_link.specs.Saying.{SaysAll, SaysNext, SaidSoFar, SaidToEnd};
-ghost use Rattle.dp_link.specs.Saying.{FaultMatchesSay, FaultMatchesUp};
+ghost use Rattle.dp_link.specs.Saying.{FaultMatchesSay, FaultMatchesUp, messages_of};
 
 use crate::UpEnd;
 use crate::acting::act_once;
@@ -225,9 +226,14 @@ fn hear(
 ) -> Result<bool, UpEnd>
     requires limit { link.old.limit ≡ stream_limit }
     requires held { ¬ HoldsNoFrame link.old.stream.held }
-    ensures hears { (left unread : Option (List ℕ)) (start : Stream) (entries : List Item)
+    ensures more { IfOk result (λ leaves.
+        (left unread : Option (List ℕ)) (start : Stream) (entries : List Item)
         → ReadOn StandsAnywhere left unread start entries link.old
-        → Hears result left unread start entries conn says.new.items link.new }
+        → HeardMore left unread start entries conn says.new.items leaves link.new) }
+    ensures ended { IfErr result (λ end.
+        (left unread : Option (List ℕ)) (start : Stream) (entries : List Item)
+        → ReadOn StandsAnywhere left unread start entries link.old
+        → HeardToEnd left unread start entries conn says.new.items end) }
     ensures ends { IfErr result EndsHearing }
     ensures further { OnOk result (link.old.stream.at < link.new.stream.at) }
     ensures within { HoldsWithin link.new }
@@ -235,9 +241,14 @@ fn hear(
 {
     says.clear();
     'messages: loop {
-        let leaves = hear_one(alloc, link, conn, says)?;
-        if leaves || !link.holds_frame() {
-            return Ok(leaves);
+        match hear_one(alloc, link, conn, says) {
+            Ok(true) => return Ok(true),
+            Ok(false) => {
+                if !link.holds_frame() {
+                    return Ok(false);
+                }
+            }
+            Err(end) => return Err(end),
         }
     }
 }
@@ -252,9 +263,15 @@ fn hear_one(
 ) -> Result<bool, UpEnd>
     requires limit { link.old.limit ≡ stream_limit }
     requires held { ¬ HoldsNoFrame link.old.stream.held }
-    ensures hears { (left unread : Option (List ℕ)) (start : Stream) (entries : List Item)
+    ensures more { IfOk result (λ leaves.
+        (left unread : Option (List ℕ)) (start : Stream) (entries : List Item)
         → ReadOn StandsAnywhere left unread start entries link.old
-        → HearsOne result left unread start entries conn says.old.items says.new.items link.new }
+        → HeardOne left unread start entries conn says.old.items says.new.items leaves link.new) }
+    ensures ended { IfErr result (λ end.
+        (left unread : Option (List ℕ)) (start : Stream) (entries : List Item)
+        → ReadOn StandsAnywhere left unread start entries link.old
+        → HeardEnd left unread start (messages_of entries) end) }
+    ensures same { OnErr result (says.new ≡ says.old) }
     ensures ends { IfErr result EndsHearing }
     ensures further { OnOk result (link.old.stream.at < link.new.stream.at) }
     ensures within { HoldsWithin link.new }

@@ -1,5 +1,5 @@
 use Rattle.std.proofs.Common.{◌≡◌, ◌+◌, [], ◌∷◌, length, arith, ap, sym, ◌∙◌, refl, subst}
-use Rattle.std.proofs.Common.{length-append, None, take}
+use Rattle.std.proofs.Common.{length-append, None}
 use Rattle.std.proofs.lemmas.List.{take_all}
 use Rattle.dp_hall.specs.Holding.{ActsInTurn}
 use Rattle.dp_hall.proofs.ViewLemmas.{none_acted, one_more, last_one}

@@ -14,5 +14,5 @@ invariant-loop-event g l = record {
   acts : (v : View g.row.M-Event.Denot (Result g.row.M-Reply.Denot AllocError) g.row.M.Denot)
       → InTurn g.M.Machine.may_step v l.fn.token.me.0 []
       → ActsInTurn g.M.Machine.may_step g.L.Listener.follows v (take l.event-index l.events)
-          (record { count = l.count; stop = None }) l.token.me.0;
+      (record { count = l.count; stop = None }) l.token.me.0;
 }

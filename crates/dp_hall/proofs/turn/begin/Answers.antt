@@ -1,4 +1,4 @@
-use Rattle.std.proofs.Common.{◌≡◌, length, arith, ap, sym, ◌∙◌}
+use Rattle.std.proofs.Common.{◌≡◌, length, arith, ap, ◌∙◌}
 use Rattle.dp_hall.proofs.ViewLemmas.{has_turn, turn_begun}
 use Rattle.dp_hall.proofs.turn.begin.Goals as goal
 
