@@ -15,7 +15,7 @@ use Rattle.std.proofs.Common.{inl, inr, ⊎_elim, append_assoc}
 use Rattle.std.proofs.lemmas.Bool.Decides.{nat_tests}
 use Rattle.dp_hall.specs.Names.{IsIn, AreDistinct, names}
 use Rattle.std.specs.declared.snapshot.Snapshot.{Snapshot}
-use Rattle.dp_hall.specs.Rule.{first_view, HasTaken, IsConfirmed, with_entry, stored_entry}
+use Rattle.dp_hall.specs.Rule.{HasTaken, IsConfirmed, with_entry, stored_entry}
 use Rattle.dp_hall.specs.Rule.{child_name, split_left, split_right, joined, longer, shorter}
 use Rattle.dp_hall.specs.Calls.{IsSound, Acts, Asks, SplitsInto, JoinsInto}
 use Rattle.dp_hall.specs.Calls.{IsActOf, AreActs, Grows, ActsEach}
@@ -160,7 +160,8 @@ module _ {E O M : Type 0} (may : M → E → O → M → Type 0) where
         seen = u.seen;
         mine = u.mine;
         known = length u.seen;
-      } = e ∙ ap (λ (x : View E O M). let y : View E O M = record x { holds = false } in y) h.same in
+      } = e ∙ ap (λ (x : View E O M). let y : View E O M = record x { holds = false } in y)
+      h.same in
       let long : length u.seen ≡ length (v.seen ++ h.between) + length entries =
       ap length h.seen ∙ length-append (v.seen ++ h.between) entries in
       subst (λ (x : View E O M). IsSound may x × Grows v entries x) (sym is) (

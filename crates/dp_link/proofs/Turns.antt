@@ -36,7 +36,7 @@ use Rattle.dp_link.specs.Saying.{MayGoOn, stops, IsSaid, AreSaid, AreSaidTo, Sai
 use Rattle.dp_link.specs.Saying.{SpellFirst, counted, messages_of, FaultMatchesSay}
 use Rattle.dp_link.specs.Saying.{SaidSoFar, SaidToEnd, SaysNext}
 use Rattle.dp_link.specs.Hearing.{says_of, LeavesLast, EndsHearing, HeardEnd, HeardOne, HeardMore}
-use Rattle.dp_link.specs.Hearing.{HeardToEnd, Hears, goes_on, ActsSays, end_by}
+use Rattle.dp_link.specs.Hearing.{HeardToEnd, HeardBy, goes_on, ActsSays, end_by}
 use Rattle.dp_link.proofs.Hearing.{spelled-so-far, spelled-to, messages-append, no-message}
 use Rattle.dp_link.proofs.Hearing.{said-then, said-to-then, AddUp}
 
@@ -138,7 +138,7 @@ pub hears-by : (heard : Result Bool UpEnd) (left unread : Option (List ℕ)) (st
     → IfErr heard (λ end. (left unread : Option (List ℕ)) (start : Stream)
     (entries : List Entry) → ReadOn StandsAnywhere left unread start entries old
     → HeardToEnd left unread start entries conn says end)
-    → Hears heard left unread start entries conn says new
+    → HeardBy heard left unread start entries conn says new
 hears-by (Ok leaves) left unread start entries conn says old new given more ended =
     more left unread start entries given
 hears-by (Err end) left unread start entries conn says old new given more ended =
@@ -458,7 +458,7 @@ module _ (u v w : SeatView) (left unread : Option (List ℕ)) (start : Stream) (
       }
 
   pub says-heard : (stop : Option ReplyOrMemory) (heard : Result Bool UpEnd) (says : List Event)
-      → new.limit ≡ stream_limit → Hears heard left unread start p.entries conn says new
+      → new.limit ≡ stream_limit → HeardBy heard left unread start p.entries conn says new
       → ActsSays v says stop w → SaysNext (end_by stop heard) u w left unread start new conn
   says-heard None (Ok false) says limit q a = said-more says limit q a
   says-heard None (Ok true) says limit q a = said-goodbye says limit q a

@@ -80,11 +80,11 @@ pub record HeardToEnd (left unread : Option (List ℕ)) (start : Stream) (entrie
   pub ends : HeardEnd left unread start (messages_of (entries ++ more)) end
 
 -- by what came of hearing
-abbrev pub Hears : Result Bool UpEnd → Option (List ℕ) → Option (List ℕ) → Stream → List Entry → ℕ
+abbrev pub HeardBy : Result Bool UpEnd → Option (List ℕ) → Option (List ℕ) → Stream → List Entry → ℕ
     → List Event → Reader → Type 0
-Hears (Ok leaves) left unread start entries conn says link =
+HeardBy (Ok leaves) left unread start entries conn says link =
     HeardMore left unread start entries conn says leaves link
-Hears (Err end) left unread start entries conn says link =
+HeardBy (Err end) left unread start entries conn says link =
     HeardToEnd left unread start entries conn says end
 
 -- ---- what is said of it

@@ -268,7 +268,7 @@ impl Listener<Tally> for UntilRefused {
     }
 }
 
-/// Three acts in one turn, of which the second is refused. It gives how many were acted and how many
+/// Three acts in one turn, of which the second is refused. It gives how many were acted, how many
 /// of them went, whether it stopped, and the count.
 #[derive(Drop)]
 pub struct ActThree<'a, R> {
