@@ -7,4 +7,5 @@ pub mod PaintLemmas
 pub mod CarryLemmas
 pub mod LawLemmas
 pub mod LookLemmas
+pub mod KeptLemmas
 pub mod OpeningLemmas

@@ -11,7 +11,7 @@ use Rattle.std.proofs.lemmas.Bool.{and_parts, false≢true}
 use Rattle.std.proofs.lemmas.List.Elements.{filter-append}
 use Rattle.dp_msg_draw.specs.declared.draw.Draw.{Draw}
 use Rattle.dp_msg_meta.specs.declared.message.Meta.{Meta}
-use Rattle.dp_msg_meta.specs.declared.message.Meta.TheVariants.{Join, UndoDepth}
+use Rattle.dp_msg_meta.specs.declared.message.Meta.TheVariants.{Chat, Join, UndoDepth}
 use Rattle.dp_messages.specs.declared.message.Msg.{Msg}
 use Rattle.dp_messages.specs.declared.message.Msg.TheVariants as msg
 use Rattle.dp_messages.specs.declared.message.Entry.{Entry}
@@ -19,7 +19,7 @@ use Rattle.dp_acl.specs.LookBack.{numbers_below, lists, joined, is_join_of, has_
 use Rattle.dp_acl.specs.Rights.{is_registered, rule_of, first_tiers}
 use Rattle.dp_acl.specs.Carried.{acl_with, carried_rule, carried_rules}
 use Rattle.dp_acl.specs.Table.{rule_in_order}
-use Rattle.dp_acl.specs.Opening.{server_entry, command_entry, last_join}
+use Rattle.dp_acl.specs.Opening.{server_entry, command_entry, last_join, goes_on, GoOn}
 use Rattle.dp_acl.proofs.ListLemmas.{lists-numbers}
 use Rattle.dp_acl.proofs.PushLemmas.{last_item, last_item-more, joined-push, registered-push}
 use Rattle.dp_acl.proofs.LawLemmas.{Look, look, look_after, look-push}
@@ -60,6 +60,22 @@ module _ (user layer : ℕ) where
       → look_all user layer (map command_entry commands) l ≡ l
   all-commands [] l = refl
   all-commands (c ∷ cs) l = all-commands cs l
+
+  -- an entry that goes on changes nothing
+  one-kept : (id : ℕ) (m : Msg) (l : Look) → goes_on m ≡ true
+      → look_after user layer (record { user = id; msg = m }) l ≡ l
+  one-kept id (msg.Draw command) l goes = refl
+  one-kept id msg.Point l goes = refl
+  one-kept id (msg.Undo target redo) l goes = refl
+  one-kept id (msg.Opaque kind body) l goes = refl
+  one-kept id (msg.Meta (Chat text)) l goes = refl
+  one-kept id m l goes = absurd (false≢true goes)
+
+  -- nor do several
+  pub all-kept : (kept : List Entry) (l : Look) → GoOn kept → look_all user layer kept l ≡ l
+  all-kept [] l go = refl
+  all-kept (e ∷ es) l go =
+      ap (look_all user layer es) (one-kept e.user e.msg l go.0) ∙ all-kept es l go.1
 
 -- Entries that are made of keys, one or none of each. Only that of one key changes what is found,
 -- and twice changes it as once.

@@ -2,7 +2,7 @@
 use Rattle.std.proofs.Common.{◌≡◌, ℕ, ◌+◌, ◌<◌, ◌==◌, ◌&&◌, ◌||◌, Bool, true, false}
 use Rattle.std.proofs.Common.{if◌then◌else◌, List, [], ◌∷◌, ◌++◌, map, Option, Some, None, IfSome}
 use Rattle.std.proofs.Common.{All, refl, sym, ap, subst, ◌∙◌, inl, inr, arith}
-use Rattle.std.proofs.Common.{append_assoc, append-nil}
+use Rattle.std.proofs.Common.{append_assoc, append-nil, rules}
 use Rattle.std.specs.List.{filter, filter_map, after_last}
 use Rattle.std.specs.Option.{option_map, option_map_or, option_or}
 use Rattle.std.proofs.lemmas.Bool.{cases_eq, ne_eqb, eqb-true, false≢true}
@@ -12,6 +12,7 @@ use Rattle.dp_msg_draw.specs.declared.draw.Draw.{Draw}
 use Rattle.dp_msg_draw.specs.declared.draw.Draw.TheVariants as draw
 use Rattle.dp_msg_draw.specs.Payloads.{DrawHasSpelling}
 use Rattle.dp_msg_meta.specs.Fields.{RiseFrom}
+use Rattle.dp_msg_meta.specs.declared.message.Meta.TheVariants as meta
 use Rattle.dp_messages.specs.declared.message.Msg.{Msg}
 use Rattle.dp_messages.specs.declared.message.Msg.TheVariants as msg
 use Rattle.dp_messages.specs.declared.message.Entry.{Entry}
@@ -21,15 +22,17 @@ use Rattle.dp_acl.specs.LookBack.{lists, is_join_of, has_joined, last_said, Laye
 use Rattle.dp_acl.specs.Rights.{is_listed, is_operator, is_trusted, is_registered, are_all_locked}
 use Rattle.dp_acl.specs.Rights.{is_lock_listed, tiers_of, depth_of, rule_of, lets_paint}
 use Rattle.dp_acl.specs.Carried.{carried, carried_rules, lock_of_all}
-use Rattle.dp_acl.specs.Table.{StandsFor, rule_in_order}
-use Rattle.dp_acl.specs.Opening.{server_entry, command_entry, last_join, opening}
-use Rattle.dp_acl.specs.Laws.{CommandsChangeNoRight, OpeningsChangeNoRight}
+use Rattle.dp_acl.specs.Step.{IsKeptAfter}
+use Rattle.dp_acl.specs.Table.{Kept, StandsFor, rule_in_order}
+use Rattle.dp_acl.specs.Opening.{server_entry, command_entry, last_join, goes_on, GoOn, opening}
+use Rattle.dp_acl.specs.Laws.{CommandsChangeNoRight, KeptChangeNoRight, OpeningsChangeNoRight}
 use Rattle.dp_acl.proofs.ListLemmas.{and_true}
 use Rattle.dp_acl.proofs.StepLemmas.{stands-push, kept-other}
 use Rattle.dp_acl.proofs.PaintLemmas.{lets-in_order}
 use Rattle.dp_acl.proofs.LawLemmas.{Look, look, but_rule, LetAlike, painted_by, painted_layer}
 use Rattle.dp_acl.proofs.LawLemmas.{permitted-same, lists-below}
-use Rattle.dp_acl.proofs.LookLemmas.{look_all, look-all, all-append, all-commands, all-joins}
+use Rattle.dp_acl.proofs.LookLemmas.{look_all, look-all, all-append, all-commands, all-kept}
+use Rattle.dp_acl.proofs.LookLemmas.{all-joins}
 use Rattle.dp_acl.proofs.LookLemmas.{at_start, all-depth, ruled, all-rules}
 
 -- ---- commands
@@ -42,6 +45,27 @@ commands-change-nothing kept history (c ∷ cs) stands =
     (commands-change-nothing kept (history ++ command_entry c ∷ []) cs
     (stands-push kept kept history (command_entry c)
     (kept-other kept 0 (msg.Draw c) (λ meta same. cc same)) stands))
+
+-- ---- entries that go on
+
+-- a chat leaves what is kept
+kept-chat : (table : Kept) (user : ℕ) (text : List ℕ)
+    → IsKeptAfter table (record { user = user; msg = msg.Meta (meta.Chat text) }) table
+kept-chat table user text = search rules
+
+kept-going : (table : Kept) (user : ℕ) (m : Msg) → goes_on m ≡ true
+    → IsKeptAfter table (record { user = user; msg = m }) table
+kept-going table user (msg.Meta (meta.Chat text)) goes = kept-chat table user text
+kept-going table user (msg.Meta m) goes = cc
+kept-going table user m goes = kept-other table user m (λ other same. cc (ap goes_on same))
+
+pub kept-change-nothing : KeptChangeNoRight
+kept-change-nothing table history [] go stands =
+    subst (StandsFor table) (sym (append-nil history)) stands
+kept-change-nothing table history (e ∷ es) go stands =
+    subst (StandsFor table) (append_assoc history (e ∷ []) es)
+    (kept-change-nothing table (history ++ e ∷ []) es go.1
+    (stands-push table table history e (kept-going table e.user e.msg go.0) stands))
 
 -- ---- users who are present
 
@@ -173,17 +197,19 @@ module _ (history : List Entry) (present : List ℕ) (user : ℕ) (rise : RiseFr
 
   -- what is found of the user after the opening is what was found before it, but that the ids of
   -- the layer's rule stand in order
-  look-opening : (epoch : ℕ) (commands : List Draw) (layer : ℕ) → layer < 65536
-      → look (opening epoch history present commands []) user layer
+  look-opening : (epoch : ℕ) (commands : List Draw) (kept : List Entry) (layer : ℕ) → GoOn kept
+      → layer < 65536
+      → look (opening epoch history present commands kept) user layer
       ≡ record (look history user layer) {
         rule = option_map rule_in_order (rule_of history layer);
       }
-  look-opening epoch commands layer small =
+  look-opening epoch commands kept layer go small =
       let joins = filter_map (last_join history) present in
       let rights = map server_entry (carried history present) in
       let rest = map command_entry commands in
-      look-all user layer (opening epoch history present commands []) []
-      ∙ all-append user layer (joins ++ rights ++ rest) [] at_start
+      look-all user layer (opening epoch history present commands kept) []
+      ∙ all-append user layer (joins ++ rights ++ rest) kept at_start
+      ∙ all-kept user layer kept (look_all user layer (joins ++ rights ++ rest) at_start) go
       ∙ all-append user layer (joins ++ rights) rest at_start
       ∙ all-commands user layer commands (look_all user layer (joins ++ rights) at_start)
       ∙ all-append user layer joins rights at_start
@@ -223,13 +249,15 @@ let-alike history user None low bytes = refl
 let-alike history user (Some rule) low bytes = lets-in_order history user rule low bytes
 
 pub openings-change-nothing : OpeningsChangeNoRight
-openings-change-nothing kept epoch history present commands user m stands rise listed spelled =
+openings-change-nothing table epoch history present commands kept user m go stands rise listed
+    spelled =
     let small : painted_layer m < 65536 = painted-small m spelled in
-    let found = look-opening history present user rise listed epoch commands in
-    let alike : LetAlike (opening epoch history present commands []) history user
+    let found = λ (layer : ℕ) (low : layer < 65536).
+    look-opening history present user rise listed epoch commands kept layer go low in
+    let alike : LetAlike (opening epoch history present commands kept) history user
     (painted_layer m) =
     ap (λ l. option_map_or (lets_paint history user) l.rule true) (found (painted_layer m) small)
     ∙ let-alike history user (rule_of history (painted_layer m))
     (listed-low 1 user present rise listed) (stands.ids (painted_layer m) small) in
-    permitted-same (opening epoch history present commands []) history user
+    permitted-same (opening epoch history present commands kept) history user
     (ap but_rule (found 0 (omega arith))) m alike

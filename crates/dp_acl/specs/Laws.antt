@@ -12,7 +12,7 @@ use Rattle.dp_acl.specs.Rights.{is_operator}
 use Rattle.dp_acl.specs.Permitted.{permitted}
 use Rattle.dp_acl.specs.Carried.{in_order}
 use Rattle.dp_acl.specs.Table.{Kept, StandsFor}
-use Rattle.dp_acl.specs.Opening.{command_entry, opening}
+use Rattle.dp_acl.specs.Opening.{command_entry, GoOn, opening}
 
 -- the entry that stands in place of a forbidden message of this kind
 abbrev pub filtered : ℕ → ℕ → Entry
@@ -42,11 +42,18 @@ CommandsChangeNoRight =
     (kept : Kept) (history : List Entry) (commands : List Draw)
     → StandsFor kept history → StandsFor kept (history ++ map command_entry commands)
 
--- An opening that keeps no entry changes no right of a user who is present: what the user may say
--- is the same after it as after the history before, of messages that have a spelling.
+-- entries that go on change no right either
+abbrev pub KeptChangeNoRight : Type 0
+KeptChangeNoRight =
+    (table : Kept) (history kept : List Entry)
+    → GoOn kept → StandsFor table history → StandsFor table (history ++ kept)
+
+-- An opening changes no right of a user who is present, where the entries that it keeps go on: what
+-- the user may say is the same after it as after the history before, of messages that have a
+-- spelling.
 abbrev pub OpeningsChangeNoRight : Type 0
 OpeningsChangeNoRight =
-    (kept : Kept) (epoch : ℕ) (history : List Entry) (present : List ℕ) (commands : List Draw)
-    (user : ℕ) (m : Msg)
-    → StandsFor kept history → RiseFrom 1 present → lists present user ≡ true → HasSpelling m
-    → permitted (opening epoch history present commands []) user m ≡ permitted history user m
+    (table : Kept) (epoch : ℕ) (history : List Entry) (present : List ℕ) (commands : List Draw)
+    (kept : List Entry) (user : ℕ) (m : Msg)
+    → GoOn kept → StandsFor table history → RiseFrom 1 present → lists present user ≡ true → HasSpelling m
+    → permitted (opening epoch history present commands kept) user m ≡ permitted history user m

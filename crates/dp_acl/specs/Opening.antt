@@ -1,9 +1,11 @@
 -- How an epoch opens.
-use Rattle.std.specs.Prelude.{ℕ, ◌-◌, Option, List, ◌∷◌, ◌++◌, length, map, slice_get}
-use Rattle.std.specs.List.{filter, filter_map}
+use Rattle.std.specs.Prelude.{◌≡◌, ℕ, ◌-◌, Bool, true, false, Option, None, Some}
+use Rattle.std.specs.Prelude.{List, [], ◌∷◌, ◌++◌, length, map, drop, slice_get}
+use Rattle.std.specs.List.{AllByRecursion, filter, filter_map}
 use Rattle.dp_msg_draw.specs.declared.draw.Draw.{Draw}
 use Rattle.dp_msg_meta.specs.declared.message.Meta.{Meta}
-use Rattle.dp_msg_meta.specs.declared.message.Meta.TheVariants.{ResetMark}
+use Rattle.dp_msg_meta.specs.declared.message.Meta.TheVariants.{Chat, ResetMark}
+use Rattle.dp_messages.specs.declared.message.Msg.{Msg}
 use Rattle.dp_messages.specs.declared.message.Msg.TheVariants as msg
 use Rattle.dp_messages.specs.declared.message.Entry.{Entry}
 use Rattle.dp_acl.specs.LookBack.{is_join_of}
@@ -21,6 +23,25 @@ command_entry command = record { user = 0; msg = msg.Draw command }
 abbrev pub last_join : List Entry → ℕ → Option Entry
 last_join history user =
     let joins = filter (is_join_of user) history in slice_get joins (length joins - 1)
+
+-- An entry of this message goes on into the next epoch where the reset keeps entries: a command, a
+-- point, an undo, a chat, or what has no effect.
+abbrev pub goes_on : Msg → Bool
+goes_on (msg.Draw command) = true
+goes_on msg.Point = true
+goes_on (msg.Undo target redo) = true
+goes_on (msg.Opaque kind body) = true
+goes_on (msg.Meta (Chat text)) = true
+goes_on m = false
+
+-- each of the entries goes on
+abbrev pub GoOn : List Entry → Type 0
+GoOn entries = AllByRecursion (λ entry. goes_on entry.msg ≡ true) entries
+
+-- the entries that a reset keeps of a history from this place on; none, where it names no place
+abbrev pub kept_from : Option ℕ → List Entry → List Entry
+kept_from None history = []
+kept_from (Some place) history = filter (λ entry. goes_on entry.msg) (drop place history)
 
 -- What stands after the mark of a new epoch: the last Joins of the present users, what is carried
 -- of the rights, the commands of the reset, and the entries that it keeps.

@@ -12,7 +12,7 @@ mod rights;
 mod rules;
 
 pub use laws::{
-    commands_change_no_right, forbidden_changes_no_right, openings_change_no_right, operators_stay,
-    spelled_ids_are_in_order,
+    commands_change_no_right, forbidden_changes_no_right, kept_change_no_right, kept_go_on,
+    openings_change_no_right, operators_stay, spelled_ids_are_in_order,
 };
 pub use rights::Rights;

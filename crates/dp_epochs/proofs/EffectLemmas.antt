@@ -1,11 +1,12 @@
 -- What an event does is one of the effects, and what they all leave as it was.
 use Rattle.std.proofs.Common.{◌≡◌, ℕ, zero, suc, ◌+◌, ◌-◌, ◌≤◌, ◌==◌, ◌&&◌, not, Bool, true, false}
 use Rattle.std.proofs.Common.{if◌then◌else◌, List, [], ◌∷◌, ◌++◌, length, Option, None, Some}
-use Rattle.std.proofs.Common.{is_some, IfSome}
+use Rattle.std.proofs.Common.{is_some, IfSome, nat_le}
 use Rattle.std.proofs.Common.{refl, sym, ap, subst, ◌∙◌, ⊎_elim, arith, append-nil, append_assoc}
 use Rattle.std.specs.Prelude.{slice_set, slice_index_or}
 use Rattle.std.specs.Option.{option_map, option_map_or}
 use Rattle.std.proofs.lemmas.Bool.{cond_both, cases_Bool, cases_eq, and_parts, not-true, eqb-true}
+use Rattle.std.proofs.lemmas.Bool.{leb-true}
 use Rattle.dp_msg_draw.specs.declared.draw.Draw.{Draw}
 use Rattle.dp_msg_meta.specs.declared.message.Control.TheVariants as control
 use Rattle.dp_msg_meta.specs.declared.message.Meta.TheVariants.{Leave}
@@ -36,13 +37,13 @@ use Rattle.dp_epochs.specs.State.{has_acknowledged, is_name, free_id, opened_as,
 use Rattle.dp_epochs.specs.State.{new_connection, left, next_owner, owner_on_leave, closed_by}
 use Rattle.dp_epochs.specs.State.{stream_without, judged, heard, decided, acted_by, says_by}
 use Rattle.dp_epochs.specs.State.{Stream, Acted, commands_by, reset_of, is_held_by_other, may_begin}
-use Rattle.dp_epochs.specs.State.{part_decided, fits_reset, first_stream, with_part}
-use Rattle.dp_epochs.specs.State.{present_users, sent_commands}
+use Rattle.dp_epochs.specs.State.{part_decided, fits_reset, first_stream, place_in, with_part}
+use Rattle.dp_epochs.specs.State.{present_users, sent_commands, kept_by}
 use Rattle.dp_epochs.specs.Effects.{own_message, made, entries_of, ended_after, live_after}
 use Rattle.dp_epochs.specs.Effects.{connections_after, IsIgnored, IsRefusedName, IsForNoOne}
 use Rattle.dp_epochs.specs.Effects.{IsStill, IsOpenAt, IsSaid, IsReset, IsEffect, effect_by}
 use Rattle.dp_epochs.specs.Effects.{DecisionsHaveEffects, EventsHaveEffects, EffectsAreMade}
-use Rattle.dp_epochs.specs.Effects.{IsLater}
+use Rattle.dp_epochs.specs.Effects.{IsLater, begin_message, IsWithinLive}
 use Rattle.dp_epochs.specs.Laws.{Continues}
 use Rattle.dp_epochs.proofs.OpenConnections.{open_is_found}
 
@@ -99,9 +100,11 @@ Reason s conn c m decision.Place =
     (has_acknowledged s c ≡ true) × (permitted s.live c.user m ≡ true)
 Reason s conn c m decision.Filter = has_acknowledged s c ≡ true
 Reason s conn c m decision.BeginReset =
-    (m ≡ msg.Control control.ResetBegin)
+    (place : Option ℕ)
+    × (m ≡ begin_message place)
     × (has_acknowledged s c ≡ true)
     × (is_operator s.live c.user ≡ true)
+    × IsWithinLive s place
 Reason s conn c m decision.AddPart =
     (command : Draw) × (commands : List Draw)
     × (m ≡ msg.Part command)
@@ -143,20 +146,32 @@ end-reason : (s : State) (conn : ℕ) (c : Connection) → has_acknowledged s c 
 end-reason s conn c ready None is = ready
 end-reason s conn c ready (Some commands) is = (commands, refl, ready, is)
 
+-- who may begin a reset is operator
+begins-operator : (s : State) (conn : ℕ) (c : Connection) → may_begin s conn c ≡ true
+    → is_operator s.live c.user ≡ true
+begins-operator s conn c may =
+    (and_parts (is_operator s.live c.user)
+    (not (option_map_or (is_held_by_other s conn) s.stream false)) may).0
+
 heard-reason : (s : State) (conn : ℕ) (c : Connection) (m : Msg) → has_acknowledged s c ≡ true
     → Reason s conn c m (heard s conn c m)
 heard-reason s conn c (msg.Control control.ResetBegin) ready =
     cond_both (may_begin s conn c) decision.BeginReset decision.Filter
     (Reason s conn c (msg.Control control.ResetBegin))
-    (λ may. (
-      refl,
-      ready,
-      (and_parts (is_operator s.live c.user)
-          (not (option_map_or (is_held_by_other s conn) s.stream false)) may).0,
-    )) (λ no. ready)
+    (λ may. (None, refl, ready, begins-operator s conn c may, tt)) (λ no. ready)
 heard-reason s conn c (msg.Control control.ResetEnd) ready =
     end-reason s conn c ready (reset_of s conn c) refl
-heard-reason s conn c (msg.Control (control.ResetFrom at)) ready = ready
+heard-reason s conn c (msg.Control (control.ResetFrom at)) ready =
+    cond_both (may_begin s conn c && nat_le at (length s.live)) decision.BeginReset decision.Filter
+    (Reason s conn c (msg.Control (control.ResetFrom at)))
+    (λ both.
+    let parts = and_parts (may_begin s conn c) (nat_le at (length s.live)) both in (
+      Some at,
+      refl,
+      ready,
+      begins-operator s conn c parts.0,
+      leb-true at (length s.live) parts.1,
+    )) (λ no. ready)
 heard-reason s conn c (msg.Part command) ready =
     part-reason s conn c command ready (reset_of s conn c) refl
 heard-reason s conn c m ready = judged-reason s conn c m ready
@@ -206,8 +221,11 @@ module _ (s : State) (conn : ℕ) (c : Connection) (m : Msg) (at : IsOpenAt s co
   decided-cause decision.Acknowledge is why = (said decision.Acknowledge is, why)
   decided-cause decision.Place is why = (said decision.Place is, why.0, why.1)
   decided-cause decision.Filter is why = (said decision.Filter is, why)
-  decided-cause decision.BeginReset is why =
-      reset (msg.Control control.ResetBegin) decision.BeginReset is why.0 why.1 why.2
+  decided-cause decision.BeginReset is why = (
+    why.0,
+    reset (begin_message why.0) decision.BeginReset is why.1 why.2 why.3,
+    why.4,
+  )
   decided-cause decision.AddPart is why = (
     why.0,
     reset (msg.Part why.0) decision.AddPart is why.2 why.3 why.4.operator,
@@ -386,8 +404,8 @@ effect-made s e (Left conn c next) cause =
     (subst (λ o. acted s (event.Close conn) ≡ made s (event.Close conn) (Left conn c o))
     (sym cause.owner) (left-made s conn c cause.at))
 effect-made s e (Began conn c) cause =
-    said-made s e conn c decision.BeginReset cause.said
-    ∙ with-nothing s s.connections (Some (first_stream conn)) reply.Noted
+    said-made s e conn c decision.BeginReset cause.1.said
+    ∙ with-nothing s s.connections (Some (first_stream conn (place_in (own_message e)))) reply.Noted
 effect-made s e (Added conn c) cause =
     said-made s e conn c decision.AddPart cause.1.said
     ∙ with-nothing s s.connections (option_map (with_part (own_message e)) s.stream) reply.Noted
@@ -440,7 +458,8 @@ histories-go_on : (s : State) (e : Event) (effect : Effect) (k : ℕ)
     (slice_index_or (ended_after s effect ++ live_after s e effect ∷ []) k [])
 histories-go_on s e (Reopened conn c) k =
     opened-grows s.ended s.live
-    (opening (epoch_of s + 1) s.live (present_users s) (sent_commands s.stream) []) k
+    (opening (epoch_of s + 1) s.live (present_users s) (sent_commands s.stream)
+    (kept_by s.stream s.live)) k
 histories-go_on s e effect k = last-grows s.ended s.live (entries_of e effect) k
 
 -- the history of each epoch goes on

@@ -23,9 +23,10 @@ use Rattle.dp_epochs.specs.declared.event.Event.TheVariants as event
 use Rattle.dp_epochs.specs.declared.event.Reply.TheVariants as reply
 use Rattle.dp_epochs.specs.State.{State, acted, stays, noted, after_event, epoch_of, entry_of}
 use Rattle.dp_epochs.specs.State.{is_name, is_present, free_id, user_ids, present_users, opened_as}
-use Rattle.dp_epochs.specs.State.{next_owner, owner_on_join, sent_commands}
+use Rattle.dp_epochs.specs.State.{next_owner, owner_on_join, sent_commands, kept_by}
 use Rattle.dp_epochs.specs.Effects.{own_message, entries_of, live_after, IsEffect}
-use Rattle.dp_epochs.proofs.OpeningLemmas.{present-rise, opening-joins}
+use Rattle.dp_acl.proofs.KeptLemmas.{going-joins}
+use Rattle.dp_epochs.proofs.OpeningLemmas.{present-rise, opening-joins, kept-go}
 use Rattle.dp_epochs.proofs.EffectLemmas.{has-effect}
 
 -- ---- lists
@@ -129,8 +130,9 @@ module _ (user : ℕ) where
   effect-join s e (Dropped conn c) cause present =
       last-more s.live (entries_of e (Dropped conn c)) refl
   effect-join s e (Reopened conn c) cause present =
-      opening-joins s.live user (epoch_of s + 1) (present_users s) (sent_commands s.stream) []
-      (present-rise s) present refl
+      opening-joins s.live user (epoch_of s + 1) (present_users s) (sent_commands s.stream)
+      (kept_by s.stream s.live) (present-rise s) present
+      (going-joins (kept_by s.stream s.live) user (kept-go s.stream s.live))
   effect-join s e effect cause present = last-more s.live [] refl
 
   pub join-stays : (s : State) (e : Event) → lists (present_users s) user ≡ true

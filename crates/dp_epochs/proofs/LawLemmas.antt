@@ -31,7 +31,7 @@ use Rattle.dp_epochs.specs.State.{State, Stream, first_state, acted, noted, afte
 use Rattle.dp_epochs.specs.State.{histories, history_of, open_connection, with_connection}
 use Rattle.dp_epochs.specs.State.{after_shut, next_owner, stream_without, present_users}
 use Rattle.dp_epochs.specs.State.{part_bytes, reset_byte_limit, fits_reset, with_part}
-use Rattle.dp_epochs.specs.State.{sent_commands}
+use Rattle.dp_epochs.specs.State.{sent_commands, kept_by, entry_of}
 use Rattle.dp_epochs.specs.Effects.{own_message, made, entries_of, ended_after, live_after}
 use Rattle.dp_epochs.specs.Effects.{IsEffect}
 use Rattle.dp_epochs.specs.Past.{Past, LogItem, Journalled, RefusedClose, shut_at, interleaved}
@@ -43,7 +43,8 @@ use Rattle.dp_epochs.specs.Laws.{Continues, LoggedStep, IsRun, IsFault, AreFault
 use Rattle.dp_epochs.specs.Laws.{shut_by, HasNoMark, IsHistory, AreHistories}
 use Rattle.dp_epochs.proofs.Interleaving.{state-came, state-shut}
 use Rattle.dp_epochs.proofs.OpeningLemmas.{opening-short, present-few, opening-marked}
-use Rattle.dp_epochs.proofs.OpeningLemmas.{unmarked-append}
+use Rattle.dp_epochs.proofs.OpeningLemmas.{unmarked-append, going, going-append, going-few}
+use Rattle.dp_epochs.proofs.OpeningLemmas.{opening-going, kept-few, kept-go, go-unmarked}
 use Rattle.dp_epochs.proofs.EffectLemmas.{has-effect, entries-few, history-goes_on}
 
 -- ---- answers
@@ -137,16 +138,18 @@ module _ (P : State → ℕ → Type 0)
 
 -- ---- length
 
-abbrev IsShortStream : Option Stream → Type 0
+abbrev pub IsShortStream : Option Stream → Type 0
 IsShortStream None = Unit {0}
 IsShortStream (Some stream) = length stream.commands ≤ part_limit
 
--- after so many events each history is short, and so is the reset that is being sent
-record IsShort (s : State) (n : ℕ) : Type 0 where
-  ended : All (λ history. length history ≤ 2 * n + opening_limit) s.ended
-  live : length s.live ≤ 2 * n + opening_limit
-  stream : IsShortStream s.stream
-  epoch : length s.ended ≤ n
+-- After so many events each history is short, and so is the reset that is being sent. Each entry
+-- that goes on and each part of the reset came by an event of its own.
+pub record IsShort (s : State) (n : ℕ) : Type 0 where
+  pub ended : All (λ history. length history ≤ 2 * n + opening_limit) s.ended
+  pub live : length s.live ≤ 2 * n + opening_limit
+  pub stream : IsShortStream s.stream
+  pub going : going s.live + length (sent_commands s.stream) ≤ n
+  pub epoch : length s.ended ≤ n
 
 module _ (s : State) (n : ℕ) (h : IsShort s n) where
   ended-short : All (λ history. length history ≤ 2 * suc n + opening_limit) s.ended
@@ -156,12 +159,15 @@ module _ (s : State) (n : ℕ) (h : IsShort s n) where
       (λ history few. omega (arith, few)) s.ended h.ended
 
   short-grown : (t : State) (more : List Entry) → t.ended ≡ s.ended → t.live ≡ s.live ++ more
-      → length more ≤ 2 → IsShortStream t.stream → IsShort t (suc n)
-  short-grown t more ended live few stream = record {
+      → length more ≤ 2 → IsShortStream t.stream
+      → going more + length (sent_commands t.stream) ≤ length (sent_commands s.stream) + 1
+      → IsShort t (suc n)
+  short-grown t more ended live few stream goes = record {
     ended = subst (All (λ history. length history ≤ 2 * suc n + opening_limit)) (sym ended)
         ended-short;
     live = omega (arith, ap length live, length-append s.live more, few, h.live);
     stream = stream;
+    going = omega (arith, ap going live, going-append s.live more, goes, h.going);
     epoch = omega (arith, ap length ended, h.epoch);
   }
 
@@ -170,6 +176,24 @@ without-short : (conn : ℕ) (o : Option Stream) → IsShortStream o
 without-short conn None h = tt
 without-short conn (Some stream) h =
     cond_both (stream.owner == conn) None (Some stream) IsShortStream (λ yes. tt) (λ no. h)
+
+without-few : (conn : ℕ) (o : Option Stream)
+    → length (sent_commands (stream_without conn o)) ≤ length (sent_commands o)
+without-few conn None = omega arith
+without-few conn (Some stream) =
+    cond_both (stream.owner == conn) None (Some stream)
+    (λ (o : Option Stream). length (sent_commands o) ≤ length stream.commands)
+    (λ yes. omega arith) (λ no. omega arith)
+
+added-few : (command : Draw) (o : Option Stream)
+    → length (sent_commands (option_map (with_part (msg.Part command)) o))
+    ≤ length (sent_commands o) + 1
+added-few command None = omega arith
+added-few command (Some sent) = omega (arith, length-append sent.commands (command ∷ []))
+
+owner-still : (o : Option ℕ) → going (next_owner o) ≡ 0
+owner-still None = refl
+owner-still (Some user) = refl
 
 added-short : (command : Draw) (o : Option Stream) (stream : Stream) → o ≡ Some stream
     → fits_reset stream.commands command ≡ true
@@ -197,39 +221,60 @@ short-effect : (s : State) (e : Event) (effect : Effect) → IsEffect s e effect
 short-effect s e (Joined user next) cause n h =
     short-grown s n h (noted s (made s e (Joined user next))) (entries_of e (Joined user next)) refl
     refl (entries-few e (Joined user next)) h.stream
+    (omega (
+      arith,
+      going-append (entry_of user (own_message e) ∷ []) (next_owner next),
+      going-few (entry_of user (own_message e) ∷ []),
+      owner-still next,
+    ))
 short-effect s e (Left conn c next) cause n h =
     short-grown s n h (noted s (made s e (Left conn c next))) (entries_of e (Left conn c next)) refl
     refl (entries-few e (Left conn c next)) (without-short conn s.stream h.stream)
+    (let still : going (entries_of e (Left conn c next)) ≡ 0 = owner-still next in
+    omega (arith, still, without-few conn s.stream))
 short-effect s e (Began conn c) cause n h =
     short-grown s n h (noted s (made s e (Began conn c))) [] refl refl (omega arith) (omega arith)
+    (omega arith)
 short-effect s e (Added conn c) cause n h =
     short-grown s n h (noted s (made s e (Added conn c))) [] refl refl (omega arith)
     (subst (λ m. IsShortStream (option_map (with_part m) s.stream)) (sym cause.1.is)
     (added-short cause.0 s.stream cause.2.stream cause.2.sent cause.2.fits))
+    (subst (λ m. going [] + length (sent_commands (option_map (with_part m) s.stream))
+    ≤ length (sent_commands s.stream) + 1) (sym cause.1.is)
+    (omega (arith, added-few cause.0 s.stream)))
 short-effect s e (Dropped conn c) cause n h =
     short-grown s n h (noted s (made s e (Dropped conn c))) (entries_of e (Dropped conn c)) refl
-    refl (omega arith) tt
+    refl (omega arith) tt (let still : going (entries_of e (Dropped conn c)) ≡ 0 = refl in
+    omega (arith, still))
 short-effect s e (Reopened conn c) cause n h =
     let commands = sent_commands s.stream in
-    let short = opening-short (epoch_of s + 1) s.live (present_users s) commands [] (present-few s)
-    (sent-short s.stream h.stream) in
+    let kept = kept_by s.stream s.live in
+    let short = opening-short (epoch_of s + 1) s.live (present_users s) commands kept
+    (present-few s) (sent-short s.stream h.stream) in
+    let few = kept-few s.stream s.live in
     record {
       ended = All-push (λ (history : List Entry). length history ≤ 2 * suc n + opening_limit)
           s.ended s.live (ended-short s n h) (omega (arith, h.live));
-      live = omega (arith, short);
+      live = omega (arith, short, few, h.going);
       stream = tt;
+      going = omega (
+        arith,
+        opening-going (epoch_of s + 1) s.live (present_users s) commands kept,
+        few,
+        h.going,
+      );
       epoch = omega (arith, length-append s.ended (s.live ∷ []), h.epoch);
     }
 short-effect s e effect cause n h =
     short-grown s n h (noted s (made s e effect)) (entries_of e effect) refl refl
-    (entries-few e effect) h.stream
+    (entries-few e effect) h.stream (omega (arith, going-few (entries_of e effect)))
 
-event-short : (s : State) (e : Event) (n : ℕ) → IsShort s n → IsShort (after_event s e) (suc n)
+pub event-short : (s : State) (e : Event) (n : ℕ) → IsShort s n → IsShort (after_event s e) (suc n)
 event-short s e n h =
     let it = has-effect s e in
     subst (λ a. IsShort (noted s a) (suc n)) (sym it.made) (short-effect s e it.effect it.cause n h)
 
-shut-short : (s : State) (conn n : ℕ) → IsShort s n → IsShort (after_shut s conn) n
+pub shut-short : (s : State) (conn n : ℕ) → IsShort s n → IsShort (after_shut s conn) n
 shut-short s conn n h = at_most_one (open_connection s conn)
   where
     at_most_one : (o : Option Connection) → IsShort (option_map_or (λ c. with_connection s conn
@@ -239,14 +284,16 @@ shut-short s conn n h = at_most_one (open_connection s conn)
       ended = h.ended;
       live = h.live;
       stream = h.stream;
+      going = h.going;
       epoch = h.epoch;
     }
 
-first-short : IsShort first_state 0
+pub first-short : IsShort first_state 0
 first-short = record {
   ended = All-nil (λ (history : List Entry). length history ≤ 2 * 0 + opening_limit);
   live = omega arith;
   stream = tt;
+  going = let none : going first_state.live ≡ 0 = refl in omega (arith, none);
   epoch = omega arith;
 }
 
@@ -359,11 +406,14 @@ marked-effect : (s : State) (e : Event) (effect : Effect) → IsEffect s e effec
     → AreMarked 0 (ended_after s effect ++ live_after s e effect ∷ [])
 marked-effect s e (Reopened conn c) cause h =
     marked-opened 0 (s.ended ++ s.live ∷ [])
-    (opening (epoch_of s + 1) s.live (present_users s) (sent_commands s.stream) []) h
+    (opening (epoch_of s + 1) s.live (present_users s) (sent_commands s.stream)
+    (kept_by s.stream s.live)) h
     (subst (λ k. IsHistory k (opening (epoch_of s + 1) s.live (present_users s)
-    (sent_commands s.stream) []))
+    (sent_commands s.stream) (kept_by s.stream s.live)))
     (omega (arith, length-append s.ended (s.live ∷ [])))
-    (opening-marked (epoch_of s + 1) s.live (present_users s) (sent_commands s.stream) [] tt))
+    (opening-marked (epoch_of s + 1) s.live (present_users s) (sent_commands s.stream)
+    (kept_by s.stream s.live)
+    (go-unmarked (kept_by s.stream s.live) (kept-go s.stream s.live))))
 marked-effect s e effect cause h =
     marked-grown 0 s.ended s.live (entries_of e effect) h (entries-unmarked s e effect cause)
 

@@ -1,13 +1,13 @@
 -- How an epoch opens: how long that is, its marks, and the Joins in it.
 use Rattle.std.proofs.Common.{◌≡◌, ℕ, zero, suc, ◌+◌, ◌-◌, ◌<◌, ◌≤◌, ◌==◌, ◌&&◌, ◌||◌, Bool}
-use Rattle.std.proofs.Common.{true, false, cond, List, [], ◌∷◌, ◌++◌, length, map, slice_get}
+use Rattle.std.proofs.Common.{true, false, cond, List, [], ◌∷◌, ◌++◌, length, map, drop, slice_get}
 use Rattle.std.proofs.Common.{Option, None, Some, is_some}
 use Rattle.std.proofs.Common.{refl, sym, ap, subst, ◌∙◌, ⊎_elim, arith, append-nil, length-append}
 use Rattle.std.specs.Prelude.{option_to_list}
 use Rattle.std.specs.List.{AllByRecursion, filter, filter_map, cons_option, range_with_len}
 use Rattle.std.specs.Option.{option_map}
 use Rattle.std.proofs.lemmas.Bool.{cond_both, cond-true, cond-false, cases_Bool, cases_eq}
-use Rattle.std.proofs.lemmas.Bool.{and_parts}
+use Rattle.std.proofs.lemmas.Bool.{and_parts, false≢true}
 use Rattle.std.proofs.lemmas.Bool.{eq-eqb, ne_eqb, eqb-true}
 use Rattle.std.proofs.lemmas.List.{length-map}
 use Rattle.std.proofs.lemmas.List.Elements.{filter-append}
@@ -24,8 +24,10 @@ use Rattle.dp_acl.specs.LookBack.{numbers_below, lists, joined, is_join_of, Laye
 use Rattle.dp_acl.specs.Rights.{rule_of, depth_of}
 use Rattle.dp_acl.specs.Carried.{acl_with, carried_depth, carried_rule, carried_rules, carried}
 use Rattle.dp_acl.specs.Opening.{server_entry, command_entry, last_join, carried_entries, opening}
+use Rattle.dp_acl.specs.Opening.{goes_on, GoOn, kept_from}
+use Rattle.dp_acl.proofs.KeptLemmas.{kept-goes}
 use Rattle.dp_acl.specs.Opening.{part_limit, opening_limit}
-use Rattle.dp_epochs.specs.State.{State, is_present, user_ids, present_users}
+use Rattle.dp_epochs.specs.State.{State, Stream, is_present, user_ids, present_users, kept_by}
 use Rattle.dp_epochs.specs.Laws.{HasNoMark, IsHistory}
 
 -- ---- length
@@ -119,7 +121,77 @@ pub present-rise : (s : State) → RiseFrom 1 (present_users s)
 unfolding user_ids
 present-rise s = rise-range (is_present s) 254 1 (omega arith)
 
--- ---- marks
+-- ---- marks, and what goes on
+
+-- how many of the entries go on
+abbrev pub going : List Entry → ℕ
+going entries = length (filter (λ entry. goes_on entry.msg) entries)
+
+pub going-append : (xs ys : List Entry) → going (xs ++ ys) ≡ going xs + going ys
+going-append xs ys =
+    ap length (filter-append (λ (entry : Entry). goes_on entry.msg) xs ys)
+    ∙ length-append (filter (λ entry. goes_on entry.msg) xs)
+    (filter (λ entry. goes_on entry.msg) ys)
+
+pub going-few : (entries : List Entry) → going entries ≤ length entries
+going-few entries = length-passing (λ (entry : Entry). goes_on entry.msg) entries
+
+pub going-commands : (commands : List Draw) → going (map command_entry commands) ≤ length commands
+going-commands commands =
+    omega (arith, going-few (map command_entry commands), length-map commands command_entry)
+
+going-dropped : (n : ℕ) (entries : List Entry) → going (drop n entries) ≤ going entries
+going-dropped zero entries = omega arith
+going-dropped (suc n) [] = omega arith
+going-dropped (suc n) (e ∷ es) =
+    let rest = filter (λ entry. goes_on entry.msg) es in
+    cond_both (goes_on e.msg) (e ∷ rest) rest (λ (xs : List Entry). going (drop n es) ≤ length xs)
+    (λ yes. omega (arith, going-dropped n es)) (λ no. going-dropped n es)
+
+-- a reset keeps at most the entries that go on
+pub kept-few : (stream : Option Stream) (history : List Entry)
+    → length (kept_by stream history) ≤ going history
+kept-few None history = omega arith
+kept-few (Some stream) history = from stream.place
+  where
+    from : (place : Option ℕ) → length (kept_from place history) ≤ going history
+    from None = omega arith
+    from (Some place) = going-dropped place history
+
+-- what a reset keeps goes on
+pub kept-go : (stream : Option Stream) (history : List Entry) → GoOn (kept_by stream history)
+kept-go None history = tt
+kept-go (Some stream) history = kept-goes stream.place history
+
+going-unmarked : (m : Msg) → goes_on m ≡ true → marked m ≡ None
+going-unmarked (msg.Meta (meta.ResetMark epoch carried)) goes = cc
+going-unmarked m goes = refl
+
+-- no mark is among entries that go on
+pub go-unmarked : (entries : List Entry) → GoOn entries → HasNoMark entries
+go-unmarked [] go = tt
+go-unmarked (e ∷ es) go = (going-unmarked e.msg go.0, go-unmarked es go.1)
+
+-- the entry is no mark, and doesn't go on
+abbrev IsBare : Entry → Type 0
+IsBare entry = (marked entry.msg ≡ None) × (goes_on entry.msg ≡ false)
+
+abbrev AreBare : List Entry → Type 0
+AreBare entries = AllByRecursion IsBare entries
+
+bare-append : (xs ys : List Entry) → AreBare xs → AreBare ys → AreBare (xs ++ ys)
+bare-append [] ys hx hy = hy
+bare-append (x ∷ xs) ys hx hy = (hx.0, bare-append xs ys hx.1 hy)
+
+bare-unmarked : (entries : List Entry) → AreBare entries → HasNoMark entries
+bare-unmarked [] bare = tt
+bare-unmarked (e ∷ es) bare = (bare.0.0, bare-unmarked es bare.1)
+
+bare-going : (entries : List Entry) → AreBare entries → going entries ≡ 0
+bare-going [] bare = refl
+bare-going (e ∷ es) bare =
+    let rest = filter (λ entry. goes_on entry.msg) es in
+    ap length (cond-false (goes_on e.msg) (e ∷ rest) rest bare.0.1) ∙ bare-going es bare.1
 
 pub unmarked-append : (xs ys : List Entry) → HasNoMark xs → HasNoMark ys → HasNoMark (xs ++ ys)
 unmarked-append [] ys hx hy = hy
@@ -151,74 +223,99 @@ pub last-joined : (history : List Entry) (user : ℕ) (e : Entry) → last_join 
 last-joined history user e is =
     found-passes (is_join_of user) history e (length (filter (is_join_of user) history) - 1) is
 
-joined-unmarked : (m : Msg) → is_some (joined m) ≡ true → marked m ≡ None
-joined-unmarked (msg.Meta (meta.ResetMark epoch carried)) some = cc
-joined-unmarked m some = refl
+joined-bare : (m : Msg) → is_some (joined m) ≡ true → (marked m ≡ None) × (goes_on m ≡ false)
+joined-bare (msg.Meta (meta.Join registered name)) some = (refl, refl)
+joined-bare m some = absurd (false≢true some)
 
-join-unmarked : (history : List Entry) (user : ℕ) (o : Option Entry) (rest : List Entry)
-    → last_join history user ≡ o → HasNoMark rest → HasNoMark (cons_option o rest)
-join-unmarked history user None rest is clean = clean
-join-unmarked history user (Some e) rest is clean = (
-  joined-unmarked e.msg
+join-bare : (history : List Entry) (user : ℕ) (o : Option Entry) (rest : List Entry)
+    → last_join history user ≡ o → AreBare rest → AreBare (cons_option o rest)
+join-bare history user None rest is clean = clean
+join-bare history user (Some e) rest is clean = (
+  joined-bare e.msg
       (and_parts (is_some (joined e.msg)) (e.user == user) (last-joined history user e is)).0,
   clean,
 )
 
-joins-unmarked : (history : List Entry) (users : List ℕ)
-    → HasNoMark (filter_map (last_join history) users)
-joins-unmarked history [] = tt
-joins-unmarked history (user ∷ users) =
-    join-unmarked history user (last_join history user) (filter_map (last_join history) users) refl
-    (joins-unmarked history users)
+joins-bare : (history : List Entry) (users : List ℕ)
+    → AreBare (filter_map (last_join history) users)
+joins-bare history [] = tt
+joins-bare history (user ∷ users) =
+    join-bare history user (last_join history user) (filter_map (last_join history) users) refl
+    (joins-bare history users)
 
-rule-unmarked : (layer : ℕ) (o : Option LayerRule) (rest : List Meta)
-    → HasNoMark (map server_entry rest)
-    → HasNoMark (map server_entry (cons_option (option_map (acl_with layer) o) rest))
-rule-unmarked layer None rest clean = clean
-rule-unmarked layer (Some rule) rest clean = (refl, clean)
+rule-bare : (layer : ℕ) (o : Option LayerRule) (rest : List Meta)
+    → AreBare (map server_entry rest)
+    → AreBare (map server_entry (cons_option (option_map (acl_with layer) o) rest))
+rule-bare layer None rest clean = clean
+rule-bare layer (Some rule) rest clean = ((refl, refl), clean)
 
-rules-unmarked : (history : List Entry) (layers : List ℕ)
-    → HasNoMark (map server_entry (filter_map (carried_rule history) layers))
-rules-unmarked history [] = tt
-rules-unmarked history (layer ∷ layers) =
-    rule-unmarked layer (rule_of history layer) (filter_map (carried_rule history) layers)
-    (rules-unmarked history layers)
+rules-bare : (history : List Entry) (layers : List ℕ)
+    → AreBare (map server_entry (filter_map (carried_rule history) layers))
+rules-bare history [] = tt
+rules-bare history (layer ∷ layers) =
+    rule-bare layer (rule_of history layer) (filter_map (carried_rule history) layers)
+    (rules-bare history layers)
 
 commands-unmarked : (commands : List Draw) → HasNoMark (map command_entry commands)
 commands-unmarked [] = tt
 commands-unmarked (command ∷ commands) = (refl, commands-unmarked commands)
 
-depth-unmarked : (o : Option ℕ) (rest : List Meta) → HasNoMark (map server_entry rest)
-    → HasNoMark (map server_entry (option_to_list (option_map meta.UndoDepth o) ++ rest))
-depth-unmarked None rest clean = clean
-depth-unmarked (Some depth) rest clean = (refl, clean)
+depth-bare : (o : Option ℕ) (rest : List Meta) → AreBare (map server_entry rest)
+    → AreBare (map server_entry (option_to_list (option_map meta.UndoDepth o) ++ rest))
+depth-bare None rest clean = clean
+depth-bare (Some depth) rest clean = ((refl, refl), clean)
+
+-- the Joins and the rights with which an epoch opens
+carried-bare : (history : List Entry) (present : List ℕ)
+    → AreBare (filter_map (last_join history) present
+    ++ map server_entry (carried history present))
+carried-bare history present =
+    bare-append (filter_map (last_join history) present)
+    (map server_entry (carried history present)) (joins-bare history present) (
+      (refl, refl),
+      (
+        (refl, refl),
+        (
+          (refl, refl),
+          (
+            (refl, refl),
+            depth-bare (depth_of history) (carried_rules history)
+                (rules-bare history (numbers_below 65536)),
+          ),
+        ),
+      ),
+    )
 
 pub opening-marked : (epoch : ℕ) (history : List Entry) (present : List ℕ) (commands : List Draw)
     (kept : List Entry) → HasNoMark kept
     → IsHistory epoch (opening epoch history present commands kept)
 opening-marked epoch history present commands kept clean =
-    let joins = filter_map (last_join history) present in
-    let metas = map server_entry (carried history present) in
-    let rights : HasNoMark metas = (
+    let rights = filter_map (last_join history) present
+    ++ map server_entry (carried history present) in (
       refl,
-      (
-        refl,
-        (
-          refl,
-          (
-            refl,
-            depth-unmarked (depth_of history) (carried_rules history)
-                (rules-unmarked history (numbers_below 65536)),
-          ),
-        ),
-      ),
-    ) in (
-      refl,
-      unmarked-append (joins ++ metas ++ map command_entry commands) kept
-          (unmarked-append (joins ++ metas) (map command_entry commands)
-          (unmarked-append joins metas (joins-unmarked history present) rights)
-          (commands-unmarked commands))
+      unmarked-append (rights ++ map command_entry commands) kept
+          (unmarked-append rights (map command_entry commands)
+          (bare-unmarked rights (carried-bare history present)) (commands-unmarked commands))
           clean,
+    )
+
+-- few entries of an opening go on: its commands, and of those that it keeps
+pub opening-going : (epoch : ℕ) (history : List Entry) (present : List ℕ) (commands : List Draw)
+    (kept : List Entry)
+    → going (opening epoch history present commands kept) ≤ length commands + length kept
+opening-going epoch history present commands kept =
+    let rights = filter_map (last_join history) present
+    ++ map server_entry (carried history present) in
+    let rest : going (opening epoch history present commands kept)
+    ≡ going (rights ++ map command_entry commands ++ kept) = refl in
+    omega (
+      arith,
+      rest,
+      going-append (rights ++ map command_entry commands) kept,
+      going-append rights (map command_entry commands),
+      bare-going rights (carried-bare history present),
+      going-commands commands,
+      going-few kept,
     )
 
 -- ---- Joins

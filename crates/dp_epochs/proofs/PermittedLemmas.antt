@@ -19,7 +19,7 @@ use Rattle.dp_epochs.specs.declared.event.Event.{Event}
 use Rattle.dp_acl.specs.Opening.{opening}
 use Rattle.dp_epochs.specs.State.{State, first_state, noted, after_event, after_shut, epoch_of}
 use Rattle.dp_epochs.specs.State.{history_of, open_connection, with_connection, next_owner}
-use Rattle.dp_epochs.specs.State.{present_users, sent_commands}
+use Rattle.dp_epochs.specs.State.{present_users, sent_commands, kept_by}
 use Rattle.dp_epochs.specs.Effects.{own_message, entries_of, ended_after, live_after, IsEffect}
 use Rattle.dp_epochs.specs.Past.{Past, state_of}
 use Rattle.dp_epochs.specs.Laws.{is_servers, IsAllowed, ArePermitted}
@@ -124,7 +124,8 @@ permitted-effect : (s : State) (e : Event) (effect : Effect) → IsEffect s e ef
     → All ArePermitted (ended_after s effect) × ArePermitted (live_after s e effect)
 permitted-effect s e (Reopened conn c) cause h = (
   All-push ArePermitted s.ended s.live h.0 h.1,
-  opening-permitted (epoch_of s + 1) s.live (present_users s) (sent_commands s.stream) [],
+  opening-permitted (epoch_of s + 1) s.live (present_users s) (sent_commands s.stream)
+      (kept_by s.stream s.live),
 )
 permitted-effect s e effect cause h =
     (h.0, permitted-more s.live (entries_of e effect) h.1 (entries-next s e effect cause))

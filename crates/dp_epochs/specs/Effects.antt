@@ -1,9 +1,9 @@
 -- What an event does to a session, by the kinds of outcome.
-use Rattle.std.specs.Prelude.{◌≡◌, ℕ, ◌+◌, ◌-◌, Bool, true, false, Option, None, Some}
+use Rattle.std.specs.Prelude.{◌≡◌, ℕ, ◌+◌, ◌-◌, ◌≤◌, Bool, true, false, Option, None, Some}
 use Rattle.std.specs.Prelude.{IfSome, List, [], ◌∷◌, ◌++◌, length, slice_set}
 use Rattle.std.specs.Option.{option_map}
 use Rattle.dp_msg_draw.specs.declared.draw.Draw.{Draw}
-use Rattle.dp_msg_meta.specs.declared.message.Control.TheVariants.{ResetBegin, ResetEnd}
+use Rattle.dp_msg_meta.specs.declared.message.Control.TheVariants.{ResetBegin, ResetEnd, ResetFrom}
 use Rattle.dp_msg_meta.specs.declared.message.Meta.TheVariants.{Join, Leave}
 use Rattle.dp_messages.specs.declared.message.Msg.{Msg}
 use Rattle.dp_messages.specs.declared.message.Msg.TheVariants as msg
@@ -28,8 +28,8 @@ use Rattle.dp_epochs.specs.Connections.{is_open}
 use Rattle.dp_epochs.specs.State.{connection_of, open_connection, has_acknowledged}
 use Rattle.dp_epochs.specs.State.{is_name, free_id, next_owner, owner_on_join}
 use Rattle.dp_epochs.specs.State.{left, owner_on_leave, stream_without, decided, acted}
-use Rattle.dp_epochs.specs.State.{first_stream, with_part, fits_reset, reset_of, present_users}
-use Rattle.dp_epochs.specs.State.{after_event, sent_commands}
+use Rattle.dp_epochs.specs.State.{place_in, first_stream, with_part, fits_reset, reset_of}
+use Rattle.dp_epochs.specs.State.{present_users, after_event, sent_commands, kept_by}
 use Rattle.dp_acl.specs.Opening.{opening}
 
 -- the message of the event's own entry: a user's Join, what is said, or the Leave
@@ -58,7 +58,8 @@ ended_after s other = s.ended
 -- the live history after it
 abbrev pub live_after : State → Event → Effect → List Entry
 live_after s e (Reopened conn connection) =
-    opening (epoch_of s + 1) s.live (present_users s) (sent_commands s.stream) []
+    opening (epoch_of s + 1) s.live (present_users s) (sent_commands s.stream)
+    (kept_by s.stream s.live)
 live_after s e other = s.live ++ entries_of e other
 
 -- the connections after it, where the next entry would stand at this place: at most one is added,
@@ -83,7 +84,7 @@ connections_after s effect = connections_at (here s) s.connections effect
 -- the stream after it
 abbrev pub stream_after : Event → Option Stream → Effect → Option Stream
 stream_after e stream (Left conn connection next) = stream_without conn stream
-stream_after e stream (Began conn connection) = Some (first_stream conn)
+stream_after e stream (Began conn connection) = Some (first_stream conn (place_in (own_message e)))
 stream_after e stream (Added conn connection) = option_map (with_part (own_message e)) stream
 stream_after e stream (Dropped conn connection) = None
 stream_after e stream (Reopened conn connection) = None
@@ -166,6 +167,15 @@ pub record IsReset (s : State) (e : Event) (conn : ℕ) (connection : Connection
   pub acknowledged : has_acknowledged s connection ≡ true
   pub operator : is_operator s.live connection.user ≡ true
 
+-- the message that begins a reset: one that keeps entries from this place on, if there is one
+abbrev pub begin_message : Option ℕ → Msg
+begin_message None = msg.Control ResetBegin
+begin_message (Some at) = msg.Control (ResetFrom at)
+
+-- the place, if there is one, is not past the live history
+abbrev pub IsWithinLive : State → Option ℕ → Type 0
+IsWithinLive s place = IfSome place (λ at. at ≤ length s.live)
+
 -- the command is a part that fits the reset that the connection sends
 pub record FitsReset (s : State) (conn : ℕ) (command : Draw) : Type 0 where
   pub stream : Stream
@@ -206,7 +216,9 @@ IsEffect s e (Filtered conn connection) =
 IsEffect s e (Joined user next) = IsJoin s e user next
 IsEffect s e (Left conn connection next) = IsLeave s e conn connection next
 IsEffect s e (Began conn connection) =
-    IsReset s e conn connection (msg.Control ResetBegin) decision.BeginReset
+    (place : Option ℕ)
+    × IsReset s e conn connection (begin_message place) decision.BeginReset
+    × IsWithinLive s place
 IsEffect s e (Added conn connection) =
     (command : Draw)
     × IsReset s e conn connection (msg.Part command) decision.AddPart

@@ -27,10 +27,10 @@ use Rattle.dp_epochs.specs.declared.connection.Connection.{Connection}
 use Rattle.dp_epochs.specs.Connections.{is_open}
 use Rattle.dp_epochs.specs.declared.decision.Decision.{Decision}
 use Rattle.dp_epochs.specs.declared.decision.Decision.TheVariants as decision
-use Rattle.dp_acl.specs.Opening.{server_entry, part_limit, opening}
+use Rattle.dp_acl.specs.Opening.{server_entry, kept_from, part_limit, opening}
 
 -- A reset that is being sent: the connection that sends it, the commands so far, and the place of
--- the live history after which entries are to be kept, if it names one. None does so far.
+-- the live history from which on entries are kept, if it names one.
 pub record Stream : Type 0 where
   pub owner : ℕ
   pub commands : List Draw
@@ -242,9 +242,14 @@ fits_reset commands command =
     nat_lt (length commands) part_limit
     && nat_le (sum_by part_bytes commands + part_bytes command) reset_byte_limit
 
--- a reset that has just begun
-abbrev pub first_stream : ℕ → Stream
-first_stream conn = record { owner = conn; commands = []; place = None }
+-- the place that a message names which begins a reset
+abbrev pub place_in : Msg → Option ℕ
+place_in (msg.Control (ResetFrom at)) = Some at
+place_in m = None
+
+-- a reset of the connection that has just begun, with the place that it names
+abbrev pub first_stream : ℕ → Option ℕ → Stream
+first_stream conn place = record { owner = conn; commands = []; place = place }
 
 -- the reset with the command of a part
 abbrev pub with_command : Draw → Stream → Stream
@@ -255,17 +260,23 @@ abbrev pub sent_commands : Option Stream → List Draw
 sent_commands None = []
 sent_commands (Some stream) = stream.commands
 
+-- what the reset that is being sent, if there is one, keeps of a history
+abbrev pub kept_by : Option Stream → List Entry → List Entry
+kept_by None history = []
+kept_by (Some stream) history = kept_from stream.place history
+
 -- the reset with the command of a message that is a part
 abbrev pub with_part : Msg → Stream → Stream
 with_part (msg.Part command) stream = with_command command stream
 with_part m stream = stream
 
--- The next epoch opens with these commands. No connection has taken it up, and no reset is being
--- sent.
-abbrev pub epoch_opened : State → List Draw → State
-epoch_opened s commands = record s {
+-- The next epoch opens, with the commands of the reset and what it keeps of the live history. No
+-- connection has taken it up, and no reset is being sent.
+abbrev pub epoch_opened : State → Option Stream → State
+epoch_opened s stream = record s {
   ended = s.ended ++ s.live ∷ [];
-  live = opening (epoch_of s + 1) s.live (present_users s) commands [];
+  live = opening (epoch_of s + 1) s.live (present_users s) (sent_commands stream)
+      (kept_by stream s.live);
   stream = None;
 }
 
@@ -304,14 +315,16 @@ part_decided command None = decision.Filter
 part_decided command (Some commands) =
     if fits_reset commands command then decision.AddPart else decision.DropReset
 
--- What becomes of a message of a connection that has taken up the live epoch. No reset keeps
--- entries so far, so a ResetFrom isn't permitted.
+-- What becomes of a message of a connection that has taken up the live epoch. A reset may keep
+-- entries from any place of the live history, its end included.
 abbrev pub heard : State → ℕ → Connection → Msg → Decision
 heard s conn connection (msg.Control ResetBegin) =
     if may_begin s conn connection then decision.BeginReset else decision.Filter
 heard s conn connection (msg.Control ResetEnd) =
     if is_some (reset_of s conn connection) then decision.OpenEpoch else decision.Filter
-heard s conn connection (msg.Control (ResetFrom at)) = decision.Filter
+heard s conn connection (msg.Control (ResetFrom at)) =
+    if may_begin s conn connection && nat_le at (length s.live)
+    then decision.BeginReset else decision.Filter
 heard s conn connection (msg.Part command) = part_decided command (reset_of s conn connection)
 heard s conn connection m = judged s connection m
 
@@ -354,7 +367,7 @@ acted_by s conn connection m decision.Acknowledge = record {
 acted_by s conn connection m decision.Place = said s connection.user m
 acted_by s conn connection m decision.Filter = filtered s connection.user m
 acted_by s conn connection m decision.BeginReset = record {
-  state = record s { stream = Some (first_stream conn) };
+  state = record s { stream = Some (first_stream conn (place_in m)) };
   reply = reply.Noted;
 }
 acted_by s conn connection m decision.AddPart = record {
@@ -364,7 +377,7 @@ acted_by s conn connection m decision.AddPart = record {
 acted_by s conn connection m decision.DropReset =
     filtered (record s { stream = None }) connection.user m
 acted_by s conn connection m decision.OpenEpoch = record {
-  state = epoch_opened s (sent_commands s.stream);
+  state = epoch_opened s s.stream;
   reply = reply.Placed (epoch_of s + 1) 0;
 }
 

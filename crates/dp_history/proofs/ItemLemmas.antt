@@ -2,7 +2,8 @@
 use Rattle.std.proofs.Common.{◌≡◌, ℕ, ◌+◌, ◌-◌, ◌<◌, ◌≤◌, Bool, true, false, ◌&&◌, nat_le, IsSome}
 use Rattle.std.proofs.Common.{List, ◌∷◌, ◌++◌, length, Option, None, Some, is_some, refl, sym, ap}
 use Rattle.std.proofs.Common.{subst, ◌∙◌, ⊎_elim, arith, append-nil, append_assoc, zero, suc, cond}
-use Rattle.std.proofs.Common.{unwrap_or, map, All, take, get_or, drop, []}
+use Rattle.std.proofs.Common.{unwrap_or, map, All, take, get_or, drop, [], if◌then◌else◌}
+use Rattle.std.proofs.Common.{length-append}
 use Rattle.std.specs.List.{find, slice_get, filter, filter_map, cons_option, range_with_len}
 use Rattle.std.specs.Option.{option_map, option_map_or}
 use Rattle.std.proofs.lemmas.Bool.{cases_Bool, le-leb, cond-true, cond-false}
@@ -10,11 +11,13 @@ use Rattle.std.proofs.lemmas.Str.{IsUtf8-from_is_utf8, is_utf8-from_IsUtf8}
 use Rattle.std.specs.Str.{IsUtf8, is_utf8}
 use Rattle.dp_msg_draw.specs.declared.draw.Draw.{Draw}
 use Rattle.dp_msg_meta.specs.Fields.{IsText}
+use Rattle.dp_msg_meta.specs.declared.message.Meta.TheVariants.{Join}
 use Rattle.dp_messages.specs.declared.message.Entry.{Entry}
-use Rattle.dp_acl.specs.Laws.{CommandsChangeNoRight}
-use Rattle.dp_acl.specs.Opening.{opening, command_entry, last_join, server_entry}
+use Rattle.dp_acl.specs.Laws.{CommandsChangeNoRight, KeptChangeNoRight}
+use Rattle.dp_acl.specs.Opening.{opening, command_entry, last_join, server_entry, goes_on}
 use Rattle.dp_acl.specs.Table.{StandsFor}
 use Rattle.dp_epochs.specs.declared.event.Event.{Event}
+use Rattle.dp_epochs.specs.declared.event.Event.TheVariants as event
 use Rattle.dp_history.specs.declared.opening.Opening.{Opening}
 use Rattle.dp_epochs.specs.State.{stays, here, entry_of, is_name, user_ids}
 use Rattle.dp_history.specs.Users.{mark}
@@ -140,6 +143,118 @@ holds-command law journal old new history parts i within said rights items h =
     (holds-one journal old new H (item.Command part) (command_entry found.0) h items entry some
     (subst (λ r. StandsFor r.value (H ++ command_entry found.0 ∷ [])) (sym rights)
     (law old.rights.value H (found.0 ∷ []) h.stands)))
+
+-- the entry of a part goes on
+command-goes : (o : Option Draw)
+    → true ≡ goes_on (option_map_or command_entry o (entry_of 0 msg.Point)).msg
+command-goes None = refl
+command-goes (Some command) = refl
+
+pub part-goes : (journal : List Event) (i : HistoryItem) (k : ℕ) → i ≡ item.Command k
+    → true ≡ goes_on (entry_in journal i).msg
+part-goes journal i k is =
+    subst (λ x. true ≡ goes_on (entry_in journal x).msg) (sym is)
+    (command-goes (part_of (slice_get journal k)))
+
+-- and a Join doesn't
+named-stays : (e d : Entry) → goes_on e.msg ≡ false → (b : Bool)
+    → is_some (if b then Some e else None) ≡ true
+    → false ≡ goes_on (unwrap_or (if b then Some e else None) d).msg
+named-stays e d stays true some = sym stays
+named-stays e d stays false some = cc
+
+join-stays : (user : ℕ) (o : Option Event) → is_some (join_of user o) ≡ true
+    → false ≡ goes_on (unwrap_or (join_of user o) (entry_of user msg.Point)).msg
+join-stays user (Some (event.Open name registered)) some =
+    named-stays (entry_of user (msg.Meta (Join registered name))) (entry_of user msg.Point) refl
+    (is_name name) some
+join-stays user o some = cc
+
+pub joined-stays : (journal : List Event) (i : HistoryItem) (k user : ℕ) → i ≡ item.Joined k user
+    → IsIn journal i → false ≡ goes_on (entry_in journal i).msg
+joined-stays journal i k user is said =
+    subst (λ x. false ≡ goes_on (entry_in journal x).msg) (sym is)
+    (join-stays user (slice_get journal k) (subst (IsIn journal) is said))
+
+-- with more memory an opening holds the same
+pub holds-same : (journal : List Event) (old new : Opening) (history : List Entry)
+    → new.live.items ≡ old.live.items → Holds journal old history → new.rights ≡ old.rights
+    → Holds journal new (history ++ [])
+holds-same journal old new history items h rights =
+    subst (Holds journal new) (sym (append-nil history)) (record {
+      entries = ap (map (entry_in journal)) items ∙ h.entries;
+      said = subst (All (IsIn journal)) (sym items) h.said;
+      stands = subst (λ r. StandsFor r.value history) (sym rights) h.stands;
+    })
+
+-- entries that go on, among one item more
+module _ (journal : List Event) where
+  abbrev passing : List Entry → List Entry
+  passing = filter (λ e. goes_on e.msg)
+
+  next-passing : (items : List HistoryItem) (i : ℕ) (d : HistoryItem) → i < length items
+      → passing (map (entry_in journal) (take (i + 1) items))
+      ≡ passing (map (entry_in journal) (take i items))
+      ++ passing (entry_in journal (get_or items i d) ∷ [])
+  next-passing items i d within =
+      let before = map (entry_in journal) (take i items) in
+      let one = entry_in journal (get_or items i d) ∷ [] in
+      ap passing (ap (map (entry_in journal)) (take-next items i d within)
+      ∙ map-append (entry_in journal) (take i items) (get_or items i d ∷ []))
+      ∙ filter-append (λ (e : Entry). goes_on e.msg) before one
+
+  pub kept-more : (items : List HistoryItem) (i : ℕ) (d : HistoryItem) (history : List Entry)
+      → i < length items
+      → (history ++ passing (map (entry_in journal) (take i items)))
+      ++ passing (entry_in journal (get_or items i d) ∷ [])
+      ≡ history ++ passing (map (entry_in journal) (take (i + 1) items))
+  kept-more items i d history within =
+      append_assoc history (passing (map (entry_in journal) (take i items)))
+      (passing (entry_in journal (get_or items i d) ∷ []))
+      ∙ ap (λ xs. history ++ xs) (sym (next-passing items i d within))
+
+  -- how many go on
+  pub count-more : (items : List HistoryItem) (i : ℕ) (d : HistoryItem) (goes : Bool)
+      → i < length items → goes_on (entry_in journal (get_or items i d)).msg ≡ goes
+      → length (passing (map (entry_in journal) (take (i + 1) items)))
+      ≡ length (passing (map (entry_in journal) (take i items))) + (if goes then 1 else 0)
+  count-more items i d goes within is =
+      let x = entry_in journal (get_or items i d) in
+      ap length (next-passing items i d within)
+      ∙ length-append (passing (map (entry_in journal) (take i items))) (passing (x ∷ []))
+      ∙ ap (λ b. length (passing (map (entry_in journal) (take i items)))
+      + length (cond b (x ∷ []) [])) is
+      ∙ by_case goes
+    where
+      by_case : (b : Bool) → length (passing (map (entry_in journal) (take i items)))
+          + length (cond b (entry_in journal (get_or items i d) ∷ []) [])
+          ≡ length (passing (map (entry_in journal) (take i items))) + (if b then 1 else 0)
+      by_case true = refl
+      by_case false = refl
+
+  -- an opening holds a copy of an entry that goes on
+  pub holds-kept : KeptChangeNoRight → (old new : Opening) (history : List Entry)
+      (item copy : HistoryItem) → goes_on (entry_in journal item).msg ≡ true
+      → entry_in journal copy ≡ entry_in journal item → IsIn journal copy
+      → new.rights ≡ old.rights → new.live.items ≡ old.live.items ++ copy ∷ []
+      → Holds journal old history
+      → Holds journal new (history ++ passing (entry_in journal item ∷ []))
+  holds-kept law old new history item copy goes same said rights items h =
+      let e = entry_in journal item in
+      subst (λ es. Holds journal new (history ++ es))
+      (sym (cond-true (goes_on e.msg) (e ∷ []) [] goes))
+      (holds-one journal old new history copy e h items same said
+      (subst (λ r. StandsFor r.value (history ++ e ∷ [])) (sym rights)
+      (law old.rights.value history (e ∷ []) (goes, tt) h.stands)))
+
+  pub holds-still : (opening : Opening) (history : List Entry) (item : HistoryItem)
+      → goes_on (entry_in journal item).msg ≡ false → Holds journal opening history
+      → Holds journal opening (history ++ passing (entry_in journal item ∷ []))
+  holds-still opening history item stays h =
+      let e = entry_in journal item in
+      subst (λ es. Holds journal opening (history ++ es))
+      (sym (cond-false (goes_on e.msg) (e ∷ []) [] stays))
+      (subst (Holds journal opening) (sym (append-nil history)) h)
 
 pub some-unwrap : {X : Type 0} (o : Option X) (d : X) → is_some o ≡ true → o ≡ Some (unwrap_or o d)
 some-unwrap None d some = cc

@@ -1,9 +1,11 @@
 //! Entries of the history as they are kept.
 
 ghost use Rattle.std.specs.Prelude.{◌≡◌, ◌++◌, ◌∷◌, List, [], true, is_some, map, slice_get};
-ghost use Rattle.std.specs.Prelude.{All, IfOk, IfSome, OnOk, OnErr, Some};
+ghost use Rattle.std.specs.Prelude.{All, IfOk, IfSome, OnOk, OnErr, Some, length};
+ghost use Rattle.std.specs.List.{filter};
 ghost use Rattle.std.specs.Option.{option_map};
-ghost use Rattle.dp_acl.specs.Opening.{command_entry};
+ghost use Rattle.dp_acl.specs.Opening.{command_entry, goes_on};
+ghost use Rattle.dp_epochs.specs.declared.event.Event.{Event as Kept};
 ghost use Rattle.dp_epochs.specs.State.{entry_of, is_name};
 ghost use Rattle.dp_messages.specs.declared.message.Entry.{Entry as Piece};
 ghost use Rattle.dp_messages.specs.Messages.{entry_bytes};
@@ -106,6 +108,87 @@ fn join(alloc: Global, journal: &[Event], event: u32, user: u8) -> Result<Entry,
         },
         None => unreachable!(),
     }
+}
+
+/// Whether an entry of this message goes on into the next epoch where a reset keeps it.
+fn does_go_on(msg: &Msg) -> bool
+    ensures { result ≡ goes_on msg.now }
+{
+    match msg {
+        Msg::Draw(_) => true,
+        Msg::Point => true,
+        Msg::Undo { .. } => true,
+        Msg::Opaque { .. } => true,
+        Msg::Meta(Meta::Chat { .. }) => true,
+        _ => false,
+    }
+}
+
+/// Whether what the event says goes on.
+fn says_kept(journal: &[Event], event: u32) -> bool
+    requires { IsSay (slice_get journal.now event) }
+    ensures { result ≡ goes_on (message_of (slice_get journal.now event)) }
+{
+    match journal.get(event as usize) {
+        Some(Event::Say { msg, .. }) => does_go_on(msg),
+        _ => unreachable!(),
+    }
+}
+
+/// Whether the entry goes on into the next epoch where a reset keeps it.
+pub(crate) fn is_kept(journal: &[Event], item: &HistoryItem) -> bool
+    requires { IsIn journal.now item.now }
+    ensures { result ≡ goes_on (entry_in journal.now item.now).msg }
+{
+    match item {
+        HistoryItem::Said { event, .. } => says_kept(journal, *event),
+        HistoryItem::Joined { .. } => false,
+        HistoryItem::Command { .. } => true,
+        HistoryItem::Server(entry) => does_go_on(&entry.msg),
+    }
+}
+
+/// How many of the entries go on into the next epoch where a reset keeps them.
+pub fn count_kept(journal: &[Event], items: &[HistoryItem]) -> usize
+    requires { All (IsIn journal.now) items.now }
+    ensures { result
+        ≡ length (filter (λ e. goes_on e.msg) (map (entry_in journal.now) items.now)) }
+{
+    let mut count = 0;
+    for item in items {
+        if is_kept(journal, item) {
+            count += 1;
+        }
+    }
+    count
+}
+
+/// A copy of the entry, in a box.
+fn boxed_copy(alloc: Global, entry: &Entry) -> Result<Box<Entry>, AllocError>
+    ensures { IfOk result (λ copy. copy.value ≡ entry.now) }
+{
+    Box::new(alloc, entry.copy()?)
+}
+
+/// The item once more. A message is copied only where it is the server's own.
+pub(crate) fn copy_of(alloc: Global, item: &HistoryItem) -> Result<HistoryItem, AllocError>
+    ensures same { IfOk result (λ copy. (journal : List Kept)
+        → entry_in journal copy ≡ entry_in journal item.now) }
+    ensures said { IfOk result (λ copy. (journal : List Kept) → IsIn journal item.now
+        → IsIn journal copy) }
+{
+    Ok(match item {
+        HistoryItem::Said { event, user } => HistoryItem::Said {
+            event: *event,
+            user: *user,
+        },
+        HistoryItem::Joined { event, user } => HistoryItem::Joined {
+            event: *event,
+            user: *user,
+        },
+        HistoryItem::Command { event } => HistoryItem::Command { event: *event },
+        HistoryItem::Server(entry) => HistoryItem::Server(boxed_copy(alloc, entry)?),
+    })
 }
 
 /// A copy of an entry that is kept beside the journal.

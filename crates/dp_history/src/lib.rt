@@ -7,7 +7,9 @@ mod log;
 mod opening;
 mod presence;
 
-pub use item::{HistoryItem, copies, entry, join_entry, name_text, put_item, write_all};
+pub use item::{
+    HistoryItem, copies, count_kept, entry, join_entry, name_text, put_item, write_all,
+};
 pub use log::FrameLog;
 pub use opening::Opening;
 pub use presence::{first_operator, free_id, next_operator, present_ids};

@@ -6,14 +6,14 @@ ghost use Rattle.std.specs.Prelude.{IfOk, OnOk, slice_get, slice_index_or};
 ghost use Rattle.std.specs.List.{filter, filter_map};
 ghost use Rattle.dp_messages.specs.declared.message.Entry.{Entry as Piece};
 ghost use Rattle.dp_epochs.specs.declared.event.Event.{Event as Kept};
-ghost use Rattle.dp_acl.specs.Opening.{server_entry, command_entry, last_join};
+ghost use Rattle.dp_acl.specs.Opening.{server_entry, command_entry, last_join, goes_on};
 ghost use Rattle.dp_epochs.specs.State.{user_ids};
 ghost use Rattle.dp_history.specs.Users.{mark, AreJoined};
-ghost use Rattle.dp_history.specs.Items.{join_of, IsPart, commands_in};
+ghost use Rattle.dp_history.specs.Items.{join_of, IsIn, IsPart, commands_in, entry_in};
 ghost use Rattle.dp_history.specs.Openings.{Holds};
 
-use crate::item::{HistoryItem, entry};
-use dp_acl::{Rights, commands_change_no_right};
+use crate::item::{HistoryItem, copy_of, entry, is_kept};
+use dp_acl::{Rights, commands_change_no_right, kept_change_no_right};
 use dp_epochs::Event;
 use dp_messages::{Entry, Msg};
 use dp_msg_meta::Meta;
@@ -112,6 +112,42 @@ impl Opening {
         commands_change_no_right();
         for part in parts {
             self.live.push(HistoryItem::Command { event: *part })?;
+        }
+        Ok(())
+    }
+
+    /// Adds the entry, which is kept beside the journal, if it goes on. The rights stay.
+    fn add_one_kept(&mut self, journal: &[Event], item: &HistoryItem) -> Result<(), AllocError>
+        requires { IsIn journal.now item.now }
+        ensures { OnOk result ((history : List Piece) → Holds journal.now self.old history
+            → Holds journal.now self.new
+            (history ++ filter (λ e. goes_on e.msg) (entry_in journal.now item.now ∷ []))) }
+    {
+        kept_change_no_right();
+        if !is_kept(journal, item) {
+            return Ok(());
+        }
+        let copy = copy_of(*self.live.allocator(), item)?;
+        self.live.push(copy)?;
+        Ok(())
+    }
+
+    /// Adds those of the entries, which are kept beside the journal, that go on: so many, for which
+    /// memory is taken at once. The rights stay.
+    pub fn add_kept(
+        &mut self,
+        journal: &[Event],
+        items: &[HistoryItem],
+        count: usize,
+    ) -> Result<(), AllocError>
+        requires { All (IsIn journal.now) items.now }
+        ensures { OnOk result ((history : List Piece) → Holds journal.now self.old history
+            → Holds journal.now self.new
+            (history ++ filter (λ e. goes_on e.msg) (map (entry_in journal.now) items.now))) }
+    {
+        self.live.reserve(count)?;
+        for item in items {
+            self.add_one_kept(journal, item)?;
         }
         Ok(())
     }

@@ -18,17 +18,17 @@ use Rattle.dp_acl.specs.LookBack.{numbers_below, joined, set_depth, LayerRule}
 use Rattle.dp_acl.specs.Rights.{rule_of, depth_of}
 use Rattle.dp_acl.specs.Carried.{acl_with, carried, carried_owners, carried_trusted}
 use Rattle.dp_acl.specs.Carried.{carried_locks, carried_tiers, carried_rule, carried_rules}
-use Rattle.dp_acl.specs.Opening.{server_entry, command_entry, last_join, opening}
+use Rattle.dp_acl.specs.Opening.{server_entry, command_entry, last_join, goes_on, GoOn, opening}
 use Rattle.dp_epochs.specs.declared.effect.Effect.{Effect}
 use Rattle.dp_epochs.specs.declared.effect.Effect.TheVariants.{Placed, Filtered, Joined, Left}
 use Rattle.dp_epochs.specs.declared.effect.Effect.TheVariants.{Dropped, Reopened}
 use Rattle.dp_epochs.specs.declared.event.Event.{Event}
 use Rattle.dp_epochs.specs.declared.event.Event.TheVariants as event
 use Rattle.dp_epochs.specs.State.{State, after_event, epoch_of, first_state, histories, history_of}
-use Rattle.dp_epochs.specs.State.{next_owner, noted, present_users, sent_commands}
+use Rattle.dp_epochs.specs.State.{next_owner, noted, present_users, sent_commands, kept_by}
 use Rattle.dp_epochs.specs.Effects.{own_message, entries_of, ended_after, live_after}
 use Rattle.dp_epochs.specs.Past.{after_item, interleaved, state_after}
-use Rattle.dp_epochs.proofs.OpeningLemmas.{last-joined}
+use Rattle.dp_epochs.proofs.OpeningLemmas.{last-joined, kept-go}
 use Rattle.dp_epochs.proofs.EffectLemmas.{has-effect}
 use Rattle.dp_recording_laws.specs.FirstProfile.{SpelledFirst}
 use Rattle.dp_lifting_laws.specs.FirstCarried.{first_carried}
@@ -110,17 +110,26 @@ rights-none history present h =
     subst (λ ms. SetsNone (map server_entry ms)) (sym (carried-first history present h))
     (first_rights-none history present)
 
+going-sets-none : (m : Msg) → goes_on m ≡ true → set_depth m ≡ None
+going-sets-none (msg.Meta (meta.UndoDepth depth)) goes = cc
+going-sets-none m goes = refl
+
+kept-none : (kept : List Entry) → GoOn kept → SetsNone kept
+kept-none [] go = tt
+kept-none (e ∷ es) go = (going-sets-none e.msg go.0, kept-none es go.1)
+
 opening-none : (epoch : ℕ) (history : List Entry) (present : List ℕ) (commands : List Draw)
-    → SetsNone history → SetsNone (opening epoch history present commands [])
-opening-none epoch history present commands h =
+    (kept : List Entry) → GoOn kept → SetsNone history
+    → SetsNone (opening epoch history present commands kept)
+opening-none epoch history present commands kept go h =
     let joins = filter_map (last_join history) present in
     let rights = map server_entry (carried history present) in
     let rest = map command_entry commands in (
       refl,
-      none-append (joins ++ rights ++ rest) []
+      none-append (joins ++ rights ++ rest) kept
           (none-append (joins ++ rights) rest
           (none-append joins rights (joins-none history present) (rights-none history present h))
-          (commands-none commands)) tt,
+          (commands-none commands)) (kept-none kept go),
     )
 
 -- ---- an event
@@ -155,7 +164,8 @@ effect-none : (s : State) (e : Event) (effect : Effect) → IsWithout e
     → AreWithout s.ended s.live → AreWithout (ended_after s effect) (live_after s e effect)
 effect-none s e (Reopened conn c) own h = record {
   before = ended-push s.ended s.live h.before h.now;
-  now = opening-none (epoch_of s + 1) s.live (present_users s) (sent_commands s.stream) h.now;
+  now = opening-none (epoch_of s + 1) s.live (present_users s) (sent_commands s.stream)
+      (kept_by s.stream s.live) (kept-go s.stream s.live) h.now;
 }
 effect-none s e effect own h = record {
   before = h.before;

@@ -1,7 +1,7 @@
 -- What lifted events do to a lifted state is what the events do to the state, lifted.
 use Rattle.std.proofs.Common.{◌≡◌, ℕ, ◌+◌, ◌==◌, ◌&&◌, not, Bool, true, false}
 use Rattle.std.proofs.Common.{if◌then◌else◌, List, [], ◌∷◌, ◌++◌, length, map, fold, Option, None}
-use Rattle.std.proofs.Common.{Some, is_some, refl, sym, ap, ap₂, ◌∙◌}
+use Rattle.std.proofs.Common.{Some, is_some, nat_le, refl, sym, ap, ap₂, ◌∙◌}
 use Rattle.std.specs.List.{filter, find, list_any}
 use Rattle.std.specs.Option.{option_map_or}
 use Rattle.std.proofs.lemmas.List.{length-map, map-append}
@@ -28,12 +28,12 @@ use Rattle.dp_epochs.specs.State.{opened_as}
 use Rattle.dp_epochs.specs.State.{left, closed_by, reset_of, commands_by, part_decided, heard}
 use Rattle.dp_epochs.specs.State.{entry_of, filtered_entry, may_begin, judged}
 use Rattle.dp_epochs.specs.State.{decided, acted_by, says_by, first_state, noted}
-use Rattle.dp_epochs.specs.State.{sent_commands}
+use Rattle.dp_epochs.specs.State.{sent_commands, kept_by}
 use Rattle.dp_epochs.specs.Past.{LogItem, Journalled, RefusedClose, shut_at, interleaved}
 use Rattle.dp_epochs.specs.Past.{after_item, state_after}
 use Rattle.dp_lifting_laws.specs.Lifted.{lifted_message, lifted_entry, lifted_event, lifted_state}
 use Rattle.dp_lifting_laws.proofs.LiftedRights.{lifted_entries, operators-lifted, permitted-lifted}
-use Rattle.dp_lifting_laws.proofs.LiftedRights.{opening-lifted}
+use Rattle.dp_lifting_laws.proofs.LiftedRights.{opening-lifted, kept-lifted}
 
 abbrev lifted_acted : Acted → Acted
 lifted_acted a = record { state = lifted_state a.state; reply = a.reply }
@@ -143,7 +143,9 @@ module _ (s : State) where
       ap (λ b. if b then decision.BeginReset else decision.Filter) (may_begin-lifted conn c)
   heard-lifted conn c (msg.Control control.ResetEnd) =
       ap (λ o. if is_some o then decision.OpenEpoch else decision.Filter) (reset-lifted conn c)
-  heard-lifted conn c (msg.Control (control.ResetFrom at)) = refl
+  heard-lifted conn c (msg.Control (control.ResetFrom at)) =
+      ap₂ (λ (b : Bool) (n : ℕ). if b && nat_le at n then decision.BeginReset else decision.Filter)
+      (may_begin-lifted conn c) (length-map s.live lifted_entry)
   heard-lifted conn c (msg.Part command) = ap (part_decided command) (reset-lifted conn c)
   heard-lifted conn c m = judged-lifted c m
 
@@ -182,7 +184,9 @@ module _ (s : State) where
   acted_by-lifted conn c m decision.OpenEpoch same =
       cc (
         epoch,
-        opening-lifted (epoch_of s + 1) s.live (present_users s) (sent_commands s.stream),
+        opening-lifted (epoch_of s + 1) s.live (present_users s) (sent_commands s.stream)
+            (kept_by s.stream s.live),
+        kept-lifted s.stream s.live,
         map-append lifted_entries s.ended (s.live ∷ []),
       )
 

@@ -1,12 +1,12 @@
 -- Rights after lifted entries are those after the entries.
 use Rattle.std.proofs.Common.{◌≡◌, ℕ, ◌-◌, Bool, true, false, cond, if◌then◌else◌, List, [], ◌∷◌}
-use Rattle.std.proofs.Common.{◌++◌, length, map, Option, Some, None}
+use Rattle.std.proofs.Common.{◌++◌, length, map, drop, Option, Some, None}
 use Rattle.std.proofs.Common.{refl, sym, ap, ap₂, ◌∙◌}
 use Rattle.std.specs.Prelude.{option_to_list, slice_get}
 use Rattle.std.specs.List.{cons_option, filter, filter_map}
 use Rattle.std.specs.Option.{option_map, option_map_or}
 use Rattle.std.proofs.Math.Path.{fun_ext}
-use Rattle.std.proofs.lemmas.List.{length-map, map-append}
+use Rattle.std.proofs.lemmas.List.{length-map, map-append, drop-map}
 use Rattle.std.proofs.lemmas.Option.{slice_get-map}
 use Rattle.dp_msg_draw.specs.declared.draw.Draw.{Draw}
 use Rattle.dp_msg_meta.specs.declared.message.Meta.{Meta}
@@ -21,9 +21,11 @@ use Rattle.dp_acl.specs.Rights.{depth_of, lets_paint}
 use Rattle.dp_acl.specs.Permitted.{permitted}
 use Rattle.dp_acl.specs.Carried.{acl_with, carried}
 use Rattle.dp_acl.specs.Opening.{server_entry, command_entry, last_join, carried_entries, opening}
+use Rattle.dp_acl.specs.Opening.{goes_on, kept_from}
 use Rattle.dp_acl.proofs.LawLemmas.{Look, look, look_after, but_rule, painted_layer}
 use Rattle.dp_acl.proofs.LawLemmas.{permitted-same}
 use Rattle.dp_acl.proofs.LookLemmas.{look_all, look-all}
+use Rattle.dp_epochs.specs.State.{Stream, kept_by}
 use Rattle.dp_lifting_laws.specs.Lifted.{lifted_message, lifted_entry}
 
 abbrev pub lifted_entries : List Entry → List Entry
@@ -158,27 +160,63 @@ commands-lifted [] = refl
 commands-lifted (c ∷ cs) = ap (λ es. command_entry c ∷ es) (commands-lifted cs)
 
 carried_entries-lifted : (history : List Entry) (present : List ℕ) (commands : List Draw)
-    → carried_entries (lifted_entries history) present commands []
-    ≡ lifted_entries (carried_entries history present commands [])
-carried_entries-lifted history present commands =
+    (kept : List Entry)
+    → carried_entries (lifted_entries history) present commands (lifted_entries kept)
+    ≡ lifted_entries (carried_entries history present commands kept)
+carried_entries-lifted history present commands kept =
     let joins = filter_map (last_join history) present in
     let rights = map server_entry (carried history present) in
     let rest = map command_entry commands in
-    ap₂ (λ (js : List Entry) (ms : List Meta). js ++ map server_entry ms ++ rest ++ [])
+    let more = lifted_entries kept in
+    ap₂ (λ (js : List Entry) (ms : List Meta). js ++ map server_entry ms ++ rest ++ more)
     (last_joins-lifted history present) (carried-lifted history present)
-    ∙ ap₂ (λ (rs cs : List Entry). lifted_entries joins ++ rs ++ cs ++ [])
+    ∙ ap₂ (λ (rs cs : List Entry). lifted_entries joins ++ rs ++ cs ++ more)
     (sym (servers-lifted (carried history present))) (sym (commands-lifted commands))
-    ∙ ap (λ es. es ++ lifted_entries rest ++ []) (sym (map-append lifted_entry joins rights))
-    ∙ ap (λ es. es ++ []) (sym (map-append lifted_entry (joins ++ rights) rest))
-    ∙ sym (map-append lifted_entry (joins ++ rights ++ rest) [])
+    ∙ ap (λ es. es ++ lifted_entries rest ++ more) (sym (map-append lifted_entry joins rights))
+    ∙ ap (λ es. es ++ more) (sym (map-append lifted_entry (joins ++ rights) rest))
+    ∙ sym (map-append lifted_entry (joins ++ rights ++ rest) kept)
+
+-- lifted entries go on as the entries do
+goes-lifted : (m : Msg) → goes_on (lifted_message m) ≡ goes_on m
+goes-lifted (msg.Opaque kind body) = refl
+goes-lifted m = refl
+
+passing-lifted : (entries : List Entry)
+    → filter (λ e. goes_on e.msg) (lifted_entries entries)
+    ≡ lifted_entries (filter (λ e. goes_on e.msg) entries)
+passing-lifted [] = refl
+passing-lifted (e ∷ es) =
+    ap₂ (λ (b : Bool) (xs : List Entry). cond b (lifted_entry e ∷ xs) xs) (goes-lifted e.msg)
+    (passing-lifted es)
+    ∙ by_case (goes_on e.msg) (filter (λ e. goes_on e.msg) es)
+  where
+    by_case : (b : Bool) (xs : List Entry)
+        → cond b (lifted_entry e ∷ lifted_entries xs) (lifted_entries xs)
+        ≡ lifted_entries (cond b (e ∷ xs) xs)
+    by_case true xs = refl
+    by_case false xs = refl
+
+-- what a reset keeps of lifted entries is what it keeps, lifted
+pub kept-lifted : (stream : Option Stream) (history : List Entry)
+    → kept_by stream (lifted_entries history) ≡ lifted_entries (kept_by stream history)
+kept-lifted None history = refl
+kept-lifted (Some stream) history = from stream.place
+  where
+    from : (place : Option ℕ)
+        → kept_from place (lifted_entries history) ≡ lifted_entries (kept_from place history)
+    from None = refl
+    from (Some at) =
+        ap (filter (λ (e : Entry). goes_on e.msg)) (drop-map lifted_entry at history)
+        ∙ passing-lifted (drop at history)
 
 -- an epoch opens after lifted entries as after the entries, lifted
 pub opening-lifted : (epoch : ℕ) (history : List Entry) (present : List ℕ) (commands : List Draw)
-    → opening epoch (lifted_entries history) present commands []
-    ≡ lifted_entries (opening epoch history present commands [])
-opening-lifted epoch history present commands =
-    let rest = carried_entries history present commands [] in
+    (kept : List Entry)
+    → opening epoch (lifted_entries history) present commands (lifted_entries kept)
+    ≡ lifted_entries (opening epoch history present commands kept)
+opening-lifted epoch history present commands kept =
+    let rest = carried_entries history present commands kept in
     ap (λ more. server_entry (ResetMark epoch (length more)) ∷ more)
-    (carried_entries-lifted history present commands)
+    (carried_entries-lifted history present commands kept)
     ∙ ap (λ n. server_entry (ResetMark epoch n) ∷ lifted_entries rest)
     (length-map rest lifted_entry)

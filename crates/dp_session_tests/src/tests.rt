@@ -22,6 +22,7 @@ pub(crate) enum Deed {
     Owners(u32),
     Ack(u32, u32),
     Begin(u32),
+    From(u32, u32),
     Part(u32),
     End(u32),
     Close(u32),
@@ -39,6 +40,7 @@ fn message(alloc: Global, deed: Deed) -> Msg {
     match deed {
         Ack(_, epoch) => Msg::Control(Control::Ack { epoch }),
         Begin(_) => Msg::Control(Control::ResetBegin),
+        From(_, at) => Msg::Control(Control::ResetFrom { at }),
         End(_) => Msg::Control(Control::ResetEnd),
         Part(_) => Msg::Part(Draw::Background { color: 255 }),
         Owners(_) => {
@@ -57,7 +59,13 @@ pub(crate) fn event(rt: &impl Abort, alloc: Global, deed: Deed) -> Event {
             registered: false,
         },
         Close(conn) => Event::Close { conn },
-        Point(conn) | Owners(conn) | Ack(conn, _) | Begin(conn) | Part(conn) | End(conn) => {
+        Point(conn)
+        | Owners(conn)
+        | Ack(conn, _)
+        | Begin(conn)
+        | From(conn, _)
+        | Part(conn)
+        | End(conn) => {
             let msg = message(alloc, deed);
             Event::Say { conn, msg }
         }
@@ -168,7 +176,7 @@ struct Case {
     pulls: &'static [(Pull, Option<(u32, usize)>)],
 }
 
-static CASES: [Case; 3] = [
+static CASES: [Case; 4] = [
     // Each answer.
     Case {
         events: &[
@@ -221,6 +229,37 @@ static CASES: [Case; 3] = [
             ((1, 0, 3, 100), Some((0, 10))),
             ((2, 1, 8, 1), Some((8, 1))),
             ((2, 1, 10, 1), Some((10, 0))),
+        ],
+    },
+    // A reset keeps the two points from place 4 on, and no Filtered: the opening has the mark, two
+    // Joins, four messages about rights, the command and the points. A place may be the length of
+    // the history, and not past it. A reset that begins anew without a place keeps nothing.
+    Case {
+        events: &[
+            (Open(b"a"), FIRST),
+            (Open(b"a"), SECOND),
+            (Point(2), Reply::Placed { epoch: 0, at: 4 }),
+            (From(2, 0), Reply::Filtered { epoch: 0, at: 5 }),
+            (From(1, 7), Reply::Filtered { epoch: 0, at: 6 }),
+            (From(1, 7), Reply::Noted),
+            (From(1, 4), Reply::Noted),
+            (Point(2), Reply::Placed { epoch: 0, at: 7 }),
+            (Part(1), Reply::Noted),
+            (End(1), Reply::Placed { epoch: 1, at: 0 }),
+            (Ack(2, 1), Reply::Noted),
+            (Point(2), Reply::Placed { epoch: 1, at: 10 }),
+            (From(1, 0), Reply::Ignored),
+            (Ack(1, 1), Reply::Noted),
+            (From(1, 0), Reply::Noted),
+            (Begin(1), Reply::Noted),
+            (End(1), Reply::Placed { epoch: 2, at: 0 }),
+            (Ack(1, 2), Reply::Noted),
+            (Point(1), Reply::Placed { epoch: 2, at: 7 }),
+        ],
+        conns: &[],
+        pulls: &[
+            ((1, 1, 3, 100), Some((0, 8))),
+            ((2, 2, 7, 100), Some((7, 1))),
         ],
     },
     // A reset is dropped with its owner, and the next operator may send one.

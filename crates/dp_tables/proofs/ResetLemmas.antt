@@ -1,6 +1,6 @@
 -- What a reset that is being sent may have, and how the next epoch opens.
 use Rattle.std.proofs.Common.{◌≡◌, ℕ, zero, suc, ◌+◌, ◌-◌, ◌<◌, ◌≤◌, ◌&&◌, Bool, true, false, cond}
-use Rattle.std.proofs.Common.{append-nil}
+use Rattle.std.proofs.Common.{drop, All}
 use Rattle.std.proofs.Common.{[]}
 use Rattle.std.proofs.Common.{nat_lt, nat_le, is_some, List, ◌∷◌, ◌++◌, length, map}
 use Rattle.std.proofs.Common.{Option, None, Some}
@@ -10,22 +10,26 @@ use Rattle.std.specs.List.{filter, filter_map, cons_option, range_with_len, sum_
 use Rattle.std.specs.Option.{option_map}
 use Rattle.std.proofs.lemmas.Bool.{cond_both, cases_Bool}
 use Rattle.std.proofs.lemmas.Bool.Decides.{nat_tests}
-use Rattle.std.proofs.lemmas.List.{length-map}
+use Rattle.std.proofs.Math.Seq.{drop-length}
+use Rattle.std.proofs.lemmas.List.{length-map, drop-map, length-drop}
+use Rattle.std.proofs.lemmas.List.Elements.{All-drop}
 use Rattle.dp_msg_draw.specs.declared.draw.Draw.{Draw}
 use Rattle.dp_messages.specs.declared.message.Entry.{Entry}
 use Rattle.dp_msg_meta.specs.declared.message.Meta.{Meta}
 use Rattle.dp_msg_meta.specs.declared.message.Meta.TheVariants.{ResetMark}
 use Rattle.dp_acl.specs.Carried.{carried}
 use Rattle.dp_acl.specs.Opening.{carried_entries, opening, opening_limit}
-use Rattle.dp_acl.specs.Opening.{command_entry, last_join, part_limit, server_entry}
+use Rattle.dp_acl.specs.Opening.{command_entry, goes_on, last_join, part_limit, server_entry}
 use Rattle.dp_epochs.specs.State.{State, Stream, epoch_of, is_present, present_users}
 use Rattle.dp_epochs.specs.State.{user_ids, fits_reset, part_bytes, reset_byte_limit}
-use Rattle.dp_epochs.specs.State.{sent_commands}
-use Rattle.dp_history.specs.Items.{commands_in}
+use Rattle.dp_epochs.specs.State.{sent_commands, kept_by}
+use Rattle.dp_epochs.proofs.OpeningLemmas.{kept-few, going-few}
+use Rattle.dp_history.specs.declared.item.HistoryItem.{HistoryItem}
+use Rattle.dp_history.specs.Items.{commands_in, entry_in, IsIn}
 use Rattle.dp_history.specs.Users.{mark}
-use Rattle.dp_tables.specs.Tables.{Seen, AreOf}
+use Rattle.dp_tables.specs.Tables.{Seen, AreOf, start_of, stream_in}
 use Rattle.dp_history.proofs.Ranges.{filter-range_same}
-use Rattle.dp_tables.proofs.TableLemmas.{present-marked, sent-in, length-commands}
+use Rattle.dp_tables.proofs.TableLemmas.{present-marked, sent-in, length-commands, live-length}
 
 -- ---- limits
 
@@ -39,7 +43,7 @@ pub fits-is : (s : State) (t : Seen) → AreOf s t → (stream : Stream) (comman
     ≡ (nat_lt (length t.parts) part_limit
     && nat_le (part_bytes command) (reset_byte_limit - t.part_bytes))
 fits-is s t are stream command sent =
-    let same = sent-in t.owner (commands_in t.journal t.parts) stream
+    let same = sent-in t.owner t.place (commands_in t.journal t.parts) stream
     (are.reset.stream ∙ sent) in
     let count : length stream.commands ≡ length t.parts =
     ap length same ∙ length-commands t.journal t.parts are.reset.said in
@@ -51,8 +55,6 @@ fits-is s t are stream command sent =
     && nat_le (n + part_bytes command) reset_byte_limit) bytes
     ∙ ap (λ b. nat_lt (length t.parts) part_limit && b)
     (sym (le-minus (part_bytes command) t.part_bytes reset_byte_limit are.reset.within))
-
--- ---- openings
 
 -- ---- the opening whole
 
@@ -85,14 +87,14 @@ joined-all f p each (suc n) low above all =
     one-longer None xs some = cc
     one-longer (Some x) xs some = refl
 
-sent-commands : (owner : Option ℕ) (commands : List Draw) → (owner ≡ None → commands ≡ [])
+sent-commands : (owner place : Option ℕ) (commands : List Draw) → (owner ≡ None → commands ≡ [])
     → sent_commands (option_map (λ conn. record {
       owner = conn;
       commands = commands;
-      place = None;
+      place = place;
     }) owner) ≡ commands
-sent-commands None commands none = sym (none refl)
-sent-commands (Some conn) commands none = refl
+sent-commands None place commands none = sym (none refl)
+sent-commands (Some conn) place commands none = refl
 
 filtered-few : (p : ℕ → Bool) (low n : ℕ) → length (filter p (range_with_len low n)) ≤ n
 filtered-few p low zero = omega arith
@@ -126,51 +128,50 @@ module _ (s : State) (t : Seen) (are : AreOf s t) where
   commands-sent : sent_commands s.stream ≡ commands_in t.journal t.parts
   commands-sent =
       ap sent_commands (sym are.reset.stream)
-      ∙ sent-commands t.owner (commands_in t.journal t.parts)
+      ∙ sent-commands t.owner t.place (commands_in t.journal t.parts)
       (λ no_one. ap (commands_in t.journal) (are.reset.none no_one))
 
-  rest-length : length (carried_entries s.live present (commands_in t.journal t.parts) [])
-      ≡ length present + length (carried s.live present) + length t.parts
+  abbrev kept : List Entry
+  kept = kept_by s.stream s.live
+
+  rest-length : length (carried_entries s.live present (commands_in t.journal t.parts) kept)
+      ≡ length present + length (carried s.live present) + length t.parts + length kept
   rest-length =
       let joins = filter_map (last_join s.live) present in
       let rights = map server_entry (carried s.live present) in
       let drawn = map command_entry (commands_in t.journal t.parts) in
-      ap length (append-nil (joins ++ rights ++ drawn))
-      ∙ length-append (joins ++ rights) drawn
-      ∙ ap (λ n. n + length drawn) (length-append joins rights)
-      ∙ ap (λ n. n + length rights + length drawn) joined-present
-      ∙ ap (λ n. length present + n + length drawn)
+      length-append (joins ++ rights ++ drawn) kept
+      ∙ ap (λ n. n + length kept) (length-append (joins ++ rights) drawn)
+      ∙ ap (λ n. n + length drawn + length kept) (length-append joins rights)
+      ∙ ap (λ n. n + length rights + length drawn + length kept) joined-present
+      ∙ ap (λ n. length present + n + length drawn + length kept)
       (length-map (carried s.live present) server_entry)
-      ∙ ap (λ n. length present + length (carried s.live present) + n)
+      ∙ ap (λ n. length present + length (carried s.live present) + n + length kept)
       (length-map (commands_in t.journal t.parts) command_entry
       ∙ length-commands t.journal t.parts are.reset.said)
 
   -- what is added makes up the opening
   pub opens-so : (metas : List Meta) (next count : ℕ) → metas ≡ carried s.live present
-      → next ≡ epoch_of s + 1 → count ≡ length present + length metas + length t.parts
-      → ((([] ++ server_entry (ResetMark next count) ∷ [])
+      → next ≡ epoch_of s + 1
+      → count ≡ length present + length metas + length t.parts + length kept
+      → (((([] ++ server_entry (ResetMark next count) ∷ [])
       ++ filter_map (last_join s.live) present) ++ map server_entry metas)
-      ++ map command_entry (commands_in t.journal t.parts)
-      ≡ opening (epoch_of s + 1) s.live (present_users s) (sent_commands s.stream) []
+      ++ map command_entry (commands_in t.journal t.parts)) ++ kept
+      ≡ opening (epoch_of s + 1) s.live (present_users s) (sent_commands s.stream) kept
   opens-so metas next count metas_are next_is count_is =
-      let number : count ≡ length (carried_entries s.live present
-      (commands_in t.journal t.parts) []) =
-      count_is ∙ ap (λ list. length present + length list + length t.parts) metas_are
+      let commands = commands_in t.journal t.parts in
+      let number : count ≡ length (carried_entries s.live present commands kept) =
+      count_is ∙ ap (λ list. length present + length list + length t.parts + length kept) metas_are
       ∙ sym rest-length in
       ap (λ list. server_entry (ResetMark next count)
       ∷ (filter_map (last_join s.live) present ++ map server_entry list
-      ++ map command_entry (commands_in t.journal t.parts))) metas_are
-      ∙ ap (λ list. server_entry (ResetMark next count) ∷ list)
-      (sym (append-nil (filter_map (last_join s.live) present
-      ++ map server_entry (carried s.live present)
-      ++ map command_entry (commands_in t.journal t.parts))))
+      ++ map command_entry commands ++ kept)) metas_are
       ∙ ap (λ n. server_entry (ResetMark n count)
-      ∷ carried_entries s.live present (commands_in t.journal t.parts) []) next_is
+      ∷ carried_entries s.live present commands kept) next_is
       ∙ ap (λ n. server_entry (ResetMark (epoch_of s + 1) n)
-      ∷ carried_entries s.live present (commands_in t.journal t.parts) []) number
-      ∙ ap (λ users. opening (epoch_of s + 1) s.live users (commands_in t.journal t.parts) [])
-      present-is
-      ∙ ap (λ list. opening (epoch_of s + 1) s.live (present_users s) list []) (sym commands-sent)
+      ∷ carried_entries s.live present commands kept) number
+      ∙ ap (λ users. opening (epoch_of s + 1) s.live users commands kept) present-is
+      ∙ ap (λ list. opening (epoch_of s + 1) s.live (present_users s) list kept) (sym commands-sent)
 
   -- it has few entries
   pub count-fits : ((epoch : ℕ) (history : List Entry) (users : List ℕ) (commands : List Draw)
@@ -178,12 +179,41 @@ module _ (s : State) (t : Seen) (are : AreOf s t) where
       → length (opening epoch history users commands kept) ≤ opening_limit + length kept)
       → (metas : List Meta)
       → metas ≡ carried s.live present
-      → length present + length metas + length t.parts < opening_limit
+      → length present + length metas + length t.parts + length kept
+      < opening_limit + length kept
   count-fits short metas metas_are =
       omega (
         arith,
-        short 0 s.live present (commands_in t.journal t.parts) [] present-few
+        short 0 s.live present (commands_in t.journal t.parts) kept present-few
             (omega (arith, length-commands t.journal t.parts are.reset.said, are.reset.many)),
         rest-length,
         ap length metas_are,
       )
+
+  abbrev passing : List HistoryItem → List Entry
+  passing items = filter (λ e. goes_on e.msg) (map (entry_in t.journal) items)
+
+  -- what the reset keeps, beside the journal
+  pub kept-is : passing (drop (start_of t.owner t.place (length t.live)) t.live) ≡ kept
+  kept-is = by_case t.owner t.place are.reset.stream
+    where
+      none : passing (drop (length t.live) t.live) ≡ []
+      none = ap passing (drop-length t.live)
+
+      by_case : (o p : Option ℕ) → stream_in t.journal o p t.parts ≡ s.stream
+          → passing (drop (start_of o p (length t.live)) t.live) ≡ kept_by s.stream s.live
+      by_case (Some conn) (Some at) is =
+          ap (filter (λ (e : Entry). goes_on e.msg))
+          (sym (drop-map (entry_in t.journal) at t.live) ∙ ap (drop at) are.entries)
+          ∙ ap (λ o. kept_by o s.live) is
+      by_case (Some conn) None is = none ∙ ap (λ o. kept_by o s.live) is
+      by_case None p is = none ∙ ap (λ o. kept_by o s.live) is
+
+  pub kept-said : (n : ℕ) → All (IsIn t.journal) (drop n t.live)
+  kept-said n = All-drop (IsIn t.journal) n t.live are.said
+
+  pub dropped-short : (n : ℕ) → length (drop n t.live) ≤ length s.live
+  dropped-short n = omega (arith, length-drop n t.live, live-length s t are)
+
+  pub kept-short : length kept ≤ length s.live
+  kept-short = omega (arith, kept-few s.stream s.live, going-few s.live)

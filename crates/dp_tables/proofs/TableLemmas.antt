@@ -47,7 +47,8 @@ use Rattle.dp_epochs.proofs.OpenConnections.{open_is_found}
 use Rattle.dp_epochs.specs.Connections.{is_open}
 use Rattle.dp_epochs.specs.State.{State, Stream, first_state, is_present, present_users, is_name}
 use Rattle.dp_epochs.specs.State.{free_id, entry_of, epoch_of, after_shut, after_event, acted}
-use Rattle.dp_epochs.specs.State.{first_stream, with_part, part_bytes, reset_byte_limit}
+use Rattle.dp_epochs.specs.State.{first_stream, place_in, with_part, part_bytes}
+use Rattle.dp_epochs.specs.State.{reset_byte_limit}
 use Rattle.dp_epochs.specs.State.{history_of, here, new_connection, open_connection, open_in}
 use Rattle.dp_epochs.specs.State.{with_connection, stream_without}
 use Rattle.dp_epochs.specs.declared.event.ShutAt.{ShutAt}
@@ -71,7 +72,7 @@ use Rattle.dp_tables.specs.Ready.{unboxed, server_items}
 use Rattle.std.specs.Global.{Box}
 use Rattle.dp_tables.specs.Ready.{items_after, IsWithSupply, AreFramesWith, epoch_with, marks_after}
 use Rattle.dp_tables.specs.Ready.{opens_after, quiet_after, closed_in, unmarked, is_sender}
-use Rattle.dp_tables.specs.Ready.{owner_after, parts_after, bytes_after, MayKeep}
+use Rattle.dp_tables.specs.Ready.{owner_after, place_after, parts_after, bytes_after, MayKeep}
 use Rattle.dp_lists.proofs.Numbered.{number-found}
 use Rattle.dp_history.proofs.Ranges.{lists-user, find_user-passes}
 use Rattle.dp_tables.proofs.Holders.{any-marked, mark-set_same, mark-set_other, marks-adds}
@@ -290,35 +291,35 @@ length-commands journal (k ∷ parts) said =
     (All-head (IsPart journal) k parts said)
     ∙ ap suc (length-commands journal parts (All-tail (IsPart journal) k parts said))
 
-pub sent-in : (owner : Option ℕ) (commands : List Draw) (stream : Stream)
-    → option_map (λ conn. record { owner = conn; commands = commands; place = None }) owner
+pub sent-in : (owner place : Option ℕ) (commands : List Draw) (stream : Stream)
+    → option_map (λ conn. record { owner = conn; commands = commands; place = place }) owner
     ≡ Some stream
     → stream.commands ≡ commands
-sent-in None commands stream is = cc
-sent-in (Some conn) commands stream is =
-    let same : ◌≡◌ {A = Stream} (record { owner = conn; commands = commands; place = None }) stream
+sent-in None place commands stream is = cc
+sent-in (Some conn) place commands stream is =
+    let same : ◌≡◌ {A = Stream} (record { owner = conn; commands = commands; place = place }) stream
     =
     cc in
     sym (ap (λ x. x.commands) same)
 
-grown-in : (owner : Option ℕ) (commands : List Draw) (command : Draw)
+grown-in : (owner place : Option ℕ) (commands : List Draw) (command : Draw)
     → option_map (λ conn. record {
       owner = conn;
       commands = commands ++ command ∷ [];
-      place = None;
+      place = place;
     }) owner
     ≡ option_map (with_part (msg.Part command))
-    (option_map (λ conn. record { owner = conn; commands = commands; place = None }) owner)
-grown-in None commands command = refl
-grown-in (Some conn) commands command = refl
+    (option_map (λ conn. record { owner = conn; commands = commands; place = place }) owner)
+grown-in None place commands command = refl
+grown-in (Some conn) place commands command = refl
 
 -- the size is that of the event's payload, if it says a part
 abbrev PartSize : Event → ℕ → Type 0
 PartSize e size = (conn : ℕ) (command : Draw) → e ≡ event.Say conn (msg.Part command)
     → size ≡ part_bytes command
 
-module _ (sent : Option Stream) (journal : List Event) (owner : Option ℕ) (parts : List ℕ)
-    (bytes : ℕ) (h : IsResetIn sent journal owner parts bytes) (e : Event) where
+module _ (sent : Option Stream) (journal : List Event) (owner place : Option ℕ) (parts : List ℕ)
+    (bytes : ℕ) (h : IsResetIn sent journal owner place parts bytes) (e : Event) where
   abbrev later : List Event
   later = journal ++ e ∷ []
 
@@ -330,12 +331,12 @@ module _ (sent : Option Stream) (journal : List Event) (owner : Option ℕ) (par
       (λ k some. part-later journal (e ∷ []) k some) parts h.said
 
   -- an event that has nothing to do with it
-  reset-stays : IsResetIn sent later owner parts bytes
+  reset-stays : IsResetIn sent later owner place parts bytes
   reset-stays = record {
     stream = ap (λ commands. option_map (λ conn. record {
       owner = conn;
       commands = commands;
-      place = None;
+      place = place;
     }) owner) commands-after
         ∙ h.stream;
     said = parts-later;
@@ -345,8 +346,9 @@ module _ (sent : Option Stream) (journal : List Event) (owner : Option ℕ) (par
     none = h.none;
   }
 
-  reset-begins : (conn : ℕ) → IsResetIn (Some (first_stream conn)) later (Some conn) [] 0
-  reset-begins conn = record {
+  reset-begins : (conn : ℕ) (named : Option ℕ)
+      → IsResetIn (Some (first_stream conn named)) later (Some conn) named [] 0
+  reset-begins conn named = record {
     stream = refl;
     said = All-nil (IsPart later);
     size = refl;
@@ -355,7 +357,7 @@ module _ (sent : Option Stream) (journal : List Event) (owner : Option ℕ) (par
     none = λ no_one. refl;
   }
 
-  reset-ends : IsResetIn None later None [] 0
+  reset-ends : IsResetIn None later None place [] 0
   reset-ends = record {
     stream = refl;
     said = All-nil (IsPart later);
@@ -369,7 +371,7 @@ module _ (sent : Option Stream) (journal : List Event) (owner : Option ℕ) (par
   reset-grows : (s : State) (conn : ℕ) (c : Connection) (command : Draw) → s.stream ≡ sent
       → IsReset s e conn c (msg.Part command) decision.AddPart → FitsReset s conn command
       → (size : ℕ) → PartSize e size
-      → IsResetIn (option_map (with_part (own_message e)) sent) later owner
+      → IsResetIn (option_map (with_part (own_message e)) sent) later owner place
       (parts ++ length journal ∷ []) (bytes + size)
   reset-grows s conn c command is reset fitting size size_of =
       let commands = commands_in journal parts in
@@ -384,7 +386,7 @@ module _ (sent : Option Stream) (journal : List Event) (owner : Option ℕ) (par
       ∙ ap (λ xs. xs ++ commands_in later (length journal ∷ [])) commands-after
       ∙ ap (λ o. commands ++ cons_option o []) part in
       let same : fitting.stream.commands ≡ commands =
-      sent-in owner commands fitting.stream (h.stream ∙ sym is ∙ fitting.sent) in
+      sent-in owner place commands fitting.stream (h.stream ∙ sym is ∙ fitting.sent) in
       let room = and_parts (nat_lt (length fitting.stream.commands) part_limit)
       (nat_le (sum_by part_bytes fitting.stream.commands + part_bytes command)
       reset_byte_limit) fitting.fits in
@@ -395,9 +397,9 @@ module _ (sent : Option Stream) (journal : List Event) (owner : Option ℕ) (par
         stream = ap (λ list. option_map (λ conn. record {
           owner = conn;
           commands = list;
-          place = None;
+          place = place;
         }) owner) all
-            ∙ grown-in owner commands command
+            ∙ grown-in owner place commands command
             ∙ ap (option_map (with_part (msg.Part command))) h.stream
             ∙ ap (λ x. option_map (with_part x) sent) (sym reset.is);
         said = All-push (IsPart later) parts (length journal) parts-later
@@ -415,56 +417,59 @@ module _ (sent : Option Stream) (journal : List Event) (owner : Option ℕ) (par
         );
         within = omega (arith, fits, ap (sum_by part_bytes) same, h.size, size_is);
         none = λ no_one.
-            let sent_none : None ≡ sent = ap (λ o. stream_in journal o parts) (sym no_one)
+            let sent_none : None ≡ sent = ap (λ o. stream_in journal o place parts) (sym no_one)
             ∙ h.stream in
             cc (fitting.sent);
       }
 
 -- a connection leaves
-reset-left : (sent : Option Stream) (journal : List Event) (owner : Option ℕ) (parts : List ℕ)
-    (bytes : ℕ) → IsResetIn sent journal owner parts bytes → (e : Event) (conn : ℕ)
+reset-left : (sent : Option Stream) (journal : List Event) (owner place : Option ℕ)
+    (parts : List ℕ) (bytes : ℕ) → IsResetIn sent journal owner place parts bytes → (e : Event)
+    (conn : ℕ)
     → IsResetIn (stream_without conn sent) (journal ++ e ∷ [])
-    (if is_sender conn owner then None else owner) (if is_sender conn owner then [] else parts)
-    (if is_sender conn owner then 0 else bytes)
-reset-left sent journal None parts bytes h e conn =
-    subst (λ o. IsResetIn o (journal ++ e ∷ []) None parts bytes)
+    (if is_sender conn owner then None else owner) place
+    (if is_sender conn owner then [] else parts) (if is_sender conn owner then 0 else bytes)
+reset-left sent journal None place parts bytes h e conn =
+    subst (λ o. IsResetIn o (journal ++ e ∷ []) None place parts bytes)
     (sym h.stream ∙ ap (stream_without conn) h.stream)
-    (reset-stays sent journal None parts bytes h e)
-reset-left sent journal (Some owner) parts bytes h e conn =
+    (reset-stays sent journal None place parts bytes h e)
+reset-left sent journal (Some owner) place parts bytes h e conn =
     subst (λ o. IsResetIn (stream_without conn o) (journal ++ e ∷ [])
-    (if owner == conn then None else Some owner) (if owner == conn then [] else parts)
+    (if owner == conn then None else Some owner) place (if owner == conn then [] else parts)
     (if owner == conn then 0 else bytes)) h.stream
     (by_sender (owner == conn))
   where
     stream : Stream
-    stream = record { owner = owner; commands = commands_in journal parts; place = None }
+    stream = record { owner = owner; commands = commands_in journal parts; place = place }
 
     by_sender : (b : Bool) → IsResetIn (if b then None else Some stream) (journal ++ e ∷ [])
-        (if b then None else Some owner) (if b then [] else parts) (if b then 0 else bytes)
-    by_sender true = reset-ends sent journal (Some owner) parts bytes h e
+        (if b then None else Some owner) place (if b then [] else parts)
+        (if b then 0 else bytes)
+    by_sender true = reset-ends sent journal (Some owner) place parts bytes h e
     by_sender false =
-        subst (λ o. IsResetIn o (journal ++ e ∷ []) (Some owner) parts bytes) (sym h.stream)
-        (reset-stays sent journal (Some owner) parts bytes h e)
+        subst (λ o. IsResetIn o (journal ++ e ∷ []) (Some owner) place parts bytes) (sym h.stream)
+        (reset-stays sent journal (Some owner) place parts bytes h e)
 
 -- after any event
-reset-kept : (s : State) (journal : List Event) (owner : Option ℕ) (parts : List ℕ) (bytes : ℕ)
-    → IsResetIn s.stream journal owner parts bytes → (e : Event) (effect : Effect)
-    → IsEffect s e effect → (size : ℕ) → PartSize e size
+reset-kept : (s : State) (journal : List Event) (owner place : Option ℕ) (parts : List ℕ)
+    (bytes : ℕ) → IsResetIn s.stream journal owner place parts bytes → (e : Event)
+    (effect : Effect) → IsEffect s e effect → (size : ℕ) → PartSize e size
     → IsResetIn (stream_after e s.stream effect) (journal ++ e ∷ []) (owner_after effect owner)
-    (parts_after (length journal) effect owner parts) (bytes_after size effect owner bytes)
-reset-kept s journal owner parts bytes h e (Left conn c next) cause size size_of =
-    reset-left s.stream journal owner parts bytes h e conn
-reset-kept s journal owner parts bytes h e (Began conn c) cause size size_of =
-    reset-begins s.stream journal owner parts bytes h e conn
-reset-kept s journal owner parts bytes h e (Added conn c) cause size size_of =
-    reset-grows s.stream journal owner parts bytes h e s conn c cause.0 refl cause.1 cause.2 size
-    size_of
-reset-kept s journal owner parts bytes h e (Dropped conn c) cause size size_of =
-    reset-ends s.stream journal owner parts bytes h e
-reset-kept s journal owner parts bytes h e (Reopened conn c) cause size size_of =
-    reset-ends s.stream journal owner parts bytes h e
-reset-kept s journal owner parts bytes h e effect cause size size_of =
-    reset-stays s.stream journal owner parts bytes h e
+    (place_after e effect place) (parts_after (length journal) effect owner parts)
+    (bytes_after size effect owner bytes)
+reset-kept s journal owner place parts bytes h e (Left conn c next) cause size size_of =
+    reset-left s.stream journal owner place parts bytes h e conn
+reset-kept s journal owner place parts bytes h e (Began conn c) cause size size_of =
+    reset-begins s.stream journal owner place parts bytes h e conn (place_in (own_message e))
+reset-kept s journal owner place parts bytes h e (Added conn c) cause size size_of =
+    reset-grows s.stream journal owner place parts bytes h e s conn c cause.0 refl cause.1 cause.2
+    size size_of
+reset-kept s journal owner place parts bytes h e (Dropped conn c) cause size size_of =
+    reset-ends s.stream journal owner place parts bytes h e
+reset-kept s journal owner place parts bytes h e (Reopened conn c) cause size size_of =
+    reset-ends s.stream journal owner place parts bytes h e
+reset-kept s journal owner place parts bytes h e effect cause size size_of =
+    reset-stays s.stream journal owner place parts bytes h e
 
 -- an event adds at most one connection
 connections-more : (s : State) (effect : Effect)
@@ -632,6 +637,7 @@ module _ (s : State) (t : Seen) (are : AreOf s t) where
         present = marks_after effect t.present;
         opens = opens_after (length t.journal) effect t.opens;
         owner = owner_after effect t.owner;
+        place = place_after e effect t.place;
         parts = parts_after (length t.journal) effect t.owner t.parts;
         part_bytes = bytes_after size effect t.owner t.part_bytes;
       })
@@ -643,11 +649,11 @@ module _ (s : State) (t : Seen) (are : AreOf s t) where
         epoch = epoch-kept t.journal s e effect cause supply t.epoch is are.epoch
             ∙ sym (ap (λ a. length a.state.ended) made_is);
         reset = subst (λ o. IsResetIn o J (owner_after effect t.owner)
-            (parts_after (length t.journal) effect t.owner t.parts)
+            (place_after e effect t.place) (parts_after (length t.journal) effect t.owner t.parts)
             (bytes_after size effect t.owner t.part_bytes))
             (sym (ap (λ a. a.state.stream) made_is))
-            (reset-kept s t.journal t.owner t.parts t.part_bytes are.reset e effect cause size
-            size_of);
+            (reset-kept s t.journal t.owner t.place t.parts t.part_bytes are.reset e effect cause
+            size size_of);
         table = sym (ap (λ a. a.state.connections) made_is);
         entries = kept.0 ∙ sym (ap (λ a. a.state.live) made_is);
         said = kept.1;
@@ -733,9 +739,10 @@ pub tables-first : (t : Inside) (begun : Opening) → Holds [] begun first_state
     → t.journal.items ≡ [] → t.shut.items ≡ [] → t.connections.items ≡ [] → t.quiet.items ≡ []
     → t.live.items ≡ begun.live.items → t.row_bytes ≡ 0
     → t.rights ≡ begun.rights.value → t.present ≡ replicate 256 false → t.epoch ≡ 0
-    → t.opens ≡ replicate 256 0 → t.owner ≡ None → t.parts.items ≡ [] → t.part_bytes ≡ 0
+    → t.opens ≡ replicate 256 0 → t.owner ≡ None → t.place ≡ None → t.parts.items ≡ []
+    → t.part_bytes ≡ 0
     → AreFramesOf t.frames [] → AreTables t
-tables-first t begun holds ej es ec eq el eb er ep ee eo eu ek ez none =
+tables-first t begun holds ej es ec eq el eb er ep ee eo eu eh ek ez none =
     let first : Seen = record {
       journal = [];
       connections = [];
@@ -745,6 +752,7 @@ tables-first t begun holds ej es ec eq el eb er ep ee eo eu ek ez none =
       present = t.present;
       opens = t.opens;
       owner = None;
+      place = None;
       parts = [];
       part_bytes = 0;
     }
@@ -892,6 +900,7 @@ pub record IsKept (old : Inside) (e : Event) (effect : Effect) (supply : Supply)
   pub present : new.present ≡ marks_after effect old.present
   pub opens : new.opens ≡ opens_after (length old.journal.items) effect old.opens
   pub owner : new.owner ≡ owner_after effect old.owner
+  pub place : new.place ≡ place_after e effect old.place
   pub parts : new.parts.items
       ≡ parts_after (length old.journal.items) effect old.owner old.parts.items
   pub part_bytes : new.part_bytes
@@ -951,6 +960,7 @@ tables-kept leads joins made_law old new e effect supply row_length are is keeps
       present = marks_after effect old.present;
       opens = opens_after (length old.journal.items) effect old.opens;
       owner = owner_after effect old.owner;
+      place = place_after e effect old.place;
       parts = parts_after (length old.journal.items) effect old.owner old.parts.items;
       part_bytes = bytes_after (row_length - 6) effect old.owner old.part_bytes;
     }
@@ -1011,6 +1021,7 @@ pub record IsLeftOut (old : Inside) (conn : ℕ) (new : Inside) : Type 0 where
   pub present : new.present ≡ unmarked (open_in old.connections.items conn) old.present
   pub opens : new.opens ≡ old.opens
   pub owner : new.owner ≡ old.owner
+  pub place : new.place ≡ old.place
   pub parts : new.parts.items ≡ old.parts.items
   pub part_bytes : new.part_bytes ≡ old.part_bytes
   pub frames : new.frames ≡ old.frames

@@ -38,6 +38,7 @@ seen t = record {
   present = t.present;
   opens = t.opens;
   owner = t.owner;
+  place = t.place;
   parts = t.parts.items;
   part_bytes = t.part_bytes;
 }

@@ -12,7 +12,7 @@ use Rattle.dp_epochs.specs.declared.effect.Effect.TheVariants.{Added, Dropped, R
 use Rattle.dp_epochs.specs.declared.event.Event.{Event}
 use Rattle.dp_epochs.specs.Effects.{own_message, entries_of, live_after, IsEffect}
 use Rattle.dp_epochs.specs.Rows.{row_of, has_room}
-use Rattle.dp_epochs.specs.State.{State, entry_of, connection_in}
+use Rattle.dp_epochs.specs.State.{State, entry_of, connection_in, place_in}
 use Rattle.dp_history.specs.declared.item.HistoryItem.{HistoryItem}
 use Rattle.dp_history.specs.declared.item.HistoryItem.TheVariants as item
 use Rattle.dp_history.specs.Frames.{Frames, AreFramesOf}
@@ -139,6 +139,11 @@ owner_after (Began conn connection) owner = Some conn
 owner_after (Dropped conn connection) owner = None
 owner_after (Reopened conn connection) owner = None
 owner_after other owner = owner
+
+-- The place that it names, as the event says where one begins. It says nothing where none is sent.
+abbrev pub place_after : Event → Effect → Option ℕ → Option ℕ
+place_after e (Began conn connection) place = place_in (own_message e)
+place_after e other place = place
 
 -- its parts, where the event is the journal's n-th
 abbrev pub parts_after : ℕ → Effect → Option ℕ → List ℕ → List ℕ

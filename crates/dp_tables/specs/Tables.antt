@@ -1,6 +1,6 @@
 -- What a session keeps of a state.
 use Rattle.std.specs.Prelude.{◌≡◌, ℕ, ◌-◌, ◌<◌, ◌≤◌, ◌&&◌, ◌==◌, Bool, true, []}
-use Rattle.std.specs.Prelude.{if◌then◌else◌, Option, None}
+use Rattle.std.specs.Prelude.{if◌then◌else◌, Option, None, Some}
 use Rattle.std.specs.Prelude.{List, length, map, slice_set}
 use Rattle.std.specs.Prelude.{count_by, All}
 use Rattle.std.specs.List.{filter, range_with_len, sum_by}
@@ -18,20 +18,27 @@ use Rattle.dp_history.specs.Users.{mark, AreJoined}
 
 -- ---- a reset that is being sent
 
--- the reset that the connection, if there is one, sends by these parts
-abbrev pub stream_in : List Event → Option ℕ → List ℕ → Option Stream
-stream_in journal owner parts =
+-- the reset that the connection, if there is one, sends by these parts, from the place that it names
+-- on, if it names one
+abbrev pub stream_in : List Event → Option ℕ → Option ℕ → List ℕ → Option Stream
+stream_in journal owner place parts =
     option_map (λ conn. record {
       owner = conn;
       commands = commands_in journal parts;
-      place = None;
+      place = place;
     }) owner
 
--- The reset that is being sent, if one is, is the connection's with these parts, and without one
--- there are none. They are kept to the limits of a reset.
-pub record IsResetIn (sent : Option Stream) (journal : List Event) (owner : Option ℕ)
+-- from where on a history, which ends there, is kept by the reset of the connection, if it sends one
+abbrev pub start_of : Option ℕ → Option ℕ → ℕ → ℕ
+start_of (Some conn) (Some place) end = place
+start_of (Some conn) None end = end
+start_of None place end = end
+
+-- The reset that is being sent, if one is, is the connection's with this place and these parts, and
+-- without one there are no parts. They are kept to the limits of a reset.
+pub record IsResetIn (sent : Option Stream) (journal : List Event) (owner place : Option ℕ)
     (parts : List ℕ) (bytes : ℕ) : Type 0 where
-  pub stream : stream_in journal owner parts ≡ sent
+  pub stream : stream_in journal owner place parts ≡ sent
   pub said : All (IsPart journal) parts
   pub size : bytes ≡ sum_by part_bytes (commands_in journal parts)
   pub many : length parts ≤ part_limit
@@ -62,15 +69,17 @@ pub record Seen : Type 0 where
   pub present : List Bool
   -- for each id, the number of the Open by which its user joined last
   pub opens : List ℕ
-  -- the connection that sends a reset, the events of its parts, and how many bytes these have
+  -- the connection that sends a reset, the place that it names, the events of its parts, and how
+  -- many bytes these have
   pub owner : Option ℕ
+  pub place : Option ℕ
   pub parts : List ℕ
   pub part_bytes : ℕ
 
 -- they are those of the state to which the journal led
 pub record AreOf (s : State) (t : Seen) : Type 0 where
   pub epoch : t.epoch ≡ epoch_of s
-  pub reset : IsResetIn s.stream t.journal t.owner t.parts t.part_bytes
+  pub reset : IsResetIn s.stream t.journal t.owner t.place t.parts t.part_bytes
   pub table : t.connections ≡ s.connections
   pub entries : map (entry_in t.journal) t.live ≡ s.live
   pub said : All (IsIn t.journal) t.live

@@ -22,7 +22,7 @@ ghost use Rattle.dp_messages.specs.declared.message.Entry.{Entry as Piece};
 ghost use Rattle.dp_acl.specs.Table.{StandsFor};
 ghost use Rattle.dp_epochs.specs.declared.event.Event.{Event as Kept};
 ghost use Rattle.dp_epochs.specs.Effects.{connections_at, own_message};
-ghost use Rattle.dp_epochs.specs.State.{acted, entry_of, open_in};
+ghost use Rattle.dp_epochs.specs.State.{acted, entry_of, open_in, place_in};
 ghost use Rattle.dp_epochs.specs.Past.{shut_with, quiet_with};
 ghost use Rattle.dp_history.specs.Items.{IsSay};
 ghost use Rattle.dp_tables.specs.SessionLog.{state_in};
@@ -31,8 +31,8 @@ ghost use Rattle.dp_tables.specs.Ready.{own_entries, own_items, SaysOwn, supplie
 ghost use Rattle.dp_tables.specs.Ready.{unboxed, server_items};
 ghost use Rattle.dp_tables.specs.Ready.{IsWithSupply, AreFramesWith, epoch_with, IsThere};
 ghost use Rattle.dp_tables.specs.Ready.{marks_after, opens_after, quiet_after, closed_in, unmarked};
-ghost use Rattle.dp_tables.specs.Ready.{is_sender, owner_after, parts_after, bytes_after, MayKeep};
-ghost use Rattle.dp_tables.specs.Ready.{IsReady};
+ghost use Rattle.dp_tables.specs.Ready.{is_sender, owner_after, place_after, parts_after};
+ghost use Rattle.dp_tables.specs.Ready.{bytes_after, MayKeep, IsReady};
 
 use crate::ready::{Ready, Supply};
 use crate::tables::{Tables, open_connection};
@@ -42,7 +42,8 @@ use dp_epochs::{
     joins_stay, steps_lead_on,
 };
 use dp_history::{FrameLog, HistoryItem};
-use dp_messages::Entry;
+use dp_messages::{Entry, Msg};
+use dp_msg_meta::Control;
 
 /// Notes the entry of a message that the user says.
 fn note_said(rights: &mut Rights, event: Event, user: u8) -> Event
@@ -167,6 +168,28 @@ fn restart(owner: &mut Option<u32>, parts: &mut Vec<u32>, part_bytes: &mut u64, 
     *owner = sender;
     parts.clear();
     *part_bytes = 0;
+}
+
+/// The place that the event names, if it begins a reset with one.
+fn place_in(event: &Event) -> Option<u32>
+    ensures { result ≡ place_in (own_message event.now) }
+{
+    match event {
+        Event::Say {
+            msg: Msg::Control(Control::ResetFrom { at }),
+            ..
+        } => Some(*at),
+        _ => None,
+    }
+}
+
+/// Notes from where on a reset keeps entries, where the event begins one.
+fn note_place(place: &mut Option<u32>, effect: Effect, event: &Event)
+    ensures { place.new ≡ place_after event.now effect place.old }
+{
+    if let Effect::Began { .. } = effect {
+        *place = place_in(event);
+    }
 }
 
 /// Changes the reset that is being sent, by the event of this number, which has a payload of this
@@ -326,6 +349,7 @@ impl Tables {
         let reply = effect.reply(here, self.connections.len() as u32);
         let n = self.journal.len() as u32;
         self.row_bytes += row_length;
+        note_place(&mut self.place, effect, &event);
         follow(
             &mut self.owner,
             &mut self.parts,

@@ -105,7 +105,7 @@ impl Tables {
         match msg {
             Msg::Control(Control::ResetBegin) => self.hear_begin(conn, connection),
             Msg::Control(Control::ResetEnd) => self.hear_end(conn, connection),
-            Msg::Control(Control::ResetFrom { .. }) => Decision::Filter,
+            Msg::Control(Control::ResetFrom { at }) => self.hear_from(conn, connection, *at),
             Msg::Part(command) => self.hear_part(conn, connection, command, size),
             _ => {
                 if self.permits(connection.user, msg) {

@@ -1,14 +1,18 @@
 //! Resets: who may send one, what becomes of its messages, and how it opens the next epoch.
 
-ghost use Rattle.std.specs.Prelude.{◌≡◌, ◌+◌, [], Some, false, is_some, IfOk};
+ghost use Rattle.std.specs.Prelude.{◌≡◌, ◌+◌, ◌≤◌, Some, false, is_some, IfOk, All, map, length};
+ghost use Rattle.std.specs.Prelude.{nat_le};
+ghost use Rattle.std.specs.List.{filter};
 ghost use Rattle.std.specs.Option.{option_map_or};
-ghost use Rattle.dp_acl.specs.Opening.{opening, server_entry};
+ghost use Rattle.dp_acl.specs.Opening.{goes_on, opening, server_entry};
 ghost use Rattle.dp_messages.specs.declared.message.Msg.TheVariants as msg;
 ghost use Rattle.dp_epochs.specs.State.{
   epoch_of,
   fits_reset,
   heard,
   is_held_by_other,
+  kept_by,
+  may_begin,
   part_bytes,
   present_users,
   reset_of,
@@ -18,12 +22,18 @@ ghost use Rattle.dp_epochs.specs.State.{
 ghost use Rattle.dp_msg_draw.specs.declared.draw.Draw.{Draw as Drawn};
 ghost use Rattle.dp_msg_meta.specs.declared.message.Meta.TheVariants.{ResetMark};
 ghost use Rattle.dp_msg_meta.specs.declared.message.Control.TheVariants.{ResetBegin, ResetEnd};
+ghost use Rattle.dp_msg_meta.specs.declared.message.Control.TheVariants.{ResetFrom};
 ghost use Rattle.dp_tables.specs.SessionLog.{state_in};
+ghost use Rattle.dp_history.specs.Items.{entry_in, IsIn};
+ghost use Rattle.dp_tables.specs.Tables.{start_of};
 ghost use Rattle.dp_history.specs.Openings.{Holds};
 
 use crate::tables::Tables;
-use dp_epochs::{Connection, Decision, epochs_are_few, openings, present_users_rise};
-use dp_history::{Opening, present_ids};
+use dp_epochs::{
+    Connection, Decision, epochs_are_few, histories_are_short, openings, present_users_rise,
+};
+use dp_history::{HistoryItem, Opening, count_kept, present_ids};
+use dp_lists::rest_of;
 use dp_messages::{Entry, Msg};
 use dp_msg_draw::Draw;
 use dp_msg_meta::Meta;
@@ -34,6 +44,20 @@ const PART_LIMIT: usize = 262_144;
 
 /// The most bytes that the payloads of its parts have.
 const BYTE_LIMIT: u64 = 1 << 28;
+
+/// From where on a history, which ends there, is kept by the reset of the connection, if it sends
+/// one, by the place that it names.
+fn start_of(owner: Option<u32>, place: Option<u32>, end: usize) -> usize
+    ensures { result ≡ start_of owner place end }
+{
+    match owner {
+        Some(_) => match place {
+            Some(at) => at as usize,
+            None => end,
+        },
+        None => end,
+    }
+}
 
 impl Tables {
     /// Whether a connection other than this one, whose user is present and operator, sends a reset.
@@ -65,12 +89,39 @@ impl Tables {
         self.parts.len() < PART_LIMIT && size <= BYTE_LIMIT - self.part_bytes
     }
 
-    /// What becomes of a message that begins a reset.
+    /// Whether the connection may begin a reset: its user is operator, and no other present
+    /// operator sends one.
+    fn may_begin(&self, conn: u32, connection: &Connection) -> bool
+        ensures { result ≡ may_begin (state_in self.now) conn connection.now }
+    {
+        self.rights.is_operator(connection.user) && !self.is_held_by_other(conn)
+    }
+
+    /// What becomes of a message that begins a reset which keeps no entry.
     pub(crate) fn hear_begin(&self, conn: u32, connection: &Connection) -> Decision
         ensures { result ≡ heard (state_in self.now) conn connection.now
             (msg.Control ResetBegin) }
     {
-        if self.rights.is_operator(connection.user) && !self.is_held_by_other(conn) {
+        if self.may_begin(conn, connection) {
+            Decision::BeginReset
+        } else {
+            Decision::Filter
+        }
+    }
+
+    /// Whether the place is not past the live history.
+    fn is_within_live(&self, at: u32) -> bool
+        ensures { result ≡ nat_le at (length (state_in self.now).live) }
+    {
+        at as usize <= self.live.len()
+    }
+
+    /// What becomes of a message that begins a reset which keeps entries from this place on.
+    pub(crate) fn hear_from(&self, conn: u32, connection: &Connection, at: u32) -> Decision
+        ensures { result ≡ heard (state_in self.now) conn connection.now
+            (msg.Control (ResetFrom at)) }
+    {
+        if self.may_begin(conn, connection) && self.is_within_live(at) {
             Decision::BeginReset
         } else {
             Decision::Filter
@@ -117,24 +168,41 @@ impl Tables {
         self.epoch + 1
     }
 
-    /// How the next epoch opens, with the commands of the reset that is being sent.
+    /// The entries from the place on that the reset names which is being sent.
+    fn kept_items(&self) -> &[HistoryItem]
+        ensures said { All (IsIn self.now.journal) result.now }
+        ensures kept { filter (λ e. goes_on e.msg) (map (entry_in self.now.journal) result.now)
+            ≡ kept_by (state_in self.now).stream (state_in self.now).live }
+        ensures few { length result.now ≤ length (state_in self.now).live }
+    {
+        let from = start_of(self.owner, self.place, self.live.len());
+        rest_of(&self.live, from)
+    }
+
+    /// How the next epoch opens, with the commands of the reset that is being sent and what it
+    /// keeps.
     pub(crate) fn open_epoch(&self) -> Result<Opening, AllocError>
         ensures { IfOk result (λ o. Holds self.now.journal o
             (opening (epoch_of (state_in self.now) + 1) (state_in self.now).live
-            (present_users (state_in self.now)) (sent_commands (state_in self.now).stream) [])) }
+            (present_users (state_in self.now)) (sent_commands (state_in self.now).stream)
+            (kept_by (state_in self.now).stream (state_in self.now).live))) }
     {
+        histories_are_short();
         openings();
         present_users_rise();
         let alloc = self.allocator();
         let present = present_ids(alloc, &self.present)?;
         let metas = self.rights.carry(&present)?;
-        let carried = present.as_slice().len() + metas.len() + self.parts.len();
+        let items = self.kept_items();
+        let kept = count_kept(&self.journal, items);
+        let carried = present.as_slice().len() + metas.len() + self.parts.len() + kept;
         drop(present);
         let mut opening = Opening::new(alloc)?;
         opening.add(mark(self.next_epoch(), carried as u32))?;
         opening.add_joins(&self.journal, &self.opens, &self.present)?;
         opening.add_metas(&metas)?;
         opening.add_commands(&self.parts)?;
+        opening.add_kept(&self.journal, items, kept)?;
         Ok(opening)
     }
 }

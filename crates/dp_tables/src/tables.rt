@@ -60,6 +60,8 @@ pub struct Tables {
     pub(crate) opens: [u32; 256],
     /// The connection that sends a reset.
     pub(crate) owner: Option<u32>,
+    /// The place from which on that reset keeps entries.
+    pub(crate) place: Option<u32>,
     /// The events of the journal that say the parts of the reset.
     pub(crate) parts: Vec<u32>,
     /// How many bytes the payloads of the parts have.
@@ -172,6 +174,7 @@ impl Tables {
             present: [false; 256],
             opens: [0; 256],
             owner: None,
+            place: None,
             parts: Vec::new(alloc),
             part_bytes: 0,
         })
@@ -195,6 +198,7 @@ impl Tables {
             present: _,
             opens: _,
             owner: _,
+            place: _,
             parts: _,
             part_bytes: _,
         } = self;

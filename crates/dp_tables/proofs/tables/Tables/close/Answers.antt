@@ -21,6 +21,7 @@ invariant_of-self c =
       present = c.shut.ensures.present;
       opens = refl;
       owner = refl;
+      place = refl;
       parts = refl;
       part_bytes = refl;
       frames = refl;

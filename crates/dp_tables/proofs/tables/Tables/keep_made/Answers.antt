@@ -173,6 +173,7 @@ invariant_of-self c =
       present = c.make.ensures.present;
       opens = c.make.ensures.opens ∙ ap (λ n. opens_after n effect t.opens) count;
       owner = c.follow.ensures.owner;
+      place = c.note_place.ensures;
       parts = c.follow.ensures.parts
           ∙ ap (λ n. parts_after n effect t.owner t.parts.items) count;
       part_bytes = c.follow.ensures.bytes

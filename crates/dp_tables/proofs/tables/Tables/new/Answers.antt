@@ -10,4 +10,4 @@ invariant_of-result c =
     tables-first _ c.add.new.self holds c.new-2.ensures.items
     c.new-3.ensures.items c.new-4.ensures.items
     c.new-5.ensures.items refl refl c.into_inner.ensures refl refl
-    refl refl c.new-7.ensures.items refl c.new-6.ensures
+    refl refl refl c.new-7.ensures.items refl c.new-6.ensures
