@@ -167,7 +167,7 @@ pub fn count_kept(journal: &[Event], items: &[HistoryItem]) -> usize
 fn boxed_copy(alloc: Global, entry: &Entry) -> Result<Box<Entry>, AllocError>
     ensures { IfOk result (λ copy. copy.value ≡ entry.now) }
 {
-    Box::new(alloc, entry.copy()?)
+    Ok(Box::new(alloc, entry.copy()?)?)
 }
 
 /// The item once more. A message is copied only where it is the server's own.

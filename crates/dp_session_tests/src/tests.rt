@@ -22,7 +22,7 @@ pub(crate) enum Deed {
     Owners(u32),
     Ack(u32, u32),
     Begin(u32),
-    From(u32, u32),
+    KeepFrom(u32, u32),
     Part(u32),
     End(u32),
     Close(u32),
@@ -40,7 +40,7 @@ fn message(alloc: Global, deed: Deed) -> Msg {
     match deed {
         Ack(_, epoch) => Msg::Control(Control::Ack { epoch }),
         Begin(_) => Msg::Control(Control::ResetBegin),
-        From(_, at) => Msg::Control(Control::ResetFrom { at }),
+        KeepFrom(_, at) => Msg::Control(Control::ResetFrom { at }),
         End(_) => Msg::Control(Control::ResetEnd),
         Part(_) => Msg::Part(Draw::Background { color: 255 }),
         Owners(_) => {
@@ -63,7 +63,7 @@ pub(crate) fn event(rt: &impl Abort, alloc: Global, deed: Deed) -> Event {
         | Owners(conn)
         | Ack(conn, _)
         | Begin(conn)
-        | From(conn, _)
+        | KeepFrom(conn, _)
         | Part(conn)
         | End(conn) => {
             let msg = message(alloc, deed);
@@ -239,18 +239,18 @@ static CASES: [Case; 4] = [
             (Open(b"a"), FIRST),
             (Open(b"a"), SECOND),
             (Point(2), Reply::Placed { epoch: 0, at: 4 }),
-            (From(2, 0), Reply::Filtered { epoch: 0, at: 5 }),
-            (From(1, 7), Reply::Filtered { epoch: 0, at: 6 }),
-            (From(1, 7), Reply::Noted),
-            (From(1, 4), Reply::Noted),
+            (KeepFrom(2, 0), Reply::Filtered { epoch: 0, at: 5 }),
+            (KeepFrom(1, 7), Reply::Filtered { epoch: 0, at: 6 }),
+            (KeepFrom(1, 7), Reply::Noted),
+            (KeepFrom(1, 4), Reply::Noted),
             (Point(2), Reply::Placed { epoch: 0, at: 7 }),
             (Part(1), Reply::Noted),
             (End(1), Reply::Placed { epoch: 1, at: 0 }),
             (Ack(2, 1), Reply::Noted),
             (Point(2), Reply::Placed { epoch: 1, at: 10 }),
-            (From(1, 0), Reply::Ignored),
+            (KeepFrom(1, 0), Reply::Ignored),
             (Ack(1, 1), Reply::Noted),
-            (From(1, 0), Reply::Noted),
+            (KeepFrom(1, 0), Reply::Noted),
             (Begin(1), Reply::Noted),
             (End(1), Reply::Placed { epoch: 2, at: 0 }),
             (Ack(1, 2), Reply::Noted),

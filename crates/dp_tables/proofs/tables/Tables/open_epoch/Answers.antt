@@ -35,6 +35,33 @@ add_kept-requires c =
     (sym (ap (λ l. l.journal) c.self.view_is) ∙ sym c.deref-5.ensures.value)
     c.kept_items-items.ensures.said
 
+pub overflow_add-carried-3 : goal.overflow_add-carried-3
+overflow_add-carried-3 c =
+    let t = c.self.inside in
+    let s = state_in c.args.self.now in
+    let are = of-ledger t c.args.self.now c.self.invariant c.self.view_is in
+    let metas : c.in_ok-metas.metas.items
+    ≡ carried s.live (filter (mark t.present) user_ids) =
+    c.in_ok-metas.ensures s.live are.stands ∙ ap (carried s.live) c.in_ok-present.ensures in
+    let items = c.kept_items-items.result.now in
+    let journal = rw c.deref.ensures.value at c.count_kept-kept.ensures in
+    let kept : c.count_kept-kept.result ≡ length (kept_by s.stream s.live) =
+    journal
+    ∙ ap (λ j. length (filter (λ e. goes_on e.msg) (map (entry_in j) items)))
+    (ap (λ l. l.journal) c.self.view_is)
+    ∙ ap length c.kept_items-items.ensures.kept in
+    omega (
+      arith,
+      count-fits s (seen t) are c.openings.ensures.short c.in_ok-metas.metas.items metas,
+      ap length (c.as_slice.ensures.value ∙ c.in_ok-present.ensures),
+      c.in_ok-metas.metas.ok.0,
+      t.parts.ok.0,
+      kept,
+      kept-short s (seen t) are,
+      live-length s (seen t) are,
+      live-fits c.histories_are_short.ensures t c.self.invariant,
+    )
+
 pub overflow_cast-carried : goal.overflow_cast-carried
 overflow_cast-carried c =
     let t = c.self.inside in
