@@ -44,7 +44,7 @@ module _ {E O M : Type 0} (may : M → E → O → M → Type 0) (start : M) whe
   some_is : (a b : V) (o : maybe.Option V) → o ≡ some a → o ≡ some b → a ≡ b
   some_is a b o p q = some-injective a b (sym p ∙ q)
 
-  -- a fact of all views, where one of them changes
+  -- a fact of all views, if one of them changes
   pub views_stay : (P : ℕ → V → Type 0) (vs : List V) (me : ℕ) (w : V) → P me w
       → ((j : ℕ) (v : V) → j ≢ me → get_elem? vs j ≡ some v → P j v)
       → (j : ℕ) (v : V) → get_elem? (set vs me w) j ≡ some v → P j v
@@ -61,9 +61,9 @@ module _ {E O M : Type 0} (may : M → E → O → M → Type 0) (start : M) whe
       → Lives (map tag vs) i (tag v)
   lives vs i v at live = (at_map tag vs i v at, live)
 
-  -- ---- whose turn it is, where one view changes
+  -- ---- whose turn it is, if one view changes
 
-  -- a view that holds, where the one that changed held before if it holds now
+  -- a view that holds, if the one that changed held before if it holds now
   pub held_before : (vs : List V) (me : ℕ) (v w : V) → get_elem? vs me ≡ some v
       → (w.holds ≡ true → v.holds ≡ true)
       → (j : ℕ) (u : V) → get_elem? (set vs me w) j ≡ some u

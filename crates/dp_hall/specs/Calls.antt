@@ -140,7 +140,7 @@ pub record JoinsInto {E O M : Type 0} (v w both : View E O M) : Type 0 where
   pub made : both.made ≡ v.made ++ w.made
   pub splits : both.splits ≡ v.splits
 
--- the seat of the start, where each seat that was split off was joined into it, directly or with
+-- the seat of the start, if each seat that was split off was joined into it, directly or with
 -- another
 pub record IsAlone {E O M : Type 0} (v : View E O M) : Type 0 where
   pub name : v.name ≡ []

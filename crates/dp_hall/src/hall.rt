@@ -54,7 +54,7 @@ impl<M: Machine> Hall<M> {
     ///
     /// # Errors
     ///
-    /// Where memory runs out. The machine comes back as it was.
+    /// If memory runs out. The machine comes back as it was.
     pub fn start(alloc: Global, machine: M) -> Result<(Hall<M>, Seat<M>), HallError<M>>
         ensures of { IfOk result (λ r. IsOf r.0 r.1) }
         ensures start { IfOk result (λ r. r.0.start ≡ machine) }
@@ -93,7 +93,7 @@ impl<M: Machine> Hall<M> {
     ///
     /// # Errors
     ///
-    /// Where memory ran out in the step. That is an outcome too, and an entry of the log.
+    /// If memory ran out in the step. That is an outcome too, and an entry of the log.
     pub fn act<R: Wait>(
         &self,
         rt: &R,
@@ -157,7 +157,7 @@ impl<M: Machine> Hall<M> {
     ///
     /// # Errors
     ///
-    /// Where memory runs out. The seat has then seen the log all the same.
+    /// If memory runs out. The seat has then seen the log all the same.
     pub fn ask<R: Wait>(
         &self,
         rt: &R,

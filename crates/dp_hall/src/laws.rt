@@ -70,7 +70,7 @@ fn crosses<T: Send>() {}
 /// What threads share.
 fn shares<T: Sync>() {}
 
-/// A hall may be shared, and its seats may cross threads, where the machine may.
+/// A hall may be shared, and its seats may cross threads, if the machine may.
 pub fn halls_cross_threads<M: Machine + Send>() {
     crosses::<Seat<M>>();
     shares::<Hall<M>>();

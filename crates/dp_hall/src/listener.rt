@@ -21,6 +21,6 @@ pub trait Listener<M: Machine> {
 pub struct Acted<O> {
     /// How many events were acted.
     pub count: usize,
-    /// The outcome of the last one, where none was to follow it.
+    /// The outcome of the last one, if none was to follow it.
     pub stop: Option<O>,
 }

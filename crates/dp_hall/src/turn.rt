@@ -62,8 +62,8 @@ fn linger<M: Machine>(table: &HallTable<M>)
     thread::yield_now();
 }
 
-/// Sleeps while the word is this, but not for good where it is not. Meanwhile it is one of the
-/// sleepers: who changes the word looks at their number afterwards, and wakes nobody where it is 0.
+/// Sleeps while the word is this, but not for good if it is not. Meanwhile it is one of the
+/// sleepers: who changes the word looks at their number afterwards, and wakes nobody if it is 0.
 fn sleep<M: Machine, R: Wait>(
     rt: &R,
     table: &HallTable<M>,

@@ -1,4 +1,4 @@
--- Where nothing was undone a history may be cut.
+-- If nothing was undone a history may be cut.
 use Rattle.std.proofs.Common.{◌≡◌, ℕ, true, false, None, Some, List, [], ◌∷◌, ◌++◌}
 use Rattle.std.proofs.Common.{map, take, drop, length, refl, sym, subst, ◌∙◌}
 use Rattle.std.specs.List.{AllByRecursion}

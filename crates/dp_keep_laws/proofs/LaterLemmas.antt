@@ -77,7 +77,7 @@ slice_get-rest (x ∷ xs) ys i =
     let next : length (x ∷ xs) + i ≡ suc (length xs + i) = omega arith in
     ap (slice_get (x ∷ xs ++ ys)) next ∙ slice_get-rest xs ys i
 
--- the last of all is the last of the rest, where there is one
+-- the last of all is the last of the rest, if there is one
 pub last_of-rest : (xs : List ℕ) (y : ℕ) (ys : List ℕ) → last_of (xs ++ y ∷ ys) ≡ last_of (y ∷ ys)
 last_of-rest xs y ys =
     let at : length (xs ++ y ∷ ys) - 1 ≡ length xs + (length (y ∷ ys) - 1) =
@@ -278,7 +278,7 @@ later-push n first p q xs ys same is =
     ap (λ zs. zs ++ p ∷ []) is ∙ append_assoc first (map (up n) ys) (p ∷ [])
     ∙ ap (λ zs. first ++ zs) (push-up n p q ys same)
 
--- an act keeps the groups so, where both move the same one
+-- an act keeps the groups so, if both move the same one
 later-groups_with : {Op : Type 0} → (n : ℕ) (first : List ℕ) (s t : Strokes) (act : Act Op)
     (o : Option ℕ) → moved t act ≡ o → Later n first s t
     → LaterGroups n first (groups_with s.position (option_map (up n) o) act s.groups)

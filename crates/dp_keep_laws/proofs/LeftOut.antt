@@ -68,7 +68,7 @@ left_out [] free = tt
 left_out (e ∷ entries) free =
     (λ stays. other-message e.user e.msg stays free.0, left_out entries free.1)
 
--- where no depth is set, it stays
+-- if no depth is set, it stays
 pub depth-stays : {Op : Type 0} → (depth : ℕ) (acts : List (UserAct Op)) → HasNoDepth acts
     → depth_after depth acts ≡ depth
 depth-stays depth [] free = refl

@@ -26,7 +26,7 @@ pub fn suffixes_stand_alone<B, Op>()
     ensures boards { SuffixesShowAlone B Op }
 {}
 
-/// An end that moves a group of before it doesn't stand alone: where it undoes an older stroke, the
+/// An end that moves a group of before it doesn't stand alone: if it undoes an older stroke, the
 /// history draws nothing, and its beginning by itself draws the stroke.
 pub fn older_undos_count()
     ensures whole { drawn_commands 30 (older_stroke ++ its_undo) ≡ [] }
@@ -82,7 +82,7 @@ pub fn histories_may_be_cut()
     ensures end { (history : List Entry) → MayBeCut (length history) history [] }
 {}
 
-/// A reset that keeps shows the same: where the live history may be cut at the place that the reset
+/// A reset that keeps shows the same: if the live history may be cut at the place that the reset
 /// names, and its commands draw what the history showed there, the history of the next epoch shows
 /// what the live history showed. It goes on so: with more entries it shows what the old history
 /// would show with these.

@@ -1,4 +1,4 @@
-//! Laws of what an epoch opens with: it shows the commands of its reset, and where the reset keeps
+//! Laws of what an epoch opens with: it shows the commands of its reset, and if the reset keeps
 //! entries, what the history before showed.
 //!
 //! The rule: docs/protocol.md, "Resets".

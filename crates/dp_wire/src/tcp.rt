@@ -47,7 +47,7 @@ impl<N: Net<Listener = TcpListener, Stream = TcpStream> + Copy> TcpWire<N> {
     ///
     /// # Errors
     ///
-    /// `Failed` where the system refused to listen there, and `Memory` where memory ran out.
+    /// `Failed` if the system refused to listen there, and `Memory` if memory ran out.
     pub fn listen(
         net: &N,
         alloc: Global,
@@ -78,7 +78,7 @@ impl<N: Net<Listener = TcpListener, Stream = TcpStream> + Copy> TcpWire<N> {
     ///
     /// # Errors
     ///
-    /// Where memory runs out.
+    /// If memory runs out.
     pub fn dialer(net: &N, alloc: Global, addr: &str) -> Result<TcpWire<N>, AllocError>
         ensures { IfOk result (λ wire. wire ≡ record { is_listening = false; faults = 0 }) }
     {
@@ -86,7 +86,7 @@ impl<N: Net<Listener = TcpListener, Stream = TcpStream> + Copy> TcpWire<N> {
         Ok(TcpWire::at(*net, Place::Dialing(addr)))
     }
 
-    /// The port that it listens at. `None` where it dials, or where the system does not say.
+    /// The port that it listens at. `None` if it dials, or if the system does not say.
     pub fn port(&self) -> Option<u16>
         ensures { IsFalse self.now.is_listening → result ≡ None }
     {

@@ -23,7 +23,7 @@ const CLOSE_READS: u32 = 64;
 
 /// The source of a link: what the peer sends. A clause sees it as its number of faults.
 ///
-/// Only tested: it waits for the peer without limit, it ends where the peer has closed its half,
+/// Only tested: it waits for the peer without limit, it ends if the peer has closed its half,
 /// and it ends once a write of the link has failed. A read that a signal interrupted is made again,
 /// and counts nothing; no test has such a signal.
 #[derive(Drop)]
@@ -150,7 +150,7 @@ fn read_to_close(stream: &mut TcpStream) {
     }
 }
 
-/// Reads once, and again where a signal interrupted it.
+/// Reads once, and again if a signal interrupted it.
 fn read_through(stream: &mut TcpStream, buf: &mut [u8]) -> io::Result<usize>
     ensures { ReadsAtMost result buf.new }
 {
@@ -163,7 +163,7 @@ fn read_through(stream: &mut TcpStream, buf: &mut [u8]) -> io::Result<usize>
     Err(ErrorKind::Interrupted.into())
 }
 
-/// Writes once, and again where a signal interrupted it.
+/// Writes once, and again if a signal interrupted it.
 fn write_through(stream: &mut TcpStream, bytes: &[u8]) -> io::Result<usize>
     ensures { WritesAtMost result bytes.now }
 {
